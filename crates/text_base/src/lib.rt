@@ -1,0 +1,23 @@
+//! Bytes, sets and ranges of bytes, the numbers that name things, and the tokens of a page: what
+//! every other crate speaks in. Contracts see [`Bytes`] as the list of its bytes, and a
+//! [`ByteSet`] as 256 truth values. Nothing of the repository stands below this crate.
+#![tactic(auto)]
+
+mod byte_range;
+mod bytes;
+mod exact;
+mod memory;
+mod numbers;
+mod page_token;
+mod ranges;
+mod sets;
+#[cfg(test)]
+mod tests;
+
+pub use byte_range::ByteRange;
+pub use bytes::Bytes;
+pub use exact::Exact;
+pub use memory::NoMemory;
+pub use numbers::{Elem, Nt, Point, Slot, Version};
+pub use page_token::PageToken;
+pub use sets::ByteSet;
