@@ -1,0 +1,6 @@
+pub mod Words
+pub mod Texts
+pub mod Decision
+pub mod Call
+pub mod Endings
+pub mod Steps

@@ -1,0 +1,53 @@
+//! The top call.
+#![tactic(auto)]
+
+mod check;
+mod decide;
+mod exit;
+mod report;
+mod texts;
+mod verdict;
+mod words;
+
+pub use exit::Exit;
+
+ghost use Rattle.std.specs.Prelude.{map, string_bytes};
+ghost use Rattle.phpsa_main.specs.Call.{Source, Output, Call, output_of};
+ghost use Rattle.phpsa_main.specs.Endings.{Ends};
+
+use check::check;
+use io_edge::{Files, Sink};
+use report::{refuse, report};
+use std::alloc::Global;
+use verdict::Refusal;
+use words::asked;
+
+/// Does what the words ask for.
+pub fn phpsa<F: Files, O: Sink, E: Sink>(
+    alloc: Global,
+    words: &Vec<String>,
+    files: &mut F,
+    out: &mut O,
+    err: &mut E,
+) -> Exit
+    ensures ends { Ends (record {
+        words = map (λ word. string_bytes word) words.now.items;
+        files = record {
+            content = F.content files.old;
+            faults = F.faults files.old;
+            faults' = F.faults files.new;
+            misses = F.misses files.old;
+            misses' = F.misses files.new;
+        };
+        out = output_of (O.written out.old) (O.written out.new) (O.faults out.old) (O.faults out.new);
+        err = output_of (E.written err.old) (E.written err.new) (E.faults err.old) (E.faults err.new);
+    }) result }
+{
+    match asked(words) {
+        None => refuse(alloc, b"", Refusal::Usage, err),
+        Some(file) => match check(alloc, file.as_str(), files) {
+            Ok(answer) => report(alloc, &answer, out, err),
+            Err(refusal) => refuse(alloc, file.as_bytes(), refusal, err),
+        },
+    }
+}
