@@ -44,3 +44,11 @@ Fails output = Rises output.faults output.faults'
 -- an output by what is written and its count of faults, before and after
 abbrev pub output_of : Option (List ℕ) → Option (List ℕ) → ℕ → ℕ → Output
 output_of written written' faults faults' = record { written = written; written' = written'; faults = faults; faults' = faults' }
+
+-- a source of files by what it tells, and its counts before and after
+abbrev pub source_of : (List ℕ → Option (Option (List ℕ))) → ℕ → ℕ → ℕ → ℕ → Source
+source_of content faults faults' misses misses' =
+  record { content = content; faults = faults; faults' = faults'; misses = misses; misses' = misses' }
+
+abbrev pub call_of : List (List ℕ) → Source → Output → Output → Call
+call_of words files out err = record { words = words; files = files; out = out; err = err }

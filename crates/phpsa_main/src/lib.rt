@@ -12,8 +12,9 @@ mod words;
 pub use exit::Exit;
 
 ghost use Rattle.std.specs.Prelude.{map, string_bytes};
-ghost use Rattle.phpsa_main.specs.Call.{Source, Output, Call, output_of};
+ghost use Rattle.phpsa_main.specs.Call.{source_of, output_of, call_of};
 ghost use Rattle.phpsa_main.specs.Endings.{Ends};
+ghost use Rattle.phpsa_main.specs.Answered.{IsAnswered};
 
 use check::check;
 use io_edge::{Files, Sink};
@@ -30,18 +31,29 @@ pub fn phpsa<F: Files, O: Sink, E: Sink>(
     out: &mut O,
     err: &mut E,
 ) -> Exit
-    ensures ends { Ends (record {
-        words = map (λ word. string_bytes word) words.now.items;
-        files = record {
-            content = F.content files.old;
-            faults = F.faults files.old;
-            faults' = F.faults files.new;
-            misses = F.misses files.old;
-            misses' = F.misses files.new;
-        };
-        out = output_of (O.written out.old) (O.written out.new) (O.faults out.old) (O.faults out.new);
-        err = output_of (E.written err.old) (E.written err.new) (E.faults err.old) (E.faults err.new);
-    }) result }
+    ensures ends { Ends (call_of (map (λ word. string_bytes word) words.now.items)
+        (source_of (F.content files.old) (F.faults files.old) (F.faults files.new) (F.misses files.old) (F.misses files.new))
+        (output_of (O.written out.old) (O.written out.new) (O.faults out.old) (O.faults out.new))
+        (output_of (E.written err.old) (E.written err.new) (E.faults err.old) (E.faults err.new))) result }
+    ensures answered { IsAnswered (call_of (map (λ word. string_bytes word) words.now.items)
+        (source_of (F.content files.old) (F.faults files.old) (F.faults files.new) (F.misses files.old) (F.misses files.new))
+        (output_of (O.written out.old) (O.written out.new) (O.faults out.old) (O.faults out.new))
+        (output_of (E.written err.old) (E.written err.new) (E.faults err.old) (E.faults err.new))) result }
+{
+    run(alloc, words, files, out, err)
+}
+
+fn run<F: Files, O: Sink, E: Sink>(
+    alloc: Global,
+    words: &Vec<String>,
+    files: &mut F,
+    out: &mut O,
+    err: &mut E,
+) -> Exit
+    ensures { Ends (call_of (map (λ word. string_bytes word) words.now.items)
+        (source_of (F.content files.old) (F.faults files.old) (F.faults files.new) (F.misses files.old) (F.misses files.new))
+        (output_of (O.written out.old) (O.written out.new) (O.faults out.old) (O.faults out.new))
+        (output_of (E.written err.old) (E.written err.new) (E.faults err.old) (E.faults err.new))) result }
 {
     match asked(words) {
         None => refuse(alloc, b"", Refusal::Usage, err),
