@@ -1,1 +1,3 @@
 mod Examples
+pub mod Members
+pub mod PiecesLaws
