@@ -1,0 +1,2 @@
+-- The definitions on a small grammar.
+use Rattle.std.specs.Prelude.{ℕ}
