@@ -1,5 +1,5 @@
 -- The definitions on the PHP manual's examples, on edges and on near misses.
-use Rattle.std.specs.Prelude.{◌≡◌, pos, negsuc, None, Some, true, false, List, [], ◌∷◌, codes, refl}
+use Rattle.std.specs.Prelude.{◌≡◌, pos, negsuc, None, Some, true, false, [], ◌∷◌, codes, refl}
 use Rattle.string_functions.specs.Html.{html_of}
 use Rattle.string_functions.specs.Pieces.{pieces_of, join_of, replaced_text}
 use Rattle.string_functions.specs.Cut.{part_of}

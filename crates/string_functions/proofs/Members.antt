@@ -1,7 +1,7 @@
 -- Which elements stand in lists that are put together.
-use Rattle.std.proofs.Common.{◌≡◌, ℕ, zero, suc, ◌+◌, ◌<◌, ◌⊎◌, List, [], ◌∷◌, ◌++◌, length, refl, inl, inr, arith}
+use Rattle.std.proofs.Common.{◌≡◌, zero, suc, ◌⊎◌, List, [], ◌∷◌, refl, inl, inr, arith}
 use Rattle.std.specs.List.{Contains, flat_map}
-use Rattle.std.proofs.lemmas.List.Elements.{Contains-append_cases, Contains-append_left, Contains-append_right}
+use Rattle.std.proofs.lemmas.List.Elements.{Contains-append_cases}
 
 pub Contains-nil : {X : Type 0} {A : Type 0} (c : X) → Contains [] c → A
 Contains-nil c (k, below, is) = absurd (omega (arith, below))
@@ -21,6 +21,6 @@ pub Contains-flat_map : {X A : Type 0} (f : X → List A) (xs : List X) (c : A) 
 Contains-flat_map f [] c h = Contains-nil c h
 Contains-flat_map f (x ∷ xs) c h =
     elim (Contains-append_cases (f x) (flat_map f xs) c h) [
-        inl here ↦ (x, Contains-head x xs, here)
+      | inl here ↦ (x, Contains-head x xs, here)
       | inr there ↦ let below = Contains-flat_map f xs c there in (below.0, Contains-later x xs below.0 below.1, below.2)
     ]

@@ -1,11 +1,9 @@
 -- How a text is cut at a separator, step by step.
-use Rattle.std.proofs.Common.{◌≡◌, ℕ, zero, suc, ◌+◌, ◌-◌, ◌<◌, ◌≤◌, ◌⊎◌, Bool, true, false, List, [], ◌∷◌, ◌++◌, length, take, drop, nat_eq, refl, sym, ◌∙◌, ap, subst, inl, inr, arith, cond}
-use Rattle.std.specs.List.{starts_with, Contains}
+use Rattle.std.proofs.Common.{◌≡◌, ℕ, zero, suc, ◌-◌, true, false, List, [], ◌∷◌, ◌++◌, length, drop, nat_eq, refl, sym, ◌∙◌, ap, inl, inr, arith}
+use Rattle.std.specs.List.{starts_with}
 use Rattle.std.proofs.lemmas.Slice.Eq.{starts_is}
 use Rattle.std.proofs.lemmas.Bool.Decides.{Decides-eqb}
 use Rattle.std.proofs.lemmas.Bool.{cases_Bool}
-use Rattle.std.proofs.lemmas.List.Prefix.{front_rest}
-use Rattle.std.proofs.lemmas.List.{append_assoc, append-nil}
 use Rattle.string_functions.specs.Pieces.{in_first, pieces_past, pieces_of, join_of, replaced_text}
 
 -- a text that begins with the separator is the separator and what follows it
@@ -37,7 +35,7 @@ pieces_past-cons sep left [] = ([], [], refl)
 pieces_past-cons sep (suc left) (b ∷ rest) = pieces_past-cons sep left rest
 pieces_past-cons sep zero (b ∷ rest) =
     elim (cases_Bool (starts_with nat_eq (b ∷ rest) sep)) [
-        inl here ↦ ([], pieces_past sep (length sep - 1) rest, rw here refl)
+      | inl here ↦ ([], pieces_past sep (length sep - 1) rest, rw here refl)
       | inr away ↦ let (first, others, is) = pieces_past-cons sep 0 rest in (b ∷ first, others, rw (away, is) refl)
     ]
 
@@ -57,16 +55,16 @@ join_of-pieces_past c sep (suc left) [] = refl
 join_of-pieces_past c sep (suc left) (b ∷ rest) = join_of-pieces_past c sep left rest
 join_of-pieces_past c sep zero (b ∷ rest) =
     elim (cases_Bool (starts_with nat_eq (b ∷ rest) (c ∷ sep))) [
-        inl here ↦
-            let (first, others, is) = pieces_past-cons (c ∷ sep) (length (c ∷ sep) - 1) rest in
-            let less : length (c ∷ sep) - 1 ≡ length sep = omega arith in
-            let again : join_of (c ∷ sep) (first ∷ others) ≡ drop (length sep) rest = ap (join_of (c ∷ sep)) (sym is) ∙ join_of-pieces_past c sep (length (c ∷ sep) - 1) rest ∙ ap (λ n. drop n rest) less in
-            let splits : b ∷ rest ≡ (c ∷ sep) ++ drop (length sep) rest = starts_with-splits (b ∷ rest) (c ∷ sep) here in
-            rw (here, is) (ap (λ (after : List ℕ). c ∷ (sep ++ after)) again ∙ sym splits)
+      | inl here ↦
+          let (first, others, is) = pieces_past-cons (c ∷ sep) (length (c ∷ sep) - 1) rest in
+          let less : length (c ∷ sep) - 1 ≡ length sep = omega arith in
+          let again : join_of (c ∷ sep) (first ∷ others) ≡ drop (length sep) rest = ap (join_of (c ∷ sep)) (sym is) ∙ join_of-pieces_past c sep (length (c ∷ sep) - 1) rest ∙ ap (λ n. drop n rest) less in
+          let splits : b ∷ rest ≡ (c ∷ sep) ++ drop (length sep) rest = starts_with-splits (b ∷ rest) (c ∷ sep) here in
+          rw (here, is) (ap (λ (after : List ℕ). c ∷ (sep ++ after)) again ∙ sym splits)
       | inr away ↦
-            let (first, others, is) = pieces_past-cons (c ∷ sep) 0 rest in
-            let again : join_of (c ∷ sep) (first ∷ others) ≡ rest = ap (join_of (c ∷ sep)) (sym is) ∙ join_of-pieces_past c sep 0 rest in
-            rw (away, is) (join_of-in_first (c ∷ sep) b first others ∙ ap (λ (after : List ℕ). b ∷ after) again)
+          let (first, others, is) = pieces_past-cons (c ∷ sep) 0 rest in
+          let again : join_of (c ∷ sep) (first ∷ others) ≡ rest = ap (join_of (c ∷ sep)) (sym is) ∙ join_of-pieces_past c sep 0 rest in
+          rw (away, is) (join_of-in_first (c ∷ sep) b first others ∙ ap (λ (after : List ℕ). b ∷ after) again)
     ]
 
 pub join_of-pieces_of : (c : ℕ) (sep text : List ℕ) → join_of (c ∷ sep) (pieces_of (c ∷ sep) text) ≡ text

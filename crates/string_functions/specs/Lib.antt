@@ -7,3 +7,4 @@ pub mod Breaks
 pub mod Url
 pub mod Slashes
 pub mod Copies
+pub mod Leftmost

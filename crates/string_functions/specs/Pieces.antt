@@ -29,3 +29,7 @@ join_of sep (text ∷ next ∷ texts) = text ++ (sep ++ join_of sep (next ∷ te
 abbrev pub replaced_text : List ℕ → List ℕ → List ℕ → List ℕ
 replaced_text [] with text = text
 replaced_text (c ∷ search) with text = join_of with (pieces_of (c ∷ search) text)
+
+-- how many of the leftmost occurrences that do not overlap there are; of an empty search none
+abbrev pub occurrences_of : List ℕ → List ℕ → ℕ
+occurrences_of search text = length (pieces_of search text) - 1

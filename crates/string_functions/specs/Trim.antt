@@ -1,5 +1,5 @@
 -- Stripping white space from the ends (PHP manual, trim, ltrim and rtrim).
-use Rattle.std.specs.Prelude.{ℕ, Bool, ◌==◌, ◌||◌, ◌&&◌, List, [], ◌∷◌, if◌then◌else◌}
+use Rattle.std.specs.Prelude.{ℕ, Bool, ◌==◌, ◌||◌, List, [], ◌∷◌, if◌then◌else◌}
 use Rattle.std.specs.List.{list_all}
 
 -- a byte that is stripped: space, tab, LF, CR, NUL or vertical tab

@@ -1,13 +1,10 @@
-//! PHP's functions from bytes to bytes, as definitions on plain lists, each in the words of the PHP manual.
+//! PHP's functions from bytes to bytes: definitions on plain lists in the words of the PHP manual
+//! (specs/), the laws of them that those who compute them and those who relate them both need
+//! (`laws`, and the lemmas in proofs/), and what they do with one byte (`of_byte`). Nothing of the
+//! repository stands below this crate.
 #![tactic(auto)]
 
-ghost use Rattle.std.specs.Prelude.{◌≡◌};
-ghost use Rattle.string_functions.specs.Case.{lower_of};
-ghost use Rattle.std.specs.Char.{to_ascii_lowercase};
-
-/// The ASCII letter in lower case; any other byte stays.
-pub fn lower_byte(byte: u8) -> u8
-    ensures { result ≡ to_ascii_lowercase byte }
-{
-    byte.to_ascii_lowercase()
-}
+pub mod laws;
+pub mod of_byte;
+#[cfg(test)]
+mod tests;
