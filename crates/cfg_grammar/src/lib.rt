@@ -6,6 +6,8 @@
 mod grammar;
 mod production;
 mod symbol;
+#[cfg(test)]
+mod tests;
 
 pub use grammar::Grammar;
 pub use production::{Production, Right};

@@ -4,8 +4,11 @@
 //! Below stand text_base, string_functions and cfg_grammar.
 #![tactic(auto)]
 
+pub mod laws;
 mod op;
 mod system;
+#[cfg(test)]
+mod tests;
 
 pub use op::Op;
 pub use system::{OpRule, OpSystem};

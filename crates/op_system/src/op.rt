@@ -6,7 +6,7 @@ use std::alloc::Global;
 use text_base::{Bytes, NoMemory};
 
 /// An operation on texts, each named for the function of PHP that it stands for.
-#[derive(Debug, Drop)]
+#[derive(Debug, PartialEq, Eq, Drop)]
 pub enum Op {
     /// The text itself.
     Same,
