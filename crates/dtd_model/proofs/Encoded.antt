@@ -1,5 +1,5 @@
 -- The first byte of a character tells whether it is one of ASCII.
-use Rattle.std.proofs.Common.{◌≡◌, ℕ, ◌+◌, ◌/◌, ◌≤◌, ◌<◌, Bool, true, false, cond, List, [], ◌∷◌, nat_lt, refl, arith}
+use Rattle.std.proofs.Common.{◌≡◌, ℕ, ◌≤◌, Bool, true, false, cond, List, [], ◌∷◌, nat_lt, refl, arith}
 use Rattle.std.specs.Char.{encode_utf8}
 
 -- a list begins with a number that is no byte of ASCII

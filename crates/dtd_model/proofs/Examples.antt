@@ -1,11 +1,10 @@
 -- Worked pages and near misses.
-use Rattle.std.proofs.Common.{◌≡◌, ℕ, Bool, true, false, List, [], ◌∷◌, ◌++◌, refl, ap, codes, None, Some}
+use Rattle.std.proofs.Common.{◌≡◌, ℕ, true, false, List, [], ◌∷◌, ◌++◌, refl, ap, codes, None}
 use Rattle.std.specs.Char.{encode_utf8}
-use Rattle.dtd_model.specs.declared.dtd.DoctypeRule.TheVariants.{Free}
-use Rattle.dtd_model.specs.Characters.{is_name, is_name_token, is_character, is_blank}
+use Rattle.dtd_model.specs.Characters.{is_name, is_name_token}
 use Rattle.dtd_model.specs.Matches.{model_matches, matches, may_be_empty, after}
-use Rattle.dtd_model.specs.Table.{Model, one, sequence, choice, optional, any_number, at_least_one, Models, no_models, more_models, Declared, cdata, id, one_of, nmtokens, required, implied, fixed, nothing, anything, text_and, children}
-use Rattle.dtd_model.specs.PageTree.{Attribute, Tag, IsTag, Nodes, no_nodes, character, element, empty_element, nodes_then, tag_then, PageSpells, begins_section_end}
+use Rattle.dtd_model.specs.Table.{Model, one, sequence, choice, optional, any_number, at_least_one, no_models, more_models, cdata, id, one_of, implied, fixed, nothing, text_and, children}
+use Rattle.dtd_model.specs.PageTree.{Attribute, Tag, IsTag, Nodes, no_nodes, character, element, empty_element, nodes_then, tag_then, begins_section_end}
 use Rattle.dtd_model.specs.Attributes.{words_of, has_kind, has_fixed, is_declared, is_once, must_stand}
 use Rattle.dtd_model.specs.Valid.{Valid, find_rule, place_of, may_hold, element_names}
 use Rattle.dtd_model.proofs.Encoded.{encoded_some}

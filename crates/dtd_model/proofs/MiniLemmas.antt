@@ -1,10 +1,8 @@
 -- Three rules make the smallest document type.
-use Rattle.std.proofs.Common.{◌≡◌, ℕ, List, [], ◌∷◌, refl, ap, ◌∙◌, sym, subst, codes}
-use Rattle.std.specs.declared.vec.Vec.{Vec}
-use Rattle.std.specs.declared.alloc.Global.{Global}
+use Rattle.std.proofs.Common.{◌≡◌, List, [], ◌∷◌, ap, ◌∙◌, codes}
 use Rattle.std.specs.Prelude.{map}
 use Rattle.dtd_model.specs.declared.dtd.ElementRule.{ElementRule}
-use Rattle.dtd_model.specs.Table.{Rule, Holding, rule_of, holding_of, text_and, children, any_number, one, sequence, more_models, no_models}
+use Rattle.dtd_model.specs.Table.{Rule, rule_of, text_and, children, any_number, one, sequence, more_models, no_models}
 use Rattle.dtd_model.specs.Mini.{mini_table, plain_rule}
 
 pub three_rules : (rules : List ElementRule) (a b c : ElementRule) → rules ≡ a ∷ b ∷ c ∷ [] → rule_of a ≡ plain_rule (codes "html") (children (sequence (more_models (one 1) no_models))) → rule_of b ≡ plain_rule (codes "body") (children (any_number (one 2))) → rule_of c ≡ plain_rule (codes "p") (text_and []) → map rule_of rules ≡ mini_table.elements

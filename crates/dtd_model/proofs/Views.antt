@@ -1,12 +1,12 @@
 -- The plain form of a particle, over the items of its vector.
-use Rattle.std.proofs.Common.{◌≡◌, ℕ, List, [], ◌∷◌, refl, ap, ◌∙◌, sym}
+use Rattle.std.proofs.Common.{◌≡◌, refl, ap, ◌∙◌}
 use Rattle.std.specs.declared.vec.Vec.{Vec}
 use Rattle.std.specs.declared.boxed.Box.{Box}
 use Rattle.std.specs.declared.alloc.Global.{Global}
 use Rattle.text_base.specs.declared.numbers.Elem.{Elem}
 use Rattle.dtd_model.specs.declared.dtd.Particle.{Particle, One, Seq, Alt, Opt, Star, Plus, Row_of-Particle, end_of-Particle, more_of-Particle, items-the_row-Particle, items_hidden-the_row-Particle-0}
 use Rattle.dtd_model.specs.declared.dtd.Particle.TheBlock.{hidden-the_row-Particle-0}
-use Rattle.dtd_model.specs.Table.{Model, one, sequence, choice, optional, any_number, at_least_one, Models, no_models, more_models, model_of, models_of, models_in}
+use Rattle.dtd_model.specs.Table.{one, sequence, choice, optional, any_number, at_least_one, more_models, model_of, models_of, models_in}
 
 row_is : {n : _} (row : Row_of-Particle n) → models_of row ≡ models_in (items-the_row-Particle n row)
 unfolding model_of

@@ -1,5 +1,5 @@
 -- Characters, white space and names (XML 1.0, 2.2 and 2.3). A character is its number.
-use Rattle.std.specs.Prelude.{ℕ, Bool, true, false, ◌==◌, ◌&&◌, ◌||◌, List, [], ◌∷◌, nat_eq, nat_le}
+use Rattle.std.specs.Prelude.{ℕ, Bool, false, ◌==◌, ◌&&◌, ◌||◌, List, [], ◌∷◌, nat_le}
 use Rattle.std.specs.List.{list_all}
 
 -- the number lies between two others, both included

@@ -1,8 +1,8 @@
 -- The smallest document type: `html` holds one `body`, `body` any number of `p`, and `p` text. No attributes and no
 -- further entities are declared, and a page needs no document type declaration.
-use Rattle.std.specs.Prelude.{◌≡◌, ℕ, List, [], ◌∷◌, codes}
+use Rattle.std.specs.Prelude.{ℕ, List, [], ◌∷◌, codes}
 use Rattle.dtd_model.specs.declared.dtd.DoctypeRule.TheVariants.{Free}
-use Rattle.dtd_model.specs.Table.{Model, one, sequence, any_number, no_models, more_models, Holding, text_and, children, Rule, Table}
+use Rattle.dtd_model.specs.Table.{one, sequence, any_number, no_models, more_models, Holding, text_and, children, Rule, Table}
 
 abbrev pub plain_rule : List ℕ → Holding → Rule
 plain_rule name holding = record { name = name; holding = holding; attributes = [] }

@@ -1,5 +1,5 @@
 -- A document type definition as plain lists: what is declared, with no vectors and no boxes.
-use Rattle.std.specs.Prelude.{◌≡◌, ℕ, List, [], ◌∷◌, map}
+use Rattle.std.specs.Prelude.{ℕ, List, [], ◌∷◌, map}
 use Rattle.text_base.specs.declared.numbers.Elem.{Elem}
 use Rattle.dtd_model.specs.declared.dtd.Dtd.{Dtd}
 use Rattle.dtd_model.specs.declared.dtd.ElementRule.{ElementRule}

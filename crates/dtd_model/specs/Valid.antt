@@ -1,6 +1,5 @@
 -- When a page is valid (XML 1.0, 2.8 and 3; XHTML 1.0, 3.1.1).
-use Rattle.std.specs.Prelude.{◌≡◌, ℕ, suc, Bool, true, false, ◌==◌, if◌then◌else◌, List, [], ◌∷◌, map, length, Option, Some, None, codes}
-use Rattle.dtd_model.specs.declared.dtd.DoctypeRule.{DoctypeRule}
+use Rattle.std.specs.Prelude.{◌≡◌, ℕ, suc, Bool, true, false, if◌then◌else◌, List, [], ◌∷◌, map, length, Option, Some, None, codes}
 use Rattle.dtd_model.specs.declared.dtd.DoctypeRule.TheVariants.{Free}
 use Rattle.dtd_model.specs.Characters.{is_blank}
 use Rattle.dtd_model.specs.Table.{Rule, Table, Holding, nothing, anything, text_and, children}

@@ -1,9 +1,9 @@
-use Rattle.std.proofs.Common.{◌≡◌, ℕ, List, [], ◌∷◌, ◌++◌, refl, ap, ◌∙◌, codes}
+use Rattle.std.proofs.Common.{◌≡◌, ℕ, List, [], ◌∷◌, ◌++◌, ap, ◌∙◌, codes}
 use Rattle.std.specs.Prelude.{map}
 use Rattle.text_base.specs.declared.numbers.Elem.{Elem}
 use Rattle.dtd_model.specs.declared.dtd.ElementRule.{ElementRule}
 use Rattle.dtd_model.specs.declared.dtd.DoctypeRule.TheVariants.{Free}
-use Rattle.dtd_model.specs.Table.{table_of, rule_of, text_and, Rule, Table}
+use Rattle.dtd_model.specs.Table.{rule_of, text_and, Rule, Table}
 use Rattle.dtd_model.specs.Mini.{mini_table, plain_rule}
 use Rattle.dtd_model.proofs.MiniLemmas.{three_rules}
 use Rattle.dtd_model.proofs.smallest.mini.Goals as goal
