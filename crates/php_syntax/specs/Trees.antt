@@ -1,6 +1,7 @@
 -- The plain form of a tree: lists of its own for vectors, no boxes, and nothing of where a value lies in memory.
 use Rattle.std.specs.Prelude.{ℕ, ℤ, Bool, List, [], ◌∷◌, Option, Some, None}
 use Rattle.std.specs.declared.boxed.Box.{Box}
+use Rattle.std.specs.declared.vec.Vec.{Vec}
 use Rattle.std.specs.declared.alloc.Global.{Global}
 use Rattle.php_syntax.specs.declared.tree.ArithSign.{ArithSign}
 use Rattle.php_syntax.specs.declared.tree.CompareSign.{CompareSign}
@@ -202,6 +203,11 @@ unfoldable mutual
 abbrev pub stmts_of : List Stmt → PlainStmts
 stmts_of [] = no_stmts
 stmts_of (s ∷ ss) = more_stmts (plain_stmt s) (stmts_of ss)
+
+-- the arms of an `if`, as a vector shows them
+abbrev pub arms_of : List (Expr × Vec Stmt Global) → PlainArms
+arms_of [] = no_arms
+arms_of (a ∷ rest) = more_arms (plain_expr a.0) (stmts_of a.1.items) (arms_of rest)
 
 abbrev pub plain_param : Param → PlainParam
 plain_param p = record { name_of = p.name; default_of = maybe_of p.default }
