@@ -1,2 +1,6 @@
 pub mod FirstForm
+pub mod Trees
+pub mod Requests
+pub mod Meaning
+pub mod Loose
 pub mod Reading
