@@ -2,3 +2,5 @@ pub mod Fronts
 pub mod Items
 pub mod Marks
 pub mod Files
+pub mod Lawful
+pub mod Runs
