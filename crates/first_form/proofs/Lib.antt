@@ -1,5 +1,6 @@
 pub mod Fronts
 pub mod Items
+pub mod RunLemmas
 pub mod Marks
 pub mod Files
 pub mod Lawful

@@ -4,3 +4,5 @@ pub mod Requests
 pub mod Meaning
 pub mod Loose
 pub mod Reading
+pub mod Classes
+pub mod Seen

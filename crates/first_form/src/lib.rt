@@ -1,4 +1,5 @@
 //! The reader of scripts of the first form.
 #![tactic(auto)]
 
+mod front;
 pub mod laws;
