@@ -3,3 +3,5 @@
 
 mod front;
 pub mod laws;
+mod trees;
+mod words;
