@@ -6,3 +6,4 @@ pub mod Loose
 pub mod Reading
 pub mod Classes
 pub mod Seen
+pub mod Found

@@ -3,5 +3,6 @@
 
 mod front;
 pub mod laws;
+mod statements;
 mod trees;
 mod words;
