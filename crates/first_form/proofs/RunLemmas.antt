@@ -1,0 +1,44 @@
+-- A run of bytes, counted from the front.
+use Rattle.std.proofs.Common.{◌≡◌, ℕ, zero, suc, ◌+◌, ◌≤◌, ◌<◌, Bool, true, false, cond, List, [], ◌∷◌, ◌++◌, refl, sym, ap, ◌∙◌, subst, arith, length, take, drop, get_or, append_assoc, append-nil}
+use Rattle.std.proofs.lemmas.List.{take_more, drop_more, take-append-drop, drop_all}
+use Rattle.first_form.specs.Reading.{front_of, rest_of}
+
+-- the first n bytes pass
+pub record RunSoFar (test : ℕ → Bool) (bytes : List ℕ) (n : ℕ) : Type 0 where
+  pub within : n ≤ length bytes
+  pub front : front_of test bytes ≡ take n bytes ++ front_of test (drop n bytes)
+  pub rest : rest_of test bytes ≡ rest_of test (drop n bytes)
+
+pub run_none : (test : ℕ → Bool) (bytes : List ℕ) → RunSoFar test bytes 0
+run_none test bytes = record { within = omega arith; front = refl; rest = refl }
+
+front_pass : (test : ℕ → Bool) (b : ℕ) (bs : List ℕ) → test b ≡ true → (front_of test (b ∷ bs) ≡ b ∷ front_of test bs) × (rest_of test (b ∷ bs) ≡ rest_of test bs)
+unfolding front_of rest_of
+front_pass test b bs e = (rw e, rw e)
+
+front_fail : (test : ℕ → Bool) (b : ℕ) (bs : List ℕ) → test b ≡ false → (front_of test (b ∷ bs) ≡ []) × (rest_of test (b ∷ bs) ≡ b ∷ bs)
+unfolding front_of rest_of
+front_fail test b bs e = (rw e, rw e)
+
+pub run_more : (test : ℕ → Bool) (bytes : List ℕ) (n : ℕ) → RunSoFar test bytes n → n < length bytes → test (get_or bytes n 0) ≡ true → RunSoFar test bytes (n + 1)
+run_more test bytes n h less pass =
+    let d = drop_more bytes n 0 less in
+    let t = take_more bytes n 0 less in
+    let p = front_pass test (get_or bytes n 0) (drop (n + 1) bytes) pass in
+    record {
+      within = omega arith;
+      front = h.front ∙ ap (λ xs. take n bytes ++ xs) (ap (front_of test) d ∙ p.0) ∙ sym (append_assoc (take n bytes) (get_or bytes n 0 ∷ []) (front_of test (drop (n + 1) bytes))) ∙ ap (λ xs. xs ++ front_of test (drop (n + 1) bytes)) (sym t);
+      rest = h.rest ∙ ap (rest_of test) d ∙ p.1;
+    }
+
+pub run_fails : (test : ℕ → Bool) (bytes : List ℕ) (n : ℕ) → RunSoFar test bytes n → n < length bytes → test (get_or bytes n 0) ≡ false → (take n bytes ≡ front_of test bytes) × (drop n bytes ≡ rest_of test bytes)
+run_fails test bytes n h less fail =
+    let d = drop_more bytes n 0 less in
+    let p = front_fail test (get_or bytes n 0) (drop (n + 1) bytes) fail in
+    (sym (h.front ∙ ap (λ xs. take n bytes ++ xs) (ap (front_of test) d ∙ p.0) ∙ append-nil (take n bytes)), d ∙ sym (h.rest ∙ ap (rest_of test) d ∙ p.1))
+
+pub run_ends : (test : ℕ → Bool) (bytes : List ℕ) (n : ℕ) → RunSoFar test bytes n → length bytes ≤ n → (take n bytes ≡ front_of test bytes) × (drop n bytes ≡ rest_of test bytes)
+unfolding front_of rest_of
+run_ends test bytes n h more =
+    let d = drop_all n bytes more in
+    (sym (h.front ∙ ap (λ xs. take n bytes ++ front_of test xs) d ∙ append-nil (take n bytes)), d ∙ sym (h.rest ∙ ap (rest_of test) d))

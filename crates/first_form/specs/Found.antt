@@ -1,0 +1,36 @@
+-- What the reader's functions give, beside what the grammar's reading gives.
+use Rattle.std.specs.Prelude.{◌≡◌, ℕ, List, [], ◌∷◌, Option, Some, None}
+use Rattle.std.specs.Borrow.{Bor}
+use Rattle.php_syntax.specs.declared.tree.Stmt.{Stmt}
+use Rattle.php_syntax.specs.Trees.{PlainStmt, PlainStmts, no_stmts, more_stmts, plain_stmt, stmts_of}
+use Rattle.first_form.specs.FirstForm.{Statement, Part}
+use Rattle.first_form.specs.Trees.{arm_of, statement_tree, parts_tree}
+use Rattle.first_form.specs.Reading.{many, echo_at, statement_at, Step, broken, ended, onward}
+
+-- statements and then others
+abbrev pub joined : PlainStmts → PlainStmts → PlainStmts
+joined no_stmts ts = ts
+joined (more_stmts s ss) ts = more_stmts s (joined ss ts)
+
+abbrev pub statements_tree : List Statement → PlainStmts
+statements_tree [] = no_stmts
+statements_tree (s ∷ ss) = more_stmts (statement_tree s) (statements_tree ss)
+
+-- a statement and the bytes after it
+abbrev pub found : Option (Stmt × Bor (List ℕ)) → Option (PlainStmt × List ℕ)
+found None = None
+found (Some x) = Some (plain_stmt x.0, x.1.now)
+
+abbrev pub treed : Option (Statement × List ℕ) → Option (PlainStmt × List ℕ)
+treed None = None
+treed (Some x) = Some (statement_tree x.0, x.1)
+
+-- the echoes at the front of the bytes, and the bytes after them
+pub record IsArm (body : List Stmt) (rest bytes : List ℕ) : Type 0 where
+  pub trees : stmts_of body ≡ arm_of (many echo_at bytes).0
+  pub left : rest ≡ (many echo_at bytes).1
+
+-- the statements at the front of the bytes stand behind those that were there
+pub record AddsStatements (before now : List Stmt) (rest bytes : List ℕ) : Type 0 where
+  pub trees : stmts_of now ≡ joined (stmts_of before) (statements_tree (many statement_at bytes).0)
+  pub left : rest ≡ (many statement_at bytes).1

@@ -1,0 +1,8 @@
+//! The reader of scripts of the first form.
+#![tactic(auto)]
+
+mod front;
+pub mod laws;
+mod statements;
+mod trees;
+mod words;
