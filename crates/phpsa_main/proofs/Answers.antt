@@ -5,13 +5,13 @@ use Rattle.io_edge.specs.Told.{Tells, HasAtLeast}
 use Rattle.phpsa_main.specs.declared.exit.Exit.{Exit}
 use Rattle.phpsa_main.specs.declared.exit.Exit.TheVariants.{Done, No, NotBuilt, Missing, ReadFault, WriteFault, Usage, Input, Memory}
 use Rattle.phpsa_main.specs.Words.{Asks}
-use Rattle.phpsa_main.specs.Decision.{IsDecided, EachIsValid, IsCounterexample}
+use Rattle.phpsa_main.specs.Decision.{IsDecided, IsLoosePage, EachIsValid, IsCounterexample}
 use Rattle.phpsa_main.specs.Call.{Call, Fails}
 use Rattle.phpsa_main.specs.Endings.{AsksScript, HasCause, EndsRefused, Ends}
 use Rattle.phpsa_main.specs.Answered.{IsUndisturbed, IsAnswered}
 
 -- the words ask for one file
-one_file : (words : List (List ℕ)) (a b : List ℕ) → Asks words a → Asks words b → a ≡ b
+pub one_file : (words : List (List ℕ)) (a b : List ℕ) → Asks words a → Asks words b → a ≡ b
 one_file words a b x y =
   let first : words ≡ _ = x.written in
   let second : words ≡ _ = y.written in
@@ -53,6 +53,10 @@ not_write_fault : (call : Call) (file script : List ℕ) → IsUndisturbed call 
 not_write_fault call file script u (inl w) = u.out w.failed
 not_write_fault call file script u (inr w) = u.err w.failed
 
+-- a script with a loose page is decided
+decided_by : (script page : List ℕ) → IsLoosePage script page → IsDecided script
+decided_by script page loose = record { program = loose.program; reading = loose.reading }
+
 -- what is valid is no counterexample
 not_both : (script page : List ℕ) → EachIsValid script → IsCounterexample script page → ⊥
 not_both script page each counter = counter.invalid (each.valid page counter.loose)
@@ -92,7 +96,7 @@ is_no call No w file script page u counter = (0, lit< tt, refl)
 is_no call NotBuilt w file script page u counter =
   let (held, asked, undecided) = w.cause in
   let same : held ≡ script = one_script call file script w.file held u asked in
-  absurd (undecided (subst IsDecided (sym same) counter.loose.decided))
+  absurd (undecided (subst IsDecided (sym same) (decided_by script page counter.loose)))
 is_no call Missing w file script page u counter = absurd (not_missing call file script u w)
 is_no call ReadFault w file script page u counter = absurd (not_read_fault call file script u w)
 is_no call WriteFault w file script page u counter = absurd (not_write_fault call file script u w)
@@ -106,7 +110,7 @@ is_not_built call Done w file script u undecided =
   absurd (undecided (subst IsDecided same w.valid.decided))
 is_not_built call No w file script u undecided =
   let same : w.script ≡ script = one_script call file script w.file w.script u w.asked in
-  absurd (undecided (subst IsDecided same w.invalid.loose.decided))
+  absurd (undecided (subst IsDecided same (decided_by w.script w.page w.invalid.loose)))
 is_not_built call NotBuilt w file script u undecided = (0, lit< tt, refl)
 is_not_built call Missing w file script u undecided = absurd (not_missing call file script u w)
 is_not_built call ReadFault w file script u undecided = absurd (not_read_fault call file script u w)

@@ -4,6 +4,7 @@
 mod check;
 mod decide;
 mod exit;
+mod loose;
 mod report;
 mod texts;
 mod verdict;
@@ -15,8 +16,10 @@ ghost use Rattle.std.specs.Prelude.{map, string_bytes};
 ghost use Rattle.phpsa_main.specs.Call.{source_of, output_of, call_of};
 ghost use Rattle.phpsa_main.specs.Endings.{Ends};
 ghost use Rattle.phpsa_main.specs.Answered.{IsAnswered};
+ghost use Rattle.phpsa_main.specs.Sound.{IsSound};
 
 use check::check;
+use first_form::laws::ended_runs_print_loose_pages;
 use io_edge::{Files, Sink};
 use report::{refuse, report};
 use std::alloc::Global;
@@ -39,7 +42,12 @@ pub fn phpsa<F: Files, O: Sink, E: Sink>(
         (source_of (F.content files.old) (F.faults files.old) (F.faults files.new) (F.misses files.old) (F.misses files.new))
         (output_of (O.written out.old) (O.written out.new) (O.faults out.old) (O.faults out.new))
         (output_of (E.written err.old) (E.written err.new) (E.faults err.old) (E.faults err.new))) result }
+    ensures sound { IsSound (call_of (map (λ word. string_bytes word) words.now.items)
+        (source_of (F.content files.old) (F.faults files.old) (F.faults files.new) (F.misses files.old) (F.misses files.new))
+        (output_of (O.written out.old) (O.written out.new) (O.faults out.old) (O.faults out.new))
+        (output_of (E.written err.old) (E.written err.new) (E.faults err.old) (E.faults err.new))) result }
 {
+    ended_runs_print_loose_pages();
     run(alloc, words, files, out, err)
 }
 
