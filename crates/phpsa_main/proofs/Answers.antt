@@ -13,26 +13,26 @@ use Rattle.phpsa_main.specs.Answered.{IsUndisturbed, IsAnswered}
 -- the words ask for one file
 pub one_file : (words : List (List ℕ)) (a b : List ℕ) → Asks words a → Asks words b → a ≡ b
 one_file words a b x y =
-  let first : words ≡ _ = x.written in
-  let second : words ≡ _ = y.written in
-  cc
+    let first : words ≡ _ = x.written in
+    let second : words ≡ _ = y.written in
+    cc
 
 -- what is told of the file is what it holds
 one_script : (call : Call) (file script other_file other : List ℕ) → IsUndisturbed call file script → AsksScript call other_file other → other ≡ script
 one_script call file script other_file other u asked =
-  let same : other_file ≡ file = one_file call.words other_file file asked.asked u.asked in
-  let told : Tells (call.files.content file) (Some other) = subst (λ name. Tells (call.files.content name) (Some other)) same asked.told in
-  let held : Tells (Some (Some script)) (Some other) = subst (λ content. Tells content (Some other)) u.held told in
-  cc
+    let same : other_file ≡ file = one_file call.words other_file file asked.asked u.asked in
+    let told : Tells (call.files.content file) (Some other) = subst (λ name. Tells (call.files.content name) (Some other)) same asked.told in
+    let held : Tells (Some (Some script)) (Some other) = subst (λ content. Tells content (Some other)) u.held told in
+    cc
 
 -- an undisturbed call finds its file, reads it whole, and writes
 not_missing : (call : Call) (file script : List ℕ) → IsUndisturbed call file script → EndsRefused call Missing → ⊥
 not_missing call file script u w =
-  let (asked, rises, none) = w.cause in
-  let same : w.file ≡ file = one_file call.words w.file file asked u.asked in
-  let told : Tells (call.files.content file) None = subst (λ name. Tells (call.files.content name) None) same none in
-  let held : Tells (Some (Some script)) None = subst (λ content. Tells content None) u.held told in
-  cc
+    let (asked, rises, none) = w.cause in
+    let same : w.file ≡ file = one_file call.words w.file file asked u.asked in
+    let told : Tells (call.files.content file) None = subst (λ name. Tells (call.files.content name) None) same none in
+    let held : Tells (Some (Some script)) None = subst (λ content. Tells content None) u.held told in
+    cc
 
 not_read_fault : (call : Call) (file script : List ℕ) → IsUndisturbed call file script → EndsRefused call ReadFault → ⊥
 not_read_fault call file script u w = u.files w.cause.1
@@ -42,12 +42,12 @@ not_usage call file script u w = w.cause file u.asked
 
 not_input : (call : Call) (file script : List ℕ) → IsUndisturbed call file script → EndsRefused call Input → ⊥
 not_input call file script u w =
-  let (asked, over, least) = w.cause in
-  let same : w.file ≡ file = one_file call.words w.file file asked u.asked in
-  let told : HasAtLeast (call.files.content file) w.len = subst (λ name. HasAtLeast (call.files.content name) w.len) same least in
-  let held : HasAtLeast (Some (Some script)) w.len = subst (λ content. HasAtLeast content w.len) u.held told in
-  let short : length script ≤ 1048576 = u.short in
-  omega (arith, held, over, short)
+    let (asked, over, least) = w.cause in
+    let same : w.file ≡ file = one_file call.words w.file file asked u.asked in
+    let told : HasAtLeast (call.files.content file) w.len = subst (λ name. HasAtLeast (call.files.content name) w.len) same least in
+    let held : HasAtLeast (Some (Some script)) w.len = subst (λ content. HasAtLeast content w.len) u.held told in
+    let short : length script ≤ 1048576 = u.short in
+    omega (arith, held, over, short)
 
 not_write_fault : (call : Call) (file script : List ℕ) → IsUndisturbed call file script → Ends call WriteFault → ⊥
 not_write_fault call file script u (inl w) = u.out w.failed
@@ -75,12 +75,12 @@ is_answered call Memory w file script u = (3, lit< tt, refl)
 is_done : (call : Call) (status : Exit) → Ends call status → (file script : List ℕ) → IsUndisturbed call file script → EachIsValid script → Contains (Done ∷ Memory ∷ []) status
 is_done call Done w file script u each = (0, lit< tt, refl)
 is_done call No w file script u each =
-  let same : w.script ≡ script = one_script call file script w.file w.script u w.asked in
-  absurd (not_both script w.page each (subst (λ held. IsCounterexample held w.page) same w.invalid))
+    let same : w.script ≡ script = one_script call file script w.file w.script u w.asked in
+    absurd (not_both script w.page each (subst (λ held. IsCounterexample held w.page) same w.invalid))
 is_done call NotBuilt w file script u each =
-  let (held, asked, undecided) = w.cause in
-  let same : held ≡ script = one_script call file script w.file held u asked in
-  absurd (undecided (subst IsDecided (sym same) each.decided))
+    let (held, asked, undecided) = w.cause in
+    let same : held ≡ script = one_script call file script w.file held u asked in
+    absurd (undecided (subst IsDecided (sym same) each.decided))
 is_done call Missing w file script u each = absurd (not_missing call file script u w)
 is_done call ReadFault w file script u each = absurd (not_read_fault call file script u w)
 is_done call WriteFault w file script u each = absurd (not_write_fault call file script u w)
@@ -90,13 +90,13 @@ is_done call Memory w file script u each = (1, lit< tt, refl)
 
 is_no : (call : Call) (status : Exit) → Ends call status → (file script page : List ℕ) → IsUndisturbed call file script → IsCounterexample script page → Contains (No ∷ Memory ∷ []) status
 is_no call Done w file script page u counter =
-  let same : w.script ≡ script = one_script call file script w.file w.script u w.asked in
-  absurd (not_both script page (subst EachIsValid same w.valid) counter)
+    let same : w.script ≡ script = one_script call file script w.file w.script u w.asked in
+    absurd (not_both script page (subst EachIsValid same w.valid) counter)
 is_no call No w file script page u counter = (0, lit< tt, refl)
 is_no call NotBuilt w file script page u counter =
-  let (held, asked, undecided) = w.cause in
-  let same : held ≡ script = one_script call file script w.file held u asked in
-  absurd (undecided (subst IsDecided (sym same) (decided_by script page counter.loose)))
+    let (held, asked, undecided) = w.cause in
+    let same : held ≡ script = one_script call file script w.file held u asked in
+    absurd (undecided (subst IsDecided (sym same) (decided_by script page counter.loose)))
 is_no call Missing w file script page u counter = absurd (not_missing call file script u w)
 is_no call ReadFault w file script page u counter = absurd (not_read_fault call file script u w)
 is_no call WriteFault w file script page u counter = absurd (not_write_fault call file script u w)
@@ -106,11 +106,11 @@ is_no call Memory w file script page u counter = (1, lit< tt, refl)
 
 is_not_built : (call : Call) (status : Exit) → Ends call status → (file script : List ℕ) → IsUndisturbed call file script → (IsDecided script → ⊥) → Contains (NotBuilt ∷ Memory ∷ []) status
 is_not_built call Done w file script u undecided =
-  let same : w.script ≡ script = one_script call file script w.file w.script u w.asked in
-  absurd (undecided (subst IsDecided same w.valid.decided))
+    let same : w.script ≡ script = one_script call file script w.file w.script u w.asked in
+    absurd (undecided (subst IsDecided same w.valid.decided))
 is_not_built call No w file script u undecided =
-  let same : w.script ≡ script = one_script call file script w.file w.script u w.asked in
-  absurd (undecided (subst IsDecided same (decided_by w.script w.page w.invalid.loose)))
+    let same : w.script ≡ script = one_script call file script w.file w.script u w.asked in
+    absurd (undecided (subst IsDecided same (decided_by w.script w.page w.invalid.loose)))
 is_not_built call NotBuilt w file script u undecided = (0, lit< tt, refl)
 is_not_built call Missing w file script u undecided = absurd (not_missing call file script u w)
 is_not_built call ReadFault w file script u undecided = absurd (not_read_fault call file script u w)

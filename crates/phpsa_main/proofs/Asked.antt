@@ -19,17 +19,17 @@ same_bytes xs ys e = (bytes_eq-Decides xs ys).0 e
 
 asks_four : (command file option value asked : List ℕ) → asked_file (command ∷ file ∷ option ∷ value ∷ []) ≡ Some asked → Asks (command ∷ file ∷ option ∷ value ∷ []) asked
 asks_four command file option value asked e =
-  let (tests, is) = chosen _ file asked e in
-  let (first_three, named) = both _ (is_file_word file) tests in
-  let (first_two, third) = both _ (bytes_eq value (codes "mini")) first_three in
-  let (first, second) = both (bytes_eq command (codes "check")) (bytes_eq option (codes "--dtd")) first_two in
-  let command_is : command ≡ codes "check" = same_bytes _ _ first in
-  let option_is : option ≡ codes "--dtd" = same_bytes _ _ second in
-  let value_is : value ≡ codes "mini" = same_bytes _ _ third in
-  record {
-    written = cc;
-    named = subst (λ word. is_file_word word ≡ true) is named;
-  }
+    let (tests, is) = chosen _ file asked e in
+    let (first_three, named) = both _ (is_file_word file) tests in
+    let (first_two, third) = both _ (bytes_eq value (codes "mini")) first_three in
+    let (first, second) = both (bytes_eq command (codes "check")) (bytes_eq option (codes "--dtd")) first_two in
+    let command_is : command ≡ codes "check" = same_bytes _ _ first in
+    let option_is : option ≡ codes "--dtd" = same_bytes _ _ second in
+    let value_is : value ≡ codes "mini" = same_bytes _ _ third in
+    record {
+      written = cc;
+      named = subst (λ word. is_file_word word ≡ true) is named;
+    }
 
 pub asks : (words : List (List ℕ)) (file : List ℕ) → asked_file words ≡ Some file → Asks words file
 asks [] file e = cc
@@ -46,6 +46,6 @@ choice false x e = cc
 
 pub asks_none : (words : List (List ℕ)) → asked_file words ≡ None → (file : List ℕ) → Asks words file → ⊥
 asks_none words none file asked =
-  let found : asked_file (codes "check" ∷ file ∷ codes "--dtd" ∷ codes "mini" ∷ []) ≡ Some file = choice (is_file_word file) file asked.named in
-  let same : asked_file words ≡ asked_file (codes "check" ∷ file ∷ codes "--dtd" ∷ codes "mini" ∷ []) = ap asked_file asked.written in
-  cc
+    let found : asked_file (codes "check" ∷ file ∷ codes "--dtd" ∷ codes "mini" ∷ []) ≡ Some file = choice (is_file_word file) file asked.named in
+    let same : asked_file words ≡ asked_file (codes "check" ∷ file ∷ codes "--dtd" ∷ codes "mini" ∷ []) = ap asked_file asked.written in
+    cc

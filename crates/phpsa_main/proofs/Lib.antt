@@ -2,3 +2,5 @@ pub mod Asked
 pub mod Ended
 pub mod Answers
 pub mod Soundness
+pub mod Plain
+mod Examples

@@ -48,7 +48,7 @@ output_of written written' faults faults' = record { written = written; written'
 -- a source of files by what it tells, and its counts before and after
 abbrev pub source_of : (List ℕ → Option (Option (List ℕ))) → ℕ → ℕ → ℕ → ℕ → Source
 source_of content faults faults' misses misses' =
-  record { content = content; faults = faults; faults' = faults'; misses = misses; misses' = misses' }
+    record { content = content; faults = faults; faults' = faults'; misses = misses; misses' = misses' }
 
 abbrev pub call_of : List (List ℕ) → Source → Output → Output → Call
 call_of words files out err = record { words = words; files = files; out = out; err = err }

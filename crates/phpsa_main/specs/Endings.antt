@@ -20,7 +20,7 @@ HasCause call Done file len = ⊥
 HasCause call No file len = ⊥
 HasCause call NotBuilt file len = (script : List ℕ) × AsksScript call file script × (IsDecided script → ⊥)
 HasCause call Missing file len =
-  Asks call.words file × Rises call.files.misses call.files.misses' × Tells (call.files.content file) None
+    Asks call.words file × Rises call.files.misses call.files.misses' × Tells (call.files.content file) None
 HasCause call ReadFault file len = Asks call.words file × Rises call.files.faults call.files.faults'
 HasCause call WriteFault file len = ⊥
 HasCause call Usage file len = (asked : List ℕ) → Asks call.words asked → ⊥
@@ -30,7 +30,7 @@ HasCause call Memory file len = ⊤
 -- the text that is due on `out`: the answer for the script
 abbrev pub IsAnswer : Call → List ℕ → Type 0
 IsAnswer call text = (file : List ℕ) × (script : List ℕ) × AsksScript call file script
-  × ((EachIsValid script × (text ≡ yes_text)) ⊎ ((page : List ℕ) × IsCounterexample script page × (text ≡ no_text page)))
+    × ((EachIsValid script × (text ≡ yes_text)) ⊎ ((page : List ℕ) × IsCounterexample script page × (text ≡ no_text page)))
 
 -- the text that is due on `err`: that of a status that has its cause
 abbrev pub IsError : Call → List ℕ → Type 0

@@ -1,5 +1,7 @@
 -- The loose pages of a script, as a list, and what a test of some of them says.
-use Rattle.std.specs.Prelude.{ℕ, List, Option, None, Some, Contains}
+use Rattle.std.specs.Prelude.{◌≡◌, ℕ, List, true, Option, None, Some, Contains}
+use Rattle.std.specs.List.{list_all}
+use Rattle.page_check.specs.PageBytes.{is_page_byte}
 use Rattle.dtd_model.specs.Valid.{Valid}
 use Rattle.dtd_model.specs.Mini.{mini_table}
 use Rattle.std.specs.declared.vec.Vec.{Vec}
@@ -15,6 +17,10 @@ pub record AreLoosePages (script : List ℕ) (pages : List (List ℕ)) : Type 0 
 abbrev pub ArePagesOf : List ℕ → Option (Vec (List ℕ) Global) → Type 0
 ArePagesOf script None = IsDecided script → ⊥
 ArePagesOf script (Some pages) = AreLoosePages script pages.items
+
+-- each of the pages has only bytes that a page may have so far
+abbrev pub ArePlain : List (List ℕ) → Type 0
+ArePlain pages = (page : List ℕ) → Contains pages page → list_all is_page_byte page ≡ true
 
 -- each of the pages is valid
 abbrev pub AreValid : List (List ℕ) → Type 0

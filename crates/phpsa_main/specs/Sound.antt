@@ -15,5 +15,5 @@ use Rattle.phpsa_main.specs.Call.{Call}
 -- number of units, that ends prints a valid page.
 abbrev pub IsSound : Call → Exit → Type 0
 IsSound call status = status ≡ Done → (file : List ℕ) (program : PlainFile) (request : Request) (units : ℕ) (printed : List ℕ)
-  → Asks call.words file → IsProgram call.files.content file program → Admitted request
-  → Meaning program request units printed Ended → Valid mini_table printed
+    → Asks call.words file → IsProgram call.files.content file program → Admitted request
+    → Meaning program request units printed Ended → Valid mini_table printed

@@ -76,7 +76,7 @@ RefusesFile told faults faults' misses misses' Refusal.Memory = ⊤
 -- a text was put on an output, and the call ends with this status: the wanted one, or that of a fault
 abbrev pub Puts : Output → List ℕ → Exit → Exit → Type 0
 Puts output text wanted status = ((status ≡ wanted) × Gains output text)
-  ⊎ (((status ≡ WriteFault) × Fails output × GainsPrefix output text) ⊎ ((status ≡ Memory) × GainsPrefix output text))
+    ⊎ (((status ≡ WriteFault) × Fails output × GainsPrefix output text) ⊎ ((status ≡ Memory) × GainsPrefix output text))
 
 -- an answer was written: its text stands on `out`, and `err` is as it was
 pub record WritesAnswer (answer : Answer) (out err : Output) (status : Exit) : Type 0 where
@@ -102,5 +102,5 @@ Reports answer out err status = WritesAnswer answer out err status ⊎ (FailsOnO
 -- a refusal was put on `err`, or want of memory for its text
 abbrev pub ReportsRefusal : List ℕ → Refusal → Output → Exit → Type 0
 ReportsRefusal file refusal err status =
-  Puts err (error_text (refusal_status refusal) file (refusal_len refusal)) (refusal_status refusal) status
-  ⊎ Puts err (error_text Memory [] 0) Memory status
+    Puts err (error_text (refusal_status refusal) file (refusal_len refusal)) (refusal_status refusal) status
+    ⊎ Puts err (error_text Memory [] 0) Memory status

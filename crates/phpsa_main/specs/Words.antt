@@ -14,6 +14,6 @@ pub record Asks (words : List (List ℕ)) (file : List ℕ) : Type 0 where
 -- the FILE of the words, if they are such
 abbrev pub asked_file : List (List ℕ) → Option (List ℕ)
 asked_file (command ∷ file ∷ option ∷ value ∷ []) =
-  if bytes_eq command (codes "check") && bytes_eq option (codes "--dtd") && bytes_eq value (codes "mini") && is_file_word file
-  then Some file else None
+    if bytes_eq command (codes "check") && bytes_eq option (codes "--dtd") && bytes_eq value (codes "mini") && is_file_word file
+    then Some file else None
 asked_file words = None

@@ -1,9 +1,11 @@
 // The answer for a script.
-ghost use Rattle.std.specs.Prelude.{◌≡◌, ℕ, List, IfOk, IfErr, IfSome, None, IsTrue, Contains};
+ghost use Rattle.std.specs.Prelude.{◌≡◌, ℕ, List, IfOk, IfErr, IfSome, None, IsTrue, Contains, true};
+ghost use Rattle.std.specs.List.{list_all};
+ghost use Rattle.page_check.specs.PageBytes.{is_page_byte};
 ghost use Rattle.dtd_model.specs.Table.{table_of};
 ghost use Rattle.dtd_model.specs.Valid.{Valid};
 ghost use Rattle.dtd_model.specs.Mini.{mini_table};
-ghost use Rattle.phpsa_main.specs.Pages.{AreValid, IsInvalidAmong};
+ghost use Rattle.phpsa_main.specs.Pages.{ArePlain, AreValid, IsInvalidAmong};
 ghost use Rattle.phpsa_main.specs.Steps.{IsAnswerOf, IsRefusalOf};
 
 use crate::loose::loose_pages;
@@ -29,6 +31,7 @@ pub(crate) fn decide(alloc: Global, script: &[u8]) -> Result<Answer, Refusal>
 
 /// The first page that is not valid.
 fn first_invalid(alloc: Global, pages: &[Bytes]) -> Result<Option<Bytes>, NoMemory>
+    requires { ArePlain pages.now }
     ensures some { IfOk result (λ found. IfSome found (λ page. IsInvalidAmong pages.now page)) }
     ensures none { IfOk result (λ found. found ≡ None → AreValid pages.now) }
 {
@@ -43,7 +46,8 @@ fn first_invalid(alloc: Global, pages: &[Bytes]) -> Result<Option<Bytes>, NoMemo
 
 /// The page is valid by the smallest document type.
 fn is_valid(alloc: Global, dtd: &Dtd, page: &[u8]) -> Result<bool, NoMemory>
-    requires { table_of dtd.now ≡ mini_table }
+    requires smallest { table_of dtd.now ≡ mini_table }
+    requires plain { list_all is_page_byte page.now ≡ true }
     ensures yes { IfOk result (λ valid. IsTrue valid → Valid mini_table page.now) }
     ensures not { IfOk result (λ valid. Valid mini_table page.now → IsTrue valid) }
 {

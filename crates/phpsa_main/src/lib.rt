@@ -1,4 +1,10 @@
-//! The top call.
+//! The program over any files and outputs: the words of the command line, the check of a script, and the texts and
+//! statuses that tell of it.
+//!
+//! The contract of `phpsa` cites three definitions. `Ends` says for each status why it came and what is left on the
+//! outputs. `IsAnswered` says when there is an answer, and which. `IsSound` is the headline: after a yes, every run
+//! of the script that ends prints a valid page. Below stand `io_edge` with files and outputs, `first_form` with the
+//! scripts that are decided, their meaning and their loose pages, and `dtd_model` and `page_check` with valid pages.
 #![tactic(auto)]
 
 mod check;
@@ -6,11 +12,11 @@ mod decide;
 mod exit;
 mod loose;
 mod report;
+#[cfg(test)]
+mod tests;
 mod texts;
 mod verdict;
 mod words;
-
-pub use exit::Exit;
 
 ghost use Rattle.std.specs.Prelude.{map, string_bytes};
 ghost use Rattle.phpsa_main.specs.Call.{source_of, output_of, call_of};
@@ -19,6 +25,7 @@ ghost use Rattle.phpsa_main.specs.Answered.{IsAnswered};
 ghost use Rattle.phpsa_main.specs.Sound.{IsSound};
 
 use check::check;
+pub use exit::Exit;
 use first_form::laws::ended_runs_print_loose_pages;
 use io_edge::{Files, Sink};
 use report::{refuse, report};
@@ -26,7 +33,11 @@ use std::alloc::Global;
 use verdict::Refusal;
 use words::asked;
 
-/// Does what the words ask for.
+/// Does what the words after the program's name ask for, and gives the status that the program ends with.
+///
+/// The only words are `check FILE --dtd mini`, where FILE is not empty and does not begin with `-`. The file is read
+/// once. An answer is written on `out`: `yes`, or `no`, the length of a loose page that is not valid, and its first
+/// 1,048,576 bytes. Every other ending is written on `err`, as `phpsa: KIND` with the file's name where there is one.
 pub fn phpsa<F: Files, O: Sink, E: Sink>(
     alloc: Global,
     words: &Vec<String>,
@@ -51,6 +62,7 @@ pub fn phpsa<F: Files, O: Sink, E: Sink>(
     run(alloc, words, files, out, err)
 }
 
+/// The same, with the one clause from which the others follow.
 fn run<F: Files, O: Sink, E: Sink>(
     alloc: Global,
     words: &Vec<String>,

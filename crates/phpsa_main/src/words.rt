@@ -11,10 +11,7 @@ pub(crate) fn asked(words: &[String]) -> Option<&String>
             if command.as_str() == "check"
                 && option.as_str() == "--dtd"
                 && value.as_str() == "mini"
-                && is_file(file.as_bytes()) =>
-        {
-            Some(file)
-        }
+                && is_file(file.as_bytes()) => { Some(file) }
         _ => None,
     }
 }
