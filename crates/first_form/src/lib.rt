@@ -3,6 +3,7 @@
 
 mod front;
 pub mod laws;
+mod pieces;
 mod statements;
 mod trees;
 mod words;
