@@ -115,7 +115,7 @@ step_broken before now bytes text rest e f h some none = record {
   is = sym (ap (php_step text) none) ∙ sym (php_next text rest some) ∙ ap (λ t. text_step t rest) e ∙ ap (text_step (text_of bytes)) f;
 }
 
-parts_tree-append : (ps qs : List Part) → parts_tree (ps ++ qs) ≡ joined (parts_tree ps) (parts_tree qs)
+pub parts_tree-append : (ps qs : List Part) → parts_tree (ps ++ qs) ≡ joined (parts_tree ps) (parts_tree qs)
 parts_tree-append [] qs = refl
 parts_tree-append (p ∷ ps) qs = ap (more_stmts (part_tree p)) (parts_tree-append ps qs)
 

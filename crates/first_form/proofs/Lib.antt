@@ -4,5 +4,7 @@ pub mod RunLemmas
 pub mod Marks
 pub mod Files
 pub mod Joining
+pub mod ReaderLemmas
+pub mod StmtCases
 pub mod Lawful
 pub mod Runs

@@ -1,8 +1,10 @@
 -- What the reader's functions give, beside what the grammar's reading gives.
-use Rattle.std.specs.Prelude.{◌≡◌, ℕ, List, [], ◌∷◌, Option, Some, None}
+use Rattle.std.specs.declared.vec.Vec.{Vec}
+use Rattle.std.specs.declared.alloc.Global.{Global}
+use Rattle.std.specs.Prelude.{◌≡◌, ℕ, ◌+◌, List, [], ◌∷◌, Option, Some, None}
 use Rattle.std.specs.Borrow.{Bor}
 use Rattle.php_syntax.specs.declared.tree.Stmt.{Stmt}
-use Rattle.php_syntax.specs.Trees.{PlainStmt, PlainStmts, no_stmts, more_stmts, plain_stmt, stmts_of}
+use Rattle.php_syntax.specs.Trees.{PlainStmt, PlainStmts, if_stmt, no_stmts, more_stmts, plain_stmt, stmts_of}
 use Rattle.first_form.specs.declared.pieces.Next.{Next}
 use Rattle.first_form.specs.declared.pieces.Next.TheVariants.{Broken, Ended, Onward}
 use Rattle.first_form.specs.FirstForm.{Statement, Part, inline_part}
@@ -52,3 +54,21 @@ pub record AddsParts (before now : List Stmt) (next : Next) (step : Step) : Type
   pub parts : List Part
   pub trees : stmts_of now ≡ joined (stmts_of before) (parts_tree parts)
   pub is : step_of parts next ≡ step
+
+-- the statements that were read
+abbrev pub bodied : Option (Vec Stmt Global) → Option PlainStmts
+bodied None = None
+bodied (Some body) = Some (stmts_of body.items)
+
+abbrev pub parted : Option (List Part) → Option PlainStmts
+parted None = None
+parted (Some parts) = Some (parts_tree parts)
+
+-- how many of the statements are an if
+unfoldable pub if_count : PlainStmt → ℕ
+if_count (if_stmt arms otherwise) = 1
+if_count _ = 0
+
+abbrev pub ifs_in : PlainStmts → ℕ
+ifs_in no_stmts = 0
+ifs_in (more_stmts s ss) = if_count s + ifs_in ss

@@ -4,6 +4,9 @@
 mod front;
 pub mod laws;
 mod pieces;
+mod reader;
 mod statements;
 mod trees;
 mod words;
+
+pub use reader::read;
