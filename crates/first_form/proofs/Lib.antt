@@ -5,6 +5,8 @@ pub mod Marks
 pub mod Files
 pub mod Joining
 pub mod ReaderLemmas
-pub mod StmtCases
+pub mod Shapes
+pub mod PageLemmas
+pub mod Straight
 pub mod Lawful
 pub mod Runs

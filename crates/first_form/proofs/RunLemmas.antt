@@ -1,5 +1,8 @@
 -- A run of bytes, counted from the front.
 use Rattle.std.proofs.Common.{◌≡◌, ℕ, zero, suc, ◌+◌, ◌≤◌, ◌<◌, Bool, true, false, cond, List, [], ◌∷◌, ◌++◌, refl, sym, ap, ◌∙◌, subst, arith, length, take, drop, get_or, append_assoc, append-nil}
+use Rattle.std.specs.Prelude.{◌==◌, ◌&&◌}
+use Rattle.std.specs.List.{list_all}
+use Rattle.std.proofs.lemmas.Bool.{ne_eqb}
 use Rattle.std.proofs.lemmas.List.{take_more, drop_more, take-append-drop, drop_all}
 use Rattle.first_form.specs.Reading.{front_of, rest_of, ends_text, text_of, past_text}
 
@@ -80,3 +83,13 @@ text_ends bytes n h off =
 pub text_all : (bytes : List ℕ) (n : ℕ) → TextSoFar bytes n → length bytes ≤ n → (take n bytes ≡ text_of bytes) × (drop n bytes ≡ past_text bytes)
 unfolding ends_text
 text_all bytes n h more = text_ends bytes n h (ap ends_text (drop_all n bytes more))
+
+all_at : (test : ℕ → Bool) (v : Bool) (b : ℕ) (bs rest : List ℕ) → (length rest == 0) ≡ list_all test bs → (length (cond v rest (b ∷ bs)) == 0) ≡ (v && list_all test bs)
+all_at test true b bs rest ih = ih
+all_at test false b bs rest ih = ne_eqb (length (b ∷ bs)) 0 (λ e. absurd (omega arith))
+
+-- each byte passes where nothing is left after the run
+pub all_pass : (test : ℕ → Bool) (bs : List ℕ) → (length (rest_of test bs) == 0) ≡ list_all test bs
+unfolding rest_of
+all_pass test [] = refl
+all_pass test (b ∷ bs) = all_at test (test b) b bs (rest_of test bs) (all_pass test bs)

@@ -3,6 +3,7 @@
 
 mod front;
 pub mod laws;
+mod pages;
 mod pieces;
 mod reader;
 mod statements;

@@ -1,4 +1,4 @@
-use Rattle.first_form.proofs.StmtCases.{no_if}
+use Rattle.first_form.proofs.Shapes.{no_if}
 use Rattle.first_form.proofs.reader.is_if.Goals as goal
 
 pub returns-in_default : goal.returns-in_default
