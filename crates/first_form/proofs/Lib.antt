@@ -8,5 +8,6 @@ pub mod ReaderLemmas
 pub mod Shapes
 pub mod PageLemmas
 pub mod Straight
+pub mod Gathering
 pub mod Lawful
 pub mod Runs

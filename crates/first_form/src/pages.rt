@@ -240,3 +240,15 @@ fn pages_of(alloc: Global, body: &[Stmt]) -> Result<Option<Pages>, NoMemory>
     }
     Ok(Some(pages))
 }
+
+/// The loose pages of a tree. None exactly where the tree is not of the first form.
+pub fn loose_pages(alloc: Global, tree: &FileTree) -> Result<Option<Pages>, NoMemory>
+    ensures pages { IfOk result (λ o. IfSome o (λ pages. ArePages pages (plain_file tree.now))) }
+    ensures first_form { IfOk result (λ o. IfSome o (λ _. IsFirstTree (plain_file tree.now))) }
+    ensures none { IfOk result (λ o. IfNone o (IsFirstTree (plain_file tree.now) → ⊥)) }
+{
+    if !tree.functions.is_empty() {
+        return Ok(None);
+    }
+    pages_of(alloc, tree.body.as_slice())
+}
