@@ -1,12 +1,15 @@
 -- Statements one after another, in vectors and in trees, and the loops that push them.
 use Rattle.std.proofs.Common.{◌≡◌, ℕ, ◌<◌, List, [], ◌∷◌, ◌++◌, Option, Some, None, refl, sym, ap, ◌∙◌, subst, arith, length}
+use Rattle.std.specs.Prelude.{◌≢◌}
 use Rattle.std.proofs.lemmas.Option.{some_pair_parts}
 use Rattle.php_syntax.specs.declared.tree.Stmt.{Stmt}
-use Rattle.php_syntax.specs.Trees.{PlainStmt, PlainStmts, no_stmts, more_stmts, plain_stmt, stmts_of}
+use Rattle.first_form.specs.declared.pieces.Next.{Next}
+use Rattle.first_form.specs.declared.pieces.Next.TheVariants.{Broken, Ended, Onward}
+use Rattle.php_syntax.specs.Trees.{PlainStmt, PlainStmts, inline_stmt, no_stmts, more_stmts, plain_stmt, stmts_of}
 use Rattle.first_form.specs.FirstForm.{Statement, Part, php, inline_part, php_parts}
 use Rattle.first_form.specs.Trees.{echo_text, arm_of, statement_tree, part_tree, parts_tree}
-use Rattle.first_form.specs.Reading.{many, echo_at, statement_at}
-use Rattle.first_form.specs.Found.{joined, statements_tree, found, treed, IsArm, AddsStatements}
+use Rattle.first_form.specs.Reading.{many, echo_at, statement_at, opener_at, text_of, past_text, step_at, text_step, php_step, end_step}
+use Rattle.first_form.specs.Found.{joined, statements_tree, found, treed, IsArm, AddsStatements, AddsInline, AddsParts, step_of}
 use Rattle.first_form.proofs.Items.{many_end, many_more}
 use Rattle.first_form.proofs.Marks.{echo_shrinks, statement_shrinks}
 
@@ -80,4 +83,54 @@ statements_done before now rest bytes h e =
     record {
       trees = sym (joined-none (stmts_of now)) ∙ ap (λ r. joined (stmts_of now) (statements_tree r.0)) (sym step) ∙ h.trees;
       left = ap (λ r. r.1) (sym step) ∙ h.left;
+    }
+
+-- inline text
+pub inline_pushed : (before : List Stmt) (text : List ℕ) (s : Stmt) → length text ≢ 0 → plain_stmt s ≡ inline_stmt text → AddsInline before (before ++ s ∷ []) text
+unfolding inline_part
+inline_pushed before [] s some e = absurd (some refl)
+inline_pushed before (b ∷ bs) s some e = sym (joined-none (stmts_of (before ++ s ∷ []))) ∙ stmts_of-push before s no_stmts ∙ ap (λ t. joined (stmts_of before) (more_stmts t no_stmts)) e
+
+pub inline_kept : (before : List Stmt) (text : List ℕ) → length text ≡ 0 → AddsInline before before text
+unfolding inline_part
+inline_kept before [] e = sym (joined-none (stmts_of before))
+inline_kept before (b ∷ bs) e = absurd (omega arith)
+
+-- the parts of a step
+pub step_ended : (before now : List Stmt) (bytes text rest : List ℕ) → text ≡ text_of bytes → rest ≡ past_text bytes → AddsInline before now text → length rest ≡ 0 → AddsParts before now Ended (step_at bytes)
+unfolding step_at text_step
+step_ended before now bytes text [] e f h z = record { parts = inline_part text; trees = h; is = ap (λ t. text_step t []) e ∙ ap (text_step (text_of bytes)) f }
+step_ended before now bytes text (b ∷ bs) e f h z = absurd (omega arith)
+
+php_next : (text rest : List ℕ) → length rest ≢ 0 → text_step text rest ≡ php_step text (opener_at rest)
+unfolding text_step
+php_next text [] some = absurd (some refl)
+php_next text (b ∷ bs) some = refl
+
+pub step_broken : (before now : List Stmt) (bytes text rest : List ℕ) → text ≡ text_of bytes → rest ≡ past_text bytes → AddsInline before now text → length rest ≢ 0 → opener_at rest ≡ None → AddsParts before now Broken (step_at bytes)
+unfolding step_at php_step
+step_broken before now bytes text rest e f h some none = record {
+  parts = inline_part text;
+  trees = h;
+  is = sym (ap (php_step text) none) ∙ sym (php_next text rest some) ∙ ap (λ t. text_step t rest) e ∙ ap (text_step (text_of bytes)) f;
+}
+
+pub parts_tree-append : (ps qs : List Part) → parts_tree (ps ++ qs) ≡ joined (parts_tree ps) (parts_tree qs)
+parts_tree-append [] qs = refl
+parts_tree-append (p ∷ ps) qs = ap (more_stmts (part_tree p)) (parts_tree-append ps qs)
+
+parts_tree-php : (ss : List Statement) → parts_tree (php_parts ss) ≡ statements_tree ss
+unfolding php_parts
+parts_tree-php [] = refl
+parts_tree-php (s ∷ ss) = ap (more_stmts (statement_tree s)) (parts_tree-php ss)
+
+pub step_on : (before mid now : List Stmt) (bytes text rest inside end : List ℕ) (next : Next) → text ≡ text_of bytes → rest ≡ past_text bytes → AddsInline before mid text → length rest ≢ 0 → opener_at rest ≡ Some inside → AddsStatements mid now end inside → ((parts : List Part) → step_of parts next ≡ end_step parts end) → AddsParts before now next (step_at bytes)
+unfolding step_at php_step
+step_on before mid now bytes text rest inside end next e f h some open_at adds ends =
+    let ss = (many statement_at inside).0 in
+    let parts = inline_part text ++ php_parts ss in
+    record {
+      parts = parts;
+      trees = adds.trees ∙ ap (λ t. joined t (statements_tree ss)) h ∙ joined_assoc (stmts_of before) (parts_tree (inline_part text)) (statements_tree ss) ∙ ap (λ t. joined (stmts_of before) (joined (parts_tree (inline_part text)) t)) (sym (parts_tree-php ss)) ∙ ap (joined (stmts_of before)) (sym (parts_tree-append (inline_part text) (php_parts ss)));
+      is = ends parts ∙ ap (end_step parts) adds.left ∙ sym (ap (php_step text) open_at) ∙ sym (php_next text rest some) ∙ ap (λ t. text_step t rest) e ∙ ap (text_step (text_of bytes)) f;
     }

@@ -7,3 +7,5 @@ pub mod Reading
 pub mod Classes
 pub mod Seen
 pub mod Found
+pub mod FirstTree
+pub mod Paging

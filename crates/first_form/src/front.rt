@@ -1,6 +1,7 @@
 //! What stands at the front of some bytes: runs of a class, words, and quoted texts.
 
 ghost use Rattle.std.specs.Prelude.{◌≡◌, ◌++◌, take, drop};
+ghost use Rattle.std.specs.List.{list_all};
 ghost use Rattle.first_form.specs.Reading.{front_of, rest_of, strip, after, quoted_at};
 ghost use Rattle.first_form.specs.FirstForm.{is_plain};
 ghost use Rattle.first_form.specs.Classes.{test_of};
@@ -47,6 +48,14 @@ pub(crate) fn run_of(class: Class, bytes: &[u8]) -> (&[u8], &[u8])
         n += 1;
     }
     bytes.split_at(n)
+}
+
+/// Whether each byte is of the class.
+pub(crate) fn all_of(class: Class, bytes: &[u8]) -> bool
+    ensures { result ≡ list_all (test_of class) bytes.now }
+{
+    let (_, rest) = run_of(class, bytes);
+    rest.is_empty()
 }
 
 /// What follows the word, where the bytes begin with it.
