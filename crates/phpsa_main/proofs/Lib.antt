@@ -3,4 +3,5 @@ pub mod Ended
 pub mod Answers
 pub mod Soundness
 pub mod Plain
+pub mod Loosely
 mod Examples

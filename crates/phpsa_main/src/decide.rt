@@ -1,16 +1,17 @@
 // The answer for a script.
-ghost use Rattle.std.specs.Prelude.{◌≡◌, ℕ, List, IfOk, IfErr, IfSome, None, IsTrue, Contains, true};
+ghost use Rattle.std.specs.Prelude.{◌≡◌, IfOk, IfErr, IfSome, None, IsTrue, true};
 ghost use Rattle.std.specs.List.{list_all};
-ghost use Rattle.page_check.specs.PageBytes.{is_page_byte};
 ghost use Rattle.dtd_model.specs.Table.{table_of};
 ghost use Rattle.dtd_model.specs.Valid.{Valid};
 ghost use Rattle.dtd_model.specs.Mini.{mini_table};
+ghost use Rattle.page_check.specs.PageBytes.{is_page_byte};
 ghost use Rattle.phpsa_main.specs.Pages.{ArePlain, AreValid, IsInvalidAmong};
 ghost use Rattle.phpsa_main.specs.Steps.{IsAnswerOf, IsRefusalOf};
 
-use crate::loose::loose_pages;
 use crate::verdict::{Answer, Refusal};
 use dtd_model::{Dtd, mini};
+use first_form::laws::one_reading;
+use first_form::{Pages, script_pages};
 use page_check::{PageRefusal, check_page};
 use std::alloc::Global;
 use text_base::{Bytes, NoMemory};
@@ -20,28 +21,37 @@ pub(crate) fn decide(alloc: Global, script: &[u8]) -> Result<Answer, Refusal>
     ensures ok { IfOk result (λ answer. IsAnswerOf script.now answer) }
     ensures err { IfErr result (λ refusal. IsRefusalOf script.now refusal) }
 {
-    match loose_pages(alloc, script)? {
+    one_reading();
+    match script_pages(alloc, script)? {
         None => Err(Refusal::NotBuilt),
-        Some(pages) => match first_invalid(alloc, &pages)? {
+        Some(pages) => match first_invalid(alloc, pages)? {
             None => Ok(Answer::Yes),
             Some(page) => Ok(Answer::No(page)),
         },
     }
 }
 
-/// The first page that is not valid.
-fn first_invalid(alloc: Global, pages: &[Bytes]) -> Result<Option<Bytes>, NoMemory>
-    requires { ArePlain pages.now }
-    ensures some { IfOk result (λ found. IfSome found (λ page. IsInvalidAmong pages.now page)) }
-    ensures none { IfOk result (λ found. found ≡ None → AreValid pages.now) }
+/// The first of the pages that is not valid.
+fn first_invalid(alloc: Global, pages: Pages) -> Result<Option<Bytes>, NoMemory>
+    requires { ArePlain pages }
+    ensures some { IfOk result (λ found. IfSome found (λ page. IsInvalidAmong pages page)) }
+    ensures none { IfOk result (λ found. found ≡ None → AreValid pages) }
 {
     let dtd = mini(alloc)?;
-    for page in pages {
-        if !is_valid(alloc, &dtd, page.as_slice())? {
-            return Ok(Some(page.copy(alloc)?));
+    let Pages { first, second } = pages;
+    if !is_valid(alloc, &dtd, first.as_slice())? {
+        return Ok(Some(first));
+    }
+    match second {
+        None => Ok(None),
+        Some(page) => {
+            if is_valid(alloc, &dtd, page.as_slice())? {
+                Ok(None)
+            } else {
+                Ok(Some(page))
+            }
         }
     }
-    Ok(None)
 }
 
 /// The page is valid by the smallest document type.

@@ -10,7 +10,6 @@
 mod check;
 mod decide;
 mod exit;
-mod loose;
 mod report;
 #[cfg(test)]
 mod tests;
