@@ -1,13 +1,12 @@
 -- How a call ends says how it is answered.
-use Rattle.std.proofs.Common.{◌≡◌, ◌≤◌, ◌<◌, ◌⊎◌, inl, inr, ℕ, List, [], ◌∷◌, length, Option, Some, None, Contains, refl, sym, ap, ◌∙◌, subst, lit<, arith}
-use Rattle.io_edge.specs.Counts.{Rises}
+use Rattle.std.proofs.Common.{◌≡◌, ◌≤◌, inl, inr, ℕ, List, [], ◌∷◌, length, Some, None, Contains, refl, sym, subst, lit<, arith}
 use Rattle.io_edge.specs.Told.{Tells, HasAtLeast}
 use Rattle.phpsa_main.specs.declared.exit.Exit.{Exit}
 use Rattle.phpsa_main.specs.declared.exit.Exit.TheVariants.{Done, No, NotBuilt, Missing, ReadFault, WriteFault, Usage, Input, Memory}
 use Rattle.phpsa_main.specs.Words.{Asks}
 use Rattle.phpsa_main.specs.Decision.{IsDecided, IsLoosePage, EachIsValid, IsCounterexample}
-use Rattle.phpsa_main.specs.Call.{Call, Fails}
-use Rattle.phpsa_main.specs.Endings.{AsksScript, HasCause, EndsRefused, Ends}
+use Rattle.phpsa_main.specs.Call.{Call}
+use Rattle.phpsa_main.specs.Endings.{AsksScript, EndsRefused, Ends}
 use Rattle.phpsa_main.specs.Answered.{IsUndisturbed, IsAnswered}
 
 -- the words ask for one file

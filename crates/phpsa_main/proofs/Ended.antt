@@ -1,22 +1,17 @@
 -- What was found and what was written make an ending.
-use Rattle.std.proofs.Common.{◌≡◌, ◌<◌, ◌≤◌, ◌⊎◌, inl, inr, ℕ, List, [], Option, None, Some, length, take, refl, sym, ap, ◌∙◌, subst, arith}
+use Rattle.std.proofs.Common.{◌≡◌, inl, inr, ℕ, List, [], Option, None, Some, length, refl, sym, ap, ◌∙◌, subst, arith}
 use Rattle.std.proofs.Math.Seq.{take-length}
 use Rattle.std.specs.Io.KnownBytes.{Appends}
-use Rattle.io_edge.specs.Counts.{Rises}
-use Rattle.io_edge.specs.Told.{Tells, HasAtLeast}
 use Rattle.io_edge.specs.Taken.{AppendsPrefix}
 use Rattle.phpsa_main.specs.declared.exit.Exit.{Exit}
 use Rattle.phpsa_main.specs.declared.exit.Exit.TheVariants.{Done, No, NotBuilt, Missing, ReadFault, WriteFault, Usage, Input, Memory}
 use Rattle.phpsa_main.specs.declared.verdict.Answer.{Answer}
-use Rattle.phpsa_main.specs.declared.verdict.Answer.TheVariants as Answer
 use Rattle.phpsa_main.specs.declared.verdict.Refusal.{Refusal}
-use Rattle.phpsa_main.specs.declared.verdict.Refusal.TheVariants as Refusal
 use Rattle.phpsa_main.specs.Words.{Asks, asked_file}
-use Rattle.phpsa_main.specs.Texts.{yes_text, no_text, error_text}
-use Rattle.phpsa_main.specs.Decision.{IsDecided, EachIsValid, IsCounterexample}
-use Rattle.phpsa_main.specs.Call.{Call, Output, Gains, GainsPrefix, GainsNothing, Fails}
-use Rattle.phpsa_main.specs.Endings.{AsksScript, HasCause, IsAnswer, IsError, EndsDone, EndsNo, EndsRefused, KeepsOut, EndsByOut, EndsByErr, EndsMemory, Ends}
-use Rattle.phpsa_main.specs.Steps.{answer_status, refusal_status, refusal_len, answer_text, AnswersFile, RefusesFile, Puts, WritesAnswer, FailsOnOut, WantsMemory, Reports, ReportsRefusal}
+use Rattle.phpsa_main.specs.Texts.{error_text}
+use Rattle.phpsa_main.specs.Call.{Call, Gains, GainsPrefix, GainsNothing, Fails}
+use Rattle.phpsa_main.specs.Endings.{HasCause, IsAnswer, KeepsOut, Ends}
+use Rattle.phpsa_main.specs.Steps.{answer_status, refusal_status, refusal_len, answer_text, AnswersFile, RefusesFile, Puts, Reports, ReportsRefusal}
 use Rattle.phpsa_main.proofs.Asked.{asks, asks_none}
 
 -- a whole text is a prefix of itself

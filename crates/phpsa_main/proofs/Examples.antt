@@ -1,7 +1,7 @@
 -- The definitions of `specs/` on worked examples and on near misses.
-use Rattle.std.proofs.Common.{◌≡◌, ◌++◌, ℕ, List, [], ◌∷◌, Option, None, Some, codes, replicate, refl, lit≤}
+use Rattle.std.proofs.Common.{◌≡◌, ◌++◌, [], ◌∷◌, None, Some, codes, refl, lit≤}
 use Rattle.std.specs.Fmt.{digits}
-use Rattle.phpsa_main.specs.declared.exit.Exit.TheVariants.{NotBuilt, WriteFault, Usage, Input, Memory}
+use Rattle.phpsa_main.specs.declared.exit.Exit.TheVariants.{NotBuilt, WriteFault, Usage, Input}
 use Rattle.phpsa_main.specs.Words.{Asks, asked_file}
 use Rattle.phpsa_main.specs.Texts.{yes_text, no_text, error_text, status_of}
 use Rattle.phpsa_main.specs.Call.{output_of, Gains, GainsPrefix, GainsNothing, Fails}

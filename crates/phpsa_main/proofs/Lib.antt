@@ -2,6 +2,5 @@ pub mod Asked
 pub mod Ended
 pub mod Answers
 pub mod Soundness
-pub mod Plain
 pub mod Loosely
 mod Examples

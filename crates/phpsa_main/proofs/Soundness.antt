@@ -1,5 +1,5 @@
 -- After a yes, what an ended run prints is a loose page, and so it is valid.
-use Rattle.std.proofs.Common.{◌≡◌, ℕ, List, Option, Some, None, refl, sym, ap, subst}
+use Rattle.std.proofs.Common.{◌≡◌, ℕ, List, Some, subst}
 use Rattle.php_syntax.specs.Trees.{PlainFile}
 use Rattle.first_form.specs.Trees.{IsFirstForm, IsProgram}
 use Rattle.first_form.specs.Requests.{Request, Admitted}
@@ -9,7 +9,6 @@ use Rattle.dtd_model.specs.Valid.{Valid}
 use Rattle.dtd_model.specs.Mini.{mini_table}
 use Rattle.io_edge.specs.Told.{Tells}
 use Rattle.phpsa_main.specs.declared.exit.Exit.{Exit}
-use Rattle.phpsa_main.specs.declared.exit.Exit.TheVariants.{Done}
 use Rattle.phpsa_main.specs.Words.{Asks}
 use Rattle.phpsa_main.specs.Call.{Call}
 use Rattle.phpsa_main.specs.Endings.{EndsDone, Ends}

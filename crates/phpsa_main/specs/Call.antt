@@ -1,5 +1,5 @@
 -- What a call of the program meets outside: words, files, and the two outputs, before it and after it.
-use Rattle.std.specs.Prelude.{◌≡◌, ◌≤◌, ℕ, List, Option}
+use Rattle.std.specs.Prelude.{◌≡◌, ℕ, List, Option}
 use Rattle.std.specs.Io.KnownBytes.{Appends}
 use Rattle.io_edge.specs.Counts.{Rises}
 use Rattle.io_edge.specs.Taken.{AppendsPrefix}

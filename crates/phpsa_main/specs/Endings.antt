@@ -1,5 +1,5 @@
 -- How a call of the program ends: for each status its cause, and what is left on the outputs.
-use Rattle.std.specs.Prelude.{◌≡◌, ◌<◌, ◌⊎◌, ℕ, List, Option, None, Some, ⊤}
+use Rattle.std.specs.Prelude.{◌≡◌, ◌<◌, ◌⊎◌, ℕ, List, None, Some, ⊤}
 use Rattle.io_edge.specs.Counts.{Rises}
 use Rattle.io_edge.specs.Told.{Tells, HasAtLeast}
 use Rattle.phpsa_main.specs.declared.exit.Exit.{Exit}

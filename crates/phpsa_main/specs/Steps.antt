@@ -5,9 +5,7 @@ use Rattle.io_edge.specs.Told.{Tells, HasAtLeast}
 use Rattle.phpsa_main.specs.declared.exit.Exit.{Exit}
 use Rattle.phpsa_main.specs.declared.exit.Exit.TheVariants.{Done, No, NotBuilt, Missing, ReadFault, WriteFault, Usage, Input, Memory}
 use Rattle.phpsa_main.specs.declared.verdict.Answer.{Answer}
-use Rattle.phpsa_main.specs.declared.verdict.Answer.TheVariants as Answer
 use Rattle.phpsa_main.specs.declared.verdict.Refusal.{Refusal}
-use Rattle.phpsa_main.specs.declared.verdict.Refusal.TheVariants as Refusal
 use Rattle.io_edge.specs.declared.files.FileFault.{FileFault}
 use Rattle.io_edge.specs.declared.files.FileFault.TheVariants as Fault
 use Rattle.phpsa_main.specs.Texts.{yes_text, no_text, error_text}

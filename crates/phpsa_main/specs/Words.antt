@@ -1,5 +1,5 @@
 -- The words of the command line, after the program's name.
-use Rattle.std.specs.Prelude.{◌≡◌, ◌≢◌, ◌&&◌, ◌==◌, ℕ, List, [], ◌∷◌, Bool, true, false, not, Option, None, Some, if◌then◌else◌, bytes_eq, codes}
+use Rattle.std.specs.Prelude.{◌≡◌, ◌&&◌, ◌==◌, ℕ, List, [], ◌∷◌, Bool, true, false, not, Option, None, Some, if◌then◌else◌, bytes_eq, codes}
 
 -- a FILE on the command line: it is not empty and does not begin with `-`
 abbrev pub is_file_word : List ℕ → Bool

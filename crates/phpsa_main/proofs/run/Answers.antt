@@ -1,4 +1,4 @@
-use Rattle.std.proofs.Common.{◌≡◌, ℕ, List, Option, Some, None, map, string_bytes, refl}
+use Rattle.std.proofs.Common.{◌≡◌, Some, None, map, string_bytes, refl}
 use Rattle.phpsa_main.specs.Words.{asked_file}
 use Rattle.phpsa_main.proofs.Ended.{unasked, refused, answered}
 use Rattle.phpsa_main.proofs.run.Goals as goal
