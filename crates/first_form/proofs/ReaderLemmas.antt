@@ -12,8 +12,8 @@ use Rattle.first_form.specs.declared.pieces.Next.TheVariants.{Broken, Ended, Onw
 use Rattle.std.specs.Borrow.{Bor}
 use Rattle.first_form.specs.FirstForm.{Part, inline, php, Statement, echo_of, if_set, ifs_of}
 use Rattle.first_form.specs.Trees.{parts_tree, part_tree, file_tree, IsFirstForm}
-use Rattle.first_form.specs.Reading.{◌>>=◌, Step, broken, ended, onward, step_at, go_on, file_at}
-use Rattle.first_form.specs.Found.{joined, AddsParts, step_of, bodied, parted, if_count, ifs_in}
+use Rattle.first_form.specs.Steps.Reading.{◌>>=◌, Step, broken, ended, onward, step_at, go_on, file_at}
+use Rattle.first_form.specs.Steps.Found.{joined, AddsParts, step_of, bodied, parted, if_count, ifs_in}
 use Rattle.first_form.proofs.Joining.{joined_assoc, parts_tree-append}
 use Rattle.first_form.proofs.Files.{file-step, step_takes, step_shrinks, file_takes, has-parts}
 

@@ -4,7 +4,7 @@ use Rattle.std.specs.Prelude.{◌==◌, ◌&&◌}
 use Rattle.std.specs.List.{list_all}
 use Rattle.std.proofs.lemmas.Bool.{ne_eqb}
 use Rattle.std.proofs.lemmas.List.{take_more, drop_more, take-append-drop, drop_all}
-use Rattle.first_form.specs.Reading.{front_of, rest_of, ends_text, text_of, past_text}
+use Rattle.first_form.specs.Steps.Reading.{front_of, rest_of, ends_text, text_of, past_text}
 
 -- the first n bytes pass
 pub record RunSoFar (test : ℕ → Bool) (bytes : List ℕ) (n : ℕ) : Type 0 where

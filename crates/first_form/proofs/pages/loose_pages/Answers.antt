@@ -3,7 +3,7 @@ use Rattle.std.specs.Prelude.{IfOk}
 use Rattle.std.proofs.lemmas.Bool.{eqb-true, eqb-false}
 use Rattle.php_syntax.specs.declared.tree.Stmt.{Stmt}
 use Rattle.php_syntax.specs.Trees.{plain_file, stmts_of}
-use Rattle.first_form.specs.Paging.{maybe_gathered, with_body}
+use Rattle.first_form.specs.Steps.Paging.{maybe_gathered, with_body}
 use Rattle.first_form.proofs.Gathering.{ok_map, pages_are, pages_first, pages_none, no_functions, some_functions}
 use Rattle.first_form.proofs.pages.loose_pages.Goals as goal
 
