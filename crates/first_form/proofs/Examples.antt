@@ -1,13 +1,12 @@
 -- The definitions on worked examples and near misses.
-use Rattle.std.proofs.Common.{◌≡◌, ℕ, Bool, true, false, List, [], ◌∷◌, ◌++◌, Option, Some, None, refl, ap, ◌∙◌, inl, inr, arith}
-use Rattle.std.specs.Prelude.{codes, IsTrue, ◌≢◌, pos}
+use Rattle.std.proofs.Common.{◌≡◌, ℕ, true, false, List, [], ◌∷◌, ◌++◌, Option, Some, None, refl, ap, ◌∙◌, inl, inr}
+use Rattle.std.specs.Prelude.{codes, pos}
 use Rattle.std.specs.List.{list_all}
-use Rattle.php_syntax.specs.Trees.{PlainFile, inline_stmt, no_stmts, more_stmts}
-use Rattle.first_form.specs.FirstForm.{Each, is_plain, is_quotable, is_letter, is_blank, Mark, spelling, echo_word, if_word, quoted, semicolon, Statement, echo_of, if_set, Part, inline, php, ifs_of, File, text_alone, text_and_php, text_php_and, Spells, parts_of, inline_part, php_parts, HasParts, IsSpaced, IsPhp, marks_of, statement_marks, echo_marks, IsLawful}
-use Rattle.first_form.specs.Trees.{file_tree, parts_tree}
-use Rattle.first_form.specs.Requests.{Request, Members, Key, text_key, int_key, Member, text_member, array_member, no_members, more_members, has_name, is_xml_character, IsXmlText}
-use Rattle.first_form.specs.Meaning.{Meaning, Ended, Spent, statement_run, statements_run, with_unit, ◌then_do◌, texts_of, print_texts, condition_of, choose, outcome_of}
-use Rattle.first_form.specs.Loose.{Loose, LooseStatement, LooseStatements, LooseArms}
+use Rattle.first_form.specs.FirstForm.{is_plain, is_quotable, is_letter, spelling, echo_of, if_set, Part, inline, php, ifs_of, File, text_alone, text_php_and, Spells, parts_of, inline_part, php_parts, HasParts, IsSpaced, marks_of, statement_marks, echo_marks, IsLawful}
+use Rattle.first_form.specs.Trees.{file_tree}
+use Rattle.first_form.specs.Requests.{Request, Members, text_key, int_key, text_member, array_member, no_members, more_members, has_name, is_xml_character}
+use Rattle.first_form.specs.Meaning.{Meaning, Ended, Spent, statement_run, texts_of, outcome_of}
+use Rattle.first_form.specs.Loose.{Loose, LooseStatement}
 use Rattle.first_form.specs.Steps.Reading.{file_at, file_within, go_on, step_at, text_step, past_text, ends_text, strip, php_step, opener_at, past_blank, end_step, many, many_within, rest_of, with_next, statement_at, after, arm_start_at, close_step, closer_at, echo_at, echo_or, else_at, front_of, if_at, if_head_at, if_start_at, key_at, not_empty, past_newline, quoted_at, text_of, words_at}
 use Rattle.first_form.proofs.Files.{has-parts}
 

@@ -1,10 +1,10 @@
 -- PHP pieces, inline text, and files.
-use Rattle.std.proofs.Common.{◌≡◌, ℕ, zero, suc, ◌+◌, ◌≤◌, ◌<◌, Bool, true, false, cond, not, ◌&&◌, ◌||◌, List, [], ◌∷◌, ◌++◌, Option, Some, None, refl, sym, ap, ◌∙◌, subst, inl, inr, arith, length, append_assoc, append-nil, length-append}
+use Rattle.std.proofs.Common.{◌≡◌, ℕ, zero, suc, ◌≤◌, ◌<◌, Bool, true, false, cond, not, List, [], ◌∷◌, ◌++◌, Option, Some, None, refl, sym, ap, ◌∙◌, subst, inl, inr, arith, length, append_assoc, append-nil, length-append}
 use Rattle.std.specs.Prelude.{◌⊎◌, ◌≢◌, IsTrue, codes, ◌==◌, is_some}
 use Rattle.std.specs.List.{list_all, AllByRecursion}
-use Rattle.std.proofs.lemmas.Bool.{ne_eqb, eqb-true, eqb-false, eq-eqb, and_parts, and_from, or_parts, not-false, cases_Bool}
-use Rattle.first_form.specs.FirstForm.{Each, is_plain, is_blank, Mark, spelling, Statement, statement_marks, marks_of, IsLawful, IsSpaced, IsPhp, IsCloser, File, text_alone, text_and_php, text_php_and, Spells, Part, inline, php, inline_part, php_parts, parts_of}
-use Rattle.first_form.specs.Steps.Reading.{◌>>=◌, front_of, rest_of, strip, after, many, statement_at, echo_or, echo_at, quoted_at, if_at, if_head_at, if_start_at, words_at, opener_at, past_blank, closer_at, past_newline, ends_text, text_of, past_text, Step, broken, ended, onward, close_step, end_step, php_step, text_step, step_at, go_on, file_within, file_at}
+use Rattle.std.proofs.lemmas.Bool.{ne_eqb, eqb-true, eqb-false, and_parts, and_from, or_parts, not-false}
+use Rattle.first_form.specs.FirstForm.{Each, is_plain, is_blank, spelling, Statement, statement_marks, marks_of, IsLawful, IsSpaced, IsPhp, IsCloser, File, text_alone, text_and_php, text_php_and, Spells, Part, inline_part, php_parts, parts_of}
+use Rattle.first_form.specs.Steps.Reading.{◌>>=◌, front_of, rest_of, strip, after, many, statement_at, echo_or, echo_at, if_at, if_head_at, if_start_at, words_at, opener_at, past_blank, closer_at, past_newline, ends_text, text_of, past_text, Step, broken, ended, onward, close_step, end_step, php_step, text_step, step_at, go_on, file_within, file_at}
 use Rattle.first_form.proofs.Fronts.{Stops, bind_ok, bind_at, guard_ok, front-rest, front_passes, rest_again, strip_takes, strip_again}
 use Rattle.first_form.proofs.Items.{Many, many_takes, many_again}
 use Rattle.first_form.proofs.Marks.{spaced_append, spaced_split, spaced_length, IsStatement, statement_takes, statement_again, statement_shrinks}

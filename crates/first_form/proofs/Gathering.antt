@@ -1,21 +1,21 @@
 -- The pages that are gathered are the loose pages.
-use Rattle.std.proofs.Common.{◌≡◌, ℕ, suc, ◌+◌, ◌≤◌, ◌<◌, Bool, true, false, not, List, [], ◌∷◌, ◌++◌, Option, Some, None, refl, sym, ap, ◌∙◌, subst, inl, inr, arith, length, append_assoc, append-nil}
+use Rattle.std.proofs.Common.{◌≡◌, ℕ, ◌≤◌, not, List, [], ◌∷◌, ◌++◌, Option, Some, None, refl, sym, ap, ◌∙◌, subst, inl, inr, arith, length, append_assoc, append-nil}
 use Rattle.php_syntax.specs.declared.tree.FunctionDef.{FunctionDef}
 use Rattle.std.specs.Prelude.{Result, Ok, Err, IfOk, IfNone, ◌⊎◌, ◌≢◌, ◌↔◌, IfSome, ◌==◌, ◌&&◌}
 use Rattle.std.specs.List.{list_all, AllByRecursion}
 use Rattle.std.proofs.lemmas.Bool.{and_parts, and_from}
 use Rattle.std.proofs.lemmas.Option.{same_Some}
-use Rattle.php_syntax.specs.Trees.{PlainExpr, PlainStmt, PlainStmts, PlainFile, PlainFunction, functions_of_list, text_expr, no_exprs, more_exprs, inline_stmt, echo_stmt, if_stmt, no_stmts, more_stmts, no_arms, more_arms}
+use Rattle.php_syntax.specs.Trees.{PlainStmt, PlainStmts, PlainFile, functions_of_list, no_stmts, more_stmts}
 use Rattle.first_form.specs.declared.pages.Pages.{Pages}
-use Rattle.first_form.specs.FirstForm.{Each, is_plain, is_quotable, is_letter, Statement, echo_of, if_set, IsLawful, Part, inline, php, ifs_of}
-use Rattle.first_form.specs.Trees.{echo_text, is_set, arm_of, statement_tree, part_tree, parts_tree, file_tree, IsFirstForm}
-use Rattle.first_form.specs.Loose.{LooseStatement, LooseStatements, LooseArms, Loose}
+use Rattle.first_form.specs.FirstForm.{Each, is_plain, is_quotable, echo_of, if_set, IsLawful, Part, inline, php, ifs_of}
+use Rattle.first_form.specs.Trees.{arm_of, parts_tree, IsFirstForm}
+use Rattle.first_form.specs.Loose.{LooseStatement, LooseStatements, Loose}
 use Rattle.first_form.specs.Steps.Reading.{◌>>=◌}
-use Rattle.first_form.specs.FirstTree.{IsSetTest, IsStraightStatement, IsStraight, IsBranch, IsFirstBody, IsFirstTree, IsPage, ArePages}
+use Rattle.first_form.specs.FirstTree.{IsStraightStatement, IsStraight, IsBranch, IsFirstBody, IsFirstTree, ArePages}
 use Rattle.first_form.specs.Steps.Paging.{printed_of, printed_by, arms_at, Gathered, gathered, maybe_gathered, with_text, forked, with_branch, text_or_branch, with_statement, with_body}
 use Rattle.first_form.proofs.Fronts.{bind_ok}
 use Rattle.first_form.proofs.Lawful.{IsLawfulPart, parts_lawful}
-use Rattle.first_form.proofs.Straight.{PrintsOnly, printed_some, printed_none_straight, AllPrint, each_append, printed_by_some, printed_by_none, Arms, arms_some, BranchAt, branch_at}
+use Rattle.first_form.proofs.Straight.{PrintsOnly, printed_some, printed_none_straight, AllPrint, each_append, printed_by_some, printed_by_none, Arms, arms_some, branch_at}
 
 -- one of the gathered pages
 abbrev pub Among : Gathered → List ℕ → Type 0

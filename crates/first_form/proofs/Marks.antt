@@ -1,10 +1,10 @@
 -- Tokens with blanks between them, and the echoes and ifs that they make.
-use Rattle.std.proofs.Common.{◌≡◌, ℕ, zero, suc, ◌+◌, ◌≤◌, ◌<◌, Bool, true, false, cond, List, [], ◌∷◌, ◌++◌, Option, Some, None, refl, sym, ap, ◌∙◌, subst, arith, length, append_assoc, append-nil, length-append}
-use Rattle.std.specs.Prelude.{◌⊎◌, ◌≢◌, IsTrue, codes, ◌==◌}
-use Rattle.std.specs.List.{list_all, AllByRecursion}
+use Rattle.std.proofs.Common.{◌≡◌, ℕ, ◌≤◌, ◌<◌, false, List, [], ◌∷◌, ◌++◌, Option, Some, None, refl, ap, ◌∙◌, subst, arith, length, length-append}
+use Rattle.std.specs.Prelude.{◌≢◌, ◌==◌}
+use Rattle.std.specs.List.{AllByRecursion}
 use Rattle.std.proofs.lemmas.Bool.{ne_eqb}
-use Rattle.first_form.specs.FirstForm.{Each, is_blank, is_quotable, is_letter, Mark, spelling, echo_word, if_word, else_word, isset_word, get_variable, semicolon, open_round, close_round, open_square, close_square, open_curly, close_curly, quoted, Statement, echo_of, if_set, echo_marks, arm_marks, if_marks, else_marks, statement_marks, marks_of, IsLawful, IsSpaced}
-use Rattle.first_form.specs.Steps.Reading.{◌>>=◌, strip, after, quoted_at, echo_at, words_at, many, if_start_at, arm_start_at, not_empty, key_at, if_head_at, else_at, if_at, echo_or, statement_at}
+use Rattle.first_form.specs.FirstForm.{Each, is_blank, is_quotable, is_letter, Mark, spelling, echo_word, if_word, else_word, isset_word, get_variable, semicolon, open_round, close_round, open_square, close_square, open_curly, close_curly, quoted, Statement, echo_of, if_set, echo_marks, arm_marks, if_marks, else_marks, statement_marks, IsLawful, IsSpaced}
+use Rattle.first_form.specs.Steps.Reading.{strip, after, quoted_at, echo_at, words_at, many, if_start_at, arm_start_at, not_empty, key_at, if_head_at, else_at, if_at, echo_or, statement_at}
 use Rattle.first_form.proofs.Fronts.{Stops, bind_ok, bind_at, Takes, after_takes, after_again, quoted_takes, quoted_again}
 use Rattle.first_form.proofs.Items.{Many, Shrinks, many_takes, many_again}
 

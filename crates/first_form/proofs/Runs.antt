@@ -1,13 +1,13 @@
 -- Runs: what an ended run prints, more units, and enough units.
-use Rattle.std.proofs.Common.{◌≡◌, ℕ, zero, suc, ◌+◌, ◌≤◌, ◌<◌, Bool, true, false, cond, List, [], ◌∷◌, ◌++◌, Option, Some, None, refl, sym, ap, ◌∙◌, subst, inl, inr, arith, append_assoc, append-nil}
-use Rattle.std.specs.Prelude.{◌⊎◌, ◌≢◌, IsTrue}
-use Rattle.std.specs.List.{list_all, AllByRecursion}
+use Rattle.std.proofs.Common.{◌≡◌, ℕ, zero, suc, ◌+◌, Bool, true, false, List, [], ◌∷◌, ◌++◌, Option, Some, None, refl, sym, ap, ◌∙◌, subst, inl, inr, arith, append_assoc, append-nil}
+use Rattle.std.specs.Prelude.{◌⊎◌}
+use Rattle.std.specs.List.{AllByRecursion}
 use Rattle.std.proofs.lemmas.Option.{some_pair_parts}
-use Rattle.php_syntax.specs.Trees.{PlainExpr, PlainStmt, PlainStmts, PlainArms, PlainFile, inline_stmt, echo_stmt, run_stmt, if_stmt, while_stmt, do_while_stmt, for_stmt, each_stmt, break_stmt, continue_stmt, return_stmt, include_stmt, no_stmts, more_stmts, no_arms, more_arms}
-use Rattle.first_form.specs.FirstForm.{Each, is_plain, is_letter, is_quotable, Statement, echo_of, if_set, IsLawful, File, text_alone, text_and_php, text_php_and, Spells, Part, inline, php, inline_part, php_parts, parts_of}
-use Rattle.first_form.specs.Trees.{echo_text, is_set, arm_of, statement_tree, part_tree, parts_tree, file_tree}
+use Rattle.php_syntax.specs.Trees.{PlainStmt, PlainStmts, PlainArms, PlainFile, inline_stmt, echo_stmt, run_stmt, if_stmt, while_stmt, do_while_stmt, for_stmt, each_stmt, break_stmt, continue_stmt, return_stmt, include_stmt, no_stmts, more_stmts, no_arms, more_arms}
+use Rattle.first_form.specs.FirstForm.{Each, is_letter, echo_of, if_set, IsLawful, Part, inline, php}
+use Rattle.first_form.specs.Trees.{echo_text, arm_of, statement_tree, part_tree, parts_tree, file_tree}
 use Rattle.first_form.specs.Requests.{Request, has_name}
-use Rattle.first_form.specs.Meaning.{Run, going, spent, unwritten, with_unit, ◌then_do◌, texts_of, print_texts, condition_of, choose, statement_run, statements_run, arms_run, outcome_of, Meaning, End, Ended, Spent}
+use Rattle.first_form.specs.Meaning.{Run, going, spent, unwritten, with_unit, ◌then_do◌, texts_of, print_texts, condition_of, choose, statement_run, statements_run, arms_run, outcome_of, Meaning, Ended, Spent}
 use Rattle.first_form.proofs.Lawful.{IsLawfulPart}
 use Rattle.first_form.specs.Loose.{LooseStatement, LooseStatements, LooseArms, Loose}
 

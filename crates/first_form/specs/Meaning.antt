@@ -1,6 +1,6 @@
 -- The written meaning of a program: what a run prints, and how it ends. Each statement takes one unit.
 -- The PHP manual says what the statements do: "echo", "if", "isset", "Escaping from HTML".
-use Rattle.std.specs.Prelude.{◌≡◌, ℕ, zero, suc, Bool, true, false, List, [], ◌∷◌, ◌++◌, Option, Some, None, if◌then◌else◌}
+use Rattle.std.specs.Prelude.{◌≡◌, ℕ, zero, suc, Bool, true, false, List, [], ◌++◌, Option, Some, None, if◌then◌else◌}
 use Rattle.std.specs.List.{list_all}
 use Rattle.php_syntax.specs.declared.tree.SuperName.TheVariants.{Get}
 use Rattle.php_syntax.specs.Trees.{PlainExpr, PlainExprs, PlainStmt, PlainStmts, PlainArms, PlainFile, text_expr, super_expr, member_expr, isset_expr, no_exprs, more_exprs, inline_stmt, echo_stmt, if_stmt, no_stmts, more_stmts, no_arms, more_arms}

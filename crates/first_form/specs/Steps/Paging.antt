@@ -1,5 +1,5 @@
 -- How the pages of a tree are gathered: what each function over trees gives. The pages themselves are defined in Loose and FirstTree.
-use Rattle.std.specs.Prelude.{ℕ, Bool, true, false, not, ◌&&◌, ◌==◌, List, [], ◌∷◌, ◌++◌, Option, Some, None, length, if◌then◌else◌}
+use Rattle.std.specs.Prelude.{ℕ, Bool, true, false, not, ◌&&◌, ◌==◌, List, [], ◌++◌, Option, Some, None, length, if◌then◌else◌}
 use Rattle.std.specs.List.{list_all}
 use Rattle.php_syntax.specs.declared.tree.SuperName.{SuperName}
 use Rattle.php_syntax.specs.declared.tree.SuperName.TheVariants.{Get}

@@ -1,4 +1,4 @@
-use Rattle.std.proofs.Common.{◌≡◌, ◌∙◌, sym, arith}
+use Rattle.std.proofs.Common.{◌∙◌, sym}
 use Rattle.first_form.specs.Steps.Classes.{test_of}
 use Rattle.first_form.proofs.RunLemmas.{run_more, run_fails, run_ends}
 use Rattle.first_form.proofs.front.run_of.Goals as goal

@@ -1,4 +1,4 @@
-use Rattle.std.proofs.Common.{◌≡◌, ◌∙◌, Some, sym, ap, length}
+use Rattle.std.proofs.Common.{◌∙◌, Some, sym, ap, length}
 use Rattle.std.proofs.lemmas.Bool.{eqb-true, eqb-false}
 use Rattle.php_syntax.specs.Trees.{stmts_of}
 use Rattle.first_form.specs.Steps.Seen.{seen_body}

@@ -1,4 +1,4 @@
-use Rattle.std.proofs.Common.{◌≡◌, ◌∙◌, sym, ap, length}
+use Rattle.std.proofs.Common.{◌∙◌, sym, ap, length}
 use Rattle.std.proofs.lemmas.Bool.{eqb-true, eqb-false}
 use Rattle.first_form.specs.Steps.Seen.{seen}
 use Rattle.first_form.proofs.Shapes.{one_text_none, one_text_one, one_text_more}

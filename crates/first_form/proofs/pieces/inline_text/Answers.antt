@@ -1,4 +1,4 @@
-use Rattle.std.proofs.Common.{◌≡◌, ◌∙◌, sym, ap}
+use Rattle.std.proofs.Common.{◌∙◌, sym, ap}
 use Rattle.std.proofs.lemmas.List.{take_rest}
 use Rattle.first_form.specs.Steps.Reading.{ends_text}
 use Rattle.first_form.proofs.RunLemmas.{text_more, text_ends, text_all}

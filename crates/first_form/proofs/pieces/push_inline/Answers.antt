@@ -1,4 +1,4 @@
-use Rattle.std.proofs.Common.{◌≡◌, ◌∙◌, List, length, sym, subst}
+use Rattle.std.proofs.Common.{◌∙◌, List, length, sym, subst}
 use Rattle.std.proofs.lemmas.Bool.{eqb-true, eqb-false}
 use Rattle.php_syntax.specs.declared.tree.Stmt.{Stmt}
 use Rattle.first_form.specs.Steps.Found.{AddsInline}

@@ -1,5 +1,5 @@
-use Rattle.std.proofs.Common.{◌≡◌, ◌∙◌, arith, sym}
-use Rattle.first_form.proofs.ReaderLemmas.{IfsSoFar, ifs_more}
+use Rattle.std.proofs.Common.{arith, sym}
+use Rattle.first_form.proofs.ReaderLemmas.{ifs_more}
 use Rattle.first_form.proofs.reader.has_at_most_one_if.Goals as goal
 use Rattle.first_form.proofs.reader.has_at_most_one_if.Goals.{then-is_if, else-is_if}
 

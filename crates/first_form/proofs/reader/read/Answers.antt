@@ -1,4 +1,4 @@
-use Rattle.std.proofs.Common.{◌≡◌, ◌≤◌, List, sym, ap, ◌∙◌, subst}
+use Rattle.std.proofs.Common.{◌≤◌, List, sym, subst}
 use Rattle.php_syntax.specs.declared.tree.Stmt.{Stmt}
 use Rattle.php_syntax.specs.Trees.{stmts_of}
 use Rattle.first_form.specs.Steps.Found.{ifs_in}
