@@ -1,1 +1,9 @@
 pub mod Tokens
+pub mod Characters
+pub mod Steps
+pub mod Rows
+pub mod Words
+pub mod Signs
+pub mod Texts
+pub mod Heredocs
+pub mod Cuts
