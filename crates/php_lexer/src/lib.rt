@@ -1,0 +1,8 @@
+//! Bytes of a script to its tokens. The contract of `lex` cites `Cuts` and `Breaks` of php_syntax,
+//! the lexical grammar of the script language; below this crate stand php_syntax and text_base.
+#![tactic(auto)]
+
+mod classes;
+mod scan;
+mod step;
+mod words;
