@@ -2,7 +2,9 @@
 //! the lexical grammar of the script language; below this crate stand php_syntax and text_base.
 #![tactic(auto)]
 
+mod blanks;
 mod classes;
+mod numbers;
 mod scan;
 mod step;
 mod words;
