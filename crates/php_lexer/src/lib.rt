@@ -6,5 +6,6 @@ mod blanks;
 mod classes;
 mod numbers;
 mod scan;
+mod signs;
 mod step;
 mod words;

@@ -70,7 +70,8 @@ pub fn digits_length(bytes: &[u8]) -> usize
     bytes.iter().take_while(|byte| is_digit(**byte)).count()
 }
 
-fn name_bytes_length(bytes: &[u8]) -> usize
+/// How many bytes of a name stand at the head.
+pub fn name_bytes_length(bytes: &[u8]) -> usize
     ensures { result ≡ prefix_len spec.is_name_byte bytes.now }
 {
     bytes.iter().take_while(|byte| is_name_byte(**byte)).count()
