@@ -5,6 +5,7 @@
 mod blanks;
 mod classes;
 mod numbers;
+mod openers;
 mod scan;
 mod signs;
 mod step;
