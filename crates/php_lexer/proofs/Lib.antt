@@ -1,3 +1,4 @@
 pub mod BeforeLemmas
 pub mod ValueLemmas
 pub mod SignLemmas
+pub mod RowLemmas

@@ -4,9 +4,11 @@
 
 mod blanks;
 mod classes;
+mod found;
 mod numbers;
 mod openers;
 mod scan;
+mod single;
 mod signs;
 mod step;
 mod words;
