@@ -1,9 +1,9 @@
 //! What stands between tokens, and the tags of PHP.
 
-ghost use Rattle.std.specs.Prelude.{◌≡◌, codes};
+ghost use Rattle.std.specs.Prelude.{◌≡◌, ◌+◌, ◌≤◌, ◌<◌, length, codes, IfSome};
 ghost use Rattle.php_syntax.specs.Characters as chars;
 ghost use Rattle.php_syntax.specs.Cuts as spec;
-ghost use Rattle.php_lexer.specs.View.{maybe_step};
+ghost use Rattle.php_lexer.specs.View.{maybe_step, IsWithin};
 
 use crate::classes::{is_blank, is_gap, is_line_end, lower};
 use crate::scan::{behind, begins, front, head_is_line_end, newline_length};
@@ -15,7 +15,8 @@ use text_base::{Bytes, NoMemory};
 /// A blank.
 #[tactic(auto, unfolding(php_syntax::specs::Cuts::blank_step))]
 pub fn blank_step(bytes: &[u8]) -> Option<Step>
-    ensures { maybe_step result ≡ spec.blank_step bytes.now }
+    ensures value { maybe_step result ≡ spec.blank_step bytes.now }
+    ensures within { IfSome result (IsWithin bytes.now) }
 {
     match bytes {
         [] => None,
@@ -38,7 +39,8 @@ fn ends_line(bytes: &[u8]) -> bool
 // How long a comment of one line is.
 #[tactic(auto, using(crate::proofs::BeforeLemmas::before_more, crate::proofs::BeforeLemmas::before_found, crate::proofs::BeforeLemmas::before_end))]
 fn line_length(bytes: &[u8]) -> usize
-    ensures { result ≡ chars.before spec.ends_line bytes.now }
+    ensures value { result ≡ chars.before spec.ends_line bytes.now }
+    ensures within { result ≤ length bytes.now }
 {
     for n in 0..bytes.len() {
         if ends_line(behind(bytes, n)) {
@@ -51,7 +53,8 @@ fn line_length(bytes: &[u8]) -> usize
 /// A comment that begins with `//` or `#`.
 #[tactic(auto, unfolding(php_syntax::specs::Cuts::line_comment_step))]
 pub fn line_comment_step(bytes: &[u8]) -> Option<Step>
-    ensures { maybe_step result ≡ spec.line_comment_step bytes.now }
+    ensures value { maybe_step result ≡ spec.line_comment_step bytes.now }
+    ensures within { IfSome result (IsWithin bytes.now) }
 {
     let slashes = begins(bytes, b"//");
     let sharp = begins(bytes, b"#");
@@ -66,7 +69,8 @@ pub fn line_comment_step(bytes: &[u8]) -> Option<Step>
 // How many bytes stand before the first `*/`.
 #[tactic(auto, using(crate::proofs::BeforeLemmas::before_more, crate::proofs::BeforeLemmas::before_found, crate::proofs::BeforeLemmas::before_end))]
 fn block_length(bytes: &[u8]) -> usize
-    ensures { result ≡ chars.before (chars.begins (codes "*/")) bytes.now }
+    ensures value { result ≡ chars.before (chars.begins (codes "*/")) bytes.now }
+    ensures within { result < length bytes.now → result + 2 ≤ length bytes.now }
 {
     for n in 0..bytes.len() {
         if begins(behind(bytes, n), b"*/") {
@@ -79,7 +83,8 @@ fn block_length(bytes: &[u8]) -> usize
 /// A comment in `/*` and `*/`.
 #[tactic(auto, unfolding(php_syntax::specs::Cuts::block_comment_step))]
 pub fn block_comment_step(bytes: &[u8]) -> Option<Step>
-    ensures { maybe_step result ≡ spec.block_comment_step bytes.now }
+    ensures value { maybe_step result ≡ spec.block_comment_step bytes.now }
+    ensures within { IfSome result (IsWithin bytes.now) }
 {
     if !begins(bytes, b"/*") {
         return None;
@@ -96,7 +101,8 @@ pub fn block_comment_step(bytes: &[u8]) -> Option<Step>
 /// `?>` with the line end behind it.
 #[tactic(auto, unfolding(php_syntax::specs::Cuts::leaving_step))]
 pub fn leaving_step(bytes: &[u8]) -> Option<Step>
-    ensures { maybe_step result ≡ spec.leaving_step bytes.now }
+    ensures value { maybe_step result ≡ spec.leaving_step bytes.now }
+    ensures within { IfSome result (IsWithin bytes.now) }
 {
     if !begins(bytes, b"?>") {
         return None;

@@ -1,9 +1,9 @@
 //! Integer literals, and the float literals that are refused.
 
-ghost use Rattle.std.specs.Prelude.{◌≡◌, ◌<◌, ◌≤◌, ◌==◌, ◌||◌, pos, IfSome, IfNone, OnSome, Some};
+ghost use Rattle.std.specs.Prelude.{◌≡◌, ◌<◌, ◌≤◌, ◌==◌, ◌||◌, pos, IfSome, IfNone, OnSome, Some, length, IsTrue};
 ghost use Rattle.php_syntax.specs.Characters as chars;
 ghost use Rattle.php_syntax.specs.Words as spec;
-ghost use Rattle.php_lexer.specs.View.{maybe_step};
+ghost use Rattle.php_lexer.specs.View.{maybe_step, IsWithin};
 
 use crate::scan::{behind, begins, digits_length, front, head_is_digit, head_is_name_byte};
 use crate::step::{Fault, Mode, Step};
@@ -67,13 +67,15 @@ fn goes_on_as_float(bytes: &[u8]) -> bool
 }
 
 pub fn has_leading_zero(digits: &[u8]) -> bool
-    ensures { result ≡ spec.has_leading_zero digits.now }
+    ensures value { result ≡ spec.has_leading_zero digits.now }
+    ensures long { IsTrue result → 1 < length digits.now }
 {
     begins(digits, b"0") && 1 < digits.len()
 }
 
 fn digits_step(digits: &[u8], rest: &[u8]) -> Step
-    ensures { maybe_step (Some result) ≡ spec.digits_step digits.now rest.now }
+    ensures value { maybe_step (Some result) ≡ spec.digits_step digits.now rest.now }
+    ensures within { 0 < length digits.now → IsWithin digits.now result }
 {
     if goes_on_as_float(rest) {
         return Step::Refuses(Fault::Float, 0);
@@ -96,7 +98,8 @@ fn digits_step(digits: &[u8], rest: &[u8]) -> Step
 /// An integer literal, or a float, which is refused.
 #[tactic(auto, unfolding(php_syntax::specs::Words::number_step))]
 pub fn number_step(bytes: &[u8]) -> Option<Step>
-    ensures { maybe_step result ≡ spec.number_step bytes.now }
+    ensures value { maybe_step result ≡ spec.number_step bytes.now }
+    ensures within { IfSome result (IsWithin bytes.now) }
 {
     let n = digits_length(bytes);
     if 0 < n {

@@ -1,10 +1,10 @@
 //! Outside PHP: the opening tags, and the bytes between them.
 
-ghost use Rattle.std.specs.Prelude.{◌≡◌, IfOk, bytes_eq, codes, map};
+ghost use Rattle.std.specs.Prelude.{◌≡◌, ◌<◌, ◌≤◌, length, IfOk, IfSome, IsTrue, bytes_eq, codes, map, false};
 ghost use Rattle.php_syntax.specs.Characters as chars;
 ghost use Rattle.php_syntax.specs.Cuts as spec;
 ghost use Rattle.php_syntax.specs.Steps.{outside};
-ghost use Rattle.php_lexer.specs.View.{maybe_step, plain_step};
+ghost use Rattle.php_lexer.specs.View.{maybe_step, plain_step, IsWithin};
 
 use crate::classes::{is_gap, is_line_end, lower};
 use crate::scan::{behind, begins, front, newline_length};
@@ -15,7 +15,8 @@ use text_base::{Bytes, NoMemory};
 
 // How long the blank behind an opener is; None where another byte stands there.
 fn blank_behind(bytes: &[u8]) -> Option<usize>
-    ensures { result ≡ spec.blank_behind bytes.now }
+    ensures value { result ≡ spec.blank_behind bytes.now }
+    ensures within { IfSome result (λ n. n ≤ length bytes.now) }
 {
     let newline = newline_length(bytes);
     match bytes {
@@ -34,7 +35,8 @@ fn blank_behind(bytes: &[u8]) -> Option<usize>
 
 // Whether the bytes are `<?php`, in any case.
 fn is_php_tag(bytes: &[u8]) -> bool
-    ensures { result ≡ bytes_eq (map chars.lower bytes.now) (codes "<?php") }
+    ensures value { result ≡ bytes_eq (map chars.lower bytes.now) (codes "<?php") }
+    ensures long { IsTrue result → length bytes.now ≡ 5 }
 {
     match bytes {
         [a, b, c, d, e] => {
@@ -50,7 +52,8 @@ fn is_php_tag(bytes: &[u8]) -> bool
 
 // `<?php` with its blank.
 fn php_opener(bytes: &[u8]) -> Option<Step>
-    ensures { maybe_step result ≡ spec.php_opener bytes.now }
+    ensures value { maybe_step result ≡ spec.php_opener bytes.now }
+    ensures within { IfSome result (IsWithin bytes.now) }
 {
     if !is_php_tag(front(bytes, 5)) {
         return None;
@@ -63,7 +66,8 @@ fn php_opener(bytes: &[u8]) -> Option<Step>
 
 // `<?=`, which gives the name echo.
 fn echo_opener(alloc: Global, bytes: &[u8]) -> Result<Option<Step>, NoMemory>
-    ensures { IfOk result (λ o. maybe_step o ≡ spec.echo_opener bytes.now) }
+    ensures value { IfOk result (λ o. maybe_step o ≡ spec.echo_opener bytes.now) }
+    ensures within { IfOk result (λ o. IfSome o (IsWithin bytes.now)) }
 {
     if !begins(bytes, b"<?=") {
         return Ok(None);
@@ -75,7 +79,8 @@ fn echo_opener(alloc: Global, bytes: &[u8]) -> Result<Option<Step>, NoMemory>
 // An opener.
 #[tactic(auto, unfolding(php_syntax::specs::Cuts::opener_step))]
 fn opener_step(alloc: Global, bytes: &[u8]) -> Result<Option<Step>, NoMemory>
-    ensures { IfOk result (λ o. maybe_step o ≡ spec.opener_step bytes.now) }
+    ensures value { IfOk result (λ o. maybe_step o ≡ spec.opener_step bytes.now) }
+    ensures within { IfOk result (λ o. IfSome o (IsWithin bytes.now)) }
 {
     match echo_opener(alloc, bytes)? {
         Some(step) => Ok(Some(step)),
@@ -100,7 +105,9 @@ fn is_opener(bytes: &[u8]) -> bool
 // How many bytes stand before the next opener.
 #[tactic(auto, using(crate::proofs::BeforeLemmas::before_more, crate::proofs::BeforeLemmas::before_found, crate::proofs::BeforeLemmas::before_end))]
 fn inline_length(bytes: &[u8]) -> usize
-    ensures { result ≡ chars.before spec.is_opener bytes.now }
+    ensures value { result ≡ chars.before spec.is_opener bytes.now }
+    ensures within { result ≤ length bytes.now }
+    ensures some { 0 < length bytes.now → spec.is_opener bytes.now ≡ false → 0 < result }
 {
     for n in 0..bytes.len() {
         if is_opener(behind(bytes, n)) {
@@ -113,7 +120,9 @@ fn inline_length(bytes: &[u8]) -> usize
 /// What stands at the head outside PHP: an opener, or the bytes up to the next one.
 #[tactic(auto, unfolding(php_syntax::specs::Cuts::step))]
 pub fn outside_step(alloc: Global, bytes: &[u8]) -> Result<Step, NoMemory>
-    ensures { IfOk result (λ s. plain_step s ≡ spec.step outside bytes.now) }
+    requires { 0 < length bytes.now }
+    ensures value { IfOk result (λ s. plain_step s ≡ spec.step outside bytes.now) }
+    ensures within { IfOk result (IsWithin bytes.now) }
 {
     match opener_step(alloc, bytes)? {
         Some(step) => Ok(step),

@@ -1,11 +1,11 @@
 //! Signs and casts.
 
-ghost use Rattle.std.specs.Prelude.{◌≡◌, Some, map, bytes_eq, codes};
+ghost use Rattle.std.specs.Prelude.{◌≡◌, ◌<◌, ◌≤◌, ℕ, List, length, Some, IfSome, map, bytes_eq, codes};
 ghost use Rattle.php_syntax.specs.Characters as chars;
 ghost use Rattle.php_syntax.specs.Steps.{gives};
 ghost use Rattle.php_syntax.specs.Tokens.{sign as sign_kind};
 ghost use Rattle.php_syntax.specs.Signs as spec;
-ghost use Rattle.php_lexer.specs.View.{maybe_step};
+ghost use Rattle.php_lexer.specs.View.{maybe_step, IsWithin};
 
 use crate::classes::lower;
 use crate::scan::{behind, begins, front, gap_length, name_bytes_length};
@@ -56,7 +56,8 @@ const SIGNS: [Sign; 38] = [
 
 // A sign of so many bytes.
 fn gives_sign(sign: Sign, n: usize) -> Step
-    ensures { maybe_step (Some result) ≡ gives (sign_kind sign) n }
+    ensures value { maybe_step (Some result) ≡ gives (sign_kind sign) n }
+    ensures within { (bytes : List ℕ) → 0 < n → n ≤ length bytes → IsWithin bytes result }
 {
     Step::Goes(Some(TokenKind::Sign(sign)), n, Mode::Inside)
 }
@@ -64,7 +65,8 @@ fn gives_sign(sign: Sign, n: usize) -> Step
 // The first of the signs that the bytes begin with.
 #[tactic(auto, using(crate::proofs::SignLemmas::first_sign_drop, crate::proofs::SignLemmas::first_sign_end))]
 fn first_sign(signs: &[Sign], bytes: &[u8]) -> Option<Step>
-    ensures { maybe_step result ≡ spec.first_sign signs.now bytes.now }
+    ensures value { maybe_step result ≡ spec.first_sign signs.now bytes.now }
+    ensures within { IfSome result (IsWithin bytes.now) }
 {
     for sign in signs {
         let spelling = sign.spelling();
@@ -78,7 +80,8 @@ fn first_sign(signs: &[Sign], bytes: &[u8]) -> Option<Step>
 /// The longest sign that the bytes begin with.
 #[tactic(auto, unfolding(php_syntax::specs::Signs::sign_step))]
 pub fn sign_step(bytes: &[u8]) -> Option<Step>
-    ensures { maybe_step result ≡ spec.sign_step bytes.now }
+    ensures value { maybe_step result ≡ spec.sign_step bytes.now }
+    ensures within { IfSome result (IsWithin bytes.now) }
 {
     first_sign(&SIGNS, bytes)
 }
@@ -126,7 +129,8 @@ fn cast_of(word: &[u8]) -> Option<Sign>
 /// `(int)` or `(string)`.
 #[tactic(auto, unfolding(php_syntax::specs::Signs::cast_step))]
 pub fn cast_step(bytes: &[u8]) -> Option<Step>
-    ensures { maybe_step result ≡ spec.cast_step bytes.now }
+    ensures value { maybe_step result ≡ spec.cast_step bytes.now }
+    ensures within { IfSome result (IsWithin bytes.now) }
 {
     if !begins(bytes, b"(") {
         return None;

@@ -1,8 +1,8 @@
 //! Names, variables and numbers.
 
-ghost use Rattle.std.specs.Prelude.{◌≡◌, IfOk};
+ghost use Rattle.std.specs.Prelude.{◌≡◌, IfOk, IfSome};
 ghost use Rattle.php_syntax.specs.Words as spec;
-ghost use Rattle.php_lexer.specs.View.{maybe_step};
+ghost use Rattle.php_lexer.specs.View.{maybe_step, IsWithin};
 
 use crate::scan::{behind, begins, front, name_length};
 use crate::step::{Mode, Step};
@@ -13,7 +13,8 @@ use text_base::{Bytes, NoMemory};
 /// A name.
 #[tactic(auto, unfolding(php_syntax::specs::Words::name_step))]
 pub fn name_step(alloc: Global, bytes: &[u8]) -> Result<Option<Step>, NoMemory>
-    ensures { IfOk result (λ o. maybe_step o ≡ spec.name_step bytes.now) }
+    ensures value { IfOk result (λ o. maybe_step o ≡ spec.name_step bytes.now) }
+    ensures within { IfOk result (λ o. IfSome o (IsWithin bytes.now)) }
 {
     let n = name_length(bytes);
     if n == 0 {
@@ -26,7 +27,8 @@ pub fn name_step(alloc: Global, bytes: &[u8]) -> Result<Option<Step>, NoMemory>
 /// `$` and a name.
 #[tactic(auto, unfolding(php_syntax::specs::Words::variable_step))]
 pub fn variable_step(alloc: Global, bytes: &[u8]) -> Result<Option<Step>, NoMemory>
-    ensures { IfOk result (λ o. maybe_step o ≡ spec.variable_step bytes.now) }
+    ensures value { IfOk result (λ o. maybe_step o ≡ spec.variable_step bytes.now) }
+    ensures within { IfOk result (λ o. IfSome o (IsWithin bytes.now)) }
 {
     let inner = behind(bytes, 1);
     let n = name_length(inner);

@@ -1,6 +1,6 @@
 //! The tokens of a script (PHP manual, "Basic syntax", "Types: Strings", "Operators").
 
-ghost use Rattle.std.specs.Prelude.{◌≡◌};
+ghost use Rattle.std.specs.Prelude.{◌≡◌, ◌<◌, length};
 ghost use Rattle.php_syntax.specs.Signs.{spelling_of};
 
 use text_base::Bytes;
@@ -141,7 +141,8 @@ pub enum Sign {
 impl Sign {
     /// The spelling of the sign, and for a cast its shortest one.
     pub fn spelling(self) -> &'static [u8]
-        ensures { result.now ≡ spelling_of self }
+        ensures value { result.now ≡ spelling_of self }
+        ensures some { 0 < length result.now }
     {
         match self {
             Sign::Identical => b"===",
