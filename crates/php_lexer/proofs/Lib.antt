@@ -2,3 +2,5 @@ pub mod BeforeLemmas
 pub mod ValueLemmas
 pub mod SignLemmas
 pub mod RowLemmas
+pub mod KeyLemmas
+pub mod WithinLemmas

@@ -1,5 +1,5 @@
 -- What the types of this crate that speak of rows stand for.
-use Rattle.std.specs.Prelude.{ℕ, ◌<◌, ◌≤◌, List, length, Option, Some, None}
+use Rattle.std.specs.Prelude.{ℕ, ◌<◌, ◌≤◌, List, Option, Some, None}
 use Rattle.php_syntax.specs.Rows as rows
 use Rattle.php_lexer.specs.declared.found.Found.{Found}
 use Rattle.php_lexer.specs.declared.found.Found.TheVariants.{Item, Wrong, Over, Missing}
@@ -11,12 +11,12 @@ plain_found view (Wrong n) = rows.wrong n
 plain_found view (Over n) = rows.over n
 plain_found view Missing = rows.missing
 
--- an item and a wrong place take one byte at least, and no more than there are
-abbrev pub FoundWithin : {X : Type 0} → List ℕ → Found X → Type 0
-FoundWithin bytes (Item x n) = (0 < n) × (n ≤ length bytes)
-FoundWithin bytes (Wrong n) = (0 < n) × (n ≤ length bytes)
-FoundWithin bytes (Over n) = n ≤ length bytes
-FoundWithin bytes Missing = Unit {0}
+-- an item and a wrong place take one byte at least, and no more than so many
+abbrev pub FoundWithin : {X : Type 0} → ℕ → Found X → Type 0
+FoundWithin most (Item x n) = (0 < n) × (n ≤ most)
+FoundWithin most (Wrong n) = (0 < n) × (n ≤ most)
+FoundWithin most (Over n) = n ≤ most
+FoundWithin most Missing = Unit {0}
 
 -- the bytes of a single-quoted text and how many bytes it takes; None where it has no end
 abbrev pub text_row : Option (List ℕ × ℕ) → rows.Row ℕ

@@ -5,10 +5,13 @@
 mod blanks;
 mod classes;
 mod found;
+mod keys;
 mod numbers;
 mod openers;
 mod scan;
 mod single;
 mod signs;
 mod step;
+mod template;
+mod units;
 mod words;

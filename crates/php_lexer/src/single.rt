@@ -15,7 +15,7 @@ use text_base::{Bytes, NoMemory};
 // One place of a single-quoted text.
 fn single_at(bytes: &[u8]) -> Found<u8>
     ensures value { plain_found (λ b. b) result ≡ spec.single_at bytes.now }
-    ensures within { FoundWithin bytes.now result }
+    ensures within { FoundWithin (length bytes.now) result }
 {
     match bytes {
         [] => Found::Missing,
@@ -53,7 +53,8 @@ pub fn single_quoted(alloc: Global, bytes: &[u8]) -> Result<Option<(Bytes, usize
                 n += k;
             }
             Found::Over(k) => return Ok(Some((text, n + k))),
-            _ => return Ok(None),
+            Found::Wrong(_) => return Ok(None),
+            Found::Missing => return Ok(None),
         }
     }
     Ok(None)

@@ -130,16 +130,24 @@ dollar_at bytes =
     else if head_is (λ b. is_high b || b == 123) bytes then wrong 1
     else item (byte 36) 1
 
-abbrev pub braced_read : List ℕ → ℕ → Row PlainKey → Found Unit_of
-braced_read name n (whole keys m) = item (reads name keys) (n + m)
-braced_read name n (broken m) = wrong 1
-braced_read name n endless = wrong 1
+-- the items of a row and how many bytes it takes; None where it is broken or has no end
+abbrev pub whole_of : {X : Type 0} → Row X → Option (List X × ℕ)
+whole_of (whole xs n) = Some (xs, n)
+whole_of (broken n) = None
+whole_of endless = None
+
+unfoldable pub subscripts : List ℕ → Option (List PlainKey × ℕ)
+subscripts bytes = whole_of (row subscript_at 0 bytes)
+
+abbrev pub braced_read : List ℕ → ℕ → Option (List PlainKey × ℕ) → Found Unit_of
+braced_read name n None = wrong 1
+braced_read name n (Some keys) = item (reads name keys.0) (n + keys.1)
 
 -- behind a `{` that stands before `$`: a variable, its keys and `}`
 unfoldable pub brace_at : List ℕ → Found Unit_of
 brace_at bytes =
     let n = name_length (drop 1 bytes)
-    in if nat_lt 0 n then braced_read (take n (drop 1 bytes)) (2 + n) (row subscript_at 0 (drop n (drop 1 bytes))) else wrong 1
+    in if nat_lt 0 n then braced_read (take n (drop 1 bytes)) (2 + n) (subscripts (drop n (drop 1 bytes))) else wrong 1
 
 -- the end of a text: of a heredoc's where its lines end
 abbrev pub end_of : Enclosure → Found Unit_of
