@@ -4,3 +4,4 @@ pub mod SignLemmas
 pub mod RowLemmas
 pub mod KeyLemmas
 pub mod WithinLemmas
+pub mod PartLemmas

@@ -30,24 +30,24 @@ row_passes find (suc k) [] = refl
 row_passes find (suc k) (b ∷ bytes) = row_passes find k bytes
 
 -- the row at a place, by what is found there
-row_at_item : {X : Type 0} (find : List ℕ → Found X) (bytes : List ℕ) (x : X) (k : ℕ) → find bytes ≡ item x k → 0 < k → 0 < length bytes → row find 0 bytes ≡ then_row (item x k) (row find 0 (drop k bytes))
+pub row_at_item : {X : Type 0} (find : List ℕ → Found X) (bytes : List ℕ) (x : X) (k : ℕ) → find bytes ≡ item x k → 0 < k → 0 < length bytes → row find 0 bytes ≡ then_row (item x k) (row find 0 (drop k bytes))
 unfolding row
 row_at_item find [] x k e p h = absurd (omega arith)
 row_at_item find (b ∷ bytes) x zero e p h = absurd (omega arith)
 row_at_item find (b ∷ bytes) x (suc k) e p h = rw e (ap (then_row (item x (suc k))) (row_passes find k bytes))
 
-row_at_wrong : {X : Type 0} (find : List ℕ → Found X) (bytes : List ℕ) (k : ℕ) → find bytes ≡ wrong k → 0 < k → 0 < length bytes → row find 0 bytes ≡ then_row (wrong k) (row find 0 (drop k bytes))
+pub row_at_wrong : {X : Type 0} (find : List ℕ → Found X) (bytes : List ℕ) (k : ℕ) → find bytes ≡ wrong k → 0 < k → 0 < length bytes → row find 0 bytes ≡ then_row (wrong k) (row find 0 (drop k bytes))
 unfolding row
 row_at_wrong find [] k e p h = absurd (omega arith)
 row_at_wrong find (b ∷ bytes) zero e p h = absurd (omega arith)
 row_at_wrong find (b ∷ bytes) (suc k) e p h = rw e (ap (then_row (wrong (suc k))) (row_passes find k bytes))
 
-row_at_over : {X : Type 0} (find : List ℕ → Found X) (bytes : List ℕ) (k : ℕ) → find bytes ≡ over k → row find 0 bytes ≡ whole [] k
+pub row_at_over : {X : Type 0} (find : List ℕ → Found X) (bytes : List ℕ) (k : ℕ) → find bytes ≡ over k → row find 0 bytes ≡ whole [] k
 unfolding row
 row_at_over find [] k e = rw e refl
 row_at_over find (b ∷ bytes) k e = rw e refl
 
-row_at_missing : {X : Type 0} (find : List ℕ → Found X) (bytes : List ℕ) → find bytes ≡ missing → row find 0 bytes ≡ endless
+pub row_at_missing : {X : Type 0} (find : List ℕ → Found X) (bytes : List ℕ) → find bytes ≡ missing → row find 0 bytes ≡ endless
 unfolding row
 row_at_missing find [] e = rw e refl
 row_at_missing find (b ∷ bytes) e = rw e refl
@@ -93,7 +93,7 @@ row_missing find bytes xs n here so_far at e =
     let e' : find (drop n bytes) ≡ missing = ap find (sym at) ∙ sym e
     in sym (so_far ∙ ap (ahead xs n) (row_at_missing find (drop n bytes) e'))
 
-drop_past : (bytes : List ℕ) (n : ℕ) → length bytes ≤ n → [] ≡ drop n bytes
+pub drop_past : (bytes : List ℕ) (n : ℕ) → length bytes ≤ n → [] ≡ drop n bytes
 drop_past [] zero h = refl
 drop_past [] (suc n) h = refl
 drop_past (b ∷ bytes) zero h = absurd (omega arith)

@@ -4,6 +4,7 @@
 
 mod blanks;
 mod classes;
+mod double;
 mod found;
 mod keys;
 mod numbers;

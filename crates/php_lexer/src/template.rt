@@ -12,7 +12,7 @@ pub enum Enclosure {
 
 /// What one place of a template gives: a byte, or a variable with its keys.
 #[derive(Debug, Drop)]
-pub enum Unit {
+pub enum TextUnit {
     Byte(u8),
     Reads(Bytes, Vec<PartKey>),
 }

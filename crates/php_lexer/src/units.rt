@@ -10,7 +10,7 @@ use crate::classes::is_high;
 use crate::found::Found;
 use crate::keys::{closed_simple_key, subscripts};
 use crate::scan::{behind, begins, front, name_length};
-use crate::template::{Enclosure, Unit};
+use crate::template::{Enclosure, TextUnit};
 use std::alloc::Global;
 use text_base::{Bytes, NoMemory};
 
@@ -26,7 +26,7 @@ fn in_quotes(enclosure: Enclosure) -> bool
 
 // What stands behind a backslash.
 #[tactic(auto, unfolding(php_syntax::specs::Texts::escape_at))]
-fn escape_at(enclosure: Enclosure, bytes: &[u8]) -> Found<Unit>
+fn escape_at(enclosure: Enclosure, bytes: &[u8]) -> Found<TextUnit>
     ensures value { plain_found unit_of result ≡ spec.escape_at (enclosure_of enclosure) bytes.now }
     ensures within { FoundWithin (1 + length bytes.now) result }
 {
@@ -34,17 +34,17 @@ fn escape_at(enclosure: Enclosure, bytes: &[u8]) -> Found<Unit>
         [] => Found::Wrong(1),
         [byte, ..] => {
             if *byte == b'n' {
-                Found::Item(Unit::Byte(b'\n'), 2)
+                Found::Item(TextUnit::Byte(b'\n'), 2)
             } else if *byte == b'r' {
-                Found::Item(Unit::Byte(b'\r'), 2)
+                Found::Item(TextUnit::Byte(b'\r'), 2)
             } else if *byte == b't' {
-                Found::Item(Unit::Byte(b'\t'), 2)
+                Found::Item(TextUnit::Byte(b'\t'), 2)
             } else if *byte == b'\\' {
-                Found::Item(Unit::Byte(b'\\'), 2)
+                Found::Item(TextUnit::Byte(b'\\'), 2)
             } else if *byte == b'$' {
-                Found::Item(Unit::Byte(b'$'), 2)
+                Found::Item(TextUnit::Byte(b'$'), 2)
             } else if *byte == b'"' && in_quotes(enclosure) {
-                Found::Item(Unit::Byte(b'"'), 2)
+                Found::Item(TextUnit::Byte(b'"'), 2)
             } else {
                 Found::Wrong(2)
             }
@@ -78,7 +78,7 @@ fn begins_other_form(rest: &[u8]) -> bool
 }
 
 // A name behind `$`, and what follows it.
-fn named_at(alloc: Global, name: &[u8], rest: &[u8]) -> Result<Found<Unit>, NoMemory>
+fn named_at(alloc: Global, name: &[u8], rest: &[u8]) -> Result<Found<TextUnit>, NoMemory>
     ensures value { IfOk result (λ found. plain_found unit_of found ≡ spec.named_at name.now rest.now) }
     ensures within { IfOk result (FoundWithin (1 + length name.now + length rest.now)) }
 {
@@ -88,7 +88,7 @@ fn named_at(alloc: Global, name: &[u8], rest: &[u8]) -> Result<Found<Unit>, NoMe
             Some((key, n)) => {
                 let mut keys = Vec::new(alloc);
                 keys.push(key)?;
-                let unit = Unit::Reads(Bytes::from_slice(alloc, name)?, keys);
+                let unit = TextUnit::Reads(Bytes::from_slice(alloc, name)?, keys);
                 Ok(Found::Item(unit, 1 + name.len() + n))
             }
         };
@@ -96,13 +96,13 @@ fn named_at(alloc: Global, name: &[u8], rest: &[u8]) -> Result<Found<Unit>, NoMe
     if begins_other_form(rest) {
         return Ok(Found::Wrong(1));
     }
-    let unit = Unit::Reads(Bytes::from_slice(alloc, name)?, Vec::new(alloc));
+    let unit = TextUnit::Reads(Bytes::from_slice(alloc, name)?, Vec::new(alloc));
     Ok(Found::Item(unit, 1 + name.len()))
 }
 
 // What stands behind `$`.
 #[tactic(auto, unfolding(php_syntax::specs::Texts::dollar_at))]
-fn dollar_at(alloc: Global, bytes: &[u8]) -> Result<Found<Unit>, NoMemory>
+fn dollar_at(alloc: Global, bytes: &[u8]) -> Result<Found<TextUnit>, NoMemory>
     ensures value { IfOk result (λ found. plain_found unit_of found ≡ spec.dollar_at bytes.now) }
     ensures within { IfOk result (FoundWithin (1 + length bytes.now)) }
 {
@@ -113,13 +113,13 @@ fn dollar_at(alloc: Global, bytes: &[u8]) -> Result<Found<Unit>, NoMemory>
     if head_is_high_or_brace(bytes) {
         Ok(Found::Wrong(1))
     } else {
-        Ok(Found::Item(Unit::Byte(b'$'), 1))
+        Ok(Found::Item(TextUnit::Byte(b'$'), 1))
     }
 }
 
 // What stands behind a `{` before `$`.
 #[tactic(auto, unfolding(php_syntax::specs::Texts::brace_at))]
-fn brace_at(alloc: Global, bytes: &[u8]) -> Result<Found<Unit>, NoMemory>
+fn brace_at(alloc: Global, bytes: &[u8]) -> Result<Found<TextUnit>, NoMemory>
     ensures value { IfOk result (λ found. plain_found unit_of found ≡ spec.brace_at bytes.now) }
     ensures within { IfOk result (FoundWithin (1 + length bytes.now)) }
 {
@@ -132,13 +132,13 @@ fn brace_at(alloc: Global, bytes: &[u8]) -> Result<Found<Unit>, NoMemory>
         None => Ok(Found::Wrong(1)),
         Some((keys, m)) => {
             let name = Bytes::from_slice(alloc, front(inner, n))?;
-            Ok(Found::Item(Unit::Reads(name, keys), 2 + n + m))
+            Ok(Found::Item(TextUnit::Reads(name, keys), 2 + n + m))
         }
     }
 }
 
 // The end of a text.
-fn end_of(enclosure: Enclosure) -> Found<Unit>
+fn end_of(enclosure: Enclosure) -> Found<TextUnit>
     ensures value { plain_found unit_of result ≡ spec.end_of (enclosure_of enclosure) }
     ensures within { FoundWithin 0 result }
 {
@@ -150,7 +150,7 @@ fn end_of(enclosure: Enclosure) -> Found<Unit>
 
 /// One place of a template.
 #[tactic(auto, unfolding(php_syntax::specs::Texts::unit_at))]
-pub fn unit_at(alloc: Global, enclosure: Enclosure, bytes: &[u8]) -> Result<Found<Unit>, NoMemory>
+pub fn unit_at(alloc: Global, enclosure: Enclosure, bytes: &[u8]) -> Result<Found<TextUnit>, NoMemory>
     ensures value { IfOk result (λ found. plain_found unit_of found ≡ spec.unit_at (enclosure_of enclosure) bytes.now) }
     ensures within { IfOk result (FoundWithin (length bytes.now)) }
 {
@@ -167,7 +167,7 @@ pub fn unit_at(alloc: Global, enclosure: Enclosure, bytes: &[u8]) -> Result<Foun
             } else if *byte == b'{' && begins(inner, b"$") {
                 brace_at(alloc, inner)
             } else {
-                Ok(Found::Item(Unit::Byte(*byte), 1))
+                Ok(Found::Item(TextUnit::Byte(*byte), 1))
             }
         }
     }
