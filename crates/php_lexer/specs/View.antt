@@ -1,5 +1,5 @@
 -- What the types of this crate stand for.
-use Rattle.std.specs.Prelude.{ℕ, ◌<◌, ◌≤◌, List, length, Option, option_map}
+use Rattle.std.specs.Prelude.{ℕ, ◌<◌, ◌≤◌, Option, option_map}
 use Rattle.php_syntax.specs.Tokens.{plain_kind}
 use Rattle.php_syntax.specs.Steps as syntax
 use Rattle.php_lexer.specs.declared.step.Mode.{Mode}
@@ -29,7 +29,7 @@ plain_step (Refuses fault n) = syntax.refuses (fault_of fault) n
 abbrev pub maybe_step : Option Step → Option syntax.Step
 maybe_step o = option_map plain_step o
 
--- a step takes one byte at least, and no more than there are
-abbrev pub IsWithin : List ℕ → Step → Type 0
-IsWithin bytes (Goes kind n mode) = (0 < n) × (n ≤ length bytes)
-IsWithin bytes (Refuses fault n) = n ≤ length bytes
+-- a step takes one byte at least, and no more than so many
+abbrev pub IsWithin : ℕ → Step → Type 0
+IsWithin most (Goes kind n mode) = (0 < n) × (n ≤ most)
+IsWithin most (Refuses fault n) = n ≤ most

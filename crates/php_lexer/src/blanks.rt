@@ -16,7 +16,7 @@ use text_base::{Bytes, NoMemory};
 #[tactic(auto, unfolding(php_syntax::specs::Cuts::blank_step))]
 pub fn blank_step(bytes: &[u8]) -> Option<Step>
     ensures value { maybe_step result ≡ spec.blank_step bytes.now }
-    ensures within { IfSome result (IsWithin bytes.now) }
+    ensures within { IfSome result (IsWithin (length bytes.now)) }
 {
     match bytes {
         [] => None,
@@ -54,7 +54,7 @@ fn line_length(bytes: &[u8]) -> usize
 #[tactic(auto, unfolding(php_syntax::specs::Cuts::line_comment_step))]
 pub fn line_comment_step(bytes: &[u8]) -> Option<Step>
     ensures value { maybe_step result ≡ spec.line_comment_step bytes.now }
-    ensures within { IfSome result (IsWithin bytes.now) }
+    ensures within { IfSome result (IsWithin (length bytes.now)) }
 {
     let slashes = begins(bytes, b"//");
     let sharp = begins(bytes, b"#");
@@ -84,7 +84,7 @@ fn block_length(bytes: &[u8]) -> usize
 #[tactic(auto, unfolding(php_syntax::specs::Cuts::block_comment_step))]
 pub fn block_comment_step(bytes: &[u8]) -> Option<Step>
     ensures value { maybe_step result ≡ spec.block_comment_step bytes.now }
-    ensures within { IfSome result (IsWithin bytes.now) }
+    ensures within { IfSome result (IsWithin (length bytes.now)) }
 {
     if !begins(bytes, b"/*") {
         return None;
@@ -102,7 +102,7 @@ pub fn block_comment_step(bytes: &[u8]) -> Option<Step>
 #[tactic(auto, unfolding(php_syntax::specs::Cuts::leaving_step))]
 pub fn leaving_step(bytes: &[u8]) -> Option<Step>
     ensures value { maybe_step result ≡ spec.leaving_step bytes.now }
-    ensures within { IfSome result (IsWithin bytes.now) }
+    ensures within { IfSome result (IsWithin (length bytes.now)) }
 {
     if !begins(bytes, b"?>") {
         return None;

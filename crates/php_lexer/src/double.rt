@@ -117,7 +117,7 @@ pub fn kind_of_parts(alloc: Global, parts: Vec<Part>) -> Result<TokenKind, NoMem
 #[tactic(auto, unfolding(php_syntax::specs::Texts::double_step))]
 pub fn double_step(alloc: Global, bytes: &[u8]) -> Result<Option<Step>, NoMemory>
     ensures value { IfOk result (λ o. maybe_step o ≡ spec.double_step bytes.now) }
-    ensures within { IfOk result (λ o. IfSome o (IsWithin bytes.now)) }
+    ensures within { IfOk result (λ o. IfSome o (IsWithin (length bytes.now))) }
 {
     if !begins(bytes, b"\"") {
         return Ok(None);

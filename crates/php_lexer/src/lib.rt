@@ -6,6 +6,7 @@ mod blanks;
 mod classes;
 mod double;
 mod found;
+mod heredoc;
 mod keys;
 mod numbers;
 mod openers;

@@ -75,7 +75,7 @@ pub fn has_leading_zero(digits: &[u8]) -> bool
 
 fn digits_step(digits: &[u8], rest: &[u8]) -> Step
     ensures value { maybe_step (Some result) ≡ spec.digits_step digits.now rest.now }
-    ensures within { 0 < length digits.now → IsWithin digits.now result }
+    ensures within { 0 < length digits.now → IsWithin (length digits.now) result }
 {
     if goes_on_as_float(rest) {
         return Step::Refuses(Fault::Float, 0);
@@ -99,7 +99,7 @@ fn digits_step(digits: &[u8], rest: &[u8]) -> Step
 #[tactic(auto, unfolding(php_syntax::specs::Words::number_step))]
 pub fn number_step(bytes: &[u8]) -> Option<Step>
     ensures value { maybe_step result ≡ spec.number_step bytes.now }
-    ensures within { IfSome result (IsWithin bytes.now) }
+    ensures within { IfSome result (IsWithin (length bytes.now)) }
 {
     let n = digits_length(bytes);
     if 0 < n {

@@ -53,7 +53,7 @@ fn is_php_tag(bytes: &[u8]) -> bool
 // `<?php` with its blank.
 fn php_opener(bytes: &[u8]) -> Option<Step>
     ensures value { maybe_step result ≡ spec.php_opener bytes.now }
-    ensures within { IfSome result (IsWithin bytes.now) }
+    ensures within { IfSome result (IsWithin (length bytes.now)) }
 {
     if !is_php_tag(front(bytes, 5)) {
         return None;
@@ -67,7 +67,7 @@ fn php_opener(bytes: &[u8]) -> Option<Step>
 // `<?=`, which gives the name echo.
 fn echo_opener(alloc: Global, bytes: &[u8]) -> Result<Option<Step>, NoMemory>
     ensures value { IfOk result (λ o. maybe_step o ≡ spec.echo_opener bytes.now) }
-    ensures within { IfOk result (λ o. IfSome o (IsWithin bytes.now)) }
+    ensures within { IfOk result (λ o. IfSome o (IsWithin (length bytes.now))) }
 {
     if !begins(bytes, b"<?=") {
         return Ok(None);
@@ -80,7 +80,7 @@ fn echo_opener(alloc: Global, bytes: &[u8]) -> Result<Option<Step>, NoMemory>
 #[tactic(auto, unfolding(php_syntax::specs::Cuts::opener_step))]
 fn opener_step(alloc: Global, bytes: &[u8]) -> Result<Option<Step>, NoMemory>
     ensures value { IfOk result (λ o. maybe_step o ≡ spec.opener_step bytes.now) }
-    ensures within { IfOk result (λ o. IfSome o (IsWithin bytes.now)) }
+    ensures within { IfOk result (λ o. IfSome o (IsWithin (length bytes.now))) }
 {
     match echo_opener(alloc, bytes)? {
         Some(step) => Ok(Some(step)),
@@ -122,7 +122,7 @@ fn inline_length(bytes: &[u8]) -> usize
 pub fn outside_step(alloc: Global, bytes: &[u8]) -> Result<Step, NoMemory>
     requires { 0 < length bytes.now }
     ensures value { IfOk result (λ s. plain_step s ≡ spec.step outside bytes.now) }
-    ensures within { IfOk result (IsWithin bytes.now) }
+    ensures within { IfOk result (IsWithin (length bytes.now)) }
 {
     match opener_step(alloc, bytes)? {
         Some(step) => Ok(step),

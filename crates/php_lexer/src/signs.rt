@@ -1,6 +1,6 @@
 //! Signs and casts.
 
-ghost use Rattle.std.specs.Prelude.{◌≡◌, ◌<◌, ◌≤◌, ℕ, List, length, Some, IfSome, map, bytes_eq, codes};
+ghost use Rattle.std.specs.Prelude.{◌≡◌, ◌<◌, ◌≤◌, ℕ, length, Some, IfSome, map, bytes_eq, codes};
 ghost use Rattle.php_syntax.specs.Characters as chars;
 ghost use Rattle.php_syntax.specs.Steps.{gives};
 ghost use Rattle.php_syntax.specs.Tokens.{sign as sign_kind};
@@ -57,7 +57,7 @@ const SIGNS: [Sign; 38] = [
 // A sign of so many bytes.
 fn gives_sign(sign: Sign, n: usize) -> Step
     ensures value { maybe_step (Some result) ≡ gives (sign_kind sign) n }
-    ensures within { (bytes : List ℕ) → 0 < n → n ≤ length bytes → IsWithin bytes result }
+    ensures within { (most : ℕ) → 0 < n → n ≤ most → IsWithin most result }
 {
     Step::Goes(Some(TokenKind::Sign(sign)), n, Mode::Inside)
 }
@@ -66,7 +66,7 @@ fn gives_sign(sign: Sign, n: usize) -> Step
 #[tactic(auto, using(crate::proofs::SignLemmas::first_sign_drop, crate::proofs::SignLemmas::first_sign_end))]
 fn first_sign(signs: &[Sign], bytes: &[u8]) -> Option<Step>
     ensures value { maybe_step result ≡ spec.first_sign signs.now bytes.now }
-    ensures within { IfSome result (IsWithin bytes.now) }
+    ensures within { IfSome result (IsWithin (length bytes.now)) }
 {
     for sign in signs {
         let spelling = sign.spelling();
@@ -81,7 +81,7 @@ fn first_sign(signs: &[Sign], bytes: &[u8]) -> Option<Step>
 #[tactic(auto, unfolding(php_syntax::specs::Signs::sign_step))]
 pub fn sign_step(bytes: &[u8]) -> Option<Step>
     ensures value { maybe_step result ≡ spec.sign_step bytes.now }
-    ensures within { IfSome result (IsWithin bytes.now) }
+    ensures within { IfSome result (IsWithin (length bytes.now)) }
 {
     first_sign(&SIGNS, bytes)
 }
@@ -130,7 +130,7 @@ fn cast_of(word: &[u8]) -> Option<Sign>
 #[tactic(auto, unfolding(php_syntax::specs::Signs::cast_step))]
 pub fn cast_step(bytes: &[u8]) -> Option<Step>
     ensures value { maybe_step result ≡ spec.cast_step bytes.now }
-    ensures within { IfSome result (IsWithin bytes.now) }
+    ensures within { IfSome result (IsWithin (length bytes.now)) }
 {
     if !begins(bytes, b"(") {
         return None;

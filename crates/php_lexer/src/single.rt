@@ -64,7 +64,7 @@ pub fn single_quoted(alloc: Global, bytes: &[u8]) -> Result<Option<(Bytes, usize
 #[tactic(auto, unfolding(php_syntax::specs::Texts::single_step))]
 pub fn single_step(alloc: Global, bytes: &[u8]) -> Result<Option<Step>, NoMemory>
     ensures value { IfOk result (λ o. maybe_step o ≡ spec.single_step bytes.now) }
-    ensures within { IfOk result (λ o. IfSome o (IsWithin bytes.now)) }
+    ensures within { IfOk result (λ o. IfSome o (IsWithin (length bytes.now))) }
 {
     if !begins(bytes, b"'") {
         return Ok(None);

@@ -1,6 +1,6 @@
 //! Names, variables and numbers.
 
-ghost use Rattle.std.specs.Prelude.{◌≡◌, IfOk, IfSome};
+ghost use Rattle.std.specs.Prelude.{◌≡◌, length, IfOk, IfSome};
 ghost use Rattle.php_syntax.specs.Words as spec;
 ghost use Rattle.php_lexer.specs.View.{maybe_step, IsWithin};
 
@@ -14,7 +14,7 @@ use text_base::{Bytes, NoMemory};
 #[tactic(auto, unfolding(php_syntax::specs::Words::name_step))]
 pub fn name_step(alloc: Global, bytes: &[u8]) -> Result<Option<Step>, NoMemory>
     ensures value { IfOk result (λ o. maybe_step o ≡ spec.name_step bytes.now) }
-    ensures within { IfOk result (λ o. IfSome o (IsWithin bytes.now)) }
+    ensures within { IfOk result (λ o. IfSome o (IsWithin (length bytes.now))) }
 {
     let n = name_length(bytes);
     if n == 0 {
@@ -28,7 +28,7 @@ pub fn name_step(alloc: Global, bytes: &[u8]) -> Result<Option<Step>, NoMemory>
 #[tactic(auto, unfolding(php_syntax::specs::Words::variable_step))]
 pub fn variable_step(alloc: Global, bytes: &[u8]) -> Result<Option<Step>, NoMemory>
     ensures value { IfOk result (λ o. maybe_step o ≡ spec.variable_step bytes.now) }
-    ensures within { IfOk result (λ o. IfSome o (IsWithin bytes.now)) }
+    ensures within { IfOk result (λ o. IfSome o (IsWithin (length bytes.now))) }
 {
     let inner = behind(bytes, 1);
     let n = name_length(inner);
