@@ -14,6 +14,7 @@ mod scan;
 mod single;
 mod signs;
 mod step;
+mod steps;
 mod template;
 mod units;
 mod words;

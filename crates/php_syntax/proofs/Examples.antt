@@ -3,7 +3,7 @@ use Rattle.std.proofs.Common.{◌≡◌, ℕ, zero, suc, ◌+◌, List, [], ◌�
 use Rattle.php_syntax.specs.declared.token.Sign.TheVariants as s
 use Rattle.php_syntax.specs.Tokens.{PlainToken, PlainKind, inline, variable, name, integer, text, template, sign, plain_part, read_part, text_key, int_key, var_key}
 use Rattle.php_syntax.specs.Steps.{Mode, outside, inside, Fault, bad_byte, unclosed, float, big_int, escape, goes, refuses}
-use Rattle.php_syntax.specs.Cuts.{step, opener_step, lexeme_step, blank_step, line_comment_step, block_comment_step, leaving_step}
+use Rattle.php_syntax.specs.Cuts.{step, opener_step, lexeme_step, between_step, word_step, text_step, mark_step, blank_step, line_comment_step, block_comment_step, leaving_step}
 use Rattle.php_syntax.specs.Words.{name_step, variable_step, number_step}
 use Rattle.php_syntax.specs.Signs.{sign_step, cast_step}
 use Rattle.php_syntax.specs.Rows.{row}
@@ -53,7 +53,7 @@ openers : map file ((codes "a<?PhP\t1")
     ∷ cut_to (tok (inline (codes "<? x ?>")) 0 ∷ [])
     ∷ cut_to (tok (name (codes "echo")) 0 ∷ tok (integer (pos 1)) 3 ∷ tok (sign s.Semicolon) 4 ∷ tok (inline (codes "\n<")) 7 ∷ [])
     ∷ cut_to ([]) ∷ []
-unfolding step opener_step lexeme_step blank_step line_comment_step block_comment_step leaving_step name_step variable_step number_step sign_step cast_step row single_step double_step simple_key braced_key subscript_at subscripts escape_at dollar_at brace_at unit_at heredoc_step nowdoc_step indented_at body_step
+unfolding step opener_step lexeme_step between_step word_step text_step mark_step blank_step line_comment_step block_comment_step leaving_step name_step variable_step number_step sign_step cast_step row single_step double_step simple_key braced_key subscript_at subscripts escape_at dollar_at brace_at unit_at heredoc_step nowdoc_step indented_at body_step
 openers = refl
 
 -- `?>` gives a semicolon and takes one line end with it; `??>` is not one
@@ -64,7 +64,7 @@ leaving : map piece ((codes "?>\r\nx")
     ∷ cut_to (tok (sign s.Semicolon) 0 ∷ tok (inline (codes "x")) 3 ∷ [])
     ∷ cut_to (tok (sign s.Semicolon) 0 ∷ tok (inline (codes " x")) 2 ∷ [])
     ∷ cut_to (tok (sign s.Coalesce) 0 ∷ tok (sign s.Greater) 2 ∷ []) ∷ []
-unfolding step opener_step lexeme_step blank_step line_comment_step block_comment_step leaving_step name_step variable_step number_step sign_step cast_step row single_step double_step simple_key braced_key subscript_at subscripts escape_at dollar_at brace_at unit_at heredoc_step nowdoc_step indented_at body_step
+unfolding step opener_step lexeme_step between_step word_step text_step mark_step blank_step line_comment_step block_comment_step leaving_step name_step variable_step number_step sign_step cast_step row single_step double_step simple_key braced_key subscript_at subscripts escape_at dollar_at brace_at unit_at heredoc_step nowdoc_step indented_at body_step
 leaving = refl
 
 -- comments end before `?>`, a line end or the end; `/*/` opens one and does not close it
@@ -83,7 +83,7 @@ comments : map piece ((codes "# a ?>b")
     ∷ stopped unclosed 1
     ∷ stopped bad_byte 0
     ∷ stopped bad_byte 2 ∷ []
-unfolding step opener_step lexeme_step blank_step line_comment_step block_comment_step leaving_step name_step variable_step number_step sign_step cast_step row single_step double_step simple_key braced_key subscript_at subscripts escape_at dollar_at brace_at unit_at heredoc_step nowdoc_step indented_at body_step
+unfolding step opener_step lexeme_step between_step word_step text_step mark_step blank_step line_comment_step block_comment_step leaving_step name_step variable_step number_step sign_step cast_step row single_step double_step simple_key braced_key subscript_at subscripts escape_at dollar_at brace_at unit_at heredoc_step nowdoc_step indented_at body_step
 comments = refl
 
 -- names and variables
@@ -96,7 +96,7 @@ words : map piece ((codes "_a1 $b")
     ∷ stopped bad_byte 0
     ∷ stopped bad_byte 0
     ∷ stopped bad_byte 1 ∷ []
-unfolding step opener_step lexeme_step blank_step line_comment_step block_comment_step leaving_step name_step variable_step number_step sign_step cast_step row single_step double_step simple_key braced_key subscript_at subscripts escape_at dollar_at brace_at unit_at heredoc_step nowdoc_step indented_at body_step
+unfolding step opener_step lexeme_step between_step word_step text_step mark_step blank_step line_comment_step block_comment_step leaving_step name_step variable_step number_step sign_step cast_step row single_step double_step simple_key braced_key subscript_at subscripts escape_at dollar_at brace_at unit_at heredoc_step nowdoc_step indented_at body_step
 words = refl
 
 -- integers; floats, octal literals, large ones and letters behind them are refused
@@ -127,7 +127,7 @@ numbers : map piece ((codes "0 10")
     ∷ stopped float 0
     ∷ stopped float 0
     ∷ cut_to (tok (integer (pos 1)) 0 ∷ tok (sign s.Dot) 2 ∷ tok (integer (pos 5)) 4 ∷ []) ∷ []
-unfolding step opener_step lexeme_step blank_step line_comment_step block_comment_step leaving_step name_step variable_step number_step sign_step cast_step row single_step double_step simple_key braced_key subscript_at subscripts escape_at dollar_at brace_at unit_at heredoc_step nowdoc_step indented_at body_step
+unfolding step opener_step lexeme_step between_step word_step text_step mark_step blank_step line_comment_step block_comment_step leaving_step name_step variable_step number_step sign_step cast_step row single_step double_step simple_key braced_key subscript_at subscripts escape_at dollar_at brace_at unit_at heredoc_step nowdoc_step indented_at body_step
 numbers = refl
 
 -- the longest sign is taken
@@ -146,7 +146,7 @@ signs : map piece ((codes "====")
     ∷ cut_to (tok (variable (codes "a")) 0 ∷ tok (sign s.And) 2 ∷ tok (variable (codes "b")) 4 ∷ [])
     ∷ stopped bad_byte 0
     ∷ stopped bad_byte 0 ∷ []
-unfolding step opener_step lexeme_step blank_step line_comment_step block_comment_step leaving_step name_step variable_step number_step sign_step cast_step row single_step double_step simple_key braced_key subscript_at subscripts escape_at dollar_at brace_at unit_at heredoc_step nowdoc_step indented_at body_step
+unfolding step opener_step lexeme_step between_step word_step text_step mark_step blank_step line_comment_step block_comment_step leaving_step name_step variable_step number_step sign_step cast_step row single_step double_step simple_key braced_key subscript_at subscripts escape_at dollar_at brace_at unit_at heredoc_step nowdoc_step indented_at body_step
 signs = refl
 
 -- casts in any case, with spaces and tabs inside
@@ -159,7 +159,7 @@ casts : map piece ((codes "(int)")
     ∷ cut_to (tok (sign s.OpenParen) 0 ∷ tok (name (codes "int")) 1 ∷ tok (sign s.CloseParen) 5 ∷ [])
     ∷ cut_to (tok (sign s.OpenParen) 0 ∷ tok (name (codes "inta")) 1 ∷ tok (sign s.CloseParen) 5 ∷ [])
     ∷ cut_to (tok (sign s.OpenParen) 0 ∷ tok (sign s.CloseParen) 1 ∷ []) ∷ []
-unfolding step opener_step lexeme_step blank_step line_comment_step block_comment_step leaving_step name_step variable_step number_step sign_step cast_step row single_step double_step simple_key braced_key subscript_at subscripts escape_at dollar_at brace_at unit_at heredoc_step nowdoc_step indented_at body_step
+unfolding step opener_step lexeme_step between_step word_step text_step mark_step blank_step line_comment_step block_comment_step leaving_step name_step variable_step number_step sign_step cast_step row single_step double_step simple_key braced_key subscript_at subscripts escape_at dollar_at brace_at unit_at heredoc_step nowdoc_step indented_at body_step
 casts = refl
 
 -- two escapes; any other backslash stands for itself
@@ -174,5 +174,5 @@ single_quoted_texts : map piece ((codes "'a\\'b'")
     ∷ cut_to (tok (text (codes "")) 0 ∷ [])
     ∷ cut_to (tok (text (codes "a ?>\n")) 0 ∷ tok (integer (pos 1)) 7 ∷ [])
     ∷ stopped unclosed 1 ∷ []
-unfolding step opener_step lexeme_step blank_step line_comment_step block_comment_step leaving_step name_step variable_step number_step sign_step cast_step row single_step double_step simple_key braced_key subscript_at subscripts escape_at dollar_at brace_at unit_at heredoc_step nowdoc_step indented_at body_step
+unfolding step opener_step lexeme_step between_step word_step text_step mark_step blank_step line_comment_step block_comment_step leaving_step name_step variable_step number_step sign_step cast_step row single_step double_step simple_key braced_key subscript_at subscripts escape_at dollar_at brace_at unit_at heredoc_step nowdoc_step indented_at body_step
 single_quoted_texts = refl

@@ -3,7 +3,7 @@ use Rattle.std.proofs.Common.{◌≡◌, ℕ, zero, suc, ◌+◌, List, [], ◌�
 use Rattle.php_syntax.specs.declared.token.Sign.TheVariants as s
 use Rattle.php_syntax.specs.Tokens.{PlainToken, PlainKind, inline, variable, name, integer, text, template, sign, plain_part, read_part, text_key, int_key, var_key}
 use Rattle.php_syntax.specs.Steps.{Mode, outside, inside, Fault, bad_byte, unclosed, float, big_int, escape, goes, refuses}
-use Rattle.php_syntax.specs.Cuts.{step, opener_step, lexeme_step, blank_step, line_comment_step, block_comment_step, leaving_step}
+use Rattle.php_syntax.specs.Cuts.{step, opener_step, lexeme_step, between_step, word_step, text_step, mark_step, blank_step, line_comment_step, block_comment_step, leaving_step}
 use Rattle.php_syntax.specs.Words.{name_step, variable_step, number_step}
 use Rattle.php_syntax.specs.Signs.{sign_step, cast_step}
 use Rattle.php_syntax.specs.Rows.{row}
@@ -27,7 +27,7 @@ escapes : map piece ((codes "\"\\n\\r\\t\\\\\\$\\\"\"")
     ∷ stopped unclosed 1
     ∷ stopped unclosed 0
     ∷ stopped unclosed 0 ∷ []
-unfolding step opener_step lexeme_step blank_step line_comment_step block_comment_step leaving_step name_step variable_step number_step sign_step cast_step row single_step double_step simple_key braced_key subscript_at subscripts escape_at dollar_at brace_at unit_at heredoc_step nowdoc_step indented_at body_step
+unfolding step opener_step lexeme_step between_step word_step text_step mark_step blank_step line_comment_step block_comment_step leaving_step name_step variable_step number_step sign_step cast_step row single_step double_step simple_key braced_key subscript_at subscripts escape_at dollar_at brace_at unit_at heredoc_step nowdoc_step indented_at body_step
 escapes = refl
 
 -- the forms in which a variable is read, and those that are refused
@@ -64,7 +64,7 @@ interpolations : map piece ((codes "\"a$b.\"")
     ∷ stopped escape 1
     ∷ stopped escape 1
     ∷ stopped escape 1 ∷ []
-unfolding step opener_step lexeme_step blank_step line_comment_step block_comment_step leaving_step name_step variable_step number_step sign_step cast_step row single_step double_step simple_key braced_key subscript_at subscripts escape_at dollar_at brace_at unit_at heredoc_step nowdoc_step indented_at body_step
+unfolding step opener_step lexeme_step between_step word_step text_step mark_step blank_step line_comment_step block_comment_step leaving_step name_step variable_step number_step sign_step cast_step row single_step double_step simple_key braced_key subscript_at subscripts escape_at dollar_at brace_at unit_at heredoc_step nowdoc_step indented_at body_step
 interpolations = refl
 
 -- the last line end is no part of the text; a longer name does not end it; CR LF ends lines, CR alone does not
@@ -97,7 +97,7 @@ heredocs : map piece ((codes "<<<A\na\nA;")
     ∷ stopped unclosed 0
     ∷ stopped unclosed 0
     ∷ cut_to (tok (sign s.Less) 0 ∷ tok (sign s.Less) 1 ∷ tok (sign s.Less) 2 ∷ tok (name (codes "A")) 4 ∷ []) ∷ []
-unfolding step opener_step lexeme_step blank_step line_comment_step block_comment_step leaving_step name_step variable_step number_step sign_step cast_step row single_step double_step simple_key braced_key subscript_at subscripts escape_at dollar_at brace_at unit_at heredoc_step nowdoc_step indented_at body_step
+unfolding step opener_step lexeme_step between_step word_step text_step mark_step blank_step line_comment_step block_comment_step leaving_step name_step variable_step number_step sign_step cast_step row single_step double_step simple_key braced_key subscript_at subscripts escape_at dollar_at brace_at unit_at heredoc_step nowdoc_step indented_at body_step
 heredocs = refl
 
 -- nothing is replaced
@@ -106,5 +106,5 @@ nowdocs : map piece ((codes "<<<'A'\n\\n$x{$\nA")
     ∷ (codes "<<<'A'\na") ∷ []) ≡ cut_to (tok (text (codes "\\n$x{$")) 0 ∷ [])
     ∷ stopped escape 7
     ∷ stopped unclosed 0 ∷ []
-unfolding step opener_step lexeme_step blank_step line_comment_step block_comment_step leaving_step name_step variable_step number_step sign_step cast_step row single_step double_step simple_key braced_key subscript_at subscripts escape_at dollar_at brace_at unit_at heredoc_step nowdoc_step indented_at body_step
+unfolding step opener_step lexeme_step between_step word_step text_step mark_step blank_step line_comment_step block_comment_step leaving_step name_step variable_step number_step sign_step cast_step row single_step double_step simple_key braced_key subscript_at subscripts escape_at dollar_at brace_at unit_at heredoc_step nowdoc_step indented_at body_step
 nowdocs = refl

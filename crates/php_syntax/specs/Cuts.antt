@@ -61,13 +61,25 @@ unfoldable pub leaving_step : List ℕ → Option Step
 leaving_step bytes =
     if begins (codes "?>") bytes then Some (goes (Some (sign Semicolon)) (2 + newline_length (drop 2 bytes)) outside) else None
 
--- inside PHP, where a token, a blank or a comment stands at the head
+-- what gives no token of its own: blanks, comments and the tag that leaves PHP
+unfoldable pub between_step : List ℕ → Option Step
+between_step bytes = or_else (blank_step bytes) (or_else (line_comment_step bytes) (or_else (block_comment_step bytes) (leaving_step bytes)))
+
+-- names, variables and numbers
+unfoldable pub word_step : List ℕ → Option Step
+word_step bytes = or_else (name_step bytes) (or_else (variable_step bytes) (number_step bytes))
+
+-- texts
+unfoldable pub text_step : List ℕ → Option Step
+text_step bytes = or_else (single_step bytes) (or_else (double_step bytes) (or_else (heredoc_step bytes) (nowdoc_step bytes)))
+
+-- casts and signs
+unfoldable pub mark_step : List ℕ → Option Step
+mark_step bytes = or_else (cast_step bytes) (sign_step bytes)
+
+-- inside PHP
 unfoldable pub lexeme_step : List ℕ → Option Step
-lexeme_step bytes =
-    or_else (blank_step bytes) (or_else (line_comment_step bytes) (or_else (block_comment_step bytes) (or_else (leaving_step bytes)
-    (or_else (name_step bytes) (or_else (variable_step bytes) (or_else (number_step bytes)
-    (or_else (single_step bytes) (or_else (double_step bytes) (or_else (heredoc_step bytes) (or_else (nowdoc_step bytes)
-    (or_else (cast_step bytes) (sign_step bytes))))))))))))
+lexeme_step bytes = or_else (between_step bytes) (or_else (word_step bytes) (or_else (text_step bytes) (mark_step bytes)))
 
 abbrev pub or_bad_byte : Option Step → Step
 or_bad_byte None = refuses bad_byte 0

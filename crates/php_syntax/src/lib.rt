@@ -6,4 +6,5 @@
 //! Below this crate stands `text_base` alone.
 #![tactic(auto)]
 
+pub mod laws;
 pub mod token;
