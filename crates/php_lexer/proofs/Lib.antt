@@ -5,3 +5,5 @@ pub mod RowLemmas
 pub mod KeyLemmas
 pub mod WithinLemmas
 pub mod PartLemmas
+pub mod SoFarLemmas
+pub mod RefusalLemmas

@@ -2,3 +2,4 @@ pub mod View
 pub mod Rows
 pub mod Templates
 pub mod Heredocs
+pub mod Refusals

@@ -1,6 +1,6 @@
 -- What the types of this crate stand for.
-use Rattle.std.specs.Prelude.{ℕ, ◌<◌, ◌≤◌, Option, option_map}
-use Rattle.php_syntax.specs.Tokens.{plain_kind}
+use Rattle.std.specs.Prelude.{ℕ, ◌<◌, ◌≤◌, List, [], ◌∷◌, ◌++◌, Option, Some, None, option_map}
+use Rattle.php_syntax.specs.Tokens.{PlainToken, PlainKind, plain_kind}
 use Rattle.php_syntax.specs.Steps as syntax
 use Rattle.php_lexer.specs.declared.step.Mode.{Mode}
 use Rattle.php_lexer.specs.declared.step.Mode.TheVariants.{Outside, Inside}
@@ -33,3 +33,8 @@ maybe_step o = option_map plain_step o
 abbrev pub IsWithin : ℕ → Step → Type 0
 IsWithin most (Goes kind n mode) = (0 < n) × (n ≤ most)
 IsWithin most (Refuses fault n) = n ≤ most
+
+-- the tokens, and behind them the token that a step gives, if it gives one
+abbrev pub tokens_with : List PlainToken → Option PlainKind → ℕ → List PlainToken
+tokens_with tokens None at = tokens
+tokens_with tokens (Some kind) at = tokens ++ record { kind = kind; at = at } ∷ []

@@ -8,8 +8,10 @@ mod double;
 mod found;
 mod heredoc;
 mod keys;
+mod lexer;
 mod numbers;
 mod openers;
+mod refusal;
 mod scan;
 mod single;
 mod signs;
@@ -18,3 +20,6 @@ mod steps;
 mod template;
 mod units;
 mod words;
+
+pub use lexer::{MOST_BYTES, lex};
+pub use refusal::LexRefusal;
