@@ -24,8 +24,14 @@ fn has_end(alloc: Global, enclosure: Enclosure, bytes: &[u8]) -> Result<bool, No
     let mut n = 0;
     'places: loop {
         match unit_at(alloc, enclosure, behind(bytes, n))? {
-            Found::Item(_, k) => n += k,
-            Found::Wrong(k) => n += k,
+            Found::Item(_, k) => {
+                n += k;
+                continue;
+            }
+            Found::Wrong(k) => {
+                n += k;
+                continue;
+            }
             Found::Over(_) => return Ok(true),
             Found::Missing => return Ok(false),
         }
