@@ -1,0 +1,4 @@
+pub mod Rel
+pub mod OpBytes
+pub mod Size
+pub mod Rules

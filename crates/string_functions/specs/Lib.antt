@@ -1,0 +1,10 @@
+pub mod Html
+pub mod Pieces
+pub mod Cut
+pub mod Case
+pub mod Trim
+pub mod Breaks
+pub mod Url
+pub mod Slashes
+pub mod Copies
+pub mod Leftmost
