@@ -129,16 +129,20 @@ end_of_wrong k endless = refl
 pub end_past_item : {X : Type 0} (find : List ℕ → Found X) (bytes : List ℕ) (n : ℕ) (x : X) (k next : ℕ) (here : List ℕ)
     → has_end_of (row find 0 bytes) ≡ has_end_of (row find 0 (drop n bytes)) → here ≡ drop n bytes → item x k ≡ find here → (0 < k) × (k ≤ length here) → n ≤ length bytes → next ≡ n + k
     → (has_end_of (row find 0 bytes) ≡ has_end_of (row find 0 (drop next bytes))) × (next ≤ length bytes)
-end_past_item find bytes n x k next here so_far at e within h next-is =
-    (so_far ∙ ap (λ bs. has_end_of (row find 0 bs)) (sym at) ∙ ap has_end_of (row_at_item find here x k (sym e) within.0 (omega arith)) ∙ end_of_item x k (row find 0 (drop k here)) ∙ ap (λ bs. has_end_of (row find 0 bs)) (ap (drop k) at ∙ drop-drop k n bytes)
-    ∙ ap (λ m. has_end_of (row find 0 (drop m bytes))) (sym next-is), omega (arith, ap length at, length-drop n bytes))
+end_past_item find bytes n x k next here so_far at e within h next-is = (
+  so_far ∙ ap (λ bs. has_end_of (row find 0 bs)) (sym at) ∙ ap has_end_of (row_at_item find here x k (sym e) within.0 (omega arith)) ∙ end_of_item x k (row find 0 (drop k here)) ∙ ap (λ bs. has_end_of (row find 0 bs)) (ap (drop k) at ∙ drop-drop k n bytes)
+      ∙ ap (λ m. has_end_of (row find 0 (drop m bytes))) (sym next-is),
+  omega (arith, ap length at, length-drop n bytes),
+)
 
 pub end_past_wrong : {X : Type 0} (find : List ℕ → Found X) (bytes : List ℕ) (n k next : ℕ) (here : List ℕ)
     → has_end_of (row find 0 bytes) ≡ has_end_of (row find 0 (drop n bytes)) → here ≡ drop n bytes → wrong k ≡ find here → (0 < k) × (k ≤ length here) → n ≤ length bytes → next ≡ n + k
     → (has_end_of (row find 0 bytes) ≡ has_end_of (row find 0 (drop next bytes))) × (next ≤ length bytes)
-end_past_wrong find bytes n k next here so_far at e within h next-is =
-    (so_far ∙ ap (λ bs. has_end_of (row find 0 bs)) (sym at) ∙ ap has_end_of (row_at_wrong find here k (sym e) within.0 (omega arith)) ∙ end_of_wrong k (row find 0 (drop k here)) ∙ ap (λ bs. has_end_of (row find 0 bs)) (ap (drop k) at ∙ drop-drop k n bytes)
-    ∙ ap (λ m. has_end_of (row find 0 (drop m bytes))) (sym next-is), omega (arith, ap length at, length-drop n bytes))
+end_past_wrong find bytes n k next here so_far at e within h next-is = (
+  so_far ∙ ap (λ bs. has_end_of (row find 0 bs)) (sym at) ∙ ap has_end_of (row_at_wrong find here k (sym e) within.0 (omega arith)) ∙ end_of_wrong k (row find 0 (drop k here)) ∙ ap (λ bs. has_end_of (row find 0 bs)) (ap (drop k) at ∙ drop-drop k n bytes)
+      ∙ ap (λ m. has_end_of (row find 0 (drop m bytes))) (sym next-is),
+  omega (arith, ap length at, length-drop n bytes),
+)
 
 pub end_over : {X : Type 0} (find : List ℕ → Found X) (bytes : List ℕ) (n k : ℕ) (here : List ℕ)
     → has_end_of (row find 0 bytes) ≡ has_end_of (row find 0 (drop n bytes)) → here ≡ drop n bytes → over k ≡ find here → true ≡ has_end_of (row find 0 bytes)

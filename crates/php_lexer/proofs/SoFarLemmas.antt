@@ -43,12 +43,12 @@ so_far_more file mode next at n here token tokens more so_far h at_is e fits mor
     in let rest_is : drop (at + n) file ≡ drop n here = sym (ap (drop n) at_is ∙ drop-drop n at file)
     in record {
       cuts = λ rest cut.
-        let there : CutsFrom next (at + n) (drop n here) rest = subst (λ bs. CutsFrom next (at + n) bs rest) rest_is cut
-        in let whole : CutsFrom mode at (drop at file) (tokens_with [] token at ++ rest) = subst (λ bs. CutsFrom mode at bs (tokens_with [] token at ++ rest)) at_is (cuts_on mode next at n here token rest some e there)
-        in subst (λ ts. Cuts file ts) (with_assoc tokens token at rest ∙ ap (λ ts. ts ++ rest) (sym more_is)) (so_far.cuts _ whole);
+          let there : CutsFrom next (at + n) (drop n here) rest = subst (λ bs. CutsFrom next (at + n) bs rest) rest_is cut
+          in let whole : CutsFrom mode at (drop at file) (tokens_with [] token at ++ rest) = subst (λ bs. CutsFrom mode at bs (tokens_with [] token at ++ rest)) at_is (cuts_on mode next at n here token rest some e there)
+          in subst (λ ts. Cuts file ts) (with_assoc tokens token at rest ∙ ap (λ ts. ts ++ rest) (sym more_is)) (so_far.cuts _ whole);
       breaks = λ fault place broken.
-        let there : BreaksFrom next (at + n) (drop n here) fault place = subst (λ bs. BreaksFrom next (at + n) bs fault place) rest_is broken
-        in so_far.breaks fault place (subst (λ bs. BreaksFrom mode at bs fault place) at_is (breaks_on mode next at n here token fault place some e there));
+          let there : BreaksFrom next (at + n) (drop n here) fault place = subst (λ bs. BreaksFrom next (at + n) bs fault place) rest_is broken
+          in so_far.breaks fault place (subst (λ bs. BreaksFrom mode at bs fault place) at_is (breaks_on mode next at n here token fault place some e there));
       within = omega (arith, ap length at_is, length-drop at file);
     }
 

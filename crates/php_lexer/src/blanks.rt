@@ -6,7 +6,7 @@ ghost use Rattle.php_syntax.specs.Cuts as spec;
 ghost use Rattle.php_lexer.specs.View.{maybe_step, IsWithin};
 
 use crate::classes::{is_blank, is_gap, is_line_end, lower};
-use crate::scan::{behind, begins, front, head_is_line_end, newline_length};
+use crate::scan::{begins, behind, front, head_is_line_end, newline_length};
 use crate::step::{Fault, Mode, Step};
 use php_syntax::token::{Sign, TokenKind};
 use std::alloc::Global;
@@ -108,9 +108,5 @@ pub fn leaving_step(bytes: &[u8]) -> Option<Step>
         return None;
     }
     let n = newline_length(behind(bytes, 2));
-    Some(Step::Goes(
-        Some(TokenKind::Sign(Sign::Semicolon)),
-        2 + n,
-        Mode::Outside,
-    ))
+    Some(Step::Goes(Some(TokenKind::Sign(Sign::Semicolon)), 2 + n, Mode::Outside))
 }

@@ -8,7 +8,7 @@ ghost use Rattle.php_lexer.specs.Templates.{enclosure_of, parts_row, plain_row, 
 ghost use Rattle.php_lexer.specs.View.{maybe_step, IsWithin};
 
 use crate::found::Found;
-use crate::scan::{behind, begins};
+use crate::scan::{begins, behind};
 use crate::step::{Fault, Mode, Step};
 use crate::template::{Enclosure, TextRow, TextUnit};
 use crate::units::unit_at;

@@ -7,7 +7,7 @@ ghost use Rattle.php_lexer.specs.Heredocs.{body_of};
 ghost use Rattle.php_lexer.specs.View.{maybe_step, IsWithin};
 
 use crate::double::{kind_of_parts, template};
-use crate::scan::{behind, begins, front, gap_length, head_is_name_byte, name_length};
+use crate::scan::{begins, behind, front, gap_length, head_is_name_byte, name_length};
 use crate::step::{Fault, Mode, Step};
 use crate::template::{Enclosure, TextRow};
 use php_syntax::token::TokenKind;
@@ -237,7 +237,13 @@ pub fn heredoc_step(alloc: Global, bytes: &[u8]) -> Result<Option<Step>, NoMemor
     }
     let named = behind(bytes, 3);
     let n = name_length(named);
-    headed(alloc, Body::Heredoc, 3 + n, front(named, n), behind(named, n))
+    headed(
+        alloc,
+        Body::Heredoc,
+        3 + n,
+        front(named, n),
+        behind(named, n),
+    )
 }
 
 /// `<<<'NAME'` and its lines.
@@ -253,7 +259,13 @@ pub fn nowdoc_step(alloc: Global, bytes: &[u8]) -> Result<Option<Step>, NoMemory
     let n = name_length(named);
     let closing = behind(named, n);
     if begins(closing, b"'") {
-        headed(alloc, Body::Nowdoc, 5 + n, front(named, n), behind(closing, 1))
+        headed(
+            alloc,
+            Body::Nowdoc,
+            5 + n,
+            front(named, n),
+            behind(closing, 1),
+        )
     } else {
         Ok(None)
     }

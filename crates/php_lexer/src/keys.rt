@@ -8,7 +8,7 @@ ghost use Rattle.php_lexer.specs.Templates.{maybe_key, maybe_keys};
 
 use crate::found::Found;
 use crate::numbers::{has_leading_zero, value_of};
-use crate::scan::{behind, begins, digits_length, front, name_length};
+use crate::scan::{begins, behind, digits_length, front, name_length};
 use crate::single::single_quoted;
 use php_syntax::token::PartKey;
 use std::alloc::Global;

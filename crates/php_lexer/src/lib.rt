@@ -13,11 +13,13 @@ mod numbers;
 mod openers;
 mod refusal;
 mod scan;
-mod single;
 mod signs;
+mod single;
 mod step;
 mod steps;
 mod template;
+#[cfg(test)]
+mod tests;
 mod units;
 mod words;
 

@@ -5,7 +5,7 @@ ghost use Rattle.php_syntax.specs.Characters as chars;
 ghost use Rattle.php_syntax.specs.Words as spec;
 ghost use Rattle.php_lexer.specs.View.{maybe_step, IsWithin};
 
-use crate::scan::{behind, begins, digits_length, front, head_is_digit, head_is_name_byte};
+use crate::scan::{begins, behind, digits_length, front, head_is_digit, head_is_name_byte};
 use crate::step::{Fault, Mode, Step};
 use php_syntax::token::TokenKind;
 

@@ -7,7 +7,7 @@ ghost use Rattle.php_syntax.specs.Steps.{outside};
 ghost use Rattle.php_lexer.specs.View.{maybe_step, plain_step, IsWithin};
 
 use crate::classes::{is_gap, is_line_end, lower};
-use crate::scan::{behind, begins, front, newline_length};
+use crate::scan::{begins, behind, front, newline_length};
 use crate::step::{Mode, Step};
 use php_syntax::token::TokenKind;
 use std::alloc::Global;

@@ -91,7 +91,11 @@ pub fn name_length(bytes: &[u8]) -> usize
     ensures value { result ≡ spec.name_length bytes.now }
     ensures within { result ≤ length bytes.now }
 {
-    if head_is_name_start(bytes) { name_bytes_length(bytes) } else { 0 }
+    if head_is_name_start(bytes) {
+        name_bytes_length(bytes)
+    } else {
+        0
+    }
 }
 
 /// How many spaces and tabs stand at the head.

@@ -8,7 +8,7 @@ ghost use Rattle.php_syntax.specs.Signs as spec;
 ghost use Rattle.php_lexer.specs.View.{maybe_step, IsWithin};
 
 use crate::classes::lower;
-use crate::scan::{behind, begins, front, gap_length, name_bytes_length};
+use crate::scan::{begins, behind, front, gap_length, name_bytes_length};
 use crate::step::{Mode, Step};
 use php_syntax::token::{Sign, TokenKind};
 

@@ -6,7 +6,7 @@ ghost use Rattle.php_lexer.specs.Rows.{plain_found, text_row, FoundWithin};
 ghost use Rattle.php_lexer.specs.View.{maybe_step, IsWithin};
 
 use crate::found::Found;
-use crate::scan::{behind, begins};
+use crate::scan::{begins, behind};
 use crate::step::{Fault, Mode, Step};
 use php_syntax::token::TokenKind;
 use std::alloc::Global;
@@ -71,10 +71,6 @@ pub fn single_step(alloc: Global, bytes: &[u8]) -> Result<Option<Step>, NoMemory
     }
     match single_quoted(alloc, behind(bytes, 1))? {
         None => Ok(Some(Step::Refuses(Fault::Unclosed, 0))),
-        Some((text, n)) => Ok(Some(Step::Goes(
-            Some(TokenKind::Str(text)),
-            1 + n,
-            Mode::Inside,
-        ))),
+        Some((text, n)) => Ok(Some(Step::Goes(Some(TokenKind::Str(text)), 1 + n, Mode::Inside))),
     }
 }

@@ -9,7 +9,7 @@ ghost use Rattle.php_lexer.specs.Templates.{enclosure_of, unit_of};
 use crate::classes::is_high;
 use crate::found::Found;
 use crate::keys::{closed_simple_key, subscripts};
-use crate::scan::{behind, begins, front, name_length};
+use crate::scan::{begins, behind, front, name_length};
 use crate::template::{Enclosure, TextUnit};
 use std::alloc::Global;
 use text_base::{Bytes, NoMemory};
@@ -150,7 +150,11 @@ fn end_of(enclosure: Enclosure) -> Found<TextUnit>
 
 /// One place of a template.
 #[tactic(auto, unfolding(php_syntax::specs::Texts::unit_at))]
-pub fn unit_at(alloc: Global, enclosure: Enclosure, bytes: &[u8]) -> Result<Found<TextUnit>, NoMemory>
+pub fn unit_at(
+    alloc: Global,
+    enclosure: Enclosure,
+    bytes: &[u8],
+) -> Result<Found<TextUnit>, NoMemory>
     ensures value { IfOk result (λ found. plain_found unit_of found ≡ spec.unit_at (enclosure_of enclosure) bytes.now) }
     ensures within { IfOk result (FoundWithin (length bytes.now)) }
 {

@@ -4,7 +4,7 @@ ghost use Rattle.std.specs.Prelude.{◌≡◌, length, IfOk, IfSome};
 ghost use Rattle.php_syntax.specs.Words as spec;
 ghost use Rattle.php_lexer.specs.View.{maybe_step, IsWithin};
 
-use crate::scan::{behind, begins, front, name_length};
+use crate::scan::{begins, behind, front, name_length};
 use crate::step::{Mode, Step};
 use php_syntax::token::TokenKind;
 use std::alloc::Global;

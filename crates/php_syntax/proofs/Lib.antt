@@ -1,3 +1,3 @@
 pub mod CutLemmas
-pub mod Examples
+pub mod LexicalExamples
 mod TemplateExamples

@@ -9,7 +9,7 @@ use Rattle.php_syntax.specs.Signs.{sign_step, cast_step}
 use Rattle.php_syntax.specs.Rows.{row}
 use Rattle.php_syntax.specs.Texts.{single_step, double_step, simple_key, braced_key, subscript_at, subscripts, escape_at, dollar_at, brace_at, unit_at}
 use Rattle.php_syntax.specs.Heredocs.{heredoc_step, nowdoc_step, indented_at, body_step}
-use Rattle.php_syntax.proofs.Examples.{Answer, cut_to, stopped, and_token, answer, piece, tok}
+use Rattle.php_syntax.proofs.LexicalExamples.{Answer, cut_to, stopped, and_token, answer, piece, tok}
 
 -- the escapes of a text in double quotes; every other one is refused
 escapes : map piece ((codes "\"\\n\\r\\t\\\\\\$\\\"\"")
