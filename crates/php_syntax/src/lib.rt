@@ -6,5 +6,7 @@
 //! Below this crate stands `text_base` alone.
 #![tactic(auto)]
 
+pub mod keyword;
+pub mod operator;
 pub mod token;
 pub mod tree;
