@@ -1,6 +1,8 @@
 pub mod Expressions
+pub mod Grammar
 pub mod Height
 pub mod Operators
+pub mod Rules
 pub mod Statements
 pub mod Terminals
 pub mod Tokens
