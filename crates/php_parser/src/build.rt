@@ -2,7 +2,6 @@
 
 ghost use Rattle.std.specs.Prelude.{◌≡◌, ◌∷◌, ◌++◌, [], IfOk};
 ghost use Rattle.php_syntax.specs.Trees.{plain_expr, call_expr, join_expr, more_exprs, no_exprs};
-ghost use Rattle.php_syntax.specs.Operators.{tighter_level, repeats};
 ghost use Rattle.php_syntax.specs.Expressions.{prefix_tree, operator_tree, chain_tree_of, lean_left, flat_join, link_operands};
 ghost use Rattle.php_parser.specs.Machine.{links_of};
 
@@ -11,32 +10,6 @@ use php_syntax::operator::{Level, Operator, Prefix};
 use php_syntax::tree::Expr;
 use std::alloc::Global;
 use text_base::Bytes;
-
-/// The next tighter level, if there is one.
-pub fn tighter(level: Level) -> Option<Level>
-    ensures { result ≡ tighter_level level }
-{
-    match level {
-        Level::Or => Some(Level::And),
-        Level::And => Some(Level::Equality),
-        Level::Equality => Some(Level::Order),
-        Level::Order => Some(Level::Join),
-        Level::Join => Some(Level::Sum),
-        Level::Sum => Some(Level::Product),
-        Level::Product => None,
-    }
-}
-
-/// Whether a level takes any number of operands in a row.
-pub fn is_repeating(level: Level) -> bool
-    ensures { result ≡ repeats level }
-{
-    match level {
-        Level::Equality => false,
-        Level::Order => false,
-        _ => true,
-    }
-}
 
 /// An operator before its operand.
 #[tactic(auto, using(php_syntax::proofs::Views::views))]

@@ -5,12 +5,12 @@ ghost use Rattle.php_syntax.specs.Trees.{plain_expr};
 ghost use Rattle.php_parser.specs.Terms.{terms};
 ghost use Rattle.php_parser.specs.Machine.{frame_means, Steps};
 
-use crate::build::{chained, is_repeating, prefixed};
+use crate::build::{chained, prefixed};
 use crate::cursor::{after_sign, operator_at};
 use crate::frame::{Focus, Frame, Push, Step, Want};
 use crate::stop::Stop;
 use php_syntax::token::{Sign, Token};
-use php_syntax::operator::{Level, Operator, Prefix};
+use php_syntax::operator::{Level, Operator, Prefix, is_repeating};
 use php_syntax::tree::{Expr, Target, UpdateSign};
 use text_base::Bytes;
 use std::alloc::Global;
