@@ -16,7 +16,7 @@ use Rattle.php_syntax.specs.declared.operator.Prefix.{Prefix}
 use Rattle.php_syntax.specs.declared.operator.Prefix.TheVariants as prefix
 use Rattle.php_syntax.specs.Tokens.{PlainKey, text_key, int_key, var_key, PlainPart, plain_part, read_part}
 use Rattle.php_syntax.specs.Trees.{PlainExpr, null_expr, flag_expr, int_expr, text_expr, var_expr, super_expr, member_expr, array_expr, join_expr, neg_expr, not_expr, arith_expr, compare_expr, and_expr, or_expr, coalesce_expr, choice_expr, isset_expr, empty_expr, assign_expr, update_expr, step_expr, call_expr, no_expr, some_expr, PlainExprs, no_exprs, more_exprs, PlainItems, no_items, more_items, PlainPath, no_keys, more_keys}
-use Rattle.php_syntax.specs.Operators.{tighter_level, repeats, binary_operator, prefix_operator, update_sign}
+use Rattle.php_syntax.specs.Operators.{tighter_level, repeats, binary_operator, prefix_operator, update_sign, step_sign}
 use Rattle.php_syntax.specs.Terminals.{Terminal, variable_terminal, word_terminal, name_terminal, int_terminal, text_terminal, template_terminal, sign_terminal, same_bytes}
 
 -- the value of a constant
@@ -32,12 +32,6 @@ constant_of _ = None
 -- whether a name is that of `htmlspecialchars`, in any case
 abbrev pub is_escape : List ℕ → Bool
 is_escape f = str_eq_ignore_ascii_case f (codes "htmlspecialchars")
-
--- whether a sign steps a variable up or down
-abbrev pub step_sign : Sign → Option Bool
-step_sign sign.Increment = Some true
-step_sign sign.Decrement = Some false
-step_sign _ = None
 
 mutual
   -- e = target assignment e | choice

@@ -66,3 +66,9 @@ update_sign sign.MulAssign = Some update.Mul
 update_sign sign.RemAssign = Some update.Rem
 update_sign sign.CoalesceAssign = Some update.Coalesce
 update_sign _ = None
+
+-- whether a sign steps a variable up or down
+abbrev pub step_sign : Sign → Option Bool
+step_sign sign.Increment = Some true
+step_sign sign.Decrement = Some false
+step_sign _ = None
