@@ -1,0 +1,48 @@
+-- The first form as a condition on a tree, and the pages of such a tree.
+use Rattle.std.specs.Prelude.{◌≡◌, ◌≢◌, ◌⊎◌, ◌↔◌, ℕ, List, [], Some, ⊤, IfSome}
+use Rattle.php_syntax.specs.Trees.{PlainExpr, PlainStmt, PlainStmts, PlainFile, text_expr, no_exprs, more_exprs, inline_stmt, echo_stmt, if_stmt, no_stmts, more_stmts, no_arms, more_arms}
+use Rattle.first_form.specs.declared.pages.Pages.{Pages}
+use Rattle.first_form.specs.FirstForm.{Each, is_plain, is_letter}
+use Rattle.first_form.specs.Trees.{is_set}
+use Rattle.first_form.specs.Loose.{Loose}
+
+-- isset($_GET['KEY']), with a key of one or more letters
+abbrev pub IsSetTest : PlainExpr → Type 0
+IsSetTest condition = (key : List ℕ) × (key ≢ []) × Each is_letter key × (condition ≡ is_set key)
+
+-- inline text, or an echo of one text, of plain bytes
+unfoldable pub IsStraightStatement : PlainStmt → Type 0
+IsStraightStatement (inline_stmt text) = Each is_plain text
+IsStraightStatement (echo_stmt (more_exprs (text_expr text) no_exprs)) = Each is_plain text
+IsStraightStatement _ = ⊥
+
+unfoldable pub IsStraight : PlainStmts → Type 0
+unfolding IsStraightStatement
+IsStraight no_stmts = ⊤
+IsStraight (more_stmts s ss) = IsStraightStatement s × IsStraight ss
+
+-- an if on whether a name is set, with straight statements in its two arms
+unfoldable pub IsBranch : PlainStmt → Type 0
+unfolding IsStraight
+IsBranch (if_stmt (more_arms condition body no_arms) otherwise) = IsSetTest condition × IsStraight body × IsStraight otherwise
+IsBranch _ = ⊥
+
+-- straight statements, with at most one such if among them
+unfoldable pub IsFirstBody : PlainStmts → Type 0
+unfolding IsBranch
+IsFirstBody no_stmts = ⊤
+IsFirstBody (more_stmts s ss) = (IsStraightStatement s × IsFirstBody ss) ⊎ (IsBranch s × IsStraight ss)
+
+-- the tree of a script of the first form
+abbrev pub IsFirstTree : PlainFile → Type 0
+IsFirstTree tree = IsFirstBody tree.body_of × (tree.functions_of ≡ [])
+
+-- one of the pages
+abbrev pub IsPage : Pages → List ℕ → Type 0
+IsPage pages page = (page ≡ pages.first) ⊎ (pages.second ≡ Some page)
+
+-- the pages are exactly the loose pages of the program, and their bytes are plain
+pub record ArePages (pages : Pages) (program : PlainFile) : Type 0 where
+  pub exact : (page : List ℕ) → Loose program page ↔ IsPage pages page
+  pub first_plain : Each is_plain pages.first
+  pub second_plain : IfSome pages.second (λ page. Each is_plain page)

@@ -1,0 +1,21 @@
+-- What the references that the reader's functions give point to.
+use Rattle.std.specs.Prelude.{ℕ, List, Option, Some, None}
+use Rattle.std.specs.Borrow.{Bor}
+use Rattle.php_syntax.specs.declared.tree.Stmt.{Stmt}
+use Rattle.php_syntax.specs.Trees.{PlainStmts, stmts_of}
+
+abbrev pub seen : Option (Bor (List ℕ)) → Option (List ℕ)
+seen None = None
+seen (Some x) = Some x.now
+
+abbrev pub seen_pair : Option (Bor (List ℕ) × Bor (List ℕ)) → Option (List ℕ × List ℕ)
+seen_pair None = None
+seen_pair (Some x) = Some (x.0.now, x.1.now)
+
+abbrev pub seen_body : Option (Bor (List Stmt)) → Option PlainStmts
+seen_body None = None
+seen_body (Some x) = Some (stmts_of x.now)
+
+abbrev pub seen_arms : Option (Bor (List Stmt) × Bor (List Stmt)) → Option (PlainStmts × PlainStmts)
+seen_arms None = None
+seen_arms (Some x) = Some (stmts_of x.0.now, stmts_of x.1.now)

@@ -1,0 +1,4 @@
+pub mod Faults
+pub mod PageBytes
+pub mod Pieces
+pub mod States

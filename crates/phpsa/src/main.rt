@@ -1,0 +1,36 @@
+//! The program `phpsa`: it hands the real words, files and streams to `phpsa_main`, and ends with the status that
+//! comes back. What it answers is said by the contract of `phpsa_main::phpsa`; below it stand `io_edge`, with the
+//! files and streams of the system, and `phpsa_main`.
+#![tactic(auto)]
+
+use io_edge::{DiskFiles, StdSink};
+use phpsa_main::phpsa;
+use std::process::ExitCode;
+use std::rt::Env;
+use std::{env, io};
+
+/// The status where the system does not give the words: one of them is not UTF-8, or no memory was left for them.
+const NO_WORDS: u8 = 16;
+
+/// The words after the program's name.
+fn words_of(rt: &(impl Env + AllocGlobal)) -> io::Result<Vec<String>> {
+    let mut words = Vec::new(rt.alloc());
+    for word in env::args(rt)?.skip(1) {
+        words.push(word)?;
+    }
+    Ok(words)
+}
+
+fn status_of(rt: &HostRuntime) -> u8 {
+    let Ok(words) = words_of(rt) else {
+        return NO_WORDS;
+    };
+    let mut files = DiskFiles::new(rt);
+    let mut out = StdSink::new(rt.stdout());
+    let mut err = StdSink::new(rt.stderr());
+    phpsa(rt.alloc(), &words, &mut files, &mut out, &mut err).code()
+}
+
+fn main(rt: HostRuntime) -> ExitCode {
+    ExitCode::from(status_of(&rt))
+}

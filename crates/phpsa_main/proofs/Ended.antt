@@ -1,0 +1,150 @@
+-- What was found and what was written make an ending.
+use Rattle.std.proofs.Common.{◌≡◌, ◌<◌, ◌≤◌, ◌⊎◌, inl, inr, ℕ, List, [], Option, None, Some, length, take, refl, sym, ap, ◌∙◌, subst, arith}
+use Rattle.std.proofs.Math.Seq.{take-length}
+use Rattle.std.specs.Io.KnownBytes.{Appends}
+use Rattle.io_edge.specs.Counts.{Rises}
+use Rattle.io_edge.specs.Told.{Tells, HasAtLeast}
+use Rattle.io_edge.specs.Taken.{AppendsPrefix}
+use Rattle.phpsa_main.specs.declared.exit.Exit.{Exit}
+use Rattle.phpsa_main.specs.declared.exit.Exit.TheVariants.{Done, No, NotBuilt, Missing, ReadFault, WriteFault, Usage, Input, Memory}
+use Rattle.phpsa_main.specs.declared.verdict.Answer.{Answer}
+use Rattle.phpsa_main.specs.declared.verdict.Answer.TheVariants as Answer
+use Rattle.phpsa_main.specs.declared.verdict.Refusal.{Refusal}
+use Rattle.phpsa_main.specs.declared.verdict.Refusal.TheVariants as Refusal
+use Rattle.phpsa_main.specs.Words.{Asks, asked_file}
+use Rattle.phpsa_main.specs.Texts.{yes_text, no_text, error_text}
+use Rattle.phpsa_main.specs.Decision.{IsDecided, EachIsValid, IsCounterexample}
+use Rattle.phpsa_main.specs.Call.{Call, Output, Gains, GainsPrefix, GainsNothing, Fails}
+use Rattle.phpsa_main.specs.Endings.{AsksScript, HasCause, IsAnswer, IsError, EndsDone, EndsNo, EndsRefused, KeepsOut, EndsByOut, EndsByErr, EndsMemory, Ends}
+use Rattle.phpsa_main.specs.Steps.{answer_status, refusal_status, refusal_len, answer_text, AnswersFile, RefusesFile, Puts, WritesAnswer, FailsOnOut, WantsMemory, Reports, ReportsRefusal}
+use Rattle.phpsa_main.proofs.Asked.{asks, asks_none}
+
+-- a whole text is a prefix of itself
+whole : (old new : Option (List ℕ)) (text : List ℕ) → Appends old new text → AppendsPrefix old new text
+whole old new text h = (length text, omega arith, subst (λ bytes. Appends old new bytes) (sym (take-length text)) h)
+
+refused_as : (call : Call) (status : Exit) (file : List ℕ) (len : ℕ) → HasCause call status file len → GainsNothing call.out → Gains call.err (error_text status file len) → Ends call status
+refused_as call Done file len cause out err = absurd cause
+refused_as call No file len cause out err = absurd cause
+refused_as call NotBuilt file len cause out err = record { file = file; len = len; cause = cause; out = out; err = err }
+refused_as call Missing file len cause out err = record { file = file; len = len; cause = cause; out = out; err = err }
+refused_as call ReadFault file len cause out err = record { file = file; len = len; cause = cause; out = out; err = err }
+refused_as call WriteFault file len cause out err = absurd cause
+refused_as call Usage file len cause out err = record { file = file; len = len; cause = cause; out = out; err = err }
+refused_as call Input file len cause out err = record { file = file; len = len; cause = cause; out = out; err = err }
+refused_as call Memory file len cause out err = record {
+  text = error_text Memory file len;
+  due = (Memory, file, len, cause, refl);
+  out = inl out;
+  err = whole _ _ _ err;
+}
+
+-- `err` failed, or found no memory
+failed_as : (call : Call) (status : Exit) (file : List ℕ) (len : ℕ) → HasCause call status file len → KeepsOut call → Fails call.err → GainsPrefix call.err (error_text status file len) → Ends call WriteFault
+failed_as call status file len cause out failed err = inr (record {
+  text = error_text status file len;
+  due = (status, file, len, cause, refl);
+  failed = failed;
+  out = out;
+  err = err;
+})
+
+wanting : (call : Call) (status : Exit) (file : List ℕ) (len : ℕ) → HasCause call status file len → KeepsOut call → GainsPrefix call.err (error_text status file len) → Ends call Memory
+wanting call status file len cause out err = record {
+  text = error_text status file len;
+  due = (status, file, len, cause, refl);
+  out = out;
+  err = err;
+}
+
+put_as : (call : Call) (wanted status : Exit) (file : List ℕ) (len : ℕ) → HasCause call wanted file len → GainsNothing call.out → Puts call.err (error_text wanted file len) wanted status → Ends call status
+put_as call wanted status file len cause out (inl (is, gains)) =
+    subst (Ends call) (sym is) (refused_as call wanted file len cause out gains)
+put_as call wanted status file len cause out (inr (inl (is, failed, prefix))) =
+    subst (Ends call) (sym is) (failed_as call wanted file len cause (inl out) failed prefix)
+put_as call wanted status file len cause out (inr (inr (is, prefix))) =
+    subst (Ends call) (sym is) (wanting call wanted file len cause (inl out) prefix)
+
+-- want of memory, where `out` may have a prefix of the answer
+memory_as : (call : Call) (status : Exit) → KeepsOut call → Puts call.err (error_text Memory [] 0) Memory status → Ends call status
+memory_as call status out (inl (is, gains)) =
+    subst (Ends call) (sym is) (wanting call Memory [] 0 tt out (whole _ _ _ gains))
+memory_as call status out (inr (inl (is, failed, prefix))) =
+    subst (Ends call) (sym is) (failed_as call Memory [] 0 tt out failed prefix)
+memory_as call status out (inr (inr (is, prefix))) =
+    subst (Ends call) (sym is) (wanting call Memory [] 0 tt out prefix)
+
+refusal_as : (call : Call) (file : List ℕ) (refusal : Refusal) (status : Exit) → HasCause call (refusal_status refusal) file (refusal_len refusal) → GainsNothing call.out → ReportsRefusal file refusal call.err status → Ends call status
+refusal_as call file refusal status cause out (inl puts) = put_as call (refusal_status refusal) status file (refusal_len refusal) cause out puts
+refusal_as call file refusal status cause out (inr puts) = memory_as call status (inl out) puts
+
+-- the words ask for nothing
+pub unasked : (call : Call) (status : Exit) → asked_file call.words ≡ None → GainsNothing call.out → ReportsRefusal [] Refusal.Usage call.err status → Ends call status
+unasked call status none out puts = refusal_as call [] Refusal.Usage status (asks_none call.words none) out puts
+
+cause_of : (call : Call) (file : List ℕ) (refusal : Refusal) → Asks call.words file
+    → RefusesFile (call.files.content file) call.files.faults call.files.faults' call.files.misses call.files.misses' refusal
+    → HasCause call (refusal_status refusal) file (refusal_len refusal)
+cause_of call file Refusal.NotBuilt asked (script, told, undecided) = (script, record { asked = asked; told = told }, undecided)
+cause_of call file Refusal.Missing asked (rises, none) = (asked, rises, none)
+cause_of call file Refusal.ReadFault asked rises = (asked, rises)
+cause_of call file (Refusal.TooLong len) asked (over, least) = (asked, over, least)
+cause_of call file Refusal.Usage asked none = absurd none
+cause_of call file Refusal.Memory asked free = tt
+
+-- the file is refused: `read` is the name that it is read under, and `shown` the one that is written
+pub refused : (call : Call) (file read shown : List ℕ) (refusal : Refusal) (status : Exit) → asked_file call.words ≡ Some file
+    → read ≡ file → shown ≡ file
+    → RefusesFile (call.files.content read) call.files.faults call.files.faults' call.files.misses call.files.misses' refusal
+    → GainsNothing call.out → ReportsRefusal shown refusal call.err status → Ends call status
+refused call file read shown refusal status asked read_is shown_is refuses out puts =
+    let named : asked_file call.words ≡ Some shown = asked ∙ ap Some (sym shown_is) in
+    let same : read ≡ shown = read_is ∙ sym shown_is in
+    let refuses_shown : RefusesFile (call.files.content shown) call.files.faults call.files.faults' call.files.misses call.files.misses' refusal =
+    subst (λ name. RefusesFile (call.files.content name) call.files.faults call.files.faults' call.files.misses call.files.misses' refusal) same refuses in
+    refusal_as call shown refusal status (cause_of call shown refusal (asks call.words shown named) refuses_shown) out puts
+
+answer_due : (call : Call) (file : List ℕ) (answer : Answer) → Asks call.words file → AnswersFile (call.files.content file) answer → IsAnswer call (answer_text answer)
+answer_due call file Answer.Yes asked (script, told, valid) = (file, script, record { asked = asked; told = told }, inl (valid, refl))
+answer_due call file (Answer.No page) asked (script, told, invalid) = (file, script, record { asked = asked; told = told }, inr (page, invalid, refl))
+
+written_as : (call : Call) (file : List ℕ) (answer : Answer) → Asks call.words file → AnswersFile (call.files.content file) answer → Gains call.out (answer_text answer) → GainsNothing call.err → Ends call (answer_status answer)
+written_as call file Answer.Yes asked (script, told, valid) out err = record {
+  file = file;
+  script = script;
+  asked = record { asked = asked; told = told };
+  valid = valid;
+  out = out;
+  err = err;
+}
+written_as call file (Answer.No page) asked (script, told, invalid) out err = record {
+  file = file;
+  script = script;
+  page = page;
+  asked = record { asked = asked; told = told };
+  invalid = invalid;
+  out = out;
+  err = err;
+}
+
+answered_as : (call : Call) (file : List ℕ) (answer : Answer) (status : Exit) → Asks call.words file
+    → AnswersFile (call.files.content file) answer → Reports answer call.out call.err status → Ends call status
+answered_as call file answer status asked answers (inl w) =
+    subst (Ends call) (sym w.status_is) (written_as call file answer asked answers w.out_gains w.err_gains)
+answered_as call file answer status asked answers (inr (inl w)) =
+    subst (Ends call) (sym w.status_is) (inl (record {
+      text = answer_text answer;
+      due = answer_due call file answer asked answers;
+      failed = w.failed;
+      out = w.out_gains;
+      err = w.err_gains;
+    }))
+answered_as call file answer status asked answers (inr (inr w)) =
+    memory_as call status (elim w.out_gains [ inl nothing ↦ inl nothing | inr prefix ↦ inr (answer_text answer, answer_due call file answer asked answers, prefix) ]) w.err_puts
+
+-- the file is answered, as it was read under the name `read`
+pub answered : (call : Call) (file read : List ℕ) (answer : Answer) (status : Exit) → asked_file call.words ≡ Some file
+    → read ≡ file → AnswersFile (call.files.content read) answer → Reports answer call.out call.err status → Ends call status
+answered call file read answer status asked read_is answers reports =
+    answered_as call file answer status (asks call.words file asked)
+    (subst (λ name. AnswersFile (call.files.content name) answer) read_is answers) reports

@@ -1,0 +1,67 @@
+-- The definitions of `specs/` on worked examples and on near misses.
+use Rattle.std.proofs.Common.{◌≡◌, ◌++◌, ℕ, List, [], ◌∷◌, Option, None, Some, codes, replicate, refl, lit≤}
+use Rattle.std.specs.Fmt.{digits}
+use Rattle.phpsa_main.specs.declared.exit.Exit.TheVariants.{NotBuilt, WriteFault, Usage, Input, Memory}
+use Rattle.phpsa_main.specs.Words.{Asks, asked_file}
+use Rattle.phpsa_main.specs.Texts.{yes_text, no_text, error_text, status_of}
+use Rattle.phpsa_main.specs.Call.{output_of, Gains, GainsPrefix, GainsNothing, Fails}
+
+-- the words that ask for a file
+asks : Asks (codes "check" ∷ codes "t.php" ∷ codes "--dtd" ∷ codes "mini" ∷ []) (codes "t.php")
+asks = record { written = refl; named = refl }
+
+finds : asked_file (codes "check" ∷ codes "t.php" ∷ codes "--dtd" ∷ codes "mini" ∷ []) ≡ Some (codes "t.php")
+finds = refl
+
+-- one word less, one more, another command, another definition, an empty file, and an option for a file ask for none
+too_few : asked_file (codes "check" ∷ codes "t.php" ∷ codes "--dtd" ∷ []) ≡ None
+too_few = refl
+
+too_many : asked_file (codes "check" ∷ codes "t.php" ∷ codes "--dtd" ∷ codes "mini" ∷ codes "mini" ∷ []) ≡ None
+too_many = refl
+
+another_command : asked_file (codes "run" ∷ codes "t.php" ∷ codes "--dtd" ∷ codes "mini" ∷ []) ≡ None
+another_command = refl
+
+another_definition : asked_file (codes "check" ∷ codes "t.php" ∷ codes "--dtd" ∷ codes "strict" ∷ []) ≡ None
+another_definition = refl
+
+no_file : asked_file (codes "check" ∷ [] ∷ codes "--dtd" ∷ codes "mini" ∷ []) ≡ None
+no_file = refl
+
+an_option : asked_file (codes "check" ∷ codes "-t" ∷ codes "--dtd" ∷ codes "mini" ∷ []) ≡ None
+an_option = refl
+
+-- the texts
+a_yes : yes_text ≡ 121 ∷ 101 ∷ 115 ∷ 10 ∷ []
+a_yes = refl
+
+a_no : no_text (codes "<p>b") ≡ codes "no" ++ 10 ∷ (codes "page 4" ++ 10 ∷ (codes "<p>b" ++ 10 ∷ []))
+unfolding digits
+a_no = refl
+
+a_long_file : error_text Input (codes "t.php") 1048577 ≡ codes "phpsa: TooLong t.php 1048577" ++ 10 ∷ []
+unfolding digits
+a_long_file = refl
+
+a_form : error_text NotBuilt (codes "t.php") 0 ≡ codes "phpsa: NotBuilt t.php" ++ 10 ∷ []
+a_form = refl
+
+a_fault : error_text WriteFault [] 0 ≡ codes "phpsa: WriteFault" ++ 10 ∷ []
+a_fault = refl
+
+a_status : status_of Usage ≡ 9
+a_status = refl
+
+-- an output gains a text, a prefix of it, or nothing
+gains : Gains (output_of (Some []) (Some (codes "yes")) 0 0) (codes "yes")
+gains = refl
+
+gains_a_prefix : GainsPrefix (output_of (Some (codes "a")) (Some (codes "aye")) 0 1) (codes "yes")
+gains_a_prefix = (2, lit≤ tt, refl)
+
+gains_nothing : GainsNothing (output_of (Some (codes "a")) (Some (codes "a")) 0 1)
+gains_nothing = refl
+
+fails : Fails (output_of None None 3 4)
+fails = lit≤ tt

@@ -1,0 +1,7 @@
+pub mod Asked
+pub mod Ended
+pub mod Answers
+pub mod Soundness
+pub mod Plain
+pub mod Loosely
+mod Examples

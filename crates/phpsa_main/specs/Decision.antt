@@ -1,0 +1,28 @@
+-- Which scripts are decided, which pages they may print, and which of these are valid by the smallest document type.
+use Rattle.std.specs.Prelude.{ℕ, List}
+use Rattle.php_syntax.specs.Trees.{PlainFile}
+use Rattle.first_form.specs.Trees.{IsFirstForm}
+use Rattle.first_form.specs.Loose.{Loose}
+use Rattle.dtd_model.specs.Valid.{Valid}
+use Rattle.dtd_model.specs.Mini.{mini_table}
+
+-- the script is decided: it is of the first form
+pub record IsDecided (script : List ℕ) : Type 0 where
+  pub program : PlainFile
+  pub reading : IsFirstForm script program
+
+-- a loose page of the script: one that its program may print where each branch may go either way
+pub record IsLoosePage (script page : List ℕ) : Type 0 where
+  pub program : PlainFile
+  pub reading : IsFirstForm script program
+  pub loose : Loose program page
+
+-- the script is decided, and each loose page of it is valid
+pub record EachIsValid (script : List ℕ) : Type 0 where
+  pub decided : IsDecided script
+  pub valid : (page : List ℕ) → IsLoosePage script page → Valid mini_table page
+
+-- this loose page of the script is not valid
+pub record IsCounterexample (script page : List ℕ) : Type 0 where
+  pub loose : IsLoosePage script page
+  pub invalid : Valid mini_table page → ⊥

@@ -1,0 +1,103 @@
+-- How a call of the program ends: for each status its cause, and what is left on the outputs.
+use Rattle.std.specs.Prelude.{◌≡◌, ◌<◌, ◌⊎◌, ℕ, List, Option, None, Some, ⊤}
+use Rattle.io_edge.specs.Counts.{Rises}
+use Rattle.io_edge.specs.Told.{Tells, HasAtLeast}
+use Rattle.phpsa_main.specs.declared.exit.Exit.{Exit}
+use Rattle.phpsa_main.specs.declared.exit.Exit.TheVariants.{Done, No, NotBuilt, Missing, ReadFault, WriteFault, Usage, Input, Memory}
+use Rattle.phpsa_main.specs.Words.{Asks}
+use Rattle.phpsa_main.specs.Texts.{yes_text, no_text, error_text}
+use Rattle.phpsa_main.specs.Decision.{IsDecided, EachIsValid, IsCounterexample}
+use Rattle.phpsa_main.specs.Call.{Call, Gains, GainsPrefix, GainsNothing, Fails}
+
+-- the words ask for this file, and where the source tells of it, it holds this script
+pub record AsksScript (call : Call) (file script : List ℕ) : Type 0 where
+  pub asked : Asks call.words file
+  pub told : Tells (call.files.content file) (Some script)
+
+-- the cause of a status with a text on `err`, for the file and the length that the text names
+abbrev pub HasCause : Call → Exit → List ℕ → ℕ → Type 0
+HasCause call Done file len = ⊥
+HasCause call No file len = ⊥
+HasCause call NotBuilt file len = (script : List ℕ) × AsksScript call file script × (IsDecided script → ⊥)
+HasCause call Missing file len =
+    Asks call.words file × Rises call.files.misses call.files.misses' × Tells (call.files.content file) None
+HasCause call ReadFault file len = Asks call.words file × Rises call.files.faults call.files.faults'
+HasCause call WriteFault file len = ⊥
+HasCause call Usage file len = (asked : List ℕ) → Asks call.words asked → ⊥
+HasCause call Input file len = Asks call.words file × (1048576 < len) × HasAtLeast (call.files.content file) len
+HasCause call Memory file len = ⊤
+
+-- the text that is due on `out`: the answer for the script
+abbrev pub IsAnswer : Call → List ℕ → Type 0
+IsAnswer call text = (file : List ℕ) × (script : List ℕ) × AsksScript call file script
+    × ((EachIsValid script × (text ≡ yes_text)) ⊎ ((page : List ℕ) × IsCounterexample script page × (text ≡ no_text page)))
+
+-- the text that is due on `err`: that of a status that has its cause
+abbrev pub IsError : Call → List ℕ → Type 0
+IsError call text = (status : Exit) × (file : List ℕ) × (len : ℕ) × HasCause call status file len × (text ≡ error_text status file len)
+
+-- 0: every loose page is valid
+pub record EndsDone (call : Call) : Type 0 where
+  pub file : List ℕ
+  pub script : List ℕ
+  pub asked : AsksScript call file script
+  pub valid : EachIsValid script
+  pub out : Gains call.out yes_text
+  pub err : GainsNothing call.err
+
+-- 1: a loose page is not valid, and is written
+pub record EndsNo (call : Call) : Type 0 where
+  pub file : List ℕ
+  pub script : List ℕ
+  pub page : List ℕ
+  pub asked : AsksScript call file script
+  pub invalid : IsCounterexample script page
+  pub out : Gains call.out (no_text page)
+  pub err : GainsNothing call.err
+
+-- a status with a text on `err`: it has its cause
+pub record EndsRefused (call : Call) (status : Exit) : Type 0 where
+  pub file : List ℕ
+  pub len : ℕ
+  pub cause : HasCause call status file len
+  pub out : GainsNothing call.out
+  pub err : Gains call.err (error_text status file len)
+
+-- nothing stands on `out`, or, where it found no memory while an answer was written, a prefix of the answer
+abbrev pub KeepsOut : Call → Type 0
+KeepsOut call = GainsNothing call.out ⊎ ((text : List ℕ) × IsAnswer call text × GainsPrefix call.out text)
+
+-- 8: `out` failed while an answer was written, and `err` holds what it took of the text of this status
+pub record EndsByOut (call : Call) : Type 0 where
+  pub text : List ℕ
+  pub due : IsAnswer call text
+  pub failed : Fails call.out
+  pub out : GainsPrefix call.out text
+  pub err : GainsPrefix call.err (error_text WriteFault text 0)
+
+-- 8: `err` failed while a text was written on it
+pub record EndsByErr (call : Call) : Type 0 where
+  pub text : List ℕ
+  pub due : IsError call text
+  pub failed : Fails call.err
+  pub out : KeepsOut call
+  pub err : GainsPrefix call.err text
+
+-- 12: memory was wanting, at any place
+pub record EndsMemory (call : Call) : Type 0 where
+  pub text : List ℕ
+  pub due : IsError call text
+  pub out : KeepsOut call
+  pub err : GainsPrefix call.err text
+
+-- how the call ends with each status
+abbrev pub Ends : Call → Exit → Type 0
+Ends call Done = EndsDone call
+Ends call No = EndsNo call
+Ends call NotBuilt = EndsRefused call NotBuilt
+Ends call Missing = EndsRefused call Missing
+Ends call ReadFault = EndsRefused call ReadFault
+Ends call WriteFault = EndsByOut call ⊎ EndsByErr call
+Ends call Usage = EndsRefused call Usage
+Ends call Input = EndsRefused call Input
+Ends call Memory = EndsMemory call

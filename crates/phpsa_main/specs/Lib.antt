@@ -1,0 +1,9 @@
+pub mod Words
+pub mod Texts
+pub mod Decision
+pub mod Pages
+pub mod Call
+pub mod Endings
+pub mod Answered
+pub mod Sound
+pub mod Steps

@@ -1,0 +1,45 @@
+// The status of a call.
+ghost use Rattle.std.specs.Prelude.{◌≡◌};
+ghost use Rattle.phpsa_main.specs.Texts.{status_of};
+
+/// How a call ended: a variant for each status.
+#[derive(Clone, Copy, Debug, PartialEq, Eq)]
+pub enum Exit {
+    /// 0: every loose page is valid.
+    Done,
+    /// 1: a loose page is not valid.
+    No,
+    /// 3: the script is of a form that is not decided yet.
+    NotBuilt,
+    /// 6: there is no file of this name.
+    Missing,
+    /// 7: the source of the files failed.
+    ReadFault,
+    /// 8: an output failed.
+    WriteFault,
+    /// 9: the words are not those of a command.
+    Usage,
+    /// 11: the file is over the limit of 1,048,576 bytes.
+    Input,
+    /// 12: no memory was left.
+    Memory,
+}
+
+impl Exit {
+    /// The status of the process.
+    pub fn code(self) -> u8
+        ensures { result ≡ status_of self }
+    {
+        match self {
+            Exit::Done => 0,
+            Exit::No => 1,
+            Exit::NotBuilt => 3,
+            Exit::Missing => 6,
+            Exit::ReadFault => 7,
+            Exit::WriteFault => 8,
+            Exit::Usage => 9,
+            Exit::Input => 11,
+            Exit::Memory => 12,
+        }
+    }
+}

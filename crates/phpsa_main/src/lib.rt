@@ -1,0 +1,84 @@
+//! The program over any files and outputs: the words of the command line, the check of a script, and the texts and
+//! statuses that tell of it.
+//!
+//! The contract of `phpsa` cites three definitions. `Ends` says for each status why it came and what is left on the
+//! outputs. `IsAnswered` says when there is an answer, and which. `IsSound` is the headline: after a yes, every run
+//! of the script that ends prints a valid page. Below stand `io_edge` with files and outputs, `first_form` with the
+//! scripts that are decided, their meaning and their loose pages, and `dtd_model` and `page_check` with valid pages.
+#![tactic(auto)]
+
+mod check;
+mod decide;
+mod exit;
+mod report;
+#[cfg(test)]
+mod tests;
+mod texts;
+mod verdict;
+mod words;
+
+ghost use Rattle.std.specs.Prelude.{map, string_bytes};
+ghost use Rattle.phpsa_main.specs.Call.{source_of, output_of, call_of};
+ghost use Rattle.phpsa_main.specs.Endings.{Ends};
+ghost use Rattle.phpsa_main.specs.Answered.{IsAnswered};
+ghost use Rattle.phpsa_main.specs.Sound.{IsSound};
+
+use check::check;
+pub use exit::Exit;
+use first_form::laws::ended_runs_print_loose_pages;
+use io_edge::{Files, Sink};
+use report::{refuse, report};
+use std::alloc::Global;
+use verdict::Refusal;
+use words::asked;
+
+/// Does what the words after the program's name ask for, and gives the status that the program ends with.
+///
+/// The only words are `check FILE --dtd mini`, where FILE is not empty and does not begin with `-`. The file is read
+/// once. An answer is written on `out`: `yes`, or `no`, the length of a loose page that is not valid, and its first
+/// 1,048,576 bytes. Every other ending is written on `err`, as `phpsa: KIND` with the file's name where there is one.
+pub fn phpsa<F: Files, O: Sink, E: Sink>(
+    alloc: Global,
+    words: &Vec<String>,
+    files: &mut F,
+    out: &mut O,
+    err: &mut E,
+) -> Exit
+    ensures ends { Ends (call_of (map (λ word. string_bytes word) words.now.items)
+        (source_of (F.content files.old) (F.faults files.old) (F.faults files.new) (F.misses files.old) (F.misses files.new))
+        (output_of (O.written out.old) (O.written out.new) (O.faults out.old) (O.faults out.new))
+        (output_of (E.written err.old) (E.written err.new) (E.faults err.old) (E.faults err.new))) result }
+    ensures answered { IsAnswered (call_of (map (λ word. string_bytes word) words.now.items)
+        (source_of (F.content files.old) (F.faults files.old) (F.faults files.new) (F.misses files.old) (F.misses files.new))
+        (output_of (O.written out.old) (O.written out.new) (O.faults out.old) (O.faults out.new))
+        (output_of (E.written err.old) (E.written err.new) (E.faults err.old) (E.faults err.new))) result }
+    ensures sound { IsSound (call_of (map (λ word. string_bytes word) words.now.items)
+        (source_of (F.content files.old) (F.faults files.old) (F.faults files.new) (F.misses files.old) (F.misses files.new))
+        (output_of (O.written out.old) (O.written out.new) (O.faults out.old) (O.faults out.new))
+        (output_of (E.written err.old) (E.written err.new) (E.faults err.old) (E.faults err.new))) result }
+{
+    ended_runs_print_loose_pages();
+    run(alloc, words, files, out, err)
+}
+
+/// The same, with the one clause from which the others follow.
+fn run<F: Files, O: Sink, E: Sink>(
+    alloc: Global,
+    words: &Vec<String>,
+    files: &mut F,
+    out: &mut O,
+    err: &mut E,
+) -> Exit
+    ensures { Ends (call_of (map (λ word. string_bytes word) words.now.items)
+        (source_of (F.content files.old) (F.faults files.old) (F.faults files.new) (F.misses files.old) (F.misses files.new))
+        (output_of (O.written out.old) (O.written out.new) (O.faults out.old) (O.faults out.new))
+        (output_of (E.written err.old) (E.written err.new) (E.faults err.old) (E.faults err.new))) result }
+{
+    match asked(words) {
+        None => refuse(alloc, b"", Refusal::Usage, err),
+        Some(file) => match check(alloc, file.as_str(), files) {
+            Ok(answer) => report(alloc, &answer, out, err),
+            Err(refusal) => refuse(alloc, file.as_bytes(), refusal, err),
+        },
+    }
+}

@@ -1,0 +1,70 @@
+// What is written of an answer or a refusal, and the status that the call ends with.
+ghost use Rattle.std.specs.Prelude.{◌≡◌};
+ghost use Rattle.io_edge.specs.Taken.{AppendsPrefix};
+ghost use Rattle.phpsa_main.specs.Steps.{Puts, Reports, ReportsRefusal};
+ghost use Rattle.phpsa_main.specs.Call.{output_of};
+
+use crate::Exit;
+use crate::texts::{NO_MEMORY, WRITE_FAULT, answer_text, refusal_text};
+use crate::verdict::{Answer, Refusal};
+use io_edge::{Sink, SinkFault};
+use std::alloc::Global;
+use text_base::NoMemory;
+
+/// Puts a text, after which the call ends with this status; or with that of the fault.
+fn put<S: Sink>(sink: &mut S, text: &[u8], status: Exit) -> Exit
+    ensures { Puts (output_of (S.written sink.old) (S.written sink.new) (S.faults sink.old) (S.faults sink.new))
+        text.now status result }
+{
+    match sink.put(text) {
+        Ok(()) => status,
+        Err(SinkFault::Failed) => Exit::WriteFault,
+        Err(SinkFault::Memory) => Exit::Memory,
+    }
+}
+
+/// Puts as much of a text as the sink takes. It is not told if that is not all.
+fn try_put<S: Sink>(sink: &mut S, text: &[u8])
+    ensures { AppendsPrefix (S.written sink.old) (S.written sink.new) text.now }
+{
+    match sink.put(text) {
+        Ok(()) => (),
+        Err(_) => (),
+    }
+}
+
+/// Writes a refusal of this file.
+pub(crate) fn refuse<E: Sink>(alloc: Global, file: &[u8], refusal: Refusal, err: &mut E) -> Exit
+    ensures { ReportsRefusal file.now refusal
+        (output_of (E.written err.old) (E.written err.new) (E.faults err.old) (E.faults err.new)) result }
+{
+    match refusal_text(alloc, file, refusal) {
+        Ok(text) => put(err, text.as_slice(), refusal.status()),
+        Err(NoMemory) => put(err, NO_MEMORY, Exit::Memory),
+    }
+}
+
+/// Writes an answer.
+pub(crate) fn report<O: Sink, E: Sink>(
+    alloc: Global,
+    answer: &Answer,
+    out: &mut O,
+    err: &mut E,
+) -> Exit
+    ensures { Reports answer.now
+        (output_of (O.written out.old) (O.written out.new) (O.faults out.old) (O.faults out.new))
+        (output_of (E.written err.old) (E.written err.new) (E.faults err.old) (E.faults err.new)) result }
+{
+    let text = match answer_text(alloc, answer) {
+        Ok(text) => text,
+        Err(NoMemory) => return put(err, NO_MEMORY, Exit::Memory),
+    };
+    match out.put(text.as_slice()) {
+        Ok(()) => answer.status(),
+        Err(SinkFault::Failed) => {
+            try_put(err, WRITE_FAULT);
+            Exit::WriteFault
+        }
+        Err(SinkFault::Memory) => put(err, NO_MEMORY, Exit::Memory),
+    }
+}

@@ -1,0 +1,267 @@
+// The program on files and outputs in memory.
+use crate::{Exit, phpsa};
+use io_edge::{FILE_LIMIT, MemFiles, MemSink};
+use std::alloc::Global;
+use std::test::Fail;
+use text_base::Bytes;
+
+/// A script whose second arm leaves a paragraph open.
+const OPEN: &str =
+    "<html><body><?php if (isset($_GET['name'])) { echo '<p>a</p>'; } else { echo '<p>b'; } ?></body></html>";
+
+/// The same with both paragraphs closed.
+const CLOSED: &str =
+    "<html><body><?php if (isset($_GET['name'])) { echo '<p>a</p>'; } else { echo '<p>b</p>'; } ?></body></html>";
+
+const NO_OPEN: &str = "no\npage 30\n<html><body><p>b</body></html>\n";
+
+const CHECK: [&str; 4] = ["check", "t.php", "--dtd", "mini"];
+
+/// The room of the two outputs, and whether the first call of the files fails.
+#[derive(Clone, Copy)]
+struct Outside {
+    out: Option<u64>,
+    err: Option<u64>,
+    fails: bool,
+}
+
+const QUIET: Outside = Outside {
+    out: None,
+    err: None,
+    fails: false,
+};
+
+/// How a call ended, and what it wrote.
+#[derive(Drop)]
+struct Ending {
+    exit: Exit,
+    out: MemSink,
+    err: MemSink,
+}
+
+/// Runs the words where the one file `t.php` has these bytes.
+fn run_over(
+    alloc: Global,
+    words: &[&str],
+    script: Bytes,
+    outside: Outside,
+) -> Result<Ending, Fail> {
+    let mut all = Vec::new(alloc);
+    for word in words {
+        all.push(String::from_str(alloc, word)?)?;
+    }
+    let mut held = Vec::new(alloc);
+    held.push((Bytes::from_slice(alloc, b"t.php")?, script))?;
+    let mut fail = Vec::new(alloc);
+    if outside.fails {
+        fail.push(0)?;
+    }
+    let mut files = MemFiles::new(held, fail);
+    let mut out = MemSink::new(alloc, outside.out);
+    let mut err = MemSink::new(alloc, outside.err);
+    let exit = phpsa(alloc, &all, &mut files, &mut out, &mut err);
+    Ok(Ending { exit, out, err })
+}
+
+fn run(alloc: Global, words: &[&str], script: &str, outside: Outside) -> Result<Ending, Fail> {
+    run_over(
+        alloc,
+        words,
+        Bytes::from_slice(alloc, script.as_bytes())?,
+        outside,
+    )
+}
+
+#[test]
+fn answers_for_scripts(rt: HostRuntime) -> Result<(), Fail> {
+    for (script, exit, out) in [
+        (OPEN, Exit::No, NO_OPEN),
+        (CLOSED, Exit::Done, "yes\n"),
+        ("<html><body><p>x</p></body></html>", Exit::Done, "yes\n"),
+        (
+            "<html><body><p>x</body></html>",
+            Exit::No,
+            "no\npage 30\n<html><body><p>x</body></html>\n",
+        ),
+        ("", Exit::No, "no\npage 0\n\n"),
+        (
+            "<html><?php echo '<body>'; echo '</body>'; ?>\n</html>",
+            Exit::Done,
+            "yes\n",
+        ),
+        (
+            "<html><body><?php\n",
+            Exit::No,
+            "no\npage 12\n<html><body>\n",
+        ),
+    ] {
+        let ending = run(rt.alloc(), &CHECK, script, QUIET)?;
+        assert_eq!(rt; ending.exit, exit, "{script}");
+        assert_eq!(rt; ending.out.written(), out.as_bytes(), "{script}");
+        assert_eq!(rt; ending.err.written(), b"".as_slice(), "{script}");
+    }
+    Ok(())
+}
+
+#[test]
+fn refuses_with_a_text(rt: HostRuntime) -> Result<(), Fail> {
+    let failing = Outside {
+        fails: true,
+        ..QUIET
+    };
+    for (script, file, outside, exit, err) in [
+        (
+            "<?= 1 ?>",
+            "t.php",
+            QUIET,
+            Exit::NotBuilt,
+            "phpsa: NotBuilt t.php\n",
+        ),
+        (
+            "<?php echo 1;",
+            "t.php",
+            QUIET,
+            Exit::NotBuilt,
+            "phpsa: NotBuilt t.php\n",
+        ),
+        (
+            "a&b",
+            "t.php",
+            QUIET,
+            Exit::NotBuilt,
+            "phpsa: NotBuilt t.php\n",
+        ),
+        (
+            OPEN,
+            "a.php",
+            QUIET,
+            Exit::Missing,
+            "phpsa: Missing a.php\n",
+        ),
+        (
+            OPEN,
+            "t.php",
+            failing,
+            Exit::ReadFault,
+            "phpsa: ReadFault t.php\n",
+        ),
+    ] {
+        let words = ["check", file, "--dtd", "mini"];
+        let ending = run(rt.alloc(), &words, script, outside)?;
+        assert_eq!(rt; ending.exit, exit, "{script}");
+        assert_eq!(rt; ending.out.written(), b"".as_slice(), "{script}");
+        assert_eq!(rt; ending.err.written(), err.as_bytes(), "{script}");
+    }
+    Ok(())
+}
+
+#[test]
+fn refuses_a_long_file(rt: HostRuntime) -> Result<(), Fail> {
+    let alloc = rt.alloc();
+    let script = Bytes::from_vec(vec![in alloc; b'a'; FILE_LIMIT + 1]?);
+    let ending = run_over(alloc, &CHECK, script, QUIET)?;
+    assert_eq!(rt; ending.exit, Exit::Input);
+    assert_eq!(rt; ending.out.written(), b"".as_slice());
+    assert_eq!(rt;
+        ending.err.written(),
+        b"phpsa: TooLong t.php 1048577\n".as_slice()
+    );
+    Ok(())
+}
+
+#[test]
+fn other_words_are_no_use(rt: HostRuntime) -> Result<(), Fail> {
+    let lists: [&[&str]; 11] = [
+        &[],
+        &["check"],
+        &["check", "t.php"],
+        &["check", "t.php", "--dtd"],
+        &["Check", "t.php", "--dtd", "mini"],
+        &["check", "", "--dtd", "mini"],
+        &["check", "-t.php", "--dtd", "mini"],
+        &["check", "t.php", "--dtd=", "mini"],
+        &["check", "t.php", "--dtd", "strict"],
+        &["check", "t.php", "--dtd", "mini", "mini"],
+        &["--dtd", "mini", "check", "t.php"],
+    ];
+    for words in lists {
+        let ending = run(rt.alloc(), words, CLOSED, QUIET)?;
+        assert_eq!(rt; ending.exit, Exit::Usage);
+        assert_eq!(rt; ending.out.written(), b"".as_slice());
+        assert_eq!(rt; ending.err.written(), b"phpsa: Usage\n".as_slice());
+    }
+    Ok(())
+}
+
+#[test]
+fn every_room_of_out(rt: HostRuntime) -> Result<(), Fail> {
+    let text = NO_OPEN.as_bytes();
+    for room in 0..=text.len() {
+        let narrow = Outside {
+            out: Some(room as u64),
+            ..QUIET
+        };
+        let ending = run(rt.alloc(), &CHECK, OPEN, narrow)?;
+        let (exit, err) = if room < text.len() {
+            (Exit::WriteFault, "phpsa: WriteFault\n")
+        } else {
+            (Exit::No, "")
+        };
+        assert_eq!(rt; ending.exit, exit, "room {room}");
+        assert_eq!(rt; ending.out.written(), &text[..room], "room {room}");
+        assert_eq!(rt; ending.err.written(), err.as_bytes(), "room {room}");
+    }
+    Ok(())
+}
+
+#[test]
+fn every_room_of_err(rt: HostRuntime) -> Result<(), Fail> {
+    let text = b"phpsa: NotBuilt t.php\n".as_slice();
+    for room in 0..=text.len() {
+        let narrow = Outside {
+            err: Some(room as u64),
+            ..QUIET
+        };
+        let ending = run(rt.alloc(), &CHECK, "<?= 1 ?>", narrow)?;
+        let exit = if room < text.len() {
+            Exit::WriteFault
+        } else {
+            Exit::NotBuilt
+        };
+        assert_eq!(rt; ending.exit, exit, "room {room}");
+        assert_eq!(rt; ending.out.written(), b"".as_slice(), "room {room}");
+        assert_eq!(rt; ending.err.written(), &text[..room], "room {room}");
+    }
+    Ok(())
+}
+
+#[test]
+fn both_outputs_fail(rt: HostRuntime) -> Result<(), Fail> {
+    let narrow = Outside {
+        out: Some(5),
+        err: Some(3),
+        fails: false,
+    };
+    let ending = run(rt.alloc(), &CHECK, OPEN, narrow)?;
+    assert_eq!(rt; ending.exit, Exit::WriteFault);
+    assert_eq!(rt; ending.out.written(), b"no\npa".as_slice());
+    assert_eq!(rt; ending.err.written(), b"php".as_slice());
+    Ok(())
+}
+
+#[test]
+fn statuses(rt: HostRuntime) {
+    for (exit, code) in [
+        (Exit::Done, 0),
+        (Exit::No, 1),
+        (Exit::NotBuilt, 3),
+        (Exit::Missing, 6),
+        (Exit::ReadFault, 7),
+        (Exit::WriteFault, 8),
+        (Exit::Usage, 9),
+        (Exit::Input, 11),
+        (Exit::Memory, 12),
+    ] {
+        assert_eq!(rt; exit.code(), code);
+    }
+}

@@ -1,0 +1,1 @@
+<html><body><?php if (isset($_GET['name'])) { echo '<p>a</p>'; } else { echo '<p>b</p>'; } ?></body></html>
