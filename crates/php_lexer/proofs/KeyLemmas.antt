@@ -1,8 +1,7 @@
 -- What the row of the subscripts comes to.
-use Rattle.std.proofs.Common.{◌≡◌, ◌∙◌, ℕ, ◌+◌, ◌<◌, ◌≤◌, List, [], ◌∷◌, ◌++◌, length, drop, map, refl, sym, ap, Option, Some, None, Bool, cond}
-use Rattle.php_syntax.specs.declared.token.PartKey.{PartKey}
-use Rattle.php_syntax.specs.Tokens.{PlainKey, plain_key}
-use Rattle.php_syntax.specs.Rows.{Row, whole, broken, endless, Found, item, wrong, over, missing, row}
+use Rattle.std.proofs.Common.{◌≡◌, ◌∙◌, ℕ, List, [], ◌∷◌, ◌++◌, map, refl, sym, ap, Some, None}
+use Rattle.php_syntax.specs.Tokens.{PlainKey}
+use Rattle.php_syntax.specs.Rows.{Row, whole, broken, endless, missing, row}
 use Rattle.php_syntax.specs.Texts.{subscript_at, subscripts, whole_of}
 use Rattle.std.proofs.lemmas.List.{map-append}
 use Rattle.php_lexer.proofs.RowLemmas.{spoiled}

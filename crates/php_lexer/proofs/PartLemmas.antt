@@ -1,11 +1,11 @@
 -- Templates in a loop over their places: the parts so far, the bytes behind them, and the row that is left.
-use Rattle.std.proofs.Common.{◌≡◌, ◌∙◌, ℕ, zero, suc, ◌+◌, ◌<◌, ◌≤◌, Bool, true, false, List, [], ◌∷◌, ◌++◌, length, drop, refl, sym, ap, arith, append_assoc, add_assoc, zero-add}
-use Rattle.std.proofs.lemmas.List.{append-nil, length-drop, drop-drop}
-use Rattle.php_syntax.specs.Tokens.{PlainPart, PlainKey, PlainKind, plain_part, read_part, text, template}
+use Rattle.std.proofs.Common.{◌≡◌, ◌∙◌, ℕ, ◌+◌, ◌<◌, ◌≤◌, true, false, List, [], ◌∷◌, ◌++◌, length, drop, refl, sym, ap, arith, append_assoc, add_assoc, zero-add}
+use Rattle.std.proofs.lemmas.List.{length-drop, drop-drop}
+use Rattle.php_syntax.specs.Tokens.{PlainPart, PlainKey, plain_part, read_part, template}
 use Rattle.php_syntax.specs.Rows.{Found, item, wrong, over, missing, Row, whole, broken, endless, then_row, row}
 use Rattle.php_syntax.specs.Texts.{Unit_of, byte, reads, with_byte, parts_of, kind_of_parts}
 use Rattle.php_lexer.specs.Templates.{parts_row, has_end_of, bytes_part, parts_with, plain_with}
-use Rattle.php_lexer.proofs.RowLemmas.{row_at_item, row_at_wrong, row_at_over, row_at_missing, drop_past}
+use Rattle.php_lexer.proofs.RowLemmas.{row_at_item, row_at_wrong, row_at_over, row_at_missing}
 
 -- bytes before parts
 abbrev pub before_parts : List ℕ → List PlainPart → List PlainPart

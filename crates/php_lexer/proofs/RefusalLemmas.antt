@@ -1,5 +1,5 @@
 -- A fault is the cause of its refusal.
-use Rattle.std.proofs.Common.{◌≡◌, ◌∙◌, ℕ, List, length, refl, ap, inl}
+use Rattle.std.proofs.Common.{◌≡◌, ◌∙◌, ℕ, List, ap}
 use Rattle.php_syntax.specs.Steps as faults
 use Rattle.php_syntax.specs.Cuts.{Breaks}
 use Rattle.php_syntax.proofs.CutLemmas.{break_once}

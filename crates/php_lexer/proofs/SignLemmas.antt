@@ -1,5 +1,5 @@
 -- The first sign that fits, in a loop over the signs.
-use Rattle.std.proofs.Common.{◌≡◌, ℕ, zero, suc, ◌+◌, ◌<◌, ◌≤◌, Bool, true, false, cond, List, [], ◌∷◌, length, get_or, drop, refl, arith, add-one, Option, None, codes}
+use Rattle.std.proofs.Common.{◌≡◌, ℕ, zero, suc, ◌+◌, ◌<◌, ◌≤◌, cond, List, [], ◌∷◌, length, get_or, drop, refl, arith, add-one, None}
 use Rattle.php_syntax.specs.declared.token.Sign.{Sign}
 use Rattle.php_syntax.specs.Tokens.{sign}
 use Rattle.php_syntax.specs.Characters.{begins}

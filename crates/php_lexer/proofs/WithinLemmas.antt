@@ -1,5 +1,5 @@
 -- What is within a bound is within a larger one.
-use Rattle.std.proofs.Common.{ℕ, ◌<◌, ◌≤◌, Result, Ok, Err, arith}
+use Rattle.std.proofs.Common.{ℕ, ◌≤◌, Result, Ok, Err, arith}
 use Rattle.std.specs.Result.{IfOk}
 use Rattle.php_lexer.specs.declared.found.Found.{Found}
 use Rattle.php_lexer.specs.declared.found.Found.TheVariants.{Item, Wrong, Over, Missing}

@@ -1,7 +1,7 @@
 -- A file is cut in one way at most, and breaks the grammar in one way at most, and never both.
-use Rattle.std.proofs.Common.{◌≡◌, ◌∙◌, ℕ, ◌+◌, List, [], ◌∷◌, drop, refl, sym, ap, Option, Some, None}
-use Rattle.php_syntax.specs.Tokens.{PlainToken, PlainKind}
-use Rattle.php_syntax.specs.Steps.{Mode, outside, Fault, Step, goes, refuses}
+use Rattle.std.proofs.Common.{◌≡◌, ◌∙◌, ℕ, ◌+◌, List, [], ◌∷◌, drop, refl, sym, ap, Some, None}
+use Rattle.php_syntax.specs.Tokens.{PlainToken}
+use Rattle.php_syntax.specs.Steps.{Mode, Fault, Step, goes, refuses}
 use Rattle.php_syntax.specs.Cuts.{step, CutsFrom, at_end, after_token, after_blank, BreaksFrom, broken_here, broken_later}
 
 -- how the bytes behind a step are cut, by the step

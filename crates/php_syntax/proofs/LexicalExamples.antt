@@ -1,8 +1,8 @@
 -- The lexical grammar on worked examples and near misses outside templates.
 use Rattle.std.proofs.Common.{◌≡◌, ℕ, zero, suc, ◌+◌, List, [], ◌∷◌, ◌++◌, map, drop, refl, Option, Some, None, pos, codes}
 use Rattle.php_syntax.specs.declared.token.Sign.TheVariants as s
-use Rattle.php_syntax.specs.Tokens.{PlainToken, PlainKind, inline, variable, name, integer, text, template, sign, plain_part, read_part, text_key, int_key, var_key}
-use Rattle.php_syntax.specs.Steps.{Mode, outside, inside, Fault, bad_byte, unclosed, float, big_int, escape, goes, refuses}
+use Rattle.php_syntax.specs.Tokens.{PlainToken, PlainKind, inline, variable, name, integer, text, sign}
+use Rattle.php_syntax.specs.Steps.{Mode, outside, inside, Fault, bad_byte, unclosed, float, big_int, goes, refuses}
 use Rattle.php_syntax.specs.Cuts.{step, opener_step, lexeme_step, between_step, word_step, text_step, mark_step, blank_step, line_comment_step, block_comment_step, leaving_step}
 use Rattle.php_syntax.specs.Words.{name_step, variable_step, number_step}
 use Rattle.php_syntax.specs.Signs.{sign_step, cast_step}

@@ -1,15 +1,15 @@
 -- The lexical grammar on worked examples and near misses of templates, heredocs and nowdocs.
-use Rattle.std.proofs.Common.{◌≡◌, ℕ, zero, suc, ◌+◌, List, [], ◌∷◌, ◌++◌, map, drop, refl, Option, Some, None, pos, codes}
+use Rattle.std.proofs.Common.{◌≡◌, [], ◌∷◌, ◌++◌, map, refl, pos, codes}
 use Rattle.php_syntax.specs.declared.token.Sign.TheVariants as s
-use Rattle.php_syntax.specs.Tokens.{PlainToken, PlainKind, inline, variable, name, integer, text, template, sign, plain_part, read_part, text_key, int_key, var_key}
-use Rattle.php_syntax.specs.Steps.{Mode, outside, inside, Fault, bad_byte, unclosed, float, big_int, escape, goes, refuses}
+use Rattle.php_syntax.specs.Tokens.{name, text, template, sign, plain_part, read_part, text_key, int_key, var_key}
+use Rattle.php_syntax.specs.Steps.{unclosed, escape}
 use Rattle.php_syntax.specs.Cuts.{step, opener_step, lexeme_step, between_step, word_step, text_step, mark_step, blank_step, line_comment_step, block_comment_step, leaving_step}
 use Rattle.php_syntax.specs.Words.{name_step, variable_step, number_step}
 use Rattle.php_syntax.specs.Signs.{sign_step, cast_step}
 use Rattle.php_syntax.specs.Rows.{row}
 use Rattle.php_syntax.specs.Texts.{single_step, double_step, simple_key, braced_key, subscript_at, subscripts, escape_at, dollar_at, brace_at, unit_at}
 use Rattle.php_syntax.specs.Heredocs.{heredoc_step, nowdoc_step, indented_at, body_step}
-use Rattle.php_syntax.proofs.LexicalExamples.{Answer, cut_to, stopped, and_token, answer, piece, tok}
+use Rattle.php_syntax.proofs.LexicalExamples.{cut_to, stopped, piece, tok}
 
 -- the escapes of a text in double quotes; every other one is refused
 escapes : map piece ((codes "\"\\n\\r\\t\\\\\\$\\\"\"")

@@ -1,5 +1,5 @@
 -- How a file is cut into its tokens (PHP manual, "Basic syntax": PHP tags, instruction separation, comments).
-use Rattle.std.specs.Prelude.{◌≡◌, ℕ, ◌+◌, ◌<◌, Bool, not, ◌&&◌, ◌||◌, nat_lt, if◌then◌else◌, List, [], ◌∷◌, map, take, drop, length, is_some, Option, Some, None, codes, bytes_eq}
+use Rattle.std.specs.Prelude.{◌≡◌, ℕ, ◌+◌, Bool, not, ◌&&◌, ◌||◌, nat_lt, if◌then◌else◌, List, [], ◌∷◌, map, take, drop, length, is_some, Option, Some, None, codes, bytes_eq}
 use Rattle.php_syntax.specs.declared.token.Sign.TheVariants.{Semicolon}
 use Rattle.php_syntax.specs.Tokens.{PlainToken, PlainKind, inline, name, sign}
 use Rattle.php_syntax.specs.Characters.{begins, head_is, is_gap, is_line_end, is_blank, lower, before, newline_length}

@@ -1,5 +1,5 @@
 -- Heredocs and nowdocs (PHP manual, "Types: Strings": heredoc, nowdoc). Their lines end with LF or CR LF.
-use Rattle.std.specs.Prelude.{ℕ, zero, suc, ◌+◌, min, Bool, true, false, not, ◌&&◌, ◌||◌, ◌==◌, nat_lt, if◌then◌else◌, List, [], ◌∷◌, take, drop, length, Option, Some, None, codes}
+use Rattle.std.specs.Prelude.{ℕ, ◌+◌, min, Bool, not, ◌&&◌, nat_lt, if◌then◌else◌, List, [], take, drop, length, Option, Some, None, codes}
 use Rattle.std.specs.List.{prefix_len}
 use Rattle.php_syntax.specs.Tokens.{text}
 use Rattle.php_syntax.specs.Characters.{begins, head_is, is_gap, is_name_byte, before, name_length}

@@ -1,6 +1,6 @@
 -- The signs and the casts (PHP manual, "Operators", "Types: Type juggling").
-use Rattle.std.specs.Prelude.{ℕ, ◌+◌, ◌&&◌, if◌then◌else◌, List, [], ◌∷◌, map, take, drop, length, Option, Some, None, codes, bytes_eq}
-use Rattle.std.specs.List.{prefix_len, find}
+use Rattle.std.specs.Prelude.{ℕ, ◌+◌, if◌then◌else◌, List, [], ◌∷◌, map, take, drop, length, Option, Some, None, codes, bytes_eq}
+use Rattle.std.specs.List.{prefix_len}
 use Rattle.php_syntax.specs.declared.token.Sign.{Sign}
 use Rattle.php_syntax.specs.declared.token.Sign.TheVariants as s
 use Rattle.php_syntax.specs.Tokens.{sign}

@@ -1,5 +1,5 @@
 -- Quoted texts, and what stands in a template (PHP manual, "Types: Strings": single quoted, double quoted, variable interpolation).
-use Rattle.std.specs.Prelude.{ℕ, zero, suc, ◌+◌, ℤ, pos, Bool, true, false, not, ◌&&◌, ◌||◌, ◌==◌, nat_lt, nat_le, if◌then◌else◌, List, [], ◌∷◌, take, drop, length, Option, Some, None, codes}
+use Rattle.std.specs.Prelude.{ℕ, ◌+◌, pos, Bool, true, false, ◌&&◌, ◌||◌, ◌==◌, nat_lt, if◌then◌else◌, List, [], ◌∷◌, take, drop, length, Option, Some, None, codes}
 use Rattle.php_syntax.specs.Tokens.{PlainKind, PlainPart, PlainKey, text_key, int_key, var_key, plain_part, read_part, text, template}
 use Rattle.php_syntax.specs.Characters.{begins, head_is, is_high, name_length, digits_length, value_of, largest}
 use Rattle.php_syntax.specs.Words.{has_leading_zero}

@@ -1,5 +1,5 @@
 -- Names, variables and numbers (PHP manual, "Variables: Basics", "Types: Integers", "Types: Floating point numbers").
-use Rattle.std.specs.Prelude.{ℕ, ◌+◌, pos, Bool, false, not, ◌&&◌, ◌||◌, ◌==◌, nat_le, nat_lt, if◌then◌else◌, List, take, drop, length, Option, Some, None, codes}
+use Rattle.std.specs.Prelude.{ℕ, ◌+◌, pos, Bool, ◌&&◌, ◌||◌, ◌==◌, nat_lt, if◌then◌else◌, List, take, drop, length, Option, None, codes}
 use Rattle.php_syntax.specs.Tokens.{name, variable, integer}
 use Rattle.php_syntax.specs.Characters.{is_digit, is_name_byte, begins, head_is, name_length, digits_length, value_of, largest}
 use Rattle.php_syntax.specs.Steps.{Step, bad_byte, float, big_int, gives, faults}

@@ -1,5 +1,5 @@
-use Rattle.std.proofs.Common.{◌≡◌, ◌+◌, drop, codes}
-use Rattle.php_syntax.specs.Characters.{before, begins}
+use Rattle.std.proofs.Common.{◌≡◌, ◌+◌, drop}
+use Rattle.php_syntax.specs.Characters.{before}
 use Rattle.php_syntax.specs.Cuts.{ends_line}
 use Rattle.php_lexer.proofs.blanks.line_length.Given as goal
 

@@ -1,4 +1,4 @@
-use Rattle.std.proofs.Common.{◌≡◌, ◌+◌, ◌<◌, ◌≤◌, length, map, sym, ◌∙◌, arith}
+use Rattle.std.proofs.Common.{map, sym, ◌∙◌, arith}
 use Rattle.php_syntax.specs.Tokens.{plain_part_of}
 use Rattle.php_syntax.specs.Texts.{unit_at}
 use Rattle.php_lexer.specs.Templates.{enclosure_of, unit_of}

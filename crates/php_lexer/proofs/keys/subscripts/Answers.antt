@@ -1,4 +1,4 @@
-use Rattle.std.proofs.Common.{◌<◌, ◌≤◌, length, refl, map, arith}
+use Rattle.std.proofs.Common.{map, arith}
 use Rattle.php_syntax.specs.Tokens.{plain_key}
 use Rattle.php_syntax.specs.Texts.{subscript_at}
 use Rattle.php_lexer.proofs.RowLemmas.{row_item, row_over, row_wrong, row_missing, row_cut_off}

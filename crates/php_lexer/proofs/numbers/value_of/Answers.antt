@@ -1,6 +1,4 @@
-use Rattle.std.proofs.Common.{◌≡◌, ◌+◌, ◌-◌, ◌*◌, ◌<◌, length, get_or, take, arith}
-use Rattle.std.proofs.lemmas.Grind.{common_steps}
-use Rattle.php_syntax.specs.Characters.{value_of}
+use Rattle.std.proofs.Common.{◌+◌, arith}
 use Rattle.php_lexer.proofs.ValueLemmas.{value_of_take, value_of_more}
 use Rattle.php_lexer.proofs.numbers.value_of.Goals as goal
 

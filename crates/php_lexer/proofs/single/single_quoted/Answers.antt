@@ -1,4 +1,4 @@
-use Rattle.std.proofs.Common.{◌<◌, ◌≤◌, length, refl, arith}
+use Rattle.std.proofs.Common.{refl, arith}
 use Rattle.php_syntax.specs.Texts.{single_at}
 use Rattle.php_lexer.proofs.RowLemmas.{row_item, row_over, row_cut_off}
 use Rattle.php_lexer.proofs.single.single_quoted.Goals as goal
