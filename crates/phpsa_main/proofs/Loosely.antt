@@ -20,7 +20,7 @@ ReadsPages script pages = (program : PlainFile) × IsFirstForm script program ×
 
 one_program : OneReading → (script : List ℕ) (a b : PlainFile) → IsFirstForm script a → IsFirstForm script b → a ≡ b
 one_program law script a b (parts, has, is) (other_parts, other_has, other_is) =
-  sym is ∙ (ap file_tree (law script parts other_parts has other_has) ∙ other_is)
+    sym is ∙ (ap file_tree (law script parts other_parts has other_has) ∙ other_is)
 
 pub plain : (script : List ℕ) (pages : Pages) → ReadsPages script pages → ArePlain pages
 plain script pages (program, reading, are) = are_plain pages are.first_plain are.second_plain
@@ -29,7 +29,7 @@ pub each_valid : OneReading → (script : List ℕ) (pages : Pages) → ReadsPag
 each_valid law script pages (program, reading, are) valid = record {
   decided = record { program = program; reading = reading };
   valid = λ page loose. valid page ((are.exact page).0
-    (subst (λ (p : PlainFile). Loose p page) (one_program law script loose.program program loose.reading reading) loose.loose));
+      (subst (λ (p : PlainFile). Loose p page) (one_program law script loose.program program loose.reading reading) loose.loose));
 }
 
 pub counterexample : (script : List ℕ) (pages : Pages) (page : List ℕ) → ReadsPages script pages → IsInvalidAmong pages page → IsCounterexample script page

@@ -23,11 +23,11 @@ parts_of_both false false e = cc
 plain_text : (bytes : List ℕ) → Each is_plain bytes → list_all is_page_byte bytes ≡ true
 plain_text [] e = refl
 plain_text (b ∷ bytes) e =
-  let (first, more) = parts_of_both (is_plain b) (list_all is_plain bytes) e in
-  both (is_page_byte b) (list_all is_page_byte bytes) (plain_byte b first) (plain_text bytes more)
+    let (first, more) = parts_of_both (is_plain b) (list_all is_plain bytes) e in
+    both (is_page_byte b) (list_all is_page_byte bytes) (plain_byte b first) (plain_text bytes more)
 
 pub are_plain : (pages : Pages) → Each is_plain pages.first → IfSome pages.second (λ page. Each is_plain page) → ArePlain pages
 are_plain pages first second page (inl is) = plain_text page (subst (Each is_plain) (sym is) first)
 are_plain pages first second page (inr is) =
-  let plain : IfSome (Some page) (λ page. Each is_plain page) = subst (λ (o : Option (List ℕ)). IfSome o (λ page. Each is_plain page)) is second in
-  plain_text page plain
+    let plain : IfSome (Some page) (λ page. Each is_plain page) = subst (λ (o : Option (List ℕ)). IfSome o (λ page. Each is_plain page)) is second in
+    plain_text page plain

@@ -107,7 +107,9 @@ fn main(rt: HostRuntime) -> Result<()> {
     if asked.is_some() {
         let pushes = array.pushes / plain.pushes;
         let reads = array.reads / plain.reads;
-        println!(rt; "pushes: {pushes:.2} times a vector and a map; reads: {reads:.2} times a map")?;
+        println!(rt;
+            "pushes: {pushes:.2} times a vector and a map; reads: {reads:.2} times a map"
+        )?;
     }
     Ok(())
 }
