@@ -1,14 +1,17 @@
 -- Worked pages and near misses.
-use Rattle.std.proofs.Common.{◌≡◌, ℕ, true, false, List, [], ◌∷◌, ◌++◌, refl, ap, codes, None}
+use Rattle.std.proofs.Common.{◌≡◌, ℕ, Bool, true, false, List, [], ◌∷◌, ◌++◌, map, refl, ap, codes, Option, None, Some}
 use Rattle.std.specs.Char.{encode_utf8}
-use Rattle.dtd_model.specs.Characters.{is_name, is_name_token}
+use Rattle.dtd_model.specs.declared.dtd.DoctypeRule.TheVariants.{Strict}
+use Rattle.dtd_model.specs.Characters.{is_name, is_name_token, holds, same_letters}
+use Rattle.dtd_model.specs.References.{decimal, hexadecimal, entity, is_reference, is_known}
 use Rattle.dtd_model.specs.Matches.{model_matches, matches, may_be_empty, after}
 use Rattle.dtd_model.specs.Table.{Model, one, sequence, choice, optional, any_number, at_least_one, no_models, more_models, cdata, id, one_of, implied, fixed, nothing, text_and, children}
-use Rattle.dtd_model.specs.PageTree.{Attribute, Tag, IsTag, Nodes, no_nodes, character, element, empty_element, nodes_then, tag_then, begins_section_end}
-use Rattle.dtd_model.specs.Attributes.{words_of, has_kind, has_fixed, is_declared, is_once, must_stand}
+use Rattle.dtd_model.specs.PageTree.{value_character, Attribute, Tag, IsTag, Nodes, no_nodes, character, reference, section, comment, instruction, element, empty_element, nodes_then, tag_then, begins_section_end}
+use Rattle.dtd_model.specs.Attributes.{words_of, has_kind, has_fixed, is_declared, is_once, must_stand, AttributesFit}
+use Rattle.dtd_model.specs.Prolog.{Declaration, is_in_order, public, Doctype, doctype_then, Prolog, no_doctype, with_doctype, prolog_then, Page, mark_then, begin_then, MeetsRule}
 use Rattle.dtd_model.specs.Valid.{Valid, find_rule, place_of, may_hold, element_names}
-use Rattle.dtd_model.proofs.Encoded.{encoded_some}
 use Rattle.dtd_model.specs.Mini.{mini_table, plain_rule}
+use Rattle.dtd_model.proofs.Encoded.{encoded_some}
 
 -- Content models.
 
@@ -64,14 +67,92 @@ a_token = refl
 pub the_words : words_of (codes "  ab c ") ≡ codes "ab" ∷ codes "c" ∷ []
 the_words = refl
 
-pub one_choice : has_kind (one_of (codes "ltr" ∷ codes "rtl" ∷ [])) (codes " rtl ") ≡ true
+pub one_choice : has_kind (one_of (codes "ltr" ∷ codes "rtl" ∷ [])) (map value_character (codes " rtl ")) ≡ true
 one_choice = refl
 
-pub no_choice : has_kind (one_of (codes "ltr" ∷ codes "rtl" ∷ [])) (codes "ltr rtl") ≡ false
+pub no_choice : has_kind (one_of (codes "ltr" ∷ codes "rtl" ∷ [])) (map value_character (codes "ltr rtl")) ≡ false
 no_choice = refl
 
-pub two_names : has_kind id (codes "a b") ≡ false
+pub two_names : has_kind id (map value_character (codes "a b")) ≡ false
 two_names = refl
+
+-- An attribute with this value, and another place for white space.
+abbrev attribute : List ℕ → List ℕ → Attribute
+attribute name value = record { space = codes " "; name = name; before_equals = []; after_equals = codes " "; quote = 34; value = map value_character value }
+
+-- References.
+
+pub letter : is_reference (decimal (codes "65")) ≡ true
+letter = refl
+
+pub in_hexadecimal : is_reference (hexadecimal (codes "20aC")) ≡ true
+in_hexadecimal = refl
+
+pub no_character : is_reference (decimal (codes "0")) ≡ false
+no_character = refl
+
+pub no_digit : is_reference (hexadecimal []) ≡ false
+no_digit = refl
+
+pub too_large : is_reference (hexadecimal (codes "110000")) ≡ false
+too_large = refl
+
+pub five : is_known [] (entity (codes "apos")) ≡ true
+five = refl
+
+pub not_declared : is_known (codes "nbsp" ∷ []) (entity (codes "foo")) ≡ false
+not_declared = refl
+
+-- Comments, instructions, sections and the prolog.
+
+pub remarks : nodes_then (comment (codes " a ") (instruction (codes "t") (codes " ") (codes "b") (section (codes "<") (reference (decimal (codes "9")) no_nodes)))) [] ≡ codes "<!-- a --><?t b?><![CDATA[<]]>&#9;"
+unfolding encode_utf8
+remarks = refl
+
+-- `<!--->` and `<!-- a--->` are no comments
+pub ends_in_dash : holds (codes "--") (codes " a-" ++ codes "-") ≡ true
+ends_in_dash = refl
+
+pub may_begin_with_dash : holds (codes "--") (codes "-a" ++ codes "-") ≡ false
+may_begin_with_dash = refl
+
+pub reserved_target : same_letters (codes "xMl") (codes "xml") ≡ true
+reserved_target = refl
+
+pub another_target : same_letters (codes "xml-stylesheet") (codes "xml") ≡ false
+another_target = refl
+
+pub no_reference_between : (may_hold (children (one 0))).text ≡ false
+no_reference_between = refl
+
+pub no_remark_in_empty : (may_hold nothing).remarks ≡ false
+no_remark_in_empty = refl
+
+abbrev strict_type : Doctype
+strict_type = record {
+  space = codes " ";
+  identifier = public (codes " ") (codes " ") (record { quote = 34; chars = codes "-//W3C//DTD XHTML 1.0 Strict//EN" }) (codes " ") (record { quote = 34; chars = codes "s.dtd" });
+  end_space = [];
+}
+
+pub strict_spelled : doctype_then strict_type [] ≡ codes "<!DOCTYPE html PUBLIC \"-//W3C//DTD XHTML 1.0 Strict//EN\" \"s.dtd\">"
+unfolding encode_utf8
+strict_spelled = refl
+
+pub strict_meets : MeetsRule Strict (with_doctype no_nodes strict_type)
+strict_meets = refl
+
+pub strict_wants_one : MeetsRule Strict no_doctype → ⊥
+strict_wants_one h = h
+
+pub version_and_encoding : is_in_order (attribute (codes "version") (codes "1.0") ∷ attribute (codes "encoding") (codes "utf-8") ∷ []) ≡ true
+version_and_encoding = refl
+
+pub encoding_alone : is_in_order (attribute (codes "encoding") (codes "UTF-8") ∷ []) ≡ false
+encoding_alone = refl
+
+pub wrong_order : is_in_order (attribute (codes "version") (codes "1.0") ∷ attribute (codes "standalone") (codes "no") ∷ attribute (codes "encoding") (codes "UTF-8") ∷ []) ≡ false
+wrong_order = refl
 
 -- The smallest document type, and near misses.
 
@@ -90,13 +171,13 @@ three_paragraphs = refl
 pub paragraph_in_paragraph : matches 3 (text_and []) (2 ∷ []) ≡ false
 paragraph_in_paragraph = refl
 
-pub text_in_body : may_hold (children (any_number (one 2))) 120 ≡ false
+pub text_in_body : (may_hold (children (any_number (one 2)))).characters 120 ≡ false
 text_in_body = refl
 
-pub line_in_body : may_hold (children (any_number (one 2))) 10 ≡ true
+pub line_in_body : (may_hold (children (any_number (one 2)))).characters 10 ≡ true
 line_in_body = refl
 
-pub blank_in_empty : may_hold nothing 32 ≡ false
+pub blank_in_empty : (may_hold nothing).characters 32 ≡ false
 blank_in_empty = refl
 
 pub unknown_element : find_rule mini_table.elements (codes "b") ≡ None
@@ -119,9 +200,6 @@ no_section_end = refl
 
 -- Attributes.
 
-abbrev attribute : List ℕ → List ℕ → Attribute
-attribute name value = record { space = codes " "; name = name; before_equals = []; after_equals = codes " "; quote = 34; value = value }
-
 pub tag_with_attribute : 60 ∷ tag_then (record { name = codes "p"; attributes = attribute (codes "id") (codes "a") ∷ []; space = codes " " }) (codes "/>") ≡ codes "<p id= \"a\" />"
 unfolding encode_utf8
 tag_with_attribute = refl
@@ -132,7 +210,7 @@ undeclared_attribute = refl
 pub bad_id : is_declared (record { name = codes "id"; kind = id; presence = implied } ∷ []) (attribute (codes "id") (codes "1a")) ≡ false
 bad_id = refl
 
-pub other_fixed_value : has_fixed (fixed (codes "a")) (codes "b") ≡ false
+pub other_fixed_value : has_fixed (fixed (codes "a")) (map value_character (codes "b")) ≡ false
 unfolding encode_utf8
 other_fixed_value = refl
 
@@ -161,6 +239,19 @@ pub spelled : nodes_then (page_of (around (codes "p") (character 120 no_nodes)))
 unfolding encode_utf8
 spelled = refl
 
+-- nothing stands before it
+abbrev bare : Nodes → Page
+bare nodes = record { mark = false; declaration = None; prolog = no_doctype; nodes = nodes }
+
+no_attributes : {name : List ℕ} → AttributesFit [] name [] []
+no_attributes = record { known = refl; declared = refl; once = refl; there = refl }
+
+no_encoding : (c : ℕ) (rest : List ℕ) → encode_utf8 c ++ rest ≡ [] → ⊥
+no_encoding c rest e =
+    let first = encoded_some c in
+    let seen = ap (λ (bs : List ℕ). bs ++ rest) first.2 in
+    cc
+
 is_plain_tag : (name : List ℕ) → is_name name ≡ true → IsTag (tag name)
 is_plain_tag name named = record { named = named; attributes = tt; blank_space = refl }
 
@@ -168,33 +259,57 @@ is_plain_tag name named = record { named = named; attributes = tt; blank_space =
 pub paragraph : Valid mini_table (codes "<html><body><p>x</p></body></html>")
 unfolding mini_table encode_utf8 may_be_empty after
 paragraph = record {
-  page = page_of (around (codes "p") (character 120 no_nodes));
+  page = bare (page_of (around (codes "p") (character 120 no_nodes)));
   spells = record {
-    lawful = (is_plain_tag (codes "html") refl, (is_plain_tag (codes "body") refl, (is_plain_tag (codes "p") refl, (refl, refl, tt), refl, tt), refl, tt), refl, tt);
+    begin = tt;
+    prolog = tt;
+    nodes = (is_plain_tag (codes "html") refl, (is_plain_tag (codes "body") refl, (is_plain_tag (codes "p") refl, (refl, refl, tt), refl, tt), refl, tt), refl, tt);
     spelled = refl;
   };
-  doctype = refl;
-  is_page = record { root = refl; round = tt };
+  doctype = tt;
+  before = tt;
+  root = record { root = refl; around = tt };
   fits = (
-    record { rule = plain_rule _ _; declared = refl; attributes = record { declared = refl; once = refl; there = refl }; characters = tt; elements = refl },
+    record { rule = plain_rule _ _; declared = refl; attributes = no_attributes; besides = tt; elements = refl },
     (
-      record { rule = plain_rule _ _; declared = refl; attributes = record { declared = refl; once = refl; there = refl }; characters = tt; elements = refl },
-      (record { rule = plain_rule _ _; declared = refl; attributes = record { declared = refl; once = refl; there = refl }; characters = (refl, tt); elements = refl }, tt, tt),
+      record { rule = plain_rule _ _; declared = refl; attributes = no_attributes; besides = tt; elements = refl },
+      (record { rule = plain_rule _ _; declared = refl; attributes = no_attributes; besides = (refl, tt); elements = refl }, tt, tt),
       tt,
     ),
     tt,
   );
 }
 
+some_nodes : (nodes : Nodes) (b : ℕ) (bytes : List ℕ) → nodes_then nodes (b ∷ bytes) ≡ [] → ⊥
+some_nodes no_nodes b bytes e = cc
+some_nodes (character c more) b bytes e = no_encoding c _ e
+some_nodes (reference (decimal ds) more) b bytes e = cc
+some_nodes (reference (hexadecimal ds) more) b bytes e = cc
+some_nodes (reference (entity name) more) b bytes e = cc
+some_nodes (section chars more) b bytes e = cc
+some_nodes (comment chars more) b bytes e = cc
+some_nodes (instruction target space chars more) b bytes e = cc
+some_nodes (element t inside space more) b bytes e = cc
+some_nodes (empty_element t more) b bytes e = cc
+
+no_root : (nodes : Nodes) → nodes_then nodes [] ≡ [] → element_names nodes ≡ codes "html" ∷ [] → ⊥
+no_root no_nodes e root = cc
+no_root (character c more) e root = no_encoding c _ e
+no_root (reference (decimal ds) more) e root = cc
+no_root (reference (hexadecimal ds) more) e root = cc
+no_root (reference (entity name) more) e root = cc
+no_root (section chars more) e root = cc
+no_root (comment chars more) e root = cc
+no_root (instruction target space chars more) e root = cc
+no_root (element t inside space more) e root = cc
+no_root (empty_element t more) e root = cc
+
+no_page : (mark : Bool) (d : Option Declaration) (p : Prolog) (nodes : Nodes) → mark_then mark (begin_then d (prolog_then p (nodes_then nodes []))) ≡ [] → element_names nodes ≡ codes "html" ∷ [] → ⊥
+no_page true d p nodes e root = cc
+no_page false (Some d) p nodes e root = cc
+no_page false None (with_doctype before d) nodes e root = some_nodes before _ _ e
+no_page false None no_doctype nodes e root = no_root nodes e root
+
 -- no page without bytes
 pub empty_page : Valid mini_table [] → ⊥
-empty_page v = none v.page v.spells.spelled v.is_page.root
-  where
-    none : (page : Nodes) → nodes_then page [] ≡ [] → element_names page ≡ codes "html" ∷ [] → ⊥
-    none no_nodes e root = cc
-    none (character c more) e root =
-        let first = encoded_some c in
-        let seen = ap (λ (bs : List ℕ). bs ++ nodes_then more []) first.2 in
-        cc
-    none (element t inside space more) e root = cc
-    none (empty_element t more) e root = cc
+empty_page v = no_page v.page.mark v.page.declaration v.page.prolog v.page.nodes v.spells.spelled v.root.root

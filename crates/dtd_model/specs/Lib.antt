@@ -1,7 +1,9 @@
-pub mod Characters
-pub mod Table
-pub mod Matches
-pub mod PageTree
 pub mod Attributes
-pub mod Valid
+pub mod Characters
+pub mod Matches
 pub mod Mini
+pub mod PageTree
+pub mod Prolog
+pub mod References
+pub mod Table
+pub mod Valid

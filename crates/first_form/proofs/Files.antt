@@ -1,10 +1,10 @@
 -- PHP pieces, inline text, and files.
-use Rattle.std.proofs.Common.{◌≡◌, ℕ, zero, suc, ◌+◌, ◌≤◌, ◌<◌, Bool, true, false, cond, not, ◌&&◌, ◌||◌, List, [], ◌∷◌, ◌++◌, Option, Some, None, refl, sym, ap, ◌∙◌, subst, inl, inr, arith, length, append_assoc, append-nil, length-append}
+use Rattle.std.proofs.Common.{◌≡◌, ℕ, zero, suc, ◌≤◌, ◌<◌, Bool, true, false, cond, not, List, [], ◌∷◌, ◌++◌, Option, Some, None, refl, sym, ap, ◌∙◌, subst, inl, inr, arith, length, append_assoc, append-nil, length-append}
 use Rattle.std.specs.Prelude.{◌⊎◌, ◌≢◌, IsTrue, codes, ◌==◌, is_some}
 use Rattle.std.specs.List.{list_all, AllByRecursion}
-use Rattle.std.proofs.lemmas.Bool.{ne_eqb, eqb-true, eqb-false, eq-eqb, and_parts, and_from, or_parts, not-false, cases_Bool}
-use Rattle.first_form.specs.FirstForm.{Each, is_plain, is_blank, Mark, spelling, Statement, statement_marks, marks_of, IsLawful, IsSpaced, IsPhp, IsCloser, File, text_alone, text_and_php, text_php_and, Spells, Part, inline, php, inline_part, php_parts, parts_of}
-use Rattle.first_form.specs.Reading.{◌>>=◌, front_of, rest_of, strip, after, many, statement_at, echo_or, echo_at, quoted_at, if_at, if_head_at, if_start_at, words_at, opener_at, past_blank, closer_at, past_newline, ends_text, text_of, past_text, Step, broken, ended, onward, close_step, end_step, php_step, text_step, step_at, go_on, file_within, file_at}
+use Rattle.std.proofs.lemmas.Bool.{ne_eqb, eqb-true, eqb-false, and_parts, and_from, or_parts, not-false}
+use Rattle.first_form.specs.FirstForm.{Each, is_plain, is_blank, spelling, Statement, statement_marks, marks_of, IsLawful, IsSpaced, IsPhp, IsCloser, File, text_alone, text_and_php, text_php_and, Spells, Part, inline_part, php_parts, parts_of}
+use Rattle.first_form.specs.Steps.Reading.{◌>>=◌, front_of, rest_of, strip, after, many, statement_at, echo_or, echo_at, if_at, if_head_at, if_start_at, words_at, opener_at, past_blank, closer_at, past_newline, ends_text, text_of, past_text, Step, broken, ended, onward, close_step, end_step, php_step, text_step, step_at, go_on, file_within, file_at}
 use Rattle.first_form.proofs.Fronts.{Stops, bind_ok, bind_at, guard_ok, front-rest, front_passes, rest_again, strip_takes, strip_again}
 use Rattle.first_form.proofs.Items.{Many, many_takes, many_again}
 use Rattle.first_form.proofs.Marks.{spaced_append, spaced_split, spaced_length, IsStatement, statement_takes, statement_again, statement_shrinks}
@@ -163,6 +163,7 @@ inside_text b xs rest e p f = rw e (go (60 == b))
   where
     next : strip (codes "?") (xs ++ rest) ≡ None
     next = plain_next xs rest p f
+
     go : (v : Bool) → is_some (cond v (strip (codes "?") (xs ++ rest)) None) ≡ false
     go true = ap is_some next
     go false = refl
@@ -238,9 +239,11 @@ file_takes_at n bytes parts ih (ended ps) (is_ended f s q) e = let same : ps ≡
 file_takes_at n bytes parts ih (onward ps r) (is_onward text ss piece closer p l i h c q) e =
     let ok = bind_ok (file_within n r) (λ more. Some (ps ++ more)) parts e in
     let tail = ih r ok.0 ok.1 in
-    let last : ps ++ ok.0 ≡ parts = let s = ok.2 in cc in
-    (text_php_and text ss tail.0, (piece, closer, r, p, l, i, h, c, tail.1),
-    ap (λ ms. inline_part text ++ (php_parts ss ++ ms)) tail.2 ∙ sym (append_assoc (inline_part text) (php_parts ss) ok.0) ∙ ap (λ ms. ms ++ ok.0) q ∙ last)
+    let last : ps ++ ok.0 ≡ parts = let s = ok.2 in cc in (
+      text_php_and text ss tail.0,
+      (piece, closer, r, p, l, i, h, c, tail.1),
+      ap (λ ms. inline_part text ++ (php_parts ss ++ ms)) tail.2 ∙ sym (append_assoc (inline_part text) (php_parts ss) ok.0) ∙ ap (λ ms. ms ++ ok.0) q ∙ last,
+    )
 
 within_takes : (n : ℕ) (bytes : List ℕ) (parts : List Part) → file_within n bytes ≡ Some parts → (file : File) × Spells file bytes × (parts_of file ≡ parts)
 unfolding file_within

@@ -1,10 +1,10 @@
 -- Fronts of byte lists: runs that pass a test, words, and blanks.
-use Rattle.std.proofs.Common.{◌≡◌, ℕ, zero, suc, ◌+◌, ◌≤◌, ◌<◌, Bool, true, false, cond, not, ◌&&◌, ◌||◌, List, [], ◌∷◌, ◌++◌, Option, Some, None, refl, sym, ap, ◌∙◌, subst, arith, length, append_assoc, append-nil, length-append}
-use Rattle.std.specs.Prelude.{◌⊎◌, ◌≢◌, ◌==◌, nat_eq, IsTrue, codes, if◌then◌else◌, is_some}
-use Rattle.std.specs.List.{list_all, AllByRecursion}
+use Rattle.std.proofs.Common.{◌≡◌, ℕ, Bool, true, false, cond, List, [], ◌∷◌, ◌++◌, Option, Some, None, refl, sym, ap, ◌∙◌, subst, append_assoc}
+use Rattle.std.specs.Prelude.{◌==◌, codes}
+use Rattle.std.specs.List.{list_all}
 use Rattle.std.proofs.lemmas.Bool.{and_parts, and_from, eqb-true, eq-eqb}
 use Rattle.first_form.specs.FirstForm.{Each, is_blank, spelling, quoted}
-use Rattle.first_form.specs.Reading.{◌>>=◌, front_of, rest_of, strip, after, quoted_at}
+use Rattle.first_form.specs.Steps.Reading.{◌>>=◌, front_of, rest_of, strip, after, quoted_at}
 
 -- nothing is left, or the first byte fails the test
 abbrev pub Stops : (ℕ → Bool) → List ℕ → Type 0
@@ -122,12 +122,14 @@ quoted_takes test bytes x e =
     let text : front_of test inside ≡ x.0 = cc in
     let rest : more ≡ x.1 = cc in
     let whole : inside ≡ front_of test inside ++ 39 ∷ (close.blanks ++ more) = sym (front-rest test inside) ∙ ap (λ xs. front_of test inside ++ xs) close.is in
-    let spelled : inside ≡ x.0 ++ 39 ∷ (close.blanks ++ x.1) = whole ∙ ap (λ xs. xs ++ 39 ∷ (close.blanks ++ more)) text ∙ ap (λ xs. x.0 ++ 39 ∷ (close.blanks ++ xs)) rest in
-    (subst (Each test) text (front_passes test inside), record {
-      blanks = close.blanks;
-      passes = close.passes;
-      is = strip_takes (codes "'") bytes inside first.1 ∙ ap (λ xs. 39 ∷ xs) (spelled ∙ sym (append_assoc x.0 (39 ∷ []) (close.blanks ++ x.1)));
-    })
+    let spelled : inside ≡ x.0 ++ 39 ∷ (close.blanks ++ x.1) = whole ∙ ap (λ xs. xs ++ 39 ∷ (close.blanks ++ more)) text ∙ ap (λ xs. x.0 ++ 39 ∷ (close.blanks ++ xs)) rest in (
+      subst (Each test) text (front_passes test inside),
+      record {
+        blanks = close.blanks;
+        passes = close.passes;
+        is = strip_takes (codes "'") bytes inside first.1 ∙ ap (λ xs. 39 ∷ xs) (spelled ∙ sym (append_assoc x.0 (39 ∷ []) (close.blanks ++ x.1)));
+      },
+    )
 
 pub quoted_again : (test : ℕ → Bool) (bytes text rest blanks : List ℕ) → test 39 ≡ false → Each test text → Each is_blank blanks → bytes ≡ spelling (quoted text) ++ (blanks ++ rest) → Stops is_blank rest → quoted_at test bytes ≡ Some (text, rest)
 unfolding quoted_at spelling

@@ -1,21 +1,21 @@
 -- The pages that are gathered are the loose pages.
-use Rattle.std.proofs.Common.{◌≡◌, ℕ, suc, ◌+◌, ◌≤◌, ◌<◌, Bool, true, false, not, List, [], ◌∷◌, ◌++◌, Option, Some, None, refl, sym, ap, ◌∙◌, subst, inl, inr, arith, length, append_assoc, append-nil}
+use Rattle.std.proofs.Common.{◌≡◌, ℕ, ◌≤◌, not, List, [], ◌∷◌, ◌++◌, Option, Some, None, refl, sym, ap, ◌∙◌, subst, inl, inr, arith, length, append_assoc, append-nil}
 use Rattle.php_syntax.specs.declared.tree.FunctionDef.{FunctionDef}
 use Rattle.std.specs.Prelude.{Result, Ok, Err, IfOk, IfNone, ◌⊎◌, ◌≢◌, ◌↔◌, IfSome, ◌==◌, ◌&&◌}
 use Rattle.std.specs.List.{list_all, AllByRecursion}
 use Rattle.std.proofs.lemmas.Bool.{and_parts, and_from}
 use Rattle.std.proofs.lemmas.Option.{same_Some}
-use Rattle.php_syntax.specs.Trees.{PlainExpr, PlainStmt, PlainStmts, PlainFile, PlainFunction, functions_of_list, text_expr, no_exprs, more_exprs, inline_stmt, echo_stmt, if_stmt, no_stmts, more_stmts, no_arms, more_arms}
+use Rattle.php_syntax.specs.Trees.{PlainStmt, PlainStmts, PlainFile, functions_of_list, no_stmts, more_stmts}
 use Rattle.first_form.specs.declared.pages.Pages.{Pages}
-use Rattle.first_form.specs.FirstForm.{Each, is_plain, is_quotable, is_letter, Statement, echo_of, if_set, IsLawful, Part, inline, php, ifs_of}
-use Rattle.first_form.specs.Trees.{echo_text, is_set, arm_of, statement_tree, part_tree, parts_tree, file_tree, IsFirstForm}
-use Rattle.first_form.specs.Loose.{LooseStatement, LooseStatements, LooseArms, Loose}
-use Rattle.first_form.specs.Reading.{◌>>=◌}
-use Rattle.first_form.specs.FirstTree.{IsSetTest, IsStraightStatement, IsStraight, IsBranch, IsFirstBody, IsFirstTree, IsPage, ArePages}
-use Rattle.first_form.specs.Paging.{printed_of, printed_by, arms_at, Gathered, gathered, maybe_gathered, with_text, forked, with_branch, text_or_branch, with_statement, with_body}
+use Rattle.first_form.specs.FirstForm.{Each, is_plain, is_quotable, echo_of, if_set, IsLawful, Part, inline, php, ifs_of}
+use Rattle.first_form.specs.Trees.{arm_of, parts_tree, IsFirstForm}
+use Rattle.first_form.specs.Loose.{LooseStatement, LooseStatements, Loose}
+use Rattle.first_form.specs.Steps.Reading.{◌>>=◌}
+use Rattle.first_form.specs.FirstTree.{IsStraightStatement, IsStraight, IsBranch, IsFirstBody, IsFirstTree, ArePages}
+use Rattle.first_form.specs.Steps.Paging.{printed_of, printed_by, arms_at, Gathered, gathered, maybe_gathered, with_text, forked, with_branch, text_or_branch, with_statement, with_body}
 use Rattle.first_form.proofs.Fronts.{bind_ok}
 use Rattle.first_form.proofs.Lawful.{IsLawfulPart, parts_lawful}
-use Rattle.first_form.proofs.Straight.{PrintsOnly, printed_some, printed_none_straight, AllPrint, each_append, printed_by_some, printed_by_none, Arms, arms_some, BranchAt, branch_at}
+use Rattle.first_form.proofs.Straight.{PrintsOnly, printed_some, printed_none_straight, AllPrint, each_append, printed_by_some, printed_by_none, Arms, arms_some, branch_at}
 
 -- one of the gathered pages
 abbrev pub Among : Gathered → List ℕ → Type 0
@@ -98,6 +98,7 @@ loose_arms s body otherwise page h = (λ k. forth (subst (λ t. LooseStatement t
     forth (inl (inl k)) = inl k
     forth (inl (inr k)) = absurd k
     forth (inr k) = inr k
+
     back : LooseStatements body page ⊎ LooseStatements otherwise page → (LooseStatements body page ⊎ ⊥) ⊎ LooseStatements otherwise page
     back (inl k) = inl (inl k)
     back (inr k) = inr k
@@ -124,6 +125,7 @@ goes_back g next s (goes_apart body otherwise arms f) front text h k = go ((loos
   where
     begin : front ≡ g.0
     begin = only_first g front f.single h
+
     go : LooseStatements body text ⊎ LooseStatements otherwise text → Among next (front ++ text)
     go (inl l) = subst (λ n. Among n (front ++ text)) (sym f.is) (inl (ap (λ xs. xs ++ text) begin ∙ ap (λ xs. g.0 ++ xs) ((f.first_prints.exact text).0 l)))
     go (inr l) = subst (λ n. Among n (front ++ text)) (sym f.is) (inr (ap Some (sym (ap (λ xs. xs ++ text) begin ∙ ap (λ xs. g.0 ++ xs) ((f.second_prints.exact text).0 l)))))
@@ -246,9 +248,10 @@ tree_pages pages program e =
     let start : Gathered = ([], None) in
     let plain = body_plain body start (gathered pages) whole (refl, λ page q. absurd cc) in
     record {
-      exact = λ page.
-        (λ h. body_back body start (gathered pages) whole [] page (inl refl) h,
-        λ h. let b = body_forth body start (gathered pages) whole page h in subst (LooseStatements body) (sym (b.4 ∙ ap (λ xs. xs ++ b.1) (only_first start b.0 refl b.2))) b.3);
+      exact = λ page. (
+        λ h. body_back body start (gathered pages) whole [] page (inl refl) h,
+        λ h. let b = body_forth body start (gathered pages) whole page h in subst (LooseStatements body) (sym (b.4 ∙ ap (λ xs. xs ++ b.1) (only_first start b.0 refl b.2))) b.3,
+      );
       first_plain = plain.0;
       second_plain = second_is (gathered pages).1 plain.1;
     }

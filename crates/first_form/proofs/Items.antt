@@ -1,7 +1,6 @@
 -- Any number of items at the front, each read by one function.
-use Rattle.std.proofs.Common.{◌≡◌, ℕ, zero, suc, ◌+◌, ◌≤◌, ◌<◌, List, [], ◌∷◌, ◌++◌, Option, Some, None, refl, sym, ap, ◌∙◌, subst, arith, length}
-use Rattle.std.specs.List.{AllByRecursion}
-use Rattle.first_form.specs.Reading.{many, many_within, with_next}
+use Rattle.std.proofs.Common.{◌≡◌, ℕ, zero, suc, ◌≤◌, ◌<◌, List, [], ◌∷◌, Option, Some, None, refl, sym, ap, ◌∙◌, arith, length}
+use Rattle.first_form.specs.Steps.Reading.{many, many_within, with_next}
 
 -- the bytes are these items, and then the rest
 unfoldable pub Many : {A : Type 0} → (A → List ℕ → List ℕ → Type 0) → List A → List ℕ → List ℕ → Type 0

@@ -1,15 +1,15 @@
 -- Statements one after another, in vectors and in trees, and the loops that push them.
-use Rattle.std.proofs.Common.{◌≡◌, ℕ, ◌<◌, List, [], ◌∷◌, ◌++◌, Option, Some, None, refl, sym, ap, ◌∙◌, subst, arith, length}
+use Rattle.std.proofs.Common.{◌≡◌, ℕ, ◌<◌, List, [], ◌∷◌, ◌++◌, Option, Some, None, refl, sym, ap, ◌∙◌, arith, length}
 use Rattle.std.specs.Prelude.{◌≢◌}
 use Rattle.std.proofs.lemmas.Option.{some_pair_parts}
 use Rattle.php_syntax.specs.declared.tree.Stmt.{Stmt}
 use Rattle.first_form.specs.declared.pieces.Next.{Next}
-use Rattle.first_form.specs.declared.pieces.Next.TheVariants.{Broken, Ended, Onward}
+use Rattle.first_form.specs.declared.pieces.Next.TheVariants.{Broken, Ended}
 use Rattle.php_syntax.specs.Trees.{PlainStmt, PlainStmts, inline_stmt, no_stmts, more_stmts, plain_stmt, stmts_of}
-use Rattle.first_form.specs.FirstForm.{Statement, Part, php, inline_part, php_parts}
+use Rattle.first_form.specs.FirstForm.{Statement, Part, inline_part, php_parts}
 use Rattle.first_form.specs.Trees.{echo_text, arm_of, statement_tree, part_tree, parts_tree}
-use Rattle.first_form.specs.Reading.{many, echo_at, statement_at, opener_at, text_of, past_text, step_at, text_step, php_step, end_step}
-use Rattle.first_form.specs.Found.{joined, statements_tree, found, treed, IsArm, AddsStatements, AddsInline, AddsParts, step_of}
+use Rattle.first_form.specs.Steps.Reading.{many, echo_at, statement_at, opener_at, text_of, past_text, step_at, text_step, php_step, end_step}
+use Rattle.first_form.specs.Steps.Found.{joined, statements_tree, treed, IsArm, AddsStatements, AddsInline, AddsParts, step_of}
 use Rattle.first_form.proofs.Items.{many_end, many_more}
 use Rattle.first_form.proofs.Marks.{echo_shrinks, statement_shrinks}
 

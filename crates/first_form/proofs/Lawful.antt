@@ -1,5 +1,5 @@
 -- The parts of a file hold what the grammar lets them hold.
-use Rattle.std.proofs.Common.{◌≡◌, ℕ, List, [], ◌∷◌, ◌++◌}
+use Rattle.std.proofs.Common.{ℕ, List, [], ◌∷◌, ◌++◌}
 use Rattle.std.specs.List.{AllByRecursion}
 use Rattle.first_form.specs.FirstForm.{Each, is_plain, Statement, IsLawful, File, text_alone, text_and_php, text_php_and, Spells, Part, inline, php, inline_part, php_parts, parts_of}
 

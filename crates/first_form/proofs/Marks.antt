@@ -1,10 +1,10 @@
 -- Tokens with blanks between them, and the echoes and ifs that they make.
-use Rattle.std.proofs.Common.{◌≡◌, ℕ, zero, suc, ◌+◌, ◌≤◌, ◌<◌, Bool, true, false, cond, List, [], ◌∷◌, ◌++◌, Option, Some, None, refl, sym, ap, ◌∙◌, subst, arith, length, append_assoc, append-nil, length-append}
-use Rattle.std.specs.Prelude.{◌⊎◌, ◌≢◌, IsTrue, codes, ◌==◌}
-use Rattle.std.specs.List.{list_all, AllByRecursion}
+use Rattle.std.proofs.Common.{◌≡◌, ℕ, ◌≤◌, ◌<◌, false, List, [], ◌∷◌, ◌++◌, Option, Some, None, refl, ap, ◌∙◌, subst, arith, length, length-append}
+use Rattle.std.specs.Prelude.{◌≢◌, ◌==◌}
+use Rattle.std.specs.List.{AllByRecursion}
 use Rattle.std.proofs.lemmas.Bool.{ne_eqb}
-use Rattle.first_form.specs.FirstForm.{Each, is_blank, is_quotable, is_letter, Mark, spelling, echo_word, if_word, else_word, isset_word, get_variable, semicolon, open_round, close_round, open_square, close_square, open_curly, close_curly, quoted, Statement, echo_of, if_set, echo_marks, arm_marks, if_marks, else_marks, statement_marks, marks_of, IsLawful, IsSpaced}
-use Rattle.first_form.specs.Reading.{◌>>=◌, strip, after, quoted_at, echo_at, words_at, many, if_start_at, arm_start_at, not_empty, key_at, if_head_at, else_at, if_at, echo_or, statement_at}
+use Rattle.first_form.specs.FirstForm.{Each, is_blank, is_quotable, is_letter, Mark, spelling, echo_word, if_word, else_word, isset_word, get_variable, semicolon, open_round, close_round, open_square, close_square, open_curly, close_curly, quoted, Statement, echo_of, if_set, echo_marks, arm_marks, if_marks, else_marks, statement_marks, IsLawful, IsSpaced}
+use Rattle.first_form.specs.Steps.Reading.{strip, after, quoted_at, echo_at, words_at, many, if_start_at, arm_start_at, not_empty, key_at, if_head_at, else_at, if_at, echo_or, statement_at}
 use Rattle.first_form.proofs.Fronts.{Stops, bind_ok, bind_at, Takes, after_takes, after_again, quoted_takes, quoted_again}
 use Rattle.first_form.proofs.Items.{Many, Shrinks, many_takes, many_again}
 
@@ -102,12 +102,13 @@ echo_takes bytes x e =
     let end = bind_ok (after (spelling semicolon) text.0.1) (λ more. Some (text.0.0, more)) x text.2 in
     let quote = quoted_takes is_quotable word.0 text.0 text.1 in
     let same : text.0.0 ≡ x.0 = cc in
-    let last : end.0 ≡ x.1 = cc in
-    (subst (λ t. IsSpaced (echo_word ∷ quoted t ∷ semicolon ∷ []) bytes x.1) same
-      (one_more echo_word (quoted text.0.0 ∷ semicolon ∷ []) bytes word.0 x.1 (after_takes (spelling echo_word) bytes word.0 word.1)
-      (one_more (quoted text.0.0) (semicolon ∷ []) word.0 text.0.1 x.1 quote.1
-      (one_more semicolon [] text.0.1 end.0 x.1 (after_takes (spelling semicolon) text.0.1 end.0 end.1) last))),
-    subst (Each is_quotable) same quote.0)
+    let last : end.0 ≡ x.1 = cc in (
+      subst (λ t. IsSpaced (echo_word ∷ quoted t ∷ semicolon ∷ []) bytes x.1) same
+          (one_more echo_word (quoted text.0.0 ∷ semicolon ∷ []) bytes word.0 x.1 (after_takes (spelling echo_word) bytes word.0 word.1)
+          (one_more (quoted text.0.0) (semicolon ∷ []) word.0 text.0.1 x.1 quote.1
+          (one_more semicolon [] text.0.1 end.0 x.1 (after_takes (spelling semicolon) text.0.1 end.0 end.1) last))),
+      subst (Each is_quotable) same quote.0,
+    )
 
 pub echo_again : (text bytes rest : List ℕ) → IsEcho text bytes rest → Stops is_blank rest → (echo_at bytes ≡ Some (text, rest)) × Stops is_blank bytes
 unfolding echo_at echo_marks IsEcho IsSpaced
@@ -117,9 +118,10 @@ echo_again text bytes rest h stops =
     let end = quote.4 in
     let last : after (spelling semicolon) quote.1 ≡ Some rest = after_again (spelling semicolon) quote.1 rest end.0 end.2 (end.3 ∙ ap (λ xs. spelling semicolon ++ (end.0 ++ xs)) end.4) stops in
     let middle = quoted_again is_quotable word.1 text quote.1 quote.0 refl h.1 quote.2 quote.3 (rw end.3 (mark_stops semicolon (end.0 ++ end.1))) in
-    let first = after_again (spelling echo_word) bytes word.1 word.0 word.2 word.3 (rw quote.3 (mark_stops (quoted text) (quote.0 ++ quote.1))) in
-    (bind_at (after (spelling echo_word) bytes) _ word.1 _ first (bind_at (quoted_at is_quotable word.1) _ (text, quote.1) _ middle (bind_at (after (spelling semicolon) quote.1) (λ more. Some (text, more)) rest _ last refl)),
-    rw word.3 (mark_stops echo_word (word.0 ++ word.1)))
+    let first = after_again (spelling echo_word) bytes word.1 word.0 word.2 word.3 (rw quote.3 (mark_stops (quoted text) (quote.0 ++ quote.1))) in (
+      bind_at (after (spelling echo_word) bytes) _ word.1 _ first (bind_at (quoted_at is_quotable word.1) _ (text, quote.1) _ middle (bind_at (after (spelling semicolon) quote.1) (λ more. Some (text, more)) rest _ last refl)),
+      rw word.3 (mark_stops echo_word (word.0 ++ word.1)),
+    )
 
 pub echo_shrinks : Shrinks echo_at
 unfolding IsEcho echo_marks
@@ -193,10 +195,11 @@ head_takes bytes x e =
     let last : end.0 ≡ x.1 = cc in
     let head = words_take before_key bytes start.0 start.1 in
     let tail = subst (λ r. IsSpaced behind_key key.0.1 r) last (words_take behind_key key.0.1 end.0 end.1) in
-    let middle = subst (λ q. Takes (spelling (quoted q.0)) start.0 q.1) same took.1 in
-    (spaced_append before_key (quoted x.0 ∷ behind_key) bytes start.0 x.1 head (one_more (quoted x.0) behind_key start.0 key.0.1 x.1 middle tail),
-    subst (λ q. q.0 ≢ []) same full.1,
-    subst (λ q. Each is_letter q.0) same took.0)
+    let middle = subst (λ q. Takes (spelling (quoted q.0)) start.0 q.1) same took.1 in (
+      spaced_append before_key (quoted x.0 ∷ behind_key) bytes start.0 x.1 head (one_more (quoted x.0) behind_key start.0 key.0.1 x.1 middle tail),
+      subst (λ q. q.0 ≢ []) same full.1,
+      subst (λ q. Each is_letter q.0) same took.0,
+    )
 
 pub head_again : (key bytes rest : List ℕ) → IsHead key bytes rest → Stops is_blank rest → (if_head_at bytes ≡ Some (key, rest)) × Stops is_blank bytes
 unfolding if_head_at if_start_at key_at arm_start_at IsHead if_marks before_key behind_key IsSpaced
@@ -206,9 +209,10 @@ head_again key bytes rest h stops =
     let tail = words_again behind_key quote.1 rest quote.4 stops in
     let inside = quoted_again is_letter parts.0 key quote.1 quote.0 refl h.2 quote.2 quote.3 (spaced_stops behind_key quote.1 rest quote.4 stops) in
     let begin : Stops is_blank parts.0 = rw quote.3 (mark_stops (quoted key) (quote.0 ++ quote.1)) in
-    let head = words_again before_key bytes parts.0 parts.1 begin in
-    (bind_at (if_start_at bytes) _ parts.0 _ head (bind_at (key_at parts.0) _ (key, quote.1) _ (bind_at (quoted_at is_letter parts.0) not_empty (key, quote.1) _ inside (full_key key quote.1 h.1)) (bind_at (arm_start_at quote.1) (λ more. Some (key, more)) rest _ tail refl)),
-    spaced_stops before_key bytes parts.0 parts.1 begin)
+    let head = words_again before_key bytes parts.0 parts.1 begin in (
+      bind_at (if_start_at bytes) _ parts.0 _ head (bind_at (key_at parts.0) _ (key, quote.1) _ (bind_at (quoted_at is_letter parts.0) not_empty (key, quote.1) _ inside (full_key key quote.1 h.1)) (bind_at (arm_start_at quote.1) (λ more. Some (key, more)) rest _ tail refl)),
+      spaced_stops before_key bytes parts.0 parts.1 begin,
+    )
 
 -- a statement
 unfoldable pub IsStatement : Statement → List ℕ → List ℕ → Type 0
@@ -260,11 +264,12 @@ if_again key yes_texts no_texts bytes rest h stops =
     let other = words_again else_marks b c s.6 no_arm.1 in
     let yes_arm = arm_again yes_texts (else_word ∷ open_curly ∷ []) a b c s.5 law.2 s.6 in
     let head = head_again key bytes a (s.4, law.0, law.1) yes_arm.1 in
-    let last : after (spelling close_curly) d ≡ Some rest = after_again (spelling close_curly) d rest close.0 close.2 (close.3 ∙ ap (λ xs. spelling close_curly ++ (close.0 ++ xs)) close.4) stops in
-    (bind_at (if_head_at bytes) _ (key, a) _ head.0
-      (rw yes_arm.0 (bind_at (else_at b) _ c _ other
-      (rw no_arm.0 (bind_at (after (spelling close_curly) d) _ rest _ last refl)))),
-    head.1)
+    let last : after (spelling close_curly) d ≡ Some rest = after_again (spelling close_curly) d rest close.0 close.2 (close.3 ∙ ap (λ xs. spelling close_curly ++ (close.0 ++ xs)) close.4) stops in (
+      bind_at (if_head_at bytes) _ (key, a) _ head.0
+          (rw yes_arm.0 (bind_at (else_at b) _ c _ other
+          (rw no_arm.0 (bind_at (after (spelling close_curly) d) _ rest _ last refl)))),
+      head.1,
+    )
 
 pub statement_takes : (bytes : List ℕ) (x : Statement × List ℕ) → statement_at bytes ≡ Some x → IsStatement x.0 bytes x.1
 unfolding statement_at echo_or IsStatement statement_marks IsLawful IsEcho

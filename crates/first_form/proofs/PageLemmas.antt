@@ -1,10 +1,10 @@
 -- What statements print one after another, and the pages that they make.
-use Rattle.std.proofs.Common.{◌≡◌, ℕ, suc, ◌+◌, ◌≤◌, ◌<◌, List, [], ◌∷◌, ◌++◌, Option, Some, None, refl, sym, ap, ◌∙◌, subst, arith, length, take, drop, get_or, append_assoc, append-nil}
+use Rattle.std.proofs.Common.{◌≡◌, ℕ, ◌+◌, ◌≤◌, ◌<◌, List, [], ◌++◌, Option, Some, None, refl, sym, ap, ◌∙◌, length, drop, get_or, append_assoc, append-nil}
 use Rattle.std.proofs.lemmas.List.{drop_more, drop_all}
 use Rattle.php_syntax.specs.declared.tree.Stmt.{Stmt}
-use Rattle.php_syntax.specs.Trees.{PlainStmt, PlainStmts, no_stmts, more_stmts, plain_stmt, stmts_of}
-use Rattle.first_form.specs.Reading.{◌>>=◌}
-use Rattle.first_form.specs.Paging.{printed_of, printed_by, with_statement, with_body, Gathered}
+use Rattle.php_syntax.specs.Trees.{more_stmts, plain_stmt, stmts_of}
+use Rattle.first_form.specs.Steps.Reading.{◌>>=◌}
+use Rattle.first_form.specs.Steps.Paging.{printed_of, printed_by, with_statement, with_body, Gathered}
 
 -- a text before another, if there is one
 abbrev pub with_front : List ℕ → Option (List ℕ) → Option (List ℕ)

@@ -1,20 +1,17 @@
 -- The loop over the pieces of a file, and the number of ifs.
-use Rattle.std.proofs.Common.{◌≡◌, ℕ, zero, suc, ◌+◌, ◌≤◌, ◌<◌, List, [], ◌∷◌, ◌++◌, Option, Some, None, refl, sym, ap, ◌∙◌, subst, arith, length, take, drop, get_or, append_assoc, append-nil}
+use Rattle.std.proofs.Common.{◌≡◌, ℕ, ◌+◌, ◌≤◌, ◌<◌, List, [], ◌∷◌, ◌++◌, Option, Some, None, refl, sym, ap, ◌∙◌, arith, length, take, get_or, append_assoc}
 use Rattle.std.proofs.lemmas.List.{take_more, take_all}
 use Rattle.std.proofs.lemmas.Option.{same_Some}
-use Rattle.std.specs.declared.vec.Vec.{Vec}
-use Rattle.std.specs.declared.alloc.Global.{Global}
 use Rattle.php_syntax.specs.declared.tree.Stmt.{Stmt}
 use Rattle.php_syntax.specs.declared.tree.FunctionDef.{FunctionDef}
-use Rattle.php_syntax.specs.Trees.{PlainFile, functions_of_list, PlainStmt, PlainStmts, no_stmts, more_stmts, plain_stmt, stmts_of, if_stmt}
-use Rattle.first_form.specs.declared.pieces.Next.{Next}
+use Rattle.php_syntax.specs.Trees.{PlainFile, functions_of_list, PlainStmts, plain_stmt, stmts_of}
 use Rattle.first_form.specs.declared.pieces.Next.TheVariants.{Broken, Ended, Onward}
 use Rattle.std.specs.Borrow.{Bor}
-use Rattle.first_form.specs.FirstForm.{Part, inline, php, Statement, echo_of, if_set, ifs_of}
-use Rattle.first_form.specs.Trees.{parts_tree, part_tree, file_tree, IsFirstForm}
-use Rattle.first_form.specs.Reading.{◌>>=◌, Step, broken, ended, onward, step_at, go_on, file_at}
-use Rattle.first_form.specs.Found.{joined, AddsParts, step_of, bodied, parted, if_count, ifs_in}
-use Rattle.first_form.proofs.Joining.{joined_assoc, parts_tree-append}
+use Rattle.first_form.specs.FirstForm.{Part, inline, php, echo_of, if_set, ifs_of}
+use Rattle.first_form.specs.Trees.{parts_tree, file_tree, IsFirstForm}
+use Rattle.first_form.specs.Steps.Reading.{◌>>=◌, onward, step_at, go_on, file_at}
+use Rattle.first_form.specs.Steps.Found.{joined, AddsParts, parted, if_count, ifs_in}
+use Rattle.first_form.proofs.Joining.{parts_tree-append}
 use Rattle.first_form.proofs.Files.{file-step, step_takes, step_shrinks, file_takes, has-parts}
 
 -- the parts before, and then those of a file

@@ -1,10 +1,10 @@
 -- A run of bytes, counted from the front.
-use Rattle.std.proofs.Common.{◌≡◌, ℕ, zero, suc, ◌+◌, ◌≤◌, ◌<◌, Bool, true, false, cond, List, [], ◌∷◌, ◌++◌, refl, sym, ap, ◌∙◌, subst, arith, length, take, drop, get_or, append_assoc, append-nil}
+use Rattle.std.proofs.Common.{◌≡◌, ℕ, ◌+◌, ◌≤◌, ◌<◌, Bool, true, false, cond, List, [], ◌∷◌, ◌++◌, refl, sym, ap, ◌∙◌, arith, length, take, drop, get_or, append_assoc, append-nil}
 use Rattle.std.specs.Prelude.{◌==◌, ◌&&◌}
 use Rattle.std.specs.List.{list_all}
 use Rattle.std.proofs.lemmas.Bool.{ne_eqb}
-use Rattle.std.proofs.lemmas.List.{take_more, drop_more, take-append-drop, drop_all}
-use Rattle.first_form.specs.Reading.{front_of, rest_of, ends_text, text_of, past_text}
+use Rattle.std.proofs.lemmas.List.{take_more, drop_more, drop_all}
+use Rattle.first_form.specs.Steps.Reading.{front_of, rest_of, ends_text, text_of, past_text}
 
 -- the first n bytes pass
 pub record RunSoFar (test : ℕ → Bool) (bytes : List ℕ) (n : ℕ) : Type 0 where

@@ -1,13 +1,13 @@
 -- Runs: what an ended run prints, more units, and enough units.
-use Rattle.std.proofs.Common.{◌≡◌, ℕ, zero, suc, ◌+◌, ◌≤◌, ◌<◌, Bool, true, false, cond, List, [], ◌∷◌, ◌++◌, Option, Some, None, refl, sym, ap, ◌∙◌, subst, inl, inr, arith, append_assoc, append-nil}
-use Rattle.std.specs.Prelude.{◌⊎◌, ◌≢◌, IsTrue}
-use Rattle.std.specs.List.{list_all, AllByRecursion}
+use Rattle.std.proofs.Common.{◌≡◌, ℕ, zero, suc, ◌+◌, Bool, true, false, List, [], ◌∷◌, ◌++◌, Option, Some, None, refl, sym, ap, ◌∙◌, subst, inl, inr, arith, append_assoc, append-nil}
+use Rattle.std.specs.Prelude.{◌⊎◌}
+use Rattle.std.specs.List.{AllByRecursion}
 use Rattle.std.proofs.lemmas.Option.{some_pair_parts}
-use Rattle.php_syntax.specs.Trees.{PlainExpr, PlainStmt, PlainStmts, PlainArms, PlainFile, inline_stmt, echo_stmt, run_stmt, if_stmt, while_stmt, do_while_stmt, for_stmt, each_stmt, break_stmt, continue_stmt, return_stmt, include_stmt, no_stmts, more_stmts, no_arms, more_arms}
-use Rattle.first_form.specs.FirstForm.{Each, is_plain, is_letter, is_quotable, Statement, echo_of, if_set, IsLawful, File, text_alone, text_and_php, text_php_and, Spells, Part, inline, php, inline_part, php_parts, parts_of}
-use Rattle.first_form.specs.Trees.{echo_text, is_set, arm_of, statement_tree, part_tree, parts_tree, file_tree}
+use Rattle.php_syntax.specs.Trees.{PlainStmt, PlainStmts, PlainArms, PlainFile, inline_stmt, echo_stmt, run_stmt, if_stmt, while_stmt, do_while_stmt, for_stmt, each_stmt, break_stmt, continue_stmt, return_stmt, include_stmt, no_stmts, more_stmts, no_arms, more_arms}
+use Rattle.first_form.specs.FirstForm.{Each, is_letter, echo_of, if_set, IsLawful, Part, inline, php}
+use Rattle.first_form.specs.Trees.{echo_text, arm_of, statement_tree, part_tree, parts_tree, file_tree}
 use Rattle.first_form.specs.Requests.{Request, has_name}
-use Rattle.first_form.specs.Meaning.{Run, going, spent, unwritten, with_unit, ◌then_do◌, texts_of, print_texts, condition_of, choose, statement_run, statements_run, arms_run, outcome_of, Meaning, End, Ended, Spent}
+use Rattle.first_form.specs.Meaning.{Run, going, spent, unwritten, with_unit, ◌then_do◌, texts_of, print_texts, condition_of, choose, statement_run, statements_run, arms_run, outcome_of, Meaning, Ended, Spent}
 use Rattle.first_form.proofs.Lawful.{IsLawfulPart}
 use Rattle.first_form.specs.Loose.{LooseStatement, LooseStatements, LooseArms, Loose}
 
@@ -57,6 +57,7 @@ first_or P Q printed out (inr h) f g = this_or_later P Q printed out (g h.1)
 
 mutual
   unfolding statement_run LooseStatement
+
   statement_loose : (r : Request) (s : PlainStmt) (n : ℕ) (printed : List ℕ) (m : ℕ) (out : List ℕ) → statement_run r s n printed ≡ going m out → Prints (LooseStatement s) printed out
   statement_loose r (inline_stmt text) n printed m out e = let u = unit_going n printed _ m out e in let f = u.2 in (text, refl, cc)
   statement_loose r (echo_stmt es) n printed m out e = let u = unit_going n printed _ m out e in let t = texts_going (texts_of es) u.0 printed m out u.2 in (t.0, t.1, t.3)
@@ -86,8 +87,8 @@ mutual
   arms_loose r no_arms otherwise n printed m out e = inr e
   arms_loose r (more_arms c body arms) otherwise n printed m out e =
       first_or (LooseStatements body) (LooseArms arms) printed out (choose_going (condition_of r c) (statements_run r body n printed) (arms_run r arms otherwise n printed) m out e)
-        (λ f. statements_loose r body n printed m out f)
-        (λ f. arms_loose r arms otherwise n printed m out f)
+      (λ f. statements_loose r body n printed m out f)
+      (λ f. arms_loose r arms otherwise n printed m out f)
 
 outcome_ended : (run : Run) (printed : List ℕ) → outcome_of run ≡ Some (printed, Ended) → (m : ℕ) × (run ≡ going m printed)
 unfolding outcome_of
@@ -126,6 +127,7 @@ choose_at (Some false) a b a' b' m m' out e f g = g e
 
 mutual
   unfolding statement_run
+
   statement_more : (r : Request) (s : PlainStmt) (n more : ℕ) (printed : List ℕ) (m : ℕ) (out : List ℕ) → statement_run r s n printed ≡ going m out → statement_run r s (n + more) printed ≡ going (m + more) out
   statement_more r (inline_stmt text) n more printed m out e = let u = unit_going n printed _ m out e in let f = u.2 in let same : u.0 ≡ m = cc in let same_out : printed ++ text ≡ out = cc in unit_at n u.0 more printed _ (going (m + more) out) u.1 (cc)
   statement_more r (echo_stmt es) n more printed m out e = let u = unit_going n printed _ m out e in unit_at n u.0 more printed _ (going (m + more) out) u.1 (texts_more (texts_of es) u.0 more printed m out u.2)
@@ -152,8 +154,8 @@ mutual
   arms_more r no_arms otherwise n more printed m out last e = last e
   arms_more r (more_arms c body arms) otherwise n more printed m out last e =
       choose_at (condition_of r c) (statements_run r body n printed) (arms_run r arms otherwise n printed) (statements_run r body (n + more) printed) (arms_run r arms otherwise (n + more) printed) m (m + more) out e
-        (λ f. statements_more r body n more printed m out f)
-        (λ f. arms_more r arms otherwise n more printed m out last f)
+      (λ f. statements_more r body n more printed m out f)
+      (λ f. arms_more r arms otherwise n more printed m out last f)
 
 pub ended-more : (program : PlainFile) (r : Request) (n more : ℕ) (printed : List ℕ) → Meaning program r n printed Ended → Meaning program r (n + more) printed Ended
 unfolding Meaning outcome_of
@@ -169,10 +171,13 @@ statements_end : (r : Request) (s : PlainStmt) (ss : PlainStmts) → ((printed :
 unfolding statement_run
 statements_end r s ss one all printed =
     let a = one printed in
-    let b = all a.2 in
-    (a.0 + b.0, b.1 + a.1, b.2,
-    then_at (statement_run r s (a.0 + b.0) printed) (statements_run r ss) (a.1 + b.0) a.2 (going (b.1 + a.1) b.2) (statement_more r s a.0 b.0 printed a.1 a.2 a.3)
-    (let turn : a.1 + b.0 ≡ b.0 + a.1 = omega arith in rw turn (statements_more r ss b.0 a.1 a.2 b.1 b.2 b.3)))
+    let b = all a.2 in (
+      a.0 + b.0,
+      b.1 + a.1,
+      b.2,
+      then_at (statement_run r s (a.0 + b.0) printed) (statements_run r ss) (a.1 + b.0) a.2 (going (b.1 + a.1) b.2) (statement_more r s a.0 b.0 printed a.1 a.2 a.3)
+          (let turn : a.1 + b.0 ≡ b.0 + a.1 = omega arith in rw turn (statements_more r ss b.0 a.1 a.2 b.1 b.2 b.3)),
+    )
 
 echo_ends : (r : Request) (text printed : List ℕ) → Ends (statement_run r (echo_text text)) printed
 unfolding statement_run with_unit print_texts texts_of

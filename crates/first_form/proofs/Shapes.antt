@@ -1,21 +1,19 @@
 -- What a statement and an expression can be, as far as the first form asks.
-use Rattle.std.proofs.Common.{◌≡◌, ℕ, Bool, true, false, not, ◌&&◌, List, [], ◌∷◌, Option, Some, None, refl, sym, ap, ◌∙◌, subst, arith, ◌<◌, ◌≤◌, length}
-use Rattle.std.specs.Prelude.{◌≢◌, ◌==◌}
+use Rattle.std.proofs.Common.{◌≡◌, ℕ, Bool, true, false, List, [], ◌∷◌, Some, None, refl, sym, ap, ◌∙◌, arith, length}
+use Rattle.std.specs.Prelude.{◌≢◌}
 use Rattle.std.specs.declared.vec.Vec.{Vec}
 use Rattle.std.specs.declared.boxed.Box.{Box}
 use Rattle.std.specs.declared.alloc.Global.{Global}
 use Rattle.php_syntax.specs.declared.tree.SuperName.{SuperName}
-use Rattle.php_syntax.specs.declared.tree.SuperName.TheVariants.{Get, Post, Cookie, Request, Server}
 use Rattle.php_syntax.specs.declared.tree.Expr.{Expr, Null, Flag, Int, Text, Var, Super, Member, ArrayOf, Join, Neg, Not, Arith, Compare, And, Or, Coalesce, Choice, Isset, Empty, Assign, Update, Step, Call, Expr-F, out-Expr, roll-Expr, roll-out-Expr}
 use Rattle.php_syntax.specs.declared.tree.Expr.TheOpen as open_expr
 use Rattle.php_syntax.specs.declared.tree.Target.{Target}
 use Rattle.php_syntax.specs.declared.tree.Stmt.{Stmt, Inline, Echo, Run, If, While, DoWhile, For, Each, Break, Continue, Return, Include, Stmt-F, out-Stmt, roll-Stmt, roll-out-Stmt}
 use Rattle.php_syntax.specs.declared.tree.Stmt.TheOpen as open_stmt
-use Rattle.php_syntax.specs.Trees.{PlainExpr, plain_expr, null_expr, flag_expr, int_expr, text_expr, var_expr, super_expr, member_expr, array_expr, join_expr, neg_expr, not_expr, arith_expr, compare_expr, and_expr, or_expr, coalesce_expr, choice_expr, isset_expr, empty_expr, assign_expr, update_expr, step_expr, call_expr, PlainStmt, plain_stmt, inline_stmt, echo_stmt, run_stmt, if_stmt, while_stmt, do_while_stmt, for_stmt, each_stmt, break_stmt, continue_stmt, return_stmt, include_stmt, exprs_of, stmts_of, arms_of, PlainArms, no_arms, more_arms}
+use Rattle.php_syntax.specs.Trees.{PlainExpr, plain_expr, text_expr, super_expr, member_expr, isset_expr, PlainStmt, plain_stmt, inline_stmt, echo_stmt, if_stmt, exprs_of, stmts_of, arms_of}
 use Rattle.php_syntax.proofs.Views.{plain_stmt-Inline, plain_stmt-Echo, plain_stmt-Run, plain_stmt-If, plain_stmt-While, plain_stmt-DoWhile, plain_stmt-For, plain_stmt-Each, plain_stmt-Break, plain_stmt-Continue, plain_stmt-Return, plain_stmt-Include, plain_expr-Null, plain_expr-Flag, plain_expr-Int, plain_expr-Text, plain_expr-Var, plain_expr-Super, plain_expr-Member, plain_expr-ArrayOf, plain_expr-Join, plain_expr-Neg, plain_expr-Not, plain_expr-Arith, plain_expr-Compare, plain_expr-And, plain_expr-Or, plain_expr-Coalesce, plain_expr-Choice, plain_expr-Isset, plain_expr-Empty, plain_expr-Assign, plain_expr-Update, plain_expr-Step, plain_expr-Call}
-use Rattle.first_form.specs.Found.{if_count}
-use Rattle.first_form.specs.Reading.{◌>>=◌}
-use Rattle.first_form.specs.Paging.{literal_of, one_text, printed_of, is_key, is_get, is_get_name, is_get_member, is_set_one, is_set_test, arm_body, arms_at}
+use Rattle.first_form.specs.Steps.Found.{if_count}
+use Rattle.first_form.specs.Steps.Paging.{literal_of, one_text, printed_of, is_key, is_get, is_get_member, is_set_one, is_set_test, arm_body, arms_at}
 
 -- a statement is inline text, an echo or an if, or else its plain form is none of these
 unfoldable pub is_other_stmt : PlainStmt → Bool
@@ -36,6 +34,7 @@ stmt_shape s = go (out-Stmt s) (roll-out-Stmt s)
   where
     at : (t : Stmt) (p : PlainStmt) → t ≡ s → plain_stmt t ≡ p → is_other_stmt p ≡ true → StmtShape s
     at t p e f g = is_other (ap (λ x. is_other_stmt (plain_stmt x)) (sym e) ∙ ap is_other_stmt f ∙ g)
+
     go : (f : Stmt-F Stmt) → roll-Stmt f ≡ s → StmtShape s
     go (open_stmt.Inline t) e = is_inline t (sym e)
     go (open_stmt.Echo es) e = is_echo es (sym e)
@@ -71,6 +70,7 @@ expr_shape s = go (out-Expr s) (roll-out-Expr s)
   where
     at : (t : Expr) (p : PlainExpr) → t ≡ s → plain_expr t ≡ p → is_other_expr p ≡ true → ExprShape s
     at t p e f g = is_other (ap (λ x. is_other_expr (plain_expr x)) (sym e) ∙ ap is_other_expr f ∙ g)
+
     go : (f : Expr-F Expr Target) → roll-Expr f ≡ s → ExprShape s
     go open_expr.Null e = at Null _ e plain_expr-Null refl
     go (open_expr.Flag b) e = at (Flag b) _ e (plain_expr-Flag b) refl
@@ -108,6 +108,7 @@ no_if s h = go (stmt_shape s)
   where
     at : (p : PlainStmt) → plain_stmt s ≡ p → if_count p ≡ 0 → 0 ≡ if_count (plain_stmt s)
     at p e f = sym (ap if_count e ∙ f)
+
     go : StmtShape s → 0 ≡ if_count (plain_stmt s)
     go (is_inline t e) = at _ (ap plain_stmt e ∙ plain_stmt-Inline t) refl
     go (is_echo es e) = at _ (ap plain_stmt e ∙ plain_stmt-Echo es) refl
@@ -126,6 +127,7 @@ no_text e h = go (expr_shape e)
   where
     at : (p : PlainExpr) → plain_expr e ≡ p → literal_of p ≡ None → None ≡ literal_of (plain_expr e)
     at p f g = sym (ap literal_of f ∙ g)
+
     go : ExprShape e → None ≡ literal_of (plain_expr e)
     go (is_text t f) = absurd (h t f)
     go (is_super n f) = at _ (ap plain_expr f ∙ plain_expr-Super n) refl
@@ -144,6 +146,7 @@ no_key e h = go (expr_shape e)
   where
     at : (p : PlainExpr) → plain_expr e ≡ p → is_key p ≡ false → false ≡ is_key (plain_expr e)
     at p f g = sym (ap is_key f ∙ g)
+
     go : ExprShape e → false ≡ is_key (plain_expr e)
     go (is_text t f) = absurd (h t f)
     go (is_super n f) = at _ (ap plain_expr f ∙ plain_expr-Super n) refl
@@ -163,6 +166,7 @@ no_super e h = go (expr_shape e)
   where
     at : (p : PlainExpr) → plain_expr e ≡ p → is_get p ≡ false → false ≡ is_get (plain_expr e)
     at p f g = sym (ap is_get f ∙ g)
+
     go : ExprShape e → false ≡ is_get (plain_expr e)
     go (is_text t f) = at _ (ap plain_expr f ∙ plain_expr-Text t) refl
     go (is_super n f) = absurd (h n f)
@@ -182,6 +186,7 @@ no_member e h = go (expr_shape e)
   where
     at : (p : PlainExpr) → plain_expr e ≡ p → is_get_member p ≡ false → false ≡ is_get_member (plain_expr e)
     at p f g = sym (ap is_get_member f ∙ g)
+
     go : ExprShape e → false ≡ is_get_member (plain_expr e)
     go (is_text t f) = at _ (ap plain_expr f ∙ plain_expr-Text t) refl
     go (is_super n f) = at _ (ap plain_expr f ∙ plain_expr-Super n) refl
@@ -201,6 +206,7 @@ no_isset e h = go (expr_shape e)
   where
     at : (p : PlainExpr) → plain_expr e ≡ p → is_set_test p ≡ false → false ≡ is_set_test (plain_expr e)
     at p f g = sym (ap is_set_test f ∙ g)
+
     go : ExprShape e → false ≡ is_set_test (plain_expr e)
     go (is_text t f) = at _ (ap plain_expr f ∙ plain_expr-Text t) refl
     go (is_super n f) = at _ (ap plain_expr f ∙ plain_expr-Super n) refl
@@ -221,6 +227,7 @@ none_printed s h k = go (stmt_shape s)
   where
     at : (p : PlainStmt) → plain_stmt s ≡ p → printed_of p ≡ None → None ≡ printed_of (plain_stmt s)
     at p e f = sym (ap printed_of e ∙ f)
+
     go : StmtShape s → None ≡ printed_of (plain_stmt s)
     go (is_inline t e) = absurd (h t e)
     go (is_echo es e) = absurd (k es e)
@@ -239,6 +246,7 @@ no_arms_at s h = go (stmt_shape s)
   where
     at : (p : PlainStmt) → plain_stmt s ≡ p → arms_at p ≡ None → None ≡ arms_at (plain_stmt s)
     at p e f = sym (ap arms_at e ∙ f)
+
     go : StmtShape s → None ≡ arms_at (plain_stmt s)
     go (is_inline t e) = at _ (ap plain_stmt e ∙ plain_stmt-Inline t) refl
     go (is_echo es e) = at _ (ap plain_stmt e ∙ plain_stmt-Echo es) refl

@@ -1,19 +1,17 @@
 -- Straight statements and branches, by what the functions over trees give.
-use Rattle.std.proofs.Common.{◌≡◌, ℕ, suc, ◌+◌, ◌≤◌, ◌<◌, Bool, true, false, not, cond, List, [], ◌∷◌, ◌++◌, Option, Some, None, refl, sym, ap, ◌∙◌, subst, inl, inr, arith, length, append_assoc, append-nil}
-use Rattle.std.specs.Prelude.{◌⊎◌, ◌≢◌, ◌↔◌, ◌==◌, ◌&&◌}
+use Rattle.std.proofs.Common.{◌≡◌, ℕ, Bool, true, false, not, List, [], ◌∷◌, ◌++◌, Option, Some, None, refl, sym, ap, ◌∙◌, subst, arith, length, append-nil}
+use Rattle.std.specs.Prelude.{◌≢◌, ◌↔◌, ◌==◌}
 use Rattle.std.specs.List.{list_all}
 use Rattle.std.proofs.lemmas.Bool.{and_parts, and_from, eqb-false, ne_eqb, not-true}
 use Rattle.std.proofs.lemmas.Option.{same_Some}
-use Rattle.php_syntax.specs.declared.tree.SuperName.{SuperName}
 use Rattle.php_syntax.specs.declared.tree.SuperName.TheVariants.{Get, Post, Cookie, Request, Server}
 use Rattle.php_syntax.specs.Trees.{PlainExpr, PlainExprs, PlainStmt, PlainStmts, PlainArms, text_expr, super_expr, member_expr, isset_expr, no_exprs, more_exprs, inline_stmt, echo_stmt, if_stmt, no_stmts, more_stmts, no_arms, more_arms}
 use Rattle.first_form.specs.FirstForm.{Each, is_plain, is_letter}
-use Rattle.first_form.specs.Trees.{is_set}
 use Rattle.first_form.specs.Meaning.{texts_of}
-use Rattle.first_form.specs.Loose.{LooseStatement, LooseStatements, LooseArms}
-use Rattle.first_form.specs.Reading.{◌>>=◌}
+use Rattle.first_form.specs.Loose.{LooseStatement, LooseStatements}
+use Rattle.first_form.specs.Steps.Reading.{◌>>=◌}
 use Rattle.first_form.specs.FirstTree.{IsSetTest, IsStraightStatement, IsStraight, IsBranch}
-use Rattle.first_form.specs.Paging.{plain_text, literal_of, one_text, printed_of, printed_by, is_key, is_get_name, is_get, is_get_member, is_set_one, is_set_test, arm_body, arms_at}
+use Rattle.first_form.specs.Steps.Paging.{plain_text, literal_of, one_text, printed_of, printed_by, is_key, is_get_name, is_get, is_get_member, is_set_one, is_set_test, arm_body, arms_at}
 use Rattle.first_form.proofs.Fronts.{bind_ok, guard_ok}
 
 -- plain texts
@@ -100,9 +98,10 @@ printed_by_some (more_stmts s ss) w e =
     let whole : one.0 ++ all.0 ≡ w = same_Some (one.0 ++ all.0) w all.2 in
     record {
       straight = (first.straight, later.straight);
-      exact = λ page.
-        (λ h. h.4 ∙ ap (λ xs. xs ++ h.1) ((first.exact h.0).0 h.2) ∙ ap (λ xs. one.0 ++ xs) ((later.exact h.1).0 h.3) ∙ whole,
-        λ h. (one.0, all.0, (first.exact one.0).1 refl, (later.exact all.0).1 refl, h ∙ sym whole));
+      exact = λ page. (
+        λ h. h.4 ∙ ap (λ xs. xs ++ h.1) ((first.exact h.0).0 h.2) ∙ ap (λ xs. one.0 ++ xs) ((later.exact h.1).0 h.3) ∙ whole,
+        λ h. (one.0, all.0, (first.exact one.0).1 refl, (later.exact all.0).1 refl, h ∙ sym whole),
+      );
       plain = subst (Each is_plain) whole (each_append is_plain one.0 all.0 first.plain later.plain);
     }
 

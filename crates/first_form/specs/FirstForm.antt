@@ -1,7 +1,7 @@
 -- Scripts of the first form: which bytes are a file of it, and the statements of that file.
 -- The PHP manual, "Basic syntax", says how a file passes between inline text and PHP.
-use Rattle.std.specs.Prelude.{◌≡◌, ◌≢◌, ◌⊎◌, ℕ, ◌+◌, ◌≤◌, ◌<◌, Bool, true, false, not, ◌&&◌, ◌||◌, ◌==◌, nat_le, nat_lt, List, [], ◌∷◌, ◌++◌, codes, IsTrue, ⊤}
-use Rattle.std.specs.List.{list_all, flat_map, AllByRecursion}
+use Rattle.std.specs.Prelude.{◌≡◌, ◌≢◌, ◌⊎◌, ℕ, ◌+◌, ◌≤◌, Bool, not, ◌&&◌, ◌||◌, ◌==◌, nat_le, nat_lt, List, [], ◌∷◌, ◌++◌, codes, IsTrue}
+use Rattle.std.specs.List.{list_all, AllByRecursion}
 
 -- a byte of inline text: LF, or a printable ASCII character that is none of & ! ? ]
 abbrev pub is_plain : ℕ → Bool

@@ -3,9 +3,5 @@ pub mod Trees
 pub mod Requests
 pub mod Meaning
 pub mod Loose
-pub mod Reading
-pub mod Classes
-pub mod Seen
-pub mod Found
 pub mod FirstTree
-pub mod Paging
+pub mod Steps

@@ -1,6 +1,6 @@
 -- The written meaning of a program: what a run prints, and how it ends. Each statement takes one unit.
 -- The PHP manual says what the statements do: "echo", "if", "isset", "Escaping from HTML".
-use Rattle.std.specs.Prelude.{◌≡◌, ℕ, zero, suc, Bool, true, false, List, [], ◌∷◌, ◌++◌, Option, Some, None, if◌then◌else◌}
+use Rattle.std.specs.Prelude.{◌≡◌, ℕ, zero, suc, Bool, true, false, List, [], ◌++◌, Option, Some, None, if◌then◌else◌}
 use Rattle.std.specs.List.{list_all}
 use Rattle.php_syntax.specs.declared.tree.SuperName.TheVariants.{Get}
 use Rattle.php_syntax.specs.Trees.{PlainExpr, PlainExprs, PlainStmt, PlainStmts, PlainArms, PlainFile, text_expr, super_expr, member_expr, isset_expr, no_exprs, more_exprs, inline_stmt, echo_stmt, if_stmt, no_stmts, more_stmts, no_arms, more_arms}
@@ -29,8 +29,8 @@ unfoldable pub ◌then_do◌ : Run → (ℕ → List ℕ → Run) → Run
 (going n printed) then_do go = go n printed
 (spent printed) then_do go = spent printed
 unwritten then_do go = unwritten
-infixl 10 ◌then_do◌
 
+infixl 10 ◌then_do◌
 -- what an echo of these texts prints
 unfoldable pub texts_of : PlainExprs → Option (List ℕ)
 texts_of no_exprs = Some []
@@ -57,6 +57,7 @@ choose (Some false) yes_run no_run = no_run
 
 unfoldable mutual
   unfolding with_unit ◌then_do◌ texts_of print_texts condition_of choose
+
   pub statement_run : Request → PlainStmt → ℕ → List ℕ → Run
   statement_run r (inline_stmt text) n printed = with_unit n printed λ n. going n (printed ++ text)
   statement_run r (echo_stmt es) n printed = with_unit n printed λ n. print_texts (texts_of es) n printed

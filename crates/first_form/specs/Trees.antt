@@ -2,7 +2,7 @@
 use Rattle.std.specs.Prelude.{◌≡◌, ℕ, List, [], ◌∷◌, Option, Some}
 use Rattle.php_syntax.specs.declared.tree.SuperName.TheVariants.{Get}
 use Rattle.php_syntax.specs.Trees.{PlainExpr, PlainStmt, PlainStmts, PlainFile, text_expr, super_expr, member_expr, isset_expr, no_exprs, more_exprs, inline_stmt, echo_stmt, if_stmt, no_stmts, more_stmts, no_arms, more_arms}
-use Rattle.first_form.specs.FirstForm.{Each, is_plain, is_letter, Statement, echo_of, if_set, Part, inline, php, HasParts}
+use Rattle.first_form.specs.FirstForm.{Statement, echo_of, if_set, Part, inline, php, HasParts}
 
 -- echo 'TEXT';
 abbrev pub echo_text : List ℕ → PlainStmt

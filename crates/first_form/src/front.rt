@@ -2,10 +2,10 @@
 
 ghost use Rattle.std.specs.Prelude.{◌≡◌, ◌++◌, take, drop};
 ghost use Rattle.std.specs.List.{list_all};
-ghost use Rattle.first_form.specs.Reading.{front_of, rest_of, strip, after, quoted_at};
+ghost use Rattle.first_form.specs.Steps.Reading.{front_of, rest_of, strip, after, quoted_at};
 ghost use Rattle.first_form.specs.FirstForm.{is_plain};
-ghost use Rattle.first_form.specs.Classes.{test_of};
-ghost use Rattle.first_form.specs.Seen.{seen, seen_pair};
+ghost use Rattle.first_form.specs.Steps.Classes.{test_of};
+ghost use Rattle.first_form.specs.Steps.Seen.{seen, seen_pair};
 
 /// A class of bytes.
 #[derive(Clone, Copy)]
@@ -23,7 +23,13 @@ pub(crate) enum Class {
 fn plain(byte: u8) -> bool
     ensures { result ≡ is_plain byte }
 {
-    byte == b'\n' || (byte >= 32 && byte < 127 && byte != b'!' && byte != b'&' && byte != b'?' && byte != b']')
+    byte == b'\n'
+        || (byte >= 32
+            && byte < 127
+            && byte != b'!'
+            && byte != b'&'
+            && byte != b'?'
+            && byte != b']')
 }
 
 /// Whether the byte is of the class.
@@ -59,7 +65,7 @@ pub(crate) fn all_of(class: Class, bytes: &[u8]) -> bool
 }
 
 /// What follows the word, where the bytes begin with it.
-#[tactic(auto, unfolding(crate::specs::Reading::strip))]
+#[tactic(auto, unfolding(crate::specs::Steps::Reading::strip))]
 pub(crate) fn strip<'a>(bytes: &'a [u8], word: &[u8]) -> Option<&'a [u8]>
     ensures { seen result ≡ strip word.now bytes.now }
 {
@@ -81,7 +87,7 @@ pub(crate) fn strip<'a>(bytes: &'a [u8], word: &[u8]) -> Option<&'a [u8]>
 }
 
 /// What follows the word and the blanks after it, where the bytes begin with the word.
-#[tactic(auto, unfolding(crate::specs::Reading::after))]
+#[tactic(auto, unfolding(crate::specs::Steps::Reading::after))]
 pub(crate) fn after<'a>(bytes: &'a [u8], word: &[u8]) -> Option<&'a [u8]>
     ensures { seen result ≡ after word.now bytes.now }
 {
@@ -91,7 +97,7 @@ pub(crate) fn after<'a>(bytes: &'a [u8], word: &[u8]) -> Option<&'a [u8]>
 }
 
 /// The text between single quotes at the front, whose bytes are of the class, and what follows it and the blanks after it.
-#[tactic(auto, unfolding(crate::specs::Reading::quoted_at))]
+#[tactic(auto, unfolding(crate::specs::Steps::Reading::quoted_at))]
 pub(crate) fn quoted(bytes: &[u8], class: Class) -> Option<(&[u8], &[u8])>
     ensures { seen_pair result ≡ quoted_at (test_of class) bytes.now }
 {

@@ -2,9 +2,9 @@
 
 ghost use Rattle.std.specs.Prelude.{◌≡◌, [], None, IfOk, IfSome, IfNone};
 ghost use Rattle.php_syntax.specs.Trees.{arms_of as plain_arms_of, plain_expr, plain_stmt, plain_file, exprs_of, stmts_of};
-ghost use Rattle.first_form.specs.Paging.{forked, plain_text, literal_of, one_text, printed_of, printed_by, is_key, is_get, is_get_member, is_set_one, is_set_test, arm_body, arms_at, gathered, maybe_gathered, with_text, with_statement, with_body};
+ghost use Rattle.first_form.specs.Steps.Paging.{forked, plain_text, literal_of, one_text, printed_of, printed_by, is_key, is_get, is_get_member, is_set_one, is_set_test, arm_body, arms_at, gathered, maybe_gathered, with_text, with_statement, with_body};
 ghost use Rattle.first_form.specs.FirstTree.{IsFirstTree, ArePages};
-ghost use Rattle.first_form.specs.Seen.{seen, seen_body, seen_arms};
+ghost use Rattle.first_form.specs.Steps.Seen.{seen, seen_body, seen_arms};
 
 use crate::front::{Class, all_of};
 use php_syntax::tree::{Expr, FileTree, Stmt, SuperName};
@@ -21,7 +21,7 @@ pub struct Pages {
 }
 
 /// The text of a text literal.
-#[tactic(auto, using(php_syntax::proofs::Views::views), unfolding(crate::specs::Paging::literal_of))]
+#[tactic(auto, using(php_syntax::proofs::Views::views), unfolding(crate::specs::Steps::Paging::literal_of))]
 fn literal(operand: &Expr) -> Option<&[u8]>
     ensures { seen result ≡ literal_of (plain_expr operand.now) }
 {
@@ -36,11 +36,15 @@ fn only_text(operands: &[Expr]) -> Option<&[u8]>
     ensures { seen result ≡ one_text (exprs_of operands.now) }
 {
     let (first, more) = operands.split_first()?;
-    if more.is_empty() { literal(first) } else { None }
+    if more.is_empty() {
+        literal(first)
+    } else {
+        None
+    }
 }
 
 /// The text, where its bytes are plain.
-#[tactic(auto, unfolding(crate::specs::Paging::plain_text))]
+#[tactic(auto, unfolding(crate::specs::Steps::Paging::plain_text))]
 fn plain(text: &[u8]) -> Option<&[u8]>
     ensures { seen result ≡ plain_text text.now }
 {
@@ -52,7 +56,7 @@ fn plain(text: &[u8]) -> Option<&[u8]>
 }
 
 /// What inline text or an echo of one text prints, where its bytes are plain.
-#[tactic(auto, using(php_syntax::proofs::Views::views), unfolding(crate::specs::Paging::printed_of))]
+#[tactic(auto, using(php_syntax::proofs::Views::views), unfolding(crate::specs::Steps::Paging::printed_of))]
 fn printed(statement: &Stmt) -> Option<&[u8]>
     ensures { seen result ≡ printed_of (plain_stmt statement.now) }
 {
@@ -78,7 +82,7 @@ fn printed_all(alloc: Global, statements: &[Stmt]) -> Result<Option<Bytes>, NoMe
 }
 
 /// Whether the expression is a key of one or more letters.
-#[tactic(auto, using(php_syntax::proofs::Views::views), unfolding(crate::specs::Paging::is_key))]
+#[tactic(auto, using(php_syntax::proofs::Views::views), unfolding(crate::specs::Steps::Paging::is_key))]
 fn is_letters(expression: &Expr) -> bool
     ensures { result ≡ is_key (plain_expr expression.now) }
 {
@@ -91,7 +95,7 @@ fn is_letters(expression: &Expr) -> bool
 }
 
 /// Whether the expression is `$_GET`.
-#[tactic(auto, using(php_syntax::proofs::Views::views), unfolding(crate::specs::Paging::is_get, crate::specs::Paging::is_get_name))]
+#[tactic(auto, using(php_syntax::proofs::Views::views), unfolding(crate::specs::Steps::Paging::is_get, crate::specs::Steps::Paging::is_get_name))]
 fn is_get_array(expression: &Expr) -> bool
     ensures { result ≡ is_get (plain_expr expression.now) }
 {
@@ -102,7 +106,7 @@ fn is_get_array(expression: &Expr) -> bool
 }
 
 /// Whether the expression is a member of `$_GET` under a key of one or more letters.
-#[tactic(auto, using(php_syntax::proofs::Views::views), unfolding(crate::specs::Paging::is_get_member))]
+#[tactic(auto, using(php_syntax::proofs::Views::views), unfolding(crate::specs::Steps::Paging::is_get_member))]
 fn is_member_of_get(expression: &Expr) -> bool
     ensures { result ≡ is_get_member (plain_expr expression.now) }
 {
@@ -123,7 +127,7 @@ fn is_one_member(operands: &[Expr]) -> bool
 }
 
 /// Whether the condition asks if one such member is set.
-#[tactic(auto, using(php_syntax::proofs::Views::views), unfolding(crate::specs::Paging::is_set_test))]
+#[tactic(auto, using(php_syntax::proofs::Views::views), unfolding(crate::specs::Steps::Paging::is_set_test))]
 fn asks_if_set(condition: &Expr) -> bool
     ensures { result ≡ is_set_test (plain_expr condition.now) }
 {
@@ -146,7 +150,7 @@ fn only_arm(arms: &[(Expr, Vec<Stmt>)]) -> Option<&[Stmt]>
 }
 
 /// The arms of an if that has one condition, whether a name is set.
-#[tactic(auto, using(php_syntax::proofs::Views::views), unfolding(crate::specs::Paging::arms_at))]
+#[tactic(auto, using(php_syntax::proofs::Views::views), unfolding(crate::specs::Steps::Paging::arms_at))]
 fn arms_of(statement: &Stmt) -> Option<(&[Stmt], &[Stmt])>
     ensures { seen_arms result ≡ arms_at (plain_stmt statement.now) }
 {
@@ -157,7 +161,7 @@ fn arms_of(statement: &Stmt) -> Option<(&[Stmt], &[Stmt])>
 }
 
 /// The pages with a text behind each.
-#[tactic(auto, unfolding(crate::specs::Paging::with_text))]
+#[tactic(auto, unfolding(crate::specs::Steps::Paging::with_text))]
 fn add_text(pages: Pages, text: &[u8]) -> Result<Pages, NoMemory>
     ensures { IfOk result (λ next. gathered next ≡ with_text (gathered pages) text.now) }
 {
@@ -179,12 +183,8 @@ fn add_text(pages: Pages, text: &[u8]) -> Result<Pages, NoMemory>
 }
 
 /// The two pages of an if, where there was one page before.
-#[tactic(auto, unfolding(crate::specs::Paging::forked))]
-fn fork(
-    alloc: Global,
-    pages: Pages,
-    arms: (&[Stmt], &[Stmt]),
-) -> Result<Option<Pages>, NoMemory>
+#[tactic(auto, unfolding(crate::specs::Steps::Paging::forked))]
+fn fork(alloc: Global, pages: Pages, arms: (&[Stmt], &[Stmt])) -> Result<Option<Pages>, NoMemory>
     ensures { IfOk result (λ o. maybe_gathered o ≡ forked (gathered pages) (stmts_of arms.entry.0.now, stmts_of arms.entry.1.now)) }
 {
     if pages.second.is_some() {
@@ -207,12 +207,8 @@ fn fork(
 }
 
 /// The pages with what a statement prints behind each, where the statement is of the first form.
-#[tactic(auto, unfolding(crate::specs::Paging::with_statement, crate::specs::Paging::text_or_branch, crate::specs::Paging::with_branch))]
-fn add_statement(
-    alloc: Global,
-    pages: Pages,
-    statement: &Stmt,
-) -> Result<Option<Pages>, NoMemory>
+#[tactic(auto, unfolding(crate::specs::Steps::Paging::with_statement, crate::specs::Steps::Paging::text_or_branch, crate::specs::Steps::Paging::with_branch))]
+fn add_statement(alloc: Global, pages: Pages, statement: &Stmt) -> Result<Option<Pages>, NoMemory>
     ensures { IfOk result (λ o. maybe_gathered o ≡ with_statement (gathered pages) (plain_stmt statement.now)) }
 {
     match printed(statement) {

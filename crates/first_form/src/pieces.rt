@@ -2,11 +2,11 @@
 
 ghost use Rattle.std.specs.Prelude.{◌≡◌, List, IfOk};
 ghost use Rattle.first_form.specs.FirstForm.{Part, inline_part};
-ghost use Rattle.first_form.specs.Reading;
-ghost use Rattle.first_form.specs.Reading.{opener_at, closer_at, text_of, past_text, end_step, step_at};
-ghost use Rattle.first_form.specs.Seen.{seen};
+ghost use Rattle.first_form.specs.Steps.Reading;
+ghost use Rattle.first_form.specs.Steps.Reading.{opener_at, closer_at, text_of, past_text, end_step, step_at};
+ghost use Rattle.first_form.specs.Steps.Seen.{seen};
 ghost use Rattle.first_form.specs.Trees.{parts_tree};
-ghost use Rattle.first_form.specs.Found.{joined, AddsParts, step_of, AddsInline};
+ghost use Rattle.first_form.specs.Steps.Found.{joined, AddsParts, step_of, AddsInline};
 
 use crate::front::{Class, belongs, run_of, strip};
 use crate::statements::statements;
@@ -26,7 +26,7 @@ pub(crate) enum Next<'a> {
 }
 
 /// What follows an opener, the blank that belongs to it, and more blanks.
-#[tactic(auto, unfolding(crate::specs::Reading::opener_at, crate::specs::Reading::past_blank))]
+#[tactic(auto, unfolding(crate::specs::Steps::Reading::opener_at, crate::specs::Steps::Reading::past_blank))]
 fn opener(bytes: &[u8]) -> Option<&[u8]>
     ensures { seen result ≡ opener_at bytes.now }
 {
@@ -41,7 +41,7 @@ fn opener(bytes: &[u8]) -> Option<&[u8]>
 }
 
 /// What follows the end of a PHP piece, which takes an LF with it.
-#[tactic(auto, unfolding(crate::specs::Reading::closer_at, crate::specs::Reading::past_newline))]
+#[tactic(auto, unfolding(crate::specs::Steps::Reading::closer_at, crate::specs::Steps::Reading::past_newline))]
 fn closer(bytes: &[u8]) -> Option<&[u8]>
     ensures { seen result ≡ closer_at bytes.now }
 {
@@ -59,7 +59,7 @@ fn closer(bytes: &[u8]) -> Option<&[u8]>
 }
 
 /// Whether inline text ends before these bytes: at the end, before `<?`, and before a byte that is not plain.
-#[tactic(auto, unfolding(crate::specs::Reading::ends_text))]
+#[tactic(auto, unfolding(crate::specs::Steps::Reading::ends_text))]
 fn ends_text(bytes: &[u8]) -> bool
     ensures { result ≡ Reading.ends_text bytes.now }
 {
@@ -92,7 +92,7 @@ fn push_inline(alloc: Global, text: &[u8], body: &mut Vec<Stmt>) -> Result<(), N
 }
 
 /// What comes after the statements of a PHP piece.
-#[tactic(auto, unfolding(crate::specs::Reading::end_step, crate::specs::Reading::close_step))]
+#[tactic(auto, unfolding(crate::specs::Steps::Reading::end_step, crate::specs::Steps::Reading::close_step))]
 fn after_statements(bytes: &[u8]) -> Next<'_>
     ensures { (parts : List Part) → step_of parts result ≡ end_step parts bytes.now }
 {

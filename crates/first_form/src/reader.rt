@@ -2,9 +2,9 @@
 
 ghost use Rattle.std.specs.Prelude.{◌≡◌, ◌≤◌, ◌↔◌, IfOk, IfSome, IfNone, IsTrue, if◌then◌else◌};
 ghost use Rattle.php_syntax.specs.Trees.{PlainFile, plain_file, plain_stmt, stmts_of};
-ghost use Rattle.first_form.specs.Reading.{file_at};
+ghost use Rattle.first_form.specs.Steps.Reading.{file_at};
 ghost use Rattle.first_form.specs.Trees.{IsFirstForm};
-ghost use Rattle.first_form.specs.Found.{bodied, parted, if_count, ifs_in};
+ghost use Rattle.first_form.specs.Steps.Found.{bodied, parted, if_count, ifs_in};
 
 use crate::pieces::{Next, piece};
 use php_syntax::tree::{FileTree, Stmt};
@@ -27,7 +27,7 @@ fn body_of(alloc: Global, file: &[u8]) -> Result<Option<Vec<Stmt>>, NoMemory>
 }
 
 /// Whether the statement is an if.
-#[tactic(auto, using(php_syntax::proofs::Views::views), unfolding(crate::specs::Found::if_count))]
+#[tactic(auto, using(php_syntax::proofs::Views::views), unfolding(crate::specs::Steps::Found::if_count))]
 fn is_if(statement: &Stmt) -> bool
     ensures { (if result then 1 else 0) ≡ if_count (plain_stmt statement.now) }
 {

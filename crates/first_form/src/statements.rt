@@ -1,8 +1,8 @@
 //! The statements of a PHP piece.
 
 ghost use Rattle.std.specs.Prelude.{◌≡◌, IfOk};
-ghost use Rattle.first_form.specs.Reading.{if_at, statement_at};
-ghost use Rattle.first_form.specs.Found.{found, treed, IsArm, AddsStatements};
+ghost use Rattle.first_form.specs.Steps.Reading.{if_at, statement_at};
+ghost use Rattle.first_form.specs.Steps.Found.{found, treed, IsArm, AddsStatements};
 
 use crate::front::after;
 use crate::trees::{echo_of, if_of};
@@ -25,7 +25,7 @@ fn echoes(alloc: Global, bytes: &[u8]) -> Result<(Vec<Stmt>, &[u8]), NoMemory>
 }
 
 /// An if at the front, and what follows it.
-#[tactic(auto, unfolding(crate::specs::Reading::if_at, crate::specs::FirstForm::spelling))]
+#[tactic(auto, unfolding(crate::specs::Steps::Reading::if_at, crate::specs::FirstForm::spelling))]
 fn if_statement(alloc: Global, bytes: &[u8]) -> Result<Option<(Stmt, &[u8])>, NoMemory>
     ensures { IfOk result (λ o. found o ≡ treed (if_at bytes.now)) }
 {
@@ -44,7 +44,7 @@ fn if_statement(alloc: Global, bytes: &[u8]) -> Result<Option<(Stmt, &[u8])>, No
 }
 
 /// A statement at the front, and what follows it.
-#[tactic(auto, unfolding(crate::specs::Reading::statement_at, crate::specs::Reading::echo_or))]
+#[tactic(auto, unfolding(crate::specs::Steps::Reading::statement_at, crate::specs::Steps::Reading::echo_or))]
 fn statement(alloc: Global, bytes: &[u8]) -> Result<Option<(Stmt, &[u8])>, NoMemory>
     ensures { IfOk result (λ o. found o ≡ treed (statement_at bytes.now)) }
 {

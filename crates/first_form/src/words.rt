@@ -1,13 +1,13 @@
 //! The tokens of a statement at the front of some bytes, each with the blanks after it.
 
 ghost use Rattle.std.specs.Prelude.{◌≡◌};
-ghost use Rattle.first_form.specs.Reading.{echo_at, if_start_at, key_at, arm_start_at, if_head_at, else_at};
-ghost use Rattle.first_form.specs.Seen.{seen, seen_pair};
+ghost use Rattle.first_form.specs.Steps.Reading.{echo_at, if_start_at, key_at, arm_start_at, if_head_at, else_at};
+ghost use Rattle.first_form.specs.Steps.Seen.{seen, seen_pair};
 
 use crate::front::{Class, after, quoted};
 
 /// The text of an echo at the front, and what follows it.
-#[tactic(auto, unfolding(crate::specs::Reading::echo_at, crate::specs::FirstForm::spelling))]
+#[tactic(auto, unfolding(crate::specs::Steps::Reading::echo_at, crate::specs::FirstForm::spelling))]
 pub(crate) fn echo(bytes: &[u8]) -> Option<(&[u8], &[u8])>
     ensures { seen_pair result ≡ echo_at bytes.now }
 {
@@ -18,7 +18,7 @@ pub(crate) fn echo(bytes: &[u8]) -> Option<(&[u8], &[u8])>
 }
 
 /// What follows the beginning of an if, up to its key.
-#[tactic(auto, unfolding(crate::specs::Reading::if_start_at, crate::specs::Reading::words_at, crate::specs::FirstForm::spelling))]
+#[tactic(auto, unfolding(crate::specs::Steps::Reading::if_start_at, crate::specs::Steps::Reading::words_at, crate::specs::FirstForm::spelling))]
 fn if_start(bytes: &[u8]) -> Option<&[u8]>
     ensures { seen result ≡ if_start_at bytes.now }
 {
@@ -31,16 +31,20 @@ fn if_start(bytes: &[u8]) -> Option<&[u8]>
 }
 
 /// The key of an if, of one or more letters, and what follows it.
-#[tactic(auto, unfolding(crate::specs::Reading::key_at, crate::specs::Reading::not_empty))]
+#[tactic(auto, unfolding(crate::specs::Steps::Reading::key_at, crate::specs::Steps::Reading::not_empty))]
 fn key(bytes: &[u8]) -> Option<(&[u8], &[u8])>
     ensures { seen_pair result ≡ key_at bytes.now }
 {
     let (name, rest) = quoted(bytes, Class::Letter)?;
-    if name.is_empty() { None } else { Some((name, rest)) }
+    if name.is_empty() {
+        None
+    } else {
+        Some((name, rest))
+    }
 }
 
 /// What follows the end of an if's condition and the bracket of its first arm.
-#[tactic(auto, unfolding(crate::specs::Reading::arm_start_at, crate::specs::Reading::words_at, crate::specs::FirstForm::spelling))]
+#[tactic(auto, unfolding(crate::specs::Steps::Reading::arm_start_at, crate::specs::Steps::Reading::words_at, crate::specs::FirstForm::spelling))]
 fn arm_start(bytes: &[u8]) -> Option<&[u8]>
     ensures { seen result ≡ arm_start_at bytes.now }
 {
@@ -51,7 +55,7 @@ fn arm_start(bytes: &[u8]) -> Option<&[u8]>
 }
 
 /// The key of an if at the front, and what follows the bracket of its first arm.
-#[tactic(auto, unfolding(crate::specs::Reading::if_head_at))]
+#[tactic(auto, unfolding(crate::specs::Steps::Reading::if_head_at))]
 pub(crate) fn if_head(bytes: &[u8]) -> Option<(&[u8], &[u8])>
     ensures { seen_pair result ≡ if_head_at bytes.now }
 {
@@ -62,7 +66,7 @@ pub(crate) fn if_head(bytes: &[u8]) -> Option<(&[u8], &[u8])>
 }
 
 /// What follows what stands between two arms.
-#[tactic(auto, unfolding(crate::specs::Reading::else_at, crate::specs::Reading::words_at, crate::specs::FirstForm::spelling))]
+#[tactic(auto, unfolding(crate::specs::Steps::Reading::else_at, crate::specs::Steps::Reading::words_at, crate::specs::FirstForm::spelling))]
 pub(crate) fn between_arms(bytes: &[u8]) -> Option<&[u8]>
     ensures { seen result ≡ else_at bytes.now }
 {

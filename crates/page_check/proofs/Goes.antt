@@ -5,9 +5,11 @@ use Rattle.std.specs.List.{list_all}
 use Rattle.std.specs.Cmp.Lexicographic.{pointwise}
 use Rattle.std.specs.Char.{encode_utf8}
 use Rattle.dtd_model.specs.Table.{Rule, Table, Declared}
-use Rattle.dtd_model.specs.PageTree.{Attribute, Tag, IsTag, Nodes, no_nodes, character, element, empty_element, attributes_then, tag_then, nodes_then, AreNodes, is_plain, text, begins_section_end}
-use Rattle.dtd_model.specs.Attributes.{is_declared, same}
-use Rattle.dtd_model.specs.Valid.{find_rule, place_of, element_names, all_characters, ElementFits, ElementsFit}
+use Rattle.dtd_model.specs.Characters.{same}
+use Rattle.dtd_model.specs.References.{Reference, decimal, hexadecimal, entity, reference_then}
+use Rattle.dtd_model.specs.PageTree.{Attribute, Tag, IsTag, Nodes, no_nodes, character, reference, section, comment, instruction, element, empty_element, attributes_then, tag_then, nodes_then, AreNodes, is_plain, text, begins_section_end}
+use Rattle.dtd_model.specs.Attributes.{is_declared}
+use Rattle.dtd_model.specs.Valid.{Besides, AreHeld, find_rule, place_of, element_names, ElementFits, NodesFit}
 use Rattle.dtd_model.proofs.Encoded.{encoded_low, encoded_high}
 use Rattle.page_check.specs.PageBytes.{is_page_byte}
 use Rattle.page_check.specs.Pieces.{Named}
@@ -20,13 +22,13 @@ ArePlain [] = Unit {0}
 ArePlain (r ∷ rs) = (r.attributes ≡ []) × ArePlain rs
 
 -- the bytes are nodes that fit a test of characters and one of elements, and an end
-pub record Goes (table : Table) (may : ℕ → Bool) (fits : List ℕ → Bool) (ends : List ℕ → Type 0) (bytes : List ℕ) : Type 0 where
+pub record Goes (table : Table) (may : Besides) (fits : List ℕ → Bool) (ends : List ℕ → Type 0) (bytes : List ℕ) : Type 0 where
   pub nodes : Nodes
   pub tail : List ℕ
   pub is : bytes ≡ nodes_then nodes tail
   pub lawful : AreNodes nodes
-  pub elements : ElementsFit table nodes
-  pub characters : all_characters may nodes
+  pub elements : NodesFit table nodes
+  pub besides : AreHeld may nodes
   pub matched : fits (map (place_of table.elements) (element_names nodes)) ≡ true
   pub end : ends tail
 
@@ -116,20 +118,42 @@ tag_named table tag inside bytes rest plain is fits e = record {
 
 -- A character.
 
-pub character_forth : (table : Table) (may : ℕ → Bool) (fits : List ℕ → Bool) (ends : List ℕ → Type 0) (b : ℕ) (rest : List ℕ) → AreEndings ends → b < 128 → b ≢ 60 → Goes table may fits ends (b ∷ rest) → (may b ≡ true) × Goes table may fits ends rest
-character_forth table may fits ends b rest endings low other g = go g.nodes g.is g.lawful g.elements g.characters g.matched
+reference_first : (r : Reference) (b : ℕ) (rest more : List ℕ) → b ∷ rest ≡ reference_then r more → b ≡ 38
+reference_first (decimal digits) b rest more e = cc
+reference_first (hexadecimal digits) b rest more e = cc
+reference_first (entity name) b rest more e = cc
+
+pub false_true : false ≡ true → ⊥
+false_true e = cc
+
+-- no reference stands in a page of page bytes
+pub no_reference : (r : Reference) (b : ℕ) (rest more : List ℕ) → is_page_byte b ≡ true → b ∷ rest ≡ reference_then r more → ⊥
+no_reference r b rest more page e = false_true (subst (λ (x : ℕ). is_page_byte x ≡ true) (reference_first r b rest more e) page)
+
+below : (b : ℕ) → is_page_byte b ≡ true → b < 128
+below b h = grind (arith, nat_tests)
+
+sixty : (b : ℕ) (xs ys : List ℕ) → b ∷ xs ≡ 60 ∷ ys → b ≡ 60
+sixty b xs ys e = cc
+
+pub character_forth : (table : Table) (may : Besides) (fits : List ℕ → Bool) (ends : List ℕ → Type 0) (b : ℕ) (rest : List ℕ) → AreEndings ends → is_page_byte b ≡ true → b ≢ 60 → Goes table may fits ends (b ∷ rest) → (may.characters b ≡ true) × Goes table may fits ends rest
+character_forth table may fits ends b rest endings page other g = go g.nodes g.is g.lawful g.elements g.besides g.matched
   where
     ended : Ending g.tail → b ∷ rest ≡ g.tail → ⊥
     ended (nothing_left e) is = cc
-    ended (end_tag name inside more e n) is = other (let s : b ≡ 60 = cc in s)
+    ended (end_tag name inside more e n) is = other (sixty b rest _ (is ∙ e))
 
-    go : (nodes : Nodes) → b ∷ rest ≡ nodes_then nodes g.tail → AreNodes nodes → ElementsFit table nodes → all_characters may nodes → fits (map (place_of table.elements) (element_names nodes)) ≡ true → (may b ≡ true) × Goes table may fits ends rest
-    go no_nodes is lawful elements characters matched = absurd (ended (endings g.tail g.end) is)
-    go (character c more) is lawful elements characters matched =
-        let first = begins b rest c (nodes_then more g.tail) low is in
-        (subst (λ (x : ℕ). may x ≡ true) (sym first.same) characters.0, record { nodes = more; tail = g.tail; is = first.behind; lawful = lawful.2; elements = elements; characters = characters.1; matched = matched; end = g.end })
-    go (element tag inside space more) is lawful elements characters matched = absurd (other (let s : b ≡ 60 = cc in s))
-    go (empty_element tag more) is lawful elements characters matched = absurd (other (let s : b ≡ 60 = cc in s))
+    go : (nodes : Nodes) → b ∷ rest ≡ nodes_then nodes g.tail → AreNodes nodes → NodesFit table nodes → AreHeld may nodes → fits (map (place_of table.elements) (element_names nodes)) ≡ true → (may.characters b ≡ true) × Goes table may fits ends rest
+    go no_nodes is lawful elements besides matched = absurd (ended (endings g.tail g.end) is)
+    go (character c more) is lawful elements besides matched =
+        let first = begins b rest c (nodes_then more g.tail) (below b page) is in
+        (subst (λ (x : ℕ). may.characters x ≡ true) (sym first.same) besides.0, record { nodes = more; tail = g.tail; is = first.behind; lawful = lawful.2; elements = elements; besides = besides.1; matched = matched; end = g.end })
+    go (reference r more) is lawful elements besides matched = absurd (no_reference r b rest _ page is)
+    go (section chars more) is lawful elements besides matched = absurd (other (sixty b rest _ is))
+    go (comment chars more) is lawful elements besides matched = absurd (other (sixty b rest _ is))
+    go (instruction target space chars more) is lawful elements besides matched = absurd (other (sixty b rest _ is))
+    go (element tag inside space more) is lawful elements besides matched = absurd (other (sixty b rest _ is))
+    go (empty_element tag more) is lawful elements besides matched = absurd (other (sixty b rest _ is))
 
 page_byte_plain : (b : ℕ) → is_page_byte b ≡ true → b ≢ 60 → is_plain b ≡ true
 page_byte_plain b h other = grind (arith, nat_tests)
@@ -142,14 +166,14 @@ no_bracket b more h =
     let other : nat_eq 93 b ≡ false = grind (arith, nat_tests) in
     subst (λ (x : Bool). (x && pointwise nat_eq (93 ∷ 62 ∷ []) (take 2 more)) ≡ false) (sym other) refl
 
-pub character_back : (table : Table) (may : ℕ → Bool) (fits : List ℕ → Bool) (ends : List ℕ → Type 0) (b : ℕ) (rest : List ℕ) → is_page_byte b ≡ true → b ≢ 60 → may b ≡ true → Goes table may fits ends rest → Goes table may fits ends (b ∷ rest)
+pub character_back : (table : Table) (may : Besides) (fits : List ℕ → Bool) (ends : List ℕ → Type 0) (b : ℕ) (rest : List ℕ) → is_page_byte b ≡ true → b ≢ 60 → may.characters b ≡ true → Goes table may fits ends rest → Goes table may fits ends (b ∷ rest)
 character_back table may fits ends b rest page other allowed g = record {
   nodes = character b g.nodes;
   tail = g.tail;
   is = ap (λ (xs : List ℕ). b ∷ xs) g.is ∙ ap (λ (xs : List ℕ). xs ++ nodes_then g.nodes g.tail) (sym (encoded_low b (page_byte_low b page)));
   lawful = (page_byte_plain b page other, no_bracket b (text g.nodes) page, g.lawful);
   elements = g.elements;
-  characters = (allowed, g.characters);
+  besides = (allowed, g.besides);
   matched = g.matched;
   end = g.end;
 }

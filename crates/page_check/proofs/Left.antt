@@ -20,7 +20,7 @@ use Rattle.page_check.specs.States.{is_whole, stepped, IsStuck, no_piece, no_ste
 use Rattle.page_check.proofs.Tests.{second_true}
 use Rattle.page_check.proofs.Levels.{Same}
 use Rattle.page_check.proofs.StateLemmas.{Completes, Leads}
-use Rattle.page_check.proofs.Steps.{steps, none_left, whole_left, part_left, valid_same}
+use Rattle.page_check.proofs.Steps.{all_behind, steps, none_left, whole_left, part_left, valid_same}
 
 -- the page is valid exactly where the rest completes the state
 pub record Left (page : List ℕ) (state : State) (rest : List ℕ) : Type 0 where
@@ -29,11 +29,7 @@ pub record Left (page : List ℕ) (state : State) (rest : List ℕ) : Type 0 whe
   pub within : length rest ≤ length page
 
 pub left_first : (page : List ℕ) → list_all is_page_byte page ≡ true → Left page Before page
-left_first page plain = record { same = valid_same page; plain = plain; within = omega arith }
-
-all_behind : (test : ℕ → Bool) (xs ys : List ℕ) → list_all test (xs ++ ys) ≡ true → list_all test ys ≡ true
-all_behind test [] ys p = p
-all_behind test (x ∷ xs) ys p = all_behind test xs ys (second_true (test x) _ p)
+left_first page plain = record { same = valid_same page plain; plain = plain; within = omega arith }
 
 behind_name : (name bytes rest : List ℕ) → Named name bytes rest → list_all is_page_byte bytes ≡ true → list_all is_page_byte rest ≡ true
 behind_name name bytes rest n plain =
@@ -69,7 +65,7 @@ left_on page s t bytes rest left next shorter =
 
 stuck : (s : State) (bytes : List ℕ) → list_all is_page_byte bytes ≡ true → bytes ≢ [] → IsStuck s bytes → Completes s bytes → ⊥
 stuck s [] plain some (no_piece h) g = some refl
-stuck s (b ∷ bytes) plain some (no_piece h) g = none_left s b bytes h g
+stuck s (b ∷ bytes) plain some (no_piece h) g = none_left s b bytes plain h g
 stuck s bytes plain some (no_step piece rest c e) g = leads_none s bytes rest (stepped s piece) e (steps s piece bytes rest c plain) g
 
 pub not_valid : (page : List ℕ) (s : State) (bytes : List ℕ) → Left page s bytes → bytes ≢ [] → IsStuck s bytes → Valid mini_table page → ⊥

@@ -1,15 +1,17 @@
 -- A step keeps what is left of the page, and the first state has all of it.
-use Rattle.std.proofs.Common.{◌≡◌, ℕ, suc, ◌<◌, Bool, true, false, List, [], ◌∷◌, nat_eq, refl, sym, ap, ◌∙◌, subst, codes, arith}
+use Rattle.std.proofs.Common.{◌≡◌, ℕ, suc, Bool, true, false, List, [], ◌∷◌, ◌++◌, nat_eq, refl, sym, ap, ◌∙◌, subst, codes, arith}
 use Rattle.std.specs.Prelude.{map, Option, Some, None, ◌≢◌, if◌then◌else◌}
 use Rattle.std.specs.Option.{option_and_then}
 use Rattle.std.specs.List.{list_all}
 use Rattle.std.proofs.lemmas.Bool.Decides.{nat_tests}
 use Rattle.text_base.specs.Exactness.{exact_bytes}
-use Rattle.dtd_model.specs.Characters.{is_blank}
+use Rattle.dtd_model.specs.Characters.{is_blank, same}
 use Rattle.dtd_model.specs.Table.{Table}
-use Rattle.dtd_model.specs.Attributes.{same}
-use Rattle.dtd_model.specs.PageTree.{nodes_then}
-use Rattle.dtd_model.specs.Valid.{Valid, place_of, element_names}
+use Rattle.std.specs.Char.{encode_utf8}
+use Rattle.dtd_model.specs.References.{Reference, decimal, hexadecimal, entity, reference_then}
+use Rattle.dtd_model.specs.PageTree.{Nodes, no_nodes, character, reference, section, comment, instruction, element, empty_element, nodes_then}
+use Rattle.dtd_model.specs.Prolog.{Declaration, Prolog, no_doctype, with_doctype, mark_then, begin_then, prolog_then}
+use Rattle.dtd_model.specs.Valid.{Besides, around_root, IsAround, Valid, place_of, element_names}
 use Rattle.dtd_model.specs.Mini.{mini_table}
 use Rattle.page_check.specs.declared.piece.Piece.{Piece}
 use Rattle.page_check.specs.declared.piece.Piece.TheVariants.{Start, End, Empty, Character}
@@ -21,7 +23,7 @@ use Rattle.page_check.specs.PageBytes.{is_page_byte}
 use Rattle.page_check.specs.Pieces.{Named, Cuts, NoPiece}
 use Rattle.page_check.specs.States.{element_named, opened, closed, emptied, allowed, is_whole, stepped}
 use Rattle.page_check.proofs.Tests.{first_true, second_true}
-use Rattle.page_check.proofs.Goes.{Goes, Ends, AreEndings, ends_endings, character_forth, character_back}
+use Rattle.page_check.proofs.Goes.{false_true, Goes, Ends, AreEndings, ends_endings, character_forth, character_back}
 use Rattle.page_check.proofs.Moves.{end_back, last_forth, none_forth}
 use Rattle.page_check.proofs.Models.{none, only}
 use Rattle.page_check.proofs.Levels.{Same}
@@ -36,16 +38,13 @@ LeadsIf false P Q = P → ⊥
 no_true : (b : Bool) → b ≡ true → b ≡ false → ⊥
 no_true b p q = cc
 
-below : (b : ℕ) → is_page_byte b ≡ true → b < 128
-below b h = grind (arith, nat_tests)
-
-one_character : (table : Table) (may : ℕ → Bool) (fits : List ℕ → Bool) (ends : List ℕ → Type 0) (b : ℕ) (rest : List ℕ) (x : Bool) → may b ≡ x → AreEndings ends → is_page_byte b ≡ true → b ≢ 60 → LeadsIf x (Goes table may fits ends (b ∷ rest)) (Goes table may fits ends rest)
-one_character table may fits ends b rest true allowed endings page other = record {
-  forth = λ g. (character_forth table may fits ends b rest endings (below b page) other g).1;
-  back = character_back table may fits ends b rest page other allowed;
+one_character : (table : Table) (may : Besides) (fits : List ℕ → Bool) (ends : List ℕ → Type 0) (b : ℕ) (rest : List ℕ) (x : Bool) → may.characters b ≡ x → AreEndings ends → is_page_byte b ≡ true → b ≢ 60 → LeadsIf x (Goes table may fits ends (b ∷ rest)) (Goes table may fits ends rest)
+one_character table may fits ends b rest true is_allowed endings page other = record {
+  forth = λ g. (character_forth table may fits ends b rest endings page other g).1;
+  back = character_back table may fits ends b rest page other is_allowed;
 }
 one_character table may fits ends b rest false not_allowed endings page other =
-    λ g. no_true (may b) (character_forth table may fits ends b rest endings (below b page) other g).0 not_allowed
+    λ g. no_true (may.characters b) (character_forth table may fits ends b rest endings page other g).0 not_allowed
 
 leads_if : (s : State) (x : Bool) (bytes rest : List ℕ) → LeadsIf x (Completes s bytes) (Completes s rest) → Leads s bytes rest (if x then Some s else None)
 unfolding Leads
@@ -54,12 +53,12 @@ leads_if s false bytes rest never = never
 
 character_leads : (s : State) (b : ℕ) (rest : List ℕ) → is_page_byte b ≡ true → b ≢ 60 → LeadsIf (allowed s b) (Completes s (b ∷ rest)) (Completes s rest)
 unfolding Completes
-character_leads Before b rest page other = one_character mini_table is_blank _ _ b rest (is_blank b) refl nothing_endings page other
-character_leads InHtml b rest page other = one_character mini_table is_blank _ _ b rest (is_blank b) refl (ends_endings _ _) page other
-character_leads InBody b rest page other = one_character mini_table is_blank _ _ b rest (is_blank b) refl (ends_endings _ _) page other
+character_leads Before b rest page other = one_character mini_table around_root _ _ b rest (is_blank b) refl nothing_endings page other
+character_leads InHtml b rest page other = one_character mini_table around_root _ _ b rest (is_blank b) refl (ends_endings _ _) page other
+character_leads InBody b rest page other = one_character mini_table around_root _ _ b rest (is_blank b) refl (ends_endings _ _) page other
 character_leads InParagraph b rest page other = one_character mini_table everything _ _ b rest true refl (ends_endings _ _) page other
-character_leads AfterBody b rest page other = one_character mini_table is_blank _ _ b rest (is_blank b) refl (ends_endings _ _) page other
-character_leads After b rest page other = one_character mini_table is_blank _ _ b rest (is_blank b) refl nothing_endings page other
+character_leads AfterBody b rest page other = one_character mini_table around_root _ _ b rest (is_blank b) refl (ends_endings _ _) page other
+character_leads After b rest page other = one_character mini_table around_root _ _ b rest (is_blank b) refl nothing_endings page other
 
 -- A tag.
 
@@ -107,14 +106,14 @@ steps s (Character b) bytes rest c page =
     subst (λ (xs : List ℕ). Leads s xs rest (stepped s (Character b))) (sym c.0) (leads_if s (allowed s b) (b ∷ rest) rest (character_leads s b rest (first_true (is_page_byte b) _ first) c.1))
 
 -- Where no piece stands, nothing is left.
-pub none_left : (s : State) (b : ℕ) (bytes : List ℕ) → NoPiece (b ∷ bytes) → Completes s (b ∷ bytes) → ⊥
+pub none_left : (s : State) (b : ℕ) (bytes : List ℕ) → list_all is_page_byte (b ∷ bytes) ≡ true → NoPiece (b ∷ bytes) → Completes s (b ∷ bytes) → ⊥
 unfolding Completes
-none_left Before b bytes h g = none_forth mini_table _ _ _ b bytes mini_plain nothing_endings h g
-none_left InHtml b bytes h g = none_forth mini_table _ _ _ b bytes mini_plain (ends_endings _ _) h g
-none_left InBody b bytes h g = none_forth mini_table _ _ _ b bytes mini_plain (ends_endings _ _) h g
-none_left InParagraph b bytes h g = none_forth mini_table _ _ _ b bytes mini_plain (ends_endings _ _) h g
-none_left AfterBody b bytes h g = none_forth mini_table _ _ _ b bytes mini_plain (ends_endings _ _) h g
-none_left After b bytes h g = none_forth mini_table _ _ _ b bytes mini_plain nothing_endings h g
+none_left Before b bytes page h g = none_forth mini_table _ _ _ b bytes mini_plain nothing_endings (second_true (is_page_byte b) _ page) h g
+none_left InHtml b bytes page h g = none_forth mini_table _ _ _ b bytes mini_plain (ends_endings _ _) (second_true (is_page_byte b) _ page) h g
+none_left InBody b bytes page h g = none_forth mini_table _ _ _ b bytes mini_plain (ends_endings _ _) (second_true (is_page_byte b) _ page) h g
+none_left InParagraph b bytes page h g = none_forth mini_table _ _ _ b bytes mini_plain (ends_endings _ _) (second_true (is_page_byte b) _ page) h g
+none_left AfterBody b bytes page h g = none_forth mini_table _ _ _ b bytes mini_plain (ends_endings _ _) (second_true (is_page_byte b) _ page) h g
+none_left After b bytes page h g = none_forth mini_table _ _ _ b bytes mini_plain nothing_endings (second_true (is_page_byte b) _ page) h g
 
 -- The end of the bytes.
 
@@ -124,9 +123,6 @@ no_tag name after e = nothing_there e.inside e.is
     nothing_there : (inside : List ℕ) → [] ≡ 60 ∷ 47 ∷ inside → ⊥
     nothing_there inside e = cc
 
-false_true : false ≡ true → ⊥
-false_true e = cc
-
 pub whole_left : (s : State) → is_whole s ≡ true → Completes s []
 unfolding Completes
 whole_left Before h = absurd (false_true h)
@@ -134,7 +130,7 @@ whole_left InHtml h = absurd (false_true h)
 whole_left InBody h = absurd (false_true h)
 whole_left InParagraph h = absurd (false_true h)
 whole_left AfterBody h = absurd (false_true h)
-whole_left After h = end_back mini_table is_blank none IsNothing [] refl refl
+whole_left After h = end_back mini_table around_root none IsNothing [] refl refl
 
 pub part_left : (s : State) → is_whole s ≡ false → Completes s [] → ⊥
 unfolding Completes
@@ -163,24 +159,55 @@ root_names [] h = absurd (false_true h)
 root_names (name ∷ []) h = ap (λ (n : List ℕ). n ∷ []) (root_name name (first_true (nat_eq (place_of mini_table.elements name) 0) _ h))
 root_names (name ∷ other ∷ names) h = absurd (false_true (second_true (nat_eq (place_of mini_table.elements name) 0) _ h))
 
-pub valid_same : (bytes : List ℕ) → Same (Valid mini_table bytes) (Completes Before bytes)
+-- Nothing that a page of page bytes cannot hold stands before the root.
+
+pub all_behind : (test : ℕ → Bool) (xs ys : List ℕ) → list_all test (xs ++ ys) ≡ true → list_all test ys ≡ true
+all_behind test [] ys p = p
+all_behind test (x ∷ xs) ys p = all_behind test xs ys (second_true (test x) _ p)
+
+no_reference_then : (r : Reference) (rest : List ℕ) → list_all is_page_byte (reference_then r rest) ≡ true → ⊥
+no_reference_then (decimal digits) rest page = false_true page
+no_reference_then (hexadecimal digits) rest page = false_true page
+no_reference_then (entity name) rest page = false_true page
+
+some_name : (name : List ℕ) (names : List (List ℕ)) → name ∷ names ≡ [] → ⊥
+some_name name names e = cc
+
+no_doctype_then : (nodes : Nodes) (rest : List ℕ) → element_names nodes ≡ [] → list_all is_page_byte (nodes_then nodes (60 ∷ 33 ∷ rest)) ≡ true → ⊥
+no_doctype_then no_nodes rest none page = false_true page
+no_doctype_then (character c more) rest none page = no_doctype_then more rest none (all_behind is_page_byte (encode_utf8 c) _ page)
+no_doctype_then (reference r more) rest none page = no_reference_then r _ page
+no_doctype_then (section chars more) rest none page = false_true page
+no_doctype_then (comment chars more) rest none page = false_true page
+no_doctype_then (instruction target space chars more) rest none page = false_true page
+no_doctype_then (element tag inside space more) rest none page = some_name _ _ none
+no_doctype_then (empty_element tag more) rest none page = some_name _ _ none
+
+bare_page : (mark : Bool) (begin : Option Declaration) (prolog : Prolog) (nodes : Nodes) (bytes : List ℕ) → list_all is_page_byte bytes ≡ true → mark_then mark (begin_then begin (prolog_then prolog (nodes_then nodes []))) ≡ bytes → IsAround prolog → bytes ≡ nodes_then nodes []
+bare_page true begin prolog nodes bytes page e around = absurd (false_true (subst (λ (xs : List ℕ). list_all is_page_byte xs ≡ true) (sym e) page))
+bare_page false (Some d) prolog nodes bytes page e around = absurd (false_true (subst (λ (xs : List ℕ). list_all is_page_byte xs ≡ true) (sym e) page))
+bare_page false None (with_doctype before d) nodes bytes page e around = absurd (no_doctype_then before _ around.0 (subst (λ (xs : List ℕ). list_all is_page_byte xs ≡ true) (sym e) page))
+bare_page false None no_doctype nodes bytes page e around = sym e
+
+pub valid_same : (bytes : List ℕ) → list_all is_page_byte bytes ≡ true → Same (Valid mini_table bytes) (Completes Before bytes)
 unfolding Completes mini_table
-valid_same bytes = record {
+valid_same bytes page = record {
   forth = λ v. record {
-    nodes = v.page;
+    nodes = v.page.nodes;
     tail = [];
-    is = sym v.spells.spelled;
-    lawful = v.spells.lawful;
+    is = bare_page v.page.mark v.page.declaration v.page.prolog v.page.nodes bytes page v.spells.spelled v.before;
+    lawful = v.spells.nodes;
     elements = v.fits;
-    characters = v.is_page.round;
-    matched = subst (λ (names : List (List ℕ)). only 0 (map (place_of mini_table.elements) names) ≡ true) (sym v.is_page.root) refl;
+    besides = v.root.around;
+    matched = subst (λ (names : List (List ℕ)). only 0 (map (place_of mini_table.elements) names) ≡ true) (sym v.root.root) refl;
     end = refl;
   };
   back = λ g. record {
-    page = g.nodes;
-    spells = record { lawful = g.lawful; spelled = sym (g.is ∙ ap (λ (t : List ℕ). nodes_then g.nodes t) g.end) };
-    doctype = refl;
-    is_page = record { root = root_names (element_names g.nodes) g.matched; round = g.characters };
+    page = record { mark = false; declaration = None; prolog = no_doctype; nodes = g.nodes };
+    spells = record { begin = tt; prolog = tt; nodes = g.lawful; spelled = sym (g.is ∙ ap (λ (t : List ℕ). nodes_then g.nodes t) g.end) };
+    doctype = tt;
+    before = tt;
+    root = record { root = root_names (element_names g.nodes) g.matched; around = g.besides };
     fits = g.elements;
   };
 }

@@ -4,8 +4,7 @@ use Rattle.std.specs.Borrow.{Bor}
 use Rattle.page_check.specs.Pieces.{Cuts, NoPiece}
 use Rattle.std.specs.Prelude.{◌≡◌, ℕ, Bool, true, false, List, if◌then◌else◌, Option, Some, None, codes}
 use Rattle.std.specs.Option.{option_and_then}
-use Rattle.dtd_model.specs.Characters.{is_blank}
-use Rattle.dtd_model.specs.Attributes.{same}
+use Rattle.dtd_model.specs.Characters.{is_blank, same}
 use Rattle.page_check.specs.declared.piece.Piece.{Piece}
 use Rattle.page_check.specs.declared.piece.Piece.TheVariants.{Start, End, Empty, Character}
 use Rattle.page_check.specs.declared.state.State.{State}

@@ -1,1 +1,5 @@
+pub mod CutLemmas
+pub mod LexicalExamples
+mod TemplateExamples
+mod Examples
 pub mod Views

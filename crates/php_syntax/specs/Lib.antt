@@ -1,2 +1,17 @@
+pub mod Expressions
+pub mod Grammar
+pub mod Height
+pub mod Operators
+pub mod Rules
+pub mod Statements
+pub mod Terminals
 pub mod Tokens
+pub mod Characters
+pub mod Steps
+pub mod Rows
+pub mod Words
+pub mod Signs
+pub mod Texts
+pub mod Heredocs
+pub mod Cuts
 pub mod Trees

@@ -6,5 +6,8 @@
 //! Below this crate stands `text_base` alone.
 #![tactic(auto)]
 
+pub mod keyword;
+pub mod laws;
+pub mod operator;
 pub mod token;
 pub mod tree;

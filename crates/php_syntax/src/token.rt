@@ -1,5 +1,8 @@
 //! The tokens of a script (PHP manual, "Basic syntax", "Types: Strings", "Operators").
 
+ghost use Rattle.std.specs.Prelude.{◌≡◌, ◌<◌, length};
+ghost use Rattle.php_syntax.specs.Signs.{spelling_of};
+
 use text_base::Bytes;
 
 /// A token, and the place in the file, in bytes from 0, where its spelling begins.
@@ -133,4 +136,55 @@ pub enum Sign {
     CastInt,
     /// `(string)`, likewise
     CastString,
+}
+
+impl Sign {
+    /// The spelling of the sign, and for a cast its shortest one.
+    pub fn spelling(self) -> &'static [u8]
+        ensures value { result.now ≡ spelling_of self }
+        ensures some { 0 < length result.now }
+    {
+        match self {
+            Sign::Identical => b"===",
+            Sign::NotIdentical => b"!==",
+            Sign::CoalesceAssign => b"??=",
+            Sign::Equal => b"==",
+            Sign::NotEqual => b"!=",
+            Sign::LessGreater => b"<>",
+            Sign::LessEqual => b"<=",
+            Sign::GreaterEqual => b">=",
+            Sign::DoubleArrow => b"=>",
+            Sign::And => b"&&",
+            Sign::Or => b"||",
+            Sign::Coalesce => b"??",
+            Sign::JoinAssign => b".=",
+            Sign::AddAssign => b"+=",
+            Sign::SubAssign => b"-=",
+            Sign::MulAssign => b"*=",
+            Sign::RemAssign => b"%=",
+            Sign::Increment => b"++",
+            Sign::Decrement => b"--",
+            Sign::Assign => b"=",
+            Sign::Less => b"<",
+            Sign::Greater => b">",
+            Sign::Not => b"!",
+            Sign::Dot => b".",
+            Sign::Plus => b"+",
+            Sign::Minus => b"-",
+            Sign::Star => b"*",
+            Sign::Percent => b"%",
+            Sign::Question => b"?",
+            Sign::Colon => b":",
+            Sign::Comma => b",",
+            Sign::Semicolon => b";",
+            Sign::OpenParen => b"(",
+            Sign::CloseParen => b")",
+            Sign::OpenBracket => b"[",
+            Sign::CloseBracket => b"]",
+            Sign::OpenBrace => b"{",
+            Sign::CloseBrace => b"}",
+            Sign::CastInt => b"(int)",
+            Sign::CastString => b"(string)",
+        }
+    }
 }

@@ -1,6 +1,6 @@
-use Rattle.std.proofs.Common.{◌≡◌, ◌∙◌, ap, length}
+use Rattle.std.proofs.Common.{◌∙◌, ap, length}
 use Rattle.std.specs.Prelude.{◌==◌}
-use Rattle.first_form.specs.Classes.{test_of}
+use Rattle.first_form.specs.Steps.Classes.{test_of}
 use Rattle.first_form.proofs.RunLemmas.{all_pass}
 use Rattle.first_form.proofs.front.all_of.Goals as goal
 

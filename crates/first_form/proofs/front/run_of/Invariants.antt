@@ -1,5 +1,5 @@
 use Rattle.std.proofs.Common.{length, ◌-◌}
-use Rattle.first_form.specs.Classes.{test_of}
+use Rattle.first_form.specs.Steps.Classes.{test_of}
 use Rattle.first_form.proofs.RunLemmas.{RunSoFar}
 use Rattle.first_form.proofs.front.run_of.Given as goal
 

@@ -1,5 +1,5 @@
 use Rattle.std.proofs.Common.{◌≡◌, length}
-use Rattle.first_form.specs.Reading.{strip}
+use Rattle.first_form.specs.Steps.Reading.{strip}
 use Rattle.first_form.proofs.front.strip.Given as goal
 
 abbrev pub invariant-loop-wanted : goal.invariant-loop-wanted

@@ -1,4 +1,4 @@
-use Rattle.std.proofs.Common.{◌≡◌, Some, sym, ◌∙◌}
+use Rattle.std.proofs.Common.{sym, ◌∙◌}
 use Rattle.first_form.proofs.Files.{has-parts}
 use Rattle.first_form.proofs.laws.one_reading.Goals as goal
 

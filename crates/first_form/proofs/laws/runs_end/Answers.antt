@@ -1,4 +1,4 @@
-use Rattle.std.proofs.Common.{◌≡◌, ℕ, List, subst}
+use Rattle.std.proofs.Common.{ℕ, List, subst}
 use Rattle.std.specs.List.{AllByRecursion}
 use Rattle.php_syntax.specs.Trees.{PlainFile}
 use Rattle.first_form.specs.Meaning.{Meaning, Ended}

@@ -1,4 +1,4 @@
-use Rattle.std.proofs.Common.{◌≡◌, ◌∙◌, sym, length}
+use Rattle.std.proofs.Common.{◌∙◌, sym, length}
 use Rattle.std.proofs.lemmas.Bool.{eqb-true, eqb-false}
 use Rattle.first_form.proofs.Shapes.{is_set_none, is_set_one_one, is_set_one_more}
 use Rattle.first_form.proofs.pages.is_one_member.Goals as goal

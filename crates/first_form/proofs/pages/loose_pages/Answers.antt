@@ -1,9 +1,6 @@
-use Rattle.std.proofs.Common.{◌≡◌, ◌∙◌, List, [], None, arith, sym, subst, length, vec_len}
-use Rattle.std.specs.Prelude.{IfOk}
+use Rattle.std.proofs.Common.{arith, sym, vec_len}
 use Rattle.std.proofs.lemmas.Bool.{eqb-true, eqb-false}
-use Rattle.php_syntax.specs.declared.tree.Stmt.{Stmt}
-use Rattle.php_syntax.specs.Trees.{plain_file, stmts_of}
-use Rattle.first_form.specs.Paging.{maybe_gathered, with_body}
+use Rattle.php_syntax.specs.Trees.{plain_file}
 use Rattle.first_form.proofs.Gathering.{ok_map, pages_are, pages_first, pages_none, no_functions, some_functions}
 use Rattle.first_form.proofs.pages.loose_pages.Goals as goal
 

@@ -1,7 +1,7 @@
-use Rattle.std.proofs.Common.{◌≡◌, ◌∙◌, Some, sym, ap, length}
+use Rattle.std.proofs.Common.{◌∙◌, Some, sym, ap, length}
 use Rattle.std.proofs.lemmas.Bool.{eqb-true, eqb-false}
 use Rattle.php_syntax.specs.Trees.{stmts_of}
-use Rattle.first_form.specs.Seen.{seen_body}
+use Rattle.first_form.specs.Steps.Seen.{seen_body}
 use Rattle.first_form.proofs.Shapes.{arm_none, arm_one, arm_other, arm_more}
 use Rattle.first_form.proofs.pages.only_arm.Goals as goal
 use Rattle.first_form.proofs.pages.only_arm.Goals.{else-is_empty-via-then-is_empty+else-asks_if_set, else-is_empty-via-else-is_empty}
@@ -17,6 +17,6 @@ returns-then-asks_if_set c =
 pub returns-else-is_empty : goal.returns-else-is_empty
 returns-else-is_empty c =
     elim c.else-is_empty.branch [
-      else-is_empty-via-then-is_empty+else-asks_if_set w ↦ arm_other c.args.arms.now c.in_ok-first.more.now c.in_ok-first.first.now c.in_ok-first.ensures.cases.0 (sym w.if-asks_if_set.ensures)
+      | else-is_empty-via-then-is_empty+else-asks_if_set w ↦ arm_other c.args.arms.now c.in_ok-first.more.now c.in_ok-first.first.now c.in_ok-first.ensures.cases.0 (sym w.if-asks_if_set.ensures)
       | else-is_empty-via-else-is_empty w ↦ arm_more c.args.arms.now c.in_ok-first.more.now c.in_ok-first.first.now c.in_ok-first.ensures.cases.0 (eqb-false (length c.in_ok-first.more.now) 0 (sym w.if-is_empty.ensures))
     ]

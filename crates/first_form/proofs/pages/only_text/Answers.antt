@@ -1,6 +1,6 @@
-use Rattle.std.proofs.Common.{◌≡◌, ◌∙◌, sym, ap, length}
+use Rattle.std.proofs.Common.{◌∙◌, sym, ap, length}
 use Rattle.std.proofs.lemmas.Bool.{eqb-true, eqb-false}
-use Rattle.first_form.specs.Seen.{seen}
+use Rattle.first_form.specs.Steps.Seen.{seen}
 use Rattle.first_form.proofs.Shapes.{one_text_none, one_text_one, one_text_more}
 use Rattle.first_form.proofs.pages.only_text.Goals as goal
 

@@ -1,5 +1,5 @@
-use Rattle.std.proofs.Common.{◌≡◌, [], None, sym}
-use Rattle.first_form.specs.Paging.{gathered}
+use Rattle.std.proofs.Common.{[], None, sym}
+use Rattle.first_form.specs.Steps.Paging.{gathered}
 use Rattle.first_form.proofs.PageLemmas.{body_next, body_none, body_end}
 use Rattle.first_form.proofs.pages.pages_of.Goals as goal
 

@@ -1,6 +1,6 @@
 use Rattle.std.proofs.Common.{◌≡◌, [], None, drop}
 use Rattle.php_syntax.specs.Trees.{stmts_of}
-use Rattle.first_form.specs.Paging.{gathered, with_body}
+use Rattle.first_form.specs.Steps.Paging.{gathered, with_body}
 use Rattle.first_form.proofs.pages.pages_of.Given as goal
 
 abbrev pub invariant-loop-statement : goal.invariant-loop-statement

@@ -1,6 +1,6 @@
-use Rattle.std.proofs.Common.{◌≡◌, ◌∙◌, List, ℕ, ◌+◌, drop, sym, subst}
+use Rattle.std.proofs.Common.{◌≡◌, List, ℕ, ◌+◌, drop, sym, subst}
 use Rattle.php_syntax.specs.Trees.{stmts_of}
-use Rattle.first_form.specs.Paging.{printed_by}
+use Rattle.first_form.specs.Steps.Paging.{printed_by}
 use Rattle.first_form.proofs.PageLemmas.{with_front, printed_next, printed_none, printed_end}
 use Rattle.first_form.proofs.pages.printed_all.Goals as goal
 

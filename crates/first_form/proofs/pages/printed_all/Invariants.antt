@@ -1,6 +1,6 @@
 use Rattle.std.proofs.Common.{◌≡◌, drop}
 use Rattle.php_syntax.specs.Trees.{stmts_of}
-use Rattle.first_form.specs.Paging.{printed_by}
+use Rattle.first_form.specs.Steps.Paging.{printed_by}
 use Rattle.first_form.proofs.PageLemmas.{with_front}
 use Rattle.first_form.proofs.pages.printed_all.Given as goal
 

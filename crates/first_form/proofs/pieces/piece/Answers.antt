@@ -1,4 +1,4 @@
-use Rattle.std.proofs.Common.{◌≡◌, length, sym}
+use Rattle.std.proofs.Common.{length, sym}
 use Rattle.std.proofs.lemmas.Bool.{eqb-true, eqb-false}
 use Rattle.first_form.proofs.Joining.{step_ended, step_broken, step_on}
 use Rattle.first_form.proofs.pieces.piece.Goals as goal

@@ -1,7 +1,7 @@
-use Rattle.std.proofs.Common.{◌≡◌, ◌∙◌, List, length, sym, subst}
+use Rattle.std.proofs.Common.{◌∙◌, List, length, sym, subst}
 use Rattle.std.proofs.lemmas.Bool.{eqb-true, eqb-false}
 use Rattle.php_syntax.specs.declared.tree.Stmt.{Stmt}
-use Rattle.first_form.specs.Found.{AddsInline}
+use Rattle.first_form.specs.Steps.Found.{AddsInline}
 use Rattle.first_form.proofs.Joining.{inline_pushed, inline_kept}
 use Rattle.first_form.proofs.pieces.push_inline.Goals as goal
 

@@ -1,5 +1,5 @@
-use Rattle.std.proofs.Common.{◌≡◌, sym, ap}
-use Rattle.first_form.specs.Found.{parted}
+use Rattle.std.proofs.Common.{sym, ap}
+use Rattle.first_form.specs.Steps.Found.{parted}
 use Rattle.first_form.proofs.ReaderLemmas.{file_next, file_shorter, file_broken, file_ended}
 use Rattle.first_form.proofs.reader.body_of.Goals as goal
 

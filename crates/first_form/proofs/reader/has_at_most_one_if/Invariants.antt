@@ -1,6 +1,3 @@
-use Rattle.std.proofs.Common.{◌≡◌, ◌+◌, take}
-use Rattle.php_syntax.specs.Trees.{stmts_of}
-use Rattle.first_form.specs.Found.{ifs_in}
 use Rattle.first_form.proofs.ReaderLemmas.{IfsSoFar}
 use Rattle.first_form.proofs.reader.has_at_most_one_if.Given as goal
 

@@ -1,7 +1,7 @@
-use Rattle.std.proofs.Common.{◌≡◌, ◌≤◌, List, sym, ap, ◌∙◌, subst}
+use Rattle.std.proofs.Common.{◌≤◌, List, sym, subst}
 use Rattle.php_syntax.specs.declared.tree.Stmt.{Stmt}
 use Rattle.php_syntax.specs.Trees.{stmts_of}
-use Rattle.first_form.specs.Found.{ifs_in}
+use Rattle.first_form.specs.Steps.Found.{ifs_in}
 use Rattle.first_form.proofs.ReaderLemmas.{read_none, read_more_ifs, read_spelled, read_only}
 use Rattle.first_form.proofs.reader.read.Goals as goal
 

@@ -1,4 +1,3 @@
-use Rattle.std.proofs.Common.{◌≡◌}
 use Rattle.php_syntax.specs.Trees.{plain_file}
 use Rattle.first_form.proofs.Gathering.{ok_map, script_none}
 use Rattle.first_form.proofs.script.script_pages.Goals as goal

@@ -1,4 +1,4 @@
-use Rattle.std.proofs.Common.{◌≡◌, List, length, sym, subst}
+use Rattle.std.proofs.Common.{List, sym, subst}
 use Rattle.php_syntax.specs.declared.tree.Stmt.{Stmt}
 use Rattle.first_form.proofs.Joining.{ArmSoFar, arm_next, arm_end}
 use Rattle.first_form.proofs.Marks.{echo_shrinks}

@@ -1,4 +1,4 @@
-use Rattle.std.proofs.Common.{◌≡◌, List, sym, subst}
+use Rattle.std.proofs.Common.{List, sym, subst}
 use Rattle.php_syntax.specs.declared.tree.Stmt.{Stmt}
 use Rattle.first_form.proofs.Joining.{StatementsSoFar, statements_next, statements_shorter, statements_done}
 use Rattle.first_form.proofs.statements.statements.Goals as goal

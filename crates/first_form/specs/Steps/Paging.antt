@@ -1,12 +1,12 @@
 -- How the pages of a tree are gathered: what each function over trees gives. The pages themselves are defined in Loose and FirstTree.
-use Rattle.std.specs.Prelude.{ℕ, Bool, true, false, not, ◌&&◌, ◌==◌, List, [], ◌∷◌, ◌++◌, Option, Some, None, length, if◌then◌else◌}
+use Rattle.std.specs.Prelude.{ℕ, Bool, true, false, not, ◌&&◌, ◌==◌, List, [], ◌++◌, Option, Some, None, length, if◌then◌else◌}
 use Rattle.std.specs.List.{list_all}
 use Rattle.php_syntax.specs.declared.tree.SuperName.{SuperName}
 use Rattle.php_syntax.specs.declared.tree.SuperName.TheVariants.{Get}
 use Rattle.php_syntax.specs.Trees.{PlainExpr, PlainExprs, PlainStmt, PlainStmts, PlainArms, text_expr, super_expr, member_expr, isset_expr, no_exprs, more_exprs, inline_stmt, echo_stmt, if_stmt, no_stmts, more_stmts, no_arms, more_arms}
 use Rattle.first_form.specs.declared.pages.Pages.{Pages}
 use Rattle.first_form.specs.FirstForm.{is_plain, is_letter}
-use Rattle.first_form.specs.Reading.{◌>>=◌}
+use Rattle.first_form.specs.Steps.Reading.{◌>>=◌}
 
 -- a text of plain bytes
 unfoldable pub plain_text : List ℕ → Option (List ℕ)

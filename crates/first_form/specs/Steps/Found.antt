@@ -9,7 +9,7 @@ use Rattle.first_form.specs.declared.pieces.Next.{Next}
 use Rattle.first_form.specs.declared.pieces.Next.TheVariants.{Broken, Ended, Onward}
 use Rattle.first_form.specs.FirstForm.{Statement, Part, inline_part}
 use Rattle.first_form.specs.Trees.{arm_of, statement_tree, parts_tree}
-use Rattle.first_form.specs.Reading.{many, echo_at, statement_at, Step, broken, ended, onward}
+use Rattle.first_form.specs.Steps.Reading.{many, echo_at, statement_at, Step, broken, ended, onward}
 
 -- statements and then others
 abbrev pub joined : PlainStmts → PlainStmts → PlainStmts

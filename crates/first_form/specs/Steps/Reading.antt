@@ -1,6 +1,6 @@
 -- How the reader goes through a file: what each of its functions gives. The grammar stands in FirstForm.
-use Rattle.std.specs.Prelude.{◌≡◌, ℕ, zero, suc, ◌+◌, Bool, true, false, not, ◌&&◌, ◌||◌, ◌==◌, nat_le, if◌then◌else◌, List, [], ◌∷◌, ◌++◌, Option, Some, None, codes, length, is_some}
-use Rattle.first_form.specs.FirstForm.{is_plain, is_quotable, is_letter, is_blank, Mark, spelling, echo_word, if_word, else_word, isset_word, get_variable, semicolon, open_round, close_round, open_square, close_square, open_curly, close_curly, Statement, echo_of, if_set, Part, inline, php, inline_part, php_parts}
+use Rattle.std.specs.Prelude.{ℕ, zero, suc, Bool, true, not, ◌||◌, ◌==◌, if◌then◌else◌, List, [], ◌∷◌, ◌++◌, Option, Some, None, codes, length, is_some}
+use Rattle.first_form.specs.FirstForm.{is_plain, is_quotable, is_letter, is_blank, Mark, spelling, echo_word, if_word, else_word, isset_word, get_variable, semicolon, open_round, close_round, open_square, close_square, open_curly, close_curly, Statement, echo_of, if_set, Part, inline_part, php_parts}
 
 infixl 10 ◌>>=◌
 abbrev pub ◌>>=◌ : {A B : Type 0} → Option A → (A → Option B) → Option B

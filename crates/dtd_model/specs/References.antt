@@ -1,0 +1,38 @@
+-- References (XML 1.0, 4.1 and 4.6).
+use Rattle.std.specs.Prelude.{ℕ, Bool, true, false, ◌&&◌, ◌||◌, List, [], ◌∷◌, ◌++◌, codes}
+use Rattle.std.specs.List.{list_all, list_any}
+use Rattle.dtd_model.specs.Characters.{is_character, is_name, is_digit, is_hexadecimal, number_written, same}
+
+pub data Reference : Type 0 where
+  -- `&#`, decimal digits, `;`
+  decimal : List ℕ → Reference
+  -- `&#x`, hexadecimal digits, `;`
+  hexadecimal : List ℕ → Reference
+  -- `&`, a name, `;`
+  entity : List ℕ → Reference
+
+-- its bytes, and then others
+abbrev pub reference_then : Reference → List ℕ → List ℕ
+reference_then (decimal digits) rest = 38 ∷ 35 ∷ (digits ++ 59 ∷ rest)
+reference_then (hexadecimal digits) rest = 38 ∷ 35 ∷ 120 ∷ (digits ++ 59 ∷ rest)
+reference_then (entity name) rest = 38 ∷ (name ++ 59 ∷ rest)
+
+abbrev pub is_some : List ℕ → Bool
+is_some [] = false
+is_some (c ∷ cs) = true
+
+-- a number is that of a character
+abbrev pub is_reference : Reference → Bool
+is_reference (decimal digits) = is_some digits && list_all is_digit digits && is_character (number_written 10 0 digits)
+is_reference (hexadecimal digits) = is_some digits && list_all is_hexadecimal digits && is_character (number_written 16 0 digits)
+is_reference (entity name) = is_name name
+
+-- the entities that need no declaration
+abbrev pub known_entities : List (List ℕ)
+known_entities = codes "amp" ∷ codes "lt" ∷ codes "gt" ∷ codes "quot" ∷ codes "apos" ∷ []
+
+-- the entity is one of these, or declared
+abbrev pub is_known : List (List ℕ) → Reference → Bool
+is_known entities (decimal digits) = true
+is_known entities (hexadecimal digits) = true
+is_known entities (entity name) = list_any (same name) known_entities || list_any (same name) entities

@@ -1,0 +1,9 @@
+pub mod BeforeLemmas
+pub mod ValueLemmas
+pub mod SignLemmas
+pub mod RowLemmas
+pub mod KeyLemmas
+pub mod WithinLemmas
+pub mod PartLemmas
+pub mod SoFarLemmas
+pub mod RefusalLemmas

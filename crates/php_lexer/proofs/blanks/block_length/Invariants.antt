@@ -1,0 +1,6 @@
+use Rattle.std.proofs.Common.{◌≡◌, ◌+◌, drop, codes}
+use Rattle.php_syntax.specs.Characters.{before, begins}
+use Rattle.php_lexer.proofs.blanks.block_length.Given as goal
+
+abbrev pub invariant-loop-n : goal.invariant-loop-n
+invariant-loop-n l = before (begins (codes "*/")) l.bytes ≡ l.n + before (begins (codes "*/")) (drop l.n l.bytes)

@@ -1,0 +1,7 @@
+use Rattle.std.proofs.Common.{◌≡◌, ◌+◌, drop}
+use Rattle.php_syntax.specs.Characters.{before}
+use Rattle.php_syntax.specs.Heredocs.{ends_body}
+use Rattle.php_lexer.proofs.heredoc.body_length.Given as goal
+
+abbrev pub invariant-loop-n : goal.invariant-loop-n
+invariant-loop-n l = before (ends_body l.name) l.bytes ≡ l.n + before (ends_body l.name) (drop l.n l.bytes)

@@ -1,0 +1,5 @@
+pub mod View
+pub mod Rows
+pub mod Templates
+pub mod Heredocs
+pub mod Refusals

@@ -1,0 +1,27 @@
+//! Bytes of a script to its tokens. The contract of `lex` cites `Cuts` and `Breaks` of php_syntax,
+//! the lexical grammar of the script language; below this crate stand php_syntax and text_base.
+#![tactic(auto)]
+
+mod blanks;
+mod classes;
+mod double;
+mod found;
+mod heredoc;
+mod keys;
+mod lexer;
+mod numbers;
+mod openers;
+mod refusal;
+mod scan;
+mod signs;
+mod single;
+mod step;
+mod steps;
+mod template;
+#[cfg(test)]
+mod tests;
+mod units;
+mod words;
+
+pub use lexer::{MOST_BYTES, lex};
+pub use refusal::LexRefusal;

@@ -1,0 +1,53 @@
+-- A put keeps the index of an array.
+use Rattle.std.proofs.Common.{◌≡◌, ℕ, ℤ, ◌<◌, Bool, true, false, cond, List, [], ◌∷◌, ◌++◌, length, get_or, set, Option, Some, None, refl, sym, ◌∙◌, ap, subst}
+use Rattle.std.specs.BTreeMap.{BTreeMap, is_at}
+use Rattle.std.specs.BTreeMap as tree
+use Rattle.php_values.specs.Plain.{PlainKey, Pairs, keys, depth, deepest}
+use Rattle.php_values.specs.Keys.{same_key, are_distinct}
+use Rattle.php_values.specs.Members.{larger, largest_from}
+use Rattle.php_values.specs.View.{plain_of, plain_key, pairs_of}
+use Rattle.php_values.specs.Index.{place, IsIndexed}
+use Rattle.php_values.proofs.KeyLemmas.{order_tells, same_is, or_place, place_push, largest_push, distinct_push}
+use Rattle.php_values.proofs.Places.{length-keys, keys-push, put_absent, put_present, keys-put_present, deepest-put}
+use Rattle.php_values.specs.declared.key.Key.{Key}
+use Rattle.php_values.specs.declared.array.Value.{Value}
+use Rattle.php_values.specs.contracts.key.KeyOrd.TheImpl as key_order
+
+no_change : (o : Option ℕ) (n : ℕ) → o ≡ or_place o false n
+no_change None n = refl
+no_change (Some i) n = refl
+
+-- the places after a key was put behind others
+placed : (ks : List PlainKey) (k q : PlainKey) (n : ℕ) → place ks k ≡ None → cond (same_key k q) (Some n) (place ks q) ≡ or_place (place ks q) (same_key k q) n
+placed ks k q n absent = by (same_key k q) (same_is k q)
+  where
+    by : (b : Bool) → (b ≡ true → k ≡ q) → cond b (Some n) (place ks q) ≡ or_place (place ks q) b n
+    by true h = let e : place ks q ≡ None = subst (λ (j : PlainKey). place ks j ≡ None) (h refl) absent in ap (λ (o : Option ℕ). or_place o true n) (sym e)
+    by false h = no_change (place ks q) n
+
+pub indexed_add : (xs : List (Key × Value)) (places after : BTreeMap Key ℕ) (largest : Option ℤ) (k : Key) (v : Value) → IsIndexed xs places largest → place (keys (pairs_of xs)) (plain_key k) ≡ None → depth (plain_of v) < 1000
+    → ((q : Key) → tree.get key_order.ghosts.cmp after q ≡ cond (is_at (key_order.ghosts.cmp k) q) (Some (length xs)) (tree.get key_order.ghosts.cmp places q))
+    → IsIndexed (xs ++ (k, v) ∷ []) after (larger (plain_key k) largest)
+indexed_add xs places after largest k v h absent shallow updates = record {
+  indexed = λ q.
+      updates q
+      ∙ ap (λ (b : Bool). cond b (Some (length xs)) (tree.get key_order.ghosts.cmp places q)) (order_tells k q)
+      ∙ ap (λ (o : Option ℕ). cond (same_key (plain_key k) (plain_key q)) (Some (length xs)) o) (h.indexed q)
+      ∙ placed (keys (pairs_of xs)) (plain_key k) (plain_key q) (length xs) absent
+      ∙ ap (λ (n : ℕ). or_place (place (keys (pairs_of xs)) (plain_key q)) (same_key (plain_key k) (plain_key q)) n) (sym (length-keys xs))
+      ∙ sym (place_push (keys (pairs_of xs)) (plain_key k) (plain_key q))
+      ∙ ap (λ (ks : List PlainKey). place ks (plain_key q)) (sym (keys-push xs (k, v)));
+  next = ap (larger (plain_key k)) h.next ∙ sym (largest_push None (keys (pairs_of xs)) (plain_key k)) ∙ ap (λ (ks : List PlainKey). largest_from None ks) (sym (keys-push xs (k, v)));
+  distinct = subst (λ (ks : List PlainKey). are_distinct ks ≡ true) (sym (keys-push xs (k, v))) (distinct_push (keys (pairs_of xs)) (plain_key k) h.distinct absent);
+  shallow = subst (λ (ps : Pairs). deepest ps < 1000) (sym (put_absent xs k v absent)) (deepest-put (pairs_of xs) (plain_key k) (plain_of v) 1000 h.shallow shallow);
+}
+
+pub indexed_set : (xs : List (Key × Value)) (places : BTreeMap Key ℕ) (largest : Option ℤ) (k : PlainKey) (v : Value) (i : ℕ) (d : Key × Value) → IsIndexed xs places largest → place (keys (pairs_of xs)) k ≡ Some i → depth (plain_of v) < 1000 → IsIndexed (set xs i ((get_or xs i d).0, v)) places largest
+indexed_set xs places largest k v i d h at shallow =
+    let same : keys (pairs_of (set xs i ((get_or xs i d).0, v))) ≡ keys (pairs_of xs) = ap keys (put_present xs k v i d at) ∙ keys-put_present (pairs_of xs) k (plain_of v) i at in
+    record {
+      indexed = λ q. h.indexed q ∙ ap (λ (ks : List PlainKey). place ks (plain_key q)) (sym same);
+      next = h.next ∙ ap (λ (ks : List PlainKey). largest_from None ks) (sym same);
+      distinct = subst (λ (ks : List PlainKey). are_distinct ks ≡ true) (sym same) h.distinct;
+      shallow = subst (λ (ps : Pairs). deepest ps < 1000) (sym (put_present xs k v i d at)) (deepest-put (pairs_of xs) k (plain_of v) 1000 h.shallow shallow);
+    }

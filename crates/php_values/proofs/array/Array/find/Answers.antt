@@ -1,0 +1,19 @@
+use Rattle.std.proofs.Common.{sym, ◌∙◌, ap, arith}
+use Rattle.php_values.specs.Plain.{Pairs, keys}
+use Rattle.php_values.specs.View.{plain_key, plain_of, pairs_of}
+use Rattle.php_values.specs.Members.{member}
+use Rattle.php_values.proofs.Places.{length-keys, place_lt, member_at, member_none}
+use Rattle.php_values.proofs.array.Array.find.Goals as goal
+
+pub index-requires : goal.index-requires
+index-requires c = omega (arith, place_lt (keys (pairs_of c.self.inside.pairs.items)) (plain_key c.args.key.now) c.in-Some.place.now (sym (c.self.invariant.indexed c.args.key.now) ∙ sym c.in-Some.ensures.value), length-keys c.self.inside.pairs.items)
+
+pub returns-in-None-clause-none : goal.returns-in-None-clause-none
+returns-in-None-clause-none c =
+    ap (λ (ps : Pairs). member ps (plain_key c.args.key.now)) (sym c.self.view_is) ∙ member_none (pairs_of c.self.inside.pairs.items) (plain_key c.args.key.now) (sym (c.self.invariant.indexed c.args.key.now) ∙ sym c.in-None.ensures.value)
+
+pub returns-in-Some-clause-some : goal.returns-in-Some-clause-some
+returns-in-Some-clause-some c =
+    ap (λ (ps : Pairs). member ps (plain_key c.args.key.now)) (sym c.self.view_is)
+    ∙ member_at c.self.inside.pairs.items (plain_key c.args.key.now) c.in-Some.place.now c.index.result.now (sym (c.self.invariant.indexed c.args.key.now) ∙ sym c.in-Some.ensures.value)
+    ∙ ap (λ (p : _). plain_of p.1) (sym c.index.ensures)

@@ -1,0 +1,11 @@
+pub mod Plain
+pub mod PlainCode
+pub mod View
+pub mod Falls
+pub mod Numeric
+pub mod Keys
+pub mod Text
+pub mod Compare
+pub mod Members
+pub mod Index
+pub mod Parts
