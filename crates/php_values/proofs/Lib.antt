@@ -6,3 +6,7 @@ mod NumeralLemmas
 mod CanonicalLemmas
 mod SameLemmas
 mod Examples
+mod TrimLemmas
+mod SignLemmas
+mod NumberLemmas
+mod NumericLaws

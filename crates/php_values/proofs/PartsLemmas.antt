@@ -35,19 +35,19 @@ past (x ∷ xs) (suc n) h = past xs n (omega arith)
 all_of : (xs : List ℕ) (n : ℕ) → n ≡ length xs → take n xs ≡ xs
 all_of xs n e = ap (λ (m : ℕ). take m xs) e ∙ take-length xs
 
+pub whole_if_nowhere : (test : ℕ → Bool) (text : List ℕ) → list_any test text ≡ false → IsWhole test text
+whole_if_nowhere test text h = record {
+  nowhere = h;
+  before = all_of text (place test text) (end_place test text h);
+  after = past text (place test text + 1) (omega (arith, end_place test text h));
+}
+
 pub whole_if_none : (test : ℕ → Bool) (text : List ℕ) → position test text ≡ None → IsWhole test text
-whole_if_none test text e = made (by (nat_lt (place test text) (length text)) (by_place test text) e)
+whole_if_none test text e = whole_if_nowhere test text (by (nat_lt (place test text) (length text)) (by_place test text) e)
   where
     by : (b : Bool) → list_any test text ≡ b → cond b (Some (place test text)) None ≡ None → list_any test text ≡ false
     by true h g = cc
     by false h g = h
-
-    made : list_any test text ≡ false → IsWhole test text
-    made h = record {
-      nowhere = h;
-      before = all_of text (place test text) (end_place test text h);
-      after = past text (place test text + 1) (omega (arith, end_place test text h));
-    }
 
 pub around_if_some : (test : ℕ → Bool) (text : List ℕ) (i : ℕ) → position test text ≡ Some i → AreAround test text (take i text) (take (length text - (i + 1)) (drop (i + 1) text))
 around_if_some test text i e = made (by (nat_lt (place test text) (length text)) (by_place test text) e)

@@ -9,3 +9,4 @@ pub mod Compare
 pub mod Members
 pub mod Index
 pub mod Parts
+pub mod Grammar

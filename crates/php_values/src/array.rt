@@ -15,6 +15,9 @@ use std::collections::BTreeMap;
 use std::marker::Model;
 use text_base::{Bytes, NoMemory};
 
+/// How deep an array is nested at most. An array without arrays in it is nested one deep.
+pub const DEPTH_LIMIT: u64 = 1000;
+
 /// A value of a script (PHP manual, "Types").
 #[cycle(value)]
 #[derive(Debug, Drop)]
@@ -129,7 +132,7 @@ impl Array {
         ensures err { IfErr result (λ fault. (fault ≡ Fault.Memory) ⊎ (within_depth (put_pair self.old (plain_key key) (plain_of value)) ≡ Err fault)) }
         ensures unchanged { OnErr result (self.new ≡ self.old) }
     {
-        if value.depth() >= 1000 {
+        if value.depth() >= DEPTH_LIMIT {
             return Err(Fault::Long);
         }
         self.set(alloc, key, value)?;

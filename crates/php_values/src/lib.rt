@@ -10,16 +10,18 @@ mod comparison;
 mod fault;
 mod identity;
 mod key;
+mod laws;
 mod members;
 mod numeric;
 mod text;
 
-pub use array::{Array, Value};
+pub use array::{Array, DEPTH_LIMIT, Value};
 pub use comparison::{compare, less, loose_equal};
 pub use fault::Fault;
 pub use identity::same;
 pub use key::{Key, KeyText};
-pub use members::{get, push, put, text_value};
+pub use laws::numeric_texts;
+pub use members::{TEXT_LIMIT, get, push, put, text_value};
 pub use numeric::{Numeric, numeric_of};
 pub use text::{canonical_integer, decimal, key_of, key_of_text, text_of, truth};
 

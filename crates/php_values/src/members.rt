@@ -10,6 +10,9 @@ use crate::key::Key;
 use std::alloc::Global;
 use text_base::Bytes;
 
+/// How many bytes a text of a script has at most.
+pub const TEXT_LIMIT: usize = 16_777_216;
+
 /// The value at a key (PHP manual, "Arrays"): null where an array does not have the key, and at
 /// every key of null, a boolean and an integer. Faults BadIndex exactly at a text.
 pub fn get(alloc: Global, value: &Value, key: &Key) -> Result<Value, Fault>
@@ -73,7 +76,7 @@ pub fn text_value(text: Bytes) -> Result<Value, Fault>
     ensures ok { IfOk result (λ value. spec.within_length text ≡ Ok (plain_of value)) }
     ensures err { IfErr result (λ fault. spec.within_length text ≡ Err fault) }
 {
-    if text.len() > 16_777_216 {
+    if text.len() > TEXT_LIMIT {
         return Err(Fault::Long);
     }
     Ok(Value::Text(text))

@@ -5,8 +5,8 @@ use Rattle.php_values.specs.declared.fault.Fault.{Fault}
 use Rattle.php_values.proofs.Places.{put_fits, put_long}
 use Rattle.php_values.proofs.array.Array.put.Goals as goal
 
-pub returns-then-depth-ge1000-clause-err : goal.returns-then-depth-ge1000-clause-err
-returns-then-depth-ge1000-clause-err c = inr (put_long c.args.self.now (plain_key c.args.key) (plain_of c.args.value) (omega arith))
+pub returns-then-depth-ge-DEPTH_LIMIT-clause-err : goal.returns-then-depth-ge-DEPTH_LIMIT-clause-err
+returns-then-depth-ge-DEPTH_LIMIT-clause-err c = inr (put_long c.args.self.now (plain_key c.args.key) (plain_of c.args.value) (omega arith))
 
 pub returns-clause-ok : goal.returns-clause-ok
 returns-clause-ok c =
