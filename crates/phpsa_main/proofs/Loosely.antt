@@ -1,5 +1,6 @@
 -- The pages that the reader gives are the loose pages of the script.
-use Rattle.std.proofs.Common.{◌≡◌, ℕ, List, sym, ap, ◌∙◌, subst}
+use Rattle.std.proofs.Common.{◌≡◌, ℕ, List, Some, sym, ap, ◌∙◌, subst, inl, inr}
+use Rattle.std.proofs.lemmas.Option.{same_Some}
 use Rattle.php_syntax.specs.Trees.{PlainFile}
 use Rattle.first_form.specs.declared.pages.Pages.{Pages}
 use Rattle.first_form.specs.FirstForm.{Part, HasParts}
@@ -8,6 +9,8 @@ use Rattle.first_form.specs.Loose.{Loose}
 use Rattle.first_form.specs.FirstTree.{ArePages}
 use Rattle.phpsa_main.specs.Decision.{EachIsValid}
 use Rattle.phpsa_main.specs.Pages.{AreValid}
+use Rattle.dtd_model.specs.Valid.{Valid}
+use Rattle.dtd_model.specs.Mini.{mini_table}
 
 -- a file has one list of parts
 abbrev pub OneReading : Type 0
@@ -27,3 +30,9 @@ each_valid law script pages (program, reading, are) valid = record {
   valid = λ page loose. valid page ((are.exact page).0
       (subst (λ (p : PlainFile). Loose p page) (one_program law script loose.program program loose.reading reading) loose.loose));
 }
+
+-- where both pages are valid, each of them is
+pub two_valid : (pages : Pages) (second : List ℕ) → pages.second ≡ Some second → Valid mini_table pages.first → Valid mini_table second → AreValid pages
+two_valid pages second is first_valid second_valid page (inl e) = subst (λ (p : List ℕ). Valid mini_table p) (sym e) first_valid
+two_valid pages second is first_valid second_valid page (inr e) =
+    subst (λ (p : List ℕ). Valid mini_table p) (same_Some second page (sym is ∙ e)) second_valid
