@@ -105,6 +105,6 @@ building_all old new from named actions lo hi b e s byte h =
     b.built s byte ∙ ap (λ (test : Bool). choices old s byte ++ cond test (choice_of (slice_get actions (slice_index named byte))) []) u
 
 -- what `get` lends is the element at the place
-pub got_copied : (xs : List Action) (i : ℕ) (r : Option (Bor Action)) → IsItemAt xs i r → option_copied r ≡ slice_get xs i
+pub got_copied : {X : Type 0} (xs : List X) (i : ℕ) (r : Option (Bor X)) → IsItemAt xs i r → option_copied r ≡ slice_get xs i
 got_copied xs i None h = sym (slice_get_past xs i h.3)
 got_copied xs i (Some x) h = sym (slice_get_read xs (length xs) i x.now refl h.3.0 h.1)

@@ -4,3 +4,4 @@ pub mod Choices
 pub mod Offers
 pub mod Runs
 pub mod Tables
+pub mod Layers

@@ -13,3 +13,10 @@ module _ {S : Type 0} (steps : S → ℕ → S → List Letter → Type 0) where
 abbrev pub Relates : {S : Type 0} → S → (S → ℕ → S → List Letter → Type 0) → (S → List Letter → Type 0) → List ℕ → List Letter → Type 0
 Relates {S} start steps ends input output =
     (u : S) × (out : List Letter) × (last : List Letter) × Runs steps start input u out × ends u last × (output ≡ out ++ last)
+
+module _ {S : Type 0} (steps : S → ℕ → S → List Letter → Type 0) (ends : S → List Letter → Type 0) where
+  -- the same from any state and from the front: from the state over the text to an end, with these letters put out
+  abbrev pub Gives : S → List ℕ → List Letter → Type 0
+  Gives s [] out = ends s out
+  Gives s (byte ∷ text) out =
+      (t : S) × (first : List Letter) × (rest : List Letter) × steps s byte t first × Gives t text rest × (out ≡ first ++ rest)

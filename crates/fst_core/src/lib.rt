@@ -4,7 +4,7 @@
 //! `text_base` alone.
 #![tactic(auto)]
 
-mod applies;
+mod layers;
 mod machine;
 mod moves;
 mod out;
@@ -14,6 +14,7 @@ mod table_machine;
 #[cfg(test)]
 mod tests;
 
+pub use layers::applies;
 pub use machine::{Machine, Move};
 pub use moves::{Action, TableEnd, TableMove};
 pub use out::Out;
