@@ -1,5 +1,5 @@
 -- The moves of a state by a byte, as moves are added.
-use Rattle.std.proofs.Common.{◌≡◌, ◌==◌, ℕ, ◌+◌, ◌<◌, ◌≤◌, Bool, true, false, ◌&&◌, List, [], ◌∷◌, ◌++◌, Some, None, Option, slice_get, slice_index, nat_le, refl, sym, ◌∙◌, ap, arith, cond, append_assoc, append-nil}
+use Rattle.std.proofs.Common.{◌≡◌, ◌==◌, ℕ, ◌+◌, ◌<◌, ◌≤◌, Bool, true, false, ◌&&◌, List, [], ◌∷◌, ◌++◌, Some, None, Option, slice_get, slice_index, nat_le, refl, sym, ◌∙◌, ap, arith, cond, append-nil}
 use Rattle.std.proofs.Common.{ltb, leb, inl, inr, Bor, length}
 use Rattle.std.specs.Slice.{IsItemAt}
 use Rattle.std.specs.Option.{option_copied}
@@ -80,10 +80,6 @@ same_up_to named lo hi byte same l u = elim (cases_eq byte hi) [
   | inr other ↦ same byte l (omega arith)
 ]
 
-and_true : (b : Bool) → (b && true) ≡ b
-and_true true = refl
-and_true false = refl
-
 -- the run ends with its move
 pub building_cut : (old mid new : List TableMove) (from : ℕ) (named : List ℕ) (actions : List Action) (lo hi : ℕ) → Building old mid from named actions lo hi → AddsChoice mid new from lo hi (slice_get actions (slice_index named hi)) → Building old new from named actions (hi + 1) (hi + 1)
 building_cut old mid new from named actions lo hi b adds =
@@ -99,10 +95,8 @@ building_cut old mid new from named actions lo hi b adds =
 
 -- all bytes have their moves
 pub building_all : (old new : List TableMove) (from : ℕ) (named : List ℕ) (actions : List Action) (lo hi : ℕ) → Building old new from named actions lo hi → hi ≡ 256 → AddsRow old new from named actions
-building_all old new from named actions lo hi b e s byte h =
-    let t : ltb byte lo ≡ true = lt-ltb byte lo (omega (arith, b.whole e)) in
-    let u : (from == s && ltb byte lo) ≡ (from == s) = rw t (and_true (from == s)) in
-    b.built s byte ∙ ap (λ (test : Bool). choices old s byte ++ cond test (choice_of (slice_get actions (slice_index named byte))) []) u
+building_all old new from named actions lo hi b e s byte =
+    b.built s byte ∙ ap (λ (n : ℕ). choices old s byte ++ cond (from == s && ltb byte n) (choice_of (slice_get actions (slice_index named byte))) []) (b.whole e)
 
 -- what `get` lends is the element at the place
 pub got_copied : {X : Type 0} (xs : List X) (i : ℕ) (r : Option (Bor X)) → IsItemAt xs i r → option_copied r ≡ slice_get xs i

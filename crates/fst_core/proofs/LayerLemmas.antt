@@ -1,22 +1,22 @@
 -- The layers of a table over an input.
-use Rattle.std.proofs.Common.{◌≡◌, ◌≢◌, ℕ, ◌+◌, ◌<◌, ◌≤◌, ◌⊎◌, ◌↔◌, inl, inr, Bool, true, false, ◌&&◌, ◌||◌, List, [], ◌∷◌, ◌++◌, length, map, take, drop, get_or, slice_get, Some, None, Option, Contains, refl, sym, ◌∙◌, ap, subst, arith, cond, nat_eq, append_assoc, append-nil}
+use Rattle.std.proofs.Common.{◌≡◌, ◌≢◌, ℕ, ◌+◌, ◌<◌, ◌≤◌, ◌⊎◌, ◌↔◌, inl, inr, Bool, true, ◌&&◌, List, [], ◌∷◌, ◌++◌, length, map, take, drop, get_or, slice_get, Some, None, Contains, refl, sym, ◌∙◌, ap, subst, arith, cond, nat_eq, append_assoc, append-nil}
 use Rattle.std.proofs.lemmas.List.{append_cancel_left, map-append, take_more, drop_more, drop_all, take_all, take-append-drop, length-set, get_or-set_same, set_past, length-map, length-drop, nil_from_length}
 use Rattle.std.proofs.lemmas.List.Elements.{Contains-push_cases, Contains-append_left, Contains-append_right, Contains-append_cases, Contains-get_or, Contains-push, All-contains, All-cons, All-nil}
 use Rattle.std.proofs.lemmas.Bool.{cases_Bool, cond-true, cond-false, cases_eq, ltb-true}
 use Rattle.std.proofs.Common.{zero, suc, set, ◌-◌, IsTrue, ltb, length-append}
 use Rattle.std.specs.List.{list_any, All}
-use Rattle.fst_core.specs.Fits.{moves_fit, ends_fit}
+use Rattle.fst_core.specs.Fits.{moves_fit}
 use Rattle.fst_core.specs.declared.moves.TableEnd.{TableEnd}
 use Rattle.std.specs.declared.vec.Vec.{Vec}
 use Rattle.std.specs.declared.alloc.Global.{Global}
-use Rattle.std.proofs.lemmas.Option.{slice_get_within, slice_get_read, get_or_from_slice_get, slice_get_past}
+use Rattle.std.proofs.lemmas.Option.{slice_get_within, slice_get_read, get_or_from_slice_get}
 use Rattle.std.specs.Cmp.{first_so, second_so, IsEquivalence}
 use Rattle.std.proofs.lemmas.Cmp.{nat_eq_equiv}
 use Rattle.std.proofs.lemmas.Map.Views.{exact_unsigned_eq}
 use Rattle.indexmap.proofs.CallerLemmas.{Contains-list_any}
 use Rattle.fst_core.specs.Letter.{Letter, OfByte, letter_of}
 use Rattle.fst_core.specs.Layers.{letters_from, SomeGives, ByMove, ByMoves, TableGives, IsIndex, AddsPlace, StopsBy}
-use Rattle.fst_core.specs.Tables.{TableStep, TableStop, TableRelates}
+use Rattle.fst_core.specs.Tables.{TableStep}
 use Rattle.fst_core.specs.declared.out.Out.{Out}
 use Rattle.fst_core.specs.declared.moves.TableMove.{TableMove}
 use Rattle.fst_core.specs.declared.table.Table.{Table}
@@ -42,9 +42,9 @@ written_more f output from at out i d h inv l e =
 pub written_fails : (f : Out → Letter) (output : List ℕ) (from at : ℕ) (out : List Out) (i : ℕ) (d : Out) → i < length out → letters_from output from ≡ map f (take i out) ++ letters_from output at → ((rest : List Letter) → letters_from output at ≢ f (get_or out i d) ∷ rest) → (rest : List Letter) → letters_from output from ≢ map f out ++ rest
 written_fails f output from at out i d h inv differs rest e =
     let whole : map f out ≡ map f (take i out) ++ (f (get_or out i d) ∷ map f (drop (i + 1) out)) =
-      ap (λ (x : List Out). map f x) (sym (take-append-drop i out) ∙ ap (λ (x : List Out). take i out ++ x) (drop_more out i d h)) ∙ map-append f (take i out) (get_or out i d ∷ drop (i + 1) out) in
+    ap (λ (x : List Out). map f x) (sym (take-append-drop i out) ∙ ap (λ (x : List Out). take i out ++ x) (drop_more out i d h)) ∙ map-append f (take i out) (get_or out i d ∷ drop (i + 1) out) in
     let both : map f (take i out) ++ letters_from output at ≡ map f (take i out) ++ (f (get_or out i d) ∷ (map f (drop (i + 1) out) ++ rest)) =
-      sym inv ∙ e ∙ ap (λ (x : List Letter). x ++ rest) whole ∙ append_assoc (map f (take i out)) (f (get_or out i d) ∷ map f (drop (i + 1) out)) rest in
+    sym inv ∙ e ∙ ap (λ (x : List Letter). x ++ rest) whole ∙ append_assoc (map f (take i out)) (f (get_or out i d) ∷ map f (drop (i + 1) out)) rest in
     differs (map f (drop (i + 1) out) ++ rest) (append_cancel_left (map f (take i out)) _ _ both)
 
 -- nothing is left of the output
@@ -228,7 +228,7 @@ by_places table index r places byte text output whole found = (
       let c : Contains places.items at.0 = subst (λ (x : Vec ℕ Global). Contains x.items at.0) same full.2 in
       let within : r.written ≤ length output = subst (λ (x : Reached). x.written ≤ length output) one h.2 in
       let puts : letters_from output r.written ≡ map (letter_of byte) m.out.items ++ h.3.2 =
-        ap (λ (x : Reached). letters_from output x.written) (sym one) ∙ h.3.5 ∙ ap (λ (x : List Letter). x ++ h.3.2) (sym step.5) in
+      ap (λ (x : Reached). letters_from output x.written) (sym one) ∙ h.3.5 ∙ ap (λ (x : List Letter). x ++ h.3.2) (sym step.5) in
       let rest : TableGives table m.to text h.3.2 = subst (λ (x : ℕ). TableGives table x text h.3.2) (sym step.4) h.3.4 in
       (at.0, c, m, at.2, (within, step.3, h.3.2, puts, rest)),
 )
@@ -297,8 +297,7 @@ adds_place old state place was now h is e =
       back = λ s places found. elim (cases_eq s state) [
         | inl eq ↦
             let one : Some places ≡ Some now = sym found ∙ (ap (slice_get (set old state now)) eq ∙ same) in
-            let two : places ≡ now = cc in
-            (
+            let two : places ≡ now = cc in (
               was,
               ap (slice_get old) eq ∙ here,
               λ i c.
@@ -310,8 +309,7 @@ adds_place old state place was now h is e =
       kept = λ s places found. elim (cases_eq s state) [
         | inl eq ↦
             let one : Some places ≡ Some was = sym found ∙ (ap (slice_get old) eq ∙ here) in
-            let two : places ≡ was = cc in
-            (
+            let two : places ≡ was = cc in (
               now,
               ap (slice_get (set old state now)) eq ∙ same,
               λ i c.
@@ -391,7 +389,7 @@ length_letters output at = length-map (drop at output) (λ (x : ℕ). OfByte x) 
 pub before_found : (out : List Out) (output : List ℕ) (at after : ℕ) → at + length out ≡ length output → letters_from output at ≡ map (letter_of 0) out ++ letters_from output after → letters_from output at ≡ map (letter_of 0) out
 before_found out output at after h e =
     let l : length (letters_from output at) ≡ length out + length (letters_from output after) =
-      ap length e ∙ length-append (map (letter_of 0) out) (letters_from output after) ∙ ap (λ (x : ℕ). x + length (letters_from output after)) (length-map out (letter_of 0)) in
+    ap length e ∙ length-append (map (letter_of 0) out) (letters_from output after) ∙ ap (λ (x : ℕ). x + length (letters_from output after)) (length-map out (letter_of 0)) in
     let z : length (letters_from output after) ≡ 0 = omega (arith, length_letters output at) in
     e ∙ ap (λ (x : List Letter). map (letter_of 0) out ++ x) (nil_from_length (letters_from output after) z) ∙ append-nil (map (letter_of 0) out)
 

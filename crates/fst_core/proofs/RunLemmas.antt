@@ -2,7 +2,7 @@
 use Rattle.std.proofs.Common.{◌≡◌, ℕ, ◌+◌, ◌<◌, ◌≤◌, ◌⊎◌, ◌↔◌, inl, inr, Bool, IsTrue, List, [], ◌∷◌, ◌++◌, length, map, drop, get_or, Contains, refl, sym, ◌∙◌, ap, subst, arith, append_assoc}
 use Rattle.std.proofs.lemmas.List.{drop_more, drop_all}
 use Rattle.fst_core.specs.Letter.{Letter, OfByte}
-use Rattle.fst_core.specs.Runs.{Runs, Relates, Gives}
+use Rattle.fst_core.specs.Runs.{Relates, Gives}
 use Rattle.fst_core.specs.Tables.{TableStep, TableStop, TableRelates}
 use Rattle.fst_core.specs.Layers.{letters_from, SomeGives, TableGives}
 use Rattle.fst_core.specs.declared.table.Table.{Table}

@@ -1,5 +1,5 @@
 -- What a table does in a state by a byte, and what it puts out at the end, as lists.
-use Rattle.std.specs.Prelude.{◌≡◌, ◌==◌, ℕ, ◌<◌, Bool, ◌&&◌, List, [], ◌∷◌, ◌++◌, Option, Some, None, nat_le, slice_get, slice_index, if◌then◌else◌}
+use Rattle.std.specs.Prelude.{◌≡◌, ◌==◌, ℕ, Bool, ◌&&◌, List, [], ◌∷◌, ◌++◌, Option, Some, None, nat_le, nat_lt, slice_get, slice_index, if◌then◌else◌}
 use Rattle.text_base.specs.declared.byte_range.ByteRange.{ByteRange}
 use Rattle.fst_core.specs.declared.out.Out.{Out}
 use Rattle.fst_core.specs.declared.moves.TableMove.{TableMove}
@@ -31,7 +31,7 @@ abbrev pub AddsChoice : List TableMove → List TableMove → ℕ → ℕ → �
 AddsChoice old new from lo hi action =
     (s byte : ℕ) → choices new s byte ≡ choices old s byte ++ (if from == s && (nat_le lo byte && nat_le byte hi) then choice_of action else [])
 
--- to the moves that were there, some are added by which the state takes each byte to the action that is named for it
+-- to the moves that were there, some are added by which the state takes each byte to the action that is named for it, and nothing else
 abbrev pub AddsRow : List TableMove → List TableMove → ℕ → List ℕ → List Action → Type 0
 AddsRow old new from named actions =
-    (s byte : ℕ) → byte < 256 → choices new s byte ≡ choices old s byte ++ (if from == s then choice_of (slice_get actions (slice_index named byte)) else [])
+    (s byte : ℕ) → choices new s byte ≡ choices old s byte ++ (if from == s && nat_lt byte 256 then choice_of (slice_get actions (slice_index named byte)) else [])

@@ -1,7 +1,7 @@
 -- The machine of a table.
 use Rattle.std.specs.Prelude.{◌≡◌, ℕ, List, map, Contains}
 use Rattle.text_base.specs.ByteRange.{InRange}
-use Rattle.fst_core.specs.Letter.{Letter, OfByte, letter_of}
+use Rattle.fst_core.specs.Letter.{Letter, letter_of}
 use Rattle.fst_core.specs.Runs.{Relates}
 use Rattle.fst_core.specs.declared.moves.TableMove.{TableMove}
 use Rattle.fst_core.specs.declared.moves.TableEnd.{TableEnd}

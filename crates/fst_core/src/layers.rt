@@ -68,7 +68,13 @@ fn try_move(
     let Some(written) = written_after(step.out.as_slice(), byte, output, written) else {
         return Ok(());
     };
-    add_reached(next, Reached { state: step.to, written })?;
+    add_reached(
+        next,
+        Reached {
+            state: step.to,
+            written,
+        },
+    )?;
     Ok(())
 }
 
@@ -113,7 +119,14 @@ fn follow(
     let Some(places) = index.get(reached.state as usize) else {
         return Ok(());
     };
-    try_moves(table, next, places.as_slice(), reached.written, byte, output)?;
+    try_moves(
+        table,
+        next,
+        places.as_slice(),
+        reached.written,
+        byte,
+        output,
+    )?;
     Ok(())
 }
 
@@ -212,12 +225,7 @@ fn moves_by_state(alloc: Global, table: &Table) -> Result<Vec<Vec<usize>>, NoMem
 
 /// Whether the table may put out the output over the input. It takes time and memory within the
 /// moves and states, times the bytes of the input, times the bytes of the output.
-pub fn applies(
-    alloc: Global,
-    table: &Table,
-    input: &[u8],
-    output: &[u8],
-) -> Result<bool, NoMemory>
+pub fn applies(alloc: Global, table: &Table, input: &[u8], output: &[u8]) -> Result<bool, NoMemory>
     ensures { IfOk result (λ answer. IsTrue answer ↔ TableRelates table.now input.now (map OfByte output.now)) }
 {
     let index = moves_by_state(alloc, table)?;

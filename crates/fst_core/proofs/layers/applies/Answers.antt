@@ -1,4 +1,4 @@
-use Rattle.std.proofs.Common.{◌≡◌, map}
+use Rattle.std.proofs.Common.{map}
 use Rattle.fst_core.specs.Letter.{OfByte}
 use Rattle.fst_core.specs.Layers.{TableGives}
 use Rattle.fst_core.proofs.RunLemmas.{first_layer, layer_more, layer_all}

@@ -1,6 +1,5 @@
-use Rattle.std.proofs.Common.{◌≡◌, Option, Some, None, slice_get, ap, sym, ◌∙◌, Vec, Global, ℕ, subst, All, ◌<◌, length, List}
+use Rattle.std.proofs.Common.{◌≡◌, Some, None, slice_get, ap, sym, ◌∙◌, Vec, Global, ℕ, subst, All, ◌<◌, length, List}
 use Rattle.std.specs.Option.{option_copied}
-use Rattle.fst_core.specs.Layers.{ByMoves}
 use Rattle.fst_core.proofs.ChoiceLemmas.{got_copied}
 use Rattle.fst_core.proofs.LayerLemmas.{places_within, by_places, no_places, or_same}
 use Rattle.fst_core.proofs.layers.follow.Goals as goal

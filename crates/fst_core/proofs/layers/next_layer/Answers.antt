@@ -1,4 +1,4 @@
-use Rattle.std.proofs.Common.{◌≡◌, List, [], sym, subst}
+use Rattle.std.proofs.Common.{List, [], sym, subst}
 use Rattle.fst_core.specs.declared.layers.Reached.{Reached}
 use Rattle.fst_core.proofs.LayerLemmas.{Followed, followed_none, followed_more, followed_all}
 use Rattle.fst_core.proofs.layers.next_layer.Goals as goal

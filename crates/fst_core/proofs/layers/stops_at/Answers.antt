@@ -1,4 +1,4 @@
-use Rattle.std.proofs.Common.{◌≡◌, List, refl, sym, ◌∙◌, subst, arith, ◌<◌, ◌≤◌, length, get_or, ap, Contains}
+use Rattle.std.proofs.Common.{◌≡◌, List, refl, sym, ◌∙◌, subst, ◌<◌, ◌≤◌, length, get_or, ap, Contains}
 use Rattle.std.proofs.lemmas.Bool.{false≢true}
 use Rattle.fst_core.specs.Layers.{StopsBy}
 use Rattle.fst_core.specs.declared.moves.TableEnd.{TableEnd}

@@ -1,4 +1,3 @@
-use Rattle.std.proofs.Common.{◌≡◌, Bool}
 use Rattle.std.proofs.lemmas.Map.Views.{hash_set_contains_iff}
 use Rattle.fst_core.specs.declared.layers.Reached.{Reached}
 use Rattle.fst_core.proofs.LayerLemmas.{stops_where, reached_equiv, reached_exact}

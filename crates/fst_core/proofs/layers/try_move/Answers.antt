@@ -1,5 +1,4 @@
-use Rattle.std.proofs.Common.{◌≡◌, ◌<◌, ◌⊎◌, inl, inr, ap, sym, ◌∙◌}
-use Rattle.fst_core.proofs.LayerLemmas.{moves_not, moves_otherwise, moves_on}
+use Rattle.fst_core.proofs.LayerLemmas.{moves_otherwise, moves_on}
 use Rattle.fst_core.proofs.layers.try_move.Goals as goal
 
 pub returns-in_default : goal.returns-in_default

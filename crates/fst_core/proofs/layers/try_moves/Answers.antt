@@ -1,6 +1,5 @@
 use Rattle.std.proofs.Common.{length, refl, get_or}
 use Rattle.std.proofs.lemmas.Option.{slice_get_read}
-use Rattle.std.proofs.lemmas.List.Elements.{All-get_or}
 use Rattle.fst_core.proofs.LayerLemmas.{tried_more, tried_all}
 use Rattle.fst_core.proofs.layers.try_moves.Goals as goal
 

@@ -1,6 +1,6 @@
-use Rattle.std.proofs.Common.{◌≡◌, ◌≤◌, ℕ, length, get_or, arith, IsTrue, false, true, sym, ◌∙◌}
+use Rattle.std.proofs.Common.{◌≤◌, length, arith, sym, ◌∙◌}
 use Rattle.std.proofs.lemmas.Bool.{false≢true}
-use Rattle.fst_core.specs.Letter.{OfByte, letter_of}
+use Rattle.fst_core.specs.Letter.{letter_of}
 use Rattle.fst_core.specs.declared.out.Out.TheVariants.{Same}
 use Rattle.fst_core.proofs.LayerLemmas.{written_more, written_fails, no_letter, other_letter}
 use Rattle.fst_core.proofs.layers.written_after.Goals as goal

@@ -1,4 +1,4 @@
-use Rattle.std.proofs.Common.{◌≡◌, ◌+◌, ◌-◌, ◌≤◌, ◌<◌, length, arith}
+use Rattle.std.proofs.Common.{◌≡◌, ◌+◌, ◌-◌, length, arith}
 use Rattle.fst_core.proofs.LayerLemmas.{before_found, before_none, before_long}
 use Rattle.fst_core.proofs.layers.written_before.Goals as goal
 

@@ -1,7 +1,7 @@
 use Rattle.std.proofs.Common.{refl, ap, ◌∙◌}
 use Rattle.std.specs.Option.{option_copied}
 use Rattle.fst_core.specs.declared.moves.Action.{Action}
-use Rattle.fst_core.proofs.ChoiceLemmas.{adds_one, adds_nothing}
+use Rattle.fst_core.proofs.ChoiceLemmas.{adds_one}
 use Rattle.fst_core.proofs.table.Table.add_choice.Goals as goal
 
 pub add_move-requires-clause-to : goal.add_move-requires-clause-to

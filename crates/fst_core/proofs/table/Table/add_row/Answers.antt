@@ -1,8 +1,8 @@
-use Rattle.std.proofs.Common.{◌≡◌, ℕ, ◌+◌, ◌<◌, Option, slice_get, get_or, subst, ◌∙◌, sym, ap, arith}
+use Rattle.std.proofs.Common.{◌<◌, Option, subst, ◌∙◌, ap, arith}
 use Rattle.fst_core.specs.Choices.{AddsChoice}
 use Rattle.fst_core.specs.declared.moves.Action.{Action}
 use Rattle.fst_core.specs.declared.table.Table.{Table}
-use Rattle.fst_core.proofs.ChoiceLemmas.{Building, building_more, building_cut}
+use Rattle.fst_core.proofs.ChoiceLemmas.{building_more, building_cut}
 use Rattle.fst_core.proofs.table.Table.add_row.Goals as goal
 use Rattle.fst_core.proofs.table.Table.add_row.Goals.{then-hi-eq255+in_ok-add_choice, else-hi-eq255+else-named-hi}
 
