@@ -1,2 +1,5 @@
 pub mod ListedLemmas
 pub mod SameLemmas
+pub mod BorderLemmas
+pub mod FailureLemmas
+pub mod SearchLemmas

@@ -1,2 +1,4 @@
 pub mod Listed
 pub mod Same
+pub mod Failure
+pub mod Search

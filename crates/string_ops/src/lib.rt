@@ -4,5 +4,7 @@
 //! proved over lists. Below stand fst_core, op_system and string_functions.
 #![tactic(auto)]
 
+mod failure;
 mod same;
+mod search;
 
