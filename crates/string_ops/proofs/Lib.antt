@@ -3,3 +3,5 @@ pub mod SameLemmas
 pub mod BorderLemmas
 pub mod FailureLemmas
 pub mod SearchLemmas
+pub mod OccurrenceLemmas
+pub mod ReplaceLemmas

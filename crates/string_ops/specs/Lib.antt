@@ -2,3 +2,5 @@ pub mod Listed
 pub mod Same
 pub mod Failure
 pub mod Search
+pub mod Replace
+pub mod Piece

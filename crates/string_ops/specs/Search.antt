@@ -48,3 +48,7 @@ AddsSearch old new base count by =
 abbrev pub AddsEnds : List TableEnd → List TableEnd → ℕ → ℕ → List ℕ → Type 0
 AddsEnds old new base count pattern =
     (s : ℕ) → stops new s ≡ stops old s ++ (if is_within base count s then map Byte (take (s - base) pattern) ∷ [] else [])
+
+-- the text may end in the state, and nothing is put out
+abbrev pub AddsStop : List TableEnd → List TableEnd → ℕ → Type 0
+AddsStop old new state = (s : ℕ) → stops new s ≡ stops old s ++ (if state == s then [] ∷ [] else [])

@@ -5,6 +5,8 @@
 #![tactic(auto)]
 
 mod failure;
+mod piece;
+mod replace;
 mod same;
 mod search;
 

@@ -4,7 +4,14 @@ use Rattle.string_ops.proofs.SearchLemmas.{search_none, search_more}
 use Rattle.string_ops.proofs.search.add_states.Goals as goal
 
 pub loop-at-init : goal.loop-at-init
-loop-at-init c = record { search = search_none _ _ _; states = refl; start = refl; ends = refl }
+loop-at-init c =
+    let search = c.args.search.now in
+    record {
+      search = search_none c.args.table.now.moves.items search.base (turn_by search.pattern.now search.base (search.full_to, search.full_out.now) search.shown);
+      states = refl;
+      start = refl;
+      ends = refl;
+    }
 
 pub loop-at-preserved : goal.loop-at-preserved
 loop-at-preserved c =
