@@ -5,3 +5,4 @@ pub mod FailureLemmas
 pub mod SearchLemmas
 pub mod OccurrenceLemmas
 pub mod ReplaceLemmas
+pub mod PieceLemmas

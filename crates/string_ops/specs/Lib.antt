@@ -4,3 +4,4 @@ pub mod Failure
 pub mod Search
 pub mod Replace
 pub mod Piece
+pub mod Factor
