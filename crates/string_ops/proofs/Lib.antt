@@ -6,3 +6,4 @@ pub mod SearchLemmas
 pub mod OccurrenceLemmas
 pub mod ReplaceLemmas
 pub mod PieceLemmas
+pub mod FactorLemmas

@@ -4,6 +4,7 @@
 //! proved over lists. Below stand fst_core, op_system and string_functions.
 #![tactic(auto)]
 
+mod factor;
 mod failure;
 mod piece;
 mod replace;
