@@ -1,0 +1,4 @@
+mod Examples
+mod MiniLemmas
+pub mod Encoded
+pub mod Views

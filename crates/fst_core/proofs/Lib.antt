@@ -1,0 +1,5 @@
+pub mod ChoiceLemmas
+pub mod LayerLemmas
+pub mod RunLemmas
+pub mod OfferLemmas
+mod Examples

@@ -1,0 +1,21 @@
+//! Machines that read bytes and put out bytes and page tokens (finite-state transducers): what a
+//! machine is, the machine that is listed as a table, and the test whether a table relates two
+//! texts. The contracts cite `Runs` and `Relates` of specs/Runs.antt. Below this crate stands
+//! `text_base` alone.
+#![tactic(auto)]
+
+mod layers;
+mod machine;
+mod moves;
+mod out;
+mod rows;
+mod table;
+mod table_machine;
+#[cfg(test)]
+mod tests;
+
+pub use layers::applies;
+pub use machine::{Machine, Move};
+pub use moves::{Action, TableEnd, TableMove};
+pub use out::Out;
+pub use table::Table;

@@ -1,0 +1,95 @@
+//! A table as a machine.
+
+ghost use Rattle.std.specs.Prelude.{◌≡◌, ℕ, ◌<◌, List, OnOk};
+ghost use Rattle.fst_core.specs.Letter.{Letter};
+ghost use Rattle.fst_core.specs.Offers.{OffersMore, OffersLastMore};
+ghost use Rattle.fst_core.specs.Tables.{TableStep, TableStop};
+
+use crate::machine::{Machine, Move};
+use crate::moves::{TableEnd, TableMove};
+use crate::out::Out;
+use crate::table::Table;
+use std::alloc::Global;
+use text_base::{ByteRange, NoMemory};
+
+/// Adds what a move of the table offers in a state by the bytes of a range.
+fn offer(
+    alloc: Global,
+    moves: &mut Vec<Move<u64>>,
+    step: &TableMove,
+    state: u64,
+    range: ByteRange,
+) -> Result<(), NoMemory>
+    ensures { OnOk result (OffersMore moves.old.items moves.new.items step.now state range) }
+{
+    if step.from != state {
+        return Ok(());
+    }
+    let Some(met) = step.range.meet(range) else {
+        return Ok(());
+    };
+    let out = Vec::from_slice(alloc, step.out.as_slice())?;
+    moves.push(Move {
+        range: met,
+        out,
+        to: step.to,
+    })?;
+    Ok(())
+}
+
+/// Adds what an end of the table offers in a state.
+fn offer_last(
+    alloc: Global,
+    lasts: &mut Vec<Vec<Out>>,
+    end: &TableEnd,
+    state: u64,
+) -> Result<(), NoMemory>
+    ensures { OnOk result (OffersLastMore lasts.old.items lasts.new.items end.now state) }
+{
+    if end.state != state {
+        return Ok(());
+    }
+    lasts.push(Vec::from_slice(alloc, end.out.as_slice())?)?;
+    Ok(())
+}
+
+impl Machine for Table {
+    type State = u64;
+
+    ghost first = { λ table. table.start };
+
+    ghost steps = { λ table s byte t letters. TableStep table.moves.items s byte t letters };
+
+    ghost ends = { λ table s letters. TableStop table.ends.items s letters };
+
+    ghost gives = { λ table s. s < table.states };
+
+    fn copy(&self, _alloc: Global, state: &u64) -> Result<u64, NoMemory> {
+        Ok(*state)
+    }
+
+    fn start(&self, _alloc: Global) -> Result<u64, NoMemory> {
+        Ok(self.start)
+    }
+
+    fn moves(
+        &self,
+        alloc: Global,
+        state: &u64,
+        range: ByteRange,
+    ) -> Result<Vec<Move<u64>>, NoMemory> {
+        let mut moves = Vec::new(alloc);
+        for step in &self.moves {
+            offer(alloc, &mut moves, step, *state, range)?;
+        }
+        Ok(moves)
+    }
+
+    fn last(&self, alloc: Global, state: &u64) -> Result<Vec<Vec<Out>>, NoMemory> {
+        let mut lasts = Vec::new(alloc);
+        for end in &self.ends {
+            offer_last(alloc, &mut lasts, end, *state)?;
+        }
+        Ok(lasts)
+    }
+}

@@ -1,0 +1,71 @@
+-- The definitions of `specs/` on worked examples and on near misses.
+use Rattle.std.proofs.Common.{◌≡◌, [], ◌∷◌, None, Some, true, false, Ok, Err, ◌^◌, ◌-◌, refl, lit≤, codes, arith}
+use Rattle.io_edge.specs.Counts.{one_more, Rises}
+use Rattle.io_edge.specs.Told.{Tells}
+use Rattle.io_edge.specs.Reasons.{HasReason}
+use Rattle.io_edge.specs.Taken.{AppendsPrefix}
+use Rattle.io_edge.specs.Planned.{file_named, is_planned, planned_answer}
+use Rattle.io_edge.specs.Room.{fitting}
+use Rattle.io_edge.specs.declared.files.FileFault.TheVariants.{Missing, Failed}
+
+-- a count goes up by one, and stays at the largest u64
+counted : one_more 7 ≡ 8
+counted = refl
+
+stays : one_more (2 ^ 64 - 1) ≡ 2 ^ 64 - 1
+stays = refl
+
+rises_by_two : Rises 7 9
+rises_by_two = lit≤ tt
+
+rises_at_the_end : Rises (2 ^ 64 - 1) (2 ^ 64 - 1)
+rises_at_the_end = lit≤ tt
+
+stays_is_no_rise : Rises 7 7 → ⊥
+stays_is_no_rise h = omega (arith, h)
+
+-- a source that tells of a file does not tell that it is missing, and one that tells nothing allows any answer
+told : Tells (Some (Some (codes "<p>"))) (Some (codes "<p>"))
+told = refl
+
+told_is_not_missing : HasReason (Some (Some (codes "<p>"))) 0 0 0 1 Missing → ⊥
+told_is_not_missing h = cc (h.1)
+
+untold_is_missing : HasReason None 0 0 0 1 Missing
+untold_is_missing = (lit≤ tt, tt)
+
+a_miss_is_counted : HasReason None 0 1 0 0 Missing → ⊥
+a_miss_is_counted h = omega (arith, h.0)
+
+-- the first file of a name, whole names only, and the calls that are to fail
+first_of_a_name : file_named (codes "a") ((codes "ab", codes "1") ∷ (codes "a", codes "2") ∷ (codes "a", codes "3") ∷ []) ≡ Some (codes "2")
+first_of_a_name = refl
+
+no_such_name : file_named (codes "b") ((codes "ab", codes "1") ∷ []) ≡ None
+no_such_name = refl
+
+planned : is_planned (0 ∷ 3 ∷ []) 3 ≡ true
+planned = refl
+
+not_planned : is_planned (0 ∷ 3 ∷ []) 1 ≡ false
+not_planned = refl
+
+fails_before_it_misses : planned_answer true None ≡ Err Failed
+fails_before_it_misses = refl
+
+gives_the_bytes : planned_answer false (Some (codes "<p>")) ≡ Ok (codes "<p>")
+gives_the_bytes = refl
+
+-- what fits of a text that is put where some is held
+fits_whole : fitting (Some 5) 2 (codes "abc") ≡ codes "abc"
+fits_whole = refl
+
+fits_in_part : fitting (Some 5) 3 (codes "abc") ≡ codes "ab"
+fits_in_part = refl
+
+fits_none : fitting (Some 3) 3 (codes "abc") ≡ []
+fits_none = refl
+
+-- a prefix is a prefix: what stands further on is none
+takes_a_prefix : AppendsPrefix (Some (codes "x")) (Some (codes "xab")) (codes "abc")
+takes_a_prefix = (2, lit≤ tt, refl)

@@ -1,0 +1,9 @@
+pub mod Counts
+pub mod Told
+pub mod Reasons
+pub mod Taken
+pub mod Planned
+pub mod Room
+pub mod MemFiles
+pub mod MemSink
+pub mod Stream

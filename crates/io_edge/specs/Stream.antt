@@ -1,0 +1,6 @@
+-- What a sink over a writer is seen as.
+use Rattle.io_edge.specs.declared.std_sink.StdSink.{StdSink}
+
+-- the writer that it writes to
+abbrev pub sink_writer : {W : Type 0} → StdSink W → W
+sink_writer s = s.writer
