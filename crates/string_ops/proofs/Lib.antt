@@ -1,2 +1,5 @@
 pub mod ListedLemmas
 pub mod SameLemmas
+pub mod Utf8
+pub mod PlanRows
+pub mod PlanStates

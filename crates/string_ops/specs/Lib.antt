@@ -1,2 +1,6 @@
 pub mod Listed
 pub mod Same
+pub mod Plans
+pub mod Bytewise
+pub mod BytewiseLaws
+pub mod Html

@@ -4,5 +4,6 @@
 //! proved over lists. Below stand fst_core, op_system and string_functions.
 #![tactic(auto)]
 
+mod bytewise;
+mod plan;
 mod same;
-
