@@ -1,8 +1,9 @@
 -- The machines that write each byte by itself, all in one state.
 use Rattle.std.specs.Prelude.{◌≡◌, ℕ, ◌==◌, ◌||◌, ◌&&◌, Bool, nat_le, List, [], ◌∷◌, map, flat_map, if◌then◌else◌}
 use Rattle.std.specs.Char.{to_ascii_lowercase, to_ascii_uppercase}
-use Rattle.string_functions.specs.Url.{is_kept_in_url, percent_of_byte, url_of_byte, raw_url_of_byte}
-use Rattle.string_functions.specs.Slashes.{slashes_of_byte}
+use Rattle.string_functions.specs.Case.{lower_of, upper_of}
+use Rattle.string_functions.specs.Url.{is_kept_in_url, percent_of_byte, url_of_byte, raw_url_of_byte, url_of, raw_url_of}
+use Rattle.string_functions.specs.Slashes.{slashes_of_byte, slashes_of}
 use Rattle.fst_core.specs.declared.out.Out.{Out}
 use Rattle.fst_core.specs.declared.out.Out.TheVariants.{Same, Shift, Byte}
 use Rattle.string_ops.specs.declared.bytewise.Bytewise.{Bytewise}
@@ -30,3 +31,11 @@ bytewise_rows kind s b = if s == 0 then (0, outs_of kind b) ∷ [] else []
 
 abbrev pub bytewise_lasts : ℕ → List (List Out)
 bytewise_lasts s = if s == 0 then [] ∷ [] else []
+
+-- what the function makes of a text
+abbrev pub bytewise_of : Bytewise → List ℕ → List ℕ
+bytewise_of Lower text = lower_of text
+bytewise_of Upper text = upper_of text
+bytewise_of Url text = url_of text
+bytewise_of RawUrl text = raw_url_of text
+bytewise_of Slashes text = slashes_of text

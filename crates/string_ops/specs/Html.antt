@@ -1,5 +1,9 @@
 -- The machine that escapes for HTML: it reads whole characters of UTF-8 alone (RFC 3629, section 4).
-use Rattle.std.specs.Prelude.{◌≡◌, ℕ, ◌==◌, Bool, true, false, ◌&&◌, nat_le, nat_lt, List, [], ◌∷◌, Option, Some, None, IsTrue, if◌then◌else◌}
+use Rattle.std.specs.Prelude.{◌≡◌, ℕ, ◌==◌, Bool, ◌&&◌, nat_le, nat_lt, List, [], ◌∷◌, map, codes, Option, Some, None, if◌then◌else◌}
+use Rattle.fst_core.specs.declared.out.Out.{Out}
+use Rattle.fst_core.specs.declared.out.Out.TheVariants.{Same, Byte}
+use Rattle.string_ops.specs.Listed.{Rows, Lasts}
+use Rattle.string_ops.specs.Plans.{rows_below, lasts_below}
 
 -- the byte lies between the two, both included
 abbrev pub is_between : ℕ → ℕ → ℕ → Bool
@@ -23,3 +27,25 @@ utf8_after s b =
 abbrev pub IsUtf8From : ℕ → List ℕ → Type 0
 IsUtf8From s [] = s ≡ 0
 IsUtf8From s (b ∷ rest) = (t : ℕ) × (utf8_after s b ≡ Some t) × IsUtf8From t rest
+
+-- what is put out as a byte is read
+abbrev pub html_put : ℕ → List Out
+html_put b =
+    if b == 38 then map Byte (codes "&amp;") else (if b == 60 then map Byte (codes "&lt;") else (if b == 62 then map Byte (codes "&gt;") else (if b == 34 then map Byte (codes "&quot;") else (if b == 39 then map Byte (codes "&#039;") else Same ∷ []))))
+
+-- the one choice where the byte leads on
+abbrev pub html_choice : Option ℕ → List Out → List (ℕ × List Out)
+html_choice None out = []
+html_choice (Some to) out = (to, out) ∷ []
+
+abbrev pub html_row : Rows
+html_row s b = html_choice (utf8_after s b) (html_put b)
+
+abbrev pub html_last : Lasts
+html_last s = if s == 0 then [] ∷ [] else []
+
+abbrev pub html_rows : Rows
+html_rows = rows_below 8 html_row
+
+abbrev pub html_lasts : Lasts
+html_lasts = lasts_below 8 html_last

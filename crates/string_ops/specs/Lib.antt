@@ -4,3 +4,7 @@ pub mod Plans
 pub mod Bytewise
 pub mod BytewiseLaws
 pub mod Html
+pub mod PlanLaws
+pub mod Breaks
+pub mod First
+pub mod Trim

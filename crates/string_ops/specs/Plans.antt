@@ -41,3 +41,10 @@ pub record AddsState (old new : Table) (from : ℕ) (row : ℕ → List (ℕ × 
   pub first : new.start ≡ old.start
   pub moves : (s byte : ℕ) → choices new.moves.items s byte ≡ choices old.moves.items s byte ++ (if from == s && nat_lt byte 256 then row byte else [])
   pub ends : (s : ℕ) → stops new.ends.items s ≡ stops old.ends.items s ++ (if from == s then lasts else [])
+
+-- what is written down for the states below a number, and nothing for the others
+abbrev pub rows_below : ℕ → Rows → Rows
+rows_below states rows s byte = if nat_lt s states then rows s byte else []
+
+abbrev pub lasts_below : ℕ → Lasts → Lasts
+lasts_below states lasts s = if nat_lt s states then lasts s else []

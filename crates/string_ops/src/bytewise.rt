@@ -3,11 +3,12 @@
 ghost use Rattle.std.specs.Prelude.{◌≡◌, ℕ, [], ◌∷◌, List, IfOk, map, if◌then◌else◌};
 ghost use Rattle.fst_core.specs.declared.out.Out.{Out};
 ghost use Rattle.string_functions.specs.Url.{percent_of_byte};
-ghost use Rattle.string_ops.specs.Bytewise.{outs_of, bytewise_rows, bytewise_lasts};
+ghost use Rattle.string_ops.specs.Bytewise.{outs_of, bytewise_rows, bytewise_lasts, bytewise_of};
+ghost use Rattle.string_ops.specs.Listed.{IsMachine};
 ghost use Rattle.string_ops.specs.BytewiseLaws as laws;
 
-use crate::plan::Plan;
-use fst_core::{Action, Out};
+use crate::plan::{table_of, Plan};
+use fst_core::{Action, Out, Table};
 use std::alloc::Global;
 use string_functions::of_byte::{hex_digit_of, is_kept_byte};
 use text_base::NoMemory;
@@ -158,4 +159,12 @@ fn slashes_outs(alloc: Global, byte: u8) -> Result<Vec<Out>, NoMemory>
     } else {
         one(alloc, Out::Same)
     }
+}
+
+/// The machine of an operation that writes each byte by itself.
+pub(crate) fn bytewise_machine(alloc: Global, kind: Bytewise) -> Result<Table, NoMemory>
+    ensures { IfOk result (λ table. IsMachine table 0 (λ input output. output ≡ bytewise_of kind input)) }
+{
+    let table = table_of(alloc, &kind)?;
+    Ok(table)
 }
