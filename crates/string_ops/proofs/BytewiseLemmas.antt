@@ -29,7 +29,7 @@ lower_writes b below =
         ]
     ]
 
-upper_writes : (b : ℕ) → b < 256 → map (byte_of b) (outs_of Upper b) ≡ to_ascii_uppercase b ∷ []
+pub upper_writes : (b : ℕ) → b < 256 → map (byte_of b) (outs_of Upper b) ≡ to_ascii_uppercase b ∷ []
 upper_writes b below =
     elim (cases_lt b 97) [
         inl small ↦ rw (lt-leb 97 b small, lt-ltb b 97 small) refl
@@ -72,7 +72,7 @@ bytewise_function kind = record {
   }
 
 -- each output is short
-short_outs : (kind : Bytewise) (b : ℕ) → IsShort 8 (outs_of kind b)
+pub short_outs : (kind : Bytewise) (b : ℕ) → IsShort 8 (outs_of kind b)
 short_outs Lower b = cond_both (nat_le 65 b && nat_le b 90) _ _ (IsShort 8) (λ _. (refl, omega arith)) (λ _. (refl, omega arith))
 short_outs Upper b = cond_both (nat_le 97 b && nat_le b 122) _ _ (IsShort 8) (λ _. (refl, omega arith)) (λ _. (refl, omega arith))
 short_outs Url b = cond_both (is_kept_in_url b) _ _ (IsShort 8) (λ _. (refl, omega arith)) (λ _. cond_both (b == 32) _ _ (IsShort 8) (λ _. (refl, omega arith)) (λ _. (refl, omega arith)))

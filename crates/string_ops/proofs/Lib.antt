@@ -4,3 +4,6 @@ pub mod Utf8
 pub mod PlanRows
 pub mod PlanStates
 pub mod BytewiseLemmas
+pub mod PlanFunctions
+pub mod BreaksLemmas
+pub mod FirstLemmas
