@@ -7,3 +7,5 @@ pub mod BytewiseLemmas
 pub mod PlanFunctions
 pub mod BreaksLemmas
 pub mod FirstLemmas
+pub mod Relations
+pub mod TrimLemmas
