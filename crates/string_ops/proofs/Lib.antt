@@ -9,3 +9,4 @@ pub mod BreaksLemmas
 pub mod FirstLemmas
 pub mod Relations
 pub mod TrimLemmas
+pub mod HtmlLemmas
