@@ -8,3 +8,4 @@ pub mod PlanLaws
 pub mod Breaks
 pub mod First
 pub mod Trim
+pub mod MachineLaws

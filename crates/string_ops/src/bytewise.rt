@@ -7,6 +7,7 @@ ghost use Rattle.string_ops.specs.Bytewise.{outs_of, bytewise_rows, bytewise_las
 ghost use Rattle.string_ops.specs.Listed.{IsMachine};
 ghost use Rattle.string_ops.specs.BytewiseLaws as laws;
 
+use crate::outs::{one, two};
 use crate::plan::{table_of, Plan};
 use fst_core::{Action, Out, Table};
 use std::alloc::Global;
@@ -75,24 +76,6 @@ impl Plan for Bytewise {
     }
 }
 
-/// One thing put out.
-fn one(alloc: Global, first: Out) -> Result<Vec<Out>, NoMemory>
-    ensures { IfOk result (λ out. out.items ≡ first ∷ []) }
-{
-    let mut out = Vec::new(alloc);
-    out.push(first)?;
-    Ok(out)
-}
-
-/// Two things put out.
-fn two(alloc: Global, first: Out, second: Out) -> Result<Vec<Out>, NoMemory>
-    ensures { IfOk result (λ out. out.items ≡ first ∷ second ∷ []) }
-{
-    let mut out = one(alloc, first)?;
-    out.push(second)?;
-    Ok(out)
-}
-
 /// `%` and the two hexadecimal digits of the byte.
 fn percent(alloc: Global, byte: u8) -> Result<Vec<Out>, NoMemory>
     ensures { IfOk result (λ put. put.items ≡ map Out.Byte (percent_of_byte byte)) }
@@ -105,7 +88,7 @@ fn percent(alloc: Global, byte: u8) -> Result<Vec<Out>, NoMemory>
 }
 
 /// What is put out as the byte is read.
-fn outs(kind: Bytewise, alloc: Global, byte: u8) -> Result<Vec<Out>, NoMemory>
+pub(crate) fn outs(kind: Bytewise, alloc: Global, byte: u8) -> Result<Vec<Out>, NoMemory>
     ensures { IfOk result (λ out. out.items ≡ outs_of kind byte) }
 {
     match kind {

@@ -4,6 +4,9 @@
 //! proved over lists. Below stand fst_core, op_system and string_functions.
 #![tactic(auto)]
 
+mod breaks;
 mod bytewise;
+mod first;
+mod outs;
 mod plan;
 mod same;
