@@ -20,22 +20,22 @@ breaks_from s text = if s == 0 then breaks_past false text else (if s == 1 then 
 at_state : (P : ℕ → Type 0) (s : ℕ) → s < 3 → P 0 → P 1 → P 2 → P s
 at_state P s inside zero one two =
     elim (cases_eq s 0) [
-        inl e ↦ subst P (sym e) zero
+      | inl e ↦ subst P (sym e) zero
       | inr n0 ↦ elim (cases_eq s 1) [
-            inl e ↦ subst P (sym e) one
-          | inr n1 ↦ let e : 2 ≡ s = omega (arith, inside, n0, n1) in subst P e two
-        ]
+        | inl e ↦ subst P (sym e) one
+        | inr n1 ↦ let e : 2 ≡ s = omega (arith, inside, n0, n1) in subst P e two
+      ]
     ]
 
 -- a byte is LF, CR or another
 at_byte : (P : ℕ → Type 0) (b : ℕ) → P 10 → P 13 → ((b == 10) ≡ false → (b == 13) ≡ false → P b) → P b
 at_byte P b lf cr other =
     elim (cases_eq b 10) [
-        inl e ↦ subst P (sym e) lf
+      | inl e ↦ subst P (sym e) lf
       | inr n10 ↦ elim (cases_eq b 13) [
-            inl e ↦ subst P (sym e) cr
-          | inr n13 ↦ other (ne_eqb b 10 n10) (ne_eqb b 13 n13)
-        ]
+        | inl e ↦ subst P (sym e) cr
+        | inr n13 ↦ other (ne_eqb b 10 n10) (ne_eqb b 13 n13)
+      ]
     ]
 
 Steps : ℕ → ℕ → Type 0
@@ -79,10 +79,10 @@ short_put s b = cond_both (is_second s b) _ _ (IsShort 8) (λ _. (refl, omega ar
 breaks_small : AreSmall breaks_rows breaks_lasts 8
 breaks_small =
     below_small 3 breaks_row breaks_last 8 (record {
-        few = λ s byte. omega arith;
-        moves = λ s byte. All-cons (λ (p : ℕ × List Out). IsShort 8 p.1) (breaks_next s byte, breaks_put s byte) [] (short_put s byte) (All-nil (λ (p : ℕ × List Out). IsShort 8 p.1));
-        ends = λ s. All-cons (IsShort 8) [] [] (refl, omega arith) (All-nil (IsShort 8));
-      })
+      few = λ s byte. omega arith;
+      moves = λ s byte. All-cons (λ (p : ℕ × List Out). IsShort 8 p.1) (breaks_next s byte, breaks_put s byte) [] (short_put s byte) (All-nil (λ (p : ℕ × List Out). IsShort 8 p.1));
+      ends = λ s. All-cons (IsShort 8) [] [] (refl, omega arith) (All-nil (IsShort 8));
+    })
 
 pub breaks_is_machine : (table : Table) → IsListed table 3 breaks_rows breaks_lasts → IsMachine table 0 (λ input output. output ≡ breaks_of input)
 breaks_is_machine table listed =

@@ -28,15 +28,15 @@ at_state P s inside zero one =
 first_function : IsFunction first_rows first_lasts (λ s. s < 2) first_from
 first_function =
     below_function 2 (λ s b. 1) first_put first_from (λ s b inside below. omega arith) (λ s inside. at_state (λ n. [] ≡ first_from n []) s inside refl refl) (λ s b inside below.
-      at_state (λ n. (text : List ℕ) → map (byte_of b) (first_put n b) ++ text ≡ first_from n (b ∷ text)) s inside (λ text. ap (λ (front : List ℕ). front ++ text) (upper_writes b below)) (λ text. refl))
+    at_state (λ n. (text : List ℕ) → map (byte_of b) (first_put n b) ++ text ≡ first_from n (b ∷ text)) s inside (λ text. ap (λ (front : List ℕ). front ++ text) (upper_writes b below)) (λ text. refl))
 
 first_small : AreSmall first_rows first_lasts 8
 first_small =
     below_small 2 first_row first_last 8 (record {
-        few = λ s byte. omega arith;
-        moves = λ s byte. All-cons (λ (p : ℕ × List Out). IsShort 8 p.1) (1, first_put s byte) [] (cond_both (s == 0) _ _ (IsShort 8) (λ _. short_outs Upper byte) (λ _. (refl, omega arith))) (All-nil (λ (p : ℕ × List Out). IsShort 8 p.1));
-        ends = λ s. All-cons (IsShort 8) [] [] (refl, omega arith) (All-nil (IsShort 8));
-      })
+      few = λ s byte. omega arith;
+      moves = λ s byte. All-cons (λ (p : ℕ × List Out). IsShort 8 p.1) (1, first_put s byte) [] (cond_both (s == 0) _ _ (IsShort 8) (λ _. short_outs Upper byte) (λ _. (refl, omega arith))) (All-nil (λ (p : ℕ × List Out). IsShort 8 p.1));
+      ends = λ s. All-cons (IsShort 8) [] [] (refl, omega arith) (All-nil (IsShort 8));
+    })
 
 pub first_is_machine : (table : Table) → IsListed table 2 first_rows first_lasts → IsMachine table 0 (λ input output. output ≡ first_upper_of input)
 first_is_machine table listed =

@@ -24,17 +24,17 @@ HtmlFrom s text out = IsUtf8From s text × (out ≡ html_of text)
 html_writes : (b : ℕ) → map (byte_of b) (html_put b) ≡ html_of_byte b
 html_writes b =
     elim (cases_Bool (b == 38)) [
-        inl e ↦ rw e refl
+      | inl e ↦ rw e refl
       | inr n38 ↦ elim (cases_Bool (b == 60)) [
-            inl e ↦ rw (n38, e) refl
-          | inr n60 ↦ elim (cases_Bool (b == 62)) [
-                inl e ↦ rw (n38, n60, e) refl
-              | inr n62 ↦ elim (cases_Bool (b == 34)) [
-                    inl e ↦ rw (n38, n60, n62, e) refl
-                  | inr n34 ↦ elim (cases_Bool (b == 39)) [ inl e ↦ rw (n38, n60, n62, n34, e) refl | inr n39 ↦ rw (n38, n60, n62, n34, n39) refl ]
-                ]
-            ]
+        | inl e ↦ rw (n38, e) refl
+        | inr n60 ↦ elim (cases_Bool (b == 62)) [
+          | inl e ↦ rw (n38, n60, e) refl
+          | inr n62 ↦ elim (cases_Bool (b == 34)) [
+            | inl e ↦ rw (n38, n60, n62, e) refl
+            | inr n34 ↦ elim (cases_Bool (b == 39)) [ inl e ↦ rw (n38, n60, n62, n34, e) refl | inr n39 ↦ rw (n38, n60, n62, n34, n39) refl ]
+          ]
         ]
+      ]
     ]
 
 -- the states stay below eight
@@ -65,7 +65,7 @@ chosen : (o : Option ℕ) (out : List Out) (p : ℕ × List Out) → Contains (h
 chosen None out p among = Contains-nil p among
 chosen (Some to) out p among =
     elim (Contains-cons_cases (to, out) [] p among) [
-        inl e ↦ (ap (λ (q : ℕ × List Out). Some q.0) e, ap (λ (q : ℕ × List Out). q.1) e)
+      | inl e ↦ (ap (λ (q : ℕ × List Out). Some q.0) e, ap (λ (q : ℕ × List Out). q.1) e)
       | inr none ↦ Contains-nil p none
     ]
 
@@ -81,16 +81,16 @@ html_stops_to s own =
 html_simulates : Simulates 8 html_row html_last HtmlFrom
 unfolding Below
 html_simulates = record {
-    within = λ s b p inside below among. after_below s b p.0 (chosen (utf8_after s b) (html_put b) p among).0;
-    stop_to = λ s own inside among. html_stops_to s own among;
-    stop_from = λ s out inside h. ([], subst (λ (n : ℕ). Contains (html_last n) []) (sym h.0) (Contains-head [] []), sym h.1);
-    step_to = λ s b text rest p inside below among h.
-        let is = chosen (utf8_after s b) (html_put b) p among in
-        ((p.0, is.0, h.0), ap (λ (out : List Out). map (byte_of b) out ++ rest) (sym is.1) ∙ ap (λ (front : List ℕ). front ++ rest) (html_writes b) ∙ ap (λ (xs : List ℕ). html_of_byte b ++ xs) h.1);
-    step_from = λ s b text out inside below h.
-        let (t, goes, on) = h.0 in
-        ((t, html_put b), choice_there (utf8_after s b) (html_put b) t goes, html_of text, (on, refl), ap (λ (front : List ℕ). front ++ html_of text) (html_writes b) ∙ sym h.1);
-  }
+  within = λ s b p inside below among. after_below s b p.0 (chosen (utf8_after s b) (html_put b) p among).0;
+  stop_to = λ s own inside among. html_stops_to s own among;
+  stop_from = λ s out inside h. ([], subst (λ (n : ℕ). Contains (html_last n) []) (sym h.0) (Contains-head [] []), sym h.1);
+  step_to = λ s b text rest p inside below among h.
+      let is = chosen (utf8_after s b) (html_put b) p among in
+      ((p.0, is.0, h.0), ap (λ (out : List Out). map (byte_of b) out ++ rest) (sym is.1) ∙ ap (λ (front : List ℕ). front ++ rest) (html_writes b) ∙ ap (λ (xs : List ℕ). html_of_byte b ++ xs) h.1);
+  step_from = λ s b text out inside below h.
+      let (t, goes, on) = h.0 in
+      ((t, html_put b), choice_there (utf8_after s b) (html_put b) t goes, html_of text, (on, refl), ap (λ (front : List ℕ). front ++ html_of text) (html_writes b) ∙ sym h.1);
+}
 
 short_put : (b : ℕ) → IsShort 8 (html_put b)
 short_put b = cond_both (b == 38) _ _ (IsShort 8) (λ _. (refl, omega arith)) (λ _. cond_both (b == 60) _ _ (IsShort 8) (λ _. (refl, omega arith)) (λ _. cond_both (b == 62) _ _ (IsShort 8) (λ _. (refl, omega arith)) (λ _. cond_both (b == 34) _ _ (IsShort 8) (λ _. (refl, omega arith)) (λ _. cond_both (b == 39) _ _ (IsShort 8) (λ _. (refl, omega arith)) (λ _. (refl, omega arith))))))
@@ -102,14 +102,14 @@ short_choice (Some to) out short = (omega arith, All-cons (λ (p : ℕ × List O
 html_small : AreSmall html_rows html_lasts 8
 html_small =
     below_small 8 html_row html_last 8 (record {
-        few = λ s b. (short_choice (utf8_after s b) (html_put b) (short_put b)).0;
-        moves = λ s b. (short_choice (utf8_after s b) (html_put b) (short_put b)).1;
-        ends = λ s. cond_both (s == 0) _ _ (All (IsShort 8)) (λ _. All-cons (IsShort 8) [] [] (refl, omega arith) (All-nil (IsShort 8))) (λ _. All-nil (IsShort 8));
-      })
+      few = λ s b. (short_choice (utf8_after s b) (html_put b) (short_put b)).0;
+      moves = λ s b. (short_choice (utf8_after s b) (html_put b) (short_put b)).1;
+      ends = λ s. cond_both (s == 0) _ _ (All (IsShort 8)) (λ _. All-cons (IsShort 8) [] [] (refl, omega arith) (All-nil (IsShort 8))) (λ _. All-nil (IsShort 8));
+    })
 
 pub html_is_machine : (table : Table) → IsListed table 8 html_rows html_lasts → IsMachine table 0 (λ input output. IsUtf8 input × (output ≡ html_of input))
 html_is_machine table listed =
     listed_machine table 8 html_rows html_lasts 0 (λ input output. IsUtf8 input × (output ≡ html_of input)) listed html_small (omega arith)
     (λ input output bytes.
-        let follows = follows_relation 8 html_row html_last HtmlFrom html_simulates 0 (omega arith) input output bytes in
-        ((λ h. let from = follows.0 h in (IsUtf8-from_states input from.0, from.1)), (λ h. follows.1 (states_from_IsUtf8 input h.0, h.1))))
+    let follows = follows_relation 8 html_row html_last HtmlFrom html_simulates 0 (omega arith) input output bytes in
+    ((λ h. let from = follows.0 h in (IsUtf8-from_states input from.0, from.1)), (λ h. follows.1 (states_from_IsUtf8 input h.0, h.1))))

@@ -24,14 +24,14 @@ TrimFrom left right s text out =
 at_state : (P : ℕ → Type 0) (s : ℕ) → s < 4 → P 0 → P 1 → P 2 → P 3 → P s
 at_state P s inside zero one two three =
     elim (cases_eq s 0) [
-        inl e ↦ subst P (sym e) zero
+      | inl e ↦ subst P (sym e) zero
       | inr n0 ↦ elim (cases_eq s 1) [
-            inl e ↦ subst P (sym e) one
-          | inr n1 ↦ elim (cases_eq s 2) [
-                inl e ↦ subst P (sym e) two
-              | inr n2 ↦ let e : 3 ≡ s = omega (arith, inside, n0, n1, n2) in subst P e three
-            ]
+        | inl e ↦ subst P (sym e) one
+        | inr n1 ↦ elim (cases_eq s 2) [
+          | inl e ↦ subst P (sym e) two
+          | inr n2 ↦ let e : 3 ≡ s = omega (arith, inside, n0, n1, n2) in subst P e three
         ]
+      ]
     ]
 
 -- the one element of a list
@@ -64,8 +64,8 @@ kept_goes left false b p = λ among. only (Goes left false 1 b) (1, Same ∷ [])
 kept_goes left true b p =
     cond_both (is_stripped b) _ _ (λ (row : List (ℕ × List Out)). Contains row p → Goes left true 1 b p)
     (λ strip among. either (Goes left true 1 b) (2, Same ∷ []) (3, []) p among
-      (λ text rest h. ap (λ (xs : List ℕ). b ∷ xs) h.1 ∙ sym (trim_of-before_kept true b text h.0))
-      (λ text rest h. h.1 ∙ rw (strip, h.0) refl))
+    (λ text rest h. ap (λ (xs : List ℕ). b ∷ xs) h.1 ∙ sym (trim_of-before_kept true b text h.0))
+    (λ text rest h. h.1 ∙ rw (strip, h.0) refl))
     (λ stays among. only (Goes left true 1 b) (1, Same ∷ []) p among (λ text rest h. ap (λ (xs : List ℕ). b ∷ xs) h ∙ sym (trim_of-kept true b text stays)))
 
 kept_comes : (left right : Bool) (b : ℕ) → Comes left right 1 b (kept_row right b)
@@ -74,7 +74,7 @@ kept_comes left false b text out h = ((1, Same ∷ []), Contains-head (1, Same �
 kept_comes left true b text out h =
     cond_both (is_stripped b) _ _ (λ (row : List (ℕ × List Out)). (p : ℕ × List Out) × Contains row p × (rest : List ℕ) × TrimFrom left true p.0 text rest × (map (byte_of b) p.1 ++ rest ≡ out))
     (λ strip. elim (cases_Bool (list_all is_stripped text)) [
-        inl all ↦ ((3, []), Contains-later (2, Same ∷ []) ((3, []) ∷ []) (3, []) (Contains-head (3, []) []), [], (all, refl), sym (h ∙ rw (strip, all) refl))
+      | inl all ↦ ((3, []), Contains-later (2, Same ∷ []) ((3, []) ∷ []) (3, []) (Contains-head (3, []) []), [], (all, refl), sym (h ∙ rw (strip, all) refl))
       | inr some ↦ ((2, Same ∷ []), Contains-head (2, Same ∷ []) ((3, []) ∷ []), right_trim_of text, (some, refl), sym (h ∙ trim_of-before_kept true b text some))
     ])
     (λ stays. ((1, Same ∷ []), Contains-head (1, Same ∷ []) [], right_trim_of text, refl, sym (h ∙ trim_of-kept true b text stays)))
@@ -123,8 +123,8 @@ unfolding Comes
 promise_comes left right b text out h =
     cond_both (is_stripped b) _ _ (λ (row : List (ℕ × List Out)). (p : ℕ × List Out) × Contains row p × (rest : List ℕ) × TrimFrom left right p.0 text rest × (map (byte_of b) p.1 ++ rest ≡ out))
     (λ strip.
-        let some : list_all is_stripped text ≡ false = remains (is_stripped b) (list_all is_stripped text) strip h.0 in
-        ((2, Same ∷ []), Contains-head (2, Same ∷ []) [], trim_of false right text, (some, refl), sym (h.1 ∙ trim_of-before_kept right b text some)))
+    let some : list_all is_stripped text ≡ false = remains (is_stripped b) (list_all is_stripped text) strip h.0 in
+    ((2, Same ∷ []), Contains-head (2, Same ∷ []) [], trim_of false right text, (some, refl), sym (h.1 ∙ trim_of-before_kept right b text some)))
     (λ stays. ((1, Same ∷ []), Contains-head (1, Same ∷ []) [], trim_of false right text, refl, sym (h.1 ∙ trim_of-kept right b text stays)))
   where
     remains : (x y : Bool) → x ≡ true → (x && y) ≡ false → y ≡ false
@@ -162,13 +162,13 @@ unfolding Inner
 trim_inner left right s b =
     cond_both (s == 0) _ _ (All Inner)
     (λ _. cond_both left _ _ (All Inner)
-      (λ _. cond_both (is_stripped b) _ _ (All Inner) (λ _. All-cons Inner (0, []) [] (omega arith, (refl, omega arith)) (All-nil Inner)) (λ _. All-cons Inner (1, Same ∷ []) [] (omega arith, (refl, omega arith)) (All-nil Inner)))
-      (λ _. kept_inner right b))
+    (λ _. cond_both (is_stripped b) _ _ (All Inner) (λ _. All-cons Inner (0, []) [] (omega arith, (refl, omega arith)) (All-nil Inner)) (λ _. All-cons Inner (1, Same ∷ []) [] (omega arith, (refl, omega arith)) (All-nil Inner)))
+    (λ _. kept_inner right b))
     (λ _. cond_both (s == 1) _ _ (All Inner)
-      (λ _. kept_inner right b)
-      (λ _. cond_both (s == 2) _ _ (All Inner)
-        (λ _. cond_both (is_stripped b) _ _ (All Inner) (λ _. All-cons Inner (2, Same ∷ []) [] (omega arith, (refl, omega arith)) (All-nil Inner)) (λ _. All-cons Inner (1, Same ∷ []) [] (omega arith, (refl, omega arith)) (All-nil Inner)))
-        (λ _. cond_both (is_stripped b) _ _ (All Inner) (λ _. All-cons Inner (3, []) [] (omega arith, (refl, omega arith)) (All-nil Inner)) (λ _. All-nil Inner))))
+    (λ _. kept_inner right b)
+    (λ _. cond_both (s == 2) _ _ (All Inner)
+    (λ _. cond_both (is_stripped b) _ _ (All Inner) (λ _. All-cons Inner (2, Same ∷ []) [] (omega arith, (refl, omega arith)) (All-nil Inner)) (λ _. All-cons Inner (1, Same ∷ []) [] (omega arith, (refl, omega arith)) (All-nil Inner)))
+    (λ _. cond_both (is_stripped b) _ _ (All Inner) (λ _. All-cons Inner (3, []) [] (omega arith, (refl, omega arith)) (All-nil Inner)) (λ _. All-nil Inner))))
 
 trim_of-nil : (left right : Bool) → [] ≡ trim_of left right []
 trim_of-nil true true = refl
@@ -203,12 +203,12 @@ trim_steps left right s b inside =
 trim_simulates : (left right : Bool) → Simulates 4 (trim_row left right) trim_last (TrimFrom left right)
 unfolding Goes Comes Steps Stops Inner
 trim_simulates left right = record {
-    within = λ s b p inside below among. (All-contains Inner (trim_row left right s b) p (trim_inner left right s b) among).0;
-    stop_to = λ s own inside among. (trim_stops left right s inside).0 own among;
-    stop_from = λ s out inside h. (trim_stops left right s inside).1 out h;
-    step_to = λ s b text rest p inside below among h. (trim_steps left right s b inside).0 p among text rest h;
-    step_from = λ s b text out inside below h. (trim_steps left right s b inside).1 text out h;
-  }
+  within = λ s b p inside below among. (All-contains Inner (trim_row left right s b) p (trim_inner left right s b) among).0;
+  stop_to = λ s own inside among. (trim_stops left right s inside).0 own among;
+  stop_from = λ s out inside h. (trim_stops left right s inside).1 out h;
+  step_to = λ s b text rest p inside below among h. (trim_steps left right s b inside).0 p among text rest h;
+  step_from = λ s b text out inside below h. (trim_steps left right s b inside).1 text out h;
+}
 
 pub trim_two : (left right : Bool) (s b : ℕ) → length (trim_row left right s b) ≤ 2
 trim_two left right s b =
@@ -221,10 +221,10 @@ trim_small : (left right : Bool) → AreSmall (trim_rows left right) trim_lasts 
 unfolding Inner
 trim_small left right =
     below_small 4 (trim_row left right) trim_last 8 (record {
-        few = λ s b. let h = trim_two left right s b in omega (arith, h);
-        moves = λ s b. All-weaker Inner (λ (p : ℕ × List Out). IsShort 8 p.1) (λ p h. h.1) (trim_row left right s b) (trim_inner left right s b);
-        ends = λ s. cond_both (s == 2) _ _ (All (IsShort 8)) (λ _. All-nil (IsShort 8)) (λ _. All-cons (IsShort 8) [] [] (refl, omega arith) (All-nil (IsShort 8)));
-      })
+      few = λ s b. let h = trim_two left right s b in omega (arith, h);
+      moves = λ s b. All-weaker Inner (λ (p : ℕ × List Out). IsShort 8 p.1) (λ p h. h.1) (trim_row left right s b) (trim_inner left right s b);
+      ends = λ s. cond_both (s == 2) _ _ (All (IsShort 8)) (λ _. All-nil (IsShort 8)) (λ _. All-cons (IsShort 8) [] [] (refl, omega arith) (All-nil (IsShort 8)));
+    })
 
 pub trim_is_machine : (left right : Bool) (table : Table) → IsListed table 4 (trim_rows left right) trim_lasts → IsMachine table 0 (λ input output. output ≡ trim_of left right input)
 trim_is_machine left right table listed =

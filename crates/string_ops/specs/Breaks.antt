@@ -27,4 +27,3 @@ breaks_rows = rows_below 3 breaks_row
 
 abbrev pub breaks_lasts : Lasts
 breaks_lasts = lasts_below 3 breaks_last
-

@@ -74,7 +74,7 @@ utf8_by : (P : Option ℕ → Type 0) → P None → P (Some 0) → P (Some 1) �
 utf8_by P none to0 to1 to2 to3 to4 to5 to6 to7 s b =
     let between : (low high to : ℕ) → P (Some to) → P (to_between low high to b) = λ low high to here. cond_both (is_between low high b) _ _ P (λ _. here) (λ _. none) in
     let first : P (after_first_byte b) =
-        cond_both (nat_lt b 0x80) _ _ P (λ _. to0) (λ _. cond_both (nat_lt b 0xC2) _ _ P (λ _. none) (λ _. cond_both (nat_lt b 0xE0) _ _ P (λ _. to1) (λ _. cond_both (b == 0xE0) _ _ P (λ _. to4) (λ _. cond_both (b == 0xED) _ _ P (λ _. to5) (λ _. cond_both (nat_lt b 0xF0) _ _ P (λ _. to2) (λ _. cond_both (b == 0xF0) _ _ P (λ _. to6) (λ _. cond_both (nat_lt b 0xF4) _ _ P (λ _. to3) (λ _. cond_both (b == 0xF4) _ _ P (λ _. to7) (λ _. none))))))))) in
+    cond_both (nat_lt b 0x80) _ _ P (λ _. to0) (λ _. cond_both (nat_lt b 0xC2) _ _ P (λ _. none) (λ _. cond_both (nat_lt b 0xE0) _ _ P (λ _. to1) (λ _. cond_both (b == 0xE0) _ _ P (λ _. to4) (λ _. cond_both (b == 0xED) _ _ P (λ _. to5) (λ _. cond_both (nat_lt b 0xF0) _ _ P (λ _. to2) (λ _. cond_both (b == 0xF0) _ _ P (λ _. to6) (λ _. cond_both (nat_lt b 0xF4) _ _ P (λ _. to3) (λ _. cond_both (b == 0xF4) _ _ P (λ _. to7) (λ _. none))))))))) in
     cond_both (s == 0) _ _ P (λ _. first) (λ _. cond_both (s == 1) _ _ P (λ _. between 0x80 0xBF 0 to0) (λ _. cond_both (s == 2) _ _ P (λ _. between 0x80 0xBF 1 to1) (λ _. cond_both (s == 3) _ _ P (λ _. between 0x80 0xBF 2 to2) (λ _. cond_both (s == 4) _ _ P (λ _. between 0xA0 0xBF 1 to1) (λ _. cond_both (s == 5) _ _ P (λ _. between 0x80 0x9F 1 to1) (λ _. cond_both (s == 6) _ _ P (λ _. between 0x90 0xBF 2 to2) (λ _. cond_both (s == 7) _ _ P (λ _. between 0x80 0x8F 2 to2) (λ _. none))))))))
 
 pub html_two : (s b : ℕ) → length (html_rows s b) ≤ 2

@@ -8,7 +8,7 @@ ghost use Rattle.string_ops.specs.MachineLaws as laws;
 ghost use Rattle.string_ops.specs.PlanLaws as plan;
 
 use crate::outs::{literal, one};
-use crate::plan::{table_of, Plan};
+use crate::plan::{Plan, table_of};
 use fst_core::{Action, Out, Table};
 use std::alloc::Global;
 use string_functions::of_byte::is_line_end_byte;

@@ -8,7 +8,7 @@ ghost use Rattle.string_ops.specs.Listed.{IsMachine};
 ghost use Rattle.string_ops.specs.BytewiseLaws as laws;
 
 use crate::outs::{one, two};
-use crate::plan::{table_of, Plan};
+use crate::plan::{Plan, table_of};
 use fst_core::{Action, Out, Table};
 use std::alloc::Global;
 use string_functions::of_byte::{hex_digit_of, is_kept_byte};

@@ -7,9 +7,9 @@ ghost use Rattle.string_ops.specs.First.{first_rows, first_lasts};
 ghost use Rattle.string_ops.specs.MachineLaws as laws;
 ghost use Rattle.string_ops.specs.PlanLaws as plan;
 
-use crate::bytewise::{outs, Bytewise};
+use crate::bytewise::{Bytewise, outs};
 use crate::outs::one;
-use crate::plan::{table_of, Plan};
+use crate::plan::{Plan, table_of};
 use fst_core::{Action, Out, Table};
 use std::alloc::Global;
 use text_base::NoMemory;

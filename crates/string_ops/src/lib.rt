@@ -7,6 +7,8 @@
 mod breaks;
 mod bytewise;
 mod first;
+mod html;
 mod outs;
 mod plan;
 mod same;
+mod trim;
