@@ -10,3 +10,9 @@ pub mod FirstLemmas
 pub mod Relations
 pub mod TrimLemmas
 pub mod HtmlLemmas
+pub mod BorderLemmas
+pub mod FailureLemmas
+pub mod SearchLemmas
+pub mod OccurrenceLemmas
+pub mod ReplaceLemmas
+pub mod PieceLemmas

@@ -9,3 +9,8 @@ pub mod Breaks
 pub mod First
 pub mod Trim
 pub mod MachineLaws
+pub mod Failure
+pub mod Search
+pub mod Replace
+pub mod Piece
+pub mod Factor

@@ -6,9 +6,13 @@
 
 mod breaks;
 mod bytewise;
+mod failure;
 mod first;
 mod html;
 mod outs;
+mod piece;
 mod plan;
+mod replace;
 mod same;
+mod search;
 mod trim;
