@@ -1,5 +1,15 @@
 pub mod ListedLemmas
 pub mod SameLemmas
+pub mod Utf8
+pub mod PlanRows
+pub mod PlanStates
+pub mod BytewiseLemmas
+pub mod PlanFunctions
+pub mod BreaksLemmas
+pub mod FirstLemmas
+pub mod Relations
+pub mod TrimLemmas
+pub mod HtmlLemmas
 pub mod BorderLemmas
 pub mod FailureLemmas
 pub mod SearchLemmas

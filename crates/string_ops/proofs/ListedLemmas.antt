@@ -53,8 +53,7 @@ step_choice (m ∷ moves) s byte t letters h = elim (in_cons m moves h.0 h.1) [
       let from : m.from ≡ s = ap (λ (x : TableMove). x.from) (sym e) ∙ h.2 in
       let lo : m.range.lo ≤ byte = subst (λ (x : TableMove). x.range.lo ≤ byte) e h.3.0 in
       let hi : byte ≤ m.range.hi = subst (λ (x : TableMove). byte ≤ x.range.hi) e h.3.1 in
-      let test : (m.from == s && in_range m.range byte) ≡ true = rw (eq-eqb m.from s from, le-leb m.range.lo byte lo, le-leb byte m.range.hi hi) refl in
-      (
+      let test : (m.from == s && in_range m.range byte) ≡ true = rw (eq-eqb m.from s from, le-leb m.range.lo byte lo, le-leb byte m.range.hi hi) refl in (
         (m.to, m.out.items),
         subst (λ (b : Bool). Contains (cond b ((m.to, m.out.items) ∷ choices moves s byte) (choices moves s byte)) (m.to, m.out.items)) (sym test) (in_head (m.to, m.out.items) (choices moves s byte)),
         ap (λ (x : TableMove). x.to) (sym e) ∙ h.4,
@@ -80,8 +79,7 @@ pub stop_last : (ends : List TableEnd) (s : ℕ) (letters : List Letter) → Tab
 stop_last [] s letters h = absurd (none_in h.0 h.1)
 stop_last (e ∷ ends) s letters h = elim (in_cons e ends h.0 h.1) [
   | inl q ↦
-      let test : (e.state == s) ≡ true = eq-eqb e.state s (ap (λ (x : TableEnd). x.state) (sym q) ∙ h.2) in
-      (
+      let test : (e.state == s) ≡ true = eq-eqb e.state s (ap (λ (x : TableEnd). x.state) (sym q) ∙ h.2) in (
         e.out.items,
         subst (λ (b : Bool). Contains (cond b (e.out.items ∷ stops ends s) (stops ends s)) e.out.items) (sym test) (in_head e.out.items (stops ends s)),
         ap (λ (x : TableEnd). map (letter_of 0) x.out.items) (sym q) ∙ h.3,
@@ -163,7 +161,7 @@ gives_from_follows table states rows lasts most listed small s (byte ∷ text) o
     let step = choice_step table.moves.items s byte f.0 c in
     let rest = gives_from_follows table states rows lasts most listed small (f.0).0 text f.2 (All-tail (λ (x : ℕ). x < 256) byte text bytes) f.3 in
     let eq : map OfByte out ≡ map (letter_of byte) (f.0).1 ++ map OfByte f.2 =
-      ap (map OfByte) (sym f.4) ∙ map-append OfByte (map (byte_of byte) (f.0).1) f.2 ∙ ap (λ (x : List Letter). x ++ map OfByte f.2) (sym (letters_are_bytes byte (f.0).1 plain)) in
+    ap (map OfByte) (sym f.4) ∙ map-append OfByte (map (byte_of byte) (f.0).1) f.2 ∙ ap (λ (x : List Letter). x ++ map OfByte f.2) (sym (letters_are_bytes byte (f.0).1 plain)) in
     ((f.0).0, map (letter_of byte) (f.0).1, map OfByte f.2, step, rest, eq)
 
 few_of : (table : Table) (states : ℕ) (rows : Rows) (lasts : Lasts) (most : ℕ) → IsListed table states rows lasts → AreSmall rows lasts most → (s byte : ℕ) → length (choices table.moves.items s byte) ≤ 4

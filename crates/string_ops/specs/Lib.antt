@@ -1,5 +1,14 @@
 pub mod Listed
 pub mod Same
+pub mod Plans
+pub mod Bytewise
+pub mod BytewiseLaws
+pub mod Html
+pub mod PlanLaws
+pub mod Breaks
+pub mod First
+pub mod Trim
+pub mod MachineLaws
 pub mod Failure
 pub mod Search
 pub mod Replace

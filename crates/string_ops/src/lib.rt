@@ -4,10 +4,20 @@
 //! proved over lists. Below stand fst_core, op_system and string_functions.
 #![tactic(auto)]
 
+mod breaks;
+mod bytewise;
+mod cut;
 mod factor;
 mod failure;
+mod first;
+mod html;
+mod machine;
+mod outs;
 mod piece;
+mod plan;
 mod replace;
 mod same;
 mod search;
+mod trim;
 
+pub use machine::machine_of;
