@@ -17,3 +17,4 @@ pub mod OccurrenceLemmas
 pub mod ReplaceLemmas
 pub mod PieceLemmas
 pub mod FactorLemmas
+pub mod MachineLemmas

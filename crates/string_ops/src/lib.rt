@@ -6,7 +6,6 @@
 
 mod breaks;
 mod bytewise;
-mod cut;
 mod factor;
 mod failure;
 mod first;
