@@ -17,4 +17,5 @@ pub mod OccurrenceLemmas
 pub mod ReplaceLemmas
 pub mod PieceLemmas
 pub mod FactorLemmas
+pub mod CutLemmas
 pub mod MachineLemmas

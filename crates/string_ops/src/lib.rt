@@ -6,6 +6,8 @@
 
 mod breaks;
 mod bytewise;
+mod cut;
+mod cut_back;
 mod factor;
 mod failure;
 mod first;
