@@ -14,3 +14,4 @@ pub mod Search
 pub mod Replace
 pub mod Piece
 pub mod Factor
+pub mod CutBack
