@@ -258,3 +258,117 @@ three_comes below len k b text out h =
              from_at below len 2 (dropped_of len - 1) text [] (omega arith) (omega (arith, h.0, below_k), omega (arith, h.1, few), sym (ap (λ (n : ℕ). take n text) none)),
              sym (h.4 ∙ ap (λ (n : ℕ). take n (b ∷ text)) count))
     ]
+
+-- a text of at least the last bytes, and one byte in front that is passed over
+pass_over : (below : ℕ) (b : ℕ) (text : List ℕ) → suc below ≤ length text → drop (suc (length text) - suc below) (b ∷ text) ≡ drop (length text - suc below) text
+pass_over below b text long =
+    let from : suc (length text) - suc below ≡ suc (length text - suc below) = omega (arith, long) in
+    ap (λ (n : ℕ). drop n (b ∷ text)) from
+
+one_goes : (below : ℕ) (len : Option ℤ) (k : ℕ) (p : ℕ × List Out) → Contains (back_choices (suc below) len 1 k) p → Goes below len 1 k p
+unfolding Goes
+one_goes below len k p among =
+    either (Goes below len 1 k) (state_of 1 0, []) (state_of 2 (suc below - 1), put_of (kept_of_last (suc below) len (suc below))) p among
+    (λ b text rest h.
+        let r = at_from below len 1 0 text rest (omega arith) h in
+        (omega (arith, r.0), r.1 ∙ ap (take (kept_of_last (suc below) len (suc below))) (sym (pass_over below b text r.0))))
+    (λ b text rest h.
+        let r = at_from below len 2 (suc below - 1) text rest (omega arith) h in
+        let from : 0 ≡ suc (length text) - suc below = omega (arith, r.1) in
+        (omega (arith, r.1), ap (λ (xs : List ℕ). map (byte_of b) (put_of (kept_of_last (suc below) len (suc below))) ++ xs) r.2 ∙ take_kept (suc below) len (suc below) b text (omega arith) (omega arith) ∙ ap (λ (n : ℕ). take (kept_of_last (suc below) len (suc below)) (drop n (b ∷ text))) from))
+
+one_comes : (below : ℕ) (len : Option ℤ) (k : ℕ) → Comes below len 1 k (back_choices (suc below) len 1 k)
+unfolding Comes
+one_comes below len k b text out h =
+    let passes : ℕ × List Out = (state_of 1 0, []) in
+    let begins : ℕ × List Out = (state_of 2 (suc below - 1), put_of (kept_of_last (suc below) len (suc below))) in
+    elim (cases_lt (length text) (suc below)) [
+        inr long ↦ (passes, Contains-head passes (begins ∷ []), out, from_at below len 1 0 text out (omega arith) (long, h.1 ∙ ap (take (kept_of_last (suc below) len (suc below))) (pass_over below b text long)), refl)
+      | inl short ↦
+            let from : suc (length text) - suc below ≡ 0 = omega (arith, h.0, short) in
+            (begins, Contains-later passes (begins ∷ []) begins (Contains-head begins []), take (kept_of_last (suc below) len (suc below - 1)) text,
+             from_at below len 2 (suc below - 1) text (take (kept_of_last (suc below) len (suc below - 1)) text) (omega arith) (omega arith, omega (arith, h.0, short), refl),
+             take_kept (suc below) len (suc below) b text (omega arith) (omega arith) ∙ sym (h.1 ∙ ap (λ (n : ℕ). take (kept_of_last (suc below) len (suc below)) (drop n (b ∷ text))) from))
+    ]
+
+-- the first byte
+zero_pass : (below : ℕ) (len : Option ℤ) (k : ℕ) → Goes below len 0 k (state_of 1 0, [])
+unfolding Goes
+zero_pass below len k b text rest h =
+    let r = at_from below len 1 0 text rest (omega arith) h in r.1 ∙ sym (part_of-long below len b text r.0)
+
+zero_counted : (below : ℕ) (len : Option ℤ) (k : ℕ) → Goes below len 0 k (state_of 4 (suc below - 1), put_of (kept_of_last (suc below) len (suc below)))
+unfolding Goes
+zero_counted below len k b text rest h =
+    let r = at_from below len 4 (suc below - 1) text rest (omega arith) h in
+    ap (λ (xs : List ℕ). map (byte_of b) (put_of (kept_of_last (suc below) len (suc below))) ++ xs) r.3 ∙ take_kept (suc below) len (suc below) b text (omega arith) (omega arith) ∙ sym (part_of-counted below len b text (omega (arith, r.1)) r.2)
+
+zero_keep : (below : ℕ) (len : Option ℤ) (k : ℕ) → Goes below len 0 k (state_of 3 (suc below - 1), Same ∷ [])
+unfolding Goes
+zero_keep below len k b text rest h =
+    let r = at_from below len 3 (suc below - 1) text rest (omega arith) h in
+    let count : suc (length text - dropped_of len) ≡ suc (length text) - dropped_of len = omega (arith, r.1) in
+    ap (λ (xs : List ℕ). b ∷ xs) r.4 ∙ ap (λ (n : ℕ). take n (b ∷ text)) count ∙ sym (part_of-short below len b text (omega (arith, r.2)) r.3)
+
+zero_drop : (below : ℕ) (len : Option ℤ) (k : ℕ) → 0 < dropped_of len → Goes below len 0 k (state_of 5 (dropped_of len - 1), [])
+unfolding Goes
+zero_drop below len k some b text rest h =
+    let r = at_from below len 5 (dropped_of len - 1) text rest (omega arith) h in
+    elim (cases_lt (length text) (suc below)) [
+        inl short ↦
+            let count : suc (length text) - dropped_of len ≡ 0 = omega (arith, r.0, some) in
+            r.1 ∙ sym (part_of-short below len b text short (dropped_uncounted len some) ∙ ap (λ (n : ℕ). take n (b ∷ text)) count)
+      | inr long ↦
+            let none : kept_of_last (suc below) len (suc below) ≡ 0 = kept_of_dropped (suc below) len (suc below) (omega (arith, r.0, some, long)) some in
+            r.1 ∙ sym (part_of-long below len b text long ∙ ap (λ (n : ℕ). take n (drop (length text - suc below) text)) none)
+    ]
+
+zero_goes : (below : ℕ) (len : Option ℤ) (k : ℕ) (p : ℕ × List Out) → Contains (back_choices (suc below) len 0 k) p → Goes below len 0 k p
+zero_goes below len k p among =
+    elim (Contains-cons_cases (state_of 1 0, []) (if is_counted len then (state_of 4 (suc below - 1), put_of (kept_of_last (suc below) len (suc below))) ∷ [] else (state_of 3 (suc below - 1), Same ∷ []) ∷ (if nat_lt 0 (dropped_of len) then (state_of 5 (dropped_of len - 1), []) ∷ [] else [])) p among) [
+        inl is ↦ subst (Goes below len 0 k) is (zero_pass below len k)
+      | inr later ↦ cond_both (is_counted len) _ _ (λ (row : List (ℕ × List Out)). Contains row p → Goes below len 0 k p)
+            (λ _ among'. only (Goes below len 0 k) (state_of 4 (suc below - 1), put_of (kept_of_last (suc below) len (suc below))) p among' (zero_counted below len k))
+            (λ _ among'. elim (Contains-cons_cases (state_of 3 (suc below - 1), Same ∷ []) (if nat_lt 0 (dropped_of len) then (state_of 5 (dropped_of len - 1), []) ∷ [] else []) p among') [
+                inl is ↦ subst (Goes below len 0 k) is (zero_keep below len k)
+              | inr last ↦ cond_both (nat_lt 0 (dropped_of len)) _ _ (λ (row : List (ℕ × List Out)). Contains row p → Goes below len 0 k p)
+                    (λ e among''. only (Goes below len 0 k) (state_of 5 (dropped_of len - 1), []) p among'' (zero_drop below len k (ltb-true 0 (dropped_of len) e)))
+                    (λ _ among''. Contains-nil p among'')
+                    last
+            ])
+            later
+    ]
+
+zero_comes : (below : ℕ) (len : Option ℤ) (k : ℕ) → Comes below len 0 k (back_choices (suc below) len 0 k)
+unfolding Comes
+zero_comes below len k b text out h =
+    let passes : ℕ × List Out = (state_of 1 0, []) in
+    let counts : ℕ × List Out = (state_of 4 (suc below - 1), put_of (kept_of_last (suc below) len (suc below))) in
+    let keeps : ℕ × List Out = (state_of 3 (suc below - 1), Same ∷ []) in
+    let drops : ℕ × List Out = (state_of 5 (dropped_of len - 1), []) in
+    let others : List (ℕ × List Out) = (if is_counted len then counts ∷ [] else keeps ∷ (if nat_lt 0 (dropped_of len) then drops ∷ [] else [])) in
+    elim (cases_lt (length text) (suc below)) [
+        inr long ↦ (passes, Contains-head passes others, out, from_at below len 1 0 text out (omega arith) (long, h ∙ part_of-long below len b text long), refl)
+      | inl short ↦ elim (cases_Bool (is_counted len)) [
+            inl counted ↦
+                let there : others ≡ counts ∷ [] = rw counted refl in
+                (counts, Contains-later passes others counts (subst (λ (row : List (ℕ × List Out)). Contains row counts) (sym there) (Contains-head counts [])), take (kept_of_last (suc below) len (suc below - 1)) text,
+                 from_at below len 4 (suc below - 1) text (take (kept_of_last (suc below) len (suc below - 1)) text) (omega arith) (omega arith, omega (arith, short), counted, refl),
+                 take_kept (suc below) len (suc below) b text (omega arith) (omega arith) ∙ sym (h ∙ part_of-counted below len b text short counted))
+          | inr plain ↦ elim (cases_lt (length text) (dropped_of len)) [
+                inr enough ↦
+                    let there : others ≡ keeps ∷ (if nat_lt 0 (dropped_of len) then drops ∷ [] else []) = rw plain refl in
+                    let count : suc (length text) - dropped_of len ≡ suc (length text - dropped_of len) = omega (arith, enough) in
+                    (keeps, Contains-later passes others keeps (subst (λ (row : List (ℕ × List Out)). Contains row keeps) (sym there) (Contains-head keeps (if nat_lt 0 (dropped_of len) then drops ∷ [] else []))), take (length text - dropped_of len) text,
+                     from_at below len 3 (suc below - 1) text (take (length text - dropped_of len) text) (omega arith) (omega arith, enough, omega (arith, short), plain, refl),
+                     sym (h ∙ part_of-short below len b text short plain ∙ ap (λ (n : ℕ). take n (b ∷ text)) count))
+              | inl few ↦
+                    let dropping : 0 < dropped_of len = omega (arith, few) in
+                    let there : others ≡ keeps ∷ drops ∷ [] = rw (plain, lt-ltb 0 (dropped_of len) dropping) refl in
+                    let count : suc (length text) - dropped_of len ≡ 0 = omega (arith, few) in
+                    (drops, Contains-later passes others drops (subst (λ (row : List (ℕ × List Out)). Contains row drops) (sym there) (Contains-later keeps (drops ∷ []) drops (Contains-head drops []))), [],
+                     from_at below len 5 (dropped_of len - 1) text [] (omega arith) (omega (arith, few), refl),
+                     sym (h ∙ part_of-short below len b text short plain ∙ ap (λ (n : ℕ). take n (b ∷ text)) count))
+            ]
+        ]
+    ]
