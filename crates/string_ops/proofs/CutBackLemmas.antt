@@ -1,8 +1,8 @@
 -- The machine of a cut from the end relates what `substr` does.
-use Rattle.std.proofs.Common.{◌≡◌, ◌==◌, ◌&&◌, ℕ, zero, suc, ◌+◌, ◌-◌, ◌*◌, ◌/◌, ◌%◌, ◌<◌, ◌≤◌, ◌↔◌, ◌⊎◌, Bool, true, false, ℤ, pos, negsuc, Option, None, Some, List, [], ◌∷◌, ◌++◌, length, take, drop, map, All, refl, sym, ◌∙◌, ap, subst, arith, cond, inl, inr, nat_lt, nat_le, if◌then◌else◌}
+use Rattle.std.proofs.Common.{◌≡◌, ◌==◌, ◌&&◌, not, ℕ, zero, suc, ◌+◌, ◌-◌, ◌*◌, ◌/◌, ◌%◌, ◌<◌, ◌≤◌, ◌↔◌, ◌⊎◌, Bool, true, false, ℤ, pos, negsuc, Option, None, Some, List, [], ◌∷◌, ◌++◌, length, take, drop, map, All, refl, sym, ◌∙◌, ap, subst, arith, cond, inl, inr, nat_lt, nat_le, if◌then◌else◌}
 use Rattle.std.specs.Prelude.{MatchBool}
 use Rattle.std.specs.List.{Contains}
-use Rattle.std.proofs.lemmas.Bool.{cases_Bool, cases_eq, cases_lt, cond_both, false≢true, and_parts, lt-ltb, le-ltb, le-leb, ltb-true, leb-true, eqb-true, ltb-false, leb-false, eqb-false}
+use Rattle.std.proofs.lemmas.Bool.{cases_Bool, cases_eq, cases_lt, cond_both, false≢true, and_parts, lt-ltb, le-ltb, le-leb, eq-eqb, and_from, not-true, not_from_false, ltb-true, leb-true, eqb-true, ltb-false, leb-false, eqb-false}
 use Rattle.std.proofs.lemmas.List.{take_all}
 use Rattle.std.proofs.lemmas.List.Elements.{All-cons, All-nil, All-contains, All-weaker}
 use Rattle.string_functions.specs.Cut.{start_in, end_in, bytes_between, part_of}
@@ -13,6 +13,7 @@ use Rattle.fst_core.specs.declared.out.Out.TheVariants.{Same}
 use Rattle.fst_core.specs.declared.table.Table.{Table}
 use Rattle.string_ops.specs.Listed.{IsShort, AreSmall, IsListed, IsMachine, byte_of}
 use Rattle.string_ops.specs.CutBack.{state_of, phase_of, kept_of_last, is_counted, dropped_of, put_of, back_choices, back_ends, back_row, back_last, back_rows, back_lasts}
+use Rattle.string_ops.specs.CutBackLaws.{choices_three}
 use Rattle.string_ops.proofs.ListedLemmas.{listed_machine}
 use Rattle.string_ops.proofs.PlanFunctions.{below_small}
 use Rattle.string_ops.proofs.Relations.{Simulates, follows_relation}
@@ -372,3 +373,140 @@ zero_comes below len k b text out h =
             ]
         ]
     ]
+
+take-nil : (n : ℕ) → take {A = ℕ} n [] ≡ []
+take-nil zero = refl
+take-nil (suc n) = refl
+
+drop-nil : (n : ℕ) → drop {A = ℕ} n [] ≡ []
+drop-nil zero = refl
+drop-nil (suc n) = refl
+
+part_of-nil : (below : ℕ) (len : Option ℤ) → [] ≡ part_of [] (negsuc below) len
+part_of-nil below len =
+    let from = start_in [] (negsuc below) in
+    sym (ap (take (end_in [] from len - from)) (drop-nil from) ∙ take-nil (end_in [] from len - from))
+
+Stops : ℕ → Option ℤ → ℕ → ℕ → Type 0
+Stops below len k phase =
+    ((own : List Out) → Contains (back_ends (suc below) len phase k) own → BackFrom below len phase k [] (map (byte_of 0) own)) × ((out : List ℕ) → BackFrom below len phase k [] out → (own : List Out) × Contains (back_ends (suc below) len phase k) own × (map (byte_of 0) own ≡ out))
+
+-- one empty output under a test
+end_under : (t : Bool) (P : List Out → Type 0) (own : List Out) → (t ≡ true → P []) → Contains (if t then [] ∷ [] else []) own → P own
+end_under true P own here among = only P [] own among (here refl)
+end_under false P own here among = Contains-nil own among
+
+there_under : (t : Bool) → t ≡ true → Contains {X = List Out} (if t then [] ∷ [] else []) []
+there_under t e = subst (λ (b : Bool). Contains {X = List Out} (if b then [] ∷ [] else []) []) (sym e) (Contains-head {X = List Out} [] [])
+
+back_stops : (below : ℕ) (len : Option ℤ) (phase k : ℕ) → phase < 6 → Stops below len k phase
+unfolding Stops
+back_stops below len phase k inside =
+    at_phase (Stops below len k) phase inside
+    ((λ own among. only (λ (o : List Out). map (byte_of 0) o ≡ part_of [] (negsuc below) len) [] own among (part_of-nil below len)), (λ out h. ([], Contains-head [] [], part_of-nil below len ∙ sym h)))
+    ((λ own among. Contains-nil own among), (λ out h. absurd (omega (arith, h.0))))
+    ((λ own among. end_under (k == 0) (λ (o : List Out). BackFrom below len 2 k [] (map (byte_of 0) o)) own (λ e. let is = eqb-true k 0 e in (omega (arith, is), sym is, sym (take-nil (kept_of_last (suc below) len k)))) among),
+     (λ out h. ([], there_under (k == 0) (eq-eqb k 0 (sym h.1)), sym (h.2 ∙ take-nil (kept_of_last (suc below) len k)))))
+    ((λ own among. end_under ((dropped_of len == 0 && nat_lt k (suc below)) && not (is_counted len)) (λ (o : List Out). BackFrom below len 3 k [] (map (byte_of 0) o)) own
+        (λ e.
+            let both = and_parts (dropped_of len == 0 && nat_lt k (suc below)) (not (is_counted len)) e in
+            let more = and_parts (dropped_of len == 0) (nat_lt k (suc below)) both.0 in
+            (ltb-true k (suc below) more.1, omega (arith, eqb-true (dropped_of len) 0 more.0), omega arith, not-true (is_counted len) both.1, sym (take-nil (0 - dropped_of len))))
+        among),
+     (λ out h. ([], there_under ((dropped_of len == 0 && nat_lt k (suc below)) && not (is_counted len)) (and_from (dropped_of len == 0 && nat_lt k (suc below)) (not (is_counted len)) (and_from (dropped_of len == 0) (nat_lt k (suc below)) (eq-eqb (dropped_of len) 0 (omega (arith, h.1))) (lt-ltb k (suc below) h.0)) (not_from_false (is_counted len) h.3)), sym (h.4 ∙ take-nil (0 - dropped_of len)))))
+    ((λ own among. end_under (nat_lt k (suc below) && is_counted len) (λ (o : List Out). BackFrom below len 4 k [] (map (byte_of 0) o)) own
+        (λ e. let both = and_parts (nat_lt k (suc below)) (is_counted len) e in (ltb-true k (suc below) both.0, omega arith, both.1, sym (take-nil (kept_of_last (suc below) len k))))
+        among),
+     (λ out h. ([], there_under (nat_lt k (suc below) && is_counted len) (and_from (nat_lt k (suc below)) (is_counted len) (lt-ltb k (suc below) h.0) h.2), sym (h.3 ∙ take-nil (kept_of_last (suc below) len k)))))
+    ((λ own among. only (λ (o : List Out). BackFrom below len 5 k [] (map (byte_of 0) o)) [] own among (omega arith, refl)), (λ out h. ([], Contains-head [] [], sym h.1)))
+
+Steps : ℕ → Option ℤ → ℕ → ℕ → Type 0
+Steps below len k phase = ((p : ℕ × List Out) → Contains (back_choices (suc below) len phase k) p → Goes below len phase k p) × Comes below len phase k (back_choices (suc below) len phase k)
+
+back_steps : (below : ℕ) (len : Option ℤ) (phase k : ℕ) → phase < 6 → Steps below len k phase
+unfolding Steps
+back_steps below len phase k inside =
+    at_phase (Steps below len k) phase inside
+    (zero_goes below len k, zero_comes below len k) (one_goes below len k, one_comes below len k) (two_goes below len k, two_comes below len k)
+    (three_goes below len k, three_comes below len k) (four_goes below len k, four_comes below len k) (five_goes below len k, five_comes below len k)
+
+-- each choice leads to one of the states, and is short
+IsInner : ℕ → (ℕ × List Out) → Type 0
+IsInner states p = (p.0 < states) × IsShort 8 p.1
+
+put_short : (n : ℕ) → IsShort 8 (put_of n)
+put_short n = cond_both (nat_lt 0 n) _ _ (IsShort 8) (λ _. (refl, omega arith)) (λ _. (refl, omega arith))
+
+Inner : ℕ → ℕ → Option ℤ → ℕ → ℕ → Type 0
+Inner states below len k phase = All (IsInner states) (back_choices (suc below) len phase k)
+
+-- a list of one under a test
+inner_under : (states : ℕ) (t : Bool) (p : ℕ × List Out) → (t ≡ true → IsInner states p) → All (IsInner states) (if t then p ∷ [] else [])
+inner_under states true p here = All-cons (IsInner states) p [] (here refl) (All-nil (IsInner states))
+inner_under states false p here = All-nil (IsInner states)
+
+back_inner : (states below : ℕ) (len : Option ℤ) (phase k : ℕ) → phase < 6 → 8 * (suc below + dropped_of len + 1) ≤ states → 8 * k < states → Inner states below len k phase
+unfolding Inner IsInner
+back_inner states below len phase k inside enough fits =
+    let M = λ (p : ℕ × List Out). (p.0 < states) × IsShort 8 p.1 in
+    at_phase (Inner states below len k) phase inside
+    (All-cons M (state_of 1 0, []) (if is_counted len then (state_of 4 (suc below - 1), put_of (kept_of_last (suc below) len (suc below))) ∷ [] else (state_of 3 (suc below - 1), Same ∷ []) ∷ (if nat_lt 0 (dropped_of len) then (state_of 5 (dropped_of len - 1), []) ∷ [] else [])) (omega (arith, enough), (refl, omega arith))
+      (cond_both (is_counted len) _ _ (All M)
+        (λ _. All-cons M (state_of 4 (suc below - 1), put_of (kept_of_last (suc below) len (suc below))) [] (omega (arith, enough), put_short (kept_of_last (suc below) len (suc below))) (All-nil M))
+        (λ _. All-cons M (state_of 3 (suc below - 1), Same ∷ []) (if nat_lt 0 (dropped_of len) then (state_of 5 (dropped_of len - 1), []) ∷ [] else []) (omega (arith, enough), (refl, omega arith)) (inner_under states (nat_lt 0 (dropped_of len)) (state_of 5 (dropped_of len - 1), []) (λ e. (omega (arith, enough, ltb-true 0 (dropped_of len) e), (refl, omega arith)))))))
+    (All-cons M (state_of 1 0, []) ((state_of 2 (suc below - 1), put_of (kept_of_last (suc below) len (suc below))) ∷ []) (omega (arith, enough), (refl, omega arith)) (All-cons M (state_of 2 (suc below - 1), put_of (kept_of_last (suc below) len (suc below))) [] (omega (arith, enough), put_short (kept_of_last (suc below) len (suc below))) (All-nil M)))
+    (inner_under states (nat_lt 0 k && nat_lt k (suc below)) (state_of 2 (k - 1), put_of (kept_of_last (suc below) len k)) (λ e. (omega (arith, fits, (guard k (suc below) e).0), put_short (kept_of_last (suc below) len k))))
+    (cond_both (nat_lt 0 k && nat_lt k (suc below)) _ _ (All M)
+      (λ e. All-cons M (state_of 3 (k - 1), Same ∷ []) (if nat_lt 0 (dropped_of len) && nat_le (dropped_of len) k then (state_of 2 (dropped_of len - 1), []) ∷ [] else []) (omega (arith, fits, (guard k (suc below) e).0), (refl, omega arith)) (inner_under states (nat_lt 0 (dropped_of len) && nat_le (dropped_of len) k) (state_of 2 (dropped_of len - 1), []) (λ d. (omega (arith, enough, ltb-true 0 (dropped_of len) (and_parts (nat_lt 0 (dropped_of len)) (nat_le (dropped_of len) k) d).0), (refl, omega arith)))))
+      (λ _. All-nil M))
+    (inner_under states (nat_lt 0 k && nat_lt k (suc below)) (state_of 4 (k - 1), put_of (kept_of_last (suc below) len k)) (λ e. (omega (arith, fits, (guard k (suc below) e).0), put_short (kept_of_last (suc below) len k))))
+    (inner_under states (nat_lt 0 k) (state_of 5 (k - 1), []) (λ e. (omega (arith, fits, ltb-true 0 k e), (refl, omega arith))))
+
+number_fits : (states s : ℕ) → s < states → 8 * (s / 8) < states
+number_fits states s inside = omega arith
+
+back_simulates : (states below : ℕ) (len : Option ℤ) → 8 * (suc below + dropped_of len + 1) ≤ states → Simulates states (back_row (suc below) len) (back_last (suc below) len) (BackAt below len)
+unfolding Steps Stops Goes Comes Inner IsInner
+back_simulates states below len enough = record {
+    within = λ s b p inside bytes among. (All-contains (λ (q : ℕ × List Out). (q.0 < states) × IsShort 8 q.1) (back_row (suc below) len s b) p (back_inner states below len (phase_of s) (s / 8) (phase_inside s) enough (number_fits states s inside)) among).0;
+    stop_to = λ s own inside among. (back_stops below len (phase_of s) (s / 8) (phase_inside s)).0 own among;
+    stop_from = λ s out inside h. (back_stops below len (phase_of s) (s / 8) (phase_inside s)).1 out h;
+    step_to = λ s b text rest p inside bytes among h. (back_steps below len (phase_of s) (s / 8) (phase_inside s)).0 p among b text rest h;
+    step_from = λ s b text out inside bytes h. (back_steps below len (phase_of s) (s / 8) (phase_inside s)).1 b text out h;
+  }
+
+ends_short : (below : ℕ) (len : Option ℤ) (phase k : ℕ) → All (IsShort 8) (back_ends (suc below) len phase k)
+ends_short below len phase k =
+    let none = All-nil (IsShort 8) in
+    let one = All-cons (IsShort 8) [] [] (refl, omega arith) (All-nil (IsShort 8)) in
+    let P = All (IsShort 8) in
+    cond_both (phase == 0) _ _ P (λ _. one) (λ _. cond_both (phase == 1) _ _ P (λ _. none) (λ _. cond_both (phase == 2) _ _ P (λ _. cond_both (k == 0) _ _ P (λ _. one) (λ _. none)) (λ _. cond_both (phase == 3) _ _ P (λ _. cond_both ((dropped_of len == 0 && nat_lt k (suc below)) && not (is_counted len)) _ _ P (λ _. one) (λ _. none)) (λ _. cond_both (phase == 4) _ _ P (λ _. cond_both (nat_lt k (suc below) && is_counted len) _ _ P (λ _. one) (λ _. none)) (λ _. one)))))
+
+back_small : (states below : ℕ) (len : Option ℤ) → AreSmall (back_rows states (suc below) len) (back_lasts states (suc below) len) 8
+unfolding Inner IsInner
+back_small states below len =
+    below_small states (back_row (suc below) len) (back_last (suc below) len) 8 (record {
+        few = λ s b. let h = choices_three (suc below) len (phase_of s) (s / 8) in omega (arith, h);
+        moves = λ s b.
+            let most = 8 * (suc below + dropped_of len + 1) + 8 * (s / 8) + 1 in
+            All-weaker (λ (q : ℕ × List Out). (q.0 < most) × IsShort 8 q.1) (λ (p : ℕ × List Out). IsShort 8 p.1) (λ p h. h.1) (back_row (suc below) len s b) (back_inner most below len (phase_of s) (s / 8) (phase_inside s) (omega arith) (omega arith));
+        ends = λ s. ends_short below len (phase_of s) (s / 8);
+      })
+
+-- what is small for eight is small for more
+more_short : (size : ℕ) (out : List Out) → IsShort 8 out → IsShort (size + 8) out
+more_short size out h = (h.0, omega (arith, h.1))
+
+more_small : (states below : ℕ) (len : Option ℤ) (size : ℕ) → AreSmall (back_rows states (suc below) len) (back_lasts states (suc below) len) (size + 8)
+more_small states below len size =
+    let small = back_small states below len in
+    record {
+      few = small.few;
+      moves = λ s b. All-weaker (λ (p : ℕ × List Out). IsShort 8 p.1) (λ (p : ℕ × List Out). IsShort (size + 8) p.1) (λ p h. more_short size p.1 h) (back_rows states (suc below) len s b) (small.moves s b);
+      ends = λ s. All-weaker (IsShort 8) (IsShort (size + 8)) (λ own h. more_short size own h) (back_lasts states (suc below) len s) (small.ends s);
+    }
+
+pub back_is_machine : (states below : ℕ) (len : Option ℤ) (size : ℕ) (table : Table) → 8 * (suc below + dropped_of len + 1) ≤ states → states ≤ 8 * (size + 8) → IsListed table states (back_rows states (suc below) len) (back_lasts states (suc below) len) → IsMachine table size (λ input output. output ≡ part_of input (negsuc below) len)
+back_is_machine states below len size table enough most listed =
+    listed_machine table states (back_rows states (suc below) len) (back_lasts states (suc below) len) size (λ input output. output ≡ part_of input (negsuc below) len) listed (more_small states below len size) most
+    (λ input output bytes. follows_relation states (back_row (suc below) len) (back_last (suc below) len) (BackAt below len) (back_simulates states below len enough) 0 (omega (arith, enough)) input output bytes)

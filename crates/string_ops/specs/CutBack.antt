@@ -1,5 +1,5 @@
 -- The machine of `substr` from a place counted from the end, `last` bytes before it. A state is a phase and a number, as eight times the number and the phase. By each byte a state does the same.
-use Rattle.std.specs.Prelude.{ℕ, suc, ◌==◌, ◌+◌, ◌-◌, ◌*◌, ◌/◌, ◌%◌, ◌&&◌, Bool, true, false, nat_lt, nat_le, List, [], ◌∷◌, ◌++◌, Option, None, Some, ℤ, pos, negsuc, if◌then◌else◌}
+use Rattle.std.specs.Prelude.{ℕ, suc, ◌==◌, ◌+◌, ◌-◌, ◌*◌, ◌/◌, ◌%◌, ◌&&◌, Bool, true, false, not, nat_lt, nat_le, List, [], ◌∷◌, ◌++◌, Option, None, Some, ℤ, pos, negsuc, if◌then◌else◌}
 use Rattle.fst_core.specs.declared.out.Out.{Out}
 use Rattle.fst_core.specs.declared.out.Out.TheVariants.{Same}
 use Rattle.string_ops.specs.Listed.{Rows, Lasts}
@@ -50,8 +50,8 @@ back_ends last len phase k =
     if phase == 0 then [] ∷ []
     else (if phase == 1 then []
     else (if phase == 2 then (if k == 0 then [] ∷ [] else [])
-    else (if phase == 3 then (if dropped_of len == 0 && nat_lt k last then [] ∷ [] else [])
-    else (if phase == 4 then (if nat_lt k last then [] ∷ [] else [])
+    else (if phase == 3 then (if (dropped_of len == 0 && nat_lt k last) && not (is_counted len) then [] ∷ [] else [])
+    else (if phase == 4 then (if nat_lt k last && is_counted len then [] ∷ [] else [])
     else [] ∷ []))))
 
 abbrev pub back_row : ℕ → Option ℤ → Rows

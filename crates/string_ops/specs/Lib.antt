@@ -15,3 +15,4 @@ pub mod Replace
 pub mod Piece
 pub mod Factor
 pub mod CutBack
+pub mod CutBackLaws
