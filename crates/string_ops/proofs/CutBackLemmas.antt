@@ -85,17 +85,17 @@ BackAt below len s text out = BackFrom below len (phase_of s) (s / 8) text out
 at_phase : (P : ℕ → Type 0) (p : ℕ) → p < 6 → P 0 → P 1 → P 2 → P 3 → P 4 → P 5 → P p
 at_phase P p inside p0 p1 p2 p3 p4 p5 =
     elim (cases_eq p 0) [
-        inl e ↦ subst P (sym e) p0
+      | inl e ↦ subst P (sym e) p0
       | inr n0 ↦ elim (cases_eq p 1) [
-            inl e ↦ subst P (sym e) p1
-          | inr n1 ↦ elim (cases_eq p 2) [
-                inl e ↦ subst P (sym e) p2
-              | inr n2 ↦ elim (cases_eq p 3) [
-                    inl e ↦ subst P (sym e) p3
-                  | inr n3 ↦ elim (cases_eq p 4) [ inl e ↦ subst P (sym e) p4 | inr n4 ↦ let e : 5 ≡ p = omega (arith, inside, n0, n1, n2, n3, n4) in subst P e p5 ]
-                ]
-            ]
+        | inl e ↦ subst P (sym e) p1
+        | inr n1 ↦ elim (cases_eq p 2) [
+          | inl e ↦ subst P (sym e) p2
+          | inr n2 ↦ elim (cases_eq p 3) [
+            | inl e ↦ subst P (sym e) p3
+            | inr n3 ↦ elim (cases_eq p 4) [ inl e ↦ subst P (sym e) p4 | inr n4 ↦ let e : 5 ≡ p = omega (arith, inside, n0, n1, n2, n3, n4) in subst P e p5 ]
+          ]
         ]
+      ]
     ]
 
 phase_inside : (s : ℕ) → phase_of s < 6
@@ -131,9 +131,9 @@ unfolding Goes
 five_goes below len k p =
     cond_both (nat_lt 0 k) _ _ (λ (row : List (ℕ × List Out)). Contains row p → Goes below len 5 k p)
     (λ some among. only (Goes below len 5 k) (state_of 5 (k - 1), []) p among (λ b text rest h.
-        let r = at_from below len 5 (k - 1) text rest (omega arith) h in
-        let positive : 0 < k = ltb-true 0 k some in
-        (omega (arith, r.0, positive), r.1)))
+    let r = at_from below len 5 (k - 1) text rest (omega arith) h in
+    let positive : 0 < k = ltb-true 0 k some in
+    (omega (arith, r.0, positive), r.1)))
     (λ _ among. Contains-nil p among)
 
 five_comes : (below : ℕ) (len : Option ℤ) (k : ℕ) → Comes below len 5 k (back_choices (suc below) len 5 k)
@@ -164,9 +164,9 @@ unfolding Goes
 two_goes below len k p =
     cond_both (nat_lt 0 k && nat_lt k (suc below)) _ _ (λ (row : List (ℕ × List Out)). Contains row p → Goes below len 2 k p)
     (λ e among. only (Goes below len 2 k) (state_of 2 (k - 1), put_of (kept_of_last (suc below) len k)) p among (λ b text rest h.
-        let r = at_from below len 2 (k - 1) text rest (omega arith) h in
-        let g = guard k (suc below) e in
-        (g.1, omega (arith, r.1, g.0), ap (λ (xs : List ℕ). map (byte_of b) (put_of (kept_of_last (suc below) len k)) ++ xs) r.2 ∙ take_kept (suc below) len k b text g.0 (omega (arith, g.1)))))
+    let r = at_from below len 2 (k - 1) text rest (omega arith) h in
+    let g = guard k (suc below) e in
+    (g.1, omega (arith, r.1, g.0), ap (λ (xs : List ℕ). map (byte_of b) (put_of (kept_of_last (suc below) len k)) ++ xs) r.2 ∙ take_kept (suc below) len k b text g.0 (omega (arith, g.1)))))
     (λ _ among. Contains-nil p among)
 
 two_comes : (below : ℕ) (len : Option ℤ) (k : ℕ) → Comes below len 2 k (back_choices (suc below) len 2 k)
@@ -182,9 +182,9 @@ unfolding Goes
 four_goes below len k p =
     cond_both (nat_lt 0 k && nat_lt k (suc below)) _ _ (λ (row : List (ℕ × List Out)). Contains row p → Goes below len 4 k p)
     (λ e among. only (Goes below len 4 k) (state_of 4 (k - 1), put_of (kept_of_last (suc below) len k)) p among (λ b text rest h.
-        let r = at_from below len 4 (k - 1) text rest (omega arith) h in
-        let g = guard k (suc below) e in
-        (g.1, omega (arith, r.1, g.0), r.2, ap (λ (xs : List ℕ). map (byte_of b) (put_of (kept_of_last (suc below) len k)) ++ xs) r.3 ∙ take_kept (suc below) len k b text g.0 (omega (arith, g.1)))))
+    let r = at_from below len 4 (k - 1) text rest (omega arith) h in
+    let g = guard k (suc below) e in
+    (g.1, omega (arith, r.1, g.0), r.2, ap (λ (xs : List ℕ). map (byte_of b) (put_of (kept_of_last (suc below) len k)) ++ xs) r.3 ∙ take_kept (suc below) len k b text g.0 (omega (arith, g.1)))))
     (λ _ among. Contains-nil p among)
 
 four_comes : (below : ℕ) (len : Option ℤ) (k : ℕ) → Comes below len 4 k (back_choices (suc below) len 4 k)
@@ -226,14 +226,14 @@ three_goes : (below : ℕ) (len : Option ℤ) (k : ℕ) (p : ℕ × List Out) �
 three_goes below len k p =
     cond_both (nat_lt 0 k && nat_lt k (suc below)) _ _ (λ (row : List (ℕ × List Out)). Contains row p → Goes below len 3 k p)
     (λ e among.
-        let g = guard k (suc below) e in
-        elim (Contains-cons_cases (state_of 3 (k - 1), Same ∷ []) (if nat_lt 0 (dropped_of len) && nat_le (dropped_of len) k then (state_of 2 (dropped_of len - 1), []) ∷ [] else []) p among) [
-            inl is ↦ subst (Goes below len 3 k) is (three_keep below len k g.0 g.1)
-          | inr later ↦ cond_both (nat_lt 0 (dropped_of len) && nat_le (dropped_of len) k) _ _ (λ (row : List (ℕ × List Out)). Contains row p → Goes below len 3 k p)
-                (λ d among'. let both = and_parts (nat_lt 0 (dropped_of len)) (nat_le (dropped_of len) k) d in only (Goes below len 3 k) (state_of 2 (dropped_of len - 1), []) p among' (three_drop below len k g.1 (ltb-true 0 (dropped_of len) both.0) (leb-true (dropped_of len) k both.1)))
-                (λ _ among'. Contains-nil p among')
-                later
-        ])
+    let g = guard k (suc below) e in
+    elim (Contains-cons_cases (state_of 3 (k - 1), Same ∷ []) (if nat_lt 0 (dropped_of len) && nat_le (dropped_of len) k then (state_of 2 (dropped_of len - 1), []) ∷ [] else []) p among) [
+      | inl is ↦ subst (Goes below len 3 k) is (three_keep below len k g.0 g.1)
+      | inr later ↦ cond_both (nat_lt 0 (dropped_of len) && nat_le (dropped_of len) k) _ _ (λ (row : List (ℕ × List Out)). Contains row p → Goes below len 3 k p)
+          (λ d among'. let both = and_parts (nat_lt 0 (dropped_of len)) (nat_le (dropped_of len) k) d in only (Goes below len 3 k) (state_of 2 (dropped_of len - 1), []) p among' (three_drop below len k g.1 (ltb-true 0 (dropped_of len) both.0) (leb-true (dropped_of len) k both.1)))
+          (λ _ among'. Contains-nil p among')
+          later
+    ])
     (λ _ among. Contains-nil p among)
 
 three_comes : (below : ℕ) (len : Option ℤ) (k : ℕ) → Comes below len 3 k (back_choices (suc below) len 3 k)
@@ -243,21 +243,27 @@ three_comes below len k b text out h =
     let keep : ℕ × List Out = (state_of 3 (k - 1), Same ∷ []) in
     let drops : ℕ × List Out = (state_of 2 (dropped_of len - 1), []) in
     elim (cases_lt (length text) (dropped_of len)) [
-        inr enough ↦
-            let there : back_choices (suc below) len 3 k ≡ keep ∷ (if nat_lt 0 (dropped_of len) && nat_le (dropped_of len) k then drops ∷ [] else []) = rw (guarded k (suc below) some h.0) refl in
-            let count : suc (length text) - dropped_of len ≡ suc (length text - dropped_of len) = omega (arith, enough) in
-            (keep, subst (λ (row : List (ℕ × List Out)). Contains row keep) (sym there) (Contains-head keep (if nat_lt 0 (dropped_of len) && nat_le (dropped_of len) k then drops ∷ [] else [])), take (length text - dropped_of len) text,
-             from_at below len 3 (k - 1) text (take (length text - dropped_of len) text) (omega arith) (omega (arith, h.0), enough, omega (arith, h.2, some), h.3, refl),
-             sym (h.4 ∙ ap (λ (n : ℕ). take n (b ∷ text)) count))
+      | inr enough ↦
+          let there : back_choices (suc below) len 3 k ≡ keep ∷ (if nat_lt 0 (dropped_of len) && nat_le (dropped_of len) k then drops ∷ [] else []) = rw (guarded k (suc below) some h.0) refl in
+          let count : suc (length text) - dropped_of len ≡ suc (length text - dropped_of len) = omega (arith, enough) in (
+            keep,
+            subst (λ (row : List (ℕ × List Out)). Contains row keep) (sym there) (Contains-head keep (if nat_lt 0 (dropped_of len) && nat_le (dropped_of len) k then drops ∷ [] else [])),
+            take (length text - dropped_of len) text,
+            from_at below len 3 (k - 1) text (take (length text - dropped_of len) text) (omega arith) (omega (arith, h.0), enough, omega (arith, h.2, some), h.3, refl),
+            sym (h.4 ∙ ap (λ (n : ℕ). take n (b ∷ text)) count),
+          )
       | inl few ↦
-            let dropping : 0 < dropped_of len = omega (arith, few) in
-            let below_k : dropped_of len ≤ k = omega (arith, h.1, h.2, few) in
-            let there : back_choices (suc below) len 3 k ≡ keep ∷ drops ∷ [] = rw (guarded k (suc below) some h.0, lt-ltb 0 (dropped_of len) dropping, le-leb (dropped_of len) k below_k) refl in
-            let none : kept_of_last (suc below) len (dropped_of len - 1) ≡ 0 = kept_of_dropped (suc below) len (dropped_of len - 1) (omega arith) dropping in
-            let count : suc (length text) - dropped_of len ≡ 0 = omega (arith, few) in
-            (drops, subst (λ (row : List (ℕ × List Out)). Contains row drops) (sym there) (Contains-later keep (drops ∷ []) drops (Contains-head drops [])), [],
-             from_at below len 2 (dropped_of len - 1) text [] (omega arith) (omega (arith, h.0, below_k), omega (arith, h.1, few), sym (ap (λ (n : ℕ). take n text) none)),
-             sym (h.4 ∙ ap (λ (n : ℕ). take n (b ∷ text)) count))
+          let dropping : 0 < dropped_of len = omega (arith, few) in
+          let below_k : dropped_of len ≤ k = omega (arith, h.1, h.2, few) in
+          let there : back_choices (suc below) len 3 k ≡ keep ∷ drops ∷ [] = rw (guarded k (suc below) some h.0, lt-ltb 0 (dropped_of len) dropping, le-leb (dropped_of len) k below_k) refl in
+          let none : kept_of_last (suc below) len (dropped_of len - 1) ≡ 0 = kept_of_dropped (suc below) len (dropped_of len - 1) (omega arith) dropping in
+          let count : suc (length text) - dropped_of len ≡ 0 = omega (arith, few) in (
+            drops,
+            subst (λ (row : List (ℕ × List Out)). Contains row drops) (sym there) (Contains-later keep (drops ∷ []) drops (Contains-head drops [])),
+            [],
+            from_at below len 2 (dropped_of len - 1) text [] (omega arith) (omega (arith, h.0, below_k), omega (arith, h.1, few), sym (ap (λ (n : ℕ). take n text) none)),
+            sym (h.4 ∙ ap (λ (n : ℕ). take n (b ∷ text)) count),
+          )
     ]
 
 -- a text of at least the last bytes, and one byte in front that is passed over
@@ -271,12 +277,12 @@ unfolding Goes
 one_goes below len k p among =
     either (Goes below len 1 k) (state_of 1 0, []) (state_of 2 (suc below - 1), put_of (kept_of_last (suc below) len (suc below))) p among
     (λ b text rest h.
-        let r = at_from below len 1 0 text rest (omega arith) h in
-        (omega (arith, r.0), r.1 ∙ ap (take (kept_of_last (suc below) len (suc below))) (sym (pass_over below b text r.0))))
+    let r = at_from below len 1 0 text rest (omega arith) h in
+    (omega (arith, r.0), r.1 ∙ ap (take (kept_of_last (suc below) len (suc below))) (sym (pass_over below b text r.0))))
     (λ b text rest h.
-        let r = at_from below len 2 (suc below - 1) text rest (omega arith) h in
-        let from : 0 ≡ suc (length text) - suc below = omega (arith, r.1) in
-        (omega (arith, r.1), ap (λ (xs : List ℕ). map (byte_of b) (put_of (kept_of_last (suc below) len (suc below))) ++ xs) r.2 ∙ take_kept (suc below) len (suc below) b text (omega arith) (omega arith) ∙ ap (λ (n : ℕ). take (kept_of_last (suc below) len (suc below)) (drop n (b ∷ text))) from))
+    let r = at_from below len 2 (suc below - 1) text rest (omega arith) h in
+    let from : 0 ≡ suc (length text) - suc below = omega (arith, r.1) in
+    (omega (arith, r.1), ap (λ (xs : List ℕ). map (byte_of b) (put_of (kept_of_last (suc below) len (suc below))) ++ xs) r.2 ∙ take_kept (suc below) len (suc below) b text (omega arith) (omega arith) ∙ ap (λ (n : ℕ). take (kept_of_last (suc below) len (suc below)) (drop n (b ∷ text))) from))
 
 one_comes : (below : ℕ) (len : Option ℤ) (k : ℕ) → Comes below len 1 k (back_choices (suc below) len 1 k)
 unfolding Comes
@@ -284,12 +290,15 @@ one_comes below len k b text out h =
     let passes : ℕ × List Out = (state_of 1 0, []) in
     let begins : ℕ × List Out = (state_of 2 (suc below - 1), put_of (kept_of_last (suc below) len (suc below))) in
     elim (cases_lt (length text) (suc below)) [
-        inr long ↦ (passes, Contains-head passes (begins ∷ []), out, from_at below len 1 0 text out (omega arith) (long, h.1 ∙ ap (take (kept_of_last (suc below) len (suc below))) (pass_over below b text long)), refl)
+      | inr long ↦ (passes, Contains-head passes (begins ∷ []), out, from_at below len 1 0 text out (omega arith) (long, h.1 ∙ ap (take (kept_of_last (suc below) len (suc below))) (pass_over below b text long)), refl)
       | inl short ↦
-            let from : suc (length text) - suc below ≡ 0 = omega (arith, h.0, short) in
-            (begins, Contains-later passes (begins ∷ []) begins (Contains-head begins []), take (kept_of_last (suc below) len (suc below - 1)) text,
-             from_at below len 2 (suc below - 1) text (take (kept_of_last (suc below) len (suc below - 1)) text) (omega arith) (omega arith, omega (arith, h.0, short), refl),
-             take_kept (suc below) len (suc below) b text (omega arith) (omega arith) ∙ sym (h.1 ∙ ap (λ (n : ℕ). take (kept_of_last (suc below) len (suc below)) (drop n (b ∷ text))) from))
+          let from : suc (length text) - suc below ≡ 0 = omega (arith, h.0, short) in (
+            begins,
+            Contains-later passes (begins ∷ []) begins (Contains-head begins []),
+            take (kept_of_last (suc below) len (suc below - 1)) text,
+            from_at below len 2 (suc below - 1) text (take (kept_of_last (suc below) len (suc below - 1)) text) (omega arith) (omega arith, omega (arith, h.0, short), refl),
+            take_kept (suc below) len (suc below) b text (omega arith) (omega arith) ∙ sym (h.1 ∙ ap (λ (n : ℕ). take (kept_of_last (suc below) len (suc below)) (drop n (b ∷ text))) from),
+          )
     ]
 
 -- the first byte
@@ -316,28 +325,28 @@ unfolding Goes
 zero_drop below len k some b text rest h =
     let r = at_from below len 5 (dropped_of len - 1) text rest (omega arith) h in
     elim (cases_lt (length text) (suc below)) [
-        inl short ↦
-            let count : suc (length text) - dropped_of len ≡ 0 = omega (arith, r.0, some) in
-            r.1 ∙ sym (part_of-short below len b text short (dropped_uncounted len some) ∙ ap (λ (n : ℕ). take n (b ∷ text)) count)
+      | inl short ↦
+          let count : suc (length text) - dropped_of len ≡ 0 = omega (arith, r.0, some) in
+          r.1 ∙ sym (part_of-short below len b text short (dropped_uncounted len some) ∙ ap (λ (n : ℕ). take n (b ∷ text)) count)
       | inr long ↦
-            let none : kept_of_last (suc below) len (suc below) ≡ 0 = kept_of_dropped (suc below) len (suc below) (omega (arith, r.0, some, long)) some in
-            r.1 ∙ sym (part_of-long below len b text long ∙ ap (λ (n : ℕ). take n (drop (length text - suc below) text)) none)
+          let none : kept_of_last (suc below) len (suc below) ≡ 0 = kept_of_dropped (suc below) len (suc below) (omega (arith, r.0, some, long)) some in
+          r.1 ∙ sym (part_of-long below len b text long ∙ ap (λ (n : ℕ). take n (drop (length text - suc below) text)) none)
     ]
 
 zero_goes : (below : ℕ) (len : Option ℤ) (k : ℕ) (p : ℕ × List Out) → Contains (back_choices (suc below) len 0 k) p → Goes below len 0 k p
 zero_goes below len k p among =
     elim (Contains-cons_cases (state_of 1 0, []) (if is_counted len then (state_of 4 (suc below - 1), put_of (kept_of_last (suc below) len (suc below))) ∷ [] else (state_of 3 (suc below - 1), Same ∷ []) ∷ (if nat_lt 0 (dropped_of len) then (state_of 5 (dropped_of len - 1), []) ∷ [] else [])) p among) [
-        inl is ↦ subst (Goes below len 0 k) is (zero_pass below len k)
+      | inl is ↦ subst (Goes below len 0 k) is (zero_pass below len k)
       | inr later ↦ cond_both (is_counted len) _ _ (λ (row : List (ℕ × List Out)). Contains row p → Goes below len 0 k p)
-            (λ _ among'. only (Goes below len 0 k) (state_of 4 (suc below - 1), put_of (kept_of_last (suc below) len (suc below))) p among' (zero_counted below len k))
-            (λ _ among'. elim (Contains-cons_cases (state_of 3 (suc below - 1), Same ∷ []) (if nat_lt 0 (dropped_of len) then (state_of 5 (dropped_of len - 1), []) ∷ [] else []) p among') [
-                inl is ↦ subst (Goes below len 0 k) is (zero_keep below len k)
-              | inr last ↦ cond_both (nat_lt 0 (dropped_of len)) _ _ (λ (row : List (ℕ × List Out)). Contains row p → Goes below len 0 k p)
-                    (λ e among''. only (Goes below len 0 k) (state_of 5 (dropped_of len - 1), []) p among'' (zero_drop below len k (ltb-true 0 (dropped_of len) e)))
-                    (λ _ among''. Contains-nil p among'')
-                    last
-            ])
-            later
+          (λ _ among'. only (Goes below len 0 k) (state_of 4 (suc below - 1), put_of (kept_of_last (suc below) len (suc below))) p among' (zero_counted below len k))
+          (λ _ among'. elim (Contains-cons_cases (state_of 3 (suc below - 1), Same ∷ []) (if nat_lt 0 (dropped_of len) then (state_of 5 (dropped_of len - 1), []) ∷ [] else []) p among') [
+            | inl is ↦ subst (Goes below len 0 k) is (zero_keep below len k)
+            | inr last ↦ cond_both (nat_lt 0 (dropped_of len)) _ _ (λ (row : List (ℕ × List Out)). Contains row p → Goes below len 0 k p)
+                (λ e among''. only (Goes below len 0 k) (state_of 5 (dropped_of len - 1), []) p among'' (zero_drop below len k (ltb-true 0 (dropped_of len) e)))
+                (λ _ among''. Contains-nil p among'')
+                last
+          ])
+          later
     ]
 
 zero_comes : (below : ℕ) (len : Option ℤ) (k : ℕ) → Comes below len 0 k (back_choices (suc below) len 0 k)
@@ -349,29 +358,38 @@ zero_comes below len k b text out h =
     let drops : ℕ × List Out = (state_of 5 (dropped_of len - 1), []) in
     let others : List (ℕ × List Out) = (if is_counted len then counts ∷ [] else keeps ∷ (if nat_lt 0 (dropped_of len) then drops ∷ [] else [])) in
     elim (cases_lt (length text) (suc below)) [
-        inr long ↦ (passes, Contains-head passes others, out, from_at below len 1 0 text out (omega arith) (long, h ∙ part_of-long below len b text long), refl)
+      | inr long ↦ (passes, Contains-head passes others, out, from_at below len 1 0 text out (omega arith) (long, h ∙ part_of-long below len b text long), refl)
       | inl short ↦ elim (cases_Bool (is_counted len)) [
-            inl counted ↦
-                let there : others ≡ counts ∷ [] = rw counted refl in
-                (counts, Contains-later passes others counts (subst (λ (row : List (ℕ × List Out)). Contains row counts) (sym there) (Contains-head counts [])), take (kept_of_last (suc below) len (suc below - 1)) text,
-                 from_at below len 4 (suc below - 1) text (take (kept_of_last (suc below) len (suc below - 1)) text) (omega arith) (omega arith, omega (arith, short), counted, refl),
-                 take_kept (suc below) len (suc below) b text (omega arith) (omega arith) ∙ sym (h ∙ part_of-counted below len b text short counted))
-          | inr plain ↦ elim (cases_lt (length text) (dropped_of len)) [
-                inr enough ↦
-                    let there : others ≡ keeps ∷ (if nat_lt 0 (dropped_of len) then drops ∷ [] else []) = rw plain refl in
-                    let count : suc (length text) - dropped_of len ≡ suc (length text - dropped_of len) = omega (arith, enough) in
-                    (keeps, Contains-later passes others keeps (subst (λ (row : List (ℕ × List Out)). Contains row keeps) (sym there) (Contains-head keeps (if nat_lt 0 (dropped_of len) then drops ∷ [] else []))), take (length text - dropped_of len) text,
-                     from_at below len 3 (suc below - 1) text (take (length text - dropped_of len) text) (omega arith) (omega arith, enough, omega (arith, short), plain, refl),
-                     sym (h ∙ part_of-short below len b text short plain ∙ ap (λ (n : ℕ). take n (b ∷ text)) count))
-              | inl few ↦
-                    let dropping : 0 < dropped_of len = omega (arith, few) in
-                    let there : others ≡ keeps ∷ drops ∷ [] = rw (plain, lt-ltb 0 (dropped_of len) dropping) refl in
-                    let count : suc (length text) - dropped_of len ≡ 0 = omega (arith, few) in
-                    (drops, Contains-later passes others drops (subst (λ (row : List (ℕ × List Out)). Contains row drops) (sym there) (Contains-later keeps (drops ∷ []) drops (Contains-head drops []))), [],
-                     from_at below len 5 (dropped_of len - 1) text [] (omega arith) (omega (arith, few), refl),
-                     sym (h ∙ part_of-short below len b text short plain ∙ ap (λ (n : ℕ). take n (b ∷ text)) count))
-            ]
+        | inl counted ↦
+            let there : others ≡ counts ∷ [] = rw counted refl in (
+              counts,
+              Contains-later passes others counts (subst (λ (row : List (ℕ × List Out)). Contains row counts) (sym there) (Contains-head counts [])),
+              take (kept_of_last (suc below) len (suc below - 1)) text,
+              from_at below len 4 (suc below - 1) text (take (kept_of_last (suc below) len (suc below - 1)) text) (omega arith) (omega arith, omega (arith, short), counted, refl),
+              take_kept (suc below) len (suc below) b text (omega arith) (omega arith) ∙ sym (h ∙ part_of-counted below len b text short counted),
+            )
+        | inr plain ↦ elim (cases_lt (length text) (dropped_of len)) [
+          | inr enough ↦
+              let there : others ≡ keeps ∷ (if nat_lt 0 (dropped_of len) then drops ∷ [] else []) = rw plain refl in
+              let count : suc (length text) - dropped_of len ≡ suc (length text - dropped_of len) = omega (arith, enough) in (
+                keeps,
+                Contains-later passes others keeps (subst (λ (row : List (ℕ × List Out)). Contains row keeps) (sym there) (Contains-head keeps (if nat_lt 0 (dropped_of len) then drops ∷ [] else []))),
+                take (length text - dropped_of len) text,
+                from_at below len 3 (suc below - 1) text (take (length text - dropped_of len) text) (omega arith) (omega arith, enough, omega (arith, short), plain, refl),
+                sym (h ∙ part_of-short below len b text short plain ∙ ap (λ (n : ℕ). take n (b ∷ text)) count),
+              )
+          | inl few ↦
+              let dropping : 0 < dropped_of len = omega (arith, few) in
+              let there : others ≡ keeps ∷ drops ∷ [] = rw (plain, lt-ltb 0 (dropped_of len) dropping) refl in
+              let count : suc (length text) - dropped_of len ≡ 0 = omega (arith, few) in (
+                drops,
+                Contains-later passes others drops (subst (λ (row : List (ℕ × List Out)). Contains row drops) (sym there) (Contains-later keeps (drops ∷ []) drops (Contains-head drops []))),
+                [],
+                from_at below len 5 (dropped_of len - 1) text [] (omega arith) (omega (arith, few), refl),
+                sym (h ∙ part_of-short below len b text short plain ∙ ap (λ (n : ℕ). take n (b ∷ text)) count),
+              )
         ]
+      ]
     ]
 
 take-nil : (n : ℕ) → take {A = ℕ} n [] ≡ []
@@ -404,20 +422,23 @@ unfolding Stops
 back_stops below len phase k inside =
     at_phase (Stops below len k) phase inside
     ((λ own among. only (λ (o : List Out). map (byte_of 0) o ≡ part_of [] (negsuc below) len) [] own among (part_of-nil below len)), (λ out h. ([], Contains-head [] [], part_of-nil below len ∙ sym h)))
-    ((λ own among. Contains-nil own among), (λ out h. absurd (omega (arith, h.0))))
-    ((λ own among. end_under (k == 0) (λ (o : List Out). BackFrom below len 2 k [] (map (byte_of 0) o)) own (λ e. let is = eqb-true k 0 e in (omega (arith, is), sym is, sym (take-nil (kept_of_last (suc below) len k)))) among),
-     (λ out h. ([], there_under (k == 0) (eq-eqb k 0 (sym h.1)), sym (h.2 ∙ take-nil (kept_of_last (suc below) len k)))))
-    ((λ own among. end_under ((dropped_of len == 0 && nat_lt k (suc below)) && not (is_counted len)) (λ (o : List Out). BackFrom below len 3 k [] (map (byte_of 0) o)) own
-        (λ e.
-            let both = and_parts (dropped_of len == 0 && nat_lt k (suc below)) (not (is_counted len)) e in
-            let more = and_parts (dropped_of len == 0) (nat_lt k (suc below)) both.0 in
-            (ltb-true k (suc below) more.1, omega (arith, eqb-true (dropped_of len) 0 more.0), omega arith, not-true (is_counted len) both.1, sym (take-nil (0 - dropped_of len))))
-        among),
-     (λ out h. ([], there_under ((dropped_of len == 0 && nat_lt k (suc below)) && not (is_counted len)) (and_from (dropped_of len == 0 && nat_lt k (suc below)) (not (is_counted len)) (and_from (dropped_of len == 0) (nat_lt k (suc below)) (eq-eqb (dropped_of len) 0 (omega (arith, h.1))) (lt-ltb k (suc below) h.0)) (not_from_false (is_counted len) h.3)), sym (h.4 ∙ take-nil (0 - dropped_of len)))))
-    ((λ own among. end_under (nat_lt k (suc below) && is_counted len) (λ (o : List Out). BackFrom below len 4 k [] (map (byte_of 0) o)) own
-        (λ e. let both = and_parts (nat_lt k (suc below)) (is_counted len) e in (ltb-true k (suc below) both.0, omega arith, both.1, sym (take-nil (kept_of_last (suc below) len k))))
-        among),
-     (λ out h. ([], there_under (nat_lt k (suc below) && is_counted len) (and_from (nat_lt k (suc below)) (is_counted len) (lt-ltb k (suc below) h.0) h.2), sym (h.3 ∙ take-nil (kept_of_last (suc below) len k)))))
+    ((λ own among. Contains-nil own among), (λ out h. absurd (omega (arith, h.0)))) (
+      (λ own among. end_under (k == 0) (λ (o : List Out). BackFrom below len 2 k [] (map (byte_of 0) o)) own (λ e. let is = eqb-true k 0 e in (omega (arith, is), sym is, sym (take-nil (kept_of_last (suc below) len k)))) among),
+      (λ out h. ([], there_under (k == 0) (eq-eqb k 0 (sym h.1)), sym (h.2 ∙ take-nil (kept_of_last (suc below) len k)))),
+    ) (
+      (λ own among. end_under ((dropped_of len == 0 && nat_lt k (suc below)) && not (is_counted len)) (λ (o : List Out). BackFrom below len 3 k [] (map (byte_of 0) o)) own
+          (λ e.
+          let both = and_parts (dropped_of len == 0 && nat_lt k (suc below)) (not (is_counted len)) e in
+          let more = and_parts (dropped_of len == 0) (nat_lt k (suc below)) both.0 in
+          (ltb-true k (suc below) more.1, omega (arith, eqb-true (dropped_of len) 0 more.0), omega arith, not-true (is_counted len) both.1, sym (take-nil (0 - dropped_of len))))
+          among),
+      (λ out h. ([], there_under ((dropped_of len == 0 && nat_lt k (suc below)) && not (is_counted len)) (and_from (dropped_of len == 0 && nat_lt k (suc below)) (not (is_counted len)) (and_from (dropped_of len == 0) (nat_lt k (suc below)) (eq-eqb (dropped_of len) 0 (omega (arith, h.1))) (lt-ltb k (suc below) h.0)) (not_from_false (is_counted len) h.3)), sym (h.4 ∙ take-nil (0 - dropped_of len)))),
+    ) (
+      (λ own among. end_under (nat_lt k (suc below) && is_counted len) (λ (o : List Out). BackFrom below len 4 k [] (map (byte_of 0) o)) own
+          (λ e. let both = and_parts (nat_lt k (suc below)) (is_counted len) e in (ltb-true k (suc below) both.0, omega arith, both.1, sym (take-nil (kept_of_last (suc below) len k))))
+          among),
+      (λ out h. ([], there_under (nat_lt k (suc below) && is_counted len) (and_from (nat_lt k (suc below)) (is_counted len) (lt-ltb k (suc below) h.0) h.2), sym (h.3 ∙ take-nil (kept_of_last (suc below) len k)))),
+    )
     ((λ own among. only (λ (o : List Out). BackFrom below len 5 k [] (map (byte_of 0) o)) [] own among (omega arith, refl)), (λ out h. ([], Contains-head [] [], sym h.1)))
 
 Steps : ℕ → Option ℤ → ℕ → ℕ → Type 0
@@ -451,14 +472,14 @@ back_inner states below len phase k inside enough fits =
     let M = λ (p : ℕ × List Out). (p.0 < states) × IsShort 8 p.1 in
     at_phase (Inner states below len k) phase inside
     (All-cons M (state_of 1 0, []) (if is_counted len then (state_of 4 (suc below - 1), put_of (kept_of_last (suc below) len (suc below))) ∷ [] else (state_of 3 (suc below - 1), Same ∷ []) ∷ (if nat_lt 0 (dropped_of len) then (state_of 5 (dropped_of len - 1), []) ∷ [] else [])) (omega (arith, enough), (refl, omega arith))
-      (cond_both (is_counted len) _ _ (All M)
-        (λ _. All-cons M (state_of 4 (suc below - 1), put_of (kept_of_last (suc below) len (suc below))) [] (omega (arith, enough), put_short (kept_of_last (suc below) len (suc below))) (All-nil M))
-        (λ _. All-cons M (state_of 3 (suc below - 1), Same ∷ []) (if nat_lt 0 (dropped_of len) then (state_of 5 (dropped_of len - 1), []) ∷ [] else []) (omega (arith, enough), (refl, omega arith)) (inner_under states (nat_lt 0 (dropped_of len)) (state_of 5 (dropped_of len - 1), []) (λ e. (omega (arith, enough, ltb-true 0 (dropped_of len) e), (refl, omega arith)))))))
+    (cond_both (is_counted len) _ _ (All M)
+    (λ _. All-cons M (state_of 4 (suc below - 1), put_of (kept_of_last (suc below) len (suc below))) [] (omega (arith, enough), put_short (kept_of_last (suc below) len (suc below))) (All-nil M))
+    (λ _. All-cons M (state_of 3 (suc below - 1), Same ∷ []) (if nat_lt 0 (dropped_of len) then (state_of 5 (dropped_of len - 1), []) ∷ [] else []) (omega (arith, enough), (refl, omega arith)) (inner_under states (nat_lt 0 (dropped_of len)) (state_of 5 (dropped_of len - 1), []) (λ e. (omega (arith, enough, ltb-true 0 (dropped_of len) e), (refl, omega arith)))))))
     (All-cons M (state_of 1 0, []) ((state_of 2 (suc below - 1), put_of (kept_of_last (suc below) len (suc below))) ∷ []) (omega (arith, enough), (refl, omega arith)) (All-cons M (state_of 2 (suc below - 1), put_of (kept_of_last (suc below) len (suc below))) [] (omega (arith, enough), put_short (kept_of_last (suc below) len (suc below))) (All-nil M)))
     (inner_under states (nat_lt 0 k && nat_lt k (suc below)) (state_of 2 (k - 1), put_of (kept_of_last (suc below) len k)) (λ e. (omega (arith, fits, (guard k (suc below) e).0), put_short (kept_of_last (suc below) len k))))
     (cond_both (nat_lt 0 k && nat_lt k (suc below)) _ _ (All M)
-      (λ e. All-cons M (state_of 3 (k - 1), Same ∷ []) (if nat_lt 0 (dropped_of len) && nat_le (dropped_of len) k then (state_of 2 (dropped_of len - 1), []) ∷ [] else []) (omega (arith, fits, (guard k (suc below) e).0), (refl, omega arith)) (inner_under states (nat_lt 0 (dropped_of len) && nat_le (dropped_of len) k) (state_of 2 (dropped_of len - 1), []) (λ d. (omega (arith, enough, ltb-true 0 (dropped_of len) (and_parts (nat_lt 0 (dropped_of len)) (nat_le (dropped_of len) k) d).0), (refl, omega arith)))))
-      (λ _. All-nil M))
+    (λ e. All-cons M (state_of 3 (k - 1), Same ∷ []) (if nat_lt 0 (dropped_of len) && nat_le (dropped_of len) k then (state_of 2 (dropped_of len - 1), []) ∷ [] else []) (omega (arith, fits, (guard k (suc below) e).0), (refl, omega arith)) (inner_under states (nat_lt 0 (dropped_of len) && nat_le (dropped_of len) k) (state_of 2 (dropped_of len - 1), []) (λ d. (omega (arith, enough, ltb-true 0 (dropped_of len) (and_parts (nat_lt 0 (dropped_of len)) (nat_le (dropped_of len) k) d).0), (refl, omega arith)))))
+    (λ _. All-nil M))
     (inner_under states (nat_lt 0 k && nat_lt k (suc below)) (state_of 4 (k - 1), put_of (kept_of_last (suc below) len k)) (λ e. (omega (arith, fits, (guard k (suc below) e).0), put_short (kept_of_last (suc below) len k))))
     (inner_under states (nat_lt 0 k) (state_of 5 (k - 1), []) (λ e. (omega (arith, fits, ltb-true 0 k e), (refl, omega arith))))
 
@@ -468,12 +489,12 @@ number_fits states s inside = omega arith
 back_simulates : (states below : ℕ) (len : Option ℤ) → 8 * (suc below + dropped_of len + 1) ≤ states → Simulates states (back_row (suc below) len) (back_last (suc below) len) (BackAt below len)
 unfolding Steps Stops Goes Comes Inner IsInner
 back_simulates states below len enough = record {
-    within = λ s b p inside bytes among. (All-contains (λ (q : ℕ × List Out). (q.0 < states) × IsShort 8 q.1) (back_row (suc below) len s b) p (back_inner states below len (phase_of s) (s / 8) (phase_inside s) enough (number_fits states s inside)) among).0;
-    stop_to = λ s own inside among. (back_stops below len (phase_of s) (s / 8) (phase_inside s)).0 own among;
-    stop_from = λ s out inside h. (back_stops below len (phase_of s) (s / 8) (phase_inside s)).1 out h;
-    step_to = λ s b text rest p inside bytes among h. (back_steps below len (phase_of s) (s / 8) (phase_inside s)).0 p among b text rest h;
-    step_from = λ s b text out inside bytes h. (back_steps below len (phase_of s) (s / 8) (phase_inside s)).1 b text out h;
-  }
+  within = λ s b p inside bytes among. (All-contains (λ (q : ℕ × List Out). (q.0 < states) × IsShort 8 q.1) (back_row (suc below) len s b) p (back_inner states below len (phase_of s) (s / 8) (phase_inside s) enough (number_fits states s inside)) among).0;
+  stop_to = λ s own inside among. (back_stops below len (phase_of s) (s / 8) (phase_inside s)).0 own among;
+  stop_from = λ s out inside h. (back_stops below len (phase_of s) (s / 8) (phase_inside s)).1 out h;
+  step_to = λ s b text rest p inside bytes among h. (back_steps below len (phase_of s) (s / 8) (phase_inside s)).0 p among b text rest h;
+  step_from = λ s b text out inside bytes h. (back_steps below len (phase_of s) (s / 8) (phase_inside s)).1 b text out h;
+}
 
 ends_short : (below : ℕ) (len : Option ℤ) (phase k : ℕ) → All (IsShort 8) (back_ends (suc below) len phase k)
 ends_short below len phase k =
@@ -486,12 +507,12 @@ back_small : (states below : ℕ) (len : Option ℤ) → AreSmall (back_rows sta
 unfolding Inner IsInner
 back_small states below len =
     below_small states (back_row (suc below) len) (back_last (suc below) len) 8 (record {
-        few = λ s b. let h = choices_three (suc below) len (phase_of s) (s / 8) in omega (arith, h);
-        moves = λ s b.
-            let most = 8 * (suc below + dropped_of len + 1) + 8 * (s / 8) + 1 in
-            All-weaker (λ (q : ℕ × List Out). (q.0 < most) × IsShort 8 q.1) (λ (p : ℕ × List Out). IsShort 8 p.1) (λ p h. h.1) (back_row (suc below) len s b) (back_inner most below len (phase_of s) (s / 8) (phase_inside s) (omega arith) (omega arith));
-        ends = λ s. ends_short below len (phase_of s) (s / 8);
-      })
+      few = λ s b. let h = choices_three (suc below) len (phase_of s) (s / 8) in omega (arith, h);
+      moves = λ s b.
+          let most = 8 * (suc below + dropped_of len + 1) + 8 * (s / 8) + 1 in
+          All-weaker (λ (q : ℕ × List Out). (q.0 < most) × IsShort 8 q.1) (λ (p : ℕ × List Out). IsShort 8 p.1) (λ p h. h.1) (back_row (suc below) len s b) (back_inner most below len (phase_of s) (s / 8) (phase_inside s) (omega arith) (omega arith));
+      ends = λ s. ends_short below len (phase_of s) (s / 8);
+    })
 
 -- what is small for eight is small for more
 more_short : (size : ℕ) (out : List Out) → IsShort 8 out → IsShort (size + 8) out
@@ -510,3 +531,16 @@ pub back_is_machine : (states below : ℕ) (len : Option ℤ) (size : ℕ) (tabl
 back_is_machine states below len size table enough most listed =
     listed_machine table states (back_rows states (suc below) len) (back_lasts states (suc below) len) size (λ input output. output ≡ part_of input (negsuc below) len) listed (more_small states below len size) most
     (λ input output bytes. follows_relation states (back_row (suc below) len) (back_last (suc below) len) (BackAt below len) (back_simulates states below len enough) 0 (omega (arith, enough)) input output bytes)
+
+pub dropped_of-le : (len : Option ℤ) → dropped_of len ≤ size_of_length len
+dropped_of-le None = omega arith
+dropped_of-le (Some (pos len)) = omega arith
+dropped_of-le (Some (negsuc end)) = omega arith
+
+-- the same, with the last bytes as a sum
+pub back_is_machine_at : (below : ℕ) (len : Option ℤ) (drops : ℕ) (table : Table) → drops ≡ dropped_of len → IsListed table (8 * (below + 1 + drops + 1)) (back_rows (8 * (below + 1 + drops + 1)) (below + 1) len) (back_lasts (8 * (below + 1 + drops + 1)) (below + 1) len) → IsMachine table (below + 1 + size_of_length len) (λ input output. output ≡ part_of input (negsuc below) len)
+back_is_machine_at below len drops table is listed =
+    let states = 8 * (below + 1 + drops + 1) in
+    let more : below + 1 ≡ suc below = omega arith in
+    let few = dropped_of-le len in
+    back_is_machine states below len (below + 1 + size_of_length len) table (omega (arith, is)) (omega (arith, is, few)) (subst (λ (n : ℕ). IsListed table states (back_rows states n len) (back_lasts states n len)) more listed)

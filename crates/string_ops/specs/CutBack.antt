@@ -34,15 +34,23 @@ dropped_of (Some (negsuc below)) = suc below
 abbrev pub put_of : ℕ → List Out
 put_of kept = if nat_lt 0 kept then Same ∷ [] else []
 
+-- one byte less of the last bytes
+abbrev pub last_choices : ℕ → Option ℤ → ℕ → ℕ → List (ℕ × List Out)
+last_choices last len phase k = if nat_lt 0 k && nat_lt k last then (state_of phase (k - 1), put_of (kept_of_last last len k)) ∷ [] else []
+
+-- one byte less of those that are dropped
+abbrev pub drop_choices : ℕ → List (ℕ × List Out)
+drop_choices k = if nat_lt 0 k then (state_of 5 (k - 1), []) ∷ [] else []
+
 -- phase 0 has read nothing; 1 has passed over some bytes, and at least the last bytes follow; 2 is among the last bytes, of which just k follow; in 3 and 4 the text is no longer than the last bytes, and at most k follow, in 3 all but those that are dropped are kept, in 4 they are counted; 5 drops at most k bytes
 abbrev pub back_choices : ℕ → Option ℤ → ℕ → ℕ → List (ℕ × List Out)
 back_choices last len phase k =
     if phase == 0 then (state_of 1 0, []) ∷ (if is_counted len then (state_of 4 (last - 1), put_of (kept_of_last last len last)) ∷ [] else (state_of 3 (last - 1), Same ∷ []) ∷ (if nat_lt 0 (dropped_of len) then (state_of 5 (dropped_of len - 1), []) ∷ [] else []))
     else (if phase == 1 then (state_of 1 0, []) ∷ (state_of 2 (last - 1), put_of (kept_of_last last len last)) ∷ []
-    else (if phase == 2 then (if nat_lt 0 k && nat_lt k last then (state_of 2 (k - 1), put_of (kept_of_last last len k)) ∷ [] else [])
+    else (if phase == 2 then last_choices last len 2 k
     else (if phase == 3 then (if nat_lt 0 k && nat_lt k last then (state_of 3 (k - 1), Same ∷ []) ∷ (if nat_lt 0 (dropped_of len) && nat_le (dropped_of len) k then (state_of 2 (dropped_of len - 1), []) ∷ [] else []) else [])
-    else (if phase == 4 then (if nat_lt 0 k && nat_lt k last then (state_of 4 (k - 1), put_of (kept_of_last last len k)) ∷ [] else [])
-    else (if nat_lt 0 k then (state_of 5 (k - 1), []) ∷ [] else [])))))
+    else (if phase == 4 then last_choices last len 4 k
+    else drop_choices k))))
 
 -- in which phases the text may end
 abbrev pub back_ends : ℕ → Option ℤ → ℕ → ℕ → List (List Out)

@@ -40,8 +40,8 @@ choices_within states last len phase k some enough fits =
     let first = put_of (kept_of_last last len last) in
     cond_both (phase == 0) _ _ P
     (λ _. lead_cons states (state_of 1 0) [] (if is_counted len then (state_of 4 (last - 1), put_of (kept_of_last last len last)) ∷ [] else (state_of 3 (last - 1), Same ∷ []) ∷ (if nat_lt 0 (dropped_of len) then (state_of 5 (dropped_of len - 1), []) ∷ [] else [])) (omega (arith, enough)) (cond_both (is_counted len) _ _ P
-      (λ _. lead_cons states (state_of 4 (last - 1)) first [] (omega (arith, enough, some)) (lead_nil states))
-      (λ _. lead_cons states (state_of 3 (last - 1)) (Same ∷ []) (if nat_lt 0 (dropped_of len) then (state_of 5 (dropped_of len - 1), []) ∷ [] else []) (omega (arith, enough, some)) (cond_both (nat_lt 0 (dropped_of len)) _ _ P (λ e. lead_cons states (state_of 5 (dropped_of len - 1)) [] [] (omega (arith, enough, ltb-true 0 (dropped_of len) e)) (lead_nil states)) (λ _. lead_nil states)))))
+    (λ _. lead_cons states (state_of 4 (last - 1)) first [] (omega (arith, enough, some)) (lead_nil states))
+    (λ _. lead_cons states (state_of 3 (last - 1)) (Same ∷ []) (if nat_lt 0 (dropped_of len) then (state_of 5 (dropped_of len - 1), []) ∷ [] else []) (omega (arith, enough, some)) (cond_both (nat_lt 0 (dropped_of len)) _ _ P (λ e. lead_cons states (state_of 5 (dropped_of len - 1)) [] [] (omega (arith, enough, ltb-true 0 (dropped_of len) e)) (lead_nil states)) (λ _. lead_nil states)))))
     (λ _. cond_both (phase == 1) _ _ P
     (λ _. lead_cons states (state_of 1 0) [] ((state_of 2 (last - 1), first) ∷ []) (omega (arith, enough)) (lead_cons states (state_of 2 (last - 1)) first [] (omega (arith, enough, some)) (lead_nil states)))
     (λ _. cond_both (phase == 2) _ _ P

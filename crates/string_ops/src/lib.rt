@@ -6,6 +6,7 @@
 
 mod breaks;
 mod bytewise;
+mod cut_back;
 mod failure;
 mod first;
 mod html;
