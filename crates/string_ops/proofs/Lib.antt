@@ -17,3 +17,5 @@ pub mod SearchLemmas
 pub mod OccurrenceLemmas
 pub mod ReplaceLemmas
 pub mod PieceLemmas
+pub mod FactorLemmas
+pub mod MachineLemmas

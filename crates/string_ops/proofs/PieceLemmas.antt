@@ -65,7 +65,7 @@ front_less c sep at byte text h ne =
     ∙ pieces_front c sep (gone p at byte part) (take part p ++ text) (none_gone p at byte part text h is less)
 
 -- one row, one step
-follows_one : (rows : Rows) (lasts : Lasts) (s byte : ℕ) (p : ℕ × List Out) (text out : List ℕ) → rows s byte ≡ p ∷ [] → Follows rows lasts s (byte ∷ text) out ↔ ((rest : List ℕ) × Follows rows lasts p.0 text rest × (map (byte_of byte) p.1 ++ rest ≡ out))
+pub follows_one : (rows : Rows) (lasts : Lasts) (s byte : ℕ) (p : ℕ × List Out) (text out : List ℕ) → rows s byte ≡ p ∷ [] → Follows rows lasts s (byte ∷ text) out ↔ ((rest : List ℕ) × Follows rows lasts p.0 text rest × (map (byte_of byte) p.1 ++ rest ≡ out))
 follows_one rows lasts s byte p text out e = (
   λ h.
       let one : h.0 ≡ p = one_in p h.0 (subst (λ (x : List (ℕ × List Out)). Contains x h.0) e h.1) in
@@ -74,7 +74,7 @@ follows_one rows lasts s byte p text out e = (
 )
 
 -- two rows, either step
-follows_two : (rows : Rows) (lasts : Lasts) (s byte : ℕ) (p q : ℕ × List Out) (text out : List ℕ) → rows s byte ≡ p ∷ q ∷ [] → Follows rows lasts s (byte ∷ text) out ↔ (((rest : List ℕ) × Follows rows lasts p.0 text rest × (map (byte_of byte) p.1 ++ rest ≡ out)) ⊎ ((rest : List ℕ) × Follows rows lasts q.0 text rest × (map (byte_of byte) q.1 ++ rest ≡ out)))
+pub follows_two : (rows : Rows) (lasts : Lasts) (s byte : ℕ) (p q : ℕ × List Out) (text out : List ℕ) → rows s byte ≡ p ∷ q ∷ [] → Follows rows lasts s (byte ∷ text) out ↔ (((rest : List ℕ) × Follows rows lasts p.0 text rest × (map (byte_of byte) p.1 ++ rest ≡ out)) ⊎ ((rest : List ℕ) × Follows rows lasts q.0 text rest × (map (byte_of byte) q.1 ++ rest ≡ out)))
 follows_two rows lasts s byte p q text out e = (
   λ h. elim (in_cons p (q ∷ []) h.0 (subst (λ (x : List (ℕ × List Out)). Contains x h.0) e h.1)) [
     | inl one ↦ inl (h.2, subst (λ (x : ℕ × List Out). Follows rows lasts x.0 text h.2) one h.3, ap (λ (x : ℕ × List Out). map (byte_of byte) x.1 ++ h.2) (sym one) ∙ h.4)
@@ -88,7 +88,7 @@ follows_two rows lasts s byte p q text out e = (
   ],
 )
 
-ends_one : (rows : Rows) (lasts : Lasts) (s : ℕ) (o : List Out) (out : List ℕ) → lasts s ≡ o ∷ [] → Follows rows lasts s [] out ↔ (map (byte_of 0) o ≡ out)
+pub ends_one : (rows : Rows) (lasts : Lasts) (s : ℕ) (o : List Out) (out : List ℕ) → lasts s ≡ o ∷ [] → Follows rows lasts s [] out ↔ (map (byte_of 0) o ≡ out)
 ends_one rows lasts s o out e = (
   λ h.
       let one : h.0 ≡ o = one_in o h.0 (subst (λ (x : List (List Out)). Contains x h.0) e h.1) in
@@ -96,7 +96,7 @@ ends_one rows lasts s o out e = (
   λ h. (o, subst (λ (x : List (List Out)). Contains x o) (sym e) (in_one o), h),
 )
 
-ends_none : (rows : Rows) (lasts : Lasts) (s : ℕ) (out : List ℕ) → lasts s ≡ [] → Follows rows lasts s [] out → ⊥
+pub ends_none : (rows : Rows) (lasts : Lasts) (s : ℕ) (out : List ℕ) → lasts s ≡ [] → Follows rows lasts s [] out → ⊥
 ends_none rows lasts s out e h = none_in h.0 (subst (λ (x : List (List Out)). Contains x h.0) e h.1)
 
 -- which part of the list a state has
@@ -289,20 +289,20 @@ pieces_follow : (c : ℕ) (sep text : List ℕ) → FollowsPieces (c ∷ sep) te
 pieces_follow c sep [] = pieces_end c sep
 pieces_follow c sep (byte ∷ text) = pieces_step c sep byte text (pieces_follow c sep text)
 
-few_part : {X : Type 0} (b : Bool) (x : X) → length (cond b (x ∷ []) []) ≤ 1
+pub few_part : {X : Type 0} (b : Bool) (x : X) → length (cond b (x ∷ []) []) ≤ 1
 few_part true x = omega arith
 few_part false x = omega arith
 
-all_part : {X : Type 0} (P : X → Type 0) (b : Bool) (x : X) → (b ≡ true → P x) → All P (cond b (x ∷ []) [])
+pub all_part : {X : Type 0} (P : X → Type 0) (b : Bool) (x : X) → (b ≡ true → P x) → All P (cond b (x ∷ []) [])
 all_part P true x h = All-cons P x [] (h refl) (All-nil P)
 all_part P false x h = All-nil P
 
-within_true : (base count s : ℕ) → is_within base count s ≡ true → (base ≤ s) × (s < base + count)
+pub within_true : (base count s : ℕ) → is_within base count s ≡ true → (base ≤ s) × (s < base + count)
 within_true base count s e =
     let parts = and_parts (leb base s) (ltb s (base + count)) e in
     (leb-true base s parts.0, ltb-true s (base + count) parts.1)
 
-short_nothing : (most : ℕ) → IsShort most []
+pub short_nothing : (most : ℕ) → IsShort most []
 short_nothing most = (refl, omega arith)
 
 short_before : (most : ℕ) (p : List ℕ) (at byte : ℕ) → IsShort most (before_turn p at byte).1
@@ -388,7 +388,7 @@ and_true true = refl
 and_true false = refl
 
 -- the parts of the list, with the bytes below 256
-five_parts : {X : Type 0} (byte : Bool) (a b c d e : Bool) (us vs xs ys zs : List X) → (((([] ++ cond (a && byte) us []) ++ cond (b && byte) vs []) ++ cond (c && byte) xs []) ++ cond (d && byte) ys []) ++ cond (e && byte) zs [] ≡ cond byte ((((cond a us [] ++ cond b vs []) ++ cond c xs []) ++ cond d ys []) ++ cond e zs []) []
+pub five_parts : {X : Type 0} (byte : Bool) (a b c d e : Bool) (us vs xs ys zs : List X) → (((([] ++ cond (a && byte) us []) ++ cond (b && byte) vs []) ++ cond (c && byte) xs []) ++ cond (d && byte) ys []) ++ cond (e && byte) zs [] ≡ cond byte ((((cond a us [] ++ cond b vs []) ++ cond c xs []) ++ cond d ys []) ++ cond e zs []) []
 five_parts true a b c d e us vs xs ys zs = rw (and_true a, and_true b, and_true c, and_true d, and_true e) refl
 five_parts false a b c d e us vs xs ys zs = rw (and_right a false refl, and_right b false refl, and_right c false refl, and_right d false refl, and_right e false refl) refl
 
@@ -406,7 +406,7 @@ pieces_listed table p t0 t1 t2 t3 t4 e0 e1 e2 states start z a b c d e y f g h =
           rw (h s, g s, f s, ez) refl;
     }
 
-same_below : (byte hi : ℕ) → hi ≡ 255 → leb byte hi ≡ ltb byte 256
+pub same_below : (byte hi : ℕ) → hi ≡ 255 → leb byte hi ≡ ltb byte 256
 same_below byte hi h = elim (cases_lt byte 256) [
   | inl l ↦ le-leb byte hi (omega arith) ∙ sym (lt-ltb byte 256 l)
   | inr l ↦ lt-leb byte hi (omega arith) ∙ sym (le-ltb byte 256 l)
@@ -423,3 +423,10 @@ rest_added old new m state e f l h t o s byte =
 pub stop_added : (old new : List TableEnd) (e : TableEnd) (state : ℕ) → new ≡ old ++ e ∷ [] → e.state ≡ state → e.out.items ≡ [] → AddsStop old new state
 stop_added old new e state eq f o s =
     rw eq (stops-append old (e ∷ []) s ∙ rw (f, o) refl)
+
+-- a move by every byte, which puts out the byte or nothing
+pub step_added : (old new : List TableMove) (m : TableMove) (from to : ℕ) (out : List Out) → new ≡ old ++ m ∷ [] → m.from ≡ from → m.range.lo ≡ 0 → m.range.hi ≡ 255 → m.to ≡ to → m.out.items ≡ out → AddsTurns old new from (λ byte. (to, out))
+step_added old new m from to out e f l h t o s byte =
+    let lo : leb m.range.lo byte ≡ true = le-leb m.range.lo byte (omega arith) in
+    let hi : leb byte m.range.hi ≡ ltb byte 256 = same_below byte m.range.hi h in
+    rw e (choices-append old (m ∷ []) s byte ∙ rw (lo, hi, f, t, o) refl)

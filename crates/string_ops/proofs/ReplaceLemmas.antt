@@ -1,7 +1,9 @@
 -- The machine that replaces a pattern follows `replaced_text`.
 use Rattle.std.proofs.Common.{◌≡◌, ◌==◌, ℕ, zero, suc, ◌+◌, ◌-◌, ◌*◌, ◌<◌, ◌≤◌, ◌↔◌, ◌⊎◌, inl, inr, Bool, true, false, IsTrue, List, [], ◌∷◌, ◌++◌, length, take, drop, map, All, cond, refl, sym, ◌∙◌, ap, subst, arith, append-nil, append_assoc}
 use Rattle.std.proofs.lemmas.Bool.{cases_Bool, cases_eq, cases_lt, eq-eqb, ne_eqb, lt-ltb, le-ltb, le-leb, cond-true}
-use Rattle.std.proofs.lemmas.List.{length-map, length-take, length-take-le, length-append}
+use Rattle.std.proofs.Common.{Result, IfOk}
+use Rattle.text_base.specs.declared.memory.NoMemory.{NoMemory}
+use Rattle.std.proofs.lemmas.List.{nil_from_length, length-map, length-take, length-take-le, length-append}
 use Rattle.std.proofs.lemmas.List.Elements.{All-cons, All-nil, All-same}
 use Rattle.std.specs.List.{list_all}
 use Rattle.string_functions.specs.Pieces.{replaced_text}
@@ -146,3 +148,11 @@ replace_is_machine table (c ∷ search) with h listed =
     let p : List ℕ = c ∷ search in
     listed_machine table (length p) (replace_rows p with) (replace_lasts p) (length p + length with) (λ input output. output ≡ replaced_text p with input) listed (replace_small p with (length p + length with + 8) (omega arith) (omega arith)) (omega arith)
     (λ input output bytes. follows_function (replace_rows p with) (replace_lasts p) (λ s. s < length p) (λ s text. replaced_text p with (take s p ++ text)) (replace_function c search with) 0 h input output bytes)
+
+-- where the search is empty nothing is replaced
+pub same_replaces : (r : Result Table NoMemory) (p with : List ℕ) (size : ℕ) → length p ≡ 0 → size ≡ length with → IfOk r (λ t. IsMachine t size (λ input output. output ≡ input)) → IfOk r (λ t. IsMachine t (length p + length with) (λ input output. output ≡ replaced_text p with input))
+same_replaces r p with size z e h =
+    let empty : p ≡ [] = nil_from_length p z in
+    let s : size ≡ 0 + length with = omega (arith, e) in
+    subst (λ (x : List ℕ). IfOk r (λ t. IsMachine t (length x + length with) (λ input output. output ≡ replaced_text x with input))) (sym empty)
+    (subst (λ (n : ℕ). IfOk r (λ t. IsMachine t n (λ input output. output ≡ input))) s h)

@@ -27,7 +27,7 @@ cond_append : {A : Type 0} (b : Bool) (x : A) (xs ys : List A) → cond b (x ∷
 cond_append true x xs ys = refl
 cond_append false x xs ys = refl
 
-within_none : (base s : ℕ) → is_within base 0 s ≡ false
+pub within_none : (base s : ℕ) → is_within base 0 s ≡ false
 within_none base s = elim (cases_lt s base) [
   | inl h ↦ rw (lt-leb base s h) refl
   | inr h ↦ rw (le-ltb s (base + 0) (omega arith)) (and_right (leb base s) false refl)
@@ -119,7 +119,7 @@ pub search_none : (old : List TableMove) (base : ℕ) (by : ℕ → ℕ → ℕ 
 search_none old base by s byte =
     rw (within_none base s) (sym (append-nil (choices old s byte)))
 
-state_more : {X : Type 0} (base count own s : ℕ) (byte : Bool) (xs ys zs : List X) → own ≡ base + count → (own ≡ s → xs ≡ ys) → (zs ++ cond (is_within base count s && byte) xs []) ++ cond (own == s && byte) ys [] ≡ zs ++ cond (is_within base (count + 1) s && byte) xs []
+pub state_more : {X : Type 0} (base count own s : ℕ) (byte : Bool) (xs ys zs : List X) → own ≡ base + count → (own ≡ s → xs ≡ ys) → (zs ++ cond (is_within base count s && byte) xs []) ++ cond (own == s && byte) ys [] ≡ zs ++ cond (is_within base (count + 1) s && byte) xs []
 state_more {X} base count own s byte xs ys zs e same = elim (cases_eq own s) [
   | inl q ↦
       rw (le-ltb s (base + count) (omega arith), le-leb base s (omega arith), lt-ltb s (base + (count + 1)) (omega arith), eq-eqb own s q, same q, append-nil zs) refl

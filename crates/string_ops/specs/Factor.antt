@@ -6,7 +6,8 @@ use Rattle.string_ops.specs.Listed.{Rows, Lasts}
 
 abbrev pub factor_rows : Rows
 factor_rows s byte =
-    (if 0 == s then (0, []) ∷ (1, Same ∷ []) ∷ [] else []) ++ (if 1 == s then (1, Same ∷ []) ∷ (2, []) ∷ [] else []) ++ (if 2 == s then (2, []) ∷ [] else [])
+    (if 0 == s then (0, []) ∷ [] else []) ++ (if 0 == s then (1, Same ∷ []) ∷ [] else []) ++ (if 1 == s then (1, Same ∷ []) ∷ [] else []) ++ (if 1 == s then (2, []) ∷ [] else [])
+    ++ (if 2 == s then (2, []) ∷ [] else [])
 
 abbrev pub factor_lasts : Lasts
 factor_lasts s = (if 0 == s then [] ∷ [] else []) ++ (if 1 == s then [] ∷ [] else []) ++ (if 2 == s then [] ∷ [] else [])

@@ -1,4 +1,5 @@
 pub mod Listed
+pub mod HasMachine
 pub mod Same
 pub mod Plans
 pub mod Bytewise

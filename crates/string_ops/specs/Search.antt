@@ -52,3 +52,7 @@ AddsEnds old new base count pattern =
 -- the text may end in the state, and nothing is put out
 abbrev pub AddsStop : List TableEnd → List TableEnd → ℕ → Type 0
 AddsStop old new state = (s : ℕ) → stops new s ≡ stops old s ++ (if state == s then [] ∷ [] else [])
+
+-- the text may end in each of the first states, and nothing is put out
+abbrev pub AddsStops : List TableEnd → List TableEnd → ℕ → Type 0
+AddsStops old new count = (s : ℕ) → stops new s ≡ stops old s ++ (if is_within 0 count s then [] ∷ [] else [])

@@ -7,9 +7,11 @@
 mod breaks;
 mod bytewise;
 mod cut_back;
+mod factor;
 mod failure;
 mod first;
 mod html;
+mod machine;
 mod outs;
 mod piece;
 mod plan;
@@ -17,3 +19,5 @@ mod replace;
 mod same;
 mod search;
 mod trim;
+
+pub use machine::machine_of;

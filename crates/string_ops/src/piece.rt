@@ -78,7 +78,7 @@ fn add_rest(alloc: Global, table: &mut Table, state: u64) -> Result<(), NoMemory
 }
 
 /// Lets the text end in a state, and puts out nothing there.
-fn stop_silently(alloc: Global, table: &mut Table, state: u64) -> Result<(), NoMemory>
+pub(crate) fn stop_silently(alloc: Global, table: &mut Table, state: u64) -> Result<(), NoMemory>
     requires { state < table.old.states }
     ensures ends { OnOk result (AddsStop table.old.ends.items table.new.ends.items state) }
     ensures states { table.new.states ≡ table.old.states }
