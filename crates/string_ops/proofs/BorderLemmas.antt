@@ -101,14 +101,14 @@ longest_is p at byte (suc most) l m =
           let is : longest_front p at byte (suc most) ≡ longest_front p at byte most = cond-false test (suc most) (longest_front p at byte most) f in
           let i = ih.within in
           subst (λ (x : ℕ). IsLongest p at byte (suc most) x) (sym is) (
-            record {
-              within = omega (arith, i);
-              ends = ih.ends;
-              longest = λ other h g. elim (cases_eq other (suc most)) [
-                | inl eq ↦ absurd (false≢true (sym f ∙ decides.1 (subst (λ (x : ℕ). Ends p at byte x) eq g ∙ ap (λ (k : ℕ). drop k (take at p ++ byte ∷ [])) s)))
-                | inr ne ↦ ih.longest other (omega arith) g
-              ];
-            }
+          record {
+            within = omega (arith, i);
+            ends = ih.ends;
+            longest = λ other h g. elim (cases_eq other (suc most)) [
+              | inl eq ↦ absurd (false≢true (sym f ∙ decides.1 (subst (λ (x : ℕ). Ends p at byte x) eq g ∙ ap (λ (k : ℕ). drop k (take at p ++ byte ∷ [])) s)))
+              | inr ne ↦ ih.longest other (omega arith) g
+            ];
+          }
           )
     ]
 

@@ -200,6 +200,7 @@ noted_all p at row l n byte h = elim (cases_eq (get_or row byte 0) 0) [
             let q : suc i ≡ i + 1 = omega arith in
             let r = ends_parts p at i byte l (omega arith) (subst (λ (k : ℕ). Ends p at byte k) q e) in
             absurd (n.unread byte h z i (omega arith) (omega arith) r.0 r.1)
+
     found : (i : ℕ) → IsBorder p at i → get_or p i 0 ≡ byte → ((other : ℕ) → i < other → other ≤ at → IsBorder p at other → get_or p other 0 ≡ byte → ⊥) → IsNext p at byte (i + 1)
     found i b e above = record { within = omega (arith, b.0); ends = ends_from p at i byte l b e; longest = longest }
       where

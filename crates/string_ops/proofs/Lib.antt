@@ -10,6 +10,7 @@ pub mod FirstLemmas
 pub mod Relations
 pub mod TrimLemmas
 pub mod HtmlLemmas
+pub mod CutBackLemmas
 pub mod BorderLemmas
 pub mod FailureLemmas
 pub mod SearchLemmas

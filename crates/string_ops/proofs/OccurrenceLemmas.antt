@@ -68,20 +68,20 @@ none_gone p at byte part rest h is less i l =
     let n : length w ≡ at + 1 = length_read p at byte (omega arith) in
     let front : length (gone p at byte part) ≡ at + 1 - part = length-take-le (at + 1 - part) w (omega arith) in
     let whole : drop i (gone p at byte part) ++ (take part p ++ rest) ≡ drop i w ++ rest =
-      sym (append_assoc (drop i (gone p at byte part)) (take part p) rest)
-      ∙ ap (λ (x : List ℕ). x ++ rest) (sym (drop-append-le i (gone p at byte part) (take part p) (omega arith)) ∙ ap (drop i) (sym (read_splits p at byte part is.ends))) in
+    sym (append_assoc (drop i (gone p at byte part)) (take part p) rest)
+    ∙ ap (λ (x : List ℕ). x ++ rest) (sym (drop-append-le i (gone p at byte part) (take part p) (omega arith)) ∙ ap (drop i) (sym (read_splits p at byte part is.ends))) in
     false_from_ne_true (starts_with nat_eq (drop i (gone p at byte part) ++ (take part p ++ rest)) p) (λ t.
-        let s : starts_with nat_eq (drop i w ++ rest) p ≡ true = ap (λ (x : List ℕ). starts_with nat_eq x p) (sym whole) ∙ t in
-        let e : drop i w ++ rest ≡ p ++ drop (length p) (drop i w ++ rest) = starts_with-splits (drop i w ++ rest) p s in
-        let k : ℕ = at + 1 - i in
-        let m : length (drop i w) ≡ k = length-drop i w ∙ ap (λ (x : ℕ). x - i) n in
-        let low : k ≤ length p = omega arith in
-        let a : take k (drop i w ++ rest) ≡ drop i w = take_at (drop i w) rest k m in
-        let b : take k (p ++ drop (length p) (drop i w ++ rest)) ≡ take k p = take-append-le k p (drop (length p) (drop i w ++ rest)) low in
-        let ends : Ends p at byte k =
-          sym b ∙ ap (take k) (sym e) ∙ a ∙ ap (λ (x : ℕ). drop x w) (let z : i ≡ at + 1 - k = omega arith in z) in
-        let most = is.longest k (omega arith) ends in
-        omega (arith, most))
+    let s : starts_with nat_eq (drop i w ++ rest) p ≡ true = ap (λ (x : List ℕ). starts_with nat_eq x p) (sym whole) ∙ t in
+    let e : drop i w ++ rest ≡ p ++ drop (length p) (drop i w ++ rest) = starts_with-splits (drop i w ++ rest) p s in
+    let k : ℕ = at + 1 - i in
+    let m : length (drop i w) ≡ k = length-drop i w ∙ ap (λ (x : ℕ). x - i) n in
+    let low : k ≤ length p = omega arith in
+    let a : take k (drop i w ++ rest) ≡ drop i w = take_at (drop i w) rest k m in
+    let b : take k (p ++ drop (length p) (drop i w ++ rest)) ≡ take k p = take-append-le k p (drop (length p) (drop i w ++ rest)) low in
+    let ends : Ends p at byte k =
+    sym b ∙ ap (take k) (sym e) ∙ a ∙ ap (λ (x : ℕ). drop x w) (let z : i ≡ at + 1 - k = omega arith in z) in
+    let most = is.longest k (omega arith) ends in
+    omega (arith, most))
 
 -- the pattern is whole just where the text read is the pattern
 pub whole_read : (p : List ℕ) (at byte : ℕ) → at < length p → IsNext p at byte (length p) → take at p ++ byte ∷ [] ≡ p

@@ -186,8 +186,7 @@ pieces_end c sep =
           let e = ends_one rows lasts 0 [] out (lasts_zero p) in
           (λ h. subst (λ (x : List ℕ). Contains ([] ∷ []) x) (e.0 h) (in_one []), λ h. e.1 (sym (one_in [] out h)));
       before = λ at h out.
-          let none : others_of (after_front p at []) ≡ [] = ap others_of (front_end c sep at h) in
-          (
+          let none : others_of (after_front p at []) ≡ [] = ap others_of (front_end c sep at h) in (
             λ f. absurd (ends_none rows lasts (1 + at) out (lasts_before p at h) f),
             λ f. absurd (none_in out (subst (λ (x : List (List ℕ)). Contains x out) none f)),
           );
@@ -263,8 +262,7 @@ pieces_step c sep byte text ih =
           let b = step_before c sep byte text out 0 z ih in
           let i = step_inside c sep byte text out 0 z ih in
           let whole = front_cons c sep 0 (byte ∷ text) in
-          let pieces = after_front p 0 (byte ∷ text) in
-          (
+          let pieces = after_front p 0 (byte ∷ text) in (
             λ f. subst (λ (x : List (List ℕ)). Contains x out) (sym whole) (elim (two.0 f) [
               | inl g ↦ in_tail (first_of pieces) (others_of pieces) out (b.0 g)
               | inr g ↦ subst (λ (x : List ℕ). Contains (first_of pieces ∷ others_of pieces) x) (sym (i.0 g)) (in_head (first_of pieces) (others_of pieces))

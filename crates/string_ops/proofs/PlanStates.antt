@@ -30,23 +30,28 @@ turn_from_row old new from named actions states row adds is s byte =
     both_empty xs ys true = refl
     both_empty xs ys false = refl
 
--- at most two are the first and the second
-two_turns : (A : Type 0) (xs : List A) → length xs ≤ 2 → option_to_list (slice_get xs 0) ++ option_to_list (slice_get xs 1) ≡ xs
-two_turns A [] h = refl
-two_turns A (x ∷ []) h = refl
-two_turns A (x ∷ y ∷ []) h = refl
-two_turns A (x ∷ y ∷ z ∷ xs) h = absurd (omega (arith, h))
+-- at most three are the first, the second and the third
+three_turns : (A : Type 0) (xs : List A) → length xs ≤ 3 → (option_to_list (slice_get xs 0) ++ option_to_list (slice_get xs 1)) ++ option_to_list (slice_get xs 2) ≡ xs
+three_turns A [] h = refl
+three_turns A (x ∷ []) h = refl
+three_turns A (x ∷ y ∷ []) h = refl
+three_turns A (x ∷ y ∷ z ∷ []) h = refl
+three_turns A (x ∷ y ∷ z ∷ w ∷ xs) h = absurd (omega (arith, h))
 
 cond_two : {A : Type 0} (b : Bool) (old xs ys : List A) → (old ++ cond b xs []) ++ cond b ys [] ≡ old ++ cond b (xs ++ ys) []
 cond_two true old xs ys = append_assoc old xs ys
 cond_two false old xs ys = append-nil (old ++ [])
 
-pub turns : (old mid new : List TableMove) (from : ℕ) (row : ℕ → List (ℕ × List Out)) → AddsTurn old mid from (λ byte. slice_get (row byte) 0) → AddsTurn mid new from (λ byte. slice_get (row byte) 1) → ((byte : ℕ) → length (row byte) ≤ 2) → (s byte : ℕ) → choices new s byte ≡ choices old s byte ++ (if from == s && nat_lt byte 256 then row byte else [])
-turns old mid new from row one two few s byte =
-    two s byte
-    ∙ ap (λ xs. xs ++ cond (from == s && nat_lt byte 256) (option_to_list (slice_get (row byte) 1)) []) (one s byte)
-    ∙ cond_two (from == s && nat_lt byte 256) (choices old s byte) (option_to_list (slice_get (row byte) 0)) (option_to_list (slice_get (row byte) 1))
-    ∙ ap (λ xs. choices old s byte ++ cond (from == s && nat_lt byte 256) xs []) (two_turns (ℕ × List Out) (row byte) (few byte))
+pub turns : (old mid later new : List TableMove) (from : ℕ) (row : ℕ → List (ℕ × List Out)) → AddsTurn old mid from (λ byte. slice_get (row byte) 0) → AddsTurn mid later from (λ byte. slice_get (row byte) 1) → AddsTurn later new from (λ byte. slice_get (row byte) 2) → ((byte : ℕ) → length (row byte) ≤ 3) → (s byte : ℕ) → choices new s byte ≡ choices old s byte ++ (if from == s && nat_lt byte 256 then row byte else [])
+turns old mid later new from row one two three few s byte =
+    let here = from == s && nat_lt byte 256 in
+    let first = option_to_list (slice_get (row byte) 0) in
+    let second = option_to_list (slice_get (row byte) 1) in
+    let third = option_to_list (slice_get (row byte) 2) in
+    three s byte
+    ∙ ap (λ xs. xs ++ cond here third []) (two s byte ∙ ap (λ xs. xs ++ cond here second []) (one s byte) ∙ cond_two here (choices old s byte) first second)
+    ∙ cond_two here (choices old s byte) (first ++ second) third
+    ∙ ap (λ xs. choices old s byte ++ cond here xs []) (three_turns (ℕ × List Out) (row byte) (few byte))
 
 pub stops-append : (xs ys : List TableEnd) (s : ℕ) → stops (xs ++ ys) s ≡ stops xs s ++ stops ys s
 stops-append [] ys s = refl

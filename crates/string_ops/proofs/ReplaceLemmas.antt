@@ -70,17 +70,17 @@ replace_step c search with at byte text h =
           let full : IsNext p at byte (length p) = subst (λ (n : ℕ). IsNext p at byte n) e is in
           let read : take at p ++ byte ∷ [] ≡ p = whole_read p at byte h full in
           rw (turn_full p with at part e) (
-            ap (λ (x : List ℕ). x ++ replaced_text p with text) (put_bytes byte with)
-            ∙ sym (replaced_text-occurrence c search with text) ∙ ap (λ (x : List ℕ). replaced_text p with (x ++ text)) (sym read) ∙ ap (replaced_text p with) (sym whole)
+          ap (λ (x : List ℕ). x ++ replaced_text p with text) (put_bytes byte with)
+          ∙ sym (replaced_text-occurrence c search with text) ∙ ap (λ (x : List ℕ). replaced_text p with (x ++ text)) (sym read) ∙ ap (replaced_text p with) (sym whole)
           )
       | inr ne ↦
           let less : part < length p = omega (arith, most) in
           let none : NoneIn p (gone p at byte part) (take part p ++ text) = none_gone p at byte part text h is less in
           let zero_part : 0 + part ≡ part = omega arith in
           rw (turn_less p with at part ne, zero_part) (
-            ap (λ (x : List ℕ). x ++ replaced_text p with (take part p ++ text)) (put_gone p at byte part h is.within)
-            ∙ sym (replaced_front c search with (gone p at byte part) (take part p ++ text) none)
-            ∙ ap (replaced_text p with) (sym (append_assoc (gone p at byte part) (take part p) text) ∙ ap (λ (x : List ℕ). x ++ text) (sym (read_splits p at byte part is.ends)) ∙ sym whole)
+          ap (λ (x : List ℕ). x ++ replaced_text p with (take part p ++ text)) (put_gone p at byte part h is.within)
+          ∙ sym (replaced_front c search with (gone p at byte part) (take part p ++ text) none)
+          ∙ ap (replaced_text p with) (sym (append_assoc (gone p at byte part) (take part p) text) ∙ ap (λ (x : List ℕ). x ++ text) (sym (read_splits p at byte part is.ends)) ∙ sym whole)
           )
     ]
 

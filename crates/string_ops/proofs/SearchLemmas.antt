@@ -95,8 +95,8 @@ turning_more mid old new from by row i own part t e is adds =
           adds s byte ∙ ap (λ (x : List (ℕ × List Out)). x ++ cond (from == s && ((leb own byte && leb byte own) && not (part == 0))) (by part ∷ []) []) (t.built s byte)
           ∙ turn_byte (from == s) byte i own (not (slice_index row byte == 0)) (not (part == 0)) (by (slice_index row byte) ∷ []) (by part ∷ []) (choices mid s byte) e
           (λ q.
-              let same : slice_index row byte ≡ part = ap (slice_index row) q ∙ sym is in
-              (ap (λ (n : ℕ). not (n == 0)) same, ap (λ (n : ℕ). by n ∷ []) same));
+          let same : slice_index row byte ≡ part = ap (slice_index row) q ∙ sym is in
+          (ap (λ (n : ℕ). not (n == 0)) same, ap (λ (n : ℕ). by n ∷ []) same));
     }
 
 turn_either : (test inside : Bool) (z : Bool) (first other : List (ℕ × List Out)) (xs zs : List (ℕ × List Out)) → (inside ≡ true → z ≡ true → first ≡ xs) → (inside ≡ true → z ≡ false → other ≡ xs) → (zs ++ cond (test && (inside && z)) first []) ++ cond (test && (inside && not z)) other [] ≡ zs ++ cond (test && inside) xs []
@@ -150,10 +150,10 @@ ends_none old base pattern s = rw (within_none base s) (sym (append-nil (stops o
 pub ends_more : (old mid new : List TableEnd) (base count : ℕ) (pattern : List ℕ) (e : TableEnd) → e.state ≡ base + count → e.out.items ≡ map Byte (take count pattern) → AddsEnds old mid base count pattern → new ≡ mid ++ e ∷ [] → AddsEnds old new base (count + 1) pattern
 ends_more old mid new base count pattern e state out before eq s =
     let one : stops new s ≡ stops mid s ++ cond (e.state == s && true) (map Byte (take count pattern) ∷ []) [] =
-      ap (λ (x : List TableEnd). stops x s) eq ∙ stops-append mid (e ∷ []) s ∙ ap (λ (b : Bool). stops mid s ++ cond b (e.out.items ∷ []) []) (sym (and_true (e.state == s)))
-      ∙ ap (λ (x : List Out). stops mid s ++ cond (e.state == s && true) (x ∷ []) []) out in
+    ap (λ (x : List TableEnd). stops x s) eq ∙ stops-append mid (e ∷ []) s ∙ ap (λ (b : Bool). stops mid s ++ cond b (e.out.items ∷ []) []) (sym (and_true (e.state == s)))
+    ∙ ap (λ (x : List Out). stops mid s ++ cond (e.state == s && true) (x ∷ []) []) out in
     let was : stops mid s ≡ stops old s ++ cond (is_within base count s && true) (map Byte (take (s - base) pattern) ∷ []) [] =
-      before s ∙ ap (λ (b : Bool). stops old s ++ cond b (map Byte (take (s - base) pattern) ∷ []) []) (sym (and_true (is_within base count s))) in
+    before s ∙ ap (λ (b : Bool). stops old s ++ cond b (map Byte (take (s - base) pattern) ∷ []) []) (sym (and_true (is_within base count s))) in
     one ∙ ap (λ (x : List (List Out)). x ++ cond (e.state == s && true) (map Byte (take count pattern) ∷ []) []) was
     ∙ state_more base count e.state s true (map Byte (take (s - base) pattern) ∷ []) (map Byte (take count pattern) ∷ []) (stops old s) state
     (λ q. let k : s - base ≡ count = omega arith in ap (λ (n : ℕ). map Byte (take n pattern) ∷ []) k)

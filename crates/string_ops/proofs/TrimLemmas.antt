@@ -35,10 +35,10 @@ at_state P s inside zero one two three =
     ]
 
 -- the one element of a list
-only : {A : Type 0} (P : A → Type 0) (x y : A) → Contains (x ∷ []) y → P x → P y
+pub only : {A : Type 0} (P : A → Type 0) (x y : A) → Contains (x ∷ []) y → P x → P y
 only P x y h p = elim (Contains-cons_cases x [] y h) [ inl e ↦ subst P e p | inr none ↦ Contains-nil y none ]
 
-either : {A : Type 0} (P : A → Type 0) (x z y : A) → Contains (x ∷ z ∷ []) y → P x → P z → P y
+pub either : {A : Type 0} (P : A → Type 0) (x z y : A) → Contains (x ∷ z ∷ []) y → P x → P z → P y
 either P x z y h p q = elim (Contains-cons_cases x (z ∷ []) y h) [ inl e ↦ subst P e p | inr later ↦ only P z y later q ]
 
 -- a byte that stays is not stripped from the end

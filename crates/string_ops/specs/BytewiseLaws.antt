@@ -10,8 +10,8 @@ use Rattle.string_ops.specs.Bytewise.{bytewise_rows, bytewise_lasts, outs_of}
 pub some_state : 0 < 1
 some_state = omega arith
 
-pub two_choices : (kind : Bytewise) (s byte : ℕ) → length (bytewise_rows kind s byte) ≤ 2
-two_choices kind s byte = cond_both (s == 0) _ _ (λ (cs : List (ℕ × List Out)). length cs ≤ 2) (λ _. omega arith) (λ _. omega arith)
+pub three_choices : (kind : Bytewise) (s byte : ℕ) → length (bytewise_rows kind s byte) ≤ 3
+three_choices kind s byte = cond_both (s == 0) _ _ (λ (cs : List (ℕ × List Out)). length cs ≤ 3) (λ _. omega arith) (λ _. omega arith)
 
 pub choices_within : (kind : Bytewise) (s byte : ℕ) → s < 1 → byte < 256 → list_all (λ choice. nat_lt choice.0 1) (bytewise_rows kind s byte) ≡ true
 choices_within kind s byte inside below = cond_both (s == 0) _ _ (λ (cs : List (ℕ × List Out)). list_all (λ choice. nat_lt choice.0 1) cs ≡ true) (λ _. refl) (λ _. refl)

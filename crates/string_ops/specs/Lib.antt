@@ -16,3 +16,5 @@ pub mod Replace
 pub mod Piece
 pub mod Factor
 pub mod Cut
+pub mod CutBack
+pub mod CutBackLaws

@@ -23,8 +23,8 @@ AreFixed outs = list_all (λ out. list_all is_fixed out) outs ≡ true
 pub some_states : (n : ℕ) → 0 < n + 1
 some_states n = omega arith
 
-pub breaks_two : (s b : ℕ) → length (breaks_rows s b) ≤ 2
-breaks_two s b = plan.two 3 breaks_row (λ n c. omega arith) s b
+pub breaks_three : (s b : ℕ) → length (breaks_rows s b) ≤ 3
+breaks_three s b = plan.three 3 breaks_row (λ n c. omega arith) s b
 
 pub breaks_within : (s b : ℕ) → list_all (λ choice. nat_lt choice.0 3) (breaks_rows s b) ≡ true
 breaks_within s b =
@@ -37,8 +37,8 @@ breaks_one s = plan.one 3 breaks_last (λ n. omega arith) s
 pub breaks_fixed : (s : ℕ) → list_all (λ out. list_all is_fixed out) (breaks_lasts s) ≡ true
 breaks_fixed s = plan.fixed 3 breaks_last (λ n. refl) s
 
-pub first_two : (s b : ℕ) → length (first_rows s b) ≤ 2
-first_two s b = plan.two 2 first_row (λ n c. omega arith) s b
+pub first_three : (s b : ℕ) → length (first_rows s b) ≤ 3
+first_three s b = plan.three 2 first_row (λ n c. omega arith) s b
 
 pub first_within : (s b : ℕ) → list_all (λ choice. nat_lt choice.0 2) (first_rows s b) ≡ true
 first_within s b = plan.within 2 first_row (λ t c. refl) s b
@@ -55,9 +55,9 @@ trim_row_by P none front kept promise tail both left right s b =
     cond_both (s == 0) _ _ P (λ _. cond_both left _ _ P (λ _. cond_both (is_stripped b) _ _ P (λ _. front) (λ _. kept)) (λ _. at_kept))
     (λ _. cond_both (s == 1) _ _ P (λ _. at_kept) (λ _. cond_both (s == 2) _ _ P (λ _. cond_both (is_stripped b) _ _ P (λ _. promise) (λ _. kept)) (λ _. cond_both (is_stripped b) _ _ P (λ _. tail) (λ _. none))))
 
-pub trim_two : (left right : Bool) (s b : ℕ) → length (trim_rows left right s b) ≤ 2
-trim_two left right s b =
-    plan.two 4 (trim_row left right) (λ n c. trim_row_by (λ row. length row ≤ 2) (omega arith) (omega arith) (omega arith) (omega arith) (omega arith) (omega arith) left right n c) s b
+pub trim_three : (left right : Bool) (s b : ℕ) → length (trim_rows left right s b) ≤ 3
+trim_three left right s b =
+    plan.three 4 (trim_row left right) (λ n c. trim_row_by (λ row. length row ≤ 3) (omega arith) (omega arith) (omega arith) (omega arith) (omega arith) (omega arith) left right n c) s b
 
 pub trim_within : (left right : Bool) (s b : ℕ) → list_all (λ choice. nat_lt choice.0 4) (trim_rows left right s b) ≡ true
 trim_within left right s b =
@@ -77,9 +77,9 @@ utf8_by P none to0 to1 to2 to3 to4 to5 to6 to7 s b =
     cond_both (nat_lt b 0x80) _ _ P (λ _. to0) (λ _. cond_both (nat_lt b 0xC2) _ _ P (λ _. none) (λ _. cond_both (nat_lt b 0xE0) _ _ P (λ _. to1) (λ _. cond_both (b == 0xE0) _ _ P (λ _. to4) (λ _. cond_both (b == 0xED) _ _ P (λ _. to5) (λ _. cond_both (nat_lt b 0xF0) _ _ P (λ _. to2) (λ _. cond_both (b == 0xF0) _ _ P (λ _. to6) (λ _. cond_both (nat_lt b 0xF4) _ _ P (λ _. to3) (λ _. cond_both (b == 0xF4) _ _ P (λ _. to7) (λ _. none))))))))) in
     cond_both (s == 0) _ _ P (λ _. first) (λ _. cond_both (s == 1) _ _ P (λ _. between 0x80 0xBF 0 to0) (λ _. cond_both (s == 2) _ _ P (λ _. between 0x80 0xBF 1 to1) (λ _. cond_both (s == 3) _ _ P (λ _. between 0x80 0xBF 2 to2) (λ _. cond_both (s == 4) _ _ P (λ _. between 0xA0 0xBF 1 to1) (λ _. cond_both (s == 5) _ _ P (λ _. between 0x80 0x9F 1 to1) (λ _. cond_both (s == 6) _ _ P (λ _. between 0x90 0xBF 2 to2) (λ _. cond_both (s == 7) _ _ P (λ _. between 0x80 0x8F 2 to2) (λ _. none))))))))
 
-pub html_two : (s b : ℕ) → length (html_rows s b) ≤ 2
-html_two s b =
-    plan.two 8 html_row (λ n c. utf8_by (λ o. length (html_choice o (html_put c)) ≤ 2) (omega arith) (omega arith) (omega arith) (omega arith) (omega arith) (omega arith) (omega arith) (omega arith) (omega arith) n c) s b
+pub html_three : (s b : ℕ) → length (html_rows s b) ≤ 3
+html_three s b =
+    plan.three 8 html_row (λ n c. utf8_by (λ o. length (html_choice o (html_put c)) ≤ 3) (omega arith) (omega arith) (omega arith) (omega arith) (omega arith) (omega arith) (omega arith) (omega arith) (omega arith) n c) s b
 
 pub html_within : (s b : ℕ) → list_all (λ choice. nat_lt choice.0 8) (html_rows s b) ≡ true
 html_within s b =

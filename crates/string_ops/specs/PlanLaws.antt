@@ -13,8 +13,8 @@ no_rows states rows s byte past = rw (le-ltb s states past) refl
 pub no_lasts : (states : ℕ) (lasts : Lasts) (s : ℕ) → states ≤ s → lasts_below states lasts s ≡ []
 no_lasts states lasts s past = rw (le-ltb s states past) refl
 
-pub two : (states : ℕ) (rows : Rows) → ((s byte : ℕ) → length (rows s byte) ≤ 2) → (s byte : ℕ) → length (rows_below states rows s byte) ≤ 2
-two states rows few s byte = cond_both (nat_lt s states) _ _ (λ (cs : List (ℕ × List Out)). length cs ≤ 2) (λ _. few s byte) (λ _. omega arith)
+pub three : (states : ℕ) (rows : Rows) → ((s byte : ℕ) → length (rows s byte) ≤ 3) → (s byte : ℕ) → length (rows_below states rows s byte) ≤ 3
+three states rows few s byte = cond_both (nat_lt s states) _ _ (λ (cs : List (ℕ × List Out)). length cs ≤ 3) (λ _. few s byte) (λ _. omega arith)
 
 pub within : (states : ℕ) (rows : Rows) → ((s byte : ℕ) → list_all (λ choice. nat_lt choice.0 states) (rows s byte) ≡ true) → (s byte : ℕ) → list_all (λ choice. nat_lt choice.0 states) (rows_below states rows s byte) ≡ true
 within states rows inside s byte = cond_both (nat_lt s states) _ _ (λ (cs : List (ℕ × List Out)). list_all (λ choice. nat_lt choice.0 states) cs ≡ true) (λ _. inside s byte) (λ _. refl)

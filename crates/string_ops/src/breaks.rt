@@ -33,7 +33,7 @@ impl Plan for Breaks {
 
     ghost some = { λ _. laws.some_states 2 };
 
-    ghost two = { λ _. laws.breaks_two };
+    ghost three = { λ _. laws.breaks_three };
 
     ghost within = { λ _ s byte inside below. laws.breaks_within s byte };
 

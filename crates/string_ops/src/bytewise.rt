@@ -42,7 +42,7 @@ impl Plan for Bytewise {
 
     ghost some = { λ kind. laws.some_state };
 
-    ghost two = { laws.two_choices };
+    ghost three = { laws.three_choices };
 
     ghost within = { laws.choices_within };
 

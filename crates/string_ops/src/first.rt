@@ -33,7 +33,7 @@ impl Plan for First {
 
     ghost some = { λ _. laws.some_states 1 };
 
-    ghost two = { λ _. laws.first_two };
+    ghost three = { λ _. laws.first_three };
 
     ghost within = { λ _ s byte inside below. laws.first_within s byte };
 

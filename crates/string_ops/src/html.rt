@@ -30,7 +30,7 @@ impl Plan for Html {
 
     ghost some = { λ _. laws.some_states 7 };
 
-    ghost two = { λ _. laws.html_two };
+    ghost three = { λ _. laws.html_three };
 
     ghost within = { λ _ s byte inside below. laws.html_within s byte };
 

@@ -12,7 +12,7 @@ use fst_core::{Action, Out, Table, TableEnd};
 use std::alloc::Global;
 use text_base::NoMemory;
 
-/// A machine that is written down state by state, with at most two choices for a byte and at most
+/// A machine that is written down state by state, with at most three choices for a byte and at most
 /// one output at the end. It begins in the state 0.
 pub trait Plan {
     /// How many states there are.
@@ -30,7 +30,7 @@ pub trait Plan {
 
     ghost some: { (plan : Self) → 0 < states plan };
 
-    ghost two: { (plan : Self) (s byte : ℕ) → length (rows plan s byte) ≤ 2 };
+    ghost three: { (plan : Self) (s byte : ℕ) → length (rows plan s byte) ≤ 3 };
 
     ghost within: { (plan : Self) (s byte : ℕ) → s < states plan → byte < 256 → list_all (λ choice. nat_lt choice.0 (states plan)) (rows plan s byte) ≡ true };
 
@@ -193,6 +193,7 @@ fn add_state<P: Plan>(
 {
     add_turn(alloc, table, plan, state, 0)?;
     add_turn(alloc, table, plan, state, 1)?;
+    add_turn(alloc, table, plan, state, 2)?;
     add_last(alloc, table, plan, state)?;
     Ok(())
 }

@@ -54,12 +54,7 @@ fn let_go(alloc: Global, pattern: &[u8], at: usize, part: usize) -> Result<Vec<O
 }
 
 /// What is put out after a byte that does not make the pattern whole.
-fn shown_out(
-    alloc: Global,
-    search: &Search,
-    at: usize,
-    part: usize,
-) -> Result<Vec<Out>, NoMemory>
+fn shown_out(alloc: Global, search: &Search, at: usize, part: usize) -> Result<Vec<Out>, NoMemory>
     requires at { at < length search.now.pattern.now }
     requires part { part ≤ at + 1 }
     ensures { IfOk result (λ out. out.items ≡ (if search.now.shown then Rattle.string_ops.specs.Search.let_go search.now.pattern.now at part else [])) }
@@ -72,12 +67,7 @@ fn shown_out(
 }
 
 /// Where a search goes after a byte, and what it puts out.
-fn action_of(
-    alloc: Global,
-    search: &Search,
-    at: usize,
-    part: usize,
-) -> Result<Action, NoMemory>
+fn action_of(alloc: Global, search: &Search, at: usize, part: usize) -> Result<Action, NoMemory>
     requires at { at < length search.now.pattern.now }
     requires part { part ≤ at + 1 }
     requires room { search.now.base + length search.now.pattern.now < 2 ^ 64 }

@@ -35,7 +35,7 @@ impl Plan for Trim {
 
     ghost some = { λ _. laws.some_states 3 };
 
-    ghost two = { λ trim. laws.trim_two trim.left trim.right };
+    ghost three = { λ trim. laws.trim_three trim.left trim.right };
 
     ghost within = { λ trim s byte inside below. laws.trim_within trim.left trim.right s byte };
 

@@ -48,5 +48,5 @@ returns-clause-moves c =
     let by = turn search.pattern.now search.base (search.full_to, search.full_out.now) search.shown c.args.at in
     let done : c.loop-byte.byte ≡ 256 = omega arith in
     let first : AddsFirst c.args.table.now.moves.items c.add_first.new.table.moves.items c.args.from c.in_ok-row.row.items (by 0) =
-      rw (← c.as_slice.ensures.value, ← c.in_ok-nothing.ensures) c.in_ok-add_first.ensures.moves in
+    rw (← c.as_slice.ensures.value, ← c.in_ok-nothing.ensures) c.in_ok-add_first.ensures.moves in
     turning_all c.args.table.now.moves.items c.add_first.new.table.moves.items c.loop-byte.table.moves.items c.args.from search.pattern.now c.args.at by c.in_ok-row.row.items c.loop-byte.byte done first c.loop-byte.invariant.turning c.in_ok-row.ensures.exact
