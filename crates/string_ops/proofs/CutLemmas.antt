@@ -1,7 +1,11 @@
 -- The machines that cut follow `part_of`.
 use Rattle.std.proofs.Common.{◌≡◌, ◌==◌, ℕ, zero, suc, ◌+◌, ◌-◌, ◌*◌, ◌<◌, ◌≤◌, ◌↔◌, ◌⊎◌, inl, inr, Bool, true, false, ◌&&◌, List, [], ◌∷◌, ◌++◌, length, take, drop, map, All, Contains, cond, ltb, leb, pos, negsuc, Some, None, refl, sym, ◌∙◌, ap, subst, arith, append-nil, append_assoc}
+use Rattle.std.proofs.Common.{Option, Result, IfOk, ℤ, nat_abs}
+use lib.Signed.{lt_z}
+use Rattle.text_base.specs.declared.memory.NoMemory.{NoMemory}
+use Rattle.op_system.specs.Size.{size_of_length}
 use Rattle.std.proofs.Math.Seq.{drop-nil}
-use Rattle.std.proofs.lemmas.Bool.{cases_Bool, cases_eq, cases_lt, eq-eqb, ne_eqb, lt-ltb, le-ltb, le-leb, lt-leb, and_right, cond-true, cond-false}
+use Rattle.std.proofs.lemmas.Bool.{cases_Bool, cases_eq, cases_lt, eq-eqb, ne_eqb, lt-ltb, le-ltb, le-leb, lt-leb, and_right, cond-true, cond-false, false≢true}
 use Rattle.std.proofs.lemmas.List.{length-append, take_rest}
 use Rattle.std.proofs.lemmas.List.Elements.{All-append}
 use Rattle.string_functions.specs.Cut.{part_of}
@@ -13,7 +17,7 @@ use Rattle.fst_core.specs.declared.moves.TableEnd.{TableEnd}
 use Rattle.fst_core.specs.declared.table.Table.{Table}
 use Rattle.string_ops.specs.Listed.{Rows, Lasts, byte_of, Follows, IsShort, AreSmall, IsListed, IsMachine}
 use Rattle.string_ops.specs.Search.{is_within, AddsTurns, AddsSearch, AddsStop, AddsStops}
-use Rattle.string_ops.specs.Cut.{copy_if, count_turn, front_rows, front_lasts, middle_of, left_of, down_turn, inner_rows, inner_lasts}
+use Rattle.string_ops.specs.Cut.{is_negative, is_all, is_early, copy_if, count_turn, front_rows, front_lasts, middle_of, left_of, down_turn, inner_rows, inner_lasts}
 use Rattle.string_ops.proofs.ListedLemmas.{none_in, in_one, in_cons, in_head, in_tail, one_in, IsFunction, follows_function, listed_machine}
 use Rattle.string_ops.proofs.PieceLemmas.{follows_one, follows_two, ends_one, ends_none, all_part, few_part, short_nothing}
 use Rattle.string_ops.proofs.SearchLemmas.{state_more, within_none}
@@ -541,3 +545,61 @@ inner_is_machine table start below listed =
                 inl (omega arith, h ∙ take_zero (n - suc below - start) (drop start input) e)
           ]),
         ))
+
+below_zero : (n : ℤ) → lt_z n (pos 0) ≡ is_negative n
+below_zero (pos n) = le-ltb n 0 (omega arith)
+below_zero (negsuc n) = refl
+
+pub is_below : (n seen : ℤ) (answer : Bool) → seen ≡ n → answer ≡ lt_z seen (pos 0) → answer ≡ is_negative n
+is_below n seen answer e h = h ∙ ap (λ (x : ℤ). lt_z x (pos 0)) e ∙ below_zero n
+
+front_known : (r : Result Table NoMemory) (start : ℤ) (len : Option ℤ) (n : ℕ) → n ≡ nat_abs start → is_negative start ≡ false → IfOk r (λ t. IsMachine t (n + size_of_length len) (λ input output. output ≡ part_of input (pos n) len)) → IfOk r (λ t. IsMachine t (nat_abs start + size_of_length len) (λ input output. output ≡ part_of input start len))
+front_known r (pos k) len n q neg h = subst (λ (x : ℕ). IfOk r (λ t. IsMachine t (x + size_of_length len) (λ input output. output ≡ part_of input (pos x) len))) q h
+front_known r (negsuc k) len n q neg h = absurd (false≢true (sym neg))
+
+back_known : (r : Result Table NoMemory) (start : ℤ) (len : Option ℤ) (n : ℕ) → n ≡ nat_abs start → is_negative start ≡ true → IfOk r (λ t. IsMachine t (n - 1 + 1 + size_of_length len) (λ input output. output ≡ part_of input (negsuc (n - 1)) len)) → IfOk r (λ t. IsMachine t (nat_abs start + size_of_length len) (λ input output. output ≡ part_of input start len))
+back_known r (pos k) len n q neg h = absurd (false≢true neg)
+back_known r (negsuc k) len n q neg h =
+    let e : n - 1 ≡ k = omega (arith, q) in
+    let f : k + 1 + size_of_length len ≡ suc k + size_of_length len = omega arith in
+    subst (λ (x : ℕ). IfOk r (λ t. IsMachine t x (λ input output. output ≡ part_of input (negsuc k) len))) f
+    (subst (λ (x : ℕ). IfOk r (λ t. IsMachine t (x + 1 + size_of_length len) (λ input output. output ≡ part_of input (negsuc x) len))) e h)
+
+-- a start that is not negative, and one that is
+pub front_of : (r : Result Table NoMemory) (start seen : ℤ) (len : Option ℤ) (n : ℕ) (answer : Bool) → seen ≡ start → n ≡ nat_abs seen → answer ≡ is_negative seen → answer ≡ false → IfOk r (λ t. IsMachine t (n + size_of_length len) (λ input output. output ≡ part_of input (pos n) len)) → IfOk r (λ t. IsMachine t (nat_abs start + size_of_length len) (λ input output. output ≡ part_of input start len))
+front_of r start seen len n answer e f g a h = front_known r start len n (f ∙ ap nat_abs e) (ap is_negative (sym e) ∙ sym g ∙ a) h
+
+pub back_of : (r : Result Table NoMemory) (start seen : ℤ) (len : Option ℤ) (n : ℕ) (answer : Bool) → seen ≡ start → n ≡ nat_abs seen → answer ≡ is_negative seen → answer ≡ true → IfOk r (λ t. IsMachine t (n - 1 + 1 + size_of_length len) (λ input output. output ≡ part_of input (negsuc (n - 1)) len)) → IfOk r (λ t. IsMachine t (nat_abs start + size_of_length len) (λ input output. output ≡ part_of input start len))
+back_of r start seen len n answer e f g a h = back_known r start len n (f ∙ ap nat_abs e) (ap is_negative (sym e) ∙ sym g ∙ a) h
+
+-- no length, a length that is negative, and one that is not
+pub no_length : (r : Result Table NoMemory) (start : ℕ) (len : Option ℤ) (answer : Bool) → answer ≡ is_all len → answer ≡ true → IfOk r (λ t. IsMachine t start (λ input output. output ≡ part_of input (pos start) None)) → IfOk r (λ t. IsMachine t (start + size_of_length len) (λ input output. output ≡ part_of input (pos start) len))
+no_length r start None answer e f h =
+    let z : start ≡ start + 0 = omega arith in
+    subst (λ (x : ℕ). IfOk r (λ t. IsMachine t x (λ input output. output ≡ part_of input (pos start) None))) z h
+no_length r start (Some len) answer e f h = absurd (false≢true (sym e ∙ f))
+
+pub early_length : (r : Result Table NoMemory) (start : ℕ) (len : Option ℤ) (n : ℕ) (answer : Bool) → n ≡ size_of_length len → answer ≡ is_early len → answer ≡ true → IfOk r (λ t. IsMachine t (start + (n - 1 + 1)) (λ input output. output ≡ part_of input (pos start) (Some (negsuc (n - 1))))) → IfOk r (λ t. IsMachine t (start + size_of_length len) (λ input output. output ≡ part_of input (pos start) len))
+early_length r start None n answer q e f h = absurd (false≢true (sym e ∙ f))
+early_length r start (Some (pos k)) n answer q e f h = absurd (false≢true (sym e ∙ f))
+early_length r start (Some (negsuc k)) n answer q e f h =
+    let z : n - 1 ≡ k = omega (arith, q) in
+    let y : start + (k + 1) ≡ start + suc k = omega arith in
+    subst (λ (x : ℕ). IfOk r (λ t. IsMachine t x (λ input output. output ≡ part_of input (pos start) (Some (negsuc k))))) y
+    (subst (λ (x : ℕ). IfOk r (λ t. IsMachine t (start + (x + 1)) (λ input output. output ≡ part_of input (pos start) (Some (negsuc x))))) z h)
+
+pub plain_length : (r : Result Table NoMemory) (start : ℕ) (len : Option ℤ) (n : ℕ) (all early : Bool) → n ≡ size_of_length len → all ≡ is_all len → all ≡ false → early ≡ is_early len → early ≡ false → IfOk r (λ t. IsMachine t (start + n) (λ input output. output ≡ part_of input (pos start) (Some (pos n)))) → IfOk r (λ t. IsMachine t (start + size_of_length len) (λ input output. output ≡ part_of input (pos start) len))
+plain_length r start None n all early q e f g a h = absurd (false≢true (sym f ∙ e))
+plain_length r start (Some (negsuc k)) n all early q e f g a h = absurd (false≢true (sym a ∙ g))
+plain_length r start (Some (pos k)) n all early q e f g a h = subst (λ (x : ℕ). IfOk r (λ t. IsMachine t (start + x) (λ input output. output ≡ part_of input (pos start) (Some (pos x))))) q h
+
+-- a negative length is not 0
+pub early_above : (len : Option ℤ) (n : ℕ) (answer : Bool) → n ≡ size_of_length len → answer ≡ is_early len → answer ≡ true → 0 < n
+early_above None n answer f g a = absurd (false≢true (sym g ∙ a))
+early_above (Some (pos k)) n answer f g a = absurd (false≢true (sym g ∙ a))
+early_above (Some (negsuc k)) n answer f g a = omega (arith, f)
+
+-- a negative number is not 0
+pub above_zero : (seen : ℤ) (n : ℕ) (answer : Bool) → n ≡ nat_abs seen → answer ≡ is_negative seen → answer ≡ true → 0 < n
+above_zero (pos k) n answer f g a = absurd (false≢true (sym g ∙ a))
+above_zero (negsuc k) n answer f g a = omega (arith, f)

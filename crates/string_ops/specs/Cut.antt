@@ -1,9 +1,25 @@
 -- The machines that cut a text at a start that is not negative.
-use Rattle.std.specs.Prelude.{ℕ, ◌==◌, ◌+◌, ◌-◌, Bool, List, [], ◌∷◌, ◌++◌, nat_le, if◌then◌else◌}
+use Rattle.std.specs.Prelude.{ℕ, ℤ, Option, Some, None, pos, negsuc, true, false, ◌==◌, ◌+◌, ◌-◌, Bool, List, [], ◌∷◌, ◌++◌, nat_le, if◌then◌else◌}
 use Rattle.fst_core.specs.declared.out.Out.{Out}
 use Rattle.fst_core.specs.declared.out.Out.TheVariants.{Same}
 use Rattle.string_ops.specs.Listed.{Rows, Lasts}
 use Rattle.string_ops.specs.Search.{is_within}
+
+-- the number is below 0
+abbrev pub is_negative : ℤ → Bool
+is_negative (pos n) = false
+is_negative (negsuc n) = true
+
+-- there is no length
+abbrev pub is_all : Option ℤ → Bool
+is_all None = true
+is_all (Some len) = false
+
+-- the length is negative
+abbrev pub is_early : Option ℤ → Bool
+is_early None = false
+is_early (Some (pos n)) = false
+is_early (Some (negsuc n)) = true
 
 -- the byte, or nothing
 abbrev pub copy_if : Bool → List Out

@@ -1,5 +1,4 @@
 pub mod Listed
-pub mod HasMachine
 pub mod Same
 pub mod Plans
 pub mod Bytewise

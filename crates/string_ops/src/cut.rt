@@ -6,7 +6,7 @@ ghost use Rattle.string_functions.specs.Cut.{part_of};
 ghost use Rattle.op_system.specs.Size.{size_of_length};
 ghost use Rattle.string_ops.specs.Listed.{IsListed, IsMachine};
 ghost use Rattle.string_ops.specs.Search.{AddsSearch, AddsStops};
-ghost use Rattle.string_ops.specs.Cut.{count_turn, down_turn, front_rows, front_lasts, inner_rows, inner_lasts};
+ghost use Rattle.string_ops.specs.Cut.{is_negative, is_all, is_early, count_turn, down_turn, front_rows, front_lasts, inner_rows, inner_lasts};
 
 use crate::factor::add_step;
 use crate::piece::stop_silently;
@@ -22,37 +22,75 @@ const MOST: u64 = 1 << 61;
 pub(crate) fn cut_machine(alloc: Global, start: i64, len: Option<i64>) -> Result<Table, NoMemory>
     ensures { IfOk result (λ table. IsMachine table (nat_abs start + size_of_length len) (λ input output. output ≡ part_of input start len)) }
 {
-    if start < 0 {
-        return back_machine(alloc, (-(start + 1)) as u64, len);
+    let number = magnitude(start);
+    if is_below_zero(start) {
+        return back_machine(alloc, number - 1, len);
     }
-    front_machine(alloc, start as u64, len)
+    front_machine(alloc, number, len)
+}
+
+/// The absolute value.
+fn magnitude(number: i64) -> u64
+    ensures { result ≡ nat_abs number }
+{
+    number.unsigned_abs()
+}
+
+/// Whether the number is negative.
+fn is_below_zero(number: i64) -> bool
+    ensures { result ≡ is_negative number }
+{
+    number < 0
+}
+
+/// Whether there is no length.
+fn is_rest(len: Option<i64>) -> bool
+    ensures { result ≡ is_all len }
+{
+    match len {
+        None => true,
+        Some(_) => false,
+    }
+}
+
+/// Whether the length is negative.
+fn ends_before(len: Option<i64>) -> bool
+    ensures { result ≡ is_early len }
+{
+    match len {
+        None => false,
+        Some(len) => len < 0,
+    }
+}
+
+/// The absolute value of the length.
+fn size(len: Option<i64>) -> u64
+    ensures { result ≡ size_of_length len }
+{
+    match len {
+        None => 0,
+        Some(len) => len.unsigned_abs(),
+    }
 }
 
 /// The machine of a cut with a start that is not negative.
 fn front_machine(alloc: Global, start: u64, len: Option<i64>) -> Result<Table, NoMemory>
-    requires { start < 2 ^ 63 }
+    requires { start ≤ 2 ^ 63 }
     ensures { IfOk result (λ table. IsMachine table (start + size_of_length len) (λ input output. output ≡ part_of input (pos start) len)) }
 {
-    match len {
-        None => rest_machine(alloc, start),
-        Some(len) => front_of_length(alloc, start, len),
+    if is_rest(len) {
+        return rest_machine(alloc, start);
     }
-}
-
-/// The machine of a cut with a start that is not negative, and a length.
-fn front_of_length(alloc: Global, start: u64, len: i64) -> Result<Table, NoMemory>
-    requires { start < 2 ^ 63 }
-    ensures { IfOk result (λ table. IsMachine table (start + nat_abs len) (λ input output. output ≡ part_of input (pos start) (Some len))) }
-{
-    if len >= 0 {
-        return next_machine(alloc, start, len as u64);
+    let number = size(len);
+    if ends_before(len) {
+        return inner_machine(alloc, start, number - 1);
     }
-    inner_machine(alloc, start, (-(len + 1)) as u64)
+    next_machine(alloc, start, number)
 }
 
 /// The rest of the text from a start on.
 pub(crate) fn rest_machine(alloc: Global, start: u64) -> Result<Table, NoMemory>
-    requires { start < 2 ^ 63 }
+    requires { start ≤ 2 ^ 63 }
     ensures { IfOk result (λ table. IsMachine table start (λ input output. output ≡ part_of input (pos start) None)) }
 {
     let table = front_table(alloc, start, start, true)?;
@@ -61,18 +99,17 @@ pub(crate) fn rest_machine(alloc: Global, start: u64) -> Result<Table, NoMemory>
 
 /// So many bytes from a start on.
 pub(crate) fn next_machine(alloc: Global, start: u64, len: u64) -> Result<Table, NoMemory>
-    requires start { start < 2 ^ 63 }
-    requires len { len < 2 ^ 63 }
     ensures { IfOk result (λ table. IsMachine table (start + len) (λ input output. output ≡ part_of input (pos start) (Some (pos len)))) }
 {
+    if start >= MOST || len >= MOST {
+        return Err(NoMemory);
+    }
     let table = front_table(alloc, start + len, start, false)?;
     Ok(table)
 }
 
 /// The text from a start on, without its last bytes.
 pub(crate) fn inner_machine(alloc: Global, start: u64, below: u64) -> Result<Table, NoMemory>
-    requires start { start < 2 ^ 63 }
-    requires below { below < 2 ^ 63 }
     ensures { IfOk result (λ table. IsMachine table (start + (below + 1)) (λ input output. output ≡ part_of input (pos start) (Some (negsuc below)))) }
 {
     if start >= MOST || below >= MOST {

@@ -1,14 +1,15 @@
 //! The machine of an operation.
 
-ghost use Rattle.std.specs.Prelude.{◌≡◌, ◌+◌, length, IfOk};
+ghost use Rattle.std.specs.Prelude.{◌≡◌, ◌≢◌, ◌+◌, length, IfOk};
 ghost use Rattle.string_functions.specs.Pieces.{replaced_text};
 ghost use Rattle.op_system.specs.Rel.{Rel};
 ghost use Rattle.op_system.specs.Size.{size_of};
+ghost use Rattle.op_system.specs.declared.op.Op.TheVariants.{Any};
 ghost use Rattle.string_ops.specs.Listed.{IsMachine};
-ghost use Rattle.string_ops.specs.HasMachine.{HasMachine};
 
 use crate::breaks::breaks_machine;
 use crate::bytewise::{Bytewise, bytewise_machine};
+use crate::cut::cut_machine;
 use crate::factor::factor_machine;
 use crate::first::first_machine;
 use crate::html::html_machine;
@@ -24,20 +25,19 @@ use text_base::NoMemory;
 /// The machine of an operation: over bytes it relates exactly the pairs that the operation does.
 /// No page token stands in it. For an operation of size z (its literal bytes and the absolute
 /// values of its numbers) it has at most `8 * (z + 8)` states, at most four moves from one state
-/// to another by each byte, and no output longer than `z + 8`. `Op::Any` has no machine,
-/// and `Op::Cut` has none here yet.
+/// to another by each byte, and no output longer than `z + 8`. `Op::Any` has no machine.
 pub fn machine_of(alloc: Global, op: &Op) -> Result<Table, NoMemory>
-    requires { HasMachine op.now }
+    requires { op.now ≢ Any }
     ensures { IfOk result (λ table. IsMachine table (size_of op.now) (Rel op.now)) }
 {
     match op {
         Op::Same => same_machine(alloc),
         Op::Any => unreachable!(),
-        Op::Cut { .. } => unreachable!(),
         Op::Html => html_machine(alloc),
         Op::Replace { search, with } => {
             replace_or_same(alloc, search.as_slice(), with.as_slice())
         },
+        Op::Cut { start, len } => cut_machine(alloc, *start, *len),
         Op::Factor => factor_machine(alloc),
         Op::Lower => bytewise_machine(alloc, Bytewise::Lower),
         Op::Upper => bytewise_machine(alloc, Bytewise::Upper),

@@ -1,4 +1,4 @@
-use Rattle.op_system.specs.declared.op.Op.TheVariants.{Same, Html, Replace, Lower, Upper, First, Trim, Breaks, Url, RawUrl, Slashes, Piece}
+use Rattle.op_system.specs.declared.op.Op.TheVariants.{Same, Html, Replace, Lower, Upper, First, Cut, Trim, Breaks, Url, RawUrl, Slashes, Piece}
 use Rattle.string_ops.proofs.MachineLemmas.{machine_at}
 use Rattle.string_ops.proofs.machine.machine_of.Goals as goal
 
@@ -40,3 +40,7 @@ returns-in-Replace c =
 pub returns-in-Piece : goal.returns-in-Piece
 returns-in-Piece c =
     machine_at c.piece_machine.result c.args.op.now (Piece c.in-Piece.sep) c.in-Piece.is (rw c.as_slice-in-Piece.ensures at c.piece_machine.ensures)
+
+pub returns-in-Cut : goal.returns-in-Cut
+returns-in-Cut c =
+    machine_at c.cut_machine.result c.args.op.now (Cut c.in-Cut.start c.in-Cut.len) c.in-Cut.is c.cut_machine.ensures
