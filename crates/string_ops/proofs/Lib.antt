@@ -18,4 +18,5 @@ pub mod OccurrenceLemmas
 pub mod ReplaceLemmas
 pub mod PieceLemmas
 pub mod FactorLemmas
+pub mod CutLemmas
 pub mod MachineLemmas

@@ -15,5 +15,6 @@ pub mod Search
 pub mod Replace
 pub mod Piece
 pub mod Factor
+pub mod Cut
 pub mod CutBack
 pub mod CutBackLaws

@@ -6,6 +6,7 @@
 
 mod breaks;
 mod bytewise;
+mod cut;
 mod cut_back;
 mod factor;
 mod failure;
