@@ -19,6 +19,8 @@ mod plan;
 mod replace;
 mod same;
 mod search;
+#[cfg(test)]
+mod tests;
 mod trim;
 
 pub use machine::machine_of;
