@@ -8,9 +8,9 @@ ghost use Rattle.string_ops.specs.Listed.{IsListed, IsMachine};
 ghost use Rattle.string_ops.specs.Search.{AddsSearch, AddsStops};
 ghost use Rattle.string_ops.specs.Cut.{is_negative, is_all, is_early, count_turn, down_turn, front_rows, front_lasts, inner_rows, inner_lasts};
 
+use crate::cut_back::back_machine;
 use crate::factor::add_step;
 use crate::piece::stop_silently;
-use crate::cut_back::back_machine;
 use fst_core::Table;
 use std::alloc::Global;
 use text_base::NoMemory;
@@ -19,8 +19,8 @@ use text_base::NoMemory;
 const MOST: u64 = 1 << 61;
 
 /// The machine of `Op::Cut`.
-pub(crate) fn cut_machine(alloc: Global, start: i64, len: Option<i64>) -> Result<Table, NoMemory>
-    ensures { IfOk result (λ table. IsMachine table (nat_abs start + size_of_length len) (λ input output. output ≡ part_of input start len)) }
+pub(crate) fn cut_machine(alloc: Global, start: &i64, len: Option<i64>) -> Result<Table, NoMemory>
+    ensures { IfOk result (λ table. IsMachine table (nat_abs start.now + size_of_length len) (λ input output. output ≡ part_of input start.now len)) }
 {
     let number = magnitude(start);
     if is_below_zero(start) {
@@ -30,17 +30,18 @@ pub(crate) fn cut_machine(alloc: Global, start: i64, len: Option<i64>) -> Result
 }
 
 /// The absolute value.
-fn magnitude(number: i64) -> u64
-    ensures { result ≡ nat_abs number }
+fn magnitude(number: &i64) -> u64
+    ensures value { result ≡ nat_abs number.now }
+    ensures within { result ≤ 2 ^ 63 }
 {
     number.unsigned_abs()
 }
 
 /// Whether the number is negative.
-fn is_below_zero(number: i64) -> bool
-    ensures { result ≡ is_negative number }
+fn is_below_zero(number: &i64) -> bool
+    ensures { result ≡ is_negative number.now }
 {
-    number < 0
+    *number < 0
 }
 
 /// Whether there is no length.

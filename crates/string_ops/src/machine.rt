@@ -37,7 +37,7 @@ pub fn machine_of(alloc: Global, op: &Op) -> Result<Table, NoMemory>
         Op::Replace { search, with } => {
             replace_or_same(alloc, search.as_slice(), with.as_slice())
         },
-        Op::Cut { start, len } => cut_machine(alloc, *start, *len),
+        Op::Cut { start, len } => cut_machine(alloc, start, *len),
         Op::Factor => factor_machine(alloc),
         Op::Lower => bytewise_machine(alloc, Bytewise::Lower),
         Op::Upper => bytewise_machine(alloc, Bytewise::Upper),
