@@ -76,16 +76,15 @@ front_function count from rest =
           front_below count from rest s byte l,
           omega arith,
           λ text. put_keep (leb from s) byte (pick count from rest (s + 1) text)
-          ∙ sym (cond-true (ltb s count) (keep (leb from s) byte (pick count from rest (s + 1) text)) (keep rest byte (pick count from rest s text)) (lt-ltb s count l)),
+              ∙ sym (cond-true (ltb s count) (keep (leb from s) byte (pick count from rest (s + 1) text)) (keep rest byte (pick count from rest s text)) (lt-ltb s count l)),
         )
         | inr l ↦
-            let e : count ≡ s = omega arith in
-            (
+            let e : count ≡ s = omega arith in (
               (count, copy_if rest),
               ap (λ (n : ℕ). front_rows count from rest n byte) (sym e) ∙ front_last count from rest byte,
               omega arith,
               λ text. put_keep rest byte (pick count from rest count text) ∙ ap (λ (n : ℕ). keep rest byte (pick count from rest n text)) e
-              ∙ sym (cond-false (ltb s count) (keep (leb from s) byte (pick count from rest (s + 1) text)) (keep rest byte (pick count from rest s text)) (le-ltb s count l)),
+                  ∙ sym (cond-false (ltb s count) (keep (leb from s) byte (pick count from rest (s + 1) text)) (keep rest byte (pick count from rest s text)) (le-ltb s count l)),
             )
       ];
     }
@@ -148,20 +147,20 @@ pub rest_is_machine : (table : Table) (start : ℕ) → IsListed table (start + 
 rest_is_machine table start listed =
     listed_machine table (start + 1) (front_rows start start true) (front_lasts start) start (λ input output. output ≡ part_of input (pos start) None) listed (front_small start start true (start + 8) (omega arith)) (omega arith)
     (λ input output bytes.
-        let f = follows_function (front_rows start start true) (front_lasts start) (λ s. s ≤ start) (λ s text. pick start start true s text) (front_function start start true) 0 (omega arith) input output bytes in
-        let z : start - 0 ≡ start = omega arith in
-        let e : pick start start true 0 input ≡ part_of input (pos start) None = pick_rest start 0 input (omega arith) ∙ ap (λ (n : ℕ). drop n input) z ∙ sym (take_rest input start) in
-        (λ h. f.0 h ∙ e, λ h. f.1 (h ∙ sym e)))
+    let f = follows_function (front_rows start start true) (front_lasts start) (λ s. s ≤ start) (λ s text. pick start start true s text) (front_function start start true) 0 (omega arith) input output bytes in
+    let z : start - 0 ≡ start = omega arith in
+    let e : pick start start true 0 input ≡ part_of input (pos start) None = pick_rest start 0 input (omega arith) ∙ ap (λ (n : ℕ). drop n input) z ∙ sym (take_rest input start) in
+    (λ h. f.0 h ∙ e, λ h. f.1 (h ∙ sym e)))
 
 pub next_is_machine : (table : Table) (start len : ℕ) → IsListed table (start + len + 1) (front_rows (start + len) start false) (front_lasts (start + len)) → IsMachine table (start + len) (λ input output. output ≡ part_of input (pos start) (Some (pos len)))
 next_is_machine table start len listed =
     listed_machine table (start + len + 1) (front_rows (start + len) start false) (front_lasts (start + len)) (start + len) (λ input output. output ≡ part_of input (pos start) (Some (pos len))) listed (front_small (start + len) start false (start + len + 8) (omega arith)) (omega arith)
     (λ input output bytes.
-        let f = follows_function (front_rows (start + len) start false) (front_lasts (start + len)) (λ s. s ≤ start + len) (λ s text. pick (start + len) start false s text) (front_function (start + len) start false) 0 (omega arith) input output bytes in
-        let z : start - 0 ≡ start = omega arith in
-        let k : len ≡ start + len - start = omega arith in
-        let e : pick (start + len) start false 0 input ≡ part_of input (pos start) (Some (pos len)) = pick_part start len 0 input (omega arith) ∙ ap (λ (n : ℕ). take len (drop n input)) z ∙ ap (λ (n : ℕ). take n (drop start input)) k in
-        (λ h. f.0 h ∙ e, λ h. f.1 (h ∙ sym e)))
+    let f = follows_function (front_rows (start + len) start false) (front_lasts (start + len)) (λ s. s ≤ start + len) (λ s text. pick (start + len) start false s text) (front_function (start + len) start false) 0 (omega arith) input output bytes in
+    let z : start - 0 ≡ start = omega arith in
+    let k : len ≡ start + len - start = omega arith in
+    let e : pick (start + len) start false 0 input ≡ part_of input (pos start) (Some (pos len)) = pick_part start len 0 input (omega arith) ∙ ap (λ (n : ℕ). take len (drop n input)) z ∙ ap (λ (n : ℕ). take n (drop start input)) k in
+    (λ h. f.0 h ∙ e, λ h. f.1 (h ∙ sym e)))
 
 -- the states that count are added, and so are those that count down, and the ends
 pub counts_none : (old : List TableMove) (base : ℕ) (by : ℕ → ℕ → ℕ × List Out) → AddsSearch old old base 0 by
@@ -293,8 +292,7 @@ inner_end start last z =
         λ f. let h : last < 0 = f.0 in absurd (omega arith),
       );
       count = λ i h out.
-          let e = ends_one rows lasts i [] out (last_count start last i h) in
-          (
+          let e = ends_one rows lasts i [] out (last_count start last i h) in (
             λ f. inl (omega arith, sym (e.0 f)),
             λ f. elim f [
               | inl g ↦ e.1 (sym g.1)
@@ -309,8 +307,7 @@ inner_end start last z =
         (λ f. (refl, sym (e.0 f)), λ f. e.1 (sym f.1))
     left (suc r) h out =
         let q : suc r ≡ r + 1 = omega arith in
-        let none : inner_lasts start last (left_of (start + last) + suc r) ≡ [] = ap (λ (n : ℕ). inner_lasts start last (left_of (start + last) + n)) q ∙ last_more start last r in
-        (
+        let none : inner_lasts start last (left_of (start + last) + suc r) ≡ [] = ap (λ (n : ℕ). inner_lasts start last (left_of (start + last) + n)) q ∙ last_more start last r in (
           λ f. absurd (ends_none (inner_rows start last) (inner_lasts start last) (left_of (start + last) + suc r) out none f),
           λ f. let k : 0 ≡ suc r = f.0 in absurd (omega arith),
         )
@@ -318,8 +315,7 @@ inner_end start last z =
 -- a byte in the middle
 step_middle : (start last b : ℕ) (text out : List ℕ) → FollowsInner start last text → (((rest : List ℕ) × Follows (inner_rows start last) (inner_lasts start last) (middle_of (start + last)) text rest × (b ∷ rest ≡ out)) ⊎ ((rest : List ℕ) × Follows (inner_rows start last) (inner_lasts start last) (left_of (start + last) + last) text rest × (b ∷ rest ≡ out))) ↔ ((last < length (b ∷ text)) × (out ≡ take (length (b ∷ text) - last) (b ∷ text)))
 step_middle start last b text out ih =
-    let n : ℕ = length text in
-    (
+    let n : ℕ = length text in (
       λ f. elim f [
         | inl g ↦
             let m = (ih.middle g.0).0 g.1 in
@@ -348,8 +344,7 @@ step_middle start last b text out ih =
 -- a byte while the bytes are counted
 step_count : (start last i b : ℕ) (text out : List ℕ) → i < start + last → FollowsInner start last text → ((rest : List ℕ) × Follows (inner_rows start last) (inner_lasts start last) (i + 1) text rest × ([] ++ rest ≡ out)) ↔ (((i + length (b ∷ text) ≤ start + last) × (out ≡ [])) ⊎ ((i < start) × (start + last < i + length (b ∷ text)) × (out ≡ take (i + length (b ∷ text) - (start + last)) (drop (start - i) (b ∷ text)))))
 step_count start last i b text out h ih =
-    let n : ℕ = length text in
-    (
+    let n : ℕ = length text in (
       λ f. elim ((ih.count (i + 1) (omega arith) f.0).0 f.1) [
         | inl g ↦ let l : i + 1 + n ≤ start + last = g.0 in inl (omega arith, sym f.2 ∙ g.1)
         | inr g ↦
@@ -359,15 +354,19 @@ step_count start last i b text out h ih =
             let d : start - i ≡ suc (start - (i + 1)) = omega arith in
             inr (omega arith, omega arith, sym f.2 ∙ g.2 ∙ ap (λ (x : ℕ). take x (drop (start - (i + 1)) text)) k ∙ ap (take (i + length (b ∷ text) - (start + last))) (sym (drop_cons (start - i) (start - (i + 1)) b text d)))
       ],
-      λ f. (out, (ih.count (i + 1) (omega arith) out).1 (elim f [
-        | inl g ↦ let l : i + length (b ∷ text) ≤ start + last = g.0 in inl (omega arith, g.1)
-        | inr g ↦
-            let l : i < start = g.0 in
-            let m : start + last < i + length (b ∷ text) = g.1 in
-            let k : i + 1 + n - (start + last) ≡ i + length (b ∷ text) - (start + last) = omega arith in
-            let d : start - i ≡ suc (start - (i + 1)) = omega arith in
-            inr (omega arith, omega arith, g.2 ∙ ap (take (i + length (b ∷ text) - (start + last))) (drop_cons (start - i) (start - (i + 1)) b text d) ∙ ap (λ (x : ℕ). take x (drop (start - (i + 1)) text)) (sym k))
-      ]), refl),
+      λ f. (
+        out,
+        (ih.count (i + 1) (omega arith) out).1 (elim f [
+          | inl g ↦ let l : i + length (b ∷ text) ≤ start + last = g.0 in inl (omega arith, g.1)
+          | inr g ↦
+              let l : i < start = g.0 in
+              let m : start + last < i + length (b ∷ text) = g.1 in
+              let k : i + 1 + n - (start + last) ≡ i + length (b ∷ text) - (start + last) = omega arith in
+              let d : start - i ≡ suc (start - (i + 1)) = omega arith in
+              inr (omega arith, omega arith, g.2 ∙ ap (take (i + length (b ∷ text) - (start + last))) (drop_cons (start - i) (start - (i + 1)) b text d) ∙ ap (λ (x : ℕ). take x (drop (start - (i + 1)) text)) (sym k))
+        ]),
+        refl,
+      ),
     )
 
 follows_three : (rows : Rows) (lasts : Lasts) (s byte : ℕ) (p q r : ℕ × List Out) (text out : List ℕ) → rows s byte ≡ p ∷ q ∷ r ∷ [] → Follows rows lasts s (byte ∷ text) out ↔ (((rest : List ℕ) × Follows rows lasts p.0 text rest × (map (byte_of byte) p.1 ++ rest ≡ out)) ⊎ (((rest : List ℕ) × Follows rows lasts q.0 text rest × (map (byte_of byte) q.1 ++ rest ≡ out)) ⊎ ((rest : List ℕ) × Follows rows lasts r.0 text rest × (map (byte_of byte) r.1 ++ rest ≡ out))))
@@ -401,8 +400,7 @@ inner_step start last b text z ih = record { left = left; middle = middle; count
     left (suc r) h out =
         let q : suc r ≡ r + 1 = omega arith in
         let row : inner_rows start last (left_of (start + last) + suc r) b ≡ (left_of (start + last) + r, []) ∷ [] = ap (λ (n : ℕ). inner_rows start last (left_of (start + last) + n) b) q ∙ row_left start last r b (omega arith) in
-        let one = follows_one (inner_rows start last) (inner_lasts start last) (left_of (start + last) + suc r) b (left_of (start + last) + r, []) text out row in
-        (
+        let one = follows_one (inner_rows start last) (inner_lasts start last) (left_of (start + last) + suc r) b (left_of (start + last) + r, []) text out row in (
           λ f.
               let g = one.0 f in
               let m = (ih.left r (omega arith) g.0).0 g.1 in
@@ -413,11 +411,13 @@ inner_step start last b text z ih = record { left = left; middle = middle; count
               let k : length text ≡ r = omega arith in
               one.1 (out, (ih.left r (omega arith) out).1 (k, f.1), refl),
         )
+
     middle : (out : List ℕ) → Follows (inner_rows start last) (inner_lasts start last) (middle_of (start + last)) (b ∷ text) out ↔ ((last < length (b ∷ text)) × (out ≡ take (length (b ∷ text) - last) (b ∷ text)))
     middle out =
         let two = follows_two (inner_rows start last) (inner_lasts start last) (middle_of (start + last)) b (middle_of (start + last), Same ∷ []) (left_of (start + last) + last, Same ∷ []) text out (row_middle start last b) in
         let m = step_middle start last b text out ih in
         (λ f. m.0 (two.0 f), λ f. two.1 (m.1 f))
+
     count : (i : ℕ) → i ≤ start + last → (out : List ℕ) → Follows (inner_rows start last) (inner_lasts start last) i (b ∷ text) out ↔ (((i + length (b ∷ text) ≤ start + last) × (out ≡ [])) ⊎ ((i ≤ start) × (start + last < i + length (b ∷ text)) × (out ≡ take (i + length (b ∷ text) - (start + last)) (drop (start - i) (b ∷ text)))))
     count i h out = elim (cases_eq i (start + last)) [
       | inl e ↦ (
@@ -433,14 +433,13 @@ inner_step start last b text z ih = record { left = left; middle = middle; count
           elim (cases_eq start i) [
             | inl e ↦
                 let row : inner_rows start last i b ≡ (i + 1, []) ∷ (middle_of (start + last), Same ∷ []) ∷ (left_of (start + last) + last, Same ∷ []) ∷ [] =
-                  ap (λ (n : ℕ). inner_rows start last n b) (sym e) ∙ row_start start last b z ∙ ap (λ (n : ℕ). (n + 1, []) ∷ (middle_of (start + last), Same ∷ []) ∷ (left_of (start + last) + last, Same ∷ []) ∷ []) e in
+                ap (λ (n : ℕ). inner_rows start last n b) (sym e) ∙ row_start start last b z ∙ ap (λ (n : ℕ). (n + 1, []) ∷ (middle_of (start + last), Same ∷ []) ∷ (left_of (start + last) + last, Same ∷ []) ∷ []) e in
                 let three = follows_three (inner_rows start last) (inner_lasts start last) i b (i + 1, []) (middle_of (start + last), Same ∷ []) (left_of (start + last) + last, Same ∷ []) text out row in
                 let m = step_middle start last b text out ih in
                 let d : start - i ≡ 0 = omega arith in
                 let k : length (b ∷ text) - last ≡ i + length (b ∷ text) - (start + last) = omega arith in
                 let same : take (length (b ∷ text) - last) (b ∷ text) ≡ take (i + length (b ∷ text) - (start + last)) (drop (start - i) (b ∷ text)) =
-                  ap (λ (x : ℕ). take x (b ∷ text)) k ∙ ap (take (i + length (b ∷ text) - (start + last))) (sym (drop_zero (start - i) (b ∷ text) d)) in
-                (
+                ap (λ (x : ℕ). take x (b ∷ text)) k ∙ ap (take (i + length (b ∷ text) - (start + last))) (sym (drop_zero (start - i) (b ∷ text) d)) in (
                   λ f. elim (three.0 f) [
                     | inl g ↦ elim (c.0 g) [
                       | inl j ↦ inl j
@@ -459,8 +458,7 @@ inner_step start last b text z ih = record { left = left; middle = middle; count
                   ]),
                 )
             | inr other ↦
-                let one = follows_one (inner_rows start last) (inner_lasts start last) i b (i + 1, []) text out (row_count start last i b under other) in
-                (
+                let one = follows_one (inner_rows start last) (inner_lasts start last) i b (i + 1, []) text out (row_count start last i b under other) in (
                   λ f. elim (c.0 (one.0 f)) [
                     | inl j ↦ inl j
                     | inr j ↦ let l : i < start = j.0 in inr (omega arith, j.1, j.2)
@@ -525,26 +523,25 @@ inner_is_machine table start below listed =
     let last : ℕ = below + 1 in
     listed_machine table (start + last + last + 3) (inner_rows start last) (inner_lasts start last) (start + last) (λ input output. output ≡ part_of input (pos start) (Some (negsuc below))) listed (inner_small start last (start + last + 8) (omega arith)) (omega arith)
     (λ input output bytes.
-        let f = (inner_follows start last input (omega arith)).count 0 (omega arith) output in
-        let n : ℕ = length input in
-        let z : start - 0 ≡ start = omega arith in
-        let k : 0 + n - (start + last) ≡ n - suc below - start = omega arith in
-        let same : take (0 + n - (start + last)) (drop (start - 0) input) ≡ part_of input (pos start) (Some (negsuc below)) = ap (λ (x : ℕ). take (0 + n - (start + last)) (drop x input)) z ∙ ap (λ (x : ℕ). take x (drop start input)) k in
-        (
-          λ h. elim (f.0 h) [
-            | inl g ↦
-                let l : 0 + n ≤ start + last = g.0 in
-                let e : n - suc below - start ≡ 0 = omega arith in
-                g.1 ∙ sym (take_zero (n - suc below - start) (drop start input) e)
-            | inr g ↦ g.2 ∙ same
-          ],
-          λ h. f.1 (elim (cases_lt (start + last) n) [
-            | inl l ↦ inr (omega arith, omega arith, h ∙ sym same)
-            | inr l ↦
-                let e : n - suc below - start ≡ 0 = omega arith in
-                inl (omega arith, h ∙ take_zero (n - suc below - start) (drop start input) e)
-          ]),
-        ))
+    let f = (inner_follows start last input (omega arith)).count 0 (omega arith) output in
+    let n : ℕ = length input in
+    let z : start - 0 ≡ start = omega arith in
+    let k : 0 + n - (start + last) ≡ n - suc below - start = omega arith in
+    let same : take (0 + n - (start + last)) (drop (start - 0) input) ≡ part_of input (pos start) (Some (negsuc below)) = ap (λ (x : ℕ). take (0 + n - (start + last)) (drop x input)) z ∙ ap (λ (x : ℕ). take x (drop start input)) k in (
+      λ h. elim (f.0 h) [
+        | inl g ↦
+            let l : 0 + n ≤ start + last = g.0 in
+            let e : n - suc below - start ≡ 0 = omega arith in
+            g.1 ∙ sym (take_zero (n - suc below - start) (drop start input) e)
+        | inr g ↦ g.2 ∙ same
+      ],
+      λ h. f.1 (elim (cases_lt (start + last) n) [
+        | inl l ↦ inr (omega arith, omega arith, h ∙ sym same)
+        | inr l ↦
+            let e : n - suc below - start ≡ 0 = omega arith in
+            inl (omega arith, h ∙ take_zero (n - suc below - start) (drop start input) e)
+      ]),
+    ))
 
 below_zero : (n : ℤ) → lt_z n (pos 0) ≡ is_negative n
 below_zero (pos n) = le-ltb n 0 (omega arith)

@@ -54,8 +54,7 @@ parts_follow : (text : List ℕ) → FollowsParts text
 parts_follow [] =
     record {
       before = λ out.
-          let e = ends_one factor_rows factor_lasts 0 [] out refl in
-          (
+          let e = ends_one factor_rows factor_lasts 0 [] out refl in (
             λ f. record { before = []; after = []; whole = ap (λ (x : List ℕ). x ++ []) (e.0 f) },
             λ f. e.1 (sym (empty_left out f.after (sym (empty_right f.before (out ++ f.after) f.whole)))),
           );
@@ -70,8 +69,7 @@ parts_follow (b ∷ text) =
     let ih = parts_follow text in
     record {
       before = λ out.
-          let two = follows_two factor_rows factor_lasts 0 b (0, []) (1, Same ∷ []) text out refl in
-          (
+          let two = follows_two factor_rows factor_lasts 0 b (0, []) (1, Same ∷ []) text out refl in (
             λ f. elim (two.0 f) [
               | inl g ↦
                   let k = (ih.before g.0).0 g.1 in
@@ -86,8 +84,7 @@ parts_follow (b ∷ text) =
             ]),
           );
       inside = λ out.
-          let two = follows_two factor_rows factor_lasts 1 b (1, Same ∷ []) (2, []) text out refl in
-          (
+          let two = follows_two factor_rows factor_lasts 1 b (1, Same ∷ []) (2, []) text out refl in (
             λ f. elim (two.0 f) [
               | inl g ↦
                   let k = (ih.inside g.0).0 g.1 in

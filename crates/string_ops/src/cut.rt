@@ -8,9 +8,9 @@ ghost use Rattle.string_ops.specs.Listed.{IsListed, IsMachine};
 ghost use Rattle.string_ops.specs.Search.{AddsSearch, AddsStops};
 ghost use Rattle.string_ops.specs.Cut.{is_negative, is_all, is_early, count_turn, down_turn, front_rows, front_lasts, inner_rows, inner_lasts};
 
+use crate::cut_back::back_machine;
 use crate::factor::add_step;
 use crate::piece::stop_silently;
-use crate::cut_back::back_machine;
 use fst_core::Table;
 use std::alloc::Global;
 use text_base::NoMemory;

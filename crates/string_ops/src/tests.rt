@@ -111,3 +111,34 @@ fn cases_and_ends(rt: HostRuntime) -> Result<(), Fail> {
     assert!(rt; !relates(alloc, &Op::Breaks, "\r\n", "<br />\r<br />\n")?);
     Ok(())
 }
+
+#[test]
+fn cuts(rt: HostRuntime) -> Result<(), Fail> {
+    let alloc = rt.alloc();
+    let last = Op::Cut {
+        start: -2,
+        len: None,
+    };
+    assert!(rt; relates(alloc, &last, "abc", "bc")?);
+    assert!(rt; relates(alloc, &last, "a", "a")?);
+    assert!(rt; !relates(alloc, &last, "abc", "c")?);
+    let inner = Op::Cut {
+        start: -3,
+        len: Some(-1),
+    };
+    assert!(rt; relates(alloc, &inner, "abcdef", "de")?);
+    assert!(rt; !relates(alloc, &inner, "abcdef", "def")?);
+    let front = Op::Cut {
+        start: 2,
+        len: Some(-1),
+    };
+    assert!(rt; relates(alloc, &front, "abcdef", "cde")?);
+    assert!(rt; relates(alloc, &front, "ab", "")?);
+    let past = Op::Cut {
+        start: 4,
+        len: Some(2),
+    };
+    assert!(rt; relates(alloc, &past, "abc", "")?);
+    assert!(rt; relates(alloc, &past, "abcdefg", "ef")?);
+    Ok(())
+}

@@ -10,4 +10,3 @@ returns c =
 pub returns-then-is_below_zero : goal.returns-then-is_below_zero
 returns-then-is_below_zero c =
     back_of c.back_machine.result c.args.start (to_z w64 (of_z w64 c.args.start)) c.args.len c.magnitude-number.result c.is_below_zero.result (to_z-of_z w64 c.args.start c.ranges.start) c.magnitude-number.ensures c.is_below_zero.ensures c.if-is_below_zero.true c.back_machine.ensures
-
