@@ -1,7 +1,7 @@
 //! The operations on texts with what PHP prints, and with near misses.
 
-ghost use Rattle.std.specs.Prelude.{IfOk};
-ghost use Rattle.string_ops.specs.HasMachine.{HasMachine};
+ghost use Rattle.std.specs.Prelude.{◌≢◌, IfOk};
+ghost use Rattle.op_system.specs.declared.op.Op.TheVariants.{Any};
 
 use crate::machine_of;
 use fst_core::applies;
@@ -12,14 +12,14 @@ use text_base::{Bytes, NoMemory};
 
 /// Whether the machine of the operation relates the two texts.
 fn relates(alloc: Global, op: &Op, input: &str, output: &str) -> Result<bool, NoMemory>
-    requires { HasMachine op.now }
+    requires { op.now ≢ Any }
 {
     let table = machine_of(alloc, op)?;
     applies(alloc, &table, input.as_bytes(), output.as_bytes())
 }
 
 fn replace(alloc: Global, search: &str, with: &str) -> Result<Op, NoMemory>
-    ensures { IfOk result HasMachine }
+    ensures { IfOk result (λ op. op ≢ Any) }
 {
     Ok(Op::Replace {
         search: Bytes::from_slice(alloc, search.as_bytes())?,
@@ -28,7 +28,7 @@ fn replace(alloc: Global, search: &str, with: &str) -> Result<Op, NoMemory>
 }
 
 fn piece(alloc: Global, sep: &str) -> Result<Op, NoMemory>
-    ensures { IfOk result HasMachine }
+    ensures { IfOk result (λ op. op ≢ Any) }
 {
     Ok(Op::Piece {
         sep: Bytes::from_slice(alloc, sep.as_bytes())?,
@@ -109,5 +109,36 @@ fn cases_and_ends(rt: HostRuntime) -> Result<(), Fail> {
     assert!(rt; relates(alloc, &Op::Breaks, "a\r\nb", "a<br />\r\nb")?);
     assert!(rt; relates(alloc, &Op::Breaks, "\n\r\n", "<br />\n\r<br />\n")?);
     assert!(rt; !relates(alloc, &Op::Breaks, "\r\n", "<br />\r<br />\n")?);
+    Ok(())
+}
+
+#[test]
+fn cuts(rt: HostRuntime) -> Result<(), Fail> {
+    let alloc = rt.alloc();
+    let last = Op::Cut {
+        start: -2,
+        len: None,
+    };
+    assert!(rt; relates(alloc, &last, "abc", "bc")?);
+    assert!(rt; relates(alloc, &last, "a", "a")?);
+    assert!(rt; !relates(alloc, &last, "abc", "c")?);
+    let inner = Op::Cut {
+        start: -3,
+        len: Some(-1),
+    };
+    assert!(rt; relates(alloc, &inner, "abcdef", "de")?);
+    assert!(rt; !relates(alloc, &inner, "abcdef", "def")?);
+    let front = Op::Cut {
+        start: 2,
+        len: Some(-1),
+    };
+    assert!(rt; relates(alloc, &front, "abcdef", "cde")?);
+    assert!(rt; relates(alloc, &front, "ab", "")?);
+    let past = Op::Cut {
+        start: 4,
+        len: Some(2),
+    };
+    assert!(rt; relates(alloc, &past, "abc", "")?);
+    assert!(rt; relates(alloc, &past, "abcdefg", "ef")?);
     Ok(())
 }
