@@ -1,0 +1,13 @@
+-- The machine that gives one part of a text: state 0 stands before the part, 1 in it, 2 behind it.
+use Rattle.std.specs.Prelude.{ℕ, ◌==◌, List, [], ◌∷◌, ◌++◌, if◌then◌else◌}
+use Rattle.fst_core.specs.declared.out.Out.{Out}
+use Rattle.fst_core.specs.declared.out.Out.TheVariants.{Same}
+use Rattle.string_ops.specs.Listed.{Rows, Lasts}
+
+abbrev pub factor_rows : Rows
+factor_rows s byte =
+    (if 0 == s then (0, []) ∷ [] else []) ++ (if 0 == s then (1, Same ∷ []) ∷ [] else []) ++ (if 1 == s then (1, Same ∷ []) ∷ [] else []) ++ (if 1 == s then (2, []) ∷ [] else [])
+    ++ (if 2 == s then (2, []) ∷ [] else [])
+
+abbrev pub factor_lasts : Lasts
+factor_lasts s = (if 0 == s then [] ∷ [] else []) ++ (if 1 == s then [] ∷ [] else []) ++ (if 2 == s then [] ∷ [] else [])

@@ -1,0 +1,20 @@
+-- The machine that puts the first byte in upper case: state 0 before it, state 1 behind it.
+use Rattle.std.specs.Prelude.{ℕ, ◌==◌, List, [], ◌∷◌, if◌then◌else◌}
+use Rattle.fst_core.specs.declared.out.Out.{Out}
+use Rattle.fst_core.specs.declared.out.Out.TheVariants.{Same}
+use Rattle.string_ops.specs.declared.bytewise.Bytewise.TheVariants.{Upper}
+use Rattle.string_ops.specs.Listed.{Rows, Lasts}
+use Rattle.string_ops.specs.Plans.{rows_below, lasts_below}
+use Rattle.string_ops.specs.Bytewise.{outs_of}
+
+abbrev pub first_row : Rows
+first_row s b = (1, if s == 0 then outs_of Upper b else Same ∷ []) ∷ []
+
+abbrev pub first_last : Lasts
+first_last s = [] ∷ []
+
+abbrev pub first_rows : Rows
+first_rows = rows_below 2 first_row
+
+abbrev pub first_lasts : Lasts
+first_lasts = lasts_below 2 first_last

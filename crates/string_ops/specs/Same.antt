@@ -1,0 +1,11 @@
+-- The machine that puts out what it reads.
+use Rattle.std.specs.Prelude.{ℕ, List, [], ◌∷◌, ◌==◌, if◌then◌else◌}
+use Rattle.fst_core.specs.declared.out.Out.{Out}
+use Rattle.fst_core.specs.declared.out.Out.TheVariants.{Same}
+use Rattle.string_ops.specs.Listed.{Rows, Lasts}
+
+abbrev pub same_rows : Rows
+same_rows s byte = if 0 == s then (0, Same ∷ []) ∷ [] else []
+
+abbrev pub same_lasts : Lasts
+same_lasts s = if 0 == s then [] ∷ [] else []
