@@ -1,11 +1,11 @@
 //! Values, and arrays of them.
 
-ghost use Rattle.std.specs.Prelude.{◌≡◌, ◌≢◌, ◌⊎◌, ℕ, ◌<◌, ◌≤◌, true, IfOk, IfErr, not, OnOk, OnErr, IfSome, IfNone, MatchOption, Some, None, Ok, Err};
+ghost use Rattle.std.specs.Prelude.{◌≡◌, ◌≢◌, ◌⊎◌, ℕ, ◌<◌, ◌≤◌, true, IfOk, IfErr, not, OnOk, OnErr, IfSome, IfNone, is_none, MatchOption, Some, None, Ok, Err};
 ghost use Rattle.php_values.specs.Plain.{Plain, PlainKey, Pairs, keys, empty, pair, depth, deepest};
 ghost use Rattle.php_values.specs.View.{plain_of, plain_key, pairs_of};
 ghost use Rattle.php_values.specs.Members.{member, largest_key, put_pair, key_after, within_depth, push_at, larger as larger_key};
 ghost use Rattle.php_values.specs.Index.{place as place_of};
-ghost use Rattle.php_values.specs.Keys.{are_distinct};
+ghost use Rattle.php_values.specs.Keys.{is_absent, are_distinct};
 ghost use Rattle.php_values.specs.Text.{pairs_truth};
 
 use crate::fault::Fault;
@@ -115,6 +115,7 @@ impl Array {
 
     /// The value at a key, if the key is there.
     pub fn find(&self, key: &Key) -> Option<&Value>
+        ensures there { is_none result ≡ is_absent (keys self.now) (plain_key key.now) }
         ensures some { IfSome result (λ v. member self.now (plain_key key.now) ≡ plain_of v.now) }
         ensures none { IfNone result (member self.now (plain_key key.now) ≡ Plain.null) }
     {
