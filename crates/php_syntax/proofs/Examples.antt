@@ -13,7 +13,7 @@ use Rattle.php_syntax.specs.Tokens.{PlainToken, name, text, sign}
 use Rattle.php_syntax.specs.Trees.{int_expr, text_expr, var_expr, member_expr, join_expr, neg_expr, arith_expr, compare_expr, coalesce_expr, isset_expr, assign_expr, update_expr, call_expr, no_expr, some_expr, no_exprs, more_exprs, no_keys, more_keys, echo_stmt, while_stmt, break_stmt, return_stmt, no_stmts, more_stmts, PlainFile}
 use Rattle.php_syntax.specs.Terminals.{keyword_of, terminal_of, word_terminal, name_terminal, int_terminal, text_terminal, sign_terminal}
 use Rattle.php_syntax.specs.Expressions.{ExprForm, choice_form, only_choice, only_nul, coalesce_form, ChainForm, chain_form, no_more, once_more, one_more, OperandForm, tighter_form, tightest_form, prefix_form, post_form, PostForm, base_form, int_form, text_form, variable_base, escape_base, quotes_and_charset, no_subscript, no_more_exprs, expr_terminals, expr_tree, chain_terminals, chain_tree, nul_tree, post_tree}
-use Rattle.php_syntax.specs.Statements.{echo_form, if_form, while_form, stmt_body, semicolon_form, no_arms_form, no_else_form, else_form, nearest, takes_else, stmt_terminals, stmt_trees, stmt_part, end_of_file}
+use Rattle.php_syntax.specs.Statements.{echo_form, if_form, while_form, stmt_body, semicolon_form, colon_if_form, no_stmts_form, more_stmts_form, no_colon_arms, colon_else, no_arms_form, no_else_form, else_form, nearest, takes_else, stmt_terminals, stmt_trees, stmt_part, end_of_file}
 use Rattle.php_syntax.specs.Rules.{expr_fits, stmt_fits, is_writable}
 use Rattle.php_syntax.specs.Height.{height}
 use Rattle.php_syntax.specs.Grammar.{SpellsTree, most_open}
@@ -147,6 +147,15 @@ behind_a_loop = refl
 nested_if : nearest (if_form one semicolon_form no_arms_form (else_form (if_form one semicolon_form no_arms_form no_else_form))) ≡ false
 unfolding nearest takes_else
 nested_if = refl
+
+-- between `:` and `endif` likewise: `if (1): if (1) ; else: endif;` gives its `else` to no `if`, and with one more `;` before it to the first
+behind_an_if : nearest (colon_if_form one (more_stmts_form (if_form one semicolon_form no_arms_form no_else_form) no_stmts_form) no_colon_arms (colon_else no_stmts_form)) ≡ false
+unfolding nearest takes_else
+behind_an_if = refl
+
+behind_a_semicolon : nearest (colon_if_form one (more_stmts_form (if_form one semicolon_form no_arms_form no_else_form) (more_stmts_form semicolon_form no_stmts_form)) no_colon_arms (colon_else no_stmts_form)) ≡ true
+unfolding nearest takes_else
+behind_a_semicolon = refl
 
 -- `isset($a['b'])` and `isset(1)`
 isset_place : expr_fits (isset_expr (more_exprs (member_expr (var_expr (codes "a")) (text_expr (codes "b"))) no_exprs)) ≡ true

@@ -215,16 +215,28 @@ abbrev pub is_if : StmtForm → Bool
 is_if (if_form e s a l) = true
 is_if _ = false
 
+-- whether an arm or an `else` follows a statement of an `if`
 abbrev pub goes_on : ArmsForm → ElseForm → Bool
 goes_on no_arms_form no_else_form = false
 goes_on _ _ = true
+
+-- the same between `:` and `endif`
+abbrev pub colon_goes_on : ColonArmsForm → ColonElseForm → Bool
+colon_goes_on no_colon_arms no_colon_else = false
+colon_goes_on _ _ = true
+
+-- whether an `else` behind statements could belong to an `if` at the end of the last one
+abbrev pub last_takes_else : StmtsForm → Bool
+last_takes_else no_stmts_form = false
+last_takes_else (more_stmts_form s no_stmts_form) = takes_else s
+last_takes_else (more_stmts_form s (more_stmts_form t ss)) = last_takes_else (more_stmts_form t ss)
 
 -- Whether each `else` and each `elseif` belongs to the nearest `if` that can take it, and each `else if` that can be one more arm is one.
 unfoldable mutual
   pub nearest : StmtForm → Bool
   nearest (block_form ss) = all_nearest ss
   nearest (if_form e s a l) = nearest s && (not (takes_else s && goes_on a l) && (arms_nearest a l && else_nearest l))
-  nearest (colon_if_form e ss a l) = all_nearest ss && (colon_arms_nearest a && colon_else_nearest l)
+  nearest (colon_if_form e ss a l) = all_nearest ss && (not (last_takes_else ss && colon_goes_on a l) && (colon_arms_nearest a l && colon_else_nearest l))
   nearest (while_form e b) = body_nearest b
   nearest (do_form s e) = nearest s
   nearest (for_form begin e next b) = body_nearest b
@@ -244,9 +256,9 @@ unfoldable mutual
   else_nearest no_else_form = true
   else_nearest (else_form s) = nearest s && not (is_if s)
 
-  pub colon_arms_nearest : ColonArmsForm → Bool
-  colon_arms_nearest no_colon_arms = true
-  colon_arms_nearest (colon_arm e ss a) = all_nearest ss && colon_arms_nearest a
+  pub colon_arms_nearest : ColonArmsForm → ColonElseForm → Bool
+  colon_arms_nearest no_colon_arms l = true
+  colon_arms_nearest (colon_arm e ss a) l = all_nearest ss && (not (last_takes_else ss && colon_goes_on a l) && colon_arms_nearest a l)
 
   pub colon_else_nearest : ColonElseForm → Bool
   colon_else_nearest no_colon_else = true
