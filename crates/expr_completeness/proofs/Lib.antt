@@ -1,0 +1,15 @@
+pub mod Goes
+pub mod Ahead
+pub mod Opening
+pub mod Begins
+pub mod Levels
+pub mod Claims
+pub mod Chains
+pub mod Wholes
+pub mod Posts
+pub mod Rows
+pub mod Items
+pub mod Forms
+pub mod Lighter
+pub mod Closing
+pub mod Enough

@@ -1,0 +1,12 @@
+pub mod Shapes
+pub mod Stands
+pub mod Climbing
+pub mod Tests
+pub mod Behind
+pub mod Levels
+pub mod Wholes
+pub mod Items
+pub mod Places
+pub mod Begins
+pub mod Bracketed
+pub mod Soundness
