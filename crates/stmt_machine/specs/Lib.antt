@@ -1,0 +1,5 @@
+pub mod Actions
+pub mod Machine
+pub mod Postfix
+pub mod Made
+pub mod Reading
