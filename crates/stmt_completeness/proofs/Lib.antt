@@ -1,0 +1,11 @@
+pub mod Runs
+pub mod Opening
+pub mod Firsts
+pub mod Values
+pub mod Rows
+pub mod Loops
+pub mod Branches
+pub mod Ahead
+pub mod Simple
+pub mod Statements
+pub mod Files

@@ -1,0 +1,13 @@
+pub mod Shapes
+pub mod Stands
+pub mod Ahead
+pub mod Built
+pub mod Branches
+pub mod Rows
+pub mod Parts
+pub mod Cases
+pub mod Begins
+pub mod Words
+pub mod RowMoves
+pub mod Behinds
+pub mod Runs

@@ -1,0 +1,14 @@
+mod Carry
+mod Rows
+mod States
+mod Taken
+mod Nodes
+mod Simple
+mod Runs
+mod Loops
+mod Arms
+mod Ifs
+mod Statements
+mod Params
+mod Functions
+mod Files
