@@ -1,0 +1,5 @@
+pub mod Heads
+pub mod Outcomes
+pub mod Views
+pub mod Rows
+pub mod Frames
