@@ -1,0 +1,17 @@
+use Rattle.std.proofs.Common.{◌∷◌, ap, sym, ◌∙◌, false}
+use Rattle.expr_parser.specs.Heads.{terminals_of}
+use Rattle.stmt_maker.specs.Views.{made_of}
+use Rattle.stmt_machine.specs.Actions.{if_action}
+use Rattle.stmt_parser.specs.Nexts.{colon_arm_end_next}
+use Rattle.stmt_parser.specs.Outcomes.{acted, gone}
+use Rattle.stmt_parser.proofs.ActedLemmas.{acted_none, acted_jump}
+use Rattle.stmt_parser.proofs.OtherLemmas.{colon_arm_none}
+use Rattle.stmt_machine.specs.declared.frame.Focus.TheVariants as focus
+use Rattle.stmt_machine.specs.declared.frame.Frame.TheVariants as frame
+use Rattle.stmt_parser.proofs.arms.colon_arm_end.Goals as goal
+
+pub returns-in_ok-done-in-Some : goal.returns-in_ok-done-in-Some
+returns-in_ok-done-in-Some c = ap (λ ts. acted (colon_arm_end_next c.args.count c.args.frames.now ts) (made_of c.args.maker.now)) c.in-Some.ensures ∙ acted_jump c.in_ok-done-in-Some.done (if_action c.args.count false) c.args.frames.now (terminals_of c.in-Some.behind.now) (made_of c.args.maker.now) (made_of c.end_if.new.self) c.in_ok-done-in-Some.ensures ∙ c.jump.ensures c.args.frames.now (made_of c.end_if.new.self)
+
+pub returns-in_ok-push-in-None : goal.returns-in_ok-push-in-None
+returns-in_ok-push-in-None c = ap (λ x. acted x (made_of c.args.maker.now)) (colon_arm_none c.args.count c.args.frames.now (terminals_of c.args.rest.now) c.in-None.ensures) ∙ acted_none focus.Begin (frame.ColonArm c.args.count ∷ c.args.frames.now) (terminals_of c.args.rest.now) (made_of c.args.maker.now) ∙ ap (λ fs. gone focus.Begin fs (terminals_of c.args.rest.now) (made_of c.args.maker.now)) (sym c.in_ok-push-in-None.ensures.ok)

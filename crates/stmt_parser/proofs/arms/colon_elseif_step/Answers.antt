@@ -1,0 +1,15 @@
+use Rattle.std.proofs.Common.{◌∙◌}
+use Rattle.expr_parser.specs.Heads.{terminals_of}
+use Rattle.stmt_maker.specs.Views.{made_of}
+use Rattle.stmt_machine.specs.Machine.{condition_at}
+use Rattle.stmt_parser.specs.Nexts.{colon_elseif_next}
+use Rattle.stmt_parser.specs.Outcomes.{acted}
+use Rattle.stmt_parser.proofs.MoveLemmas.{colon_elseif_acted}
+use Rattle.stmt_parser.proofs.ReadLemmas.{on_ok}
+use Rattle.stmt_parser.proofs.arms.colon_elseif_step.Goals as goal
+
+pub returns-in-None : goal.returns-in-None
+returns-in-None c = let h = rw c.in-None.is at c.in_ok-read_condition.ensures in colon_elseif_acted c.args.count c.args.frames.now (condition_at (terminals_of c.args.rest.now)) (made_of c.args.maker.now) ∙ h (λ r n. acted (colon_elseif_next c.args.count c.args.frames.now r) n)
+
+pub returns-in-Some : goal.returns-in-Some
+returns-in-Some c = let h = rw c.in-Some.is at c.in_ok-read_condition.ensures in on_ok _ c.colon_elseif_body.result (colon_elseif_acted c.args.count c.args.frames.now (condition_at (terminals_of c.args.rest.now)) (made_of c.args.maker.now) ∙ h (λ r n. acted (colon_elseif_next c.args.count c.args.frames.now r) n)) c.colon_elseif_body.ensures

@@ -1,0 +1,14 @@
+use Rattle.std.proofs.Common.{ap}
+use Rattle.expr_parser.specs.Heads.{terminals_of}
+use Rattle.stmt_maker.specs.Views.{made_of}
+use Rattle.stmt_parser.specs.Nexts.{if_next}
+use Rattle.stmt_parser.specs.Outcomes.{acted}
+use Rattle.stmt_parser.proofs.ReadLemmas.{on_ok}
+use Rattle.stmt_parser.proofs.TestLemmas.{if_plain}
+use Rattle.stmt_parser.proofs.begins.if_body.Goals as goal
+
+pub returns-in-Some : goal.returns-in-Some
+returns-in-Some c = on_ok _ c.opened.result (ap (λ ts. acted (if_next c.args.frames.now ts) (made_of c.args.maker.now)) c.in-Some.ensures) c.opened.ensures
+
+pub returns-in-None : goal.returns-in-None
+returns-in-None c = on_ok _ c.opened-in-None.result (ap (λ x. acted x (made_of c.args.maker.now)) (if_plain c.args.frames.now (terminals_of c.args.rest.now) c.in-None.ensures)) c.opened-in-None.ensures

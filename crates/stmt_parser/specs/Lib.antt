@@ -1,0 +1,5 @@
+pub mod Outcomes
+pub mod Nexts
+pub mod Lasts
+pub mod Literals
+pub mod Readings
