@@ -1,0 +1,68 @@
+//! How many brackets are open at once.
+
+ghost use Rattle.std.specs.Prelude.{◌≡◌, ◌<◌, ◌≤◌, MatchOption};
+ghost use Rattle.php_syntax.specs.Tokens.{plain_kind};
+ghost use Rattle.php_syntax.specs.Terminals.{terminal_of};
+ghost use Rattle.php_syntax.specs.Grammar.{open_after, open_after_sign, most_open};
+ghost use Rattle.expr_parser.specs.Heads.{terminals_of, terminal_at};
+
+use expr_parser::head::{Head, head_at};
+use php_syntax::token::{Sign, Token};
+
+/// The most brackets that may be open at once.
+const MOST_BRACKETS: u32 = 200;
+
+// How many are open behind a sign.
+fn behind_sign(count: u32, sign: Sign) -> u32
+    requires { count ≤ 200 }
+    ensures { result ≡ open_after_sign count sign }
+{
+    match sign {
+        Sign::OpenParen => count + 1,
+        Sign::OpenBracket => count + 1,
+        Sign::OpenBrace => count + 1,
+        Sign::CloseParen => count.saturating_sub(1),
+        Sign::CloseBracket => count.saturating_sub(1),
+        Sign::CloseBrace => count.saturating_sub(1),
+        _ => count,
+    }
+}
+
+// How many are open behind a terminal.
+fn behind(count: u32, head: &Head) -> u32
+    requires { count ≤ 200 }
+    ensures { result ≡ open_after count (terminal_at head.now) }
+{
+    match head {
+        Head::Sign(sign) => behind_sign(count, *sign),
+        _ => count,
+    }
+}
+
+/// Where one bracket too many is opened, if more than 200 are open at once.
+pub(crate) fn too_many(tokens: &[Token]) -> Option<u32>
+    ensures { MatchOption result (most_open 0 (terminals_of tokens.now) ≤ 200) (λ _. 200 < most_open 0 (terminals_of tokens.now)) }
+{
+    let mut rest = tokens;
+    let mut count = 0;
+    'tokens: loop {
+        match head_at(rest) {
+            None => return None,
+            Some((head, more)) => {
+                count = behind(count, &head);
+                if count > MOST_BRACKETS {
+                    return Some(place(rest));
+                }
+                rest = more;
+            }
+        }
+    }
+}
+
+// Where the first of these tokens stands; 0 where there is none.
+fn place(tokens: &[Token]) -> u32 {
+    match tokens.first() {
+        None => 0,
+        Some(token) => token.at,
+    }
+}

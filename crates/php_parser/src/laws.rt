@@ -1,0 +1,17 @@
+//! Laws of the grammar. The function does nothing, and stands for the law that its contract states.
+
+ghost use Rattle.std.specs.Prelude.{◌≡◌, List};
+ghost use Rattle.php_syntax.specs.Tokens.{PlainToken};
+ghost use Rattle.php_syntax.specs.Trees.{PlainFile};
+ghost use Rattle.php_syntax.specs.Grammar.{SpellsTree, IsTooDeep};
+
+use stmt_completeness::files_are_read;
+use stmt_trees::actions_make_files;
+
+/// Tokens that are not too deep spell at most one tree.
+pub fn one_tree()
+    ensures { (tokens : List PlainToken) (a b : PlainFile) → (IsTooDeep tokens → ⊥) → SpellsTree tokens a → SpellsTree tokens b → a ≡ b }
+{
+    files_are_read();
+    actions_make_files();
+}
