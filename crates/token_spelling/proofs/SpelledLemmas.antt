@@ -18,19 +18,19 @@ use Rattle.token_spelling.specs.Spelled.{IsName, IsInteger, EndsName, EndsIntege
 use Rattle.php_syntax.specs.Heredocs.{heredoc_step, nowdoc_step}
 
 -- a letter or an underscore is beyond the signs and blanks
-name_start_high : (b : ℕ) → is_name_start b ≡ true → 64 < b
+pub name_start_high : (b : ℕ) → is_name_start b ≡ true → 64 < b
 name_start_high b e = grind (arith, nat_tests)
 
-apart : (a b : ℕ) → a < b → nat_eq a b ≡ false
+pub apart : (a b : ℕ) → a < b → nat_eq a b ≡ false
 apart a b h = grind (arith, nat_tests)
 
-apart' : (a b : ℕ) → b < a → nat_eq a b ≡ false
+pub apart' : (a b : ℕ) → b < a → nat_eq a b ≡ false
 apart' a b h = grind (arith, nat_tests)
 
-at_most : (a b : ℕ) → a ≤ b → nat_le a b ≡ true
+pub at_most : (a b : ℕ) → a ≤ b → nat_le a b ≡ true
 at_most a b h = grind (arith, nat_tests)
 
-over : (a b : ℕ) → b < a → nat_le a b ≡ false
+pub over : (a b : ℕ) → b < a → nat_le a b ≡ false
 over a b h = grind (arith, nat_tests)
 
 -- nothing that stands between tokens begins with such a byte
@@ -44,13 +44,13 @@ run_more : (p : ℕ → Bool) (x : ℕ) (xs rest : List ℕ) (v : Bool) → p x 
 run_more p x xs rest true e all more = rw e (omega (arith, more (rw e at all)))
 run_more p x xs rest false e all more = absurd (let stop = rw e at all in cc)
 
-run_length : (p : ℕ → Bool) (xs rest : List ℕ) → list_all p xs ≡ true → head_is p rest ≡ false → prefix_len p (xs ++ rest) ≡ length xs
+pub run_length : (p : ℕ → Bool) (xs rest : List ℕ) → list_all p xs ≡ true → head_is p rest ≡ false → prefix_len p (xs ++ rest) ≡ length xs
 run_length p [] [] all none = refl
 run_length p [] (b ∷ rest) all none = rw none refl
 run_length p (x ∷ xs) rest all none = run_more p x xs rest (p x) refl all (λ more. run_length p xs rest more none)
 
 -- the name that stands at the head is read whole
-named : (b : ℕ) (more rest : List ℕ) → is_name_start b ≡ true → list_all is_name_byte more ≡ true → head_is is_name_byte rest ≡ false → name_length (b ∷ (more ++ rest)) ≡ suc (length more)
+pub named : (b : ℕ) (more rest : List ℕ) → is_name_start b ≡ true → list_all is_name_byte more ≡ true → head_is is_name_byte rest ≡ false → name_length (b ∷ (more ++ rest)) ≡ suc (length more)
 named b more rest start all none = rw start (omega (arith, run_length is_name_byte more rest all none))
 
 -- a name is cut as a name
@@ -74,7 +74,7 @@ quoted_more b bytes rest true second e f more = rw e (rw e (rw more (ap (whole (
 quoted_more b bytes rest false true e f more = rw (e, f) (rw (e, f) (rw more (ap (whole (b ∷ bytes)) (omega arith))))
 quoted_more b bytes rest false false e f more = rw (e, f) (rw (e, f) (rw more (ap (whole (b ∷ bytes)) (omega arith))))
 
-quoted_row : (bytes rest : List ℕ) → row single_at 0 (quoted bytes ++ rest) ≡ whole bytes (length (quoted bytes))
+pub quoted_row : (bytes rest : List ℕ) → row single_at 0 (quoted bytes ++ rest) ≡ whole bytes (length (quoted bytes))
 unfolding row
 quoted_row [] rest = refl
 quoted_row (b ∷ bytes) rest = quoted_more b bytes rest (b == 39) (b == 92) refl refl (quoted_row bytes rest)
@@ -84,7 +84,7 @@ pub text_spelled : (bytes rest : List ℕ) → step inside (39 ∷ (quoted bytes
 unfolding step lexeme_step between_step blank_step line_comment_step block_comment_step leaving_step word_step name_step variable_step number_step text_step single_step
 text_spelled bytes rest = rw (quoted_row bytes rest) refl
 
-digit_bounds : (b : ℕ) → is_digit b ≡ true → (47 < b) × (b < 58)
+pub digit_bounds : (b : ℕ) → is_digit b ≡ true → (47 < b) × (b < 58)
 digit_bounds b e = (grind (arith, nat_tests), grind (arith, nat_tests))
 
 between_digit : (b : ℕ) (rest : List ℕ) → 47 < b → b < 58 → between_step (b ∷ rest) ≡ None
@@ -95,7 +95,7 @@ between_digit b rest h k =
 no_name : (b : ℕ) (rest : List ℕ) → 47 < b → b < 58 → name_length (b ∷ rest) ≡ 0
 no_name b rest h k = rw (over 65 b (omega arith), over 97 b (omega arith), apart b 95 (omega arith)) refl
 
-digits_are : (b : ℕ) (more rest : List ℕ) → is_digit b ≡ true → list_all is_digit more ≡ true → head_is is_digit rest ≡ false → digits_length (b ∷ (more ++ rest)) ≡ suc (length more)
+pub digits_are : (b : ℕ) (more rest : List ℕ) → is_digit b ≡ true → list_all is_digit more ≡ true → head_is is_digit rest ≡ false → digits_length (b ∷ (more ++ rest)) ≡ suc (length more)
 digits_are b more rest first all none = rw first (omega (arith, run_length is_digit more rest all none))
 
 digits_given : (digits rest : List ℕ) → has_leading_zero digits ≡ false → value_of digits ≤ largest → head_is is_name_byte rest ≡ false → goes_on_as_float rest ≡ false

@@ -1,0 +1,8 @@
+use Rattle.std.proofs.Common.{◌≡◌, drop}
+use Rattle.php_syntax.specs.Rules.{all_places}
+use Rattle.php_syntax.specs.Trees.{exprs_of}
+use Rattle.php_writer.proofs.shapes.are_places.Given as goal
+
+-- what is left to test decides
+abbrev pub invariant-loop-expr : goal.invariant-loop-expr
+invariant-loop-expr l = all_places (exprs_of (drop l.expr-index l.exprs)) ≡ all_places (exprs_of l.exprs)

@@ -1,0 +1,6 @@
+pub mod Marks
+pub mod Spellable
+pub mod Written
+pub mod Tested
+pub mod Openers
+pub mod Spelled
