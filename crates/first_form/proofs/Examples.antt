@@ -1,16 +1,15 @@
 -- The definitions on worked examples and near misses.
-use Rattle.std.proofs.Common.{◌≡◌, ℕ, true, false, List, [], ◌∷◌, ◌++◌, Option, Some, None, refl, ap, ◌∙◌, inl, inr}
+use Rattle.std.proofs.Common.{◌≡◌, ℕ, true, false, List, [], ◌++◌, refl, ap, ◌∙◌, inl, inr}
 use Rattle.std.specs.Prelude.{codes, pos}
 use Rattle.std.specs.List.{list_all}
-use Rattle.first_form.specs.FirstForm.{is_plain, is_quotable, is_letter, spelling, echo_of, if_set, Part, inline, php, ifs_of, File, text_alone, text_php_and, Spells, parts_of, inline_part, php_parts, HasParts, IsSpaced, marks_of, statement_marks, echo_marks, IsLawful}
-use Rattle.first_form.specs.Trees.{file_tree}
+use Rattle.php_syntax.specs.Trees.{PlainExpr, PlainStmt, PlainStmts, PlainFile, text_expr, no_exprs, more_exprs, inline_stmt, echo_stmt, if_stmt, no_stmts, more_stmts, no_arms, more_arms}
+use Rattle.first_form.specs.Characters.{is_plain, is_letter}
 use Rattle.first_form.specs.Requests.{Request, Members, text_key, int_key, text_member, array_member, no_members, more_members, has_name, is_xml_character}
 use Rattle.first_form.specs.Meaning.{Meaning, Ended, Spent, statement_run, texts_of, outcome_of}
 use Rattle.first_form.specs.Loose.{Loose, LooseStatement}
-use Rattle.first_form.specs.Steps.Reading.{file_at, file_within, go_on, step_at, text_step, past_text, ends_text, strip, php_step, opener_at, past_blank, end_step, many, many_within, rest_of, with_next, statement_at, after, arm_start_at, close_step, closer_at, echo_at, echo_or, else_at, front_of, if_at, if_head_at, if_start_at, key_at, not_empty, past_newline, quoted_at, text_of, words_at}
-use Rattle.first_form.proofs.Files.{has-parts}
+use Rattle.first_form.specs.FirstTree.{is_set, IsSetTest, IsStraightStatement, IsBranch, IsFirstBody, IsFirstTree}
 
--- bytes of inline text
+-- bytes of texts
 markup_is_plain : list_all is_plain (codes "<p class='x'>a</p>") ≡ true
 markup_is_plain = refl
 
@@ -20,43 +19,8 @@ ampersand_is_not = refl
 comment_is_not : list_all is_plain (codes "<!-- -->") ≡ false
 comment_is_not = refl
 
-quote_is_not_quotable : list_all is_quotable (codes "it's") ≡ false
-quote_is_not_quotable = refl
-
 digits_are_no_letters : list_all is_letter (codes "q1") ≡ false
 digits_are_no_letters = refl
-
--- an echo, with blanks between its tokens
-echo_with_blanks : IsSpaced (echo_marks (codes "a")) (codes "echo  'a' ;\n?>") (codes "?>")
-unfolding IsSpaced echo_marks spelling
-echo_with_blanks = (codes "  ", codes "'a' ;\n?>", refl, refl, (codes " ", codes ";\n?>", refl, refl, (10 ∷ [], codes "?>", refl, refl, refl)))
-
--- the file `a<?php echo 'b'; ?>`, LF, LF: the first LF belongs to the end of the piece, the second is inline text
-sample : File
-sample = text_php_and (codes "a") (echo_of (codes "b") ∷ []) (text_alone (10 ∷ []))
-
-sample_parts : parts_of sample ≡ inline (codes "a") ∷ php (echo_of (codes "b")) ∷ inline (10 ∷ []) ∷ []
-unfolding sample parts_of inline_part php_parts
-sample_parts = refl
-
-sample_spelled : Spells sample (codes "a<?php echo 'b'; ?>\n\n")
-unfolding sample Spells IsSpaced marks_of statement_marks echo_marks spelling IsLawful
-sample_spelled = (
-  codes "<?php echo 'b'; ?>\n\n",
-  codes "?>\n\n",
-  10 ∷ [],
-  refl,
-  (refl, tt),
-  refl,
-  record { blank = 32; blanks = []; more = codes "echo 'b'; ?>\n\n"; begins = refl; spaces = refl; spelled = refl; spaced = (codes " ", codes "'b'; ?>\n\n", refl, refl, ([], codes "; ?>\n\n", refl, refl, (codes " ", codes "?>\n\n", refl, refl, refl))) },
-  inl refl,
-  (refl, refl),
-)
-
--- two ifs are one too many
-two_ifs : ifs_of (php (if_set (codes "a") [] []) ∷ inline (codes "x") ∷ php (if_set (codes "b") [] []) ∷ []) ≡ 2
-unfolding ifs_of
-two_ifs = refl
 
 -- names that are set: a member under the name itself, be it an array, and none under another name or a number
 some_members : Members
@@ -80,9 +44,18 @@ null_is_none = refl
 surrogate_is_none : is_xml_character 55296 ≡ false
 surrogate_is_none = refl
 
--- <?php if (isset($_GET['name'])) { echo 'y'; } else { echo 'n'; }
-choice_parts : List Part
-choice_parts = inline (codes "p") ∷ php (if_set (codes "name") (codes "y" ∷ []) (codes "n" ∷ [])) ∷ []
+-- p<?php if (isset($_GET['name'])) { echo 'y'; } else { echo 'n'; }
+abbrev echo_one : List ℕ → PlainStmt
+echo_one text = echo_stmt (more_exprs (text_expr text) no_exprs)
+
+abbrev one_stmt : PlainStmt → PlainStmts
+one_stmt s = more_stmts s no_stmts
+
+abbrev choice_on : List ℕ → PlainStmt
+choice_on key = if_stmt (more_arms (is_set key) (one_stmt (echo_one (codes "y"))) no_arms) (one_stmt (echo_one (codes "n")))
+
+choice : PlainFile
+choice = record { body_of = more_stmts (inline_stmt (codes "p")) (one_stmt (choice_on (codes "name"))); functions_of = [] }
 
 asked : Request
 asked = record { get = some_members; post = no_members; cookie = no_members; request = no_members; server = no_members }
@@ -91,62 +64,63 @@ not_asked : Request
 not_asked = record { get = no_members; post = some_members; cookie = no_members; request = no_members; server = no_members }
 
 -- three statements take three units
-set_name_prints_the_first_arm : Meaning (file_tree choice_parts) asked 3 (codes "py") Ended
-unfolding choice_parts asked some_members Meaning statement_run outcome_of
+set_name_prints_the_first_arm : Meaning choice asked 3 (codes "py") Ended
+unfolding choice asked some_members Meaning statement_run outcome_of
 set_name_prints_the_first_arm = refl
 
-other_array_does_not_count : Meaning (file_tree choice_parts) not_asked 3 (codes "pn") Ended
-unfolding choice_parts not_asked Meaning statement_run outcome_of
+other_array_does_not_count : Meaning choice not_asked 3 (codes "pn") Ended
+unfolding choice not_asked Meaning statement_run outcome_of
 other_array_does_not_count = refl
 
-two_units_are_spent : Meaning (file_tree choice_parts) asked 2 (codes "p") Spent
-unfolding choice_parts asked some_members Meaning statement_run outcome_of
+two_units_are_spent : Meaning choice asked 2 (codes "p") Spent
+unfolding choice asked some_members Meaning statement_run outcome_of
 two_units_are_spent = refl
 
 -- either arm gives a loose page, and no other text does
-first_arm_is_loose : Loose (file_tree choice_parts) (codes "py")
-unfolding choice_parts Loose LooseStatement texts_of
+first_arm_is_loose : Loose choice (codes "py")
+unfolding choice Loose LooseStatement texts_of
 first_arm_is_loose = (codes "p", codes "y", refl, (codes "y", [], inl (inl (codes "y", [], refl, refl, refl)), refl, refl), refl)
 
-second_arm_is_loose : Loose (file_tree choice_parts) (codes "pn")
-unfolding choice_parts Loose LooseStatement texts_of
+second_arm_is_loose : Loose choice (codes "pn")
+unfolding choice Loose LooseStatement texts_of
 second_arm_is_loose = (codes "p", codes "n", refl, (codes "n", [], inr (codes "n", [], refl, refl, refl), refl, refl), refl)
 
-empty_is_not_loose : Loose (file_tree choice_parts) [] → ⊥
-unfolding choice_parts Loose LooseStatement
+empty_is_not_loose : Loose choice [] → ⊥
+unfolding choice Loose LooseStatement
 empty_is_not_loose (first, more, is_text, rest, whole) = let e : [] ≡ codes "p" ++ more = whole ∙ ap (λ xs. xs ++ more) is_text in cc
 
--- what the reading of a file gives, which computes
-reading_of : List ℕ → Option (List Part)
-unfolding file_at file_within go_on step_at text_step past_text ends_text strip php_step opener_at past_blank end_step many many_within rest_of with_next statement_at inline_part php_parts spelling after arm_start_at close_step closer_at echo_at echo_or else_at front_of if_at if_head_at if_start_at key_at not_empty past_newline quoted_at text_of words_at
-reading_of bytes = file_at bytes
+-- a tree of the first form
+name_is_tested : IsSetTest (is_set (codes "name"))
+name_is_tested = (codes "name", λ e. absurd cc, refl, refl)
 
-not_of_the_form : (bytes : List ℕ) → reading_of bytes ≡ None → (parts : List Part) → HasParts bytes parts → ⊥
-unfolding reading_of
-not_of_the_form bytes e parts h = let f = has-parts bytes parts h.0 h.1 h.2 in cc
+choice_is_first : IsFirstTree choice
+unfolding choice IsFirstBody
+choice_is_first = (inl (refl, inr ((name_is_tested, (refl, tt), (refl, tt)), tt)), refl)
 
--- no file of the first form: a key with a digit, an echo without a semicolon, an opener without a blank, a short tag, an escape, an if without an else
-digit_in_a_key : reading_of (codes "<?php if (isset($_GET['q1'])) {} else {}") ≡ None
-unfolding reading_of
-digit_in_a_key = refl
+-- the empty script is of the first form
+empty_is_first : IsFirstTree (record { body_of = no_stmts; functions_of = [] })
+unfolding IsFirstBody
+empty_is_first = (tt, refl)
 
-no_semicolon : reading_of (codes "<?php echo 'a' ?>") ≡ None
-unfolding reading_of
-no_semicolon = refl
+-- no trees of the first form: two ifs, an if with two conditions, an echo of two texts, a text with an ampersand, an if within an arm
+two_ifs : IsFirstBody (more_stmts (choice_on (codes "a")) (one_stmt (choice_on (codes "b")))) → ⊥
+unfolding IsFirstBody
+two_ifs (inl h) = h.0
+two_ifs (inr h) = h.1.0
 
-no_blank : reading_of (codes "<?php") ≡ None
-unfolding reading_of
-no_blank = refl
+two_conditions : (a b : PlainExpr) (x y z : PlainStmts) → IsFirstBody (one_stmt (if_stmt (more_arms a x (more_arms b y no_arms)) z)) → ⊥
+unfolding IsFirstBody
+two_conditions a b x y z (inl h) = h.0
+two_conditions a b x y z (inr h) = h.0
 
-short_tag : reading_of (codes "<?= 1 ?>") ≡ None
-unfolding reading_of
-short_tag = refl
+two_texts : IsStraightStatement (echo_stmt (more_exprs (text_expr (codes "a")) (more_exprs (text_expr (codes "b")) no_exprs))) → ⊥
+unfolding IsStraightStatement
+two_texts h = h
 
-no_else : reading_of (codes "<?php if (isset($_GET['q'])) {}") ≡ None
-unfolding reading_of
-no_else = refl
+ampersand_in_a_text : IsStraightStatement (inline_stmt (codes "a & b")) → ⊥
+unfolding IsStraightStatement
+ampersand_in_a_text h = cc
 
--- of the form: an if in the midst of markup, closed by the end of the file
-markup_and_choice : reading_of (codes "<b><?php if(isset($_GET['q'])){echo 'y';}else{}") ≡ Some (inline (codes "<b>") ∷ php (if_set (codes "q") (codes "y" ∷ []) []) ∷ [])
-unfolding reading_of
-markup_and_choice = refl
+if_in_an_arm : (condition : PlainExpr) (otherwise : PlainStmts) → IsBranch (if_stmt (more_arms condition (one_stmt (choice_on (codes "b"))) no_arms) otherwise) → ⊥
+unfolding IsBranch
+if_in_an_arm condition otherwise h = h.1.0

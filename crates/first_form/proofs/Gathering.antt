@@ -1,20 +1,15 @@
 -- The pages that are gathered are the loose pages.
-use Rattle.std.proofs.Common.{◌≡◌, ℕ, ◌≤◌, not, List, [], ◌∷◌, ◌++◌, Option, Some, None, refl, sym, ap, ◌∙◌, subst, inl, inr, arith, length, append_assoc, append-nil}
+use Rattle.std.proofs.Common.{◌≡◌, ℕ, List, [], ◌∷◌, ◌++◌, Option, Some, None, refl, sym, ap, ◌∙◌, subst, inl, inr, arith, length, append_assoc, append-nil}
 use Rattle.php_syntax.specs.declared.tree.FunctionDef.{FunctionDef}
-use Rattle.std.specs.Prelude.{Result, Ok, Err, IfOk, IfNone, ◌⊎◌, ◌≢◌, ◌↔◌, IfSome, ◌==◌, ◌&&◌}
-use Rattle.std.specs.List.{list_all, AllByRecursion}
-use Rattle.std.proofs.lemmas.Bool.{and_parts, and_from}
+use Rattle.std.specs.Prelude.{Result, Ok, Err, IfOk, IfNone, ◌⊎◌, ◌≢◌, ◌↔◌, IfSome}
 use Rattle.std.proofs.lemmas.Option.{same_Some}
 use Rattle.php_syntax.specs.Trees.{PlainStmt, PlainStmts, PlainFile, functions_of_list, no_stmts, more_stmts}
 use Rattle.first_form.specs.declared.pages.Pages.{Pages}
-use Rattle.first_form.specs.FirstForm.{Each, is_plain, is_quotable, echo_of, if_set, IsLawful, Part, inline, php, ifs_of}
-use Rattle.first_form.specs.Trees.{arm_of, parts_tree, IsFirstForm}
+use Rattle.first_form.specs.Characters.{Each, is_plain}
 use Rattle.first_form.specs.Loose.{LooseStatement, LooseStatements, Loose}
-use Rattle.first_form.specs.Steps.Reading.{◌>>=◌}
 use Rattle.first_form.specs.FirstTree.{IsStraightStatement, IsStraight, IsBranch, IsFirstBody, IsFirstTree, ArePages}
-use Rattle.first_form.specs.Steps.Paging.{printed_of, printed_by, arms_at, Gathered, gathered, maybe_gathered, with_text, forked, with_branch, text_or_branch, with_statement, with_body}
-use Rattle.first_form.proofs.Fronts.{bind_ok}
-use Rattle.first_form.proofs.Lawful.{IsLawfulPart, parts_lawful}
+use Rattle.first_form.specs.Steps.Paging.{◌>>=◌, printed_of, printed_by, arms_at, Gathered, gathered, maybe_gathered, with_text, forked, with_branch, text_or_branch, with_statement, with_body}
+use Rattle.first_form.proofs.Binding.{bind_ok}
 use Rattle.first_form.proofs.Straight.{PrintsOnly, printed_some, printed_none_straight, AllPrint, each_append, printed_by_some, printed_by_none, Arms, arms_some, branch_at}
 
 -- one of the gathered pages
@@ -266,40 +261,6 @@ tree_first pages program e = body_first program.body_of ([], None) (gathered pag
 pub tree_none : (program : PlainFile) → None ≡ with_body ([], None) program.body_of → IsFirstBody program.body_of → ⊥
 tree_none program e h = no_body_first program.body_of ([], None) (sym e) refl h
 
--- the tree of a file of the first form is of the first form
-plain_of_quotable : (text : List ℕ) → Each is_quotable text → Each is_plain text
-plain_of_quotable [] h = refl
-plain_of_quotable (b ∷ bs) h =
-    let both = and_parts (is_quotable b) (list_all is_quotable bs) h in
-    let left = and_parts (is_plain b && not (b == 39)) (not (b == 92)) both.0 in
-    let plain = and_parts (is_plain b) (not (b == 39)) left.0 in
-    and_from (is_plain b) (list_all is_plain bs) plain.0 (plain_of_quotable bs both.1)
-
-arm_straight : (texts : List (List ℕ)) → AllByRecursion (Each is_quotable) texts → IsStraight (arm_of texts)
-unfolding IsStraight
-arm_straight [] h = tt
-arm_straight (text ∷ texts) h = (plain_of_quotable text h.0, arm_straight texts h.1)
-
-parts_straight : (parts : List Part) → AllByRecursion IsLawfulPart parts → ifs_of parts ≡ 0 → IsStraight (parts_tree parts)
-unfolding IsStraight ifs_of IsLawful
-parts_straight [] h z = tt
-parts_straight (inline text ∷ parts) h z = (h.0, parts_straight parts h.1 z)
-parts_straight (php (echo_of text) ∷ parts) h z = (plain_of_quotable text h.0, parts_straight parts h.1 z)
-parts_straight (php (if_set key yes_texts no_texts) ∷ parts) h z = absurd (omega arith)
-
-parts_first : (parts : List Part) → AllByRecursion IsLawfulPart parts → ifs_of parts ≤ 1 → IsFirstBody (parts_tree parts)
-unfolding IsFirstBody ifs_of IsLawful
-parts_first [] h z = tt
-parts_first (inline text ∷ parts) h z = inl (h.0, parts_first parts h.1 z)
-parts_first (php (echo_of text) ∷ parts) h z = inl (plain_of_quotable text h.0, parts_first parts h.1 z)
-parts_first (php (if_set key yes_texts no_texts) ∷ parts) h z =
-    inr (((key, h.0.0, h.0.1, refl), arm_straight yes_texts h.0.2, arm_straight no_texts h.0.3), parts_straight parts h.1 (omega arith))
-
-pub first_form_tree : (bytes : List ℕ) (tree : PlainFile) → IsFirstForm bytes tree → IsFirstTree tree
-first_form_tree bytes tree h =
-    let lawful = subst (AllByRecursion IsLawfulPart) h.1.2 (parts_lawful h.1.0 bytes h.1.1) in
-    subst IsFirstTree h.2 (parts_first h.0 lawful h.1.3, refl)
-
 -- the answers of the functions over trees
 pub ok_map : {A E : Type 0} (P Q : A → Type 0) (r : Result A E) → ((x : A) → P x → Q x) → IfOk r P → IfOk r Q
 ok_map P Q (Ok x) h p = h x p
@@ -324,8 +285,3 @@ no_functions (f ∷ fs) z = absurd (omega arith)
 pub some_functions : (fs : List FunctionDef) → length fs ≢ 0 → functions_of_list fs ≡ [] → ⊥
 some_functions [] z e = z refl
 some_functions (f ∷ fs) z e = cc
-
--- a file of the first form has pages
-pub script_none : (file : List ℕ) (tree : PlainFile) → IsFirstForm file tree → (o : Option Pages) → IfNone o (IsFirstTree tree → ⊥) → IfNone o ((program : PlainFile) → IsFirstForm file program → ⊥)
-script_none file tree h None k = absurd (k (first_form_tree file tree h))
-script_none file tree h (Some pages) k = tt

@@ -3,8 +3,7 @@ use Rattle.std.proofs.Common.{◌≡◌, ℕ, ◌+◌, ◌≤◌, ◌<◌, List,
 use Rattle.std.proofs.lemmas.List.{drop_more, drop_all}
 use Rattle.php_syntax.specs.declared.tree.Stmt.{Stmt}
 use Rattle.php_syntax.specs.Trees.{more_stmts, plain_stmt, stmts_of}
-use Rattle.first_form.specs.Steps.Reading.{◌>>=◌}
-use Rattle.first_form.specs.Steps.Paging.{printed_of, printed_by, with_statement, with_body, Gathered}
+use Rattle.first_form.specs.Steps.Paging.{◌>>=◌, printed_of, printed_by, with_statement, with_body, Gathered}
 
 -- a text before another, if there is one
 abbrev pub with_front : List ℕ → Option (List ℕ) → Option (List ℕ)

@@ -1,15 +1,13 @@
 -- Runs: what an ended run prints, more units, and enough units.
-use Rattle.std.proofs.Common.{◌≡◌, ℕ, zero, suc, ◌+◌, Bool, true, false, List, [], ◌∷◌, ◌++◌, Option, Some, None, refl, sym, ap, ◌∙◌, subst, inl, inr, arith, append_assoc, append-nil}
+use Rattle.std.proofs.Common.{◌≡◌, ℕ, zero, suc, ◌+◌, Bool, true, false, List, [], ◌++◌, Option, Some, None, refl, sym, ap, ◌∙◌, subst, inl, inr, arith, append_assoc, append-nil}
 use Rattle.std.specs.Prelude.{◌⊎◌}
-use Rattle.std.specs.List.{AllByRecursion}
 use Rattle.std.proofs.lemmas.Option.{some_pair_parts}
-use Rattle.php_syntax.specs.Trees.{PlainStmt, PlainStmts, PlainArms, PlainFile, inline_stmt, echo_stmt, run_stmt, if_stmt, while_stmt, do_while_stmt, for_stmt, each_stmt, break_stmt, continue_stmt, return_stmt, include_stmt, no_stmts, more_stmts, no_arms, more_arms}
-use Rattle.first_form.specs.FirstForm.{Each, is_letter, echo_of, if_set, IsLawful, Part, inline, php}
-use Rattle.first_form.specs.Trees.{echo_text, arm_of, statement_tree, part_tree, parts_tree, file_tree}
+use Rattle.php_syntax.specs.Trees.{PlainStmt, PlainStmts, PlainArms, PlainFile, text_expr, no_exprs, more_exprs, inline_stmt, echo_stmt, run_stmt, if_stmt, while_stmt, do_while_stmt, for_stmt, each_stmt, break_stmt, continue_stmt, return_stmt, include_stmt, no_stmts, more_stmts, no_arms, more_arms}
+use Rattle.first_form.specs.Characters.{Each, is_letter}
 use Rattle.first_form.specs.Requests.{Request, has_name}
 use Rattle.first_form.specs.Meaning.{Run, going, spent, unwritten, with_unit, ◌then_do◌, texts_of, print_texts, condition_of, choose, statement_run, statements_run, arms_run, outcome_of, Meaning, Ended, Spent}
-use Rattle.first_form.proofs.Lawful.{IsLawfulPart}
 use Rattle.first_form.specs.Loose.{LooseStatement, LooseStatements, LooseArms, Loose}
+use Rattle.first_form.specs.FirstTree.{is_set, IsStraightStatement, IsStraight, IsBranch, IsFirstBody, IsFirstTree}
 
 -- what goes on after a run that goes on
 then_going : (run : Run) (go : ℕ → List ℕ → Run) (m : ℕ) (out : List ℕ) → (run then_do go) ≡ going m out → (k : ℕ) × (mid : List ℕ) × (run ≡ going k mid) × (go k mid ≡ going m out)
@@ -179,34 +177,42 @@ statements_end r s ss one all printed =
           (let turn : a.1 + b.0 ≡ b.0 + a.1 = omega arith in rw turn (statements_more r ss b.0 a.1 a.2 b.1 b.2 b.3)),
     )
 
-echo_ends : (r : Request) (text printed : List ℕ) → Ends (statement_run r (echo_text text)) printed
+echo_ends : (r : Request) (text printed : List ℕ) → Ends (statement_run r (echo_stmt (more_exprs (text_expr text) no_exprs))) printed
 unfolding statement_run with_unit print_texts texts_of
 echo_ends r text printed = (1, 0, printed ++ (text ++ []), refl)
 
-arm_ends : (r : Request) (texts : List (List ℕ)) (printed : List ℕ) → Ends (statements_run r (arm_of texts)) printed
-unfolding statement_run
-arm_ends r [] printed = (0, 0, printed, refl)
-arm_ends r (text ∷ texts) printed = statements_end r (echo_text text) (arm_of texts) (echo_ends r text) (arm_ends r texts) printed
+straight_ends : (r : Request) (s : PlainStmt) → IsStraightStatement s → (printed : List ℕ) → Ends (statement_run r s) printed
+unfolding statement_run with_unit IsStraightStatement
+straight_ends r (inline_stmt text) h printed = (1, 0, printed ++ text, refl)
+straight_ends r (echo_stmt (more_exprs (text_expr text) no_exprs)) h printed = echo_ends r text printed
+straight_ends r _ h printed = absurd h
 
-if_ends : (r : Request) (key : List ℕ) (yes_texts no_texts : List (List ℕ)) → Each is_letter key → (printed : List ℕ) → Ends (statement_run r (statement_tree (if_set key yes_texts no_texts))) printed
+body_ends : (r : Request) (ss : PlainStmts) → IsStraight ss → (printed : List ℕ) → Ends (statements_run r ss) printed
+unfolding statement_run IsStraight
+body_ends r no_stmts h printed = (0, 0, printed, refl)
+body_ends r (more_stmts s ss) h printed = statements_end r s ss (straight_ends r s h.0) (body_ends r ss h.1) printed
+
+-- an if on whether the name is set
+if_ends : (r : Request) (key : List ℕ) (body otherwise : PlainStmts) → Each is_letter key → (printed : List ℕ) → Ends (statements_run r body) printed → Ends (statements_run r otherwise) printed → Ends (statement_run r (if_stmt (more_arms (is_set key) body no_arms) otherwise)) printed
 unfolding statement_run with_unit condition_of choose
-if_ends r key yes_texts no_texts letters printed = go (has_name key r.get) refl (arm_ends r yes_texts printed) (arm_ends r no_texts printed)
+if_ends r key body otherwise letters printed a b = go (has_name key r.get) refl
   where
-    go : (v : Bool) → has_name key r.get ≡ v → Ends (statements_run r (arm_of yes_texts)) printed → Ends (statements_run r (arm_of no_texts)) printed → Ends (statement_run r (statement_tree (if_set key yes_texts no_texts))) printed
-    go true e a b = (suc a.0, a.1, a.2, rw (letters, e) a.3)
-    go false e a b = (suc b.0, b.1, b.2, rw (letters, e) b.3)
+    go : (v : Bool) → has_name key r.get ≡ v → Ends (statement_run r (if_stmt (more_arms (is_set key) body no_arms) otherwise)) printed
+    go true e = (suc a.0, a.1, a.2, rw (letters, e) a.3)
+    go false e = (suc b.0, b.1, b.2, rw (letters, e) b.3)
 
-part_ends : (r : Request) (part : Part) → IsLawfulPart part → (printed : List ℕ) → Ends (statement_run r (part_tree part)) printed
-unfolding statement_run with_unit IsLawful
-part_ends r (inline text) lawful printed = (1, 0, printed ++ text, refl)
-part_ends r (php (echo_of text)) lawful printed = echo_ends r text printed
-part_ends r (php (if_set key yes_texts no_texts)) lawful printed = if_ends r key yes_texts no_texts lawful.1 printed
+branch_ends : (r : Request) (s : PlainStmt) → IsBranch s → (printed : List ℕ) → Ends (statement_run r s) printed
+unfolding IsBranch
+branch_ends r (if_stmt (more_arms condition body no_arms) otherwise) h printed =
+    subst (λ x. Ends (statement_run r (if_stmt (more_arms x body no_arms) otherwise)) printed) (sym h.0.3) (if_ends r h.0.0 body otherwise h.0.2 printed (body_ends r body h.1 printed) (body_ends r otherwise h.2 printed))
+branch_ends r _ h printed = absurd h
 
-parts_end : (r : Request) (parts : List Part) → AllByRecursion IsLawfulPart parts → (printed : List ℕ) → Ends (statements_run r (parts_tree parts)) printed
-unfolding statement_run
-parts_end r [] lawful printed = (0, 0, printed, refl)
-parts_end r (part ∷ parts) lawful printed = statements_end r (part_tree part) (parts_tree parts) (part_ends r part lawful.0) (parts_end r parts lawful.1) printed
+first_ends : (r : Request) (ss : PlainStmts) → IsFirstBody ss → (printed : List ℕ) → Ends (statements_run r ss) printed
+unfolding statement_run IsFirstBody
+first_ends r no_stmts h printed = (0, 0, printed, refl)
+first_ends r (more_stmts s ss) (inl h) printed = statements_end r s ss (straight_ends r s h.0) (first_ends r ss h.1) printed
+first_ends r (more_stmts s ss) (inr h) printed = statements_end r s ss (branch_ends r s h.0) (body_ends r ss h.1) printed
 
-pub runs-end : (r : Request) (parts : List Part) → AllByRecursion IsLawfulPart parts → (n : ℕ) × (printed : List ℕ) × Meaning (file_tree parts) r n printed Ended
+pub runs-end : (program : PlainFile) (r : Request) → IsFirstTree program → (n : ℕ) × (printed : List ℕ) × Meaning program r n printed Ended
 unfolding Meaning outcome_of
-runs-end r parts lawful = let e = parts_end r parts lawful [] in (e.0, e.2, ap outcome_of e.3)
+runs-end program r h = let e = first_ends r program.body_of h.0 [] in (e.0, e.2, ap outcome_of e.3)

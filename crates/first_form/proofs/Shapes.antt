@@ -12,7 +12,6 @@ use Rattle.php_syntax.specs.declared.tree.Stmt.{Stmt, Inline, Echo, Run, If, Whi
 use Rattle.php_syntax.specs.declared.tree.Stmt.TheOpen as open_stmt
 use Rattle.php_syntax.specs.Trees.{PlainExpr, plain_expr, text_expr, super_expr, member_expr, isset_expr, PlainStmt, plain_stmt, inline_stmt, echo_stmt, if_stmt, exprs_of, stmts_of, arms_of}
 use Rattle.php_syntax.proofs.Views.{plain_stmt-Inline, plain_stmt-Echo, plain_stmt-Run, plain_stmt-If, plain_stmt-While, plain_stmt-DoWhile, plain_stmt-For, plain_stmt-Each, plain_stmt-Break, plain_stmt-Continue, plain_stmt-Return, plain_stmt-Include, plain_expr-Null, plain_expr-Flag, plain_expr-Int, plain_expr-Text, plain_expr-Var, plain_expr-Super, plain_expr-Member, plain_expr-ArrayOf, plain_expr-Join, plain_expr-Neg, plain_expr-Not, plain_expr-Arith, plain_expr-Compare, plain_expr-And, plain_expr-Or, plain_expr-Coalesce, plain_expr-Choice, plain_expr-Isset, plain_expr-Empty, plain_expr-Assign, plain_expr-Update, plain_expr-Step, plain_expr-Call}
-use Rattle.first_form.specs.Steps.Found.{if_count}
 use Rattle.first_form.specs.Steps.Paging.{literal_of, one_text, printed_of, is_key, is_get, is_get_member, is_set_one, is_set_test, arm_body, arms_at}
 
 -- a statement is inline text, an echo or an if, or else its plain form is none of these
@@ -95,25 +94,6 @@ expr_shape s = go (out-Expr s) (roll-out-Expr s)
     go (open_expr.Update n t v) e = at (Update n t v) _ e (plain_expr-Update n t v) refl
     go (open_expr.Step x up before) e = at (Step x up before) _ e (plain_expr-Step x up before) refl
     go (open_expr.Call f v) e = at (Call f v) _ e (plain_expr-Call f v) refl
-
--- no if
-other_if_count : (p : PlainStmt) → is_other_stmt p ≡ true → if_count p ≡ 0
-unfolding is_other_stmt if_count
-other_if_count (if_stmt arms body) e = absurd cc
-other_if_count _ e = refl
-
-pub no_if : (s : Stmt) → ((arms : Vec (Expr × Vec Stmt Global) Global) (otherwise : Vec Stmt Global) → s ≡ If arms otherwise → ⊥) → 0 ≡ if_count (plain_stmt s)
-unfolding if_count
-no_if s h = go (stmt_shape s)
-  where
-    at : (p : PlainStmt) → plain_stmt s ≡ p → if_count p ≡ 0 → 0 ≡ if_count (plain_stmt s)
-    at p e f = sym (ap if_count e ∙ f)
-
-    go : StmtShape s → 0 ≡ if_count (plain_stmt s)
-    go (is_inline t e) = at _ (ap plain_stmt e ∙ plain_stmt-Inline t) refl
-    go (is_echo es e) = at _ (ap plain_stmt e ∙ plain_stmt-Echo es) refl
-    go (is_if arms body e) = absurd (h arms body e)
-    go (is_other e) = at _ refl (other_if_count (plain_stmt s) e)
 
 -- texts
 other_literal : (p : PlainExpr) → is_other_expr p ≡ true → literal_of p ≡ None

@@ -6,13 +6,12 @@ use Rattle.std.proofs.lemmas.Bool.{and_parts, and_from, eqb-false, ne_eqb, not-t
 use Rattle.std.proofs.lemmas.Option.{same_Some}
 use Rattle.php_syntax.specs.declared.tree.SuperName.TheVariants.{Get, Post, Cookie, Request, Server}
 use Rattle.php_syntax.specs.Trees.{PlainExpr, PlainExprs, PlainStmt, PlainStmts, PlainArms, text_expr, super_expr, member_expr, isset_expr, no_exprs, more_exprs, inline_stmt, echo_stmt, if_stmt, no_stmts, more_stmts, no_arms, more_arms}
-use Rattle.first_form.specs.FirstForm.{Each, is_plain, is_letter}
+use Rattle.first_form.specs.Characters.{Each, is_plain, is_letter}
 use Rattle.first_form.specs.Meaning.{texts_of}
 use Rattle.first_form.specs.Loose.{LooseStatement, LooseStatements}
-use Rattle.first_form.specs.Steps.Reading.{◌>>=◌}
 use Rattle.first_form.specs.FirstTree.{IsSetTest, IsStraightStatement, IsStraight, IsBranch}
-use Rattle.first_form.specs.Steps.Paging.{plain_text, literal_of, one_text, printed_of, printed_by, is_key, is_get_name, is_get, is_get_member, is_set_one, is_set_test, arm_body, arms_at}
-use Rattle.first_form.proofs.Fronts.{bind_ok, guard_ok}
+use Rattle.first_form.specs.Steps.Paging.{◌>>=◌, plain_text, literal_of, one_text, printed_of, printed_by, is_key, is_get_name, is_get, is_get_member, is_set_one, is_set_test, arm_body, arms_at}
+use Rattle.first_form.proofs.Binding.{bind_ok, guard_ok}
 
 -- plain texts
 plain_some : (text w : List ℕ) → plain_text text ≡ Some w → (text ≡ w) × Each is_plain text

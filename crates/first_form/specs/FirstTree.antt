@@ -1,10 +1,14 @@
 -- The first form as a condition on a tree, and the pages of such a tree.
 use Rattle.std.specs.Prelude.{◌≡◌, ◌≢◌, ◌⊎◌, ◌↔◌, ℕ, List, [], Some, ⊤, IfSome}
-use Rattle.php_syntax.specs.Trees.{PlainExpr, PlainStmt, PlainStmts, PlainFile, text_expr, no_exprs, more_exprs, inline_stmt, echo_stmt, if_stmt, no_stmts, more_stmts, no_arms, more_arms}
+use Rattle.php_syntax.specs.declared.tree.SuperName.TheVariants.{Get}
+use Rattle.php_syntax.specs.Trees.{PlainExpr, PlainStmt, PlainStmts, PlainFile, text_expr, super_expr, member_expr, isset_expr, no_exprs, more_exprs, inline_stmt, echo_stmt, if_stmt, no_stmts, more_stmts, no_arms, more_arms}
 use Rattle.first_form.specs.declared.pages.Pages.{Pages}
-use Rattle.first_form.specs.FirstForm.{Each, is_plain, is_letter}
-use Rattle.first_form.specs.Trees.{is_set}
+use Rattle.first_form.specs.Characters.{Each, is_plain, is_letter}
 use Rattle.first_form.specs.Loose.{Loose}
+
+-- isset($_GET['KEY'])
+abbrev pub is_set : List ℕ → PlainExpr
+is_set key = isset_expr (more_exprs (member_expr (super_expr Get) (text_expr key)) no_exprs)
 
 -- isset($_GET['KEY']), with a key of one or more letters
 abbrev pub IsSetTest : PlainExpr → Type 0

@@ -1,5 +1,4 @@
-pub mod FirstForm
-pub mod Trees
+pub mod Characters
 pub mod Requests
 pub mod Meaning
 pub mod Loose

@@ -2,16 +2,10 @@
 
 ghost use Rattle.std.specs.Prelude.{◌≡◌, ℕ, ◌+◌, List};
 ghost use Rattle.php_syntax.specs.Trees.{PlainFile};
-ghost use Rattle.first_form.specs.FirstForm.{HasParts, Part};
-ghost use Rattle.first_form.specs.Trees.{IsFirstForm};
+ghost use Rattle.first_form.specs.FirstTree.{IsFirstTree};
 ghost use Rattle.first_form.specs.Requests.{Request, Admitted};
 ghost use Rattle.first_form.specs.Meaning.{Meaning, Ended};
 ghost use Rattle.first_form.specs.Loose.{Loose};
-
-/// A file of the first form has one list of parts.
-pub fn one_reading()
-    ensures { (bytes : List ℕ) (a b : List Part) → HasParts bytes a → HasParts bytes b → a ≡ b }
-{}
 
 /// What a run prints that ends is a loose page, whatever the request and however many units it is given.
 pub fn ended_runs_print_loose_pages()
@@ -25,5 +19,5 @@ pub fn more_units_change_nothing()
 
 /// Each run of a program of the first form ends, where it has enough units.
 pub fn runs_end()
-    ensures { (bytes : List ℕ) (program : PlainFile) (r : Request) → IsFirstForm bytes program → (n : ℕ) × (printed : List ℕ) × Meaning program r n printed Ended }
+    ensures { (program : PlainFile) (r : Request) → IsFirstTree program → (n : ℕ) × (printed : List ℕ) × Meaning program r n printed Ended }
 {}

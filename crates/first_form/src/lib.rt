@@ -1,26 +1,19 @@
-//! Scripts of the first form: files of inline text and PHP pieces that echo texts, with at most one `if` on whether a
-//! name is set in `$_GET`.
+//! The scripts that are decided so far, as a condition on their trees: inline text and echoes of one text, with at
+//! most one `if` on whether a name is set in `$_GET`.
 //!
-//! `read` gives the tree of such a file, by `IsFirstForm` of `specs/Trees.antt`, and `loose_pages` the pages that a
-//! tree of this form may print, by `Loose` of `specs/Loose.antt`. `script_pages` is the two together. The functions of
-//! `laws` carry what is proved of the written meaning of such a script, `Meaning` of `specs/Meaning.antt`: what a run
-//! prints that ends is a loose page, more units change nothing, and each run ends where it has enough of them.
+//! `IsFirstTree` of `specs/FirstTree.antt` says which trees these are. `loose_pages` gives the pages that such a tree
+//! may print, by `Loose` of `specs/Loose.antt`, and None where the tree is another. The functions of `laws` carry what
+//! is proved of the written meaning of a script, `Meaning` of `specs/Meaning.antt`: what a run prints that ends is a
+//! loose page, more units change nothing, and each run of a script of this form ends where it has enough of them.
 //!
-//! Below this crate stand `php_syntax` with the trees, and `text_base`.
+//! How a file is read into a tree is no matter of this crate. Below it stand `php_syntax` with the trees, and
+//! `text_base`.
 #![tactic(auto)]
 
-mod front;
+mod characters;
 pub mod laws;
 mod pages;
-mod pieces;
-mod reader;
-mod script;
-mod statements;
 #[cfg(test)]
 mod tests;
-mod trees;
-mod words;
 
 pub use pages::{Pages, loose_pages};
-pub use reader::read;
-pub use script::script_pages;

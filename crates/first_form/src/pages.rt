@@ -6,7 +6,7 @@ ghost use Rattle.first_form.specs.Steps.Paging.{forked, plain_text, literal_of, 
 ghost use Rattle.first_form.specs.FirstTree.{IsFirstTree, ArePages};
 ghost use Rattle.first_form.specs.Steps.Seen.{seen, seen_body, seen_arms};
 
-use crate::front::{Class, all_of};
+use crate::characters::{Class, all_of};
 use php_syntax::tree::{Expr, FileTree, Stmt, SuperName};
 use std::alloc::Global;
 use text_base::{Bytes, NoMemory};

@@ -1,56 +1,111 @@
-//! Scripts with their loose pages, and files that are not of the first form.
+//! Trees with their loose pages, and trees that are not of the first form.
 
-use crate::script_pages;
+use crate::{Pages, loose_pages};
+use php_syntax::tree::{Expr, FileTree, Stmt, SuperName};
+use std::alloc::Global;
 use std::test::Fail;
+use text_base::{Bytes, NoMemory};
+
+fn text(alloc: Global, text: &[u8]) -> Result<Expr, NoMemory> {
+    Ok(Expr::Text(Bytes::from_slice(alloc, text)?))
+}
+
+fn inline(alloc: Global, text: &[u8]) -> Result<Stmt, NoMemory> {
+    Ok(Stmt::Inline(Bytes::from_slice(alloc, text)?))
+}
+
+fn echo(alloc: Global, written: &[u8]) -> Result<Stmt, NoMemory> {
+    let mut operands = Vec::new(alloc);
+    operands.push(text(alloc, written)?)?;
+    Ok(Stmt::Echo(operands))
+}
+
+/// An if on whether a member of the array stands under the key, which echoes `y` or `n`.
+fn choice(alloc: Global, array: SuperName, key: &[u8]) -> Result<Stmt, NoMemory> {
+    let array = Box::new(alloc, Expr::Super(array))?;
+    let key = Box::new(alloc, text(alloc, key)?)?;
+    let mut operands = Vec::new(alloc);
+    operands.push(Expr::Member(array, key))?;
+    let mut body = Vec::new(alloc);
+    body.push(echo(alloc, b"y")?)?;
+    let mut otherwise = Vec::new(alloc);
+    otherwise.push(echo(alloc, b"n")?)?;
+    let mut arms = Vec::new(alloc);
+    arms.push((Expr::Isset(operands), body))?;
+    Ok(Stmt::If(arms, otherwise))
+}
+
+/// The pages of a script of these three statements.
+fn pages_of(
+    alloc: Global,
+    first: Stmt,
+    second: Stmt,
+    third: Stmt,
+) -> Result<Option<Pages>, NoMemory> {
+    let mut body = Vec::new(alloc);
+    body.push(first)?;
+    body.push(second)?;
+    body.push(third)?;
+    let tree = FileTree {
+        body,
+        functions: Vec::new(alloc),
+    };
+    loose_pages(alloc, &tree)
+}
 
 #[test]
 fn one_page(rt: HostRuntime) -> Result<(), Fail> {
-    let rows = [
-        ("", ""),
-        ("<p>a</p>\n", "<p>a</p>\n"),
-        ("<?php echo '<p'; echo '>a'; echo '</p>'; ?>", "<p>a</p>"),
-        ("a<?php\n ?>\n\nb", "a\nb"),
-        ("<?php echo\n'x' ;echo'y';", "xy"),
-    ];
-    for (script, page) in rows {
-        let pages = script_pages(rt.alloc(), script.as_bytes())?.ok_or("no script")?;
-        assert!(rt; pages.first.as_slice() == page.as_bytes(), "{script}");
-        assert!(rt; pages.second.is_none(), "{script}");
-    }
+    let alloc = rt.alloc();
+    let first = inline(alloc, b"<p>")?;
+    let pages = pages_of(alloc, first, echo(alloc, b"a")?, inline(alloc, b"</p>\n")?)?;
+    let pages = pages.ok_or("no page")?;
+    assert!(rt; pages.first.as_slice() == b"<p>a</p>\n".as_slice());
+    assert!(rt; pages.second.is_none());
     Ok(())
 }
 
 #[test]
 fn a_page_for_each_arm(rt: HostRuntime) -> Result<(), Fail> {
-    let script =
-        "<html><body><?php if (isset($_GET['name'])) { echo '<p>a</p>'; } else { echo '<p>b'; } ?></body></html>";
-    let pages = script_pages(rt.alloc(), script.as_bytes())?.ok_or("no script")?;
+    let alloc = rt.alloc();
+    let asked = choice(alloc, SuperName::Get, b"name")?;
+    let pages = pages_of(
+        alloc,
+        inline(alloc, b"<p>")?,
+        asked,
+        inline(alloc, b"</p>")?,
+    )?;
+    let pages = pages.ok_or("no page")?;
     let second = pages.second.ok_or("one page")?;
-    let wanted = "<html><body><p>a</p></body></html>";
-    assert!(rt; pages.first.as_slice() == wanted.as_bytes());
-    assert!(rt; second.as_slice() == "<html><body><p>b</body></html>".as_bytes());
+    assert!(rt; pages.first.as_slice() == b"<p>y</p>".as_slice());
+    assert!(rt; second.as_slice() == b"<p>n</p>".as_slice());
     Ok(())
 }
 
 #[test]
-fn other_files(rt: HostRuntime) -> Result<(), Fail> {
+fn other_trees(rt: HostRuntime) -> Result<(), Fail> {
+    let alloc = rt.alloc();
     let rows = [
-        "<?php",
-        "<?= 1 ?>",
-        "<?php echo 'a' ?>",
-        "<?php echo \"a\"; ?>",
-        "<?php echo 'a\\'b'; ?>",
-        "<?php if (isset($_GET['q1'])) { } else { }",
-        "<?php if (isset($_GET['q'])) { }",
-        "<?php if (isset($_GET['a'])) { } else { } if (isset($_GET['b'])) { } else { }",
-        "a & b",
-        "<!-- -->",
+        (SuperName::Get, "q1", "a"),
+        (SuperName::Get, "", "a"),
+        (SuperName::Post, "q", "a"),
+        (SuperName::Get, "q", "a & b"),
+        (SuperName::Get, "q", "<!-- -->"),
     ];
-    for script in rows {
-        assert!(rt;
-            script_pages(rt.alloc(), script.as_bytes())?.is_none(),
-            "{script}"
-        );
+    for (array, key, written) in rows {
+        let asked = choice(alloc, array, key.as_bytes())?;
+        let behind = echo(alloc, written.as_bytes())?;
+        let pages = pages_of(alloc, inline(alloc, b"p")?, asked, behind)?;
+        assert!(rt; pages.is_none(), "{key} {written}");
     }
+    Ok(())
+}
+
+#[test]
+fn two_ifs(rt: HostRuntime) -> Result<(), Fail> {
+    let alloc = rt.alloc();
+    let first = choice(alloc, SuperName::Get, b"a")?;
+    let second = choice(alloc, SuperName::Get, b"b")?;
+    let pages = pages_of(alloc, first, inline(alloc, b"p")?, second)?;
+    assert!(rt; pages.is_none());
     Ok(())
 }

@@ -4,73 +4,71 @@ use Rattle.std.proofs.Math.Seq.{take-length}
 use Rattle.std.specs.Io.KnownBytes.{Appends}
 use Rattle.io_edge.specs.Taken.{AppendsPrefix}
 use Rattle.phpsa_main.specs.declared.exit.Exit.{Exit}
-use Rattle.phpsa_main.specs.declared.exit.Exit.TheVariants.{Done, No, NotBuilt, Missing, ReadFault, WriteFault, Usage, Input, Memory}
+use Rattle.phpsa_main.specs.declared.exit.Exit.TheVariants.{WriteFault, Memory}
 use Rattle.phpsa_main.specs.declared.verdict.Answer.{Answer}
 use Rattle.phpsa_main.specs.declared.verdict.Refusal.{Refusal}
 use Rattle.phpsa_main.specs.Words.{Asks, asked_file}
 use Rattle.phpsa_main.specs.Texts.{error_text}
 use Rattle.phpsa_main.specs.Call.{Call, Gains, GainsPrefix, GainsNothing, Fails}
 use Rattle.phpsa_main.specs.Endings.{HasCause, IsAnswer, KeepsOut, Ends}
-use Rattle.phpsa_main.specs.Steps.{answer_status, refusal_status, refusal_len, answer_text, AnswersFile, RefusesFile, Puts, Reports, ReportsRefusal}
+use Rattle.phpsa_main.specs.Steps.{answer_status, refusal_status, answer_text, AnswersFile, RefusesFile, Puts, Reports, ReportsRefusal}
 use Rattle.phpsa_main.proofs.Asked.{asks, asks_none}
 
 -- a whole text is a prefix of itself
 whole : (old new : Option (List ℕ)) (text : List ℕ) → Appends old new text → AppendsPrefix old new text
 whole old new text h = (length text, omega arith, subst (λ bytes. Appends old new bytes) (sym (take-length text)) h)
 
-refused_as : (call : Call) (status : Exit) (file : List ℕ) (len : ℕ) → HasCause call status file len → GainsNothing call.out → Gains call.err (error_text status file len) → Ends call status
-refused_as call Done file len cause out err = absurd cause
-refused_as call No file len cause out err = absurd cause
-refused_as call NotBuilt file len cause out err = record { file = file; len = len; cause = cause; out = out; err = err }
-refused_as call Missing file len cause out err = record { file = file; len = len; cause = cause; out = out; err = err }
-refused_as call ReadFault file len cause out err = record { file = file; len = len; cause = cause; out = out; err = err }
-refused_as call WriteFault file len cause out err = absurd cause
-refused_as call Usage file len cause out err = record { file = file; len = len; cause = cause; out = out; err = err }
-refused_as call Input file len cause out err = record { file = file; len = len; cause = cause; out = out; err = err }
-refused_as call Memory file len cause out err = record {
-  text = error_text Memory file len;
-  due = (Memory, file, len, cause, refl);
+refused_as : (call : Call) (refusal : Refusal) (file : List ℕ) → HasCause call refusal file → GainsNothing call.out → Gains call.err (error_text refusal file) → Ends call (refusal_status refusal)
+refused_as call Refusal.NotBuilt file cause out err = record { file = file; has_cause = cause; out = out; err = err }
+refused_as call (Refusal.Script kind at) file cause out err = (kind, at, record { file = file; has_cause = cause; out = out; err = err })
+refused_as call Refusal.Missing file cause out err = record { file = file; has_cause = cause; out = out; err = err }
+refused_as call Refusal.ReadFault file cause out err = record { file = file; has_cause = cause; out = out; err = err }
+refused_as call Refusal.Usage file cause out err = record { file = file; has_cause = cause; out = out; err = err }
+refused_as call (Refusal.TooLong len) file cause out err = (len, record { file = file; has_cause = cause; out = out; err = err })
+refused_as call Refusal.Memory file cause out err = record {
+  text = error_text Refusal.Memory file;
+  due = (Refusal.Memory, file, cause, refl);
   out = inl out;
   err = whole _ _ _ err;
 }
 
 -- `err` failed, or found no memory
-failed_as : (call : Call) (status : Exit) (file : List ℕ) (len : ℕ) → HasCause call status file len → KeepsOut call → Fails call.err → GainsPrefix call.err (error_text status file len) → Ends call WriteFault
-failed_as call status file len cause out failed err = inr (record {
-  text = error_text status file len;
-  due = (status, file, len, cause, refl);
+failed_as : (call : Call) (refusal : Refusal) (file : List ℕ) → HasCause call refusal file → KeepsOut call → Fails call.err → GainsPrefix call.err (error_text refusal file) → Ends call WriteFault
+failed_as call refusal file cause out failed err = inr (record {
+  text = error_text refusal file;
+  due = (refusal, file, cause, refl);
   failed = failed;
   out = out;
   err = err;
 })
 
-wanting : (call : Call) (status : Exit) (file : List ℕ) (len : ℕ) → HasCause call status file len → KeepsOut call → GainsPrefix call.err (error_text status file len) → Ends call Memory
-wanting call status file len cause out err = record {
-  text = error_text status file len;
-  due = (status, file, len, cause, refl);
+wanting : (call : Call) (refusal : Refusal) (file : List ℕ) → HasCause call refusal file → KeepsOut call → GainsPrefix call.err (error_text refusal file) → Ends call Memory
+wanting call refusal file cause out err = record {
+  text = error_text refusal file;
+  due = (refusal, file, cause, refl);
   out = out;
   err = err;
 }
 
-put_as : (call : Call) (wanted status : Exit) (file : List ℕ) (len : ℕ) → HasCause call wanted file len → GainsNothing call.out → Puts call.err (error_text wanted file len) wanted status → Ends call status
-put_as call wanted status file len cause out (inl (is, gains)) =
-    subst (Ends call) (sym is) (refused_as call wanted file len cause out gains)
-put_as call wanted status file len cause out (inr (inl (is, failed, prefix))) =
-    subst (Ends call) (sym is) (failed_as call wanted file len cause (inl out) failed prefix)
-put_as call wanted status file len cause out (inr (inr (is, prefix))) =
-    subst (Ends call) (sym is) (wanting call wanted file len cause (inl out) prefix)
+put_as : (call : Call) (refusal : Refusal) (status : Exit) (file : List ℕ) → HasCause call refusal file → GainsNothing call.out → Puts call.err (error_text refusal file) (refusal_status refusal) status → Ends call status
+put_as call refusal status file cause out (inl (is, gains)) =
+    subst (Ends call) (sym is) (refused_as call refusal file cause out gains)
+put_as call refusal status file cause out (inr (inl (is, failed, prefix))) =
+    subst (Ends call) (sym is) (failed_as call refusal file cause (inl out) failed prefix)
+put_as call refusal status file cause out (inr (inr (is, prefix))) =
+    subst (Ends call) (sym is) (wanting call refusal file cause (inl out) prefix)
 
 -- want of memory, where `out` may have a prefix of the answer
-memory_as : (call : Call) (status : Exit) → KeepsOut call → Puts call.err (error_text Memory [] 0) Memory status → Ends call status
+memory_as : (call : Call) (status : Exit) → KeepsOut call → Puts call.err (error_text Refusal.Memory []) Memory status → Ends call status
 memory_as call status out (inl (is, gains)) =
-    subst (Ends call) (sym is) (wanting call Memory [] 0 tt out (whole _ _ _ gains))
+    subst (Ends call) (sym is) (wanting call Refusal.Memory [] tt out (whole _ _ _ gains))
 memory_as call status out (inr (inl (is, failed, prefix))) =
-    subst (Ends call) (sym is) (failed_as call Memory [] 0 tt out failed prefix)
+    subst (Ends call) (sym is) (failed_as call Refusal.Memory [] tt out failed prefix)
 memory_as call status out (inr (inr (is, prefix))) =
-    subst (Ends call) (sym is) (wanting call Memory [] 0 tt out prefix)
+    subst (Ends call) (sym is) (wanting call Refusal.Memory [] tt out prefix)
 
-refusal_as : (call : Call) (file : List ℕ) (refusal : Refusal) (status : Exit) → HasCause call (refusal_status refusal) file (refusal_len refusal) → GainsNothing call.out → ReportsRefusal file refusal call.err status → Ends call status
-refusal_as call file refusal status cause out (inl puts) = put_as call (refusal_status refusal) status file (refusal_len refusal) cause out puts
+refusal_as : (call : Call) (file : List ℕ) (refusal : Refusal) (status : Exit) → HasCause call refusal file → GainsNothing call.out → ReportsRefusal file refusal call.err status → Ends call status
+refusal_as call file refusal status cause out (inl puts) = put_as call refusal status file cause out puts
 refusal_as call file refusal status cause out (inr puts) = memory_as call status (inl out) puts
 
 -- the words ask for nothing
@@ -79,8 +77,9 @@ unasked call status none out puts = refusal_as call [] Refusal.Usage status (ask
 
 cause_of : (call : Call) (file : List ℕ) (refusal : Refusal) → Asks call.words file
     → RefusesFile (call.files.content file) call.files.faults call.files.faults' call.files.misses call.files.misses' refusal
-    → HasCause call (refusal_status refusal) file (refusal_len refusal)
+    → HasCause call refusal file
 cause_of call file Refusal.NotBuilt asked (script, told, undecided) = (script, record { asked = asked; told = told }, undecided)
+cause_of call file (Refusal.Script kind at) asked (script, told, fault) = (script, record { asked = asked; told = told }, fault)
 cause_of call file Refusal.Missing asked (rises, none) = (asked, rises, none)
 cause_of call file Refusal.ReadFault asked rises = (asked, rises)
 cause_of call file (Refusal.TooLong len) asked (over, least) = (asked, over, least)

@@ -1,9 +1,11 @@
 -- The definitions of `specs/` on worked examples and on near misses.
 use Rattle.std.proofs.Common.{◌≡◌, ◌++◌, [], ◌∷◌, None, Some, codes, refl, lit≤}
 use Rattle.std.specs.Fmt.{digits}
-use Rattle.phpsa_main.specs.declared.exit.Exit.TheVariants.{NotBuilt, WriteFault, Usage, Input}
+use Rattle.phpsa_main.specs.declared.exit.Exit.TheVariants.{Usage}
+use Rattle.phpsa_main.specs.declared.verdict.ScriptKind.TheVariants as kind
+use Rattle.phpsa_main.specs.declared.verdict.Refusal.TheVariants as refusal
 use Rattle.phpsa_main.specs.Words.{Asks, asked_file}
-use Rattle.phpsa_main.specs.Texts.{yes_text, no_text, error_text, status_of}
+use Rattle.phpsa_main.specs.Texts.{yes_text, no_text, error_text, write_fault_text, status_of}
 use Rattle.phpsa_main.specs.Call.{output_of, Gains, GainsPrefix, GainsNothing, Fails}
 
 -- the words that ask for a file
@@ -40,14 +42,18 @@ a_no : no_text (codes "<p>b") ≡ codes "no" ++ 10 ∷ (codes "page 4" ++ 10 ∷
 unfolding digits
 a_no = refl
 
-a_long_file : error_text Input (codes "t.php") 1048577 ≡ codes "phpsa: TooLong t.php 1048577" ++ 10 ∷ []
+a_long_file : error_text (refusal.TooLong 1048577) (codes "t.php") ≡ codes "phpsa: TooLong t.php 1048577" ++ 10 ∷ []
 unfolding digits
 a_long_file = refl
 
-a_form : error_text NotBuilt (codes "t.php") 0 ≡ codes "phpsa: NotBuilt t.php" ++ 10 ∷ []
+a_form : error_text refusal.NotBuilt (codes "t.php") ≡ codes "phpsa: NotBuilt t.php" ++ 10 ∷ []
 a_form = refl
 
-a_fault : error_text WriteFault [] 0 ≡ codes "phpsa: WriteFault" ++ 10 ∷ []
+a_deep_script : error_text (refusal.Script kind.TooDeep 211) (codes "t.php") ≡ codes "phpsa: TooDeep t.php 211" ++ 10 ∷ []
+unfolding digits
+a_deep_script = refl
+
+a_fault : write_fault_text ≡ codes "phpsa: WriteFault" ++ 10 ∷ []
 a_fault = refl
 
 a_status : status_of Usage ≡ 9

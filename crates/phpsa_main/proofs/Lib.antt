@@ -4,3 +4,4 @@ pub mod Answers
 pub mod Soundness
 pub mod Loosely
 mod Examples
+pub mod OneProgram

@@ -3,10 +3,14 @@ use Rattle.std.specs.Prelude.{◌≡◌, ◌<◌, ◌⊎◌, ℕ, List, None, So
 use Rattle.io_edge.specs.Counts.{Rises}
 use Rattle.io_edge.specs.Told.{Tells, HasAtLeast}
 use Rattle.phpsa_main.specs.declared.exit.Exit.{Exit}
-use Rattle.phpsa_main.specs.declared.exit.Exit.TheVariants.{Done, No, NotBuilt, Missing, ReadFault, WriteFault, Usage, Input, Memory}
+use Rattle.phpsa_main.specs.declared.exit.Exit.TheVariants.{Done, No, NotBuilt, Script, Missing, ReadFault, WriteFault, Usage, Input, Memory}
+use Rattle.phpsa_main.specs.declared.verdict.ScriptKind.{ScriptKind}
+use Rattle.phpsa_main.specs.declared.verdict.Refusal.{Refusal}
+use Rattle.phpsa_main.specs.declared.verdict.Refusal.TheVariants as refusal
 use Rattle.phpsa_main.specs.Words.{Asks}
-use Rattle.phpsa_main.specs.Texts.{yes_text, no_text, error_text}
-use Rattle.phpsa_main.specs.Decision.{IsDecided, EachIsValid, IsCounterexample}
+use Rattle.phpsa_main.specs.Texts.{yes_text, no_text, error_text, write_fault_text}
+use Rattle.phpsa_main.specs.Scripts.{IsScriptFault}
+use Rattle.phpsa_main.specs.Decision.{IsUndecided, EachIsValid, IsCounterexample}
 use Rattle.phpsa_main.specs.Call.{Call, Gains, GainsPrefix, GainsNothing, Fails}
 
 -- the words ask for this file, and where the source tells of it, it holds this script
@@ -14,27 +18,25 @@ pub record AsksScript (call : Call) (file script : List ℕ) : Type 0 where
   pub asked : Asks call.words file
   pub told : Tells (call.files.content file) (Some script)
 
--- the cause of a status with a text on `err`, for the file and the length that the text names
-abbrev pub HasCause : Call → Exit → List ℕ → ℕ → Type 0
-HasCause call Done file len = ⊥
-HasCause call No file len = ⊥
-HasCause call NotBuilt file len = (script : List ℕ) × AsksScript call file script × (IsDecided script → ⊥)
-HasCause call Missing file len =
+-- the cause of a refusal of this file
+abbrev pub HasCause : Call → Refusal → List ℕ → Type 0
+HasCause call refusal.NotBuilt file = (script : List ℕ) × AsksScript call file script × IsUndecided script
+HasCause call (refusal.Script kind at) file = (script : List ℕ) × AsksScript call file script × IsScriptFault script kind at
+HasCause call refusal.Missing file =
     Asks call.words file × Rises call.files.misses call.files.misses' × Tells (call.files.content file) None
-HasCause call ReadFault file len = Asks call.words file × Rises call.files.faults call.files.faults'
-HasCause call WriteFault file len = ⊥
-HasCause call Usage file len = (asked : List ℕ) → Asks call.words asked → ⊥
-HasCause call Input file len = Asks call.words file × (1048576 < len) × HasAtLeast (call.files.content file) len
-HasCause call Memory file len = ⊤
+HasCause call refusal.ReadFault file = Asks call.words file × Rises call.files.faults call.files.faults'
+HasCause call refusal.Usage file = (asked : List ℕ) → Asks call.words asked → ⊥
+HasCause call (refusal.TooLong len) file = Asks call.words file × (1048576 < len) × HasAtLeast (call.files.content file) len
+HasCause call refusal.Memory file = ⊤
 
 -- the text that is due on `out`: the answer for the script
 abbrev pub IsAnswer : Call → List ℕ → Type 0
 IsAnswer call text = (file : List ℕ) × (script : List ℕ) × AsksScript call file script
     × ((EachIsValid script × (text ≡ yes_text)) ⊎ ((page : List ℕ) × IsCounterexample script page × (text ≡ no_text page)))
 
--- the text that is due on `err`: that of a status that has its cause
+-- the text that is due on `err`: that of a refusal that has its cause
 abbrev pub IsError : Call → List ℕ → Type 0
-IsError call text = (status : Exit) × (file : List ℕ) × (len : ℕ) × HasCause call status file len × (text ≡ error_text status file len)
+IsError call text = (cause : Refusal) × (file : List ℕ) × HasCause call cause file × (text ≡ error_text cause file)
 
 -- 0: every loose page is valid
 pub record EndsDone (call : Call) : Type 0 where
@@ -55,13 +57,12 @@ pub record EndsNo (call : Call) : Type 0 where
   pub out : Gains call.out (no_text page)
   pub err : GainsNothing call.err
 
--- a status with a text on `err`: it has its cause
-pub record EndsRefused (call : Call) (status : Exit) : Type 0 where
+-- a status with a text on `err`: the refusal has its cause
+pub record EndsRefused (call : Call) (cause : Refusal) : Type 0 where
   pub file : List ℕ
-  pub len : ℕ
-  pub cause : HasCause call status file len
+  pub has_cause : HasCause call cause file
   pub out : GainsNothing call.out
-  pub err : Gains call.err (error_text status file len)
+  pub err : Gains call.err (error_text cause file)
 
 -- nothing stands on `out`, or, where it found no memory while an answer was written, a prefix of the answer
 abbrev pub KeepsOut : Call → Type 0
@@ -73,7 +74,7 @@ pub record EndsByOut (call : Call) : Type 0 where
   pub due : IsAnswer call text
   pub failed : Fails call.out
   pub out : GainsPrefix call.out text
-  pub err : GainsPrefix call.err (error_text WriteFault text 0)
+  pub err : GainsPrefix call.err write_fault_text
 
 -- 8: `err` failed while a text was written on it
 pub record EndsByErr (call : Call) : Type 0 where
@@ -94,10 +95,11 @@ pub record EndsMemory (call : Call) : Type 0 where
 abbrev pub Ends : Call → Exit → Type 0
 Ends call Done = EndsDone call
 Ends call No = EndsNo call
-Ends call NotBuilt = EndsRefused call NotBuilt
-Ends call Missing = EndsRefused call Missing
-Ends call ReadFault = EndsRefused call ReadFault
+Ends call NotBuilt = EndsRefused call refusal.NotBuilt
+Ends call Script = (kind : ScriptKind) × (at : ℕ) × EndsRefused call (refusal.Script kind at)
+Ends call Missing = EndsRefused call refusal.Missing
+Ends call ReadFault = EndsRefused call refusal.ReadFault
 Ends call WriteFault = EndsByOut call ⊎ EndsByErr call
-Ends call Usage = EndsRefused call Usage
-Ends call Input = EndsRefused call Input
+Ends call Usage = EndsRefused call refusal.Usage
+Ends call Input = (len : ℕ) × EndsRefused call (refusal.TooLong len)
 Ends call Memory = EndsMemory call

@@ -1,5 +1,6 @@
 pub mod Words
 pub mod Texts
+pub mod Scripts
 pub mod Decision
 pub mod Pages
 pub mod Call

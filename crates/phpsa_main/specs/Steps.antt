@@ -1,37 +1,36 @@
 -- What the parts of a call come to, before and while it is written.
-use Rattle.std.specs.Prelude.{◌≡◌, ◌<◌, ◌⊎◌, ℕ, List, [], Option, None, Some, ⊤}
+use Rattle.std.specs.Prelude.{◌≡◌, ◌<◌, ◌⊎◌, ℕ, List, [], length, Option, None, Some, ⊤}
 use Rattle.io_edge.specs.Counts.{Rises}
 use Rattle.io_edge.specs.Told.{Tells, HasAtLeast}
 use Rattle.phpsa_main.specs.declared.exit.Exit.{Exit}
-use Rattle.phpsa_main.specs.declared.exit.Exit.TheVariants.{Done, No, NotBuilt, Missing, ReadFault, WriteFault, Usage, Input, Memory}
+use Rattle.phpsa_main.specs.declared.exit.Exit.TheVariants.{Done, No, NotBuilt, Script, Missing, ReadFault, WriteFault, Usage, Input, Memory}
 use Rattle.phpsa_main.specs.declared.verdict.Answer.{Answer}
 use Rattle.phpsa_main.specs.declared.verdict.Refusal.{Refusal}
+use Rattle.phpsa_main.specs.declared.verdict.ScriptKind.TheVariants as Kind
+use Rattle.php_lexer.specs.declared.refusal.LexRefusal.{LexRefusal}
+use Rattle.php_lexer.specs.declared.refusal.LexRefusal.TheVariants as lexed
+use Rattle.php_parser.specs.declared.refusal.ParseRefusal.{ParseRefusal}
+use Rattle.php_parser.specs.declared.refusal.ParseRefusal.TheVariants as parsed
 use Rattle.io_edge.specs.declared.files.FileFault.{FileFault}
 use Rattle.io_edge.specs.declared.files.FileFault.TheVariants as Fault
-use Rattle.phpsa_main.specs.Texts.{yes_text, no_text, error_text}
-use Rattle.phpsa_main.specs.Decision.{IsDecided, EachIsValid, IsCounterexample}
+use Rattle.phpsa_main.specs.Texts.{yes_text, no_text, error_text, write_fault_text}
+use Rattle.phpsa_main.specs.Scripts.{IsScriptFault}
+use Rattle.phpsa_main.specs.Decision.{IsUndecided, EachIsValid, IsCounterexample}
 use Rattle.phpsa_main.specs.Call.{Output, Gains, GainsPrefix, GainsNothing, Fails}
 
--- the status of an answer and of a refusal, and the length that it names
+-- the status of an answer and of a refusal
 abbrev pub answer_status : Answer → Exit
 answer_status Answer.Yes = Done
 answer_status (Answer.No page) = No
 
 abbrev pub refusal_status : Refusal → Exit
 refusal_status Refusal.NotBuilt = NotBuilt
+refusal_status (Refusal.Script kind at) = Script
 refusal_status Refusal.Missing = Missing
 refusal_status Refusal.ReadFault = ReadFault
 refusal_status (Refusal.TooLong len) = Input
 refusal_status Refusal.Usage = Usage
 refusal_status Refusal.Memory = Memory
-
-abbrev pub refusal_len : Refusal → ℕ
-refusal_len Refusal.NotBuilt = 0
-refusal_len Refusal.Missing = 0
-refusal_len Refusal.ReadFault = 0
-refusal_len (Refusal.TooLong len) = len
-refusal_len Refusal.Usage = 0
-refusal_len Refusal.Memory = 0
 
 abbrev pub answer_text : Answer → List ℕ
 answer_text Answer.Yes = yes_text
@@ -44,6 +43,21 @@ refusal_of Fault.Failed = Refusal.ReadFault
 refusal_of (Fault.TooLong len) = Refusal.TooLong len
 refusal_of Fault.Memory = Refusal.Memory
 
+-- why a script that has no tokens or no tree is refused
+abbrev pub lexed_as : LexRefusal → Refusal
+lexed_as (lexed.BadByte at) = Refusal.Script Kind.BadByte at
+lexed_as (lexed.Unclosed at) = Refusal.Script Kind.Unclosed at
+lexed_as (lexed.Float at) = Refusal.Script Kind.Float at
+lexed_as (lexed.BigInt at) = Refusal.Script Kind.BigInt at
+lexed_as (lexed.Escape at) = Refusal.Script Kind.Escape at
+lexed_as (lexed.TooLong len) = Refusal.TooLong len
+lexed_as lexed.Memory = Refusal.Memory
+
+abbrev pub parsed_as : ParseRefusal → Refusal
+parsed_as (parsed.NotInSubset at) = Refusal.Script Kind.NotInSubset at
+parsed_as (parsed.TooDeep at) = Refusal.Script Kind.TooDeep at
+parsed_as parsed.Memory = Refusal.Memory
+
 -- the answer is that of the script
 abbrev pub IsAnswerOf : List ℕ → Answer → Type 0
 IsAnswerOf script Answer.Yes = EachIsValid script
@@ -51,10 +65,11 @@ IsAnswerOf script (Answer.No page) = IsCounterexample script page
 
 -- the script is refused, for this reason
 abbrev pub IsRefusalOf : List ℕ → Refusal → Type 0
-IsRefusalOf script Refusal.NotBuilt = IsDecided script → ⊥
+IsRefusalOf script Refusal.NotBuilt = IsUndecided script
+IsRefusalOf script (Refusal.Script kind at) = IsScriptFault script kind at
 IsRefusalOf script Refusal.Missing = ⊥
 IsRefusalOf script Refusal.ReadFault = ⊥
-IsRefusalOf script (Refusal.TooLong len) = ⊥
+IsRefusalOf script (Refusal.TooLong len) = (1048576 < len) × (len ≡ length script)
 IsRefusalOf script Refusal.Usage = ⊥
 IsRefusalOf script Refusal.Memory = ⊤
 
@@ -64,7 +79,8 @@ AnswersFile told answer = (script : List ℕ) × Tells told (Some script) × IsA
 
 -- the file is refused, for this reason, in what is told of it and in the counts of faults and of misses
 abbrev pub RefusesFile : Option (Option (List ℕ)) → ℕ → ℕ → ℕ → ℕ → Refusal → Type 0
-RefusesFile told faults faults' misses misses' Refusal.NotBuilt = (script : List ℕ) × Tells told (Some script) × (IsDecided script → ⊥)
+RefusesFile told faults faults' misses misses' Refusal.NotBuilt = (script : List ℕ) × Tells told (Some script) × IsUndecided script
+RefusesFile told faults faults' misses misses' (Refusal.Script kind at) = (script : List ℕ) × Tells told (Some script) × IsScriptFault script kind at
 RefusesFile told faults faults' misses misses' Refusal.Missing = Rises misses misses' × Tells told None
 RefusesFile told faults faults' misses misses' Refusal.ReadFault = Rises faults faults'
 RefusesFile told faults faults' misses misses' (Refusal.TooLong len) = (1048576 < len) × HasAtLeast told len
@@ -87,12 +103,12 @@ pub record FailsOnOut (answer : Answer) (out err : Output) (status : Exit) : Typ
   pub status_is : status ≡ WriteFault
   pub failed : Fails out
   pub out_gains : GainsPrefix out (answer_text answer)
-  pub err_gains : GainsPrefix err (error_text WriteFault [] 0)
+  pub err_gains : GainsPrefix err write_fault_text
 
 -- no memory was left for the answer or on `out`, which may have a prefix of it, and that was put on `err`
 pub record WantsMemory (answer : Answer) (out err : Output) (status : Exit) : Type 0 where
   pub out_gains : GainsNothing out ⊎ GainsPrefix out (answer_text answer)
-  pub err_puts : Puts err (error_text Memory [] 0) Memory status
+  pub err_puts : Puts err (error_text Refusal.Memory []) Memory status
 
 abbrev pub Reports : Answer → Output → Output → Exit → Type 0
 Reports answer out err status = WritesAnswer answer out err status ⊎ (FailsOnOut answer out err status ⊎ WantsMemory answer out err status)
@@ -100,5 +116,5 @@ Reports answer out err status = WritesAnswer answer out err status ⊎ (FailsOnO
 -- a refusal was put on `err`, or want of memory for its text
 abbrev pub ReportsRefusal : List ℕ → Refusal → Output → Exit → Type 0
 ReportsRefusal file refusal err status =
-    Puts err (error_text (refusal_status refusal) file (refusal_len refusal)) (refusal_status refusal) status
-    ⊎ Puts err (error_text Memory [] 0) Memory status
+    Puts err (error_text refusal file) (refusal_status refusal) status
+    ⊎ Puts err (error_text Refusal.Memory []) Memory status

@@ -8,11 +8,13 @@ ghost use Rattle.page_check.specs.PageBytes.{is_page_byte};
 ghost use Rattle.phpsa_main.specs.Pages.{ArePlain, AreValid, IsInvalidAmong};
 ghost use Rattle.phpsa_main.specs.Steps.{IsAnswerOf, IsRefusalOf};
 
+use crate::scripts::read_script;
 use crate::verdict::{Answer, Refusal};
 use dtd_model::{Dtd, mini};
-use first_form::laws::one_reading;
-use first_form::{Pages, script_pages};
+use first_form::{Pages, loose_pages};
 use page_check::{PageRefusal, check_page};
+use php_parser::laws::one_tree;
+use php_syntax::laws::{never_both, one_token_list};
 use std::alloc::Global;
 use text_base::{Bytes, NoMemory};
 
@@ -21,8 +23,11 @@ pub(crate) fn decide(alloc: Global, script: &[u8]) -> Result<Answer, Refusal>
     ensures ok { IfOk result (λ answer. IsAnswerOf script.now answer) }
     ensures err { IfErr result (λ refusal. IsRefusalOf script.now refusal) }
 {
-    one_reading();
-    match script_pages(alloc, script)? {
+    one_token_list();
+    never_both();
+    one_tree();
+    let program = read_script(alloc, script)?;
+    match loose_pages(alloc, &program)? {
         None => Err(Refusal::NotBuilt),
         Some(pages) => match first_invalid(alloc, pages)? {
             None => Ok(Answer::Yes),

@@ -2,7 +2,7 @@
 ghost use Rattle.std.specs.Prelude.{◌≡◌};
 ghost use Rattle.phpsa_main.specs.Texts.{status_of};
 
-/// How a call ended: a variant for each status.
+/// How a call ended: a variant for each status, and two for the status 3.
 #[derive(Clone, Copy, Debug, PartialEq, Eq)]
 pub enum Exit {
     /// 0: every loose page is valid.
@@ -11,6 +11,8 @@ pub enum Exit {
     No,
     /// 3: the script is of a form that is not decided yet.
     NotBuilt,
+    /// 3: the file is no script of the language, or too deep.
+    Script,
     /// 6: there is no file of this name.
     Missing,
     /// 7: the source of the files failed.
@@ -34,6 +36,7 @@ impl Exit {
             Exit::Done => 0,
             Exit::No => 1,
             Exit::NotBuilt => 3,
+            Exit::Script => 3,
             Exit::Missing => 6,
             Exit::ReadFault => 7,
             Exit::WriteFault => 8,

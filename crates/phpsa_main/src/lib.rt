@@ -3,14 +3,16 @@
 //!
 //! The contract of `phpsa` cites three definitions. `Ends` says for each status why it came and what is left on the
 //! outputs. `IsAnswered` says when there is an answer, and which. `IsSound` is the headline: after a yes, every run
-//! of the script that ends prints a valid page. Below stand `io_edge` with files and outputs, `first_form` with the
-//! scripts that are decided, their meaning and their loose pages, and `dtd_model` and `page_check` with valid pages.
+//! of the script that ends prints a valid page. Below stand `io_edge` with files and outputs, `php_lexer` and
+//! `php_parser`, which read a script, `first_form` with the programs that are decided, their meaning and their loose
+//! pages, and `dtd_model` and `page_check` with valid pages.
 #![tactic(auto)]
 
 mod check;
 mod decide;
 mod exit;
 mod report;
+mod scripts;
 #[cfg(test)]
 mod tests;
 mod texts;
@@ -27,6 +29,8 @@ use check::check;
 pub use exit::Exit;
 use first_form::laws::ended_runs_print_loose_pages;
 use io_edge::{Files, Sink};
+use php_parser::laws::one_tree;
+use php_syntax::laws::{never_both, one_token_list};
 use report::{refuse, report};
 use std::alloc::Global;
 use verdict::Refusal;
@@ -58,6 +62,9 @@ pub fn phpsa<F: Files, O: Sink, E: Sink>(
         (output_of (E.written err.old) (E.written err.new) (E.faults err.old) (E.faults err.new))) result }
 {
     ended_runs_print_loose_pages();
+    one_token_list();
+    never_both();
+    one_tree();
     run(alloc, words, files, out, err)
 }
 

@@ -90,6 +90,16 @@ fn answers_for_scripts(rt: HostRuntime) -> Result<(), Fail> {
             "yes\n",
         ),
         (
+            "<html><body><?PHP ECHO \"<p>x</p>\"; Print '' ?></body></html>",
+            Exit::Done,
+            "yes\n",
+        ),
+        (
+            "<html><body><?php if (isset($_GET[\"name\"])): echo '<p>a</p>'; else: ?><p>b<?php endif ?></body></html>",
+            Exit::No,
+            NO_OPEN,
+        ),
+        (
             "<html><body><?php\n",
             Exit::No,
             "no\npage 12\n<html><body>\n",
@@ -149,6 +159,57 @@ fn refuses_with_a_text(rt: HostRuntime) -> Result<(), Fail> {
         let words = ["check", file, "--dtd", "mini"];
         let ending = run(rt.alloc(), &words, script, outside)?;
         assert_eq!(rt; ending.exit, exit, "{script}");
+        assert_eq!(rt; ending.out.written(), b"".as_slice(), "{script}");
+        assert_eq!(rt; ending.err.written(), err.as_bytes(), "{script}");
+    }
+    Ok(())
+}
+
+/// A file in which so many brackets are open at once.
+fn bracketed(alloc: Global, count: usize) -> Result<Bytes, Fail> {
+    let mut script = Bytes::from_slice(alloc, b"<?php echo ")?;
+    for _ in 0..count {
+        script.append(b"(")?;
+    }
+    script.append(b"1")?;
+    for _ in 0..count {
+        script.append(b")")?;
+    }
+    script.append(b";")?;
+    Ok(script)
+}
+
+#[test]
+fn at_most_200_brackets(rt: HostRuntime) -> Result<(), Fail> {
+    for (count, exit, err) in [
+        (200, Exit::NotBuilt, "phpsa: NotBuilt t.php\n"),
+        (201, Exit::Script, "phpsa: TooDeep t.php 211\n"),
+    ] {
+        let script = bracketed(rt.alloc(), count)?;
+        let ending = run_over(rt.alloc(), &CHECK, script, QUIET)?;
+        assert_eq!(rt; ending.exit, exit, "{count}");
+        assert_eq!(rt; ending.out.written(), b"".as_slice(), "{count}");
+        assert_eq!(rt; ending.err.written(), err.as_bytes(), "{count}");
+    }
+    Ok(())
+}
+
+#[test]
+fn refuses_what_is_no_script(rt: HostRuntime) -> Result<(), Fail> {
+    for (script, err) in [
+        ("<?php $x = \"a\\q\";", "phpsa: Escape t.php 13\n"),
+        ("<?php $x = 'a", "phpsa: Unclosed t.php 11\n"),
+        ("<?php echo 1.5;", "phpsa: Float t.php 11\n"),
+        (
+            "<?php echo 9223372036854775808;",
+            "phpsa: BigInt t.php 11\n",
+        ),
+        ("<?php echo 1 ^ 2;", "phpsa: BadByte t.php 13\n"),
+        ("<?php break;", "phpsa: NotInSubset t.php 6\n"),
+        ("<?php echo 1", "phpsa: NotInSubset t.php 11\n"),
+    ] {
+        let ending = run(rt.alloc(), &CHECK, script, QUIET)?;
+        assert_eq!(rt; ending.exit, Exit::Script, "{script}");
         assert_eq!(rt; ending.out.written(), b"".as_slice(), "{script}");
         assert_eq!(rt; ending.err.written(), err.as_bytes(), "{script}");
     }
@@ -255,6 +316,7 @@ fn statuses(rt: HostRuntime) {
         (Exit::Done, 0),
         (Exit::No, 1),
         (Exit::NotBuilt, 3),
+        (Exit::Script, 3),
         (Exit::Missing, 6),
         (Exit::ReadFault, 7),
         (Exit::WriteFault, 8),

@@ -1,11 +1,11 @@
 // The texts that are written.
 ghost use Rattle.std.specs.Prelude.{◌≡◌, ◌++◌, [], ◌∷◌, take, OnOk, OnErr, IfOk};
 ghost use Rattle.std.specs.Fmt.{decimal};
-ghost use Rattle.phpsa_main.specs.Texts.{yes_text, no_text, error_text};
-ghost use Rattle.phpsa_main.specs.declared.exit.Exit.TheVariants.{Input};
-ghost use Rattle.phpsa_main.specs.Steps.{answer_text, refusal_status, refusal_len};
+ghost use Rattle.phpsa_main.specs.Texts.{yes_text, no_text, error_text, kind_text};
+ghost use Rattle.phpsa_main.specs.declared.verdict.Refusal.TheVariants as refusals;
+ghost use Rattle.phpsa_main.specs.Steps.{answer_text};
 
-use crate::verdict::{Answer, Refusal};
+use crate::verdict::{Answer, Refusal, ScriptKind};
 use std::alloc::Global;
 use text_base::{Bytes, NoMemory};
 
@@ -54,12 +54,28 @@ fn append_number(alloc: Global, text: &mut Bytes, number: u64) -> Result<(), NoM
     Ok(())
 }
 
+/// The name of what is wrong with a script.
+fn kind_text(kind: ScriptKind) -> &'static [u8]
+    ensures { result.now ≡ kind_text kind }
+{
+    match kind {
+        ScriptKind::BadByte => b"BadByte",
+        ScriptKind::Unclosed => b"Unclosed",
+        ScriptKind::Float => b"Float",
+        ScriptKind::BigInt => b"BigInt",
+        ScriptKind::Escape => b"Escape",
+        ScriptKind::NotInSubset => b"NotInSubset",
+        ScriptKind::TooDeep => b"TooDeep",
+    }
+}
+
 /// The text of a refusal of this file.
 pub(crate) fn refusal_text(alloc: Global, file: &[u8], refusal: Refusal) -> Result<Bytes, NoMemory>
-    ensures { IfOk result (λ text. text ≡ error_text (refusal_status refusal) file.now (refusal_len refusal)) }
+    ensures { IfOk result (λ text. text ≡ error_text refusal file.now) }
 {
     match refusal {
         Refusal::NotBuilt => named_text(alloc, b"phpsa: NotBuilt ", file),
+        Refusal::Script { kind, at } => script_text(alloc, file, kind, at),
         Refusal::Missing => named_text(alloc, b"phpsa: Missing ", file),
         Refusal::ReadFault => named_text(alloc, b"phpsa: ReadFault ", file),
         Refusal::TooLong { len } => long_text(alloc, file, len),
@@ -77,8 +93,21 @@ fn named_text(alloc: Global, front: &[u8], file: &[u8]) -> Result<Bytes, NoMemor
     Ok(text)
 }
 
+fn script_text(alloc: Global, file: &[u8], kind: ScriptKind, at: u32) -> Result<Bytes, NoMemory>
+    ensures { IfOk result (λ text. text ≡ error_text (refusals.Script kind at) file.now) }
+{
+    let mut text = Bytes::from_slice(alloc, b"phpsa: ")?;
+    text.append(kind_text(kind))?;
+    text.append(b" ")?;
+    text.append(file)?;
+    text.append(b" ")?;
+    append_number(alloc, &mut text, at as u64)?;
+    text.append(b"\n")?;
+    Ok(text)
+}
+
 fn long_text(alloc: Global, file: &[u8], len: u64) -> Result<Bytes, NoMemory>
-    ensures { IfOk result (λ text. text ≡ error_text Input file.now len) }
+    ensures { IfOk result (λ text. text ≡ error_text (refusals.TooLong len) file.now) }
 {
     let mut text = Bytes::from_slice(alloc, b"phpsa: TooLong ")?;
     text.append(file)?;

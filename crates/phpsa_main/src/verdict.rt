@@ -1,10 +1,12 @@
 // What the check of a file comes to.
 ghost use Rattle.std.specs.Prelude.{◌≡◌};
-ghost use Rattle.phpsa_main.specs.Steps.{answer_status, refusal_status, refusal_of};
-ghost use Rattle.phpsa_main.specs.declared.verdict.Refusal.TheVariants.{Memory};
+ghost use Rattle.phpsa_main.specs.Steps.{answer_status, refusal_status, refusal_of, lexed_as, parsed_as};
+ghost use Rattle.phpsa_main.specs.declared.verdict.Refusal.TheVariants.{Memory, Script};
 
 use crate::Exit;
 use io_edge::FileFault;
+use php_lexer::LexRefusal;
+use php_parser::ParseRefusal;
 use text_base::{Bytes, NoMemory};
 
 /// An answer, which is written on `out`.
@@ -27,10 +29,23 @@ impl Answer {
     }
 }
 
+/// What is wrong with a script.
+#[derive(Clone, Copy, Debug, PartialEq, Eq)]
+pub(crate) enum ScriptKind {
+    BadByte,
+    Unclosed,
+    Float,
+    BigInt,
+    Escape,
+    NotInSubset,
+    TooDeep,
+}
+
 /// Why there is no answer, which is written on `err`.
 #[derive(Clone, Copy, Debug, PartialEq, Eq)]
 pub(crate) enum Refusal {
     NotBuilt,
+    Script { kind: ScriptKind, at: u32 },
     Missing,
     ReadFault,
     TooLong { len: u64 },
@@ -44,6 +59,7 @@ impl Refusal {
     {
         match self {
             Refusal::NotBuilt => Exit::NotBuilt,
+            Refusal::Script { .. } => Exit::Script,
             Refusal::Missing => Exit::Missing,
             Refusal::ReadFault => Exit::ReadFault,
             Refusal::TooLong { .. } => Exit::Input,
@@ -70,6 +86,41 @@ impl From<FileFault> for Refusal {
             FileFault::Failed => Refusal::ReadFault,
             FileFault::TooLong { len } => Refusal::TooLong { len },
             FileFault::Memory => Refusal::Memory,
+        }
+    }
+}
+
+/// A refusal of this kind at this place.
+fn script(kind: ScriptKind, at: u32) -> Refusal
+    ensures { result ≡ Script kind at }
+{
+    Refusal::Script { kind, at }
+}
+
+impl From<LexRefusal> for Refusal {
+    ghost from_gives = { λ lexed refusal. refusal ≡ lexed_as lexed };
+
+    fn from(refusal: LexRefusal) -> Self {
+        match refusal {
+            LexRefusal::BadByte { at } => script(ScriptKind::BadByte, at),
+            LexRefusal::Unclosed { at } => script(ScriptKind::Unclosed, at),
+            LexRefusal::Float { at } => script(ScriptKind::Float, at),
+            LexRefusal::BigInt { at } => script(ScriptKind::BigInt, at),
+            LexRefusal::Escape { at } => script(ScriptKind::Escape, at),
+            LexRefusal::TooLong { len } => Refusal::TooLong { len },
+            LexRefusal::Memory => Refusal::Memory,
+        }
+    }
+}
+
+impl From<ParseRefusal> for Refusal {
+    ghost from_gives = { λ parsed refusal. refusal ≡ parsed_as parsed };
+
+    fn from(refusal: ParseRefusal) -> Self {
+        match refusal {
+            ParseRefusal::NotInSubset { at } => script(ScriptKind::NotInSubset, at),
+            ParseRefusal::TooDeep { at } => script(ScriptKind::TooDeep, at),
+            ParseRefusal::Memory => Refusal::Memory,
         }
     }
 }

@@ -5,8 +5,13 @@ use Rattle.php_syntax.specs.declared.tree.SuperName.{SuperName}
 use Rattle.php_syntax.specs.declared.tree.SuperName.TheVariants.{Get}
 use Rattle.php_syntax.specs.Trees.{PlainExpr, PlainExprs, PlainStmt, PlainStmts, PlainArms, text_expr, super_expr, member_expr, isset_expr, no_exprs, more_exprs, inline_stmt, echo_stmt, if_stmt, no_stmts, more_stmts, no_arms, more_arms}
 use Rattle.first_form.specs.declared.pages.Pages.{Pages}
-use Rattle.first_form.specs.FirstForm.{is_plain, is_letter}
-use Rattle.first_form.specs.Steps.Reading.{◌>>=◌}
+use Rattle.first_form.specs.Characters.{is_plain, is_letter}
+
+-- goes on with what there is
+infixl 10 ◌>>=◌
+abbrev pub ◌>>=◌ : {A B : Type 0} → Option A → (A → Option B) → Option B
+None >>= f = None
+(Some x) >>= f = f x
 
 -- a text of plain bytes
 unfoldable pub plain_text : List ℕ → Option (List ℕ)

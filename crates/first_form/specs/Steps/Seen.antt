@@ -1,4 +1,4 @@
--- What the references that the reader's functions give point to.
+-- What the references that the functions over trees give point to.
 use Rattle.std.specs.Prelude.{ℕ, List, Option, Some, None}
 use Rattle.std.specs.Borrow.{Bor}
 use Rattle.php_syntax.specs.declared.tree.Stmt.{Stmt}
@@ -7,10 +7,6 @@ use Rattle.php_syntax.specs.Trees.{PlainStmts, stmts_of}
 abbrev pub seen : Option (Bor (List ℕ)) → Option (List ℕ)
 seen None = None
 seen (Some x) = Some x.now
-
-abbrev pub seen_pair : Option (Bor (List ℕ) × Bor (List ℕ)) → Option (List ℕ × List ℕ)
-seen_pair None = None
-seen_pair (Some x) = Some (x.0.now, x.1.now)
 
 abbrev pub seen_body : Option (Bor (List Stmt)) → Option PlainStmts
 seen_body None = None

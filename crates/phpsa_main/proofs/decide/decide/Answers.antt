@@ -1,20 +1,22 @@
-use Rattle.std.proofs.Common.{Option, IfSome, IfNone, subst}
-use Rattle.php_syntax.specs.Trees.{PlainFile}
+use Rattle.std.proofs.Common.{Option, IfSome, subst}
+use Rattle.php_syntax.specs.Trees.{plain_file}
 use Rattle.first_form.specs.declared.pages.Pages.{Pages}
-use Rattle.first_form.specs.Trees.{IsFirstForm}
-use Rattle.phpsa_main.proofs.Loosely.{ReadsPages, each_valid}
+use Rattle.first_form.specs.FirstTree.{IsFirstTree, ArePages}
+use Rattle.phpsa_main.proofs.OneProgram.{Laws}
+use Rattle.phpsa_main.proofs.Loosely.{plain_pages, each_valid}
 use Rattle.phpsa_main.proofs.decide.decide.Goals as goal
 
--- there is no reading
-pub returns-in-None-clause-err : goal.returns-in-None-clause-err
-returns-in-None-clause-err c =
-    let none : (program : PlainFile) → IsFirstForm c.args.script.now program → ⊥ =
-    subst (λ (o : Option Pages). IfNone o ((program : PlainFile) → IsFirstForm c.args.script.now program → ⊥)) c.in-None.is c.in_ok-script_pages.ensures.none in
-    λ decided. none decided.program decided.reading
+-- the pages have plain bytes alone
+pub first_invalid-requires : goal.first_invalid-requires
+first_invalid-requires c =
+    plain_pages c.in-Some.pages (plain_file c.in_ok-program.program)
+    (subst (λ (o : Option Pages). IfSome o (λ pages. ArePages pages (plain_file c.in_ok-program.program))) c.in-Some.is c.in_ok-loose_pages.ensures.pages)
 
 -- each loose page is one of the pages, and these are valid
 pub returns-in-None-2-clause-ok : goal.returns-in-None-2-clause-ok
 returns-in-None-2-clause-ok c =
-    let pages : ReadsPages c.args.script.now c.in-Some.pages =
-    subst (λ (o : Option Pages). IfSome o (λ pages. ReadsPages c.args.script.now pages)) c.in-Some.is c.in_ok-script_pages.ensures.pages in
-    each_valid c.one_reading.ensures c.args.script.now c.in-Some.pages pages (c.in_ok-first_invalid-in-Some.ensures.none c.in-None-2.is)
+    let laws : Laws = record { one_tokens = c.one_token_list.ensures; never = c.never_both.ensures; one_tree = c.one_tree.ensures } in
+    each_valid laws c.args.script.now (plain_file c.in_ok-program.program) c.in-Some.pages c.in_ok-program.ensures.ok
+    (subst (λ (o : Option Pages). IfSome o (λ _. IsFirstTree (plain_file c.in_ok-program.program))) c.in-Some.is c.in_ok-loose_pages.ensures.first_form)
+    (subst (λ (o : Option Pages). IfSome o (λ pages. ArePages pages (plain_file c.in_ok-program.program))) c.in-Some.is c.in_ok-loose_pages.ensures.pages)
+    (c.in_ok-first_invalid-in-Some.ensures.none c.in-None-2.is)
