@@ -68,7 +68,7 @@ fn between(out: &mut Writer, middle: &Option<Box<Expr>>) -> Result<(), NoMemory>
     Ok(())
 }
 
-// An expression that may be left out.
+/// An expression that may be left out.
 #[cycle(expressions)]
 #[tactic(auto, unfolding(crate::specs::Written::expr_marks))]
 pub fn maybe(out: &mut Writer, expr: &Option<Expr>) -> Result<(), NoMemory>
