@@ -20,8 +20,6 @@ mod rules;
 mod stack;
 mod step;
 mod templates;
-#[cfg(test)]
-mod tests;
 mod trees;
 pub mod value;
 pub mod values;

@@ -17,5 +17,3 @@ pub mod reader;
 mod reads;
 mod rows;
 mod step;
-#[cfg(test)]
-mod tests;
