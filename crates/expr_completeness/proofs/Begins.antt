@@ -3,14 +3,14 @@ use Rattle.std.proofs.Common.{◌≡◌, ℕ, Bool, true, false, if◌then◌els
 use Rattle.std.proofs.lemmas.Bool.{eq-eqb}
 use Rattle.php_syntax.specs.declared.token.Sign.{Sign}
 use Rattle.php_syntax.specs.declared.token.Sign.TheVariants as sign
-use Rattle.php_syntax.specs.declared.keyword.Keyword.{Keyword}
+use Rattle.script_grammar.specs.declared.keyword.Keyword.{Keyword}
 use Rattle.php_syntax.specs.declared.tree.UpdateSign.{UpdateSign}
-use Rattle.php_syntax.specs.declared.operator.Prefix.{Prefix}
+use Rattle.script_grammar.specs.declared.operator.Prefix.{Prefix}
 use Rattle.php_syntax.specs.Tokens.{PlainKey, PlainPart, plain_part, read_part}
 use Rattle.php_syntax.specs.Trees.{PlainExpr}
-use Rattle.php_syntax.specs.Operators.{prefix_operator, update_sign, step_sign}
-use Rattle.php_syntax.specs.Terminals.{Terminal, variable_terminal, word_terminal, sign_terminal}
-use Rattle.php_syntax.specs.Expressions.{constant_of}
+use Rattle.script_grammar.specs.Operators.{prefix_operator, update_sign, step_sign}
+use Rattle.script_grammar.specs.Terminals.{Terminal, variable_terminal, word_terminal, sign_terminal}
+use Rattle.script_grammar.specs.Expressions.{constant_of}
 use Rattle.expr_machine.specs.declared.frame.Focus.TheVariants as focus
 use Rattle.expr_machine.specs.declared.frame.Frame.{Frame}
 use Rattle.expr_machine.specs.declared.frame.Frame.TheVariants as frame

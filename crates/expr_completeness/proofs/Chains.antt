@@ -1,11 +1,11 @@
 -- Chains of operators are read, where their operands are.
 use Rattle.std.proofs.Common.{◌≡◌, ◌+◌, Bool, true, false, if◌then◌else◌, ◌∷◌, Some, None, refl, sym, subst, arith}
 use Rattle.php_syntax.specs.declared.token.Sign.{Sign}
-use Rattle.php_syntax.specs.declared.operator.Level.{Level}
-use Rattle.php_syntax.specs.declared.operator.Operator.{Operator}
-use Rattle.php_syntax.specs.declared.operator.Prefix.{Prefix}
-use Rattle.php_syntax.specs.Operators.{tighter_level, repeats, binary_operator, prefix_operator}
-use Rattle.php_syntax.specs.Expressions.{ChainForm, chain_form, MoreForm, no_more, once_more, one_more, OperandForm, tighter_form, tightest_form, UnaryForm, prefix_form, post_form, PostForm, expr_terminals, more_terminals, operand_terminals, unary_terminals}
+use Rattle.script_grammar.specs.declared.operator.Level.{Level}
+use Rattle.script_grammar.specs.declared.operator.Operator.{Operator}
+use Rattle.script_grammar.specs.declared.operator.Prefix.{Prefix}
+use Rattle.script_grammar.specs.Operators.{tighter_level, repeats, binary_operator, prefix_operator}
+use Rattle.script_grammar.specs.Expressions.{ChainForm, chain_form, MoreForm, no_more, once_more, one_more, OperandForm, tighter_form, tightest_form, UnaryForm, prefix_form, post_form, PostForm, expr_terminals, more_terminals, operand_terminals, unary_terminals}
 use Rattle.expr_machine.specs.declared.frame.Focus.{Focus}
 use Rattle.expr_machine.specs.declared.frame.Focus.TheVariants as focus
 use Rattle.expr_machine.specs.declared.frame.Frame.TheVariants as frame

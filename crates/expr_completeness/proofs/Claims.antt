@@ -2,9 +2,9 @@
 use Rattle.std.proofs.Common.{◌≡◌, ℕ, ◌+◌, ◌<◌, ◌≤◌, Bool, true, false, List, ◌∷◌}
 use Rattle.php_syntax.specs.declared.token.Sign.{Sign}
 use Rattle.php_syntax.specs.declared.token.Sign.TheVariants as sign
-use Rattle.php_syntax.specs.declared.operator.Level.{Level}
-use Rattle.php_syntax.specs.Terminals.{Terminal, sign_terminal}
-use Rattle.php_syntax.specs.Expressions.{ExprForm, KeysForm, no_key_form, open_key_form, key_form, ChoiceForm, NulForm, ChainForm, MoreForm, OperandForm, UnaryForm, PostForm, SubscriptsForm, MoreExprsForm, MoreItemsForm, ItemForm, value_item, keyed_item, expr_terminals, keys_terminals, choice_terminals, nul_terminals, chain_terminals, more_terminals, operand_terminals, unary_terminals, post_terminals, subscripts_terminals, more_exprs_terminals, more_items_terminals, item_terminals}
+use Rattle.script_grammar.specs.declared.operator.Level.{Level}
+use Rattle.script_grammar.specs.Terminals.{Terminal, sign_terminal}
+use Rattle.script_grammar.specs.Expressions.{ExprForm, KeysForm, no_key_form, open_key_form, key_form, ChoiceForm, NulForm, ChainForm, MoreForm, OperandForm, UnaryForm, PostForm, SubscriptsForm, MoreExprsForm, MoreItemsForm, ItemForm, value_item, keyed_item, expr_terminals, keys_terminals, choice_terminals, nul_terminals, chain_terminals, more_terminals, operand_terminals, unary_terminals, post_terminals, subscripts_terminals, more_exprs_terminals, more_items_terminals, item_terminals}
 use Rattle.expr_machine.specs.declared.frame.Brackets.{Brackets}
 use Rattle.expr_machine.specs.declared.frame.Brackets.TheVariants as brackets
 use Rattle.expr_machine.specs.declared.frame.Focus.{Focus}

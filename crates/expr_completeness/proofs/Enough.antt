@@ -1,7 +1,7 @@
 -- A run that comes to its end does so within as many moves as its weight.
 use Rattle.std.proofs.Common.{◌≡◌, ℕ, zero, suc, ◌+◌, ◌<◌, List, [], Option, Some, None, refl, ap, ◌∙◌, arith}
-use Rattle.php_syntax.specs.Terminals.{Terminal}
-use Rattle.php_syntax.specs.Expressions.{ExprForm, expr_terminals}
+use Rattle.script_grammar.specs.Terminals.{Terminal}
+use Rattle.script_grammar.specs.Expressions.{ExprForm, expr_terminals}
 use Rattle.expr_machine.specs.declared.frame.Focus.{Focus}
 use Rattle.expr_machine.specs.declared.frame.Frame.{Frame}
 use Rattle.expr_machine.specs.Actions.{Action}

@@ -1,6 +1,6 @@
 -- Each form is read, by one induction over the forms.
-use Rattle.php_syntax.specs.declared.operator.Level.{Level}
-use Rattle.php_syntax.specs.Expressions.{ExprForm, assign_form, update_form, choice_form, target_form, KeysForm, no_key_form, open_key_form, key_form, ChoiceForm, only_choice, short_choice, full_choice, NulForm, only_nul, coalesce_form, ChainForm, chain_form, MoreForm, no_more, once_more, one_more, OperandForm, tighter_form, tightest_form, UnaryForm, prefix_form, post_form, PostForm, base_form, after_form, before_form, int_form, text_form, template_form, constant_form, isset_form, empty_form, array_form, bracket_form, variable_base, call_base, escape_base, parens_base, SubscriptsForm, no_subscript, subscript_form, empty_list, list_form, MoreExprsForm, no_more_exprs, one_more_expr, empty_items, items_form, MoreItemsForm, end_of_items, last_comma, one_more_item, ItemForm, value_item, keyed_item}
+use Rattle.script_grammar.specs.declared.operator.Level.{Level}
+use Rattle.script_grammar.specs.Expressions.{ExprForm, assign_form, update_form, choice_form, target_form, KeysForm, no_key_form, open_key_form, key_form, ChoiceForm, only_choice, short_choice, full_choice, NulForm, only_nul, coalesce_form, ChainForm, chain_form, MoreForm, no_more, once_more, one_more, OperandForm, tighter_form, tightest_form, UnaryForm, prefix_form, post_form, PostForm, base_form, after_form, before_form, int_form, text_form, template_form, constant_form, isset_form, empty_form, array_form, bracket_form, variable_base, call_base, escape_base, parens_base, SubscriptsForm, no_subscript, subscript_form, empty_list, list_form, MoreExprsForm, no_more_exprs, one_more_expr, empty_items, items_form, MoreItemsForm, end_of_items, last_comma, one_more_item, ItemForm, value_item, keyed_item}
 use Rattle.expr_completeness.proofs.Claims.{ExprReads, KeysRead, ChoiceReads, NulReads, ChainReads, Leans, Joins, Counts, OperandReads, UnaryReads, PostReads, PlaceReads, SubscriptsRead, ArgumentsRead, IssetReads, ItemReads, MoreItemsRead}
 use Rattle.expr_completeness.proofs.Chains as chains
 use Rattle.expr_completeness.proofs.Wholes as wholes

@@ -1,8 +1,8 @@
 -- Arrays are read, where their items are.
 use Rattle.std.proofs.Common.{◌≡◌, ℕ, ◌+◌, Bool, true, false, if◌then◌else◌, List, [], ◌∷◌, refl, ap, subst, arith}
 use Rattle.php_syntax.specs.declared.token.Sign.TheVariants as sign
-use Rattle.php_syntax.specs.Terminals.{Terminal, sign_terminal}
-use Rattle.php_syntax.specs.Expressions.{ExprForm, array_form, bracket_form, empty_items, items_form, MoreItemsForm, end_of_items, last_comma, one_more_item, ItemForm, value_item, keyed_item, expr_terminals, more_items_terminals, item_terminals}
+use Rattle.script_grammar.specs.Terminals.{Terminal, sign_terminal}
+use Rattle.script_grammar.specs.Expressions.{ExprForm, array_form, bracket_form, empty_items, items_form, MoreItemsForm, end_of_items, last_comma, one_more_item, ItemForm, value_item, keyed_item, expr_terminals, more_items_terminals, item_terminals}
 use Rattle.expr_machine.specs.declared.frame.Brackets.{Brackets}
 use Rattle.expr_machine.specs.declared.frame.Brackets.TheVariants as brackets
 use Rattle.expr_machine.specs.declared.frame.Focus.TheVariants as focus

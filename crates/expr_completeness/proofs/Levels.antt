@@ -2,12 +2,12 @@
 use Rattle.std.proofs.Common.{◌≡◌, ℕ, ◌+◌, ◌<◌, ◌≤◌, suc, true, false, if◌then◌else◌, List, [], ◌∷◌, Option, Some, None, refl, sym, ap, ◌∙◌, arith}
 use Rattle.php_syntax.specs.declared.token.Sign.{Sign}
 use Rattle.php_syntax.specs.declared.token.Sign.TheVariants as sign
-use Rattle.php_syntax.specs.declared.operator.Level.{Level}
-use Rattle.php_syntax.specs.declared.operator.Level.TheVariants as level
-use Rattle.php_syntax.specs.declared.operator.Operator.{Operator}
-use Rattle.php_syntax.specs.Operators.{tighter_level, repeats, binary_operator}
-use Rattle.php_syntax.specs.Terminals.{Terminal, sign_terminal}
-use Rattle.php_syntax.specs.Expressions.{MoreExprsForm, no_more_exprs, one_more_expr, more_exprs_terminals, MoreForm, no_more, once_more, one_more, more_terminals, expr_terminals, operand_terminals}
+use Rattle.script_grammar.specs.declared.operator.Level.{Level}
+use Rattle.script_grammar.specs.declared.operator.Level.TheVariants as level
+use Rattle.script_grammar.specs.declared.operator.Operator.{Operator}
+use Rattle.script_grammar.specs.Operators.{tighter_level, repeats, binary_operator}
+use Rattle.script_grammar.specs.Terminals.{Terminal, sign_terminal}
+use Rattle.script_grammar.specs.Expressions.{MoreExprsForm, no_more_exprs, one_more_expr, more_exprs_terminals, MoreForm, no_more, once_more, one_more, more_terminals, expr_terminals, operand_terminals}
 use Rattle.expr_machine.specs.declared.frame.Focus.{Focus}
 use Rattle.expr_machine.specs.declared.frame.Focus.TheVariants as focus
 use Rattle.expr_machine.specs.declared.frame.Frame.{Frame}

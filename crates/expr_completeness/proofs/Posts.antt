@@ -2,12 +2,12 @@
 use Rattle.std.proofs.Common.{◌≡◌, ℕ, ℤ, ◌+◌, Bool, true, false, if◌then◌else◌, ◌&&◌, ◌==◌, List, [], ◌∷◌, Some, None, refl, ap, ◌∙◌, subst, arith}
 use Rattle.php_syntax.specs.declared.token.Sign.{Sign}
 use Rattle.php_syntax.specs.declared.token.Sign.TheVariants as sign
-use Rattle.php_syntax.specs.declared.keyword.Keyword.{Keyword}
+use Rattle.script_grammar.specs.declared.keyword.Keyword.{Keyword}
 use Rattle.php_syntax.specs.Tokens.{PlainPart}
 use Rattle.php_syntax.specs.Trees.{PlainExpr}
-use Rattle.php_syntax.specs.Operators.{step_sign}
-use Rattle.php_syntax.specs.Terminals.{Terminal, template_terminal, sign_terminal}
-use Rattle.php_syntax.specs.Expressions.{constant_of, is_escape, ExprForm, base_form, after_form, before_form, int_form, text_form, template_form, constant_form, variable_base, call_base, escape_base, parens_base, QuotesForm, only_quotes, quotes_and_charset, SubscriptsForm, no_subscript, subscript_form, empty_list, list_form, MoreExprsForm, quotes_terminals, expr_terminals, subscripts_terminals, more_exprs_terminals}
+use Rattle.script_grammar.specs.Operators.{step_sign}
+use Rattle.script_grammar.specs.Terminals.{Terminal, template_terminal, sign_terminal}
+use Rattle.script_grammar.specs.Expressions.{constant_of, is_escape, ExprForm, base_form, after_form, before_form, int_form, text_form, template_form, constant_form, variable_base, call_base, escape_base, parens_base, QuotesForm, only_quotes, quotes_and_charset, SubscriptsForm, no_subscript, subscript_form, empty_list, list_form, MoreExprsForm, quotes_terminals, expr_terminals, subscripts_terminals, more_exprs_terminals}
 use Rattle.expr_machine.specs.declared.frame.Focus.TheVariants as focus
 use Rattle.expr_machine.specs.declared.frame.Frame.{Frame}
 use Rattle.expr_machine.specs.declared.frame.Frame.TheVariants as frame

@@ -1,8 +1,8 @@
 -- Rows of expressions and items are read: arguments, operands of `isset`, and arrays.
 use Rattle.std.proofs.Common.{◌≡◌, ℕ, ◌+◌, Bool, true, false, if◌then◌else◌, ◌&&◌, ◌==◌, List, ◌∷◌, None, refl, ap, subst, arith}
 use Rattle.php_syntax.specs.declared.token.Sign.TheVariants as sign
-use Rattle.php_syntax.specs.Terminals.{Terminal, sign_terminal}
-use Rattle.php_syntax.specs.Expressions.{is_escape, ExprForm, isset_form, empty_form, MoreExprsForm, no_more_exprs, one_more_expr, expr_terminals, more_exprs_terminals}
+use Rattle.script_grammar.specs.Terminals.{Terminal, sign_terminal}
+use Rattle.script_grammar.specs.Expressions.{is_escape, ExprForm, isset_form, empty_form, MoreExprsForm, no_more_exprs, one_more_expr, expr_terminals, more_exprs_terminals}
 use Rattle.expr_machine.specs.declared.frame.Focus.TheVariants as focus
 use Rattle.expr_machine.specs.declared.frame.Frame.{Frame}
 use Rattle.expr_machine.specs.declared.frame.Frame.TheVariants as frame

@@ -3,10 +3,10 @@ use Rattle.std.proofs.Common.{◌≡◌, ℕ, ◌+◌, true, false, List, ◌∷
 use Rattle.php_syntax.specs.declared.token.Sign.{Sign}
 use Rattle.php_syntax.specs.declared.token.Sign.TheVariants as sign
 use Rattle.php_syntax.specs.declared.tree.UpdateSign.{UpdateSign}
-use Rattle.php_syntax.specs.declared.operator.Level.TheVariants as level
-use Rattle.php_syntax.specs.Operators.{update_sign}
-use Rattle.php_syntax.specs.Terminals.{Terminal, sign_terminal}
-use Rattle.php_syntax.specs.Expressions.{ExprForm, assign_form, update_form, choice_form, target_form, KeysForm, no_key_form, open_key_form, key_form, ChoiceForm, only_choice, short_choice, full_choice, NulForm, only_nul, coalesce_form, ChainForm, expr_terminals, keys_terminals, nul_terminals}
+use Rattle.script_grammar.specs.declared.operator.Level.TheVariants as level
+use Rattle.script_grammar.specs.Operators.{update_sign}
+use Rattle.script_grammar.specs.Terminals.{Terminal, sign_terminal}
+use Rattle.script_grammar.specs.Expressions.{ExprForm, assign_form, update_form, choice_form, target_form, KeysForm, no_key_form, open_key_form, key_form, ChoiceForm, only_choice, short_choice, full_choice, NulForm, only_nul, coalesce_form, ChainForm, expr_terminals, keys_terminals, nul_terminals}
 use Rattle.expr_machine.specs.declared.frame.Focus.TheVariants as focus
 use Rattle.expr_machine.specs.declared.frame.Frame.TheVariants as frame
 use Rattle.expr_machine.specs.Machine.{move}

@@ -2,12 +2,12 @@
 //!
 //! `expressions_are_read` carries it as its contract: the terminals of a derivation, with nothing behind them that could
 //! go on with it, are read as far as the derivation goes, and the actions are those of the derivation. Below stand
-//! `expr_machine` and `php_syntax`.
+//! `expr_machine` and `script_grammar`.
 #![tactic(auto)]
 
 ghost use Rattle.std.specs.Prelude.{◌≡◌, List, [], Some};
-ghost use Rattle.php_syntax.specs.Terminals.{Terminal};
-ghost use Rattle.php_syntax.specs.Expressions.{ExprForm, expr_terminals};
+ghost use Rattle.script_grammar.specs.Terminals.{Terminal};
+ghost use Rattle.script_grammar.specs.Expressions.{ExprForm, expr_terminals};
 ghost use Rattle.expr_machine.specs.Postfix.{expr_actions};
 ghost use Rattle.expr_machine.specs.Reading.{rank_next, expr_at};
 

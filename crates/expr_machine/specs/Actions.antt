@@ -1,8 +1,8 @@
 -- What a reader of an expression does to the values that it has made, in postfix order: the operands first, then what joins them.
 use Rattle.std.specs.Prelude.{ℕ, Bool, List, [], ◌∷◌, length}
 use Rattle.php_syntax.specs.declared.tree.UpdateSign.{UpdateSign}
-use Rattle.php_syntax.specs.declared.operator.Operator.{Operator}
-use Rattle.php_syntax.specs.declared.operator.Prefix.{Prefix}
+use Rattle.script_grammar.specs.declared.operator.Operator.{Operator}
+use Rattle.script_grammar.specs.declared.operator.Prefix.{Prefix}
 use Rattle.php_syntax.specs.Tokens.{PlainKey, text_key, int_key, var_key, PlainPart, plain_part, read_part}
 use Rattle.php_syntax.specs.Trees.{PlainExpr, text_expr, int_expr}
 

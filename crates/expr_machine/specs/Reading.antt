@@ -2,10 +2,10 @@
 use Rattle.std.specs.Prelude.{ℕ, ◌+◌, ◌*◌, ◌-◌, List, [], ◌∷◌, ◌++◌, length, Option, Some, None, zero, suc}
 use Rattle.php_syntax.specs.declared.token.Sign.{Sign}
 use Rattle.php_syntax.specs.declared.token.Sign.TheVariants as sign
-use Rattle.php_syntax.specs.declared.operator.Level.{Level}
-use Rattle.php_syntax.specs.declared.operator.Operator.{Operator}
-use Rattle.php_syntax.specs.Operators.{binary_operator}
-use Rattle.php_syntax.specs.Terminals.{Terminal, sign_terminal}
+use Rattle.script_grammar.specs.declared.operator.Level.{Level}
+use Rattle.script_grammar.specs.declared.operator.Operator.{Operator}
+use Rattle.script_grammar.specs.Operators.{binary_operator}
+use Rattle.script_grammar.specs.Terminals.{Terminal, sign_terminal}
 use Rattle.expr_machine.specs.declared.frame.Focus.{Focus}
 use Rattle.expr_machine.specs.declared.frame.Focus.TheVariants as focus
 use Rattle.expr_machine.specs.declared.frame.Frame.{Frame}

@@ -1,12 +1,12 @@
 -- The values that a reader makes. A value that is too high is not kept, but for whether it is a variable with subscripts.
 use Rattle.std.specs.Prelude.{ℕ, ◌+◌, ◌&&◌, max, nat_lt, nat_le, Bool, true, false, not, List, [], ◌∷◌, Option, Some, None, if◌then◌else◌, zero, suc}
 use Rattle.std.specs.Str.{str_to_ascii_lowercase}
-use Rattle.php_syntax.specs.declared.operator.Operator.{Operator}
-use Rattle.php_syntax.specs.declared.operator.Prefix.{Prefix}
+use Rattle.script_grammar.specs.declared.operator.Operator.{Operator}
+use Rattle.script_grammar.specs.declared.operator.Prefix.{Prefix}
 use Rattle.php_syntax.specs.declared.tree.UpdateSign.{UpdateSign}
 use Rattle.php_syntax.specs.Trees.{PlainExpr, array_expr, join_expr, member_expr, coalesce_expr, choice_expr, isset_expr, empty_expr, assign_expr, update_expr, step_expr, call_expr, no_expr, some_expr, PlainExprs, no_exprs, more_exprs, PlainItems, no_items, more_items, PlainPath, no_keys, more_keys}
-use Rattle.php_syntax.specs.Expressions.{prefix_tree, operator_tree, variable_tree}
-use Rattle.php_syntax.specs.Rules.{is_known, is_writable, is_place}
+use Rattle.script_grammar.specs.Expressions.{prefix_tree, operator_tree, variable_tree}
+use Rattle.script_grammar.specs.Rules.{is_known, is_writable, is_place}
 use Rattle.php_syntax.specs.Height.{height}
 use Rattle.expr_machine.specs.Actions.{Action, leaf_action, variable_action, absent_action, unkeyed_action, prefix_action, binary_action, join_action, coalesce_action, short_choice_action, full_choice_action, member_action, read_action, assign_action, update_action, step_action, isset_action, empty_action, array_action, call_action}
 

@@ -1,6 +1,6 @@
 //! Where the machine is in an expression, and what it has begun.
 
-use php_syntax::operator::{Level, Operator, Prefix};
+use script_grammar::operator::{Level, Operator, Prefix};
 use php_syntax::tree::UpdateSign;
 use text_base::Bytes;
 

@@ -1,7 +1,7 @@
 //! Laws of the machine. The functions do nothing; each stands for the law that its contract states.
 
 ghost use Rattle.std.specs.Prelude.{◌≡◌, ◌<◌, List, length, Some};
-ghost use Rattle.php_syntax.specs.Terminals.{Terminal};
+ghost use Rattle.script_grammar.specs.Terminals.{Terminal};
 ghost use Rattle.expr_machine.specs.declared.frame.Focus.{Focus};
 ghost use Rattle.expr_machine.specs.declared.frame.Frame.{Frame};
 ghost use Rattle.expr_machine.specs.Actions.{Action};

@@ -1,7 +1,7 @@
 -- What a move with its actions leads to, by what was done with the values.
 use Rattle.std.proofs.Common.{◌≡◌, Bool, true, false, List, [], ◌∷◌, refl, ap, sym, ◌∙◌}
 use Rattle.std.specs.Prelude.{Some}
-use Rattle.php_syntax.specs.Terminals.{Terminal}
+use Rattle.script_grammar.specs.Terminals.{Terminal}
 use Rattle.expr_machine.specs.declared.frame.Focus.{Focus}
 use Rattle.expr_machine.specs.declared.frame.Frame.{Frame}
 use Rattle.expr_machine.specs.Actions.{Action}

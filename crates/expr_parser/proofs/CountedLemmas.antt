@@ -3,8 +3,8 @@ use Rattle.std.proofs.Common.{◌≡◌, ℕ, ◌+◌, Bool, true, false, not, L
 use Rattle.std.specs.Prelude.{Option, Some, None, ◌&&◌}
 use Rattle.php_syntax.specs.declared.tree.UpdateSign.{UpdateSign}
 use Rattle.php_syntax.specs.Trees.{PlainExprs, PlainItems, PlainPath}
-use Rattle.php_syntax.specs.Expressions.{variable_tree}
-use Rattle.php_syntax.specs.Rules.{is_known, is_writable}
+use Rattle.script_grammar.specs.Expressions.{variable_tree}
+use Rattle.script_grammar.specs.Rules.{is_known, is_writable}
 use Rattle.expr_machine.specs.Actions.{join_action, isset_action, call_action, array_action, read_action}
 use Rattle.expr_machine.specs.Values.{PlainValue, known_value, apply, apply_join, apply_isset, apply_call, apply_array, apply_read, apply_assign, apply_update, put_if, take_values, gather_exprs, gather_path, join_value, isset_value, call_value, array_value, read_value, assign_value, update_value}
 use Rattle.expr_parser.specs.Rows.{IsRow, IsItems, IsPath}

@@ -1,10 +1,10 @@
 -- Values of two and three others, by whether the trees are kept.
 use Rattle.std.proofs.Common.{◌≡◌, ℕ, Bool, false, ap, sym, ◌∙◌}
 use Rattle.std.specs.Prelude.{Option, Some, None, max}
-use Rattle.php_syntax.specs.declared.operator.Operator.{Operator}
+use Rattle.script_grammar.specs.declared.operator.Operator.{Operator}
 use Rattle.php_syntax.specs.Trees.{PlainExpr, coalesce_expr, choice_expr, no_expr, some_expr, member_expr}
-use Rattle.php_syntax.specs.Expressions.{operator_tree}
-use Rattle.php_syntax.specs.Rules.{is_place}
+use Rattle.script_grammar.specs.Expressions.{operator_tree}
+use Rattle.script_grammar.specs.Rules.{is_place}
 use Rattle.expr_machine.specs.Values.{PlainValue, known_value, tall_value, node_value, is_place_value, binary_value, coalesce_value, short_choice_value, full_choice_value, member_value}
 use Rattle.expr_parser.specs.Views.{known_both}
 

@@ -4,7 +4,7 @@ use Rattle.std.specs.Prelude.{Option, Some, None, if◌then◌else◌, ◌==◌}
 use Rattle.php_syntax.specs.declared.token.Sign.{Sign}
 use Rattle.php_syntax.specs.declared.token.Sign.TheVariants as sign
 use Rattle.php_syntax.specs.declared.tree.UpdateSign.{UpdateSign}
-use Rattle.php_syntax.specs.Terminals.{Terminal, sign_terminal}
+use Rattle.script_grammar.specs.Terminals.{Terminal, sign_terminal}
 use Rattle.expr_machine.specs.declared.frame.Focus.TheVariants as focus
 use Rattle.expr_machine.specs.declared.frame.Frame.{Frame}
 use Rattle.expr_machine.specs.declared.frame.Frame.TheVariants as frame

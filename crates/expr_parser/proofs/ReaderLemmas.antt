@@ -1,7 +1,7 @@
 -- What a run makes of the values, by what its next move leads to.
 use Rattle.std.proofs.Common.{◌≡◌, ℕ, ◌<◌, List, refl, ap, subst, ◌∙◌}
 use Rattle.std.specs.Prelude.{Option, Some, None}
-use Rattle.php_syntax.specs.Terminals.{Terminal}
+use Rattle.script_grammar.specs.Terminals.{Terminal}
 use Rattle.expr_machine.specs.declared.frame.Focus.{Focus}
 use Rattle.expr_machine.specs.declared.frame.Frame.{Frame}
 use Rattle.expr_machine.specs.Actions.{Action}

@@ -2,7 +2,7 @@
 use Rattle.std.specs.Prelude.{List, ◌∷◌, map, Option, Some, None}
 use Rattle.php_syntax.specs.declared.token.Token.{Token}
 use Rattle.php_syntax.specs.Tokens.{plain_tokens, plain_part_of}
-use Rattle.php_syntax.specs.Terminals.{Terminal, inline_terminal, variable_terminal, word_terminal, name_terminal, int_terminal, text_terminal, template_terminal, sign_terminal, terminals}
+use Rattle.script_grammar.specs.Terminals.{Terminal, inline_terminal, variable_terminal, word_terminal, name_terminal, int_terminal, text_terminal, template_terminal, sign_terminal, terminals}
 use Rattle.php_syntax.specs.declared.token.Sign.TheVariants as signs
 use Rattle.expr_machine.specs.Machine.{behind_charset}
 use Rattle.expr_parser.specs.declared.head.Head.{Head}

@@ -16,7 +16,7 @@ use crate::rules::{is_known, is_writable};
 use crate::trees::variable_tree;
 use crate::value::Value;
 use crate::values::Values;
-use php_syntax::operator::{Operator, Prefix};
+use script_grammar::operator::{Operator, Prefix};
 use php_syntax::tree::Expr;
 use std::alloc::Global;
 use text_base::{Bytes, NoMemory};

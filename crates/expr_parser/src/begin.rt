@@ -2,8 +2,8 @@
 
 ghost use Rattle.std.specs.Prelude.{◌≡◌, ◌∷◌, [], List, Option, Some, None, IfOk, map};
 ghost use Rattle.php_syntax.specs.Trees.{plain_expr};
-ghost use Rattle.php_syntax.specs.Operators as operator;
-ghost use Rattle.php_syntax.specs.Expressions as form;
+ghost use Rattle.script_grammar.specs.Operators as operator;
+ghost use Rattle.script_grammar.specs.Expressions as form;
 ghost use Rattle.php_syntax.specs.Tokens.{plain_part_of};
 ghost use Rattle.expr_machine.specs.declared.frame.Frame.{Frame};
 ghost use Rattle.expr_machine.specs.Machine as machine;
@@ -18,8 +18,8 @@ use crate::stack::Stack;
 use crate::step::{Step, go_if};
 use crate::values::Values;
 use expr_machine::frame::{Brackets, Focus, Frame};
-use php_syntax::keyword::Keyword;
-use php_syntax::operator::{prefix_of, step_of};
+use script_grammar::keyword::Keyword;
+use script_grammar::operator::{prefix_of, step_of};
 use php_syntax::token::{Sign, Token};
 use php_syntax::tree::Expr;
 use std::alloc::Global;

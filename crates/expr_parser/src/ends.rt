@@ -1,8 +1,8 @@
 //! The moves behind whole expressions.
 
 ghost use Rattle.std.specs.Prelude.{◌≡◌, ◌∷◌, ◌+◌, ◌==◌, ◌&&◌, List, Some, None, IfOk, MatchOption, codes, if◌then◌else◌};
-ghost use Rattle.php_syntax.specs.Expressions as form;
-ghost use Rattle.php_syntax.specs.Terminals.{sign_terminal, name_terminal, same_bytes};
+ghost use Rattle.script_grammar.specs.Expressions as form;
+ghost use Rattle.script_grammar.specs.Terminals.{sign_terminal, name_terminal, same_bytes};
 ghost use Rattle.php_syntax.specs.declared.token.Sign.TheVariants as signs;
 ghost use Rattle.expr_machine.specs.declared.frame.Frame.{Frame};
 ghost use Rattle.expr_machine.specs.Machine as machine;

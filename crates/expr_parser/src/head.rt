@@ -2,13 +2,13 @@
 
 ghost use Rattle.std.specs.Prelude.{◌≡◌, ◌≢◌, ◌∷◌, [], ℕ, List, MatchOption};
 ghost use Rattle.php_syntax.specs.Tokens.{plain_kind};
-ghost use Rattle.php_syntax.specs.Terminals.{Terminal, terminal_of, sign_terminal, name_terminal, text_terminal, variable_terminal};
+ghost use Rattle.script_grammar.specs.Terminals.{Terminal, terminal_of, sign_terminal, name_terminal, text_terminal, variable_terminal};
 ghost use Rattle.php_syntax.specs.declared.token.Sign as signs;
 ghost use Rattle.expr_machine.specs.Machine as machine;
 ghost use Rattle.php_syntax.specs.declared.token.TokenKind.TheVariants as token;
 ghost use Rattle.expr_parser.specs.Heads.{terminals_of, terminal_at};
 
-use php_syntax::keyword::{Keyword, keyword_named};
+use script_grammar::keyword::{Keyword, keyword_named};
 use php_syntax::token::{Part, Sign, Token, TokenKind};
 use text_base::Bytes;
 

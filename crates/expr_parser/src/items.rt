@@ -1,7 +1,7 @@
 //! The moves in an array.
 
 ghost use Rattle.std.specs.Prelude.{◌≡◌, ◌∷◌, [], ◌+◌, IfOk};
-ghost use Rattle.php_syntax.specs.Terminals.{sign_terminal};
+ghost use Rattle.script_grammar.specs.Terminals.{sign_terminal};
 ghost use Rattle.php_syntax.specs.declared.token.Sign.TheVariants as signs;
 ghost use Rattle.expr_machine.specs.Machine as machine;
 ghost use Rattle.expr_machine.specs.Values.{execute};

@@ -1,7 +1,7 @@
 //! Reads expressions from tokens to trees.
 //!
 //! `read_expr` runs the machine of `expr_machine` over the tokens of a script and makes its values; its contract says
-//! that these are what `reads_expr` says. Below stand `text_base`, `php_syntax` and `expr_machine`.
+//! that these are what `reads_expr` says. Below stand `text_base`, `php_syntax`, `script_grammar` and `expr_machine`.
 #![tactic(auto)]
 
 mod actions;

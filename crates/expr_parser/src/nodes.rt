@@ -9,7 +9,7 @@ ghost use Rattle.expr_parser.specs.Rows.{exprs_shown, items_shown, path_shown};
 
 use crate::trees::{node, operator_tree, prefix_tree};
 use crate::value::{Value, both_known};
-use php_syntax::operator::{Operator, Prefix};
+use script_grammar::operator::{Operator, Prefix};
 use php_syntax::tree::{Expr, Target, UpdateSign};
 use std::alloc::Global;
 use text_base::{Bytes, NoMemory};

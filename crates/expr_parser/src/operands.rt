@@ -1,7 +1,7 @@
 //! The moves behind operands.
 
 ghost use Rattle.std.specs.Prelude.{◌≡◌, ◌∷◌, ◌+◌, ℕ, List, IfOk, if◌then◌else◌};
-ghost use Rattle.php_syntax.specs.Operators as operator;
+ghost use Rattle.script_grammar.specs.Operators as operator;
 ghost use Rattle.expr_machine.specs.declared.frame.Focus.TheVariants as focus;
 ghost use Rattle.expr_machine.specs.Machine as machine;
 ghost use Rattle.expr_machine.specs.Values.{PlainValue};
@@ -14,7 +14,7 @@ use crate::stack::{Stack, Waiting, level_rank};
 use crate::step::{Step, go_if, one_more};
 use crate::values::Values;
 use expr_machine::frame::{Focus, Frame};
-use php_syntax::operator::{Level, Operator, binary_of, is_repeating};
+use script_grammar::operator::{Level, Operator, binary_of, is_repeating};
 use php_syntax::token::{Sign, Token};
 use std::alloc::Global;
 use text_base::NoMemory;

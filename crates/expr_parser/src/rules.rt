@@ -1,8 +1,8 @@
 //! The rules on names.
 
 ghost use Rattle.std.specs.Prelude.{◌≡◌};
-ghost use Rattle.php_syntax.specs.Rules as rule;
-ghost use Rattle.php_syntax.specs.Expressions as form;
+ghost use Rattle.script_grammar.specs.Rules as rule;
+ghost use Rattle.script_grammar.specs.Expressions as form;
 
 /// Whether a variable is in the language: `$this` and `$GLOBALS` are not.
 pub(crate) fn is_known(name: &[u8]) -> bool

@@ -5,7 +5,7 @@ ghost use Rattle.expr_machine.specs.Machine as machine;
 ghost use Rattle.expr_parser.specs.Frames as frames;
 
 use expr_machine::frame::Frame;
-use php_syntax::operator::{Level, Operator, Prefix};
+use script_grammar::operator::{Level, Operator, Prefix};
 use std::alloc::Global;
 use std::marker::Model;
 use text_base::NoMemory;

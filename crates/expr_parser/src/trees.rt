@@ -2,13 +2,13 @@
 
 ghost use Rattle.std.specs.Prelude.{◌≡◌, ℕ, true, false, max, IfOk};
 ghost use Rattle.php_syntax.specs.Trees.{plain_expr, call_expr, more_exprs, no_exprs};
-ghost use Rattle.php_syntax.specs.Expressions as tree;
-ghost use Rattle.php_syntax.specs.Rules as rule;
+ghost use Rattle.script_grammar.specs.Expressions as tree;
+ghost use Rattle.script_grammar.specs.Rules as rule;
 ghost use Rattle.expr_machine.specs.Values as plain;
 ghost use Rattle.expr_parser.specs.Views.{plain_value};
 
 use crate::value::Value;
-use php_syntax::operator::{Operator, Prefix};
+use script_grammar::operator::{Operator, Prefix};
 use php_syntax::tree::{Expr, SuperName};
 use std::alloc::Global;
 use text_base::{Bytes, NoMemory};

@@ -1,13 +1,13 @@
 -- The moves where an expression or an operand begins carry what stands behind them.
 use Rattle.std.proofs.Common.{◌≡◌, ◌∙◌, sym, ℕ, ℤ, ◌+◌, Bool, true, false, List, [], ◌∷◌, ◌++◌, length, refl, ap, subst, Some, arith}
 use Rattle.php_syntax.specs.declared.token.Sign.{Sign}
-use Rattle.php_syntax.specs.declared.keyword.Keyword.{Keyword}
-use Rattle.php_syntax.specs.declared.operator.Prefix.{Prefix}
+use Rattle.script_grammar.specs.declared.keyword.Keyword.{Keyword}
+use Rattle.script_grammar.specs.declared.operator.Prefix.{Prefix}
 use Rattle.php_syntax.specs.Tokens.{PlainPart, plain_part, read_part, PlainKey}
 use Rattle.php_syntax.specs.Trees.{PlainExpr, int_expr, text_expr}
-use Rattle.php_syntax.specs.Operators.{prefix_operator, step_sign}
-use Rattle.php_syntax.specs.Terminals.{Terminal, variable_terminal, word_terminal, int_terminal, text_terminal, template_terminal, sign_terminal}
-use Rattle.php_syntax.specs.Expressions.{constant_of, ExprForm, assign_form, update_form, expr_terminals, target_form, target_terminals, prefix_form, post_form, unary_terminals, PostForm, base_form, after_form, before_form, int_form, text_form, template_form, constant_form, post_terminals, variable_base, base_terminals}
+use Rattle.script_grammar.specs.Operators.{prefix_operator, step_sign}
+use Rattle.script_grammar.specs.Terminals.{Terminal, variable_terminal, word_terminal, int_terminal, text_terminal, template_terminal, sign_terminal}
+use Rattle.script_grammar.specs.Expressions.{constant_of, ExprForm, assign_form, update_form, expr_terminals, target_form, target_terminals, prefix_form, post_form, unary_terminals, PostForm, base_form, after_form, before_form, int_form, text_form, template_form, constant_form, post_terminals, variable_base, base_terminals}
 use Rattle.expr_machine.specs.declared.frame.Focus.TheVariants as focus
 use Rattle.expr_machine.specs.declared.frame.Frame.{Frame}
 use Rattle.expr_machine.specs.declared.frame.Frame.TheVariants as frame

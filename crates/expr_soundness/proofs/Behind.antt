@@ -1,8 +1,8 @@
 -- The moves behind a value that is not a whole expression carry what stands behind them.
 use Rattle.std.proofs.Common.{List, ◌∷◌, refl}
 use Rattle.php_syntax.specs.declared.token.Sign.TheVariants as sign
-use Rattle.php_syntax.specs.Terminals.{Terminal, sign_terminal}
-use Rattle.php_syntax.specs.Expressions.{subscripts_terminals, no_subscript, subscript_form}
+use Rattle.script_grammar.specs.Terminals.{Terminal, sign_terminal}
+use Rattle.script_grammar.specs.Expressions.{subscripts_terminals, no_subscript, subscript_form}
 use Rattle.expr_machine.specs.declared.frame.Focus.TheVariants as focus
 use Rattle.expr_machine.specs.declared.frame.Frame.{Frame}
 use Rattle.expr_machine.specs.declared.frame.Frame.TheVariants as frame

@@ -2,13 +2,13 @@
 use Rattle.std.proofs.Common.{◌≡◌, ℕ, ◌+◌, Bool, List, [], ◌∷◌, refl, ap, Option, Some, None}
 use Rattle.php_syntax.specs.declared.token.Sign.{Sign}
 use Rattle.php_syntax.specs.declared.token.Sign.TheVariants as sign
-use Rattle.php_syntax.specs.declared.keyword.Keyword.{Keyword}
-use Rattle.php_syntax.specs.declared.keyword.Keyword.TheVariants as word
-use Rattle.php_syntax.specs.declared.operator.Prefix.{Prefix}
+use Rattle.script_grammar.specs.declared.keyword.Keyword.{Keyword}
+use Rattle.script_grammar.specs.declared.keyword.Keyword.TheVariants as word
+use Rattle.script_grammar.specs.declared.operator.Prefix.{Prefix}
 use Rattle.php_syntax.specs.Trees.{PlainExpr}
-use Rattle.php_syntax.specs.Operators.{prefix_operator, step_sign}
-use Rattle.php_syntax.specs.Terminals.{Terminal, variable_terminal, word_terminal, name_terminal, int_terminal, text_terminal, template_terminal, sign_terminal}
-use Rattle.php_syntax.specs.Expressions.{constant_of, ExprForm, expr_terminals, base_form, isset_form, empty_form, array_form, bracket_form, post_terminals, call_base, escape_base, parens_base, base_terminals, empty_list, list_form, list_terminals, empty_items, items_form, items_terminals, value_item, keyed_item, item_terminals}
+use Rattle.script_grammar.specs.Operators.{prefix_operator, step_sign}
+use Rattle.script_grammar.specs.Terminals.{Terminal, variable_terminal, word_terminal, name_terminal, int_terminal, text_terminal, template_terminal, sign_terminal}
+use Rattle.script_grammar.specs.Expressions.{constant_of, ExprForm, expr_terminals, base_form, isset_form, empty_form, array_form, bracket_form, post_terminals, call_base, escape_base, parens_base, base_terminals, empty_list, list_form, list_terminals, empty_items, items_form, items_terminals, value_item, keyed_item, item_terminals}
 use Rattle.expr_machine.specs.declared.frame.Brackets.{Brackets}
 use Rattle.expr_machine.specs.declared.frame.Brackets.TheVariants as brackets
 use Rattle.expr_machine.specs.declared.frame.Focus.TheVariants as focus

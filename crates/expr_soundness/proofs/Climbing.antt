@@ -1,10 +1,10 @@
 -- A unary operand at the front with what leads from it to what is wanted: then what is wanted stands at the front.
 use Rattle.std.proofs.Common.{◌≡◌, sym, ◌==◌, Bool, true, false, List, refl, ap, subst, Some}
-use Rattle.php_syntax.specs.declared.operator.Level.{Level}
-use Rattle.php_syntax.specs.declared.operator.Level.TheVariants as level
-use Rattle.php_syntax.specs.Operators.{tighter_level}
-use Rattle.php_syntax.specs.Terminals.{Terminal}
-use Rattle.php_syntax.specs.Expressions.{choice_form, expr_terminals, ChoiceForm, only_choice, short_choice, full_choice, choice_terminals, NulForm, only_nul, coalesce_form, nul_terminals, ChainForm, chain_form, chain_terminals, MoreForm, more_terminals, OperandForm, tighter_form, tightest_form, operand_terminals, UnaryForm, unary_terminals}
+use Rattle.script_grammar.specs.declared.operator.Level.{Level}
+use Rattle.script_grammar.specs.declared.operator.Level.TheVariants as level
+use Rattle.script_grammar.specs.Operators.{tighter_level}
+use Rattle.script_grammar.specs.Terminals.{Terminal}
+use Rattle.script_grammar.specs.Expressions.{choice_form, expr_terminals, ChoiceForm, only_choice, short_choice, full_choice, choice_terminals, NulForm, only_nul, coalesce_form, nul_terminals, ChainForm, chain_form, chain_terminals, MoreForm, more_terminals, OperandForm, tighter_form, tightest_form, operand_terminals, UnaryForm, unary_terminals}
 use Rattle.expr_machine.specs.Actions.{Action}
 use Rattle.expr_machine.specs.Machine.{level_rank}
 use Rattle.expr_machine.specs.Postfix.{expr_actions, choice_actions, nul_actions, chain_actions, operand_actions, unary_actions}

@@ -6,8 +6,8 @@ use Rattle.std.specs.Cmp.Lexicographic.{bytes_decides}
 use Rattle.std.specs.Str.{str_eq_ignore_ascii_case}
 use Rattle.std.proofs.lemmas.Bool.Decides.{Decides-eqb}
 use Rattle.php_syntax.specs.declared.token.Sign.TheVariants as sign
-use Rattle.php_syntax.specs.Terminals.{Terminal, sign_terminal, name_terminal, text_terminal, same_bytes}
-use Rattle.php_syntax.specs.Expressions.{is_escape, ExprForm, expr_terminals, QuotesForm, only_quotes, quotes_and_charset, quotes_terminals, end_of_items, last_comma, one_more_item, more_items_terminals, value_item, keyed_item, item_terminals}
+use Rattle.script_grammar.specs.Terminals.{Terminal, sign_terminal, name_terminal, text_terminal, same_bytes}
+use Rattle.script_grammar.specs.Expressions.{is_escape, ExprForm, expr_terminals, QuotesForm, only_quotes, quotes_and_charset, quotes_terminals, end_of_items, last_comma, one_more_item, more_items_terminals, value_item, keyed_item, item_terminals}
 use Rattle.expr_machine.specs.declared.frame.Brackets.{Brackets}
 use Rattle.expr_machine.specs.declared.frame.Focus.TheVariants as focus
 use Rattle.expr_machine.specs.declared.frame.Frame.{Frame}

@@ -1,6 +1,6 @@
 -- What can be read at the front, with its actions, and what is done with the rest.
 use Rattle.std.proofs.Common.{◌≡◌, ◌∙◌, Bool, true, false, List, ap}
-use Rattle.php_syntax.specs.Terminals.{Terminal}
+use Rattle.script_grammar.specs.Terminals.{Terminal}
 use Rattle.expr_machine.specs.Actions.{Action}
 
 -- what may be said of the terminals left to read and the actions left to do

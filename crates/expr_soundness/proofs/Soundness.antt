@@ -1,7 +1,7 @@
 -- What the machine reads is an expression: each move carries what stands behind it, and so does a whole run.
 use Rattle.std.proofs.Common.{◌≡◌, ◌∙◌, sym, ℕ, zero, suc, ◌+◌, List, [], ◌∷◌, ◌++◌, refl, ap, subst, Option, Some, None}
-use Rattle.php_syntax.specs.Terminals.{Terminal}
-use Rattle.php_syntax.specs.Expressions.{ExprForm, expr_terminals}
+use Rattle.script_grammar.specs.Terminals.{Terminal}
+use Rattle.script_grammar.specs.Expressions.{ExprForm, expr_terminals}
 use Rattle.expr_machine.specs.declared.frame.Focus.{Focus}
 use Rattle.expr_machine.specs.declared.frame.Focus.TheVariants as focus
 use Rattle.expr_machine.specs.declared.frame.Frame.{Frame}

@@ -5,11 +5,11 @@ use Rattle.std.specs.Prelude.{if◌then◌else◌}
 use Rattle.php_syntax.specs.declared.token.Sign.{Sign}
 use Rattle.php_syntax.specs.declared.token.Sign.TheVariants as sign
 use Rattle.php_syntax.specs.declared.tree.UpdateSign.{UpdateSign}
-use Rattle.php_syntax.specs.declared.operator.Level.{Level}
-use Rattle.php_syntax.specs.declared.operator.Level.TheVariants as level
-use Rattle.php_syntax.specs.Operators.{repeats, update_sign, step_sign}
-use Rattle.php_syntax.specs.Terminals.{Terminal, sign_terminal}
-use Rattle.php_syntax.specs.Expressions.{is_escape, ExprForm, expr_terminals, NulForm, nul_terminals, MoreForm, more_terminals, operand_terminals, unary_terminals, KeysForm, keys_terminals, SubscriptsForm, subscripts_terminals, MoreExprsForm, more_exprs_terminals, QuotesForm, quotes_terminals, MoreItemsForm, more_items_terminals}
+use Rattle.script_grammar.specs.declared.operator.Level.{Level}
+use Rattle.script_grammar.specs.declared.operator.Level.TheVariants as level
+use Rattle.script_grammar.specs.Operators.{repeats, update_sign, step_sign}
+use Rattle.script_grammar.specs.Terminals.{Terminal, sign_terminal}
+use Rattle.script_grammar.specs.Expressions.{is_escape, ExprForm, expr_terminals, NulForm, nul_terminals, MoreForm, more_terminals, operand_terminals, unary_terminals, KeysForm, keys_terminals, SubscriptsForm, subscripts_terminals, MoreExprsForm, more_exprs_terminals, QuotesForm, quotes_terminals, MoreItemsForm, more_items_terminals}
 use Rattle.expr_machine.specs.declared.frame.Brackets.{Brackets}
 use Rattle.expr_machine.specs.declared.frame.Brackets.TheVariants as brackets
 use Rattle.expr_machine.specs.declared.frame.Focus.{Focus}

@@ -3,11 +3,11 @@ use Rattle.std.proofs.Common.{◌≡◌, ◌∙◌, sym, ◌==◌, Bool, true, f
 use Rattle.std.specs.Prelude.{if◌then◌else◌}
 use Rattle.php_syntax.specs.declared.token.Sign.{Sign}
 use Rattle.php_syntax.specs.declared.token.Sign.TheVariants as sign
-use Rattle.php_syntax.specs.declared.operator.Level.{Level}
-use Rattle.php_syntax.specs.declared.operator.Level.TheVariants as level
-use Rattle.php_syntax.specs.declared.operator.Operator.{Operator}
-use Rattle.php_syntax.specs.Operators.{binary_operator}
-use Rattle.php_syntax.specs.Terminals.{Terminal, sign_terminal}
+use Rattle.script_grammar.specs.declared.operator.Level.{Level}
+use Rattle.script_grammar.specs.declared.operator.Level.TheVariants as level
+use Rattle.script_grammar.specs.declared.operator.Operator.{Operator}
+use Rattle.script_grammar.specs.Operators.{binary_operator}
+use Rattle.script_grammar.specs.Terminals.{Terminal, sign_terminal}
 use Rattle.expr_machine.specs.declared.frame.Brackets.{Brackets}
 use Rattle.expr_machine.specs.declared.frame.Brackets.TheVariants as brackets
 use Rattle.expr_machine.specs.declared.frame.Frame.{Frame}

@@ -1,10 +1,10 @@
-//! What the machine of `expr_machine` reads is an expression of `php_syntax`. The function does nothing, and stands for the
+//! What the machine of `expr_machine` reads is an expression of `script_grammar`. The function does nothing, and stands for the
 //! law that its contract states.
 #![tactic(auto)]
 
 ghost use Rattle.std.specs.Prelude.{◌≡◌, List, [], Some};
-ghost use Rattle.php_syntax.specs.Terminals.{Terminal};
-ghost use Rattle.php_syntax.specs.Expressions.{ExprForm, expr_terminals};
+ghost use Rattle.script_grammar.specs.Terminals.{Terminal};
+ghost use Rattle.script_grammar.specs.Expressions.{ExprForm, expr_terminals};
 ghost use Rattle.expr_machine.specs.Actions.{Action};
 ghost use Rattle.expr_machine.specs.Postfix.{expr_actions};
 ghost use Rattle.expr_machine.specs.Reading.{expr_at};

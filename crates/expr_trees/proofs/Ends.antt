@@ -1,12 +1,12 @@
 -- What ends a form: its last action, after the values of its parts.
 use Rattle.std.proofs.Common.{◌≡◌, ◌∙◌, ℕ, ◌+◌, Bool, true, false, List, [], ◌∷◌, ◌++◌, length, refl, ap, sym, arith, length-append, Some, None}
 use Rattle.std.specs.Prelude.{Option, ◌&&◌}
-use Rattle.php_syntax.specs.declared.keyword.Keyword.{Keyword}
-use Rattle.php_syntax.specs.declared.keyword.Keyword.TheVariants as word
+use Rattle.script_grammar.specs.declared.keyword.Keyword.{Keyword}
+use Rattle.script_grammar.specs.declared.keyword.Keyword.TheVariants as word
 use Rattle.php_syntax.specs.declared.tree.UpdateSign.{UpdateSign}
 use Rattle.php_syntax.specs.Trees.{PlainExpr, member_expr, isset_expr, empty_expr, assign_expr, update_expr, PlainExprs, more_exprs}
-use Rattle.php_syntax.specs.Expressions.{KeysForm, no_key_form, open_key_form, key_form, SubscriptsForm, no_subscript, subscript_form, MoreExprsForm, no_more_exprs, one_more_expr, MoreItemsForm, end_of_items, last_comma, one_more_item, value_item, keyed_item, constant_of, variable_tree, expr_tree, keys_tree, subscripts_tree, more_exprs_tree, more_items_tree}
-use Rattle.php_syntax.specs.Rules.{expr_fits, exprs_fit, path_fits, is_writable, is_place, all_places, keyed_before_last, all_keyed}
+use Rattle.script_grammar.specs.Expressions.{KeysForm, no_key_form, open_key_form, key_form, SubscriptsForm, no_subscript, subscript_form, MoreExprsForm, no_more_exprs, one_more_expr, MoreItemsForm, end_of_items, last_comma, one_more_item, value_item, keyed_item, constant_of, variable_tree, expr_tree, keys_tree, subscripts_tree, more_exprs_tree, more_items_tree}
+use Rattle.script_grammar.specs.Rules.{expr_fits, exprs_fit, path_fits, is_writable, is_place, all_places, keyed_before_last, all_keyed}
 use Rattle.php_syntax.specs.Height.{height}
 use Rattle.expr_machine.specs.Actions.{Action, leaf_action, read_action, join_action, isset_action, empty_action, assign_action, update_action}
 use Rattle.expr_machine.specs.Postfix.{keys_count, subscripts_count, exprs_count, items_count}

@@ -1,10 +1,10 @@
 -- The actions of a form make the values of its trees, by induction over the forms.
 use Rattle.std.proofs.Common.{◌≡◌, ◌∙◌, ℕ, ◌+◌, true, false, List, [], ◌∷◌, ◌++◌, length, refl, ap, sym}
 use Rattle.std.specs.Str.{str_to_ascii_lowercase}
-use Rattle.php_syntax.specs.declared.operator.Level.{Level}
+use Rattle.script_grammar.specs.declared.operator.Level.{Level}
 use Rattle.php_syntax.specs.Trees.{PlainExpr, text_expr, int_expr, member_expr, array_expr, call_expr, no_expr, some_expr, no_exprs, more_exprs, no_items, more_items}
-use Rattle.php_syntax.specs.Expressions.{ExprForm, assign_form, update_form, choice_form, target_form, KeysForm, no_key_form, open_key_form, key_form, ChoiceForm, only_choice, short_choice, full_choice, NulForm, only_nul, coalesce_form, ChainForm, chain_form, MoreForm, no_more, once_more, one_more, OperandForm, tighter_form, tightest_form, UnaryForm, prefix_form, post_form, PostForm, base_form, after_form, before_form, int_form, text_form, template_form, constant_form, isset_form, empty_form, array_form, bracket_form, variable_base, call_base, escape_base, parens_base, SubscriptsForm, no_subscript, subscript_form, ListForm, empty_list, list_form, MoreExprsForm, no_more_exprs, one_more_expr, ItemsForm, empty_items, items_form, MoreItemsForm, end_of_items, last_comma, one_more_item, value_item, keyed_item, operator_tree, expr_tree, keys_tree, choice_tree, nul_tree, chain_tree, more_tree, operand_tree, unary_tree, post_tree, subscripts_tree, list_tree, more_exprs_tree, items_tree, more_items_tree, link_operands, lean_left, flat_join}
-use Rattle.php_syntax.specs.Rules.{expr_fits, exprs_fit, items_fit, path_fits}
+use Rattle.script_grammar.specs.Expressions.{ExprForm, assign_form, update_form, choice_form, target_form, KeysForm, no_key_form, open_key_form, key_form, ChoiceForm, only_choice, short_choice, full_choice, NulForm, only_nul, coalesce_form, ChainForm, chain_form, MoreForm, no_more, once_more, one_more, OperandForm, tighter_form, tightest_form, UnaryForm, prefix_form, post_form, PostForm, base_form, after_form, before_form, int_form, text_form, template_form, constant_form, isset_form, empty_form, array_form, bracket_form, variable_base, call_base, escape_base, parens_base, SubscriptsForm, no_subscript, subscript_form, ListForm, empty_list, list_form, MoreExprsForm, no_more_exprs, one_more_expr, ItemsForm, empty_items, items_form, MoreItemsForm, end_of_items, last_comma, one_more_item, value_item, keyed_item, operator_tree, expr_tree, keys_tree, choice_tree, nul_tree, chain_tree, more_tree, operand_tree, unary_tree, post_tree, subscripts_tree, list_tree, more_exprs_tree, items_tree, more_items_tree, link_operands, lean_left, flat_join}
+use Rattle.script_grammar.specs.Rules.{expr_fits, exprs_fit, items_fit, path_fits}
 use Rattle.php_syntax.specs.Height.{height}
 use Rattle.expr_machine.specs.Actions.{Action, unkeyed_action, prefix_action, binary_action, join_action, coalesce_action, short_choice_action, full_choice_action, member_action, read_action, assign_action, update_action, isset_action, empty_action, array_action, call_action}
 use Rattle.expr_machine.specs.Postfix.{keys_count, subscripts_count, exprs_count, items_count, expr_actions, target_keys_actions, choice_actions, nul_actions, chain_actions, joined_actions, counted_actions, leaning_actions, operand_actions, unary_actions, post_actions, keys_of_actions, subscripts_actions, list_actions, more_exprs_actions, items_actions, more_items_actions}

@@ -1,16 +1,16 @@
 -- Actions on the last values, the templates, and the ends of chains, each over values of trees.
 use Rattle.std.proofs.Common.{◌≡◌, ◌∙◌, Bool, true, false, List, [], ◌∷◌, length, refl, ap, arith}
 use Rattle.std.specs.Prelude.{◌&&◌, if◌then◌else◌}
-use Rattle.php_syntax.specs.declared.operator.Level.{Level}
-use Rattle.php_syntax.specs.declared.operator.Level.TheVariants as level
-use Rattle.php_syntax.specs.declared.operator.Operator.{Operator}
-use Rattle.php_syntax.specs.declared.operator.Operator.TheVariants as operator
-use Rattle.php_syntax.specs.declared.operator.Prefix.{Prefix}
-use Rattle.php_syntax.specs.declared.operator.Prefix.TheVariants as prefix
+use Rattle.script_grammar.specs.declared.operator.Level.{Level}
+use Rattle.script_grammar.specs.declared.operator.Level.TheVariants as level
+use Rattle.script_grammar.specs.declared.operator.Operator.{Operator}
+use Rattle.script_grammar.specs.declared.operator.Operator.TheVariants as operator
+use Rattle.script_grammar.specs.declared.operator.Prefix.{Prefix}
+use Rattle.script_grammar.specs.declared.operator.Prefix.TheVariants as prefix
 use Rattle.php_syntax.specs.Tokens.{PlainKey, text_key, int_key, var_key, PlainPart, plain_part, read_part}
 use Rattle.php_syntax.specs.Trees.{PlainExpr, text_expr, int_expr, member_expr, coalesce_expr, choice_expr, join_expr, no_expr, some_expr}
-use Rattle.php_syntax.specs.Expressions.{prefix_tree, operator_tree, variable_tree, key_tree, read_tree, part_tree, part_trees, Links, no_links, more_links, link_operands, lean_left, flat_join, chain_tree_of}
-use Rattle.php_syntax.specs.Rules.{expr_fits, exprs_fit}
+use Rattle.script_grammar.specs.Expressions.{prefix_tree, operator_tree, variable_tree, key_tree, read_tree, part_tree, part_trees, Links, no_links, more_links, link_operands, lean_left, flat_join, chain_tree_of}
+use Rattle.script_grammar.specs.Rules.{expr_fits, exprs_fit}
 use Rattle.php_syntax.specs.Height.{height}
 use Rattle.expr_machine.specs.Actions.{Action, prefix_action, binary_action, coalesce_action, short_choice_action, full_choice_action, member_action, join_action, key_action, keys_actions, part_actions, parts_actions, template_actions}
 use Rattle.expr_machine.specs.Postfix.{is_flat}

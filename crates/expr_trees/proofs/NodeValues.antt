@@ -3,7 +3,7 @@ use Rattle.std.proofs.Common.{◌≡◌, ◌∙◌, ℕ, suc, ◌+◌, Bool, tru
 use Rattle.std.specs.Prelude.{Option, if◌then◌else◌, nat_le, max}
 use Rattle.std.proofs.lemmas.Bool.Decides.{nat_tests}
 use Rattle.php_syntax.specs.Trees.{PlainExpr}
-use Rattle.php_syntax.specs.Rules.{is_place}
+use Rattle.script_grammar.specs.Rules.{is_place}
 use Rattle.php_syntax.specs.Height.{height}
 use Rattle.expr_machine.specs.Values.{PlainValue, known_value, tall_value, node_value, value_of_tree}
 

@@ -2,13 +2,13 @@
 use Rattle.std.proofs.Common.{◌≡◌, ◌+◌, Bool, true, false, refl, ap}
 use Rattle.std.specs.Prelude.{if◌then◌else◌, nat_le, max}
 use Rattle.std.proofs.Math.Nat.{max-zero, zero-max}
-use Rattle.php_syntax.specs.declared.operator.Operator.{Operator}
-use Rattle.php_syntax.specs.declared.operator.Operator.TheVariants as operator
-use Rattle.php_syntax.specs.declared.operator.Prefix.{Prefix}
-use Rattle.php_syntax.specs.declared.operator.Prefix.TheVariants as prefix
+use Rattle.script_grammar.specs.declared.operator.Operator.{Operator}
+use Rattle.script_grammar.specs.declared.operator.Operator.TheVariants as operator
+use Rattle.script_grammar.specs.declared.operator.Prefix.{Prefix}
+use Rattle.script_grammar.specs.declared.operator.Prefix.TheVariants as prefix
 use Rattle.php_syntax.specs.Trees.{PlainExpr, member_expr, coalesce_expr, choice_expr, empty_expr, no_expr, some_expr}
-use Rattle.php_syntax.specs.Expressions.{prefix_tree, operator_tree}
-use Rattle.php_syntax.specs.Rules.{is_place}
+use Rattle.script_grammar.specs.Expressions.{prefix_tree, operator_tree}
+use Rattle.script_grammar.specs.Rules.{is_place}
 use Rattle.php_syntax.specs.Height.{height}
 use Rattle.expr_machine.specs.Values.{known_value, tall_value, value_of_tree, is_place_value, is_absent, prefix_value, binary_value, coalesce_value, short_choice_value, full_choice_value, member_value, empty_value}
 use Rattle.expr_trees.proofs.NodeValues.{one_is, two_is, three_is}

@@ -2,7 +2,7 @@
 use Rattle.std.proofs.Common.{◌≡◌, ◌∙◌, ℕ, suc, ◌+◌, Bool, true, false, List, [], ◌∷◌, ◌++◌, length, refl, ap, arith, Some, None}
 use Rattle.std.specs.Prelude.{not, ◌&&◌, if◌then◌else◌, nat_le, max}
 use Rattle.php_syntax.specs.Trees.{PlainExpr, MaybeExpr, no_expr, some_expr, PlainExprs, no_exprs, more_exprs, PlainItems, no_items, more_items, PlainPath, no_keys, more_keys}
-use Rattle.php_syntax.specs.Rules.{is_place, all_places, all_keyed, keyed_before_last}
+use Rattle.script_grammar.specs.Rules.{is_place, all_places, all_keyed, keyed_before_last}
 use Rattle.php_syntax.specs.Height.{height, exprs_height, items_height, path_height}
 use Rattle.expr_machine.specs.Values.{PlainValue, known_value, tall_value, absent_value, value_of_tree, add_expr, gather_exprs, add_item, gather_items, add_key, gather_path, none_absent, none_absent_before_last, all_place_values, take_values}
 use Rattle.expr_trees.proofs.NodeValues.{high_left, high_right, both_low}

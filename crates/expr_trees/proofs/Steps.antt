@@ -4,8 +4,8 @@ use Rattle.std.specs.Prelude.{◌&&◌, if◌then◌else◌}
 use Rattle.std.specs.Str.{str_to_ascii_lowercase}
 use Rattle.php_syntax.specs.declared.tree.UpdateSign.{UpdateSign}
 use Rattle.php_syntax.specs.Trees.{PlainExpr, array_expr, join_expr, isset_expr, empty_expr, assign_expr, update_expr, step_expr, call_expr, PlainExprs, PlainItems, PlainPath}
-use Rattle.php_syntax.specs.Expressions.{variable_tree}
-use Rattle.php_syntax.specs.Rules.{expr_fits, is_known, is_writable, is_place, all_places, all_keyed, keyed_before_last}
+use Rattle.script_grammar.specs.Expressions.{variable_tree}
+use Rattle.script_grammar.specs.Rules.{expr_fits, is_known, is_writable, is_place, all_places, all_keyed, keyed_before_last}
 use Rattle.php_syntax.specs.Height.{height, exprs_height, items_height, path_height}
 use Rattle.expr_machine.specs.Actions.{Action, leaf_action, variable_action, join_action, read_action, assign_action, update_action, step_action, isset_action, empty_action, array_action, call_action}
 use Rattle.expr_machine.specs.Values.{PlainValue, known_value, value_of_tree, is_place_value, empty_value, read_value, gather_exprs, join_value, isset_value, call_value, gather_items, array_value, gather_path, assign_value, update_value, put_if, apply_join, apply_isset, apply_call, apply_array, apply_read, apply_assign, apply_update, apply, with_those, execute}

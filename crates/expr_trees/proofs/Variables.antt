@@ -4,9 +4,9 @@ use Rattle.std.specs.Prelude.{if◌then◌else◌, codes}
 use Rattle.std.specs.Cmp.Lexicographic.{same_text}
 use Rattle.php_syntax.specs.declared.tree.SuperName.TheVariants as request
 use Rattle.php_syntax.specs.Trees.{PlainExpr, var_expr, super_expr}
-use Rattle.php_syntax.specs.Terminals.{same_bytes}
-use Rattle.php_syntax.specs.Expressions.{variable_tree}
-use Rattle.php_syntax.specs.Rules.{is_known, expr_fits}
+use Rattle.script_grammar.specs.Terminals.{same_bytes}
+use Rattle.script_grammar.specs.Expressions.{variable_tree}
+use Rattle.script_grammar.specs.Rules.{is_known, expr_fits}
 use Rattle.php_syntax.specs.Height.{height}
 
 -- the tree by the answers of the five tests

@@ -3,8 +3,8 @@
 #![tactic(auto)]
 
 ghost use Rattle.std.specs.Prelude.{◌≡◌, ◌∷◌, List, None, if◌then◌else◌};
-ghost use Rattle.php_syntax.specs.Expressions.{ExprForm, expr_tree};
-ghost use Rattle.php_syntax.specs.Rules.{expr_fits};
+ghost use Rattle.script_grammar.specs.Expressions.{ExprForm, expr_tree};
+ghost use Rattle.script_grammar.specs.Rules.{expr_fits};
 ghost use Rattle.expr_machine.specs.Actions.{Action};
 ghost use Rattle.expr_machine.specs.Postfix.{expr_actions};
 ghost use Rattle.expr_machine.specs.Values.{PlainValue, value_of_tree, execute};

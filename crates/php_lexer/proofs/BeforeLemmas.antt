@@ -1,6 +1,6 @@
 -- The number of bytes before a place, in a loop over the places.
 use Rattle.std.proofs.Common.{◌≡◌, ℕ, zero, suc, ◌+◌, ◌<◌, ◌≤◌, Bool, true, false, cond, List, [], ◌∷◌, length, drop, refl, arith, add-one}
-use Rattle.php_syntax.specs.Characters.{before}
+use Rattle.lexical_grammar.specs.Characters.{before}
 
 before_at : (test : List ℕ → Bool) (bytes : List ℕ) (i : ℕ) → i < length bytes → before test (drop i bytes) ≡ cond (test (drop i bytes)) 0 (suc (before test (drop (suc i) bytes)))
 before_at test [] i h = absurd (omega arith)

@@ -1,8 +1,8 @@
 -- What the row of the subscripts comes to.
 use Rattle.std.proofs.Common.{◌≡◌, ◌∙◌, ℕ, List, [], ◌∷◌, ◌++◌, map, refl, sym, ap, Some, None}
 use Rattle.php_syntax.specs.Tokens.{PlainKey}
-use Rattle.php_syntax.specs.Rows.{Row, whole, broken, endless, missing, row}
-use Rattle.php_syntax.specs.Texts.{subscript_at, subscripts, whole_of}
+use Rattle.lexical_grammar.specs.Rows.{Row, whole, broken, endless, missing, row}
+use Rattle.lexical_grammar.specs.Texts.{subscript_at, subscripts, whole_of}
 use Rattle.std.proofs.lemmas.List.{map-append}
 use Rattle.php_lexer.proofs.RowLemmas.{spoiled}
 

@@ -2,8 +2,8 @@
 use Rattle.std.proofs.Common.{◌≡◌, ◌∙◌, ℕ, ◌+◌, ◌<◌, ◌≤◌, true, false, List, [], ◌∷◌, ◌++◌, length, drop, refl, sym, ap, arith, append_assoc, add_assoc, zero-add}
 use Rattle.std.proofs.lemmas.List.{length-drop, drop-drop}
 use Rattle.php_syntax.specs.Tokens.{PlainPart, PlainKey, plain_part, read_part, template}
-use Rattle.php_syntax.specs.Rows.{Found, item, wrong, over, missing, Row, whole, broken, endless, then_row, row}
-use Rattle.php_syntax.specs.Texts.{Unit_of, byte, reads, with_byte, parts_of, kind_of_parts}
+use Rattle.lexical_grammar.specs.Rows.{Found, item, wrong, over, missing, Row, whole, broken, endless, then_row, row}
+use Rattle.lexical_grammar.specs.Texts.{Unit_of, byte, reads, with_byte, parts_of, kind_of_parts}
 use Rattle.php_lexer.specs.Templates.{parts_row, has_end_of, bytes_part, parts_with, plain_with}
 use Rattle.php_lexer.proofs.RowLemmas.{row_at_item, row_at_wrong, row_at_over, row_at_missing}
 

@@ -1,8 +1,8 @@
 -- A fault is the cause of its refusal.
 use Rattle.std.proofs.Common.{◌≡◌, ◌∙◌, ℕ, List, ap}
-use Rattle.php_syntax.specs.Steps as faults
-use Rattle.php_syntax.specs.Cuts.{Breaks}
-use Rattle.php_syntax.proofs.CutLemmas.{break_once}
+use Rattle.lexical_grammar.specs.Steps as faults
+use Rattle.lexical_grammar.specs.Cuts.{Breaks}
+use Rattle.lexical_grammar.proofs.CutLemmas.{break_once}
 use Rattle.php_lexer.specs.Refusals.{IsShort, IsCauseOf, refusal_for}
 
 pub is_cause : (file : List ℕ) (fault : faults.Fault) (at : ℕ) → IsShort file → Breaks file fault at → IsCauseOf file (refusal_for fault at)

@@ -1,7 +1,7 @@
 -- Rows of items in a loop over their places: what was read so far, and the row that is left.
 use Rattle.std.proofs.Common.{◌≡◌, ◌∙◌, ℕ, zero, suc, ◌+◌, ◌<◌, ◌≤◌, List, [], ◌∷◌, ◌++◌, length, drop, refl, sym, ap, arith, append_assoc, add_assoc, zero-add}
 use Rattle.std.proofs.lemmas.List.{append-nil, length-drop, drop-drop}
-use Rattle.php_syntax.specs.Rows.{Found, item, wrong, over, missing, Row, whole, broken, endless, then_row, row}
+use Rattle.lexical_grammar.specs.Rows.{Found, item, wrong, over, missing, Row, whole, broken, endless, then_row, row}
 
 -- items of so many bytes before a row
 abbrev pub ahead : {X : Type 0} → List X → ℕ → Row X → Row X

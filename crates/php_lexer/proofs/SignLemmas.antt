@@ -2,9 +2,10 @@
 use Rattle.std.proofs.Common.{◌≡◌, ℕ, zero, suc, ◌+◌, ◌<◌, ◌≤◌, cond, List, [], ◌∷◌, length, get_or, drop, refl, arith, add-one, None}
 use Rattle.php_syntax.specs.declared.token.Sign.{Sign}
 use Rattle.php_syntax.specs.Tokens.{sign}
-use Rattle.php_syntax.specs.Characters.{begins}
-use Rattle.php_syntax.specs.Steps.{gives}
-use Rattle.php_syntax.specs.Signs.{spelling_of, first_sign}
+use Rattle.lexical_grammar.specs.Characters.{begins}
+use Rattle.lexical_grammar.specs.Steps.{gives}
+use Rattle.php_syntax.specs.Spelling.{spelling_of}
+use Rattle.lexical_grammar.specs.Signs.{first_sign}
 
 first_sign_at : (signs : List Sign) (bytes : List ℕ) (i : ℕ) (d : Sign) → i < length signs
     → first_sign (drop i signs) bytes ≡ cond (begins (spelling_of (get_or signs i d)) bytes) (gives (sign (get_or signs i d)) (length (spelling_of (get_or signs i d)))) (first_sign (drop (suc i) signs) bytes)

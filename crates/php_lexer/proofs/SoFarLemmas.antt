@@ -2,8 +2,8 @@
 use Rattle.std.proofs.Common.{◌≡◌, ◌∙◌, ℕ, ◌+◌, ◌<◌, ◌≤◌, List, [], ◌∷◌, ◌++◌, length, drop, refl, sym, ap, subst, arith, append_assoc, Option, Some, None}
 use Rattle.std.proofs.lemmas.List.{append-nil, length-drop, drop-drop}
 use Rattle.php_syntax.specs.Tokens.{PlainToken, PlainKind}
-use Rattle.php_syntax.specs.Steps.{Mode, outside, Fault, goes, refuses}
-use Rattle.php_syntax.specs.Cuts.{step, CutsFrom, at_end, after_token, after_blank, BreaksFrom, broken_here, broken_later, Cuts, Breaks}
+use Rattle.lexical_grammar.specs.Steps.{Mode, outside, Fault, goes, refuses}
+use Rattle.lexical_grammar.specs.Cuts.{step, CutsFrom, at_end, after_token, after_blank, BreaksFrom, broken_here, broken_later, Cuts, Breaks}
 use Rattle.php_lexer.specs.View.{tokens_with}
 use Rattle.php_lexer.proofs.RowLemmas.{drop_past}
 

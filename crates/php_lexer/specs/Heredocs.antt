@@ -1,5 +1,5 @@
 -- What the kinds of bodies stand for.
-use Rattle.php_syntax.specs.Heredocs as heredocs
+use Rattle.lexical_grammar.specs.Heredocs as heredocs
 use Rattle.php_lexer.specs.declared.heredoc.Body.{Body}
 use Rattle.php_lexer.specs.declared.heredoc.Body.TheVariants.{Heredoc, Nowdoc}
 

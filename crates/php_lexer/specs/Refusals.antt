@@ -1,7 +1,7 @@
 -- When a file is refused, and as what.
 use Rattle.std.specs.Prelude.{◌≡◌, ◌≤◌, ◌<◌, ◌⊎◌, ℕ, Result, MatchResult, List, length}
-use Rattle.php_syntax.specs.Steps as faults
-use Rattle.php_syntax.specs.Cuts.{Breaks}
+use Rattle.lexical_grammar.specs.Steps as faults
+use Rattle.lexical_grammar.specs.Cuts.{Breaks}
 use Rattle.php_lexer.specs.declared.refusal.LexRefusal.{LexRefusal}
 use Rattle.php_lexer.specs.declared.refusal.LexRefusal.TheVariants.{BadByte, Unclosed, Float, BigInt, Escape, TooLong, Memory}
 

@@ -1,6 +1,6 @@
 -- What the types of this crate that speak of rows stand for.
 use Rattle.std.specs.Prelude.{ℕ, ◌<◌, ◌≤◌, List, Option, Some, None}
-use Rattle.php_syntax.specs.Rows as rows
+use Rattle.lexical_grammar.specs.Rows as rows
 use Rattle.php_lexer.specs.declared.found.Found.{Found}
 use Rattle.php_lexer.specs.declared.found.Found.TheVariants.{Item, Wrong, Over, Missing}
 

@@ -4,8 +4,8 @@ use Rattle.std.specs.declared.vec.Vec.{Vec}
 use Rattle.std.specs.declared.alloc.Global.{Global}
 use Rattle.php_syntax.specs.declared.token.PartKey.{PartKey}
 use Rattle.php_syntax.specs.Tokens.{PlainKey, PlainPart, plain_part, read_part, plain_key, plain_part_of}
-use Rattle.php_syntax.specs.Texts as texts
-use Rattle.php_syntax.specs.Rows as rows
+use Rattle.lexical_grammar.specs.Texts as texts
+use Rattle.lexical_grammar.specs.Rows as rows
 use Rattle.php_lexer.specs.declared.template.Enclosure.{Enclosure}
 use Rattle.php_lexer.specs.declared.template.Enclosure.TheVariants.{Quotes, Lines}
 use Rattle.php_lexer.specs.declared.template.TextUnit.{TextUnit}

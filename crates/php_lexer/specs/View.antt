@@ -1,7 +1,7 @@
 -- What the types of this crate stand for.
 use Rattle.std.specs.Prelude.{ℕ, ◌<◌, ◌≤◌, List, [], ◌∷◌, ◌++◌, Option, Some, None, option_map}
 use Rattle.php_syntax.specs.Tokens.{PlainToken, PlainKind, plain_kind}
-use Rattle.php_syntax.specs.Steps as syntax
+use Rattle.lexical_grammar.specs.Steps as syntax
 use Rattle.php_lexer.specs.declared.step.Mode.{Mode}
 use Rattle.php_lexer.specs.declared.step.Mode.TheVariants.{Outside, Inside}
 use Rattle.php_lexer.specs.declared.step.Fault.{Fault}

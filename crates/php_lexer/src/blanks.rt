@@ -1,8 +1,8 @@
 //! What stands between tokens, and the tags of PHP.
 
 ghost use Rattle.std.specs.Prelude.{◌≡◌, ◌+◌, ◌≤◌, ◌<◌, length, codes, IfSome};
-ghost use Rattle.php_syntax.specs.Characters as chars;
-ghost use Rattle.php_syntax.specs.Cuts as spec;
+ghost use Rattle.lexical_grammar.specs.Characters as chars;
+ghost use Rattle.lexical_grammar.specs.Cuts as spec;
 ghost use Rattle.php_lexer.specs.View.{maybe_step, IsWithin};
 
 use crate::classes::{is_blank, is_gap, is_line_end, lower};
@@ -13,7 +13,7 @@ use std::alloc::Global;
 use text_base::{Bytes, NoMemory};
 
 /// A blank.
-#[tactic(auto, unfolding(php_syntax::specs::Cuts::blank_step))]
+#[tactic(auto, unfolding(lexical_grammar::specs::Cuts::blank_step))]
 pub fn blank_step(bytes: &[u8]) -> Option<Step>
     ensures value { maybe_step result ≡ spec.blank_step bytes.now }
     ensures within { IfSome result (IsWithin (length bytes.now)) }
@@ -51,7 +51,7 @@ fn line_length(bytes: &[u8]) -> usize
 }
 
 /// A comment that begins with `//` or `#`.
-#[tactic(auto, unfolding(php_syntax::specs::Cuts::line_comment_step))]
+#[tactic(auto, unfolding(lexical_grammar::specs::Cuts::line_comment_step))]
 pub fn line_comment_step(bytes: &[u8]) -> Option<Step>
     ensures value { maybe_step result ≡ spec.line_comment_step bytes.now }
     ensures within { IfSome result (IsWithin (length bytes.now)) }
@@ -81,7 +81,7 @@ fn block_length(bytes: &[u8]) -> usize
 }
 
 /// A comment in `/*` and `*/`.
-#[tactic(auto, unfolding(php_syntax::specs::Cuts::block_comment_step))]
+#[tactic(auto, unfolding(lexical_grammar::specs::Cuts::block_comment_step))]
 pub fn block_comment_step(bytes: &[u8]) -> Option<Step>
     ensures value { maybe_step result ≡ spec.block_comment_step bytes.now }
     ensures within { IfSome result (IsWithin (length bytes.now)) }
@@ -99,7 +99,7 @@ pub fn block_comment_step(bytes: &[u8]) -> Option<Step>
 }
 
 /// `?>` with the line end behind it.
-#[tactic(auto, unfolding(php_syntax::specs::Cuts::leaving_step))]
+#[tactic(auto, unfolding(lexical_grammar::specs::Cuts::leaving_step))]
 pub fn leaving_step(bytes: &[u8]) -> Option<Step>
     ensures value { maybe_step result ≡ spec.leaving_step bytes.now }
     ensures within { IfSome result (IsWithin (length bytes.now)) }

@@ -1,7 +1,7 @@
 //! The classes of bytes.
 
 ghost use Rattle.std.specs.Prelude.{◌≡◌};
-ghost use Rattle.php_syntax.specs.Characters as spec;
+ghost use Rattle.lexical_grammar.specs.Characters as spec;
 
 pub fn is_digit(byte: u8) -> bool
     ensures { result ≡ spec.is_digit byte }

@@ -1,8 +1,8 @@
 //! Templates: the rows of their places, and texts in double quotes.
 
 ghost use Rattle.std.specs.Prelude.{◌≡◌, ◌≤◌, ◌++◌, [], ◌∷◌, length, map, IfOk, IfSome, OnOk};
-ghost use Rattle.php_syntax.specs.Rows.{row};
-ghost use Rattle.php_syntax.specs.Texts as spec;
+ghost use Rattle.lexical_grammar.specs.Rows.{row};
+ghost use Rattle.lexical_grammar.specs.Texts as spec;
 ghost use Rattle.php_syntax.specs.Tokens.{plain_kind, plain_part_of};
 ghost use Rattle.php_lexer.specs.Templates.{enclosure_of, parts_row, plain_row, has_end_of, bytes_part, parts_with, plain_with, unit_of, TextWithin};
 ghost use Rattle.php_lexer.specs.View.{maybe_step, IsWithin};
@@ -120,7 +120,7 @@ pub fn kind_of_parts(alloc: Global, parts: Vec<Part>) -> Result<TokenKind, NoMem
 }
 
 /// A text in double quotes.
-#[tactic(auto, unfolding(php_syntax::specs::Texts::double_step))]
+#[tactic(auto, unfolding(lexical_grammar::specs::Texts::double_step))]
 pub fn double_step(alloc: Global, bytes: &[u8]) -> Result<Option<Step>, NoMemory>
     ensures value { IfOk result (λ o. maybe_step o ≡ spec.double_step bytes.now) }
     ensures within { IfOk result (λ o. IfSome o (IsWithin (length bytes.now))) }

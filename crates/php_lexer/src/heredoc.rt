@@ -1,8 +1,8 @@
 //! Heredocs and nowdocs.
 
 ghost use Rattle.std.specs.Prelude.{◌≡◌, ◌<◌, ◌≤◌, ◌+◌, ◌^◌, ℕ, length, drop, IfOk, IfSome, IsTrue};
-ghost use Rattle.php_syntax.specs.Characters as chars;
-ghost use Rattle.php_syntax.specs.Heredocs as spec;
+ghost use Rattle.lexical_grammar.specs.Characters as chars;
+ghost use Rattle.lexical_grammar.specs.Heredocs as spec;
 ghost use Rattle.php_lexer.specs.Heredocs.{body_of};
 ghost use Rattle.php_lexer.specs.View.{maybe_step, IsWithin};
 
@@ -82,7 +82,7 @@ fn indented_place(name: &[u8], body: &[u8]) -> usize
 }
 
 // How many bytes stand before the first line of blanks and the name.
-#[tactic(auto, unfolding(php_syntax::specs::Heredocs::indented_at))]
+#[tactic(auto, unfolding(lexical_grammar::specs::Heredocs::indented_at))]
 fn indented_at(name: &[u8], body: &[u8]) -> Option<usize>
     ensures value { result ≡ spec.indented_at name.now body.now }
     ensures within { IfSome result (λ n. n ≤ length body.now) }
@@ -179,7 +179,7 @@ fn body_token(
 }
 
 // The lines behind a head of so many bytes, up to the name.
-#[tactic(auto, unfolding(php_syntax::specs::Heredocs::body_step))]
+#[tactic(auto, unfolding(lexical_grammar::specs::Heredocs::body_step))]
 fn body_step(
     alloc: Global,
     kind: Body,
@@ -227,7 +227,7 @@ fn headed(
 }
 
 /// `<<<NAME` and its lines.
-#[tactic(auto, unfolding(php_syntax::specs::Heredocs::heredoc_step))]
+#[tactic(auto, unfolding(lexical_grammar::specs::Heredocs::heredoc_step))]
 pub fn heredoc_step(alloc: Global, bytes: &[u8]) -> Result<Option<Step>, NoMemory>
     ensures value { IfOk result (λ o. maybe_step o ≡ spec.heredoc_step bytes.now) }
     ensures within { IfOk result (λ o. IfSome o (IsWithin (length bytes.now))) }
@@ -247,7 +247,7 @@ pub fn heredoc_step(alloc: Global, bytes: &[u8]) -> Result<Option<Step>, NoMemor
 }
 
 /// `<<<'NAME'` and its lines.
-#[tactic(auto, unfolding(php_syntax::specs::Heredocs::nowdoc_step))]
+#[tactic(auto, unfolding(lexical_grammar::specs::Heredocs::nowdoc_step))]
 pub fn nowdoc_step(alloc: Global, bytes: &[u8]) -> Result<Option<Step>, NoMemory>
     ensures value { IfOk result (λ o. maybe_step o ≡ spec.nowdoc_step bytes.now) }
     ensures within { IfOk result (λ o. IfSome o (IsWithin (length bytes.now))) }

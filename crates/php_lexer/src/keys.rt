@@ -1,7 +1,7 @@
 //! The keys in templates.
 
 ghost use Rattle.std.specs.Prelude.{◌≡◌, ◌≤◌, ◌<◌, ◌+◌, ◌∷◌, ℕ, length, IfOk, IfSome};
-ghost use Rattle.php_syntax.specs.Texts as spec;
+ghost use Rattle.lexical_grammar.specs.Texts as spec;
 ghost use Rattle.php_syntax.specs.Tokens.{plain_key};
 ghost use Rattle.php_lexer.specs.Rows.{plain_found, FoundWithin};
 ghost use Rattle.php_lexer.specs.Templates.{maybe_key, maybe_keys};
@@ -57,7 +57,7 @@ fn unquoted_key(alloc: Global, bytes: &[u8]) -> Result<Option<(PartKey, usize)>,
 }
 
 // The key of `$x[key]`.
-#[tactic(auto, unfolding(php_syntax::specs::Texts::simple_key))]
+#[tactic(auto, unfolding(lexical_grammar::specs::Texts::simple_key))]
 fn simple_key(alloc: Global, bytes: &[u8]) -> Result<Option<(PartKey, usize)>, NoMemory>
     ensures value { IfOk result (λ o. maybe_key o ≡ spec.simple_key bytes.now) }
     ensures within { IfOk result (λ o. IfSome o (λ key. key.1 ≤ length bytes.now)) }
@@ -71,7 +71,7 @@ fn simple_key(alloc: Global, bytes: &[u8]) -> Result<Option<(PartKey, usize)>, N
 }
 
 // A key of `{$x[key]}`.
-#[tactic(auto, unfolding(php_syntax::specs::Texts::braced_key))]
+#[tactic(auto, unfolding(lexical_grammar::specs::Texts::braced_key))]
 fn braced_key(alloc: Global, bytes: &[u8]) -> Result<Option<(PartKey, usize)>, NoMemory>
     ensures value { IfOk result (λ o. maybe_key o ≡ spec.braced_key bytes.now) }
     ensures within { IfOk result (λ o. IfSome o (λ key. key.1 ≤ length bytes.now)) }
@@ -122,7 +122,7 @@ fn closed_braced_key(alloc: Global, inner: &[u8]) -> Result<Option<(PartKey, usi
 }
 
 // One place of the subscripts in braces.
-#[tactic(auto, unfolding(php_syntax::specs::Texts::subscript_at))]
+#[tactic(auto, unfolding(lexical_grammar::specs::Texts::subscript_at))]
 fn subscript_at(alloc: Global, bytes: &[u8]) -> Result<Found<PartKey>, NoMemory>
     ensures value { IfOk result (λ found. plain_found plain_key found ≡ spec.subscript_at bytes.now) }
     ensures within { IfOk result (FoundWithin (length bytes.now)) }

@@ -2,8 +2,8 @@
 
 ghost use Rattle.std.specs.Prelude.{◌≡◌, ◌≤◌, ◌<◌, ◌^◌, ℕ, List, length, option_map, OnOk, IfOk, IfErr, MatchResult, Err};
 ghost use Rattle.php_syntax.specs.Tokens.{PlainToken, plain_kind, plain_tokens};
-ghost use Rattle.php_syntax.specs.Steps.{Fault};
-ghost use Rattle.php_syntax.specs.Cuts.{Cuts, Breaks};
+ghost use Rattle.lexical_grammar.specs.Steps.{Fault};
+ghost use Rattle.lexical_grammar.specs.Cuts.{Cuts, Breaks};
 ghost use Rattle.php_lexer.specs.Refusals.{IsShort, IsCauseOf, IsRefused, refusal_for};
 ghost use Rattle.php_lexer.specs.View.{tokens_with};
 ghost use Rattle.php_lexer.specs.declared.refusal.LexRefusal.TheVariants as refusals;

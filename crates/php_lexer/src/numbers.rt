@@ -1,8 +1,8 @@
 //! Integer literals, and the float literals that are refused.
 
 ghost use Rattle.std.specs.Prelude.{◌≡◌, ◌<◌, ◌≤◌, ◌==◌, ◌||◌, pos, IfSome, IfNone, OnSome, Some, length, IsTrue};
-ghost use Rattle.php_syntax.specs.Characters as chars;
-ghost use Rattle.php_syntax.specs.Words as spec;
+ghost use Rattle.lexical_grammar.specs.Characters as chars;
+ghost use Rattle.lexical_grammar.specs.Words as spec;
 ghost use Rattle.php_lexer.specs.View.{maybe_step, IsWithin};
 
 use crate::scan::{begins, behind, digits_length, front, head_is_digit, head_is_name_byte};
@@ -96,7 +96,7 @@ fn digits_step(digits: &[u8], rest: &[u8]) -> Step
 }
 
 /// An integer literal, or a float, which is refused.
-#[tactic(auto, unfolding(php_syntax::specs::Words::number_step))]
+#[tactic(auto, unfolding(lexical_grammar::specs::Words::number_step))]
 pub fn number_step(bytes: &[u8]) -> Option<Step>
     ensures value { maybe_step result ≡ spec.number_step bytes.now }
     ensures within { IfSome result (IsWithin (length bytes.now)) }

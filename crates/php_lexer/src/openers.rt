@@ -1,9 +1,9 @@
 //! Outside PHP: the opening tags, and the bytes between them.
 
 ghost use Rattle.std.specs.Prelude.{◌≡◌, ◌<◌, ◌≤◌, length, IfOk, IfSome, IsTrue, bytes_eq, codes, map, false};
-ghost use Rattle.php_syntax.specs.Characters as chars;
-ghost use Rattle.php_syntax.specs.Cuts as spec;
-ghost use Rattle.php_syntax.specs.Steps.{outside};
+ghost use Rattle.lexical_grammar.specs.Characters as chars;
+ghost use Rattle.lexical_grammar.specs.Cuts as spec;
+ghost use Rattle.lexical_grammar.specs.Steps.{outside};
 ghost use Rattle.php_lexer.specs.View.{maybe_step, plain_step, IsWithin};
 
 use crate::classes::{is_gap, is_line_end, lower};
@@ -77,7 +77,7 @@ fn echo_opener(alloc: Global, bytes: &[u8]) -> Result<Option<Step>, NoMemory>
 }
 
 // An opener.
-#[tactic(auto, unfolding(php_syntax::specs::Cuts::opener_step))]
+#[tactic(auto, unfolding(lexical_grammar::specs::Cuts::opener_step))]
 fn opener_step(alloc: Global, bytes: &[u8]) -> Result<Option<Step>, NoMemory>
     ensures value { IfOk result (λ o. maybe_step o ≡ spec.opener_step bytes.now) }
     ensures within { IfOk result (λ o. IfSome o (IsWithin (length bytes.now))) }
@@ -89,7 +89,7 @@ fn opener_step(alloc: Global, bytes: &[u8]) -> Result<Option<Step>, NoMemory>
 }
 
 // Whether an opener stands at the head.
-#[tactic(auto, unfolding(php_syntax::specs::Cuts::opener_step))]
+#[tactic(auto, unfolding(lexical_grammar::specs::Cuts::opener_step))]
 fn is_opener(bytes: &[u8]) -> bool
     ensures { result ≡ spec.is_opener bytes.now }
 {
@@ -118,7 +118,7 @@ fn inline_length(bytes: &[u8]) -> usize
 }
 
 /// What stands at the head outside PHP: an opener, or the bytes up to the next one.
-#[tactic(auto, unfolding(php_syntax::specs::Cuts::step))]
+#[tactic(auto, unfolding(lexical_grammar::specs::Cuts::step))]
 pub fn outside_step(alloc: Global, bytes: &[u8]) -> Result<Step, NoMemory>
     requires { 0 < length bytes.now }
     ensures value { IfOk result (λ s. plain_step s ≡ spec.step outside bytes.now) }

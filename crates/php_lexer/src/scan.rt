@@ -2,7 +2,7 @@
 
 ghost use Rattle.std.specs.Prelude.{◌≡◌, ◌-◌, ◌<◌, ◌≤◌, min, take, drop, length, IsTrue};
 ghost use Rattle.std.specs.List.{prefix_len};
-ghost use Rattle.php_syntax.specs.Characters as spec;
+ghost use Rattle.lexical_grammar.specs.Characters as spec;
 
 use crate::classes::{is_digit, is_gap, is_high, is_line_end, is_name_byte, is_name_start};
 

@@ -1,10 +1,10 @@
 //! Signs and casts.
 
 ghost use Rattle.std.specs.Prelude.{◌≡◌, ◌<◌, ◌≤◌, ℕ, length, Some, IfSome, map, bytes_eq, codes};
-ghost use Rattle.php_syntax.specs.Characters as chars;
-ghost use Rattle.php_syntax.specs.Steps.{gives};
+ghost use Rattle.lexical_grammar.specs.Characters as chars;
+ghost use Rattle.lexical_grammar.specs.Steps.{gives};
 ghost use Rattle.php_syntax.specs.Tokens.{sign as sign_kind};
-ghost use Rattle.php_syntax.specs.Signs as spec;
+ghost use Rattle.lexical_grammar.specs.Signs as spec;
 ghost use Rattle.php_lexer.specs.View.{maybe_step, IsWithin};
 
 use crate::classes::lower;
@@ -78,7 +78,7 @@ fn first_sign(signs: &[Sign], bytes: &[u8]) -> Option<Step>
 }
 
 /// The longest sign that the bytes begin with.
-#[tactic(auto, unfolding(php_syntax::specs::Signs::sign_step))]
+#[tactic(auto, unfolding(lexical_grammar::specs::Signs::sign_step))]
 pub fn sign_step(bytes: &[u8]) -> Option<Step>
     ensures value { maybe_step result ≡ spec.sign_step bytes.now }
     ensures within { IfSome result (IsWithin (length bytes.now)) }
@@ -127,7 +127,7 @@ fn cast_of(word: &[u8]) -> Option<Sign>
 }
 
 /// `(int)` or `(string)`.
-#[tactic(auto, unfolding(php_syntax::specs::Signs::cast_step))]
+#[tactic(auto, unfolding(lexical_grammar::specs::Signs::cast_step))]
 pub fn cast_step(bytes: &[u8]) -> Option<Step>
     ensures value { maybe_step result ≡ spec.cast_step bytes.now }
     ensures within { IfSome result (IsWithin (length bytes.now)) }

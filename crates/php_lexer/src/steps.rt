@@ -1,8 +1,8 @@
 //! What stands at the head of the bytes.
 
 ghost use Rattle.std.specs.Prelude.{◌≡◌, ◌<◌, length, IfOk, IfSome};
-ghost use Rattle.php_syntax.specs.Cuts as spec;
-ghost use Rattle.php_syntax.specs.Steps.{inside};
+ghost use Rattle.lexical_grammar.specs.Cuts as spec;
+ghost use Rattle.lexical_grammar.specs.Steps.{inside};
 ghost use Rattle.php_lexer.specs.View.{maybe_step, plain_step, mode_of, IsWithin};
 
 use crate::blanks::{blank_step, block_comment_step, leaving_step, line_comment_step};
@@ -18,7 +18,7 @@ use std::alloc::Global;
 use text_base::NoMemory;
 
 // Blanks, comments and the tag that leaves PHP.
-#[tactic(auto, unfolding(php_syntax::specs::Cuts::between_step))]
+#[tactic(auto, unfolding(lexical_grammar::specs::Cuts::between_step))]
 fn between_step(bytes: &[u8]) -> Option<Step>
     ensures value { maybe_step result ≡ spec.between_step bytes.now }
     ensures within { IfSome result (IsWithin (length bytes.now)) }
@@ -36,7 +36,7 @@ fn between_step(bytes: &[u8]) -> Option<Step>
 }
 
 // Names, variables and numbers.
-#[tactic(auto, unfolding(php_syntax::specs::Cuts::word_step))]
+#[tactic(auto, unfolding(lexical_grammar::specs::Cuts::word_step))]
 fn word_step(alloc: Global, bytes: &[u8]) -> Result<Option<Step>, NoMemory>
     ensures value { IfOk result (λ o. maybe_step o ≡ spec.word_step bytes.now) }
     ensures within { IfOk result (λ o. IfSome o (IsWithin (length bytes.now))) }
@@ -51,7 +51,7 @@ fn word_step(alloc: Global, bytes: &[u8]) -> Result<Option<Step>, NoMemory>
 }
 
 // Texts.
-#[tactic(auto, unfolding(php_syntax::specs::Cuts::text_step))]
+#[tactic(auto, unfolding(lexical_grammar::specs::Cuts::text_step))]
 fn text_step(alloc: Global, bytes: &[u8]) -> Result<Option<Step>, NoMemory>
     ensures value { IfOk result (λ o. maybe_step o ≡ spec.text_step bytes.now) }
     ensures within { IfOk result (λ o. IfSome o (IsWithin (length bytes.now))) }
@@ -69,7 +69,7 @@ fn text_step(alloc: Global, bytes: &[u8]) -> Result<Option<Step>, NoMemory>
 }
 
 // Casts and signs.
-#[tactic(auto, unfolding(php_syntax::specs::Cuts::mark_step))]
+#[tactic(auto, unfolding(lexical_grammar::specs::Cuts::mark_step))]
 fn mark_step(bytes: &[u8]) -> Option<Step>
     ensures value { maybe_step result ≡ spec.mark_step bytes.now }
     ensures within { IfSome result (IsWithin (length bytes.now)) }
@@ -81,7 +81,7 @@ fn mark_step(bytes: &[u8]) -> Option<Step>
 }
 
 // Inside PHP.
-#[tactic(auto, unfolding(php_syntax::specs::Cuts::lexeme_step))]
+#[tactic(auto, unfolding(lexical_grammar::specs::Cuts::lexeme_step))]
 fn lexeme_step(alloc: Global, bytes: &[u8]) -> Result<Option<Step>, NoMemory>
     ensures value { IfOk result (λ o. maybe_step o ≡ spec.lexeme_step bytes.now) }
     ensures within { IfOk result (λ o. IfSome o (IsWithin (length bytes.now))) }
@@ -99,7 +99,7 @@ fn lexeme_step(alloc: Global, bytes: &[u8]) -> Result<Option<Step>, NoMemory>
 }
 
 // What stands at the head inside PHP.
-#[tactic(auto, unfolding(php_syntax::specs::Cuts::step))]
+#[tactic(auto, unfolding(lexical_grammar::specs::Cuts::step))]
 fn inside_step(alloc: Global, bytes: &[u8]) -> Result<Step, NoMemory>
     ensures value { IfOk result (λ s. plain_step s ≡ spec.step inside bytes.now) }
     ensures within { IfOk result (IsWithin (length bytes.now)) }

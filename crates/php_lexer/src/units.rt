@@ -1,8 +1,8 @@
 //! One place of a template.
 
 ghost use Rattle.std.specs.Prelude.{◌≡◌, ◌+◌, ◌||◌, ◌==◌, codes, length, IfOk};
-ghost use Rattle.php_syntax.specs.Characters as chars;
-ghost use Rattle.php_syntax.specs.Texts as spec;
+ghost use Rattle.lexical_grammar.specs.Characters as chars;
+ghost use Rattle.lexical_grammar.specs.Texts as spec;
 ghost use Rattle.php_lexer.specs.Rows.{plain_found, FoundWithin};
 ghost use Rattle.php_lexer.specs.Templates.{enclosure_of, unit_of};
 
@@ -25,7 +25,7 @@ fn in_quotes(enclosure: Enclosure) -> bool
 }
 
 // What stands behind a backslash.
-#[tactic(auto, unfolding(php_syntax::specs::Texts::escape_at))]
+#[tactic(auto, unfolding(lexical_grammar::specs::Texts::escape_at))]
 fn escape_at(enclosure: Enclosure, bytes: &[u8]) -> Found<TextUnit>
     ensures value { plain_found unit_of result ≡ spec.escape_at (enclosure_of enclosure) bytes.now }
     ensures within { FoundWithin (1 + length bytes.now) result }
@@ -101,7 +101,7 @@ fn named_at(alloc: Global, name: &[u8], rest: &[u8]) -> Result<Found<TextUnit>, 
 }
 
 // What stands behind `$`.
-#[tactic(auto, unfolding(php_syntax::specs::Texts::dollar_at))]
+#[tactic(auto, unfolding(lexical_grammar::specs::Texts::dollar_at))]
 fn dollar_at(alloc: Global, bytes: &[u8]) -> Result<Found<TextUnit>, NoMemory>
     ensures value { IfOk result (λ found. plain_found unit_of found ≡ spec.dollar_at bytes.now) }
     ensures within { IfOk result (FoundWithin (1 + length bytes.now)) }
@@ -118,7 +118,7 @@ fn dollar_at(alloc: Global, bytes: &[u8]) -> Result<Found<TextUnit>, NoMemory>
 }
 
 // What stands behind a `{` before `$`.
-#[tactic(auto, unfolding(php_syntax::specs::Texts::brace_at))]
+#[tactic(auto, unfolding(lexical_grammar::specs::Texts::brace_at))]
 fn brace_at(alloc: Global, bytes: &[u8]) -> Result<Found<TextUnit>, NoMemory>
     ensures value { IfOk result (λ found. plain_found unit_of found ≡ spec.brace_at bytes.now) }
     ensures within { IfOk result (FoundWithin (1 + length bytes.now)) }
@@ -149,7 +149,7 @@ fn end_of(enclosure: Enclosure) -> Found<TextUnit>
 }
 
 /// One place of a template.
-#[tactic(auto, unfolding(php_syntax::specs::Texts::unit_at))]
+#[tactic(auto, unfolding(lexical_grammar::specs::Texts::unit_at))]
 pub fn unit_at(
     alloc: Global,
     enclosure: Enclosure,

@@ -1,7 +1,7 @@
 //! Names, variables and numbers.
 
 ghost use Rattle.std.specs.Prelude.{◌≡◌, length, IfOk, IfSome};
-ghost use Rattle.php_syntax.specs.Words as spec;
+ghost use Rattle.lexical_grammar.specs.Words as spec;
 ghost use Rattle.php_lexer.specs.View.{maybe_step, IsWithin};
 
 use crate::scan::{begins, behind, front, name_length};
@@ -11,7 +11,7 @@ use std::alloc::Global;
 use text_base::{Bytes, NoMemory};
 
 /// A name.
-#[tactic(auto, unfolding(php_syntax::specs::Words::name_step))]
+#[tactic(auto, unfolding(lexical_grammar::specs::Words::name_step))]
 pub fn name_step(alloc: Global, bytes: &[u8]) -> Result<Option<Step>, NoMemory>
     ensures value { IfOk result (λ o. maybe_step o ≡ spec.name_step bytes.now) }
     ensures within { IfOk result (λ o. IfSome o (IsWithin (length bytes.now))) }
@@ -25,7 +25,7 @@ pub fn name_step(alloc: Global, bytes: &[u8]) -> Result<Option<Step>, NoMemory>
 }
 
 /// `$` and a name.
-#[tactic(auto, unfolding(php_syntax::specs::Words::variable_step))]
+#[tactic(auto, unfolding(lexical_grammar::specs::Words::variable_step))]
 pub fn variable_step(alloc: Global, bytes: &[u8]) -> Result<Option<Step>, NoMemory>
     ensures value { IfOk result (λ o. maybe_step o ≡ spec.variable_step bytes.now) }
     ensures within { IfOk result (λ o. IfSome o (IsWithin (length bytes.now))) }

@@ -1,8 +1,8 @@
 -- How many brackets are open, along a list.
 use Rattle.std.proofs.Common.{◌≡◌, ℕ, ◌≤◌, ◌<◌, max, List, [], ◌∷◌, subst}
 use native.Mathlib.Omega.{arith}
-use Rattle.php_syntax.specs.Terminals.{Terminal}
-use Rattle.php_syntax.specs.Grammar.{open_after, most_open}
+use Rattle.script_grammar.specs.Terminals.{Terminal}
+use Rattle.script_grammar.specs.Grammar.{open_after, most_open}
 
 -- at least those that are open before it
 pub open_before : (n : ℕ) (ts : List Terminal) → n ≤ most_open n ts

@@ -5,12 +5,12 @@ use mathlib.Core.Logic.{inl, inr}
 use Rattle.std.proofs.lemmas.Bool.{leb-true, leb-false}
 use native.Mathlib.Omega.{arith}
 use Rattle.php_syntax.specs.Tokens.{PlainToken}
-use Rattle.php_syntax.specs.Terminals.{Terminal, terminals}
+use Rattle.script_grammar.specs.Terminals.{Terminal, terminals}
 use Rattle.php_syntax.specs.Trees.{PlainFile, plain_file}
-use Rattle.php_syntax.specs.Statements.{FileForm, file_terminals, file_tree, file_nearest}
-use Rattle.php_syntax.specs.Rules.{file_fits}
+use Rattle.script_grammar.specs.Statements.{FileForm, file_terminals, file_tree, file_nearest}
+use Rattle.script_grammar.specs.Rules.{file_fits}
 use Rattle.php_syntax.specs.Height.{file_height}
-use Rattle.php_syntax.specs.Grammar.{SpellsTree, IsTooDeep, most_open}
+use Rattle.script_grammar.specs.Grammar.{SpellsTree, IsTooDeep, most_open}
 use Rattle.php_syntax.specs.declared.tree.FileTree.{FileTree}
 use Rattle.stmt_parser.specs.declared.reader.Reading.{Reading}
 use Rattle.stmt_parser.specs.declared.reader.Reading.TheVariants as reading

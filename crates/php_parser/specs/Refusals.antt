@@ -2,7 +2,7 @@
 use Rattle.std.specs.Prelude.{List, ⊤}
 use Rattle.php_syntax.specs.Tokens.{PlainToken}
 use Rattle.php_syntax.specs.Trees.{PlainFile}
-use Rattle.php_syntax.specs.Grammar.{SpellsTree, IsTooDeep}
+use Rattle.script_grammar.specs.Grammar.{SpellsTree, IsTooDeep}
 use Rattle.php_parser.specs.declared.refusal.ParseRefusal.{ParseRefusal}
 use Rattle.php_parser.specs.declared.refusal.ParseRefusal.TheVariants as refusals
 

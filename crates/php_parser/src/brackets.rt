@@ -2,8 +2,8 @@
 
 ghost use Rattle.std.specs.Prelude.{◌≡◌, ◌<◌, ◌≤◌, MatchOption};
 ghost use Rattle.php_syntax.specs.Tokens.{plain_kind};
-ghost use Rattle.php_syntax.specs.Terminals.{terminal_of};
-ghost use Rattle.php_syntax.specs.Grammar.{open_after, open_after_sign, most_open};
+ghost use Rattle.script_grammar.specs.Terminals.{terminal_of};
+ghost use Rattle.script_grammar.specs.Grammar.{open_after, open_after_sign, most_open};
 ghost use Rattle.expr_parser.specs.Heads.{terminals_of, terminal_at};
 
 use expr_parser::head::{Head, head_at};

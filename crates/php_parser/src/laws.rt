@@ -3,7 +3,7 @@
 ghost use Rattle.std.specs.Prelude.{◌≡◌, List};
 ghost use Rattle.php_syntax.specs.Tokens.{PlainToken};
 ghost use Rattle.php_syntax.specs.Trees.{PlainFile};
-ghost use Rattle.php_syntax.specs.Grammar.{SpellsTree, IsTooDeep};
+ghost use Rattle.script_grammar.specs.Grammar.{SpellsTree, IsTooDeep};
 
 use stmt_completeness::files_are_read;
 use stmt_trees::actions_make_files;

@@ -3,9 +3,9 @@
 ghost use Rattle.std.specs.Prelude.{◌≡◌, ◌≤◌, IfOk, IfErr};
 ghost use Rattle.php_syntax.specs.Tokens.{plain_tokens};
 ghost use Rattle.php_syntax.specs.Trees.{PlainFile, plain_file};
-ghost use Rattle.php_syntax.specs.Terminals.{terminals};
+ghost use Rattle.script_grammar.specs.Terminals.{terminals};
 ghost use Rattle.php_syntax.specs.Height.{file_height};
-ghost use Rattle.php_syntax.specs.Grammar.{SpellsTree, most_open};
+ghost use Rattle.script_grammar.specs.Grammar.{SpellsTree, most_open};
 ghost use Rattle.php_parser.specs.Refusals.{IsCauseOf};
 
 use crate::brackets::too_many;

@@ -1,5 +1,2 @@
-pub mod CutLemmas
-pub mod LexicalExamples
-mod TemplateExamples
 mod Examples
 pub mod Views

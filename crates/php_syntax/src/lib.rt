@@ -1,13 +1,9 @@
-//! The tokens and the syntax trees of a script, and the grammar that relates them.
+//! The tokens and the syntax trees of a script.
 //!
-//! A file is cut into its tokens by `Cuts` of `specs/Cuts.antt`, the lexical grammar of the script language.
-//! A token list spells a tree by `SpellsTree` of `specs/Grammar.antt`, the grammar of the script language in EBNF form.
-//! The plain form of a token stands in `specs/Tokens.antt`, that of a tree, over which the definitions recurse, in `specs/Trees.antt`.
-//! Below this crate stands `text_base` alone.
+//! The plain form of a token, over which the definitions of the crates above recurse, stands in `specs/Tokens.antt`,
+//! that of a tree in `specs/Trees.antt`. What relates the bytes of a file to tokens is `lexical_grammar`, what relates tokens
+//! to a tree `script_grammar`; a crate that knows only trees stands on neither. Below this crate stands `text_base` alone.
 #![tactic(auto)]
 
-pub mod keyword;
-pub mod laws;
-pub mod operator;
 pub mod token;
 pub mod tree;

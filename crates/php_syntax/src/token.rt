@@ -1,7 +1,7 @@
 //! The tokens of a script (PHP manual, "Basic syntax", "Types: Strings", "Operators").
 
 ghost use Rattle.std.specs.Prelude.{◌≡◌, ◌<◌, length};
-ghost use Rattle.php_syntax.specs.Signs.{spelling_of};
+ghost use Rattle.php_syntax.specs.Spelling.{spelling_of};
 
 use text_base::Bytes;
 

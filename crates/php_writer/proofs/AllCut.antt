@@ -1,8 +1,8 @@
 -- Marks that can be written are cut into the tokens of their terminals.
 use Rattle.std.proofs.Common.{◌≡◌, ℕ, List, [], ◌∷◌, ◌++◌, refl, ap, subst, None}
 use Rattle.php_syntax.specs.Tokens.{PlainToken}
-use Rattle.php_syntax.specs.Terminals.{Terminal, terminals, name_terminal, word_or_name, keyword_of}
-use Rattle.php_syntax.specs.Cuts.{Cuts, at_end, after_blank}
+use Rattle.script_grammar.specs.Terminals.{Terminal, terminals, name_terminal, word_or_name, keyword_of}
+use Rattle.lexical_grammar.specs.Cuts.{Cuts, at_end, after_blank}
 use Rattle.token_spelling.specs.Spelled.{IsName}
 use Rattle.std.specs.Fmt.{decimal}
 use Rattle.php_writer.specs.Marks.{Mark, keyword, name, variable, integer, text, read, sign, outside as outside_mark, marked, all_written, file_written}

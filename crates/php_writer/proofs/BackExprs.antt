@@ -2,10 +2,10 @@
 use Rattle.std.proofs.Common.{◌≡◌, Bool, true, ◌&&◌, List, ◌∷◌, refl}
 use Rattle.std.specs.Str.{str_to_ascii_lowercase}
 use Rattle.php_syntax.specs.declared.token.Sign.TheVariants as signs
-use Rattle.php_syntax.specs.declared.operator.Level.{Level}
+use Rattle.script_grammar.specs.declared.operator.Level.{Level}
 use Rattle.php_syntax.specs.Trees.{PlainExpr, member_expr}
-use Rattle.php_syntax.specs.Terminals.{Terminal, sign_terminal}
-use Rattle.php_syntax.specs.Expressions.{ExprForm, assign_form, update_form, choice_form, TargetForm, target_form, KeysForm, no_key_form, open_key_form, key_form, ChoiceForm, only_choice, short_choice, full_choice, NulForm, only_nul, coalesce_form, ChainForm, chain_form, MoreForm, no_more, once_more, one_more, OperandForm, tighter_form, tightest_form, UnaryForm, prefix_form, post_form, PostForm, base_form, after_form, before_form, int_form, text_form, template_form, constant_form, isset_form, empty_form, array_form, bracket_form, BaseForm, variable_base, call_base, escape_base, parens_base, QuotesForm, only_quotes, quotes_and_charset, SubscriptsForm, no_subscript, subscript_form, ListForm, empty_list, list_form, MoreExprsForm, no_more_exprs, one_more_expr, ItemsForm, empty_items, items_form, MoreItemsForm, end_of_items, last_comma, one_more_item, ItemForm, value_item, keyed_item, quotes_terminals, expr_terminals, target_terminals, keys_terminals, choice_terminals, nul_terminals, chain_terminals, more_terminals, operand_terminals, unary_terminals, post_terminals, base_terminals, subscripts_terminals, list_terminals, more_exprs_terminals, items_terminals, more_items_terminals, item_terminals, expr_tree, target_form_name, target_form_path, keys_tree, choice_tree, nul_tree, chain_tree, more_tree, operand_tree, unary_tree, post_tree, base_tree, subscripts_tree, list_tree, more_exprs_tree, items_tree, more_items_tree}
+use Rattle.script_grammar.specs.Terminals.{Terminal, sign_terminal}
+use Rattle.script_grammar.specs.Expressions.{ExprForm, assign_form, update_form, choice_form, TargetForm, target_form, KeysForm, no_key_form, open_key_form, key_form, ChoiceForm, only_choice, short_choice, full_choice, NulForm, only_nul, coalesce_form, ChainForm, chain_form, MoreForm, no_more, once_more, one_more, OperandForm, tighter_form, tightest_form, UnaryForm, prefix_form, post_form, PostForm, base_form, after_form, before_form, int_form, text_form, template_form, constant_form, isset_form, empty_form, array_form, bracket_form, BaseForm, variable_base, call_base, escape_base, parens_base, QuotesForm, only_quotes, quotes_and_charset, SubscriptsForm, no_subscript, subscript_form, ListForm, empty_list, list_form, MoreExprsForm, no_more_exprs, one_more_expr, ItemsForm, empty_items, items_form, MoreItemsForm, end_of_items, last_comma, one_more_item, ItemForm, value_item, keyed_item, quotes_terminals, expr_terminals, target_terminals, keys_terminals, choice_terminals, nul_terminals, chain_terminals, more_terminals, operand_terminals, unary_terminals, post_terminals, base_terminals, subscripts_terminals, list_terminals, more_exprs_terminals, items_terminals, more_items_terminals, item_terminals, expr_tree, target_form_name, target_form_path, keys_tree, choice_tree, nul_tree, chain_tree, more_tree, operand_tree, unary_tree, post_tree, base_tree, subscripts_tree, list_tree, more_exprs_tree, items_tree, more_items_tree}
 use Rattle.php_writer.specs.Spellable.{is_name, is_call_name, expr_spellable, exprs_spellable, items_spellable, path_spellable}
 use Rattle.php_writer.proofs.BackNames.{and_true, name_of, lower_call_name}
 use Rattle.php_writer.proofs.BackParts.{EachTerminal, EachLink, variable_spells, template_spells, constant_spells, unsigned_spells, prefix_spells, chain_spells}

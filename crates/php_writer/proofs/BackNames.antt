@@ -6,10 +6,10 @@ use Rattle.std.specs.Char.{to_ascii_lowercase}
 use Rattle.std.specs.Str.{str_to_ascii_lowercase, str_eq_ignore_ascii_case}
 use Rattle.std.proofs.lemmas.Bool.Decides.{nat_tests}
 use Rattle.text_base.specs.Exactness.{exact_bytes}
-use Rattle.php_syntax.specs.declared.keyword.Keyword.{Keyword}
-use Rattle.php_syntax.specs.declared.keyword.Keyword.TheVariants as word
-use Rattle.php_syntax.specs.Characters.{is_name_start, is_name_byte}
-use Rattle.php_syntax.specs.Terminals.{same_bytes, find_word, loop_words, branch_words, jump_words, value_words, cased_word, first_of_two, keyword_of}
+use Rattle.script_grammar.specs.declared.keyword.Keyword.{Keyword}
+use Rattle.script_grammar.specs.declared.keyword.Keyword.TheVariants as word
+use Rattle.lexical_grammar.specs.Characters.{is_name_start, is_name_byte}
+use Rattle.script_grammar.specs.Terminals.{same_bytes, find_word, loop_words, branch_words, jump_words, value_words, cased_word, first_of_two, keyword_of}
 use Rattle.token_spelling.specs.Spelled.{IsName}
 use Rattle.php_writer.specs.Spellable.{is_name, is_call_name}
 use Rattle.php_writer.proofs.Halves.{halves}

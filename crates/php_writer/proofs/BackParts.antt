@@ -2,20 +2,20 @@
 use Rattle.std.proofs.Common.{◌≡◌, ℕ, ◌≤◌, pos, negsuc, Bool, true, false, not, ◌&&◌, ◌||◌, if◌then◌else◌, List, [], ◌∷◌, refl, subst, arith, Option, Some, None}
 use Rattle.std.specs.Prelude.{ℤ, nat_le, codes}
 use Rattle.std.proofs.lemmas.Bool.Decides.{nat_tests}
-use Rattle.php_syntax.specs.declared.keyword.Keyword.{Keyword}
-use Rattle.php_syntax.specs.declared.keyword.Keyword.TheVariants as word
+use Rattle.script_grammar.specs.declared.keyword.Keyword.{Keyword}
+use Rattle.script_grammar.specs.declared.keyword.Keyword.TheVariants as word
 use Rattle.php_syntax.specs.declared.tree.SuperName.TheVariants as request
-use Rattle.php_syntax.specs.declared.operator.Level.{Level}
-use Rattle.php_syntax.specs.declared.operator.Level.TheVariants as level
-use Rattle.php_syntax.specs.declared.operator.Operator.{Operator}
-use Rattle.php_syntax.specs.declared.operator.Operator.TheVariants as operator
-use Rattle.php_syntax.specs.declared.operator.Prefix.{Prefix}
-use Rattle.php_syntax.specs.declared.operator.Prefix.TheVariants as prefix
-use Rattle.php_syntax.specs.Characters.{largest}
+use Rattle.script_grammar.specs.declared.operator.Level.{Level}
+use Rattle.script_grammar.specs.declared.operator.Level.TheVariants as level
+use Rattle.script_grammar.specs.declared.operator.Operator.{Operator}
+use Rattle.script_grammar.specs.declared.operator.Operator.TheVariants as operator
+use Rattle.script_grammar.specs.declared.operator.Prefix.{Prefix}
+use Rattle.script_grammar.specs.declared.operator.Prefix.TheVariants as prefix
+use Rattle.lexical_grammar.specs.Characters.{largest}
 use Rattle.php_syntax.specs.Tokens.{PlainKind, inline, variable, name, integer, text, template, sign, PlainToken, PlainKey, text_key, int_key, var_key, PlainPart, plain_part, read_part}
 use Rattle.php_syntax.specs.Trees.{PlainExpr, null_expr, flag_expr, int_expr, text_expr, var_expr, super_expr, member_expr, join_expr}
-use Rattle.php_syntax.specs.Terminals.{Terminal, inline_terminal, variable_terminal, word_terminal, name_terminal, int_terminal, text_terminal, template_terminal, sign_terminal, same_bytes, keyword_of, word_or_name, terminal_of, terminals}
-use Rattle.php_syntax.specs.Expressions.{constant_of, variable_tree, key_tree, read_tree, part_tree, part_trees, prefix_tree, operator_tree, Links, no_links, more_links, link_operands, lean_left, flat_join, chain_tree_of}
+use Rattle.script_grammar.specs.Terminals.{Terminal, inline_terminal, variable_terminal, word_terminal, name_terminal, int_terminal, text_terminal, template_terminal, sign_terminal, same_bytes, keyword_of, word_or_name, terminal_of, terminals}
+use Rattle.script_grammar.specs.Expressions.{constant_of, variable_tree, key_tree, read_tree, part_tree, part_trees, prefix_tree, operator_tree, Links, no_links, more_links, link_operands, lean_left, flat_join, chain_tree_of}
 use Rattle.token_spelling.specs.Spelled.{IsName}
 use Rattle.php_writer.specs.Spellable.{is_name, is_own_name, is_inline, is_unsigned, is_part_key, is_read, are_parts, expr_spellable, exprs_spellable}
 use Rattle.php_writer.proofs.CutRead.{IsKey, AreKeys}

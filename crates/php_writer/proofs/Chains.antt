@@ -1,12 +1,12 @@
 -- One more operand at the end of a chain.
 use Rattle.std.proofs.Common.{◌≡◌, ◌∙◌, true, false, List, ◌∷◌, Some, refl, ap, sym}
 use Rattle.php_syntax.specs.declared.token.Sign.{Sign}
-use Rattle.php_syntax.specs.declared.operator.Level.{Level}
-use Rattle.php_syntax.specs.declared.operator.Operator.{Operator}
-use Rattle.php_syntax.specs.Operators.{repeats, binary_operator}
+use Rattle.script_grammar.specs.declared.operator.Level.{Level}
+use Rattle.script_grammar.specs.declared.operator.Operator.{Operator}
+use Rattle.script_grammar.specs.Operators.{repeats, binary_operator}
 use Rattle.php_syntax.specs.Trees.{PlainExpr}
-use Rattle.php_syntax.specs.Terminals.{Terminal, sign_terminal}
-use Rattle.php_syntax.specs.Expressions.{ChainForm, chain_form, MoreForm, no_more, once_more, one_more, OperandForm, expr_terminals, expr_tree, chain_terminals, more_terminals, operand_terminals, chain_tree, more_tree, operand_tree, Links, operator_tree, lean_left, chain_tree_of}
+use Rattle.script_grammar.specs.Terminals.{Terminal, sign_terminal}
+use Rattle.script_grammar.specs.Expressions.{ChainForm, chain_form, MoreForm, no_more, once_more, one_more, OperandForm, expr_terminals, expr_tree, chain_terminals, more_terminals, operand_terminals, chain_tree, more_tree, operand_tree, Links, operator_tree, lean_left, chain_tree_of}
 
 -- a chain at this level leans left
 abbrev pub Leans : Level → Type 0

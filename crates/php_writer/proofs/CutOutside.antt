@@ -5,10 +5,10 @@ use Rattle.std.proofs.lemmas.Bool.Decides.{nat_tests}
 use Rattle.std.proofs.Math.Seq.{drop-append_seam, take-append_seam}
 use Rattle.php_syntax.specs.declared.token.Sign.TheVariants as signs
 use Rattle.php_syntax.specs.Tokens.{inline, name, sign}
-use Rattle.php_syntax.specs.Characters.{before, begins, is_gap, is_line_end, lower, newline_length}
-use Rattle.php_syntax.specs.Steps.{outside, inside, Step, goes, or_else}
-use Rattle.php_syntax.specs.Cuts.{step, or_inline, opened, opener_step, is_opener, lexeme_step, between_step, blank_step, line_comment_step, block_comment_step, leaving_step, CutsFrom, after_token, after_blank}
-use Rattle.php_syntax.specs.Terminals.{Terminal, inline_terminal, sign_terminal}
+use Rattle.lexical_grammar.specs.Characters.{before, begins, is_gap, is_line_end, lower, newline_length}
+use Rattle.lexical_grammar.specs.Steps.{outside, inside, Step, goes, or_else}
+use Rattle.lexical_grammar.specs.Cuts.{step, or_inline, opened, opener_step, is_opener, lexeme_step, between_step, blank_step, line_comment_step, block_comment_step, leaving_step, CutsFrom, after_token, after_blank}
+use Rattle.script_grammar.specs.Terminals.{Terminal, inline_terminal, sign_terminal}
 use Rattle.php_writer.specs.Spellable.{is_inline}
 use Rattle.php_writer.proofs.Cutting.{IsCutInto}
 

@@ -4,13 +4,13 @@ use Rattle.std.specs.Prelude.{pos, negsuc, nat_lt, ◌==◌, ◌||◌, if◌then
 use Rattle.std.specs.Fmt.{decimal}
 use Rattle.std.proofs.Math.Seq.{drop-append_seam, take-append_seam}
 use Rattle.php_syntax.specs.Tokens.{PlainKey, text_key, int_key, var_key, read_part, template}
-use Rattle.php_syntax.specs.Characters.{head_is, is_name_byte, value_of, largest}
-use Rattle.php_syntax.specs.Steps.{inside, goes}
-use Rattle.php_syntax.specs.Rows.{Found, item, whole, row, then_row}
-use Rattle.php_syntax.specs.Words.{name_step, variable_step, number_step, has_leading_zero}
-use Rattle.php_syntax.specs.Texts.{KeyAt, braced_key, subscript_at, subscripts, reads, quotes, unit_at, brace_at, single_step, double_step, or_key, integer_key, variable_key}
-use Rattle.php_syntax.specs.Cuts.{step, lexeme_step, between_step, blank_step, line_comment_step, block_comment_step, leaving_step, word_step, text_step}
-use Rattle.php_syntax.specs.Terminals.{Terminal, template_terminal}
+use Rattle.lexical_grammar.specs.Characters.{head_is, is_name_byte, value_of, largest}
+use Rattle.lexical_grammar.specs.Steps.{inside, goes}
+use Rattle.lexical_grammar.specs.Rows.{Found, item, whole, row, then_row}
+use Rattle.lexical_grammar.specs.Words.{name_step, variable_step, number_step, has_leading_zero}
+use Rattle.lexical_grammar.specs.Texts.{KeyAt, braced_key, subscript_at, subscripts, reads, quotes, unit_at, brace_at, single_step, double_step, or_key, integer_key, variable_key}
+use Rattle.lexical_grammar.specs.Cuts.{step, lexeme_step, between_step, blank_step, line_comment_step, block_comment_step, leaving_step, word_step, text_step}
+use Rattle.script_grammar.specs.Terminals.{Terminal, template_terminal}
 use Rattle.token_spelling.specs.Spelled.{IsName, IsInteger, quoted}
 use Rattle.token_spelling.proofs.SpelledLemmas.{quoted_row, digits_are, named, at_most, apart, apart', over, digit_bounds}
 use Rattle.php_writer.specs.Marks.{keys_spelling}

@@ -2,11 +2,11 @@
 use Rattle.std.proofs.Common.{◌≡◌, ℕ, List, [], ◌∷◌, refl, subst, None}
 use Rattle.php_syntax.specs.declared.token.Sign.{Sign}
 use Rattle.php_syntax.specs.declared.token.Sign.TheVariants as signs
-use Rattle.php_syntax.specs.declared.keyword.Keyword.{Keyword}
-use Rattle.php_syntax.specs.declared.keyword.Keyword.TheVariants as word
+use Rattle.script_grammar.specs.declared.keyword.Keyword.{Keyword}
+use Rattle.script_grammar.specs.declared.keyword.Keyword.TheVariants as word
 use Rattle.php_syntax.specs.Tokens.{name, sign}
-use Rattle.php_syntax.specs.Signs.{cast_step}
-use Rattle.php_syntax.specs.Terminals.{Terminal, terminal_of, word_terminal, sign_terminal}
+use Rattle.lexical_grammar.specs.Signs.{cast_step}
+use Rattle.script_grammar.specs.Terminals.{Terminal, terminal_of, word_terminal, sign_terminal}
 use Rattle.token_spelling.specs.Spelled.{IsName}
 use Rattle.token_spelling.proofs.SpelledLemmas.{sign_spelled}
 use Rattle.php_writer.specs.Marks.{keyword_spelling, written}

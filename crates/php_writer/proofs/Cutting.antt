@@ -3,12 +3,12 @@ use Rattle.std.proofs.Common.{◌≡◌, ◌∙◌, ℕ, suc, ◌+◌, List, [],
 use Rattle.std.specs.Prelude.{pos}
 use Rattle.std.proofs.Math.Seq.{drop-append_seam}
 use Rattle.php_syntax.specs.declared.token.Sign.TheVariants as signs
-use Rattle.php_syntax.specs.Characters.{value_of}
+use Rattle.lexical_grammar.specs.Characters.{value_of}
 use Rattle.php_syntax.specs.Tokens.{PlainKind, PlainToken, name, variable, integer, text, sign}
-use Rattle.php_syntax.specs.Steps.{inside, goes}
-use Rattle.php_syntax.specs.Signs.{cast_step}
-use Rattle.php_syntax.specs.Cuts.{step, lexeme_step, between_step, blank_step, CutsFrom, after_token, after_blank}
-use Rattle.php_syntax.specs.Terminals.{Terminal, terminal_of, terminals, variable_terminal, int_terminal, text_terminal, sign_terminal}
+use Rattle.lexical_grammar.specs.Steps.{inside, goes}
+use Rattle.lexical_grammar.specs.Signs.{cast_step}
+use Rattle.lexical_grammar.specs.Cuts.{step, lexeme_step, between_step, blank_step, CutsFrom, after_token, after_blank}
+use Rattle.script_grammar.specs.Terminals.{Terminal, terminal_of, terminals, variable_terminal, int_terminal, text_terminal, sign_terminal}
 use Rattle.token_spelling.specs.Spelled.{IsName, IsInteger, quoted}
 use Rattle.token_spelling.proofs.SpelledLemmas.{names_are_cut, variables_are_cut, integers_are_cut, text_spelled, bracket_spelled}
 

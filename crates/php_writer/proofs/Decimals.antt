@@ -5,8 +5,8 @@ use Rattle.std.specs.List.{list_all}
 use Rattle.std.specs.Fmt.{decimal}
 use Rattle.std.proofs.lemmas.Fmt.{decimal_by_steps, decimal_nonempty, decimal_digit, first_decimal}
 use Rattle.std.proofs.lemmas.Bool.Decides.{nat_tests}
-use Rattle.php_syntax.specs.Characters.{is_digit, value_of, largest}
-use Rattle.php_syntax.specs.Words.{has_leading_zero}
+use Rattle.lexical_grammar.specs.Characters.{is_digit, value_of, largest}
+use Rattle.lexical_grammar.specs.Words.{has_leading_zero}
 use Rattle.token_spelling.specs.Spelled.{IsInteger}
 use Rattle.php_writer.proofs.Halves.{halves}
 

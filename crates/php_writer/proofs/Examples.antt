@@ -4,7 +4,7 @@ use Rattle.std.specs.Prelude.{pos, negsuc, codes}
 use Rattle.std.specs.Fmt.{digits}
 use Rattle.php_syntax.specs.declared.tree.ArithSign.TheVariants as arith
 use Rattle.php_syntax.specs.declared.tree.SuperName.TheVariants as request
-use Rattle.php_syntax.specs.Cuts.{opener_step}
+use Rattle.lexical_grammar.specs.Cuts.{opener_step}
 use Rattle.php_syntax.specs.Trees.{PlainExpr, int_expr, text_expr, var_expr, super_expr, member_expr, join_expr, arith_expr, coalesce_expr, choice_expr, isset_expr, call_expr, no_expr, no_exprs, more_exprs, PlainStmt, inline_stmt, echo_stmt, run_stmt, if_stmt, no_stmts, more_stmts, no_arms, more_arms, PlainFile}
 use Rattle.php_writer.specs.Marks.{all_written, file_written, keys_spelling}
 use Rattle.php_writer.specs.Spellable.{is_name, is_call_name, is_own_name, is_inline, expr_spellable, stmt_spellable}

@@ -2,10 +2,10 @@
 use Rattle.std.proofs.Common.{◌≡◌, ◌∙◌, ℕ, suc, Bool, true, false, ◌&&◌, ◌||◌, if◌then◌else◌, List, [], ◌∷◌, ◌++◌, length, take, drop, refl, ap, sym, arith, Option, Some, None, take-append-drop}
 use Rattle.std.specs.Prelude.{◌==◌, nat_eq, is_some, codes}
 use Rattle.std.proofs.lemmas.Bool.Decides.{nat_tests}
-use Rattle.php_syntax.specs.Characters.{begins, before, lower, is_gap, is_line_end}
-use Rattle.php_syntax.specs.Cuts.{is_opener, opener_step, php_opener}
+use Rattle.lexical_grammar.specs.Characters.{begins, before, lower, is_gap, is_line_end}
+use Rattle.lexical_grammar.specs.Cuts.{is_opener, opener_step, php_opener}
 use Rattle.php_syntax.specs.Tokens.{name}
-use Rattle.php_syntax.specs.Steps.{Step, goes, inside, or_else}
+use Rattle.lexical_grammar.specs.Steps.{Step, goes, inside, or_else}
 use Rattle.php_writer.specs.Spellable.{is_inline}
 use Rattle.php_writer.proofs.CutOutside.{six_bytes, opener_more, is_php, opener}
 

@@ -4,9 +4,9 @@ use Rattle.std.specs.Prelude.{◌==◌, nat_le, nat_lt, codes}
 use Rattle.std.specs.List.{prefix_len, list_all}
 use Rattle.std.proofs.lemmas.Bool.Decides.{nat_tests}
 use Rattle.php_syntax.specs.Tokens.{PlainKind, inline, variable, name, integer, text, template, sign, PlainPart, plain_part, read_part}
-use Rattle.php_syntax.specs.Characters.{is_name_start, is_name_byte, is_digit, head_is, begins, name_length, digits_length, value_of, largest}
-use Rattle.php_syntax.specs.Steps.{Step, goes, refuses, gives, faults, float, big_int, bad_byte, or_else}
-use Rattle.php_syntax.specs.Words.{name_step, variable_step, number_step, digits_step, goes_on_as_float, has_leading_zero}
+use Rattle.lexical_grammar.specs.Characters.{is_name_start, is_name_byte, is_digit, head_is, begins, name_length, digits_length, value_of, largest}
+use Rattle.lexical_grammar.specs.Steps.{Step, goes, refuses, gives, faults, float, big_int, bad_byte, or_else}
+use Rattle.lexical_grammar.specs.Words.{name_step, variable_step, number_step, digits_step, goes_on_as_float, has_leading_zero}
 use Rattle.token_spelling.specs.Spelled.{IsName}
 use Rattle.php_writer.specs.Spellable.{is_inline, is_unsigned}
 use Rattle.php_writer.proofs.CutRead.{AreKeys}

@@ -5,14 +5,15 @@ use Rattle.std.specs.List.{prefix_len}
 use Rattle.php_syntax.specs.declared.token.Sign.{Sign}
 use Rattle.php_syntax.specs.declared.token.Sign.TheVariants as signs
 use Rattle.php_syntax.specs.Tokens.{PlainToken, name, sign}
-use Rattle.php_syntax.specs.Characters.{begins, before, head_is, is_blank, is_gap, is_name_byte, lower, newline_length, name_length}
-use Rattle.php_syntax.specs.Steps.{Mode, outside, inside, unclosed, Step, goes, gives, passes, faults, or_else}
-use Rattle.php_syntax.specs.Rows.{Row, whole, broken, endless, row}
-use Rattle.php_syntax.specs.Words.{name_step, variable_step, number_step}
-use Rattle.php_syntax.specs.Texts.{Unit_of, unit_at, quotes, lines, single_step, single_token, single_quoted, double_step, double_token}
-use Rattle.php_syntax.specs.Heredocs.{Body, of_heredoc, of_nowdoc, heredoc_newline, begins_name, ends_body, indented_at, heredoc_token, nowdoc_token, body_token, body_step, headed, heredoc_step, nowdoc_step}
-use Rattle.php_syntax.specs.Signs.{all_signs, first_sign, spelling_of, sign_step, cast_of, cast_in, cast_step}
-use Rattle.php_syntax.specs.Cuts.{echo_opener, blank_behind, opened, php_opener, opener_step, or_inline, blank_step, ends_line, line_comment_step, block_comment_step, leaving_step, between_step, word_step, text_step, mark_step, lexeme_step, or_bad_byte, step, CutsFrom, at_end, after_token, after_blank}
+use Rattle.lexical_grammar.specs.Characters.{begins, before, head_is, is_blank, is_gap, is_name_byte, lower, newline_length, name_length}
+use Rattle.lexical_grammar.specs.Steps.{Mode, outside, inside, unclosed, Step, goes, gives, passes, faults, or_else}
+use Rattle.lexical_grammar.specs.Rows.{Row, whole, broken, endless, row}
+use Rattle.lexical_grammar.specs.Words.{name_step, variable_step, number_step}
+use Rattle.lexical_grammar.specs.Texts.{Unit_of, unit_at, quotes, lines, single_step, single_token, single_quoted, double_step, double_token}
+use Rattle.lexical_grammar.specs.Heredocs.{Body, of_heredoc, of_nowdoc, heredoc_newline, begins_name, ends_body, indented_at, heredoc_token, nowdoc_token, body_token, body_step, headed, heredoc_step, nowdoc_step}
+use Rattle.php_syntax.specs.Spelling.{spelling_of}
+use Rattle.lexical_grammar.specs.Signs.{all_signs, first_sign, sign_step, cast_of, cast_in, cast_step}
+use Rattle.lexical_grammar.specs.Cuts.{echo_opener, blank_behind, opened, php_opener, opener_step, or_inline, blank_step, ends_line, line_comment_step, block_comment_step, leaving_step, between_step, word_step, text_step, mark_step, lexeme_step, or_bad_byte, step, CutsFrom, at_end, after_token, after_blank}
 use Rattle.php_writer.proofs.FineNames.{IsKind, IsStep, IsMaybeStep, either_step, step_by, is_name_step, is_variable_step, is_number_step}
 use Rattle.php_writer.proofs.FineUnits.{IsTemplate, template_is}
 use Rattle.php_writer.proofs.FineInline.{front_is_inline}

@@ -3,10 +3,10 @@ use Rattle.std.proofs.Common.{◌≡◌, ℕ, zero, suc, ◌+◌, ◌<◌, ◌�
 use Rattle.std.specs.Prelude.{◌==◌, nat_lt, codes}
 use Rattle.std.proofs.lemmas.Bool.Decides.{nat_tests}
 use Rattle.php_syntax.specs.Tokens.{PlainKey, text_key, int_key, var_key, PlainPart, plain_part, read_part}
-use Rattle.php_syntax.specs.Characters.{begins, head_is, is_high, name_length, digits_length, value_of, largest}
-use Rattle.php_syntax.specs.Words.{has_leading_zero}
-use Rattle.php_syntax.specs.Rows.{Found, item, wrong, over, missing, Row, whole, broken, endless, row, then_row, taken}
-use Rattle.php_syntax.specs.Texts.{KeyAt, integer_key, variable_key, or_key, simple_key, braced_key, single_quoted, text_key_of, closed_key, subscript_found, subscript_at, subscripts, whole_of, Enclosure, in_quotes, Unit_of, byte, reads, escape_at, simple_read, named_at, dollar_at, brace_at, braced_read, end_of, quotes, lines, unit_at, with_byte, parts_of, kind_of_parts}
+use Rattle.lexical_grammar.specs.Characters.{begins, head_is, is_high, name_length, digits_length, value_of, largest}
+use Rattle.lexical_grammar.specs.Words.{has_leading_zero}
+use Rattle.lexical_grammar.specs.Rows.{Found, item, wrong, over, missing, Row, whole, broken, endless, row, then_row, taken}
+use Rattle.lexical_grammar.specs.Texts.{KeyAt, integer_key, variable_key, or_key, simple_key, braced_key, single_quoted, text_key_of, closed_key, subscript_found, subscript_at, subscripts, whole_of, Enclosure, in_quotes, Unit_of, byte, reads, escape_at, simple_read, named_at, dollar_at, brace_at, braced_read, end_of, quotes, lines, unit_at, with_byte, parts_of, kind_of_parts}
 use Rattle.token_spelling.specs.Spelled.{IsName}
 use Rattle.php_writer.proofs.CutRead.{IsKey, AreKeys}
 use Rattle.php_writer.proofs.FineNames.{IsKind, EachPart, name_taken}

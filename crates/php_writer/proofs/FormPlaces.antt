@@ -3,11 +3,11 @@ use Rattle.std.proofs.Common.{◌≡◌, ℕ, suc, zero, ◌≤◌, ◌⊎◌, i
 use Rattle.std.specs.Prelude.{nat_lt, nat_le}
 use Rattle.std.proofs.lemmas.Bool.Decides.{nat_tests}
 use Rattle.php_syntax.specs.declared.token.Sign.TheVariants as signs
-use Rattle.php_syntax.specs.declared.operator.Level.{Level}
-use Rattle.php_syntax.specs.declared.operator.Level.TheVariants as level
+use Rattle.script_grammar.specs.declared.operator.Level.{Level}
+use Rattle.script_grammar.specs.declared.operator.Level.TheVariants as level
 use Rattle.php_syntax.specs.Trees.{PlainExpr}
-use Rattle.php_syntax.specs.Terminals.{Terminal, sign_terminal}
-use Rattle.php_syntax.specs.Expressions.{ExprForm, choice_form, ChoiceForm, only_choice, NulForm, only_nul, ChainForm, chain_form, no_more, OperandForm, tighter_form, tightest_form, UnaryForm, post_form, PostForm, base_form, BaseForm, parens_base, SubscriptsForm, no_subscript, expr_terminals, choice_terminals, nul_terminals, chain_terminals, operand_terminals, unary_terminals, post_terminals, base_terminals, subscripts_terminals, expr_tree, choice_tree, nul_tree, chain_tree, operand_tree, unary_tree, post_tree, base_tree, subscripts_tree}
+use Rattle.script_grammar.specs.Terminals.{Terminal, sign_terminal}
+use Rattle.script_grammar.specs.Expressions.{ExprForm, choice_form, ChoiceForm, only_choice, NulForm, only_nul, ChainForm, chain_form, no_more, OperandForm, tighter_form, tightest_form, UnaryForm, post_form, PostForm, base_form, BaseForm, parens_base, SubscriptsForm, no_subscript, expr_terminals, choice_terminals, nul_terminals, chain_terminals, operand_terminals, unary_terminals, post_terminals, base_terminals, subscripts_terminals, expr_tree, choice_tree, nul_tree, chain_tree, operand_tree, unary_tree, post_tree, base_tree, subscripts_tree}
 use Rattle.php_writer.specs.Marks.{Mark, sign, marked}
 use Rattle.php_writer.specs.Written.{within}
 

@@ -4,11 +4,11 @@ use Rattle.std.specs.Prelude.{is_some, codes}
 use Rattle.std.specs.List.{list_all}
 use Rattle.std.specs.Str.{str_to_ascii_lowercase}
 use Rattle.text_base.specs.Exactness.{exact_bytes}
-use Rattle.php_syntax.specs.Characters.{is_name_start, is_name_byte}
+use Rattle.lexical_grammar.specs.Characters.{is_name_start, is_name_byte}
 use Rattle.php_syntax.specs.Trees.{var_expr}
-use Rattle.php_syntax.specs.Terminals.{same_bytes, keyword_of}
-use Rattle.php_syntax.specs.Expressions.{variable_tree}
-use Rattle.php_syntax.specs.Rules.{is_request}
+use Rattle.script_grammar.specs.Terminals.{same_bytes, keyword_of}
+use Rattle.script_grammar.specs.Expressions.{variable_tree}
+use Rattle.script_grammar.specs.Rules.{is_request}
 use Rattle.token_spelling.specs.Spelled.{IsName}
 use Rattle.php_writer.specs.Spellable.{is_name, is_call_name, is_own_name}
 

@@ -1,11 +1,11 @@
 -- Forms of loops, of the statements that leave a body, and of `include`, from forms of their parts.
 use Rattle.std.proofs.Common.{◌≡◌, ◌∙◌, ℕ, List, ◌∷◌, Option, Some, None, refl, ap}
 use Rattle.php_syntax.specs.declared.token.Sign.TheVariants as signs
-use Rattle.php_syntax.specs.declared.keyword.Keyword.TheVariants as word
+use Rattle.script_grammar.specs.declared.keyword.Keyword.TheVariants as word
 use Rattle.php_syntax.specs.Trees.{PlainExpr, MaybeExpr, no_expr, some_expr, PlainExprs, while_stmt, do_while_stmt, for_stmt, each_stmt, break_stmt, continue_stmt, return_stmt, include_stmt, PlainStmts, no_stmts, more_stmts}
-use Rattle.php_syntax.specs.Terminals.{Terminal, word_terminal, sign_terminal}
-use Rattle.php_syntax.specs.Expressions.{expr_terminals, expr_tree, list_terminals, list_tree}
-use Rattle.php_syntax.specs.Statements.{MaybeForm, nothing_form, something_form, maybe_terminals, maybe_tree, VariablesForm, value_form, key_value_form, variables_terminals, key_variable, value_variable, block_form, while_form, do_form, for_form, each_form, break_form, continue_form, return_form, include_form, stmt_body, stmt_terminals, stmt_trees, stmts_trees, nearest}
+use Rattle.script_grammar.specs.Terminals.{Terminal, word_terminal, sign_terminal}
+use Rattle.script_grammar.specs.Expressions.{expr_terminals, expr_tree, list_terminals, list_tree}
+use Rattle.script_grammar.specs.Statements.{MaybeForm, nothing_form, something_form, maybe_terminals, maybe_tree, VariablesForm, value_form, key_value_form, variables_terminals, key_variable, value_variable, block_form, while_form, do_form, for_form, each_form, break_form, continue_form, return_form, include_form, stmt_body, stmt_terminals, stmt_trees, stmts_trees, nearest}
 use Rattle.php_writer.specs.Marks.{Mark, keyword, text, sign, marked}
 use Rattle.php_writer.specs.Written.{expr_marks, maybe_marks, list_marks, condition_marks, variables_marks, stmts_marks}
 use Rattle.php_writer.proofs.FormPlaces.{Formed, IsExpr}

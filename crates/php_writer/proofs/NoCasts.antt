@@ -6,12 +6,12 @@ use Rattle.std.specs.Fmt.{decimal}
 use Rattle.std.proofs.Math.Seq.{take-append_seam, drop-append_seam}
 use Rattle.php_syntax.specs.declared.token.Sign.{Sign}
 use Rattle.php_syntax.specs.declared.token.Sign.TheVariants as signs
-use Rattle.php_syntax.specs.declared.keyword.Keyword.{Keyword}
-use Rattle.php_syntax.specs.declared.keyword.Keyword.TheVariants as word
-use Rattle.php_syntax.specs.Characters.{is_name_byte, is_name_start, is_digit, is_gap, lower, largest, head_is}
-use Rattle.php_syntax.specs.Signs.{cast_step, cast_of, cast_in}
-use Rattle.php_syntax.specs.Terminals.{keyword_of}
-use Rattle.php_syntax.specs.Steps.{Step}
+use Rattle.script_grammar.specs.declared.keyword.Keyword.{Keyword}
+use Rattle.script_grammar.specs.declared.keyword.Keyword.TheVariants as word
+use Rattle.lexical_grammar.specs.Characters.{is_name_byte, is_name_start, is_digit, is_gap, lower, largest, head_is}
+use Rattle.lexical_grammar.specs.Signs.{cast_step, cast_of, cast_in}
+use Rattle.script_grammar.specs.Terminals.{keyword_of}
+use Rattle.lexical_grammar.specs.Steps.{Step}
 use Rattle.std.specs.List.{list_all}
 use Rattle.token_spelling.specs.Spelled.{IsName, IsInteger}
 use Rattle.token_spelling.proofs.SpelledLemmas.{run_length, apart, apart', over, digit_bounds, name_start_high}

@@ -4,8 +4,8 @@ use Rattle.std.specs.Prelude.{◌==◌, nat_eq, codes}
 use Rattle.std.specs.Char.{to_ascii_lowercase}
 use Rattle.std.specs.Str.{str_eq_ignore_ascii_case}
 use Rattle.std.proofs.lemmas.Bool.Decides.{nat_tests}
-use Rattle.php_syntax.specs.Characters.{before, lower, is_gap, is_line_end, is_blank}
-use Rattle.php_syntax.specs.Cuts.{is_opener}
+use Rattle.lexical_grammar.specs.Characters.{before, lower, is_gap, is_line_end, is_blank}
+use Rattle.lexical_grammar.specs.Cuts.{is_opener}
 use Rattle.php_writer.specs.Spellable.{is_inline}
 use Rattle.php_writer.specs.Openers.{opens, none_opens}
 use Rattle.php_writer.proofs.CutOutside.{six_bytes, is_php, opener}

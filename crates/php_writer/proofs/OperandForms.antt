@@ -3,17 +3,17 @@ use Rattle.std.proofs.Common.{arith, ◌≡◌, ◌∙◌, ℕ, pos, negsuc, Boo
 use Rattle.std.specs.Prelude.{ℤ, ◌==◌}
 use Rattle.std.proofs.lemmas.Bool.Decides.{nat_tests}
 use Rattle.php_syntax.specs.declared.token.Sign.TheVariants as signs
-use Rattle.php_syntax.specs.declared.keyword.Keyword.{Keyword}
-use Rattle.php_syntax.specs.declared.keyword.Keyword.TheVariants as word
+use Rattle.script_grammar.specs.declared.keyword.Keyword.{Keyword}
+use Rattle.script_grammar.specs.declared.keyword.Keyword.TheVariants as word
 use Rattle.php_syntax.specs.declared.tree.SuperName.{SuperName}
 use Rattle.php_syntax.specs.declared.tree.SuperName.TheVariants as request
 use Rattle.php_syntax.specs.declared.tree.UpdateSign.{UpdateSign}
 use Rattle.php_syntax.specs.declared.tree.UpdateSign.TheVariants as update
 use Rattle.php_syntax.specs.Tokens.{PlainKey, read_part}
-use Rattle.php_syntax.specs.Operators.{update_sign, step_sign}
+use Rattle.script_grammar.specs.Operators.{update_sign, step_sign}
 use Rattle.php_syntax.specs.Trees.{PlainExpr, null_expr, flag_expr, int_expr, text_expr, var_expr, super_expr, member_expr, array_expr, join_expr, isset_expr, empty_expr, assign_expr, update_expr, step_expr, call_expr, PlainExprs, no_exprs, more_exprs, PlainItems, PlainPath}
-use Rattle.php_syntax.specs.Terminals.{Terminal, variable_terminal, word_terminal, name_terminal, sign_terminal}
-use Rattle.php_syntax.specs.Expressions.{constant_of, ExprForm, assign_form, update_form, target_form, after_form, before_form, int_form, text_form, template_form, constant_form, isset_form, empty_form, bracket_form, variable_base, call_base, SubscriptsForm, no_subscript, subscript_form, expr_terminals, expr_tree, keys_terminals, base_terminals, subscripts_terminals, base_tree, subscripts_tree, list_tree, more_exprs_tree, variable_tree, key_tree, read_tree}
+use Rattle.script_grammar.specs.Terminals.{Terminal, variable_terminal, word_terminal, name_terminal, sign_terminal}
+use Rattle.script_grammar.specs.Expressions.{constant_of, ExprForm, assign_form, update_form, target_form, after_form, before_form, int_form, text_form, template_form, constant_form, isset_form, empty_form, bracket_form, variable_base, call_base, SubscriptsForm, no_subscript, subscript_form, expr_terminals, expr_tree, keys_terminals, base_terminals, subscripts_terminals, base_tree, subscripts_tree, list_tree, more_exprs_tree, variable_tree, key_tree, read_tree}
 use Rattle.php_writer.specs.Marks.{Mark, keyword, name, variable, text, read, sign, marked}
 use Rattle.php_writer.specs.Spellable.{is_own_name, is_integer, is_part_key, is_read}
 use Rattle.php_writer.specs.Written.{flag_word, request_name, int_mark, sign_of_update, sign_of_step, read_name, part_key, read_keys, expr_marks, path_marks, list_marks, more_marks, items_marks}

@@ -6,16 +6,16 @@ use Rattle.php_syntax.specs.declared.tree.ArithSign.{ArithSign}
 use Rattle.php_syntax.specs.declared.tree.ArithSign.TheVariants as arith
 use Rattle.php_syntax.specs.declared.tree.CompareSign.{CompareSign}
 use Rattle.php_syntax.specs.declared.tree.CompareSign.TheVariants as compare
-use Rattle.php_syntax.specs.declared.operator.Level.{Level}
-use Rattle.php_syntax.specs.declared.operator.Level.TheVariants as level
-use Rattle.php_syntax.specs.declared.operator.Operator.{Operator}
-use Rattle.php_syntax.specs.declared.operator.Operator.TheVariants as operator
-use Rattle.php_syntax.specs.declared.operator.Prefix.{Prefix}
-use Rattle.php_syntax.specs.declared.operator.Prefix.TheVariants as prefix
-use Rattle.php_syntax.specs.Operators.{tighter_level, repeats, binary_operator, prefix_operator}
+use Rattle.script_grammar.specs.declared.operator.Level.{Level}
+use Rattle.script_grammar.specs.declared.operator.Level.TheVariants as level
+use Rattle.script_grammar.specs.declared.operator.Operator.{Operator}
+use Rattle.script_grammar.specs.declared.operator.Operator.TheVariants as operator
+use Rattle.script_grammar.specs.declared.operator.Prefix.{Prefix}
+use Rattle.script_grammar.specs.declared.operator.Prefix.TheVariants as prefix
+use Rattle.script_grammar.specs.Operators.{tighter_level, repeats, binary_operator, prefix_operator}
 use Rattle.php_syntax.specs.Trees.{PlainExpr, neg_expr, not_expr, arith_expr, compare_expr, and_expr, or_expr, coalesce_expr, choice_expr, no_expr, some_expr}
-use Rattle.php_syntax.specs.Terminals.{sign_terminal}
-use Rattle.php_syntax.specs.Expressions.{short_choice, full_choice, coalesce_form, chain_form, once_more, tighter_form, prefix_form, expr_terminals, expr_tree, nul_terminals, chain_terminals, operand_terminals, nul_tree, operand_tree, operator_tree, prefix_tree}
+use Rattle.script_grammar.specs.Terminals.{sign_terminal}
+use Rattle.script_grammar.specs.Expressions.{short_choice, full_choice, coalesce_form, chain_form, once_more, tighter_form, prefix_form, expr_terminals, expr_tree, nul_terminals, chain_terminals, operand_terminals, nul_tree, operand_tree, operator_tree, prefix_tree}
 use Rattle.php_writer.specs.Marks.{Mark, sign, marked}
 use Rattle.php_writer.specs.Written.{arith_sign, compare_sign, arith_looseness, compare_looseness, arith_side, compare_side}
 use Rattle.php_writer.proofs.Chains.{Leans, chain_then, chain_then-terminals, chain_then-tree}

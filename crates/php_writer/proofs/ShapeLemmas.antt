@@ -11,7 +11,7 @@ use Rattle.std.specs.Str.{IsUtf8, IsValidUpTo}
 use Rattle.std.specs.Str.Lossy.{utf8_valid_len}
 use Rattle.std.proofs.lemmas.Str.{utf8_valid_len-IsUtf8, utf8_valid_len-IsValidUpTo}
 use Rattle.std.proofs.lemmas.Bool.Decides.{nat_tests}
-use Rattle.php_syntax.specs.Rules.{all_keyed, keyed_before_last, is_utf8}
+use Rattle.script_grammar.specs.Rules.{all_keyed, keyed_before_last, is_utf8}
 use Rattle.php_writer.specs.Spellable.{are_parts, is_read, is_some_exprs, is_some_arms}
 
 pub one_part_is : (e : Expr) (rest : List Expr) → length rest ≡ 0 → are_parts (exprs_of (e ∷ rest)) ≡ is_read (plain_expr e)

@@ -2,9 +2,9 @@
 use Rattle.std.proofs.Common.{◌≡◌, ◌∙◌, true, List, sym}
 use Rattle.php_syntax.specs.Tokens.{PlainToken}
 use Rattle.php_syntax.specs.Trees.{PlainFile}
-use Rattle.php_syntax.specs.Cuts.{Cuts}
-use Rattle.php_syntax.specs.Rules.{file_fits}
-use Rattle.php_syntax.specs.Grammar.{SpellsTree}
+use Rattle.lexical_grammar.specs.Cuts.{Cuts}
+use Rattle.script_grammar.specs.Rules.{file_fits}
+use Rattle.script_grammar.specs.Grammar.{SpellsTree}
 use Rattle.php_writer.specs.Marks.{file_written}
 use Rattle.php_writer.specs.Spellable.{is_spellable}
 use Rattle.php_writer.specs.Written.{file_marks}

@@ -1,11 +1,11 @@
 -- Forms of statements, from forms of their parts. Each body stands in braces, so that each `else` belongs to the nearest `if`.
 use Rattle.std.proofs.Common.{◌≡◌, ◌∙◌, ℕ, Bool, true, false, ◌&&◌, List, ◌∷◌, refl, ap}
 use Rattle.php_syntax.specs.declared.token.Sign.TheVariants as signs
-use Rattle.php_syntax.specs.declared.keyword.Keyword.TheVariants as word
+use Rattle.script_grammar.specs.declared.keyword.Keyword.TheVariants as word
 use Rattle.php_syntax.specs.Trees.{PlainExpr, PlainExprs, more_exprs, PlainStmt, inline_stmt, echo_stmt, run_stmt, if_stmt, PlainStmts, no_stmts, more_stmts, PlainArms, no_arms, more_arms}
-use Rattle.php_syntax.specs.Terminals.{Terminal, word_terminal, sign_terminal}
-use Rattle.php_syntax.specs.Expressions.{expr_terminals, more_exprs_tree}
-use Rattle.php_syntax.specs.Statements.{StmtForm, semicolon_form, inline_form, block_form, echo_form, run_form, if_form, StmtsForm, no_stmts_form, more_stmts_form, ArmsForm, no_arms_form, elseif_form, ElseForm, no_else_form, else_form, stmt_terminals, stmts_terminals, arms_terminals, else_terminals, stmt_trees, stmts_trees, arms_tree, else_tree, takes_else, nearest, all_nearest, arms_nearest, else_nearest}
+use Rattle.script_grammar.specs.Terminals.{Terminal, word_terminal, sign_terminal}
+use Rattle.script_grammar.specs.Expressions.{expr_terminals, more_exprs_tree}
+use Rattle.script_grammar.specs.Statements.{StmtForm, semicolon_form, inline_form, block_form, echo_form, run_form, if_form, StmtsForm, no_stmts_form, more_stmts_form, ArmsForm, no_arms_form, elseif_form, ElseForm, no_else_form, else_form, stmt_terminals, stmts_terminals, arms_terminals, else_terminals, stmt_trees, stmts_trees, arms_tree, else_tree, takes_else, nearest, all_nearest, arms_nearest, else_nearest}
 use Rattle.php_writer.specs.Marks.{Mark, keyword, sign, outside, marked}
 use Rattle.php_writer.specs.Written.{expr_marks, more_marks, condition_marks, stmt_marks, stmts_marks, arms_marks, else_marks}
 use Rattle.php_writer.proofs.FormPlaces.{IsExpr}

@@ -2,7 +2,7 @@
 use Rattle.std.proofs.Common.{◌≡◌, ℕ, ◌+◌, ◌-◌, ◌<◌, ◌≤◌, max, pos, negsuc, Bool, true, false, ◌&&◌, List, [], ◌∷◌, refl, arith}
 use Rattle.php_syntax.specs.Trees.{PlainExpr, null_expr, flag_expr, int_expr, text_expr, neg_expr, MaybeExpr, no_expr, some_expr, PlainStmt, inline_stmt, echo_stmt, run_stmt, if_stmt, while_stmt, do_while_stmt, for_stmt, each_stmt, break_stmt, continue_stmt, return_stmt, include_stmt, PlainStmts, no_stmts, more_stmts, PlainArms, no_arms, more_arms, PlainParam, PlainFunction, PlainFile}
 use Rattle.php_syntax.specs.Height.{height, maybe_height, exprs_height, stmt_height, stmts_height, arms_height, params_height, functions_height, file_height}
-use Rattle.php_syntax.specs.Rules.{is_writable, maybe_writable, is_utf8, is_new_name, expr_fits, maybe_fits, exprs_fit, stmt_fits, stmts_fit, arms_fit, params_fit, functions_fit, file_fits}
+use Rattle.script_grammar.specs.Rules.{is_writable, maybe_writable, is_utf8, is_new_name, expr_fits, maybe_fits, exprs_fit, stmt_fits, stmts_fit, arms_fit, params_fit, functions_fit, file_fits}
 use Rattle.php_writer.specs.Spellable.{is_name, is_call_name, is_some_exprs, is_inline, is_maybe_name, is_some_arms, is_unsigned_literal, is_literal, is_default, expr_spellable, maybe_spellable, exprs_spellable, stmt_spellable, stmts_spellable, arms_spellable, params_spellable, functions_spellable, is_spellable}
 use Rattle.php_writer.specs.Tested.{deep, is_target, expr_good, maybe_good, exprs_good, stmt_good, stmts_good, arms_good, pieces_good, params_good, functions_good, file_good}
 use Rattle.php_writer.proofs.Halves.{halves}

@@ -6,7 +6,7 @@ use Rattle.php_syntax.specs.declared.token.Sign.TheVariants as signs
 use Rattle.php_syntax.specs.declared.tree.SuperName.{SuperName}
 use Rattle.php_syntax.specs.declared.tree.SuperName.TheVariants as request
 use Rattle.php_syntax.specs.Tokens.{PlainKey}
-use Rattle.php_syntax.specs.Characters.{largest}
+use Rattle.lexical_grammar.specs.Characters.{largest}
 use Rattle.php_syntax.specs.Trees.{PlainExpr, null_expr, flag_expr, int_expr, text_expr, var_expr, super_expr, member_expr, array_expr, join_expr, neg_expr, not_expr, arith_expr, compare_expr, and_expr, or_expr, coalesce_expr, choice_expr, isset_expr, empty_expr, assign_expr, update_expr, step_expr, call_expr, MaybeExpr, no_expr, some_expr, PlainExprs, no_exprs, more_exprs, PlainItems, no_items, more_items, PlainPath, no_keys, more_keys}
 use Rattle.token_spelling.specs.Spelled.{IsName}
 use Rattle.php_writer.specs.Marks.{Mark, sign}

@@ -1,8 +1,8 @@
 -- The marks of a spellable file can be written.
 use Rattle.std.proofs.Common.{◌≡◌, ℕ, true, ◌&&◌, List, [], ◌∷◌, Option, Some, None, refl}
 use Rattle.php_syntax.specs.declared.token.Sign.TheVariants as signs
-use Rattle.php_syntax.specs.declared.keyword.Keyword.{Keyword}
-use Rattle.php_syntax.specs.declared.keyword.Keyword.TheVariants as word
+use Rattle.script_grammar.specs.declared.keyword.Keyword.{Keyword}
+use Rattle.script_grammar.specs.declared.keyword.Keyword.TheVariants as word
 use Rattle.php_syntax.specs.Trees.{PlainExpr, null_expr, flag_expr, int_expr, text_expr, neg_expr, MaybeExpr, no_expr, some_expr, PlainStmt, inline_stmt, echo_stmt, run_stmt, if_stmt, while_stmt, do_while_stmt, for_stmt, each_stmt, break_stmt, continue_stmt, return_stmt, include_stmt, PlainStmts, no_stmts, more_stmts, PlainArms, no_arms, more_arms, PlainParam, PlainFunction, PlainFile}
 use Rattle.php_writer.specs.Marks.{Mark, keyword, sign}
 use Rattle.php_writer.specs.Spellable.{is_name, is_call_name, is_some_exprs, is_maybe_name, is_some_arms, expr_spellable, maybe_spellable, exprs_spellable, stmt_spellable, stmts_spellable, arms_spellable, is_literal, is_default, params_spellable, functions_spellable, is_spellable}

@@ -3,11 +3,11 @@ use Rattle.std.specs.Prelude.{◌≡◌, ℕ, ℤ, pos, List, [], ◌∷◌, ◌
 use Rattle.std.specs.Fmt.{decimal}
 use Rattle.php_syntax.specs.declared.token.Sign.{Sign}
 use Rattle.php_syntax.specs.declared.token.Sign.TheVariants as signs
-use Rattle.php_syntax.specs.declared.keyword.Keyword.{Keyword}
-use Rattle.php_syntax.specs.declared.keyword.Keyword.TheVariants as word
+use Rattle.script_grammar.specs.declared.keyword.Keyword.{Keyword}
+use Rattle.script_grammar.specs.declared.keyword.Keyword.TheVariants as word
 use Rattle.php_syntax.specs.Tokens.{PlainKey, text_key, int_key, var_key, read_part}
-use Rattle.php_syntax.specs.Signs.{spelling_of}
-use Rattle.php_syntax.specs.Terminals.{Terminal, inline_terminal, variable_terminal, word_terminal, name_terminal, int_terminal, text_terminal, template_terminal, sign_terminal}
+use Rattle.php_syntax.specs.Spelling.{spelling_of}
+use Rattle.script_grammar.specs.Terminals.{Terminal, inline_terminal, variable_terminal, word_terminal, name_terminal, int_terminal, text_terminal, template_terminal, sign_terminal}
 use Rattle.token_spelling.specs.Spelled.{quoted}
 
 -- one thing that is written

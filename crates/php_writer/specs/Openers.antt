@@ -1,7 +1,7 @@
 -- Where an opener begins in bytes outside PHP, whatever follows them.
 use Rattle.std.specs.Prelude.{ℕ, Bool, true, not, ◌&&◌, ◌||◌, List, [], ◌∷◌, take, drop, codes}
 use Rattle.std.specs.Str.{str_eq_ignore_ascii_case}
-use Rattle.php_syntax.specs.Characters.{begins, head_is, is_blank}
+use Rattle.lexical_grammar.specs.Characters.{begins, head_is, is_blank}
 
 -- `<?php` in any case and a blank
 abbrev pub opens_php : List ℕ → Bool

@@ -2,10 +2,10 @@
 use Rattle.std.specs.Prelude.{ℕ, ℤ, pos, negsuc, Bool, true, false, not, ◌==◌, ◌&&◌, nat_le, List, [], ◌∷◌, ◌++◌, length, Option, Some, None, codes, is_some}
 use Rattle.std.specs.List.{list_all}
 use Rattle.std.specs.Str.{str_to_ascii_lowercase}
-use Rattle.php_syntax.specs.Characters.{is_name_start, is_name_byte, before, largest}
-use Rattle.php_syntax.specs.Cuts.{is_opener}
-use Rattle.php_syntax.specs.Terminals.{same_bytes, keyword_of}
-use Rattle.php_syntax.specs.Rules.{is_request}
+use Rattle.lexical_grammar.specs.Characters.{is_name_start, is_name_byte, before, largest}
+use Rattle.lexical_grammar.specs.Cuts.{is_opener}
+use Rattle.script_grammar.specs.Terminals.{same_bytes, keyword_of}
+use Rattle.script_grammar.specs.Rules.{is_request}
 use Rattle.php_syntax.specs.Trees.{PlainExpr, null_expr, flag_expr, int_expr, text_expr, var_expr, super_expr, member_expr, array_expr, join_expr, neg_expr, not_expr, arith_expr, compare_expr, and_expr, or_expr, coalesce_expr, choice_expr, isset_expr, empty_expr, assign_expr, update_expr, step_expr, call_expr, MaybeExpr, no_expr, some_expr, PlainExprs, no_exprs, more_exprs, PlainItems, no_items, more_items, PlainPath, no_keys, more_keys, PlainStmt, inline_stmt, echo_stmt, run_stmt, if_stmt, while_stmt, do_while_stmt, for_stmt, each_stmt, break_stmt, continue_stmt, return_stmt, include_stmt, PlainStmts, no_stmts, more_stmts, PlainArms, no_arms, more_arms, PlainParam, PlainFunction, PlainFile}
 
 -- a name: a letter or an underscore, and then letters, digits and underscores

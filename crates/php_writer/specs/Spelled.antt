@@ -2,8 +2,8 @@
 use Rattle.std.specs.Prelude.{ℕ, List}
 use Rattle.php_syntax.specs.Tokens.{PlainToken}
 use Rattle.php_syntax.specs.Trees.{PlainFile}
-use Rattle.php_syntax.specs.Cuts.{Cuts}
-use Rattle.php_syntax.specs.Grammar.{SpellsTree}
+use Rattle.lexical_grammar.specs.Cuts.{Cuts}
+use Rattle.script_grammar.specs.Grammar.{SpellsTree}
 
 -- the bytes of a file spell the tree
 abbrev pub Spells : List ℕ → PlainFile → Type 0

@@ -2,7 +2,7 @@
 
 ghost use Rattle.std.specs.Prelude.{◌≡◌, ◌++◌, ◌∷◌, [], OnOk, ℕ, List};
 ghost use Rattle.php_syntax.specs.declared.token.Sign.TheVariants as signs;
-ghost use Rattle.php_syntax.specs.declared.keyword.Keyword.TheVariants as words;
+ghost use Rattle.script_grammar.specs.declared.keyword.Keyword.TheVariants as words;
 ghost use Rattle.php_syntax.specs.Trees.{plain_expr, step_expr, exprs_of, items_of, path_of, boxed_of, maybe_of, target_name, target_path};
 ghost use Rattle.php_writer.specs.Marks.{Mark, Adds};
 ghost use Rattle.php_writer.specs.Marks as mark;
@@ -14,7 +14,7 @@ use crate::places::{
     step_sign, update_sign,
 };
 use crate::reads::put_read;
-use php_syntax::keyword::Keyword;
+use script_grammar::keyword::Keyword;
 use php_syntax::token::Sign;
 use php_syntax::tree::{Expr, Target, UpdateSign};
 use text_base::{Bytes, NoMemory};

@@ -3,7 +3,7 @@
 ghost use Rattle.std.specs.Prelude.{◌≡◌, ◌≤◌, ◌↔◌, ◌&&◌, IsTrue};
 ghost use Rattle.std.specs.Prelude.{◌-◌};
 ghost use Rattle.php_syntax.specs.Trees.{plain_param, params_of_list, plain_function, functions_of_list, plain_file};
-ghost use Rattle.php_syntax.specs.Rules as rules;
+ghost use Rattle.script_grammar.specs.Rules as rules;
 ghost use Rattle.php_syntax.specs.Height.{file_height};
 ghost use Rattle.php_writer.specs.Spelled.{IsSpelled};
 ghost use Rattle.php_writer.specs.Tested as spec;

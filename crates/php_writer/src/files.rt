@@ -2,7 +2,7 @@
 
 ghost use Rattle.std.specs.Prelude.{◌≡◌, ◌++◌, ◌∷◌, OnOk, IfOk, true, ℕ, List};
 ghost use Rattle.php_syntax.specs.declared.token.Sign.TheVariants as signs;
-ghost use Rattle.php_syntax.specs.declared.keyword.Keyword.TheVariants as words;
+ghost use Rattle.script_grammar.specs.declared.keyword.Keyword.TheVariants as words;
 ghost use Rattle.php_syntax.specs.Trees.{maybe_of, plain_param, params_of_list, plain_function, functions_of_list, plain_file};
 ghost use Rattle.php_writer.specs.Marks.{Mark, Adds, all_written, file_written};
 ghost use Rattle.php_writer.specs.Marks as mark;
@@ -12,7 +12,7 @@ ghost use Rattle.php_writer.specs.Written.{default_marks, param_marks, params_ma
 use crate::expressions::expression;
 use crate::marks::Writer;
 use crate::statements::{body, statements};
-use php_syntax::keyword::Keyword;
+use script_grammar::keyword::Keyword;
 use php_syntax::token::Sign;
 use php_syntax::tree::{Expr, FileTree, FunctionDef, Param};
 use std::alloc::Global;

@@ -2,8 +2,8 @@
 
 ghost use Rattle.std.specs.Prelude.{◌≡◌, ◌++◌, ◌∷◌, OnOk, ℕ, List, Option};
 ghost use Rattle.php_syntax.specs.declared.token.Sign.TheVariants as signs;
-ghost use Rattle.php_syntax.specs.declared.keyword.Keyword.{Keyword as Word};
-ghost use Rattle.php_syntax.specs.declared.keyword.Keyword.TheVariants as words;
+ghost use Rattle.script_grammar.specs.declared.keyword.Keyword.{Keyword as Word};
+ghost use Rattle.script_grammar.specs.declared.keyword.Keyword.TheVariants as words;
 ghost use Rattle.php_syntax.specs.Trees.{plain_expr, exprs_of, maybe_of};
 ghost use Rattle.php_writer.specs.Marks.{Mark, Adds};
 ghost use Rattle.php_writer.specs.Marks as mark;
@@ -11,7 +11,7 @@ ghost use Rattle.php_writer.specs.Written.{expr_marks, maybe_marks, list_marks, 
 
 use crate::expressions::{condition, expression, list, maybe};
 use crate::marks::Writer;
-use php_syntax::keyword::Keyword;
+use script_grammar::keyword::Keyword;
 use php_syntax::token::Sign;
 use php_syntax::tree::Expr;
 use text_base::{Bytes, NoMemory};

@@ -6,7 +6,7 @@ ghost use Rattle.php_writer.specs.Marks as mark;
 ghost use Rattle.php_writer.specs.Written.{int_mark};
 ghost use Rattle.token_spelling.specs.Spelled.{quoted};
 
-use php_syntax::keyword::Keyword;
+use script_grammar::keyword::Keyword;
 use php_syntax::token::Sign;
 use std::alloc::Global;
 use text_base::{Bytes, NoMemory};

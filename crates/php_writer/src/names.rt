@@ -4,13 +4,13 @@ ghost use Rattle.std.specs.Prelude.{◌≡◌, nat_eq};
 ghost use Rattle.std.specs.Char.{to_ascii_lowercase};
 ghost use Rattle.std.specs.List.{list_all};
 ghost use Rattle.std.specs.Str.{str_to_ascii_lowercase};
-ghost use Rattle.php_syntax.specs.Characters as chars;
-ghost use Rattle.php_syntax.specs.Terminals.{same_bytes};
-ghost use Rattle.php_syntax.specs.Rules as spec;
+ghost use Rattle.lexical_grammar.specs.Characters as chars;
+ghost use Rattle.script_grammar.specs.Terminals.{same_bytes};
+ghost use Rattle.script_grammar.specs.Rules as spec;
 ghost use Rattle.php_writer.specs.Spellable as spelled;
 ghost use Rattle.php_writer.specs.Tested as tested;
 
-use php_syntax::keyword::keyword_named;
+use script_grammar::keyword::keyword_named;
 
 fn is_digit(byte: u8) -> bool
     ensures { result ≡ chars.is_digit byte }

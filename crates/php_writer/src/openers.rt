@@ -1,7 +1,7 @@
 //! Bytes outside PHP.
 
 ghost use Rattle.std.specs.Prelude.{◌≡◌, ◌<◌, length, drop};
-ghost use Rattle.php_syntax.specs.Characters as chars;
+ghost use Rattle.lexical_grammar.specs.Characters as chars;
 ghost use Rattle.php_writer.specs.Openers as spec;
 ghost use Rattle.php_writer.specs.Spellable as spelled;
 

@@ -4,7 +4,7 @@ ghost use Rattle.std.specs.Prelude.{◌≡◌};
 ghost use Rattle.php_syntax.specs.Trees.{plain_expr, exprs_of};
 ghost use Rattle.php_writer.specs.Written as written;
 
-use php_syntax::keyword::Keyword;
+use script_grammar::keyword::Keyword;
 use php_syntax::token::Sign;
 use php_syntax::tree::{ArithSign, CompareSign, Expr, SuperName, UpdateSign};
 

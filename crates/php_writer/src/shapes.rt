@@ -2,7 +2,7 @@
 
 ghost use Rattle.std.specs.Prelude.{◌≡◌};
 ghost use Rattle.php_syntax.specs.Trees.{plain_expr, exprs_of, path_of, maybe_of};
-ghost use Rattle.php_syntax.specs.Rules as spec;
+ghost use Rattle.script_grammar.specs.Rules as spec;
 ghost use Rattle.php_writer.specs.Spellable as spelled;
 
 use crate::names::is_own_name;

@@ -2,7 +2,7 @@
 
 ghost use Rattle.std.specs.Prelude.{◌≡◌, ◌&&◌, true};
 ghost use Rattle.php_syntax.specs.Trees.{plain_expr, plain_stmt, exprs_of, maybe_of, stmts_of, arms_of};
-ghost use Rattle.php_syntax.specs.Rules as rules;
+ghost use Rattle.script_grammar.specs.Rules as rules;
 ghost use Rattle.php_writer.specs.Spellable as spelled;
 ghost use Rattle.php_writer.specs.Tested as spec;
 

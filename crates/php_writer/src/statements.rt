@@ -2,7 +2,7 @@
 
 ghost use Rattle.std.specs.Prelude.{◌≡◌, ◌++◌, ◌∷◌, OnOk, ℕ, List};
 ghost use Rattle.php_syntax.specs.declared.token.Sign.TheVariants as signs;
-ghost use Rattle.php_syntax.specs.declared.keyword.Keyword.TheVariants as words;
+ghost use Rattle.script_grammar.specs.declared.keyword.Keyword.TheVariants as words;
 ghost use Rattle.php_syntax.specs.Trees.{plain_expr, plain_stmt, stmts_of, arms_of};
 ghost use Rattle.php_writer.specs.Marks.{Mark, Adds};
 ghost use Rattle.php_writer.specs.Marks as mark;
@@ -10,7 +10,7 @@ ghost use Rattle.php_writer.specs.Written.{condition_marks, stmt_marks, stmts_ma
 
 use crate::heads::{do_end, each_head, echo, for_head, head, include, jump, returned, run};
 use crate::marks::Writer;
-use php_syntax::keyword::Keyword;
+use script_grammar::keyword::Keyword;
 use php_syntax::token::Sign;
 use php_syntax::tree::{Expr, Stmt};
 use text_base::NoMemory;

@@ -4,11 +4,11 @@ use Rattle.std.specs.Prelude.{Result, Ok, Err, IfErr}
 use Rattle.phpsa_main.specs.declared.verdict.Refusal.{Refusal}
 use Rattle.php_syntax.specs.Tokens.{PlainToken}
 use Rattle.php_syntax.specs.Trees.{PlainFile}
-use Rattle.php_syntax.specs.Terminals.{terminals}
-use Rattle.php_syntax.specs.Steps.{Fault}
-use Rattle.php_syntax.specs.Cuts.{Cuts, Breaks}
+use Rattle.script_grammar.specs.Terminals.{terminals}
+use Rattle.lexical_grammar.specs.Steps.{Fault}
+use Rattle.lexical_grammar.specs.Cuts.{Cuts, Breaks}
 use Rattle.php_syntax.specs.Height.{file_height}
-use Rattle.php_syntax.specs.Grammar.{SpellsTree, IsTooDeep, most_open}
+use Rattle.script_grammar.specs.Grammar.{SpellsTree, IsTooDeep, most_open}
 use Rattle.first_form.specs.FirstTree.{IsFirstTree}
 use Rattle.php_lexer.specs.declared.refusal.LexRefusal.{LexRefusal}
 use Rattle.php_lexer.specs.declared.refusal.LexRefusal.TheVariants as lexed

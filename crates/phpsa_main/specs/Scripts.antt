@@ -2,9 +2,9 @@
 use Rattle.std.specs.Prelude.{ℕ, List}
 use Rattle.php_syntax.specs.Tokens.{PlainToken}
 use Rattle.php_syntax.specs.Trees.{PlainFile}
-use Rattle.php_syntax.specs.Steps.{bad_byte, unclosed, float, big_int, escape}
-use Rattle.php_syntax.specs.Cuts.{Cuts, Breaks}
-use Rattle.php_syntax.specs.Grammar.{SpellsTree, IsTooDeep}
+use Rattle.lexical_grammar.specs.Steps.{bad_byte, unclosed, float, big_int, escape}
+use Rattle.lexical_grammar.specs.Cuts.{Cuts, Breaks}
+use Rattle.script_grammar.specs.Grammar.{SpellsTree, IsTooDeep}
 use Rattle.phpsa_main.specs.declared.verdict.ScriptKind.{ScriptKind}
 use Rattle.phpsa_main.specs.declared.verdict.ScriptKind.TheVariants as kind
 

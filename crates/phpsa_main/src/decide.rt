@@ -14,7 +14,7 @@ use dtd_model::{Dtd, mini};
 use first_form::{Pages, loose_pages};
 use page_check::{PageRefusal, check_page};
 use php_parser::laws::one_tree;
-use php_syntax::laws::{never_both, one_token_list};
+use lexical_grammar::laws::{never_both, one_token_list};
 use std::alloc::Global;
 use text_base::{Bytes, NoMemory};
 

@@ -30,7 +30,7 @@ pub use exit::Exit;
 use first_form::laws::ended_runs_print_loose_pages;
 use io_edge::{Files, Sink};
 use php_parser::laws::one_tree;
-use php_syntax::laws::{never_both, one_token_list};
+use lexical_grammar::laws::{never_both, one_token_list};
 use report::{refuse, report};
 use std::alloc::Global;
 use verdict::Refusal;

@@ -1,9 +1,9 @@
 -- Each function and each file is read, with its actions.
 use Rattle.std.proofs.Common.{◌≡◌, ℕ, ◌<◌, true, false, List, [], ◌∷◌, length, Some, refl, arith}
 use Rattle.php_syntax.specs.declared.token.Sign.TheVariants as sign
-use Rattle.php_syntax.specs.declared.keyword.Keyword.TheVariants as word
-use Rattle.php_syntax.specs.Terminals.{Terminal, variable_terminal, word_terminal, name_terminal, sign_terminal}
-use Rattle.php_syntax.specs.Statements.{nearest, LiteralForm, int_literal, negated_literal, text_literal, true_literal, false_literal, null_literal, literal_terminals, literal_tree, ParamForm, param_form, default_form, param_terminals, param_tree, more_params_terminals, params_terminals, FunctionForm, function_form, function_terminals, function_nearest, FileForm, end_of_file, function_part, stmt_part, file_terminals, file_nearest}
+use Rattle.script_grammar.specs.declared.keyword.Keyword.TheVariants as word
+use Rattle.script_grammar.specs.Terminals.{Terminal, variable_terminal, word_terminal, name_terminal, sign_terminal}
+use Rattle.script_grammar.specs.Statements.{nearest, LiteralForm, int_literal, negated_literal, text_literal, true_literal, false_literal, null_literal, literal_terminals, literal_tree, ParamForm, param_form, default_form, param_terminals, param_tree, more_params_terminals, params_terminals, FunctionForm, function_form, function_terminals, function_nearest, FileForm, end_of_file, function_part, stmt_part, file_terminals, file_nearest}
 use Rattle.php_syntax.specs.Trees.{no_expr, some_expr}
 use Rattle.stmt_machine.specs.declared.frame.Focus.TheVariants as focus
 use Rattle.stmt_machine.specs.declared.frame.Frame.{Frame}

@@ -1,11 +1,11 @@
 -- Loops: their heads, and their bodies in either form.
 use Rattle.std.proofs.Common.{◌≡◌, ℕ, ◌+◌, ◌*◌, ◌≤◌, Bool, true, if◌then◌else◌, List, [], ◌∷◌, length, refl, ap, ◌∙◌, arith}
 use Rattle.php_syntax.specs.declared.token.Sign.TheVariants as sign
-use Rattle.php_syntax.specs.declared.keyword.Keyword.{Keyword}
-use Rattle.php_syntax.specs.declared.keyword.Keyword.TheVariants as word
-use Rattle.php_syntax.specs.Terminals.{Terminal, word_terminal, sign_terminal}
-use Rattle.php_syntax.specs.Expressions.{ExprForm, ListForm, expr_terminals, list_terminals}
-use Rattle.php_syntax.specs.Statements.{MaybeForm, maybe_terminals, condition_terminals, VariablesForm, value_form, key_value_form, variables_terminals, key_variable, value_variable}
+use Rattle.script_grammar.specs.declared.keyword.Keyword.{Keyword}
+use Rattle.script_grammar.specs.declared.keyword.Keyword.TheVariants as word
+use Rattle.script_grammar.specs.Terminals.{Terminal, word_terminal, sign_terminal}
+use Rattle.script_grammar.specs.Expressions.{ExprForm, ListForm, expr_terminals, list_terminals}
+use Rattle.script_grammar.specs.Statements.{MaybeForm, maybe_terminals, condition_terminals, VariablesForm, value_form, key_value_form, variables_terminals, key_variable, value_variable}
 use Rattle.expr_machine.specs.Machine.{behind}
 use Rattle.expr_machine.specs.Postfix.{expr_actions}
 use Rattle.stmt_machine.specs.declared.frame.Loop.{Loop}

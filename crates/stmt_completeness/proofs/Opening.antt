@@ -2,14 +2,14 @@
 use Rattle.std.proofs.Common.{◌≡◌, Bool, true, false, List, [], ◌∷◌, Some, refl}
 use Rattle.php_syntax.specs.declared.token.Sign.{Sign}
 use Rattle.php_syntax.specs.declared.token.Sign.TheVariants as sign
-use Rattle.php_syntax.specs.declared.keyword.Keyword.{Keyword}
-use Rattle.php_syntax.specs.declared.keyword.Keyword.TheVariants as word
-use Rattle.php_syntax.specs.declared.operator.Level.{Level}
-use Rattle.php_syntax.specs.declared.operator.Prefix.{Prefix}
+use Rattle.script_grammar.specs.declared.keyword.Keyword.{Keyword}
+use Rattle.script_grammar.specs.declared.keyword.Keyword.TheVariants as word
+use Rattle.script_grammar.specs.declared.operator.Level.{Level}
+use Rattle.script_grammar.specs.declared.operator.Prefix.{Prefix}
 use Rattle.php_syntax.specs.Trees.{PlainExpr}
-use Rattle.php_syntax.specs.Operators.{prefix_operator, step_sign}
-use Rattle.php_syntax.specs.Terminals.{Terminal, inline_terminal, word_terminal, sign_terminal}
-use Rattle.php_syntax.specs.Expressions.{ExprForm, assign_form, update_form, choice_form, target_form, ChoiceForm, only_choice, short_choice, full_choice, NulForm, only_nul, coalesce_form, ChainForm, chain_form, OperandForm, tighter_form, tightest_form, UnaryForm, prefix_form, post_form, PostForm, base_form, after_form, before_form, int_form, text_form, template_form, constant_form, isset_form, empty_form, array_form, bracket_form, BaseForm, variable_base, call_base, escape_base, parens_base, constant_of, subscripts_terminals, expr_terminals, choice_terminals, nul_terminals, chain_terminals, more_terminals, operand_terminals, unary_terminals, post_terminals, base_terminals}
+use Rattle.script_grammar.specs.Operators.{prefix_operator, step_sign}
+use Rattle.script_grammar.specs.Terminals.{Terminal, inline_terminal, word_terminal, sign_terminal}
+use Rattle.script_grammar.specs.Expressions.{ExprForm, assign_form, update_form, choice_form, target_form, ChoiceForm, only_choice, short_choice, full_choice, NulForm, only_nul, coalesce_form, ChainForm, chain_form, OperandForm, tighter_form, tightest_form, UnaryForm, prefix_form, post_form, PostForm, base_form, after_form, before_form, int_form, text_form, template_form, constant_form, isset_form, empty_form, array_form, bracket_form, BaseForm, variable_base, call_base, escape_base, parens_base, constant_of, subscripts_terminals, expr_terminals, choice_terminals, nul_terminals, chain_terminals, more_terminals, operand_terminals, unary_terminals, post_terminals, base_terminals}
 
 -- a sign, a word and a list of terminals that may begin an expression
 abbrev pub value_sign : Sign → Bool

@@ -1,6 +1,6 @@
 -- Runs from some place on to the end of a file, with the actions that they do.
 use Rattle.std.proofs.Common.{◌≡◌, ℕ, zero, suc, ◌+◌, ◌<◌, ◌≤◌, List, [], ◌∷◌, ◌++◌, Option, Some, None, refl, ap, ◌∙◌, arith}
-use Rattle.php_syntax.specs.Terminals.{Terminal}
+use Rattle.script_grammar.specs.Terminals.{Terminal}
 use Rattle.stmt_machine.specs.declared.frame.Focus.{Focus}
 use Rattle.stmt_machine.specs.declared.frame.Focus.TheVariants as focus
 use Rattle.stmt_machine.specs.declared.frame.Frame.{Frame}

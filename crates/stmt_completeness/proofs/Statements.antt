@@ -2,10 +2,10 @@
 use Rattle.std.proofs.Common.{◌≡◌, ℕ, ◌+◌, true, false, List, [], ◌∷◌, refl, ◌∙◌}
 use Rattle.std.specs.Prelude.{not, ◌&&◌}
 use Rattle.php_syntax.specs.declared.token.Sign.TheVariants as sign
-use Rattle.php_syntax.specs.declared.keyword.Keyword.{Keyword}
-use Rattle.php_syntax.specs.declared.keyword.Keyword.TheVariants as word
-use Rattle.php_syntax.specs.Terminals.{Terminal, word_terminal, sign_terminal}
-use Rattle.php_syntax.specs.Statements.{StmtForm, semicolon_form, inline_form, block_form, echo_form, print_form, run_form, if_form, colon_if_form, while_form, do_form, for_form, each_form, break_form, continue_form, return_form, include_form, include_parens_form, StmtsForm, no_stmts_form, more_stmts_form, ArmsForm, no_arms_form, elseif_form, else_if_form, ElseForm, no_else_form, else_form, ColonArmsForm, no_colon_arms, colon_arm, ColonElseForm, no_colon_else, colon_else, BodyForm, stmt_body, colon_body, key_variable, value_variable, condition_terminals, stmt_terminals, stmts_terminals, arms_terminals, else_terminals, colon_arms_terminals, colon_else_terminals, body_terminals, takes_else, body_takes_else, is_if, goes_on, colon_goes_on, last_takes_else, nearest, all_nearest, arms_nearest, else_nearest, colon_arms_nearest, colon_else_nearest, body_nearest}
+use Rattle.script_grammar.specs.declared.keyword.Keyword.{Keyword}
+use Rattle.script_grammar.specs.declared.keyword.Keyword.TheVariants as word
+use Rattle.script_grammar.specs.Terminals.{Terminal, word_terminal, sign_terminal}
+use Rattle.script_grammar.specs.Statements.{StmtForm, semicolon_form, inline_form, block_form, echo_form, print_form, run_form, if_form, colon_if_form, while_form, do_form, for_form, each_form, break_form, continue_form, return_form, include_form, include_parens_form, StmtsForm, no_stmts_form, more_stmts_form, ArmsForm, no_arms_form, elseif_form, else_if_form, ElseForm, no_else_form, else_form, ColonArmsForm, no_colon_arms, colon_arm, ColonElseForm, no_colon_else, colon_else, BodyForm, stmt_body, colon_body, key_variable, value_variable, condition_terminals, stmt_terminals, stmts_terminals, arms_terminals, else_terminals, colon_arms_terminals, colon_else_terminals, body_terminals, takes_else, body_takes_else, is_if, goes_on, colon_goes_on, last_takes_else, nearest, all_nearest, arms_nearest, else_nearest, colon_arms_nearest, colon_else_nearest, body_nearest}
 use Rattle.stmt_machine.specs.declared.frame.Loop.{Loop}
 use Rattle.stmt_machine.specs.declared.frame.Loop.TheVariants as loop
 use Rattle.stmt_machine.specs.declared.frame.Focus.TheVariants as focus

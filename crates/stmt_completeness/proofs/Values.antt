@@ -1,10 +1,10 @@
 -- What the machine does where an expression stands, given what is known of expressions.
 use Rattle.std.proofs.Common.{◌≡◌, ◌+◌, ◌<◌, ◌≤◌, true, false, if◌then◌else◌, List, [], ◌∷◌, length, Some, refl, ap, ◌∙◌, arith}
 use Rattle.php_syntax.specs.declared.token.Sign.TheVariants as sign
-use Rattle.php_syntax.specs.declared.keyword.Keyword.TheVariants as word
-use Rattle.php_syntax.specs.Terminals.{Terminal, word_terminal, sign_terminal}
-use Rattle.php_syntax.specs.Expressions.{ExprForm, expr_terminals}
-use Rattle.php_syntax.specs.Statements.{MaybeForm, nothing_form, something_form, maybe_terminals}
+use Rattle.script_grammar.specs.declared.keyword.Keyword.TheVariants as word
+use Rattle.script_grammar.specs.Terminals.{Terminal, word_terminal, sign_terminal}
+use Rattle.script_grammar.specs.Expressions.{ExprForm, expr_terminals}
+use Rattle.script_grammar.specs.Statements.{MaybeForm, nothing_form, something_form, maybe_terminals}
 use Rattle.expr_machine.specs.Actions.{Action}
 use Rattle.expr_machine.specs.Machine.{behind}
 use Rattle.expr_machine.specs.Postfix.{expr_actions}

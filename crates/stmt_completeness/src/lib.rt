@@ -2,11 +2,11 @@
 //!
 //! `files_are_read` carries it as its contract: the terminals of a derivation in which each `else` belongs to the nearest
 //! `if` are read to their end, and the actions are those of the derivation. Below stand `stmt_machine`, `expr_completeness`,
-//! `expr_machine` and `php_syntax`.
+//! `expr_machine` and `script_grammar`.
 #![tactic(auto)]
 
 ghost use Rattle.std.specs.Prelude.{◌≡◌, true, Some};
-ghost use Rattle.php_syntax.specs.Statements.{FileForm, file_terminals, file_nearest};
+ghost use Rattle.script_grammar.specs.Statements.{FileForm, file_terminals, file_nearest};
 ghost use Rattle.stmt_machine.specs.Postfix.{file_actions};
 ghost use Rattle.stmt_machine.specs.Reading.{file_at};
 

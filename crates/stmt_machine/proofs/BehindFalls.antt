@@ -2,9 +2,9 @@
 use Rattle.std.proofs.Common.{ℕ, ◌<◌, true, false, suc, List, [], ◌∷◌, length, arith}
 use Rattle.std.specs.Prelude.{Option, Some, None}
 use Rattle.php_syntax.specs.declared.token.Sign.TheVariants as sign
-use Rattle.php_syntax.specs.declared.keyword.Keyword.TheVariants as word
+use Rattle.script_grammar.specs.declared.keyword.Keyword.TheVariants as word
 use Rattle.php_syntax.specs.Trees.{PlainExpr, neg_expr, int_expr}
-use Rattle.php_syntax.specs.Terminals.{Terminal, variable_terminal, word_terminal, name_terminal, int_terminal, sign_terminal}
+use Rattle.script_grammar.specs.Terminals.{Terminal, variable_terminal, word_terminal, name_terminal, int_terminal, sign_terminal}
 use Rattle.expr_machine.specs.Actions.{Action}
 use Rattle.stmt_machine.specs.declared.frame.Loop.{Loop}
 use Rattle.stmt_machine.specs.declared.frame.Focus.{Focus}

@@ -3,9 +3,9 @@ use Rattle.std.proofs.Common.{◌≡◌, ℕ, ◌+◌, ◌*◌, ◌<◌, ◌≤�
 use Rattle.std.specs.Prelude.{Option, Some, None, if◌then◌else◌, ◌==◌}
 use Rattle.php_syntax.specs.declared.token.Sign.{Sign}
 use Rattle.php_syntax.specs.declared.token.Sign.TheVariants as sign
-use Rattle.php_syntax.specs.declared.keyword.Keyword.{Keyword}
-use Rattle.php_syntax.specs.declared.keyword.Keyword.TheVariants as word
-use Rattle.php_syntax.specs.Terminals.{Terminal, inline_terminal, variable_terminal, word_terminal, text_terminal, sign_terminal}
+use Rattle.script_grammar.specs.declared.keyword.Keyword.{Keyword}
+use Rattle.script_grammar.specs.declared.keyword.Keyword.TheVariants as word
+use Rattle.script_grammar.specs.Terminals.{Terminal, inline_terminal, variable_terminal, word_terminal, text_terminal, sign_terminal}
 use Rattle.expr_machine.specs.Actions.{Action}
 use Rattle.expr_machine.specs.Machine.{behind}
 use Rattle.expr_machine.specs.Reading.{expr_at}

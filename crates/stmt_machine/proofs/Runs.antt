@@ -1,7 +1,7 @@
 -- What a run makes, move by move.
 use Rattle.std.proofs.Common.{◌≡◌, ℕ, ◌+◌, ◌<◌, zero, suc, List, [], ◌∷◌, ◌++◌, refl, ap, subst, arith, sym, ◌∙◌}
 use Rattle.std.specs.Prelude.{Option, Some, None}
-use Rattle.php_syntax.specs.Terminals.{Terminal}
+use Rattle.script_grammar.specs.Terminals.{Terminal}
 use Rattle.stmt_machine.specs.declared.frame.Focus.{Focus}
 use Rattle.stmt_machine.specs.declared.frame.Frame.{Frame}
 use Rattle.stmt_machine.specs.Actions.{StmtAction}

@@ -2,7 +2,7 @@
 use Rattle.std.specs.Prelude.{ℕ, ◌+◌, ◌&&◌, max, nat_lt, nat_le, Bool, true, false, List, [], ◌∷◌, Option, Some, None, if◌then◌else◌, zero, suc}
 use Rattle.std.specs.Str.{str_to_ascii_lowercase}
 use Rattle.php_syntax.specs.Trees.{MaybeExpr, no_expr, some_expr, PlainExprs, PlainStmt, inline_stmt, echo_stmt, run_stmt, if_stmt, while_stmt, do_while_stmt, for_stmt, each_stmt, break_stmt, continue_stmt, return_stmt, include_stmt, PlainStmts, no_stmts, more_stmts, PlainArms, no_arms, more_arms, PlainParam, PlainFunction, PlainFile}
-use Rattle.php_syntax.specs.Rules.{is_writable, maybe_writable, is_utf8, is_new_name}
+use Rattle.script_grammar.specs.Rules.{is_writable, maybe_writable, is_utf8, is_new_name}
 use Rattle.php_syntax.specs.Height.{stmts_height, params_height}
 use Rattle.expr_machine.specs.Values.{PlainValue, known_value, execute, gather_exprs, take_values}
 use Rattle.stmt_machine.specs.declared.frame.Loop.{Loop}

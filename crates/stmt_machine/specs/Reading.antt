@@ -1,7 +1,7 @@
 -- What a whole run of the machine reads.
 use Rattle.std.specs.Prelude.{ℕ, ◌+◌, ◌*◌, Bool, true, false, List, [], ◌∷◌, ◌++◌, length, Option, Some, None, zero, suc}
-use Rattle.php_syntax.specs.declared.keyword.Keyword.TheVariants as word
-use Rattle.php_syntax.specs.Terminals.{Terminal, word_terminal}
+use Rattle.script_grammar.specs.declared.keyword.Keyword.TheVariants as word
+use Rattle.script_grammar.specs.Terminals.{Terminal, word_terminal}
 use Rattle.stmt_machine.specs.declared.frame.Focus.{Focus}
 use Rattle.stmt_machine.specs.declared.frame.Focus.TheVariants as focus
 use Rattle.stmt_machine.specs.declared.frame.Frame.{Frame}

@@ -13,7 +13,7 @@ use Rattle.std.proofs.lemmas.List.{map-append}
 use Rattle.indexmap.specs.IndexSet.{insert_key}
 use Rattle.php_syntax.specs.declared.tree.Param.{Param}
 use Rattle.php_syntax.specs.Trees.{params_of_list, maybe_of}
-use Rattle.php_syntax.specs.Rules.{is_new_name, is_utf8}
+use Rattle.script_grammar.specs.Rules.{is_new_name, is_utf8}
 use Rattle.php_syntax.specs.Height.{params_height, maybe_height}
 use Rattle.stmt_maker.specs.Names.{ParametersAre}
 use Rattle.stmt_maker.proofs.RowLemmas.{max_three}

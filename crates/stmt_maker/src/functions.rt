@@ -2,7 +2,7 @@
 
 ghost use Rattle.std.specs.Prelude.{◌≡◌, ◌<◌, IfOk, Some, None, [], MatchOption, true, false};
 ghost use Rattle.php_syntax.specs.Trees.{maybe_of, params_of_list};
-ghost use Rattle.php_syntax.specs.Rules.{is_new_name};
+ghost use Rattle.script_grammar.specs.Rules.{is_new_name};
 ghost use Rattle.php_syntax.specs.Height.{maybe_height, params_height};
 ghost use Rattle.stmt_machine.specs.Actions.{function_action, parameter_action, function_body_action, function_end_action};
 ghost use Rattle.stmt_machine.specs.Made as plain;

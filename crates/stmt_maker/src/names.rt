@@ -2,7 +2,7 @@
 
 ghost use Rattle.std.specs.Prelude.{◌≡◌, IfOk};
 ghost use Rattle.std.specs.Str.{str_to_ascii_lowercase};
-ghost use Rattle.php_syntax.specs.Rules as rules;
+ghost use Rattle.script_grammar.specs.Rules as rules;
 
 use std::alloc::Global;
 use text_base::{Bytes, NoMemory};

@@ -1,9 +1,9 @@
 -- Moves where something stands next, whatever it is.
 use Rattle.std.proofs.Common.{◌≡◌, ℕ, List, [], ◌∷◌, ap, sym, ◌∙◌}
 use Rattle.php_syntax.specs.declared.token.Sign.TheVariants as sign
-use Rattle.php_syntax.specs.declared.keyword.Keyword.TheVariants as word
+use Rattle.script_grammar.specs.declared.keyword.Keyword.TheVariants as word
 use Rattle.php_syntax.specs.Trees.{no_expr}
-use Rattle.php_syntax.specs.Terminals.{Terminal, variable_terminal, sign_terminal}
+use Rattle.script_grammar.specs.Terminals.{Terminal, variable_terminal, sign_terminal}
 use Rattle.stmt_machine.specs.declared.frame.Focus.TheVariants as focus
 use Rattle.stmt_machine.specs.declared.frame.Frame.{Frame}
 use Rattle.stmt_machine.specs.Actions.{parameter_action}

@@ -1,9 +1,9 @@
 -- The moves behind an expression, without the action that makes its value, and parts of other moves.
 use Rattle.std.specs.Prelude.{ℕ, ◌+◌, true, false, List, [], ◌∷◌, Option, Some, None, if◌then◌else◌}
 use Rattle.php_syntax.specs.declared.token.Sign.TheVariants as sign
-use Rattle.php_syntax.specs.declared.keyword.Keyword.TheVariants as word
+use Rattle.script_grammar.specs.declared.keyword.Keyword.TheVariants as word
 use Rattle.php_syntax.specs.Trees.{PlainExpr, int_expr, neg_expr, some_expr}
-use Rattle.php_syntax.specs.Terminals.{Terminal, variable_terminal, word_terminal, int_terminal, text_terminal, sign_terminal}
+use Rattle.script_grammar.specs.Terminals.{Terminal, variable_terminal, word_terminal, int_terminal, text_terminal, sign_terminal}
 use Rattle.expr_machine.specs.Machine.{behind}
 use Rattle.stmt_machine.specs.declared.frame.Loop.{Loop}
 use Rattle.stmt_machine.specs.declared.frame.Loop.TheVariants as loop

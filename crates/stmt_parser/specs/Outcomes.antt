@@ -1,6 +1,6 @@
 -- What a move with its actions leads to, and how the code answers it.
 use Rattle.std.specs.Prelude.{◌≡◌, Bool, true, false, List, ◌∷◌, Option, Some, None, if◌then◌else◌}
-use Rattle.php_syntax.specs.Terminals.{Terminal}
+use Rattle.script_grammar.specs.Terminals.{Terminal}
 use Rattle.expr_machine.specs.Actions.{Action}
 use Rattle.expr_machine.specs.Machine.{behind}
 use Rattle.expr_machine.specs.Reading.{executed}

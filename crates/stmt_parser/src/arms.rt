@@ -13,7 +13,7 @@ use crate::heads::behind_word;
 use crate::reads::read_condition;
 use crate::step::{Step, gone, jump, one_more};
 use expr_parser::head::behind_sign;
-use php_syntax::keyword::Keyword;
+use script_grammar::keyword::Keyword;
 use php_syntax::token::{Sign, Token};
 use stacks::Stack;
 use std::alloc::Global;

@@ -1,7 +1,7 @@
 //! The moves where a statement begins.
 
 ghost use Rattle.std.specs.Prelude.{◌≡◌, ◌∷◌, List, Some, None, IfOk};
-ghost use Rattle.php_syntax.specs.Terminals.{sign_terminal, word_terminal};
+ghost use Rattle.script_grammar.specs.Terminals.{sign_terminal, word_terminal};
 ghost use Rattle.expr_machine.specs.Reading.{expr_at};
 ghost use Rattle.expr_parser.specs.Heads.{terminals_of};
 ghost use Rattle.stmt_machine.specs.declared.frame.Frame.{Frame};
@@ -22,7 +22,7 @@ use crate::reads::{read_condition, read_statement, read_value};
 use crate::rows::listed_step;
 use crate::step::{Step, gone};
 use expr_parser::head::{behind_sign, sign_at, variable_at};
-use php_syntax::keyword::Keyword;
+use script_grammar::keyword::Keyword;
 use php_syntax::token::{Sign, Token};
 use stacks::Stack;
 use std::alloc::Global;

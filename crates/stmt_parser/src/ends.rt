@@ -18,7 +18,7 @@ use crate::heads::{behind_word, word_at};
 use crate::reads::read_condition;
 use crate::step::{Step, gone, jump};
 use expr_parser::head::behind_sign;
-use php_syntax::keyword::Keyword;
+use script_grammar::keyword::Keyword;
 use php_syntax::token::{Sign, Token};
 use stacks::Stack;
 use std::alloc::Global;

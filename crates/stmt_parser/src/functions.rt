@@ -9,7 +9,7 @@ ghost use Rattle.stmt_parser.specs.Outcomes.{acted, seen};
 use crate::heads::behind_word;
 use crate::step::{Step, gone};
 use expr_parser::head::{behind_sign, head_at, name_at};
-use php_syntax::keyword::Keyword;
+use script_grammar::keyword::Keyword;
 use php_syntax::token::{Sign, Token};
 use stacks::Stack;
 use std::alloc::Global;

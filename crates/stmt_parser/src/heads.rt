@@ -1,12 +1,12 @@
 //! What else stands at the head of tokens.
 
 ghost use Rattle.std.specs.Prelude.{◌≡◌, ◌≢◌, ◌∷◌, ℕ, ℤ, List, MatchOption};
-ghost use Rattle.php_syntax.specs.Terminals.{Terminal, inline_terminal, int_terminal, word_terminal};
-ghost use Rattle.php_syntax.specs.declared.keyword.Keyword as keywords;
+ghost use Rattle.script_grammar.specs.Terminals.{Terminal, inline_terminal, int_terminal, word_terminal};
+ghost use Rattle.script_grammar.specs.declared.keyword.Keyword as keywords;
 ghost use Rattle.expr_parser.specs.Heads.{terminals_of};
 
 use expr_parser::head::{Head, head_at};
-use php_syntax::keyword::Keyword;
+use script_grammar::keyword::Keyword;
 use php_syntax::token::Token;
 use text_base::Bytes;
 

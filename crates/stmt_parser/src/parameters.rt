@@ -16,7 +16,7 @@ use crate::heads::{int_at, word_at};
 use crate::literal::{Literal, tree_of};
 use crate::step::{Step, gone};
 use expr_parser::head::{behind_sign, head_at, text_at, variable_at};
-use php_syntax::keyword::Keyword;
+use script_grammar::keyword::Keyword;
 use php_syntax::token::{Sign, Token};
 use std::alloc::Global;
 use stmt_machine::frame::Focus;

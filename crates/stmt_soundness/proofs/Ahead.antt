@@ -1,10 +1,10 @@
 -- Where no `else` stands next, no arm of an `if` follows.
 use Rattle.std.proofs.Common.{◌≡◌, Bool, true, false, not, ◌&&◌, List, refl}
-use Rattle.php_syntax.specs.Terminals.{Terminal}
-use Rattle.php_syntax.specs.Expressions.{ExprForm}
-use Rattle.php_syntax.specs.Statements.{StmtForm, if_form, StmtsForm, no_stmts_form, more_stmts_form, ArmsForm, no_arms_form, elseif_form, else_if_form, ElseForm, no_else_form, else_form, ColonArmsForm, no_colon_arms, colon_arm, ColonElseForm, no_colon_else, colon_else, stmts_terminals, arms_terminals, else_terminals, colon_arms_terminals, colon_else_terminals, takes_else, goes_on, colon_goes_on, last_takes_else}
+use Rattle.script_grammar.specs.Terminals.{Terminal}
+use Rattle.script_grammar.specs.Expressions.{ExprForm}
+use Rattle.script_grammar.specs.Statements.{StmtForm, if_form, StmtsForm, no_stmts_form, more_stmts_form, ArmsForm, no_arms_form, elseif_form, else_if_form, ElseForm, no_else_form, else_form, ColonArmsForm, no_colon_arms, colon_arm, ColonElseForm, no_colon_else, colon_else, stmts_terminals, arms_terminals, else_terminals, colon_arms_terminals, colon_else_terminals, takes_else, goes_on, colon_goes_on, last_takes_else}
 use Rattle.stmt_machine.specs.Reading.{else_next}
-use Rattle.php_syntax.specs.declared.keyword.Keyword.TheVariants as word
+use Rattle.script_grammar.specs.declared.keyword.Keyword.TheVariants as word
 use Rattle.stmt_soundness.proofs.Stands.{Arms, arms_left, word_then, last_open}
 
 pub true_false : true ≡ false → ⊥

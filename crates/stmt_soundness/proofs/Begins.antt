@@ -2,10 +2,10 @@
 use Rattle.std.proofs.Common.{ℕ, true, false, List, [], ◌∷◌, ◌++◌, Some, None}
 use Rattle.std.specs.Prelude.{if◌then◌else◌}
 use Rattle.php_syntax.specs.declared.token.Sign.TheVariants as sign
-use Rattle.php_syntax.specs.declared.keyword.Keyword.TheVariants as word
-use Rattle.php_syntax.specs.Terminals.{Terminal, variable_terminal, word_terminal, sign_terminal}
-use Rattle.php_syntax.specs.Expressions.{ExprForm, expr_terminals}
-use Rattle.php_syntax.specs.Statements.{condition_terminals, value_form, key_value_form}
+use Rattle.script_grammar.specs.declared.keyword.Keyword.TheVariants as word
+use Rattle.script_grammar.specs.Terminals.{Terminal, variable_terminal, word_terminal, sign_terminal}
+use Rattle.script_grammar.specs.Expressions.{ExprForm, expr_terminals}
+use Rattle.script_grammar.specs.Statements.{condition_terminals, value_form, key_value_form}
 use Rattle.expr_machine.specs.Postfix.{expr_actions}
 use Rattle.expr_machine.specs.Reading.{expr_at}
 use Rattle.stmt_machine.specs.declared.frame.Loop.{Loop}

@@ -2,11 +2,11 @@
 use Rattle.std.proofs.Common.{◌≡◌, ◌∙◌, ℕ, true, false, List, ◌∷◌, refl, sym}
 use Rattle.std.proofs.lemmas.Bool.{and_from}
 use Rattle.php_syntax.specs.declared.token.Sign.TheVariants as sign
-use Rattle.php_syntax.specs.declared.keyword.Keyword.{Keyword}
-use Rattle.php_syntax.specs.declared.keyword.Keyword.TheVariants as word
-use Rattle.php_syntax.specs.Terminals.{Terminal, inline_terminal, word_terminal, text_terminal, sign_terminal}
-use Rattle.php_syntax.specs.Expressions.{ExprForm, expr_terminals}
-use Rattle.php_syntax.specs.Statements.{condition_terminals, nothing_form, something_form, semicolon_form, inline_form, block_form, print_form, run_form, if_form, colon_if_form, while_form, do_form, break_form, continue_form, return_form, is_include, include_form, include_parens_form, no_stmts_form, more_stmts_form, stmt_body, colon_body, stmt_terminals, takes_else, nearest}
+use Rattle.script_grammar.specs.declared.keyword.Keyword.{Keyword}
+use Rattle.script_grammar.specs.declared.keyword.Keyword.TheVariants as word
+use Rattle.script_grammar.specs.Terminals.{Terminal, inline_terminal, word_terminal, text_terminal, sign_terminal}
+use Rattle.script_grammar.specs.Expressions.{ExprForm, expr_terminals}
+use Rattle.script_grammar.specs.Statements.{condition_terminals, nothing_form, something_form, semicolon_form, inline_form, block_form, print_form, run_form, if_form, colon_if_form, while_form, do_form, break_form, continue_form, return_form, is_include, include_form, include_parens_form, no_stmts_form, more_stmts_form, stmt_body, colon_body, stmt_terminals, takes_else, nearest}
 use Rattle.stmt_machine.specs.declared.frame.Loop.{Loop}
 use Rattle.stmt_machine.specs.declared.frame.Loop.TheVariants as loop
 use Rattle.stmt_machine.specs.Actions.{StmtAction, inline_action, echo_action, open_action, run_action, break_action, continue_action, return_action, include_action, loop_action}

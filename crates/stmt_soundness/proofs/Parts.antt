@@ -2,9 +2,9 @@
 use Rattle.std.proofs.Common.{◌∙◌, ℕ, List, [], ◌∷◌, refl, ap}
 use Rattle.std.proofs.lemmas.Bool.{and_from}
 use Rattle.php_syntax.specs.declared.token.Sign.TheVariants as sign
-use Rattle.php_syntax.specs.declared.keyword.Keyword.TheVariants as word
-use Rattle.php_syntax.specs.Terminals.{Terminal, word_terminal, name_terminal, sign_terminal}
-use Rattle.php_syntax.specs.Statements.{stmt_terminals, stmts_terminals, ParamForm, param_terminals, param_tree, params_terminals, function_form, end_of_file, function_part, stmt_part}
+use Rattle.script_grammar.specs.declared.keyword.Keyword.TheVariants as word
+use Rattle.script_grammar.specs.Terminals.{Terminal, word_terminal, name_terminal, sign_terminal}
+use Rattle.script_grammar.specs.Statements.{stmt_terminals, stmts_terminals, ParamForm, param_terminals, param_tree, params_terminals, function_form, end_of_file, function_part, stmt_part}
 use Rattle.stmt_machine.specs.Actions.{StmtAction, function_action, function_body_action, function_end_action}
 use Rattle.stmt_machine.specs.Postfix.{stmt_actions, stmts_actions, param_actions, params_actions}
 use Rattle.stmt_soundness.proofs.Shapes.{Rest, here}

@@ -2,10 +2,10 @@
 use Rattle.std.proofs.Common.{◌≡◌, ◌==◌, ℕ, ◌+◌, Bool, true, false, List, [], ◌∷◌, refl, subst}
 use Rattle.std.specs.Prelude.{if◌then◌else◌}
 use Rattle.php_syntax.specs.declared.token.Sign.TheVariants as sign
-use Rattle.php_syntax.specs.declared.keyword.Keyword.{Keyword}
-use Rattle.php_syntax.specs.declared.keyword.Keyword.TheVariants as word
-use Rattle.php_syntax.specs.Terminals.{Terminal, variable_terminal, word_terminal, int_terminal, text_terminal, sign_terminal}
-use Rattle.php_syntax.specs.Statements.{int_literal, negated_literal, text_literal, true_literal, false_literal, null_literal, param_form, default_form}
+use Rattle.script_grammar.specs.declared.keyword.Keyword.{Keyword}
+use Rattle.script_grammar.specs.declared.keyword.Keyword.TheVariants as word
+use Rattle.script_grammar.specs.Terminals.{Terminal, variable_terminal, word_terminal, int_terminal, text_terminal, sign_terminal}
+use Rattle.script_grammar.specs.Statements.{int_literal, negated_literal, text_literal, true_literal, false_literal, null_literal, param_form, default_form}
 use Rattle.expr_machine.specs.Machine.{behind}
 use Rattle.expr_machine.specs.Reading.{expr_at}
 use Rattle.stmt_machine.specs.declared.frame.Loop.TheVariants as loop

@@ -2,10 +2,10 @@
 use Rattle.std.proofs.Common.{◌≡◌, ℕ, ◌+◌, Bool, true, false, List, ◌∷◌, refl, ap, subst, arith}
 use Rattle.php_syntax.specs.declared.token.Sign.{Sign}
 use Rattle.php_syntax.specs.declared.token.Sign.TheVariants as sign
-use Rattle.php_syntax.specs.declared.keyword.Keyword.TheVariants as word
-use Rattle.php_syntax.specs.Terminals.{Terminal, word_terminal, sign_terminal}
-use Rattle.php_syntax.specs.Expressions.{ExprForm, no_more_exprs, one_more_expr, ListForm, empty_list, list_form, expr_terminals, more_exprs_terminals, list_terminals}
-use Rattle.php_syntax.specs.Statements.{MaybeForm, nothing_form, something_form, maybe_terminals, VariablesForm, variables_terminals, key_variable, value_variable, echo_form, for_form, each_form, BodyForm, stmt_terminals, body_terminals, takes_else, nearest}
+use Rattle.script_grammar.specs.declared.keyword.Keyword.TheVariants as word
+use Rattle.script_grammar.specs.Terminals.{Terminal, word_terminal, sign_terminal}
+use Rattle.script_grammar.specs.Expressions.{ExprForm, no_more_exprs, one_more_expr, ListForm, empty_list, list_form, expr_terminals, more_exprs_terminals, list_terminals}
+use Rattle.script_grammar.specs.Statements.{MaybeForm, nothing_form, something_form, maybe_terminals, VariablesForm, variables_terminals, key_variable, value_variable, echo_form, for_form, each_form, BodyForm, stmt_terminals, body_terminals, takes_else, nearest}
 use Rattle.expr_machine.specs.Postfix.{exprs_count}
 use Rattle.stmt_machine.specs.declared.frame.Loop.TheVariants as loop
 use Rattle.stmt_machine.specs.Actions.{StmtAction, open_action, echo_action, loop_action}

@@ -1,6 +1,6 @@
 -- What can be read at the front, with its actions, what holds of it before what is left, and what is done with the rest.
 use Rattle.std.proofs.Common.{◌≡◌, ◌∙◌, List, refl, sym, ap, subst}
-use Rattle.php_syntax.specs.Terminals.{Terminal}
+use Rattle.script_grammar.specs.Terminals.{Terminal}
 use Rattle.stmt_machine.specs.Actions.{StmtAction}
 
 -- what may be said of the terminals left to read and the actions left to do

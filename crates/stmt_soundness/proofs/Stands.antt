@@ -2,11 +2,11 @@
 use Rattle.std.proofs.Common.{◌≡◌, ℕ, ◌+◌, Bool, true, false, not, ◌&&◌, List, [], ◌∷◌, ◌++◌}
 use Rattle.php_syntax.specs.declared.token.Sign.{Sign}
 use Rattle.php_syntax.specs.declared.token.Sign.TheVariants as sign
-use Rattle.php_syntax.specs.declared.keyword.Keyword.{Keyword}
-use Rattle.php_syntax.specs.declared.keyword.Keyword.TheVariants as word
-use Rattle.php_syntax.specs.Terminals.{Terminal, word_terminal, sign_terminal}
-use Rattle.php_syntax.specs.Expressions.{MoreExprsForm, no_more_exprs, more_exprs_terminals, list_terminals}
-use Rattle.php_syntax.specs.Statements.{condition_terminals, maybe_terminals, StmtForm, StmtsForm, ArmsForm, ElseForm, no_else_form, else_form, ColonArmsForm, ColonElseForm, BodyForm, stmt_terminals, stmts_terminals, arms_terminals, else_terminals, colon_arms_terminals, colon_else_terminals, body_terminals, takes_else, body_takes_else, goes_on, colon_goes_on, last_takes_else, nearest, all_nearest, arms_nearest, else_nearest, colon_arms_nearest, colon_else_nearest, body_nearest, ParamForm, param_terminals, param_tree, more_params_terminals, params_terminals, FileForm, file_terminals, file_nearest}
+use Rattle.script_grammar.specs.declared.keyword.Keyword.{Keyword}
+use Rattle.script_grammar.specs.declared.keyword.Keyword.TheVariants as word
+use Rattle.script_grammar.specs.Terminals.{Terminal, word_terminal, sign_terminal}
+use Rattle.script_grammar.specs.Expressions.{MoreExprsForm, no_more_exprs, more_exprs_terminals, list_terminals}
+use Rattle.script_grammar.specs.Statements.{condition_terminals, maybe_terminals, StmtForm, StmtsForm, ArmsForm, ElseForm, no_else_form, else_form, ColonArmsForm, ColonElseForm, BodyForm, stmt_terminals, stmts_terminals, arms_terminals, else_terminals, colon_arms_terminals, colon_else_terminals, body_terminals, takes_else, body_takes_else, goes_on, colon_goes_on, last_takes_else, nearest, all_nearest, arms_nearest, else_nearest, colon_arms_nearest, colon_else_nearest, body_nearest, ParamForm, param_terminals, param_tree, more_params_terminals, params_terminals, FileForm, file_terminals, file_nearest}
 use Rattle.expr_machine.specs.Postfix.{exprs_count}
 use Rattle.stmt_machine.specs.declared.frame.Loop.{Loop}
 use Rattle.stmt_machine.specs.declared.frame.Loop.TheVariants as loop

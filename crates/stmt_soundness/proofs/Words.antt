@@ -2,10 +2,10 @@
 use Rattle.std.proofs.Common.{◌≡◌, true, List, ◌∷◌, refl}
 use Rattle.php_syntax.specs.declared.token.Sign.{Sign}
 use Rattle.php_syntax.specs.declared.token.Sign.TheVariants as sign
-use Rattle.php_syntax.specs.declared.keyword.Keyword.{Keyword}
-use Rattle.php_syntax.specs.declared.keyword.Keyword.TheVariants as word
-use Rattle.php_syntax.specs.Terminals.{Terminal, inline_terminal, word_terminal, text_terminal, sign_terminal}
-use Rattle.php_syntax.specs.Statements.{is_include}
+use Rattle.script_grammar.specs.declared.keyword.Keyword.{Keyword}
+use Rattle.script_grammar.specs.declared.keyword.Keyword.TheVariants as word
+use Rattle.script_grammar.specs.Terminals.{Terminal, inline_terminal, word_terminal, text_terminal, sign_terminal}
+use Rattle.script_grammar.specs.Statements.{is_include}
 use Rattle.stmt_machine.specs.declared.frame.Row.TheVariants as row
 use Rattle.stmt_machine.specs.declared.frame.Frame.{Frame}
 use Rattle.stmt_machine.specs.Actions.{echo_action, break_action, continue_action, include_action}

@@ -1,10 +1,10 @@
-//! What the machine of `stmt_machine` reads is a file of `php_syntax`. The function does nothing of its own, and stands for the
+//! What the machine of `stmt_machine` reads is a file of `script_grammar`. The function does nothing of its own, and stands for the
 //! law that its contract states.
 #![tactic(auto)]
 
 ghost use Rattle.std.specs.Prelude.{◌≡◌, true, List, Some};
-ghost use Rattle.php_syntax.specs.Terminals.{Terminal};
-ghost use Rattle.php_syntax.specs.Statements.{FileForm, file_terminals, file_nearest};
+ghost use Rattle.script_grammar.specs.Terminals.{Terminal};
+ghost use Rattle.script_grammar.specs.Statements.{FileForm, file_terminals, file_nearest};
 ghost use Rattle.stmt_machine.specs.Actions.{StmtAction};
 ghost use Rattle.stmt_machine.specs.Postfix.{file_actions};
 ghost use Rattle.stmt_machine.specs.Reading.{file_at};

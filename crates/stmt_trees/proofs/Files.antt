@@ -2,9 +2,9 @@
 use Rattle.std.proofs.Common.{◌≡◌, ◌∙◌, ℕ, suc, ◌+◌, Bool, true, false, List, [], ◌∷◌, refl, ap, arith, Some, None}
 use Rattle.std.specs.Prelude.{Option, ◌&&◌, if◌then◌else◌, nat_le, max}
 use Rattle.std.proofs.Math.Nat.{max-zero, zero-max}
-use Rattle.php_syntax.specs.Statements.{StmtForm, stmt_trees, function_tree, FileForm, end_of_file, function_part, stmt_part, file_stmts, file_functions, file_tree}
+use Rattle.script_grammar.specs.Statements.{StmtForm, stmt_trees, function_tree, FileForm, end_of_file, function_part, stmt_part, file_stmts, file_functions, file_tree}
 use Rattle.php_syntax.specs.Trees.{PlainStmts, PlainFunction, PlainFile}
-use Rattle.php_syntax.specs.Rules.{stmts_fit, params_fit, functions_fit, file_fits}
+use Rattle.script_grammar.specs.Rules.{stmts_fit, params_fit, functions_fit, file_fits}
 use Rattle.php_syntax.specs.Height.{stmts_height, functions_height, file_height}
 use Rattle.stmt_machine.specs.Actions.{StmtAction}
 use Rattle.stmt_machine.specs.Postfix.{stmt_actions, file_actions}

@@ -1,9 +1,9 @@
 -- A function: its parameters and its body.
 use Rattle.std.proofs.Common.{◌≡◌, ◌∙◌, ℕ, suc, ◌+◌, Bool, true, false, List, [], ◌∷◌, refl, ap, arith, add-one, Some, None}
 use Rattle.std.specs.Prelude.{◌&&◌, if◌then◌else◌, nat_le, nat_lt, max}
-use Rattle.php_syntax.specs.Statements.{params_trees, stmts_trees, FunctionForm, function_form, function_tree}
+use Rattle.script_grammar.specs.Statements.{params_trees, stmts_trees, FunctionForm, function_form, function_tree}
 use Rattle.php_syntax.specs.Trees.{PlainParam, PlainStmts, no_stmts, PlainFunction}
-use Rattle.php_syntax.specs.Rules.{stmts_fit, params_fit}
+use Rattle.script_grammar.specs.Rules.{stmts_fit, params_fit}
 use Rattle.php_syntax.specs.Height.{stmts_height, params_height}
 use Rattle.expr_machine.specs.Values.{PlainValue}
 use Rattle.stmt_machine.specs.Actions.{StmtAction, function_action, function_body_action, function_end_action}

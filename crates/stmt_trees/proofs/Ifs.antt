@@ -1,9 +1,9 @@
 -- An `if` with its arms and its `else`.
 use Rattle.std.proofs.Common.{◌≡◌, ◌∙◌, ℕ, ◌+◌, Bool, true, false, List, [], ◌∷◌, refl}
 use Rattle.std.specs.Prelude.{◌&&◌}
-use Rattle.php_syntax.specs.Expressions.{ExprForm, expr_tree}
+use Rattle.script_grammar.specs.Expressions.{ExprForm, expr_tree}
 use Rattle.php_syntax.specs.Trees.{PlainStmts, no_stmts, PlainArms, no_arms, more_arms, if_stmt}
-use Rattle.php_syntax.specs.Rules.{expr_fits, stmt_fits, stmts_fit, arms_fit}
+use Rattle.script_grammar.specs.Rules.{expr_fits, stmt_fits, stmts_fit, arms_fit}
 use Rattle.php_syntax.specs.Height.{stmt_height}
 use Rattle.expr_machine.specs.Values.{PlainValue, value_of_tree, take_values}
 use Rattle.stmt_machine.specs.Actions.{StmtAction, open_action, if_action}

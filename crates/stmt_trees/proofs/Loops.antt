@@ -1,10 +1,10 @@
 -- Loops: their conditions and bodies.
 use Rattle.std.proofs.Common.{◌≡◌, ◌∙◌, ℕ, Bool, true, false, List, [], ◌∷◌, refl, ap, Some}
 use Rattle.std.specs.Prelude.{Option, ◌&&◌, if◌then◌else◌, max}
-use Rattle.php_syntax.specs.Expressions.{ExprForm, ListForm, expr_tree, list_tree}
-use Rattle.php_syntax.specs.Statements.{MaybeForm, maybe_tree}
+use Rattle.script_grammar.specs.Expressions.{ExprForm, ListForm, expr_tree, list_tree}
+use Rattle.script_grammar.specs.Statements.{MaybeForm, maybe_tree}
 use Rattle.php_syntax.specs.Trees.{PlainExpr, MaybeExpr, PlainExprs, PlainStmts, while_stmt, do_while_stmt, for_stmt, each_stmt}
-use Rattle.php_syntax.specs.Rules.{expr_fits, maybe_writable, is_writable, stmt_fits, stmts_fit}
+use Rattle.script_grammar.specs.Rules.{expr_fits, maybe_writable, is_writable, stmt_fits, stmts_fit}
 use Rattle.php_syntax.specs.Height.{height, exprs_height, maybe_height, stmt_height, stmts_height}
 use Rattle.expr_machine.specs.Values.{PlainValue, value_of_tree, take_values, gather_exprs}
 use Rattle.stmt_machine.specs.declared.frame.Loop.TheVariants as loop

@@ -2,7 +2,7 @@
 use Rattle.std.proofs.Common.{◌≡◌, ℕ, Bool, true, false, List, refl, Some, None}
 use Rattle.std.specs.Prelude.{Option, if◌then◌else◌, nat_le, max}
 use Rattle.php_syntax.specs.Trees.{PlainExpr, MaybeExpr, some_expr, PlainExprs, echo_stmt, run_stmt, if_stmt, while_stmt, do_while_stmt, for_stmt, each_stmt, return_stmt, PlainStmts, PlainArms, more_arms}
-use Rattle.php_syntax.specs.Rules.{is_place}
+use Rattle.script_grammar.specs.Rules.{is_place}
 use Rattle.php_syntax.specs.Height.{height, exprs_height, maybe_height, stmts_height, arms_height}
 use Rattle.expr_machine.specs.Values.{known_value, tall_value, value_of_tree}
 use Rattle.stmt_machine.specs.Made.{row_of, add_arm, echo_node, run_node, return_node, if_node, while_node, do_node, each_node, for_node}

@@ -2,10 +2,10 @@
 use Rattle.std.proofs.Common.{◌≡◌, ◌∙◌, ℕ, Bool, true, false, List, [], ◌∷◌, refl, ap, sym, Some, None}
 use Rattle.std.specs.Prelude.{not, ◌&&◌, if◌then◌else◌}
 use Rattle.std.proofs.lemmas.Cmp.{nat_list_eq_equiv}
-use Rattle.php_syntax.specs.Terminals.{same_bytes}
+use Rattle.script_grammar.specs.Terminals.{same_bytes}
 use Rattle.php_syntax.specs.Trees.{PlainParam}
-use Rattle.php_syntax.specs.Statements.{ParamForm, param_tree, params_trees}
-use Rattle.php_syntax.specs.Rules.{is_writable, is_new_name, params_fit}
+use Rattle.script_grammar.specs.Statements.{ParamForm, param_tree, params_trees}
+use Rattle.script_grammar.specs.Rules.{is_writable, is_new_name, params_fit}
 use Rattle.expr_machine.specs.Values.{PlainValue}
 use Rattle.stmt_machine.specs.Actions.{StmtAction}
 use Rattle.stmt_machine.specs.Postfix.{param_actions, params_actions}

@@ -1,7 +1,7 @@
 -- What runs over statements do, with what stands behind them.
 use Rattle.std.proofs.Common.{Bool, List, ◌∷◌, refl, ap}
 use Rattle.php_syntax.specs.Trees.{PlainStmt, PlainStmts, no_stmts, more_stmts}
-use Rattle.php_syntax.specs.Rules.{stmt_fits, stmts_fit}
+use Rattle.script_grammar.specs.Rules.{stmt_fits, stmts_fit}
 use Rattle.expr_machine.specs.Values.{PlainValue}
 use Rattle.stmt_machine.specs.Actions.{StmtAction}
 use Rattle.stmt_machine.specs.Made.{Row, row_of, PlainBody, Functions, execute_stmts}

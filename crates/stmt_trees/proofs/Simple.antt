@@ -1,10 +1,10 @@
 -- Statements of one part: texts, values and jumps.
 use Rattle.std.proofs.Common.{◌≡◌, ◌∙◌, ℕ, ◌+◌, Bool, true, false, List, [], ◌∷◌, refl, ap, arith, Some, None}
 use Rattle.std.specs.Prelude.{◌&&◌, if◌then◌else◌}
-use Rattle.php_syntax.specs.Expressions.{ExprForm, MoreExprsForm, expr_tree, more_exprs_tree}
-use Rattle.php_syntax.specs.Statements.{MaybeForm, nothing_form, something_form, maybe_tree}
+use Rattle.script_grammar.specs.Expressions.{ExprForm, MoreExprsForm, expr_tree, more_exprs_tree}
+use Rattle.script_grammar.specs.Statements.{MaybeForm, nothing_form, something_form, maybe_tree}
 use Rattle.php_syntax.specs.Trees.{PlainExpr, no_expr, some_expr, PlainExprs, no_exprs, more_exprs, PlainStmt, inline_stmt, echo_stmt, run_stmt, break_stmt, continue_stmt, return_stmt, include_stmt}
-use Rattle.php_syntax.specs.Rules.{expr_fits, stmt_fits, is_utf8}
+use Rattle.script_grammar.specs.Rules.{expr_fits, stmt_fits, is_utf8}
 use Rattle.php_syntax.specs.Height.{height, exprs_height, stmt_height}
 use Rattle.expr_machine.specs.Postfix.{exprs_count}
 use Rattle.expr_machine.specs.Values.{PlainValue, value_of_tree, take_values, gather_exprs}

@@ -1,6 +1,6 @@
 -- The actions of statements make their trees.
-use Rattle.php_syntax.specs.Expressions.{expr_tree, more_exprs_tree, list_tree}
-use Rattle.php_syntax.specs.Statements.{maybe_tree, key_variable, value_variable, StmtForm, semicolon_form, inline_form, block_form, echo_form, print_form, run_form, if_form, colon_if_form, while_form, do_form, for_form, each_form, break_form, continue_form, return_form, include_form, include_parens_form, StmtsForm, no_stmts_form, more_stmts_form, ArmsForm, no_arms_form, elseif_form, else_if_form, ElseForm, no_else_form, else_form, ColonArmsForm, no_colon_arms, colon_arm, ColonElseForm, no_colon_else, colon_else, BodyForm, stmt_body, colon_body, stmt_trees, stmts_trees, arms_tree, else_tree, colon_arms_tree, colon_else_tree, body_tree}
+use Rattle.script_grammar.specs.Expressions.{expr_tree, more_exprs_tree, list_tree}
+use Rattle.script_grammar.specs.Statements.{maybe_tree, key_variable, value_variable, StmtForm, semicolon_form, inline_form, block_form, echo_form, print_form, run_form, if_form, colon_if_form, while_form, do_form, for_form, each_form, break_form, continue_form, return_form, include_form, include_parens_form, StmtsForm, no_stmts_form, more_stmts_form, ArmsForm, no_arms_form, elseif_form, else_if_form, ElseForm, no_else_form, else_form, ColonArmsForm, no_colon_arms, colon_arm, ColonElseForm, no_colon_else, colon_else, BodyForm, stmt_body, colon_body, stmt_trees, stmts_trees, arms_tree, else_tree, colon_arms_tree, colon_else_tree, body_tree}
 use Rattle.php_syntax.specs.Trees.{inline_stmt, echo_stmt, run_stmt, if_stmt, while_stmt, do_while_stmt, for_stmt, each_stmt, break_stmt, continue_stmt, return_stmt, include_stmt, no_stmts, more_arms, no_exprs, more_exprs}
 use Rattle.stmt_machine.specs.Postfix.{stmt_actions, stmts_actions, arms_actions, else_actions, colon_arms_actions, colon_else_actions, body_actions}
 use Rattle.stmt_trees.proofs.States.{Premise}

@@ -1,9 +1,9 @@
 -- States of what was made, and how values come onto them.
 use Rattle.std.proofs.Common.{◌≡◌, ◌∙◌, ℕ, Bool, true, false, List, [], ◌∷◌, refl, ap, Some, None}
 use Rattle.std.specs.Prelude.{Option, if◌then◌else◌}
-use Rattle.php_syntax.specs.Expressions.{ExprForm, MoreExprsForm, no_more_exprs, one_more_expr, ListForm, empty_list, list_form, expr_tree, more_exprs_tree, list_tree}
-use Rattle.php_syntax.specs.Statements.{MaybeForm, nothing_form, something_form, maybe_tree}
-use Rattle.php_syntax.specs.Rules.{expr_fits, exprs_fit, maybe_fits}
+use Rattle.script_grammar.specs.Expressions.{ExprForm, MoreExprsForm, no_more_exprs, one_more_expr, ListForm, empty_list, list_form, expr_tree, more_exprs_tree, list_tree}
+use Rattle.script_grammar.specs.Statements.{MaybeForm, nothing_form, something_form, maybe_tree}
+use Rattle.script_grammar.specs.Rules.{expr_fits, exprs_fit, maybe_fits}
 use Rattle.php_syntax.specs.Trees.{MaybeExpr, no_expr, some_expr, PlainExprs, no_exprs, more_exprs, no_stmts, PlainParam}
 use Rattle.expr_machine.specs.Actions.{Action}
 use Rattle.expr_machine.specs.Postfix.{expr_actions}

@@ -2,9 +2,9 @@
 use Rattle.std.proofs.Common.{◌≡◌, ◌∙◌, ℕ, suc, ◌+◌, Bool, true, false, List, [], ◌∷◌, refl, ap, arith, Some, None}
 use Rattle.std.specs.Prelude.{if◌then◌else◌, nat_le, max}
 use Rattle.php_syntax.specs.Trees.{PlainExpr, MaybeExpr, no_expr, some_expr, PlainExprs, no_exprs, more_exprs}
-use Rattle.php_syntax.specs.Expressions.{MoreExprsForm, no_more_exprs, one_more_expr, ListForm, empty_list, list_form, more_exprs_tree, list_tree, expr_tree}
-use Rattle.php_syntax.specs.Statements.{MaybeForm, nothing_form, something_form, maybe_tree}
-use Rattle.php_syntax.specs.Rules.{is_place}
+use Rattle.script_grammar.specs.Expressions.{MoreExprsForm, no_more_exprs, one_more_expr, ListForm, empty_list, list_form, more_exprs_tree, list_tree, expr_tree}
+use Rattle.script_grammar.specs.Statements.{MaybeForm, nothing_form, something_form, maybe_tree}
+use Rattle.script_grammar.specs.Rules.{is_place}
 use Rattle.php_syntax.specs.Height.{height, exprs_height, maybe_height}
 use Rattle.expr_machine.specs.Postfix.{exprs_count}
 use Rattle.expr_machine.specs.Values.{PlainValue, known_value, tall_value, value_of_tree, add_expr, gather_exprs, take_values}

@@ -3,8 +3,8 @@
 #![tactic(auto)]
 
 ghost use Rattle.std.specs.Prelude.{◌≡◌, Some, None, nat_le, if◌then◌else◌};
-ghost use Rattle.php_syntax.specs.Statements.{FileForm, file_tree};
-ghost use Rattle.php_syntax.specs.Rules.{file_fits};
+ghost use Rattle.script_grammar.specs.Statements.{FileForm, file_tree};
+ghost use Rattle.script_grammar.specs.Rules.{file_fits};
 ghost use Rattle.php_syntax.specs.Height.{file_height};
 ghost use Rattle.stmt_machine.specs.Postfix.{file_actions};
 ghost use Rattle.stmt_machine.specs.Made.{on_some, execute_stmts, nothing_made, file_of};

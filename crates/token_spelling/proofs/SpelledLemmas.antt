@@ -7,15 +7,16 @@ use Rattle.std.proofs.lemmas.Bool.Decides.{nat_tests}
 use Rattle.php_syntax.specs.declared.token.Sign.{Sign}
 use Rattle.php_syntax.specs.declared.token.Sign.TheVariants as s
 use Rattle.php_syntax.specs.Tokens.{name, variable, sign, text, integer}
-use Rattle.php_syntax.specs.Characters.{is_name_start, is_name_byte, is_digit, head_is, name_length, value_of, largest, digits_length}
-use Rattle.php_syntax.specs.Steps.{inside, goes, gives}
-use Rattle.php_syntax.specs.Cuts.{step, lexeme_step, between_step, word_step, text_step, mark_step, blank_step, line_comment_step, block_comment_step, leaving_step}
-use Rattle.php_syntax.specs.Words.{name_step, variable_step, number_step, has_leading_zero, goes_on_as_float, digits_step}
-use Rattle.php_syntax.specs.Signs.{spelling_of, sign_step, cast_step}
-use Rattle.php_syntax.specs.Texts.{single_step, double_step, single_at}
-use Rattle.php_syntax.specs.Rows.{row, whole}
+use Rattle.lexical_grammar.specs.Characters.{is_name_start, is_name_byte, is_digit, head_is, name_length, value_of, largest, digits_length}
+use Rattle.lexical_grammar.specs.Steps.{inside, goes, gives}
+use Rattle.lexical_grammar.specs.Cuts.{step, lexeme_step, between_step, word_step, text_step, mark_step, blank_step, line_comment_step, block_comment_step, leaving_step}
+use Rattle.lexical_grammar.specs.Words.{name_step, variable_step, number_step, has_leading_zero, goes_on_as_float, digits_step}
+use Rattle.php_syntax.specs.Spelling.{spelling_of}
+use Rattle.lexical_grammar.specs.Signs.{sign_step, cast_step}
+use Rattle.lexical_grammar.specs.Texts.{single_step, double_step, single_at}
+use Rattle.lexical_grammar.specs.Rows.{row, whole}
 use Rattle.token_spelling.specs.Spelled.{IsName, IsInteger, EndsName, EndsInteger, quoted}
-use Rattle.php_syntax.specs.Heredocs.{heredoc_step, nowdoc_step}
+use Rattle.lexical_grammar.specs.Heredocs.{heredoc_step, nowdoc_step}
 
 -- a letter or an underscore is beyond the signs and blanks
 pub name_start_high : (b : ℕ) → is_name_start b ≡ true → 64 < b

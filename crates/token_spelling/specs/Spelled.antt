@@ -1,8 +1,8 @@
 -- How tokens are spelled by whoever writes them.
 use Rattle.std.specs.Prelude.{◌≡◌, ℕ, ◌≤◌, true, false, ◌||◌, ◌==◌, if◌then◌else◌, List, [], ◌∷◌}
 use Rattle.std.specs.List.{list_all}
-use Rattle.php_syntax.specs.Characters.{is_name_start, is_name_byte, is_digit, value_of, largest, head_is}
-use Rattle.php_syntax.specs.Words.{has_leading_zero, goes_on_as_float}
+use Rattle.lexical_grammar.specs.Characters.{is_name_start, is_name_byte, is_digit, value_of, largest, head_is}
+use Rattle.lexical_grammar.specs.Words.{has_leading_zero, goes_on_as_float}
 
 -- a name: a letter or an underscore, and then letters, digits and underscores
 abbrev pub IsName : List ℕ → Type 0

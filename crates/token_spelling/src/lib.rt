@@ -1,16 +1,17 @@
 //! Names, variables, integers, texts and signs are cut as whoever writes them spells them: what a
 //! writer of scripts owes its reader. Each function does nothing, and stands for the law that its
-//! contract states, over `step` and so over `Cuts` of php_syntax, which alone stands below.
+//! contract states, over `step` and so over `Cuts` of lexical_grammar, which stands below.
 #![tactic(auto)]
 
 ghost use Rattle.std.specs.Prelude.{◌≡◌, ◌≢◌, ◌∷◌, ◌++◌, ◌+◌, ℕ, suc, pos, List, length, Some, None};
 ghost use Rattle.php_syntax.specs.Tokens.{name, variable, integer, text, sign};
-ghost use Rattle.php_syntax.specs.Characters.{value_of};
-ghost use Rattle.php_syntax.specs.Signs.{spelling_of, cast_step};
+ghost use Rattle.lexical_grammar.specs.Characters.{value_of};
+ghost use Rattle.php_syntax.specs.Spelling.{spelling_of};
+ghost use Rattle.lexical_grammar.specs.Signs.{cast_step};
 ghost use Rattle.php_syntax.specs.declared.token.Sign.{Sign};
 ghost use Rattle.php_syntax.specs.declared.token.Sign.TheVariants as signs;
-ghost use Rattle.php_syntax.specs.Steps.{inside, goes};
-ghost use Rattle.php_syntax.specs.Cuts.{step};
+ghost use Rattle.lexical_grammar.specs.Steps.{inside, goes};
+ghost use Rattle.lexical_grammar.specs.Cuts.{step};
 ghost use Rattle.token_spelling.specs.Spelled.{IsName, IsInteger, EndsName, EndsInteger, quoted};
 
 /// A name is cut as a name, where nothing goes on with it.

@@ -5,7 +5,7 @@ use Rattle.expr_machine.specs.Machine.{Move, moves}
 use Rattle.expr_parser.specs.Heads.{terminals_of}
 use Rattle.expr_parser.proofs.ActedLemmas.{step_nothing}
 use Rattle.expr_parser.proofs.PassedLemmas.{passed, passed_frames}
-use Rattle.php_syntax.specs.Operators as operator
+use Rattle.script_grammar.specs.Operators as operator
 use Rattle.expr_parser.proofs.begin.sign_move.Goals as goal
 
 pub returns-in_ok-push-in-Some : goal.returns-in_ok-push-in-Some

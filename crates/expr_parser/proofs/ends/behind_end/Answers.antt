@@ -1,6 +1,6 @@
 use Rattle.std.proofs.Common.{◌∷◌, ap, ◌∙◌}
 use Rattle.php_syntax.specs.declared.token.Sign.TheVariants as sign
-use Rattle.php_syntax.specs.Terminals.{sign_terminal, text_terminal}
+use Rattle.script_grammar.specs.Terminals.{sign_terminal, text_terminal}
 use Rattle.expr_parser.specs.Heads.{terminals_of, quotes_end}
 use Rattle.expr_parser.proofs.NextLemmas as nl
 use Rattle.expr_parser.proofs.ItemLemmas as il

@@ -1,6 +1,6 @@
 use Rattle.std.proofs.Common.{◌∷◌, ap, ◌∙◌}
 use Rattle.php_syntax.specs.declared.token.Sign.TheVariants as sign
-use Rattle.php_syntax.specs.Terminals.{sign_terminal}
+use Rattle.script_grammar.specs.Terminals.{sign_terminal}
 use Rattle.expr_machine.specs.Machine as machine
 use Rattle.expr_machine.specs.Machine.{Move, moves}
 use Rattle.expr_parser.specs.Heads.{terminals_of}

@@ -1,5 +1,5 @@
 use Rattle.std.proofs.Common.{◌+◌, [], ◌∷◌, refl, ap, sym, ◌∙◌}
-use Rattle.php_syntax.specs.declared.operator.Level.TheVariants as level
+use Rattle.script_grammar.specs.declared.operator.Level.TheVariants as level
 use Rattle.expr_machine.specs.declared.frame.Focus.TheVariants as focus
 use Rattle.expr_machine.specs.declared.frame.Frame.TheVariants as frame
 use Rattle.expr_machine.specs.Machine as machine

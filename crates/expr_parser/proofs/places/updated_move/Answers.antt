@@ -4,7 +4,7 @@ use Rattle.expr_machine.specs.Machine as machine
 use Rattle.expr_machine.specs.Machine.{Move, moves}
 use Rattle.expr_parser.specs.Heads.{terminals_of}
 use Rattle.expr_parser.proofs.PassedLemmas.{passed}
-use Rattle.php_syntax.specs.Operators as operator
+use Rattle.script_grammar.specs.Operators as operator
 use Rattle.expr_parser.proofs.places.updated_move.Goals as goal
 
 pub returns-in-Some : goal.returns-in-Some

@@ -1,5 +1,5 @@
 use Rattle.std.proofs.Common.{◌≡◌, ◌+◌, drop, codes}
-use Rattle.php_syntax.specs.Characters.{before, begins}
+use Rattle.lexical_grammar.specs.Characters.{before, begins}
 use Rattle.php_lexer.proofs.blanks.block_length.Given as goal
 
 abbrev pub invariant-loop-n : goal.invariant-loop-n

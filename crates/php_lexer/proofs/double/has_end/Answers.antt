@@ -1,5 +1,5 @@
 use Rattle.std.proofs.Common.{refl}
-use Rattle.php_syntax.specs.Texts.{unit_at}
+use Rattle.lexical_grammar.specs.Texts.{unit_at}
 use Rattle.php_lexer.specs.Templates.{enclosure_of, unit_of}
 use Rattle.php_lexer.proofs.PartLemmas.{end_past_item, end_past_wrong, end_over, end_missing}
 use Rattle.php_lexer.proofs.double.has_end.Goals as goal

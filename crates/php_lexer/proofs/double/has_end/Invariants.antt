@@ -1,6 +1,6 @@
 use Rattle.std.proofs.Common.{◌≡◌, ◌-◌, ◌≤◌, length, drop}
-use Rattle.php_syntax.specs.Rows.{row}
-use Rattle.php_syntax.specs.Texts.{unit_at}
+use Rattle.lexical_grammar.specs.Rows.{row}
+use Rattle.lexical_grammar.specs.Texts.{unit_at}
 use Rattle.php_lexer.specs.Templates.{enclosure_of, has_end_of}
 use Rattle.php_lexer.proofs.double.has_end.Given as goal
 

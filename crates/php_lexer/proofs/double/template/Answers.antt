@@ -1,6 +1,6 @@
 use Rattle.std.proofs.Common.{map, sym, ◌∙◌, arith}
 use Rattle.php_syntax.specs.Tokens.{plain_part_of}
-use Rattle.php_syntax.specs.Texts.{unit_at}
+use Rattle.lexical_grammar.specs.Texts.{unit_at}
 use Rattle.php_lexer.specs.Templates.{enclosure_of, unit_of}
 use Rattle.php_lexer.proofs.PartLemmas.{parts_unit, parts_over, parts_missing, parts_broken, parts_endless}
 use Rattle.php_lexer.proofs.double.template.Goals as goal

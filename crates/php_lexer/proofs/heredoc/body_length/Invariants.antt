@@ -1,6 +1,6 @@
 use Rattle.std.proofs.Common.{◌≡◌, ◌+◌, drop}
-use Rattle.php_syntax.specs.Characters.{before}
-use Rattle.php_syntax.specs.Heredocs.{ends_body}
+use Rattle.lexical_grammar.specs.Characters.{before}
+use Rattle.lexical_grammar.specs.Heredocs.{ends_body}
 use Rattle.php_lexer.proofs.heredoc.body_length.Given as goal
 
 abbrev pub invariant-loop-n : goal.invariant-loop-n

@@ -1,6 +1,6 @@
 use Rattle.std.proofs.Common.{◌≡◌, ◌+◌, drop}
-use Rattle.php_syntax.specs.Characters.{before}
-use Rattle.php_syntax.specs.Heredocs.{indented_line}
+use Rattle.lexical_grammar.specs.Characters.{before}
+use Rattle.lexical_grammar.specs.Heredocs.{indented_line}
 use Rattle.php_lexer.proofs.heredoc.indented_place.Given as goal
 
 abbrev pub invariant-loop-n : goal.invariant-loop-n

@@ -1,6 +1,6 @@
 use Rattle.std.proofs.Common.{map, arith}
 use Rattle.php_syntax.specs.Tokens.{plain_key}
-use Rattle.php_syntax.specs.Texts.{subscript_at}
+use Rattle.lexical_grammar.specs.Texts.{subscript_at}
 use Rattle.php_lexer.proofs.RowLemmas.{row_item, row_over, row_wrong, row_missing, row_cut_off}
 use Rattle.php_lexer.proofs.KeyLemmas.{map_pushed, whole_is, endless_is, spoiled_is, no_subscript}
 use Rattle.php_lexer.proofs.keys.subscripts.Goals as goal

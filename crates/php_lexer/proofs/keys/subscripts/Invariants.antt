@@ -1,6 +1,6 @@
 use Rattle.std.proofs.Common.{◌≡◌, ◌-◌, ◌≤◌, length, drop, map}
-use Rattle.php_syntax.specs.Rows.{row}
-use Rattle.php_syntax.specs.Texts.{subscript_at}
+use Rattle.lexical_grammar.specs.Rows.{row}
+use Rattle.lexical_grammar.specs.Texts.{subscript_at}
 use Rattle.php_syntax.specs.Tokens.{plain_key}
 use Rattle.php_lexer.proofs.RowLemmas.{ahead}
 use Rattle.php_lexer.proofs.keys.subscripts.Given as goal

@@ -1,6 +1,6 @@
 use Rattle.std.proofs.Common.{◌∙◌, ◌+◌, option_map, inl}
 use Rattle.php_syntax.specs.Tokens.{plain_kind, plain_tokens}
-use Rattle.php_syntax.proofs.CutLemmas.{cut_once, never_both}
+use Rattle.lexical_grammar.proofs.CutLemmas.{cut_once, never_both}
 use Rattle.php_lexer.specs.View.{mode_of, fault_of}
 use Rattle.php_lexer.proofs.SoFarLemmas.{so_far_more, so_far_end, so_far_broken}
 use Rattle.php_lexer.proofs.RefusalLemmas.{is_cause, one_refusal}

@@ -1,5 +1,5 @@
 use Rattle.std.proofs.Common.{◌≡◌, ◌≤◌, take}
-use Rattle.php_syntax.specs.Characters.{value_of, largest}
+use Rattle.lexical_grammar.specs.Characters.{value_of, largest}
 use Rattle.php_lexer.proofs.numbers.value_of.Given as goal
 
 abbrev pub invariant-loop-digit : goal.invariant-loop-digit

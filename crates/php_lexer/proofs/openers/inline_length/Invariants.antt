@@ -1,6 +1,6 @@
 use Rattle.std.proofs.Common.{◌≡◌, ◌+◌, drop}
-use Rattle.php_syntax.specs.Characters.{before}
-use Rattle.php_syntax.specs.Cuts.{is_opener}
+use Rattle.lexical_grammar.specs.Characters.{before}
+use Rattle.lexical_grammar.specs.Cuts.{is_opener}
 use Rattle.php_lexer.proofs.openers.inline_length.Given as goal
 
 abbrev pub invariant-loop-n : goal.invariant-loop-n

@@ -1,5 +1,5 @@
 use Rattle.std.proofs.Common.{◌≡◌, drop}
-use Rattle.php_syntax.specs.Signs.{first_sign}
+use Rattle.lexical_grammar.specs.Signs.{first_sign}
 use Rattle.php_lexer.proofs.signs.first_sign.Given as goal
 
 abbrev pub invariant-loop-sign : goal.invariant-loop-sign

@@ -1,5 +1,5 @@
 use Rattle.std.proofs.Common.{refl, arith}
-use Rattle.php_syntax.specs.Texts.{single_at}
+use Rattle.lexical_grammar.specs.Texts.{single_at}
 use Rattle.php_lexer.proofs.RowLemmas.{row_item, row_over, row_cut_off}
 use Rattle.php_lexer.proofs.single.single_quoted.Goals as goal
 

@@ -1,6 +1,6 @@
 use Rattle.std.proofs.Common.{◌≡◌, ◌-◌, ◌≤◌, length, drop}
-use Rattle.php_syntax.specs.Rows.{row}
-use Rattle.php_syntax.specs.Texts.{single_at}
+use Rattle.lexical_grammar.specs.Rows.{row}
+use Rattle.lexical_grammar.specs.Texts.{single_at}
 use Rattle.php_lexer.proofs.RowLemmas.{ahead}
 use Rattle.php_lexer.proofs.single.single_quoted.Given as goal
 

@@ -1,5 +1,5 @@
 use Rattle.std.proofs.Common.{◌≡◌, drop}
-use Rattle.php_syntax.specs.Rules.{is_new_name}
+use Rattle.script_grammar.specs.Rules.{is_new_name}
 use Rattle.php_syntax.specs.Trees.{params_of_list}
 use Rattle.php_writer.proofs.file_tests.is_new_name.Given as goal
 

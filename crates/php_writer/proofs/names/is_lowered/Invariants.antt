@@ -1,6 +1,6 @@
 use Rattle.std.proofs.Common.{◌≡◌, drop}
 use Rattle.std.specs.Str.{str_to_ascii_lowercase}
-use Rattle.php_syntax.specs.Terminals.{same_bytes}
+use Rattle.script_grammar.specs.Terminals.{same_bytes}
 use Rattle.php_writer.proofs.names.is_lowered.Given as goal
 
 -- what is left to test decides

@@ -1,5 +1,5 @@
 use Rattle.std.proofs.Common.{◌≡◌, drop}
-use Rattle.php_syntax.specs.Rules.{all_keyed}
+use Rattle.script_grammar.specs.Rules.{all_keyed}
 use Rattle.php_syntax.specs.Trees.{path_of}
 use Rattle.php_writer.proofs.shapes.all_keyed.Given as goal
 

@@ -1,5 +1,5 @@
 use Rattle.std.proofs.Common.{◌≡◌, drop}
-use Rattle.php_syntax.specs.Rules.{all_places}
+use Rattle.script_grammar.specs.Rules.{all_places}
 use Rattle.php_syntax.specs.Trees.{exprs_of}
 use Rattle.php_writer.proofs.shapes.are_places.Given as goal
 

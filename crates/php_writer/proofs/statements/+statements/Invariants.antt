@@ -1,5 +1,5 @@
 use Rattle.std.proofs.Common.{◌≡◌, ◌++◌, ◌+◌, ◌*◌, List, drop}
-use Rattle.php_syntax.specs.declared.keyword.Keyword.TheVariants as words
+use Rattle.script_grammar.specs.declared.keyword.Keyword.TheVariants as words
 use Rattle.php_syntax.specs.Trees.{plain_stmt, stmts_of, arms_of}
 use Rattle.php_syntax.specs.Height.{stmt_height, stmts_height, arms_height}
 use Rattle.php_writer.specs.Marks.{Mark, all_written}

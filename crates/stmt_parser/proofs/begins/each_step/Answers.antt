@@ -1,5 +1,5 @@
 use Rattle.std.proofs.Common.{◌∷◌, ap, ◌∙◌}
-use Rattle.php_syntax.specs.Terminals.{word_terminal}
+use Rattle.script_grammar.specs.Terminals.{word_terminal}
 use Rattle.expr_parser.specs.Heads.{terminals_of}
 use Rattle.stmt_maker.specs.Views.{made_of}
 use Rattle.stmt_parser.specs.Nexts.{each_next}
@@ -7,7 +7,7 @@ use Rattle.stmt_parser.specs.Outcomes.{acted}
 use Rattle.stmt_parser.proofs.ActedLemmas.{acted_stuck}
 use Rattle.stmt_parser.proofs.OtherLemmas.{each_none, each_nameless}
 use Rattle.stmt_parser.proofs.ReadLemmas.{on_ok}
-use Rattle.php_syntax.specs.declared.keyword.Keyword.TheVariants as word
+use Rattle.script_grammar.specs.declared.keyword.Keyword.TheVariants as word
 use Rattle.stmt_parser.proofs.begins.each_step.Goals as goal
 
 pub returns-in-None : goal.returns-in-None

@@ -1,5 +1,5 @@
 use Rattle.std.proofs.Common.{◌∷◌, ap, sym, ◌∙◌}
-use Rattle.php_syntax.specs.Terminals.{sign_terminal, variable_terminal}
+use Rattle.script_grammar.specs.Terminals.{sign_terminal, variable_terminal}
 use Rattle.expr_parser.specs.Heads.{terminals_of}
 use Rattle.stmt_maker.specs.Views.{made_of}
 use Rattle.stmt_parser.specs.Nexts.{body_next, keyed_next}

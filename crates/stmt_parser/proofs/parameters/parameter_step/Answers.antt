@@ -1,5 +1,5 @@
 use Rattle.std.proofs.Common.{◌∷◌, ap, ◌∙◌}
-use Rattle.php_syntax.specs.Terminals.{variable_terminal}
+use Rattle.script_grammar.specs.Terminals.{variable_terminal}
 use Rattle.expr_parser.specs.Heads.{terminals_of}
 use Rattle.stmt_maker.specs.Views.{made_of}
 use Rattle.stmt_machine.specs.Machine.{parameter_move}

@@ -1,5 +1,5 @@
 use Rattle.std.proofs.Common.{refl}
-use Rattle.php_syntax.specs.Terminals.{sign_terminal}
+use Rattle.script_grammar.specs.Terminals.{sign_terminal}
 use Rattle.expr_machine.specs.Reading.{expr_at}
 use Rattle.expr_parser.specs.Heads.{terminals_of}
 use Rattle.stmt_maker.specs.Views.{made_of}

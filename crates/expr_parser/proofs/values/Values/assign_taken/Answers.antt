@@ -3,7 +3,7 @@ use Rattle.std.specs.Prelude.{Some}
 use Rattle.expr_parser.specs.Views.{plain_value, plain_values}
 use Rattle.expr_machine.specs.Values.{apply_assign}
 use Rattle.expr_parser.proofs.CountedLemmas as cl
-use Rattle.php_syntax.specs.Rules as rule
+use Rattle.script_grammar.specs.Rules as rule
 use Rattle.expr_parser.proofs.values.Values.assign_taken.Goals as goal
 
 pub returns-in-None : goal.returns-in-None

@@ -4,7 +4,7 @@ use Rattle.expr_parser.specs.Views.{plain_values}
 use Rattle.expr_machine.specs.Values.{apply_read}
 use Rattle.expr_parser.proofs.CountedLemmas as cl
 use Rattle.expr_machine.specs.Values.{known_value}
-use Rattle.php_syntax.specs.Rules as rule
+use Rattle.script_grammar.specs.Rules as rule
 use Rattle.expr_parser.proofs.values.Values.read.Goals as goal
 
 pub returns-in-None : goal.returns-in-None

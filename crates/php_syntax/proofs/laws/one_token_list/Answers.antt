@@ -1,5 +1,0 @@
-use Rattle.php_syntax.proofs.CutLemmas.{cut_once}
-use Rattle.php_syntax.proofs.laws.one_token_list.Goals as goal
-
-pub returns : goal.returns
-returns c = λ file tokens others first second. cut_once first second

@@ -1,0 +1,6 @@
+pub mod Expressions
+pub mod Grammar
+pub mod Operators
+pub mod Rules
+pub mod Statements
+pub mod Terminals
