@@ -5,7 +5,7 @@ use Rattle.text_base.specs.declared.byte_range.ByteRange.{ByteRange}
 use Rattle.text_base.specs.declared.page_token.PageToken.TheVariants.{Blank}
 use Rattle.cfg_grammar.specs.declared.symbol.Symbol.{Symbol}
 use Rattle.cfg_grammar.specs.declared.symbol.Symbol.TheVariants.{Range, Token, Nt}
-use Rattle.cfg_grammar.specs.declared.symbol.Letter.TheVariants.{Byte}
+use Rattle.text_base.specs.declared.letter.Letter.TheVariants.{OfByte}
 use Rattle.cfg_grammar.specs.declared.production.Right.TheVariants.{Empty, One, Two}
 use Rattle.cfg_grammar.specs.declared.production.Production.{Production}
 use Rattle.cfg_grammar.specs.Below.{production_below, symbols_of}
@@ -22,10 +22,10 @@ letters =
 derives_nothing : Derives letters (Nt (record { 0 = 0 })) []
 derives_nothing = by_empty (record { 0 = 0 }) (0, omega arith, refl)
 
-derives_one : Derives letters (Nt (record { 0 = 0 })) (Byte 97 ∷ [])
+derives_one : Derives letters (Nt (record { 0 = 0 })) (OfByte 97 ∷ [])
 derives_one =
-    by_two (record { 0 = 0 }) (Nt (record { 0 = 1 })) (Nt (record { 0 = 0 })) (Byte 97 ∷ []) [] (1, omega arith, refl)
-    (by_one (record { 0 = 1 }) (Range letter) (Byte 97 ∷ []) (2, omega arith, refl) (by_range letter 97 (omega arith, omega arith)))
+    by_two (record { 0 = 0 }) (Nt (record { 0 = 1 })) (Nt (record { 0 = 0 })) (OfByte 97 ∷ []) [] (1, omega arith, refl)
+    (by_one (record { 0 = 1 }) (Range letter) (OfByte 97 ∷ []) (2, omega arith, refl) (by_range letter 97 (omega arith, omega arith)))
     derives_nothing
 
 -- all are below two, and one is not below one

@@ -11,4 +11,4 @@ mod tests;
 
 pub use grammar::Grammar;
 pub use production::{Production, Right};
-pub use symbol::{Letter, Symbol};
+pub use symbol::Symbol;

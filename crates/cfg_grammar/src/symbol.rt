@@ -1,4 +1,4 @@
-//! What stands on the right of a production, and in a sentence.
+//! What stands on the right of a production.
 
 ghost use Rattle.std.specs.Prelude.{◌≡◌, IsTrue};
 ghost use Rattle.cfg_grammar.specs.Below.{symbol_below};
@@ -12,13 +12,6 @@ pub enum Symbol {
     Range(ByteRange),
     Token(PageToken),
     Nt(Nt),
-}
-
-/// One letter of a sentence.
-#[derive(Clone, Copy, Debug, PartialEq, Eq, Hash)]
-pub enum Letter {
-    Byte(u8),
-    Page(PageToken),
 }
 
 impl Symbol {

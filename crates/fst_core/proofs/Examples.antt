@@ -1,7 +1,9 @@
 -- The definitions on small machines, with near misses.
 use Rattle.std.proofs.Common.{◌≡◌, ℕ, Bool, true, false, List, [], ◌∷◌, refl}
 use Rattle.text_base.specs.declared.page_token.PageToken.TheVariants.{Blank}
-use Rattle.fst_core.specs.Letter.{Letter, OfByte, OfToken, letter_of}
+use Rattle.text_base.specs.declared.letter.Letter.{Letter}
+use Rattle.text_base.specs.declared.letter.Letter.TheVariants.{OfByte, OfToken}
+use Rattle.fst_core.specs.Letter.{letter_of}
 use Rattle.fst_core.specs.Fits.{is_fixed}
 use Rattle.fst_core.specs.Runs.{Runs, Relates, Gives}
 use Rattle.fst_core.specs.declared.out.Out.TheVariants.{Same, Shift, Byte, Token}

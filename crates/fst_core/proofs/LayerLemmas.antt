@@ -14,7 +14,9 @@ use Rattle.std.specs.Cmp.{first_so, second_so, IsEquivalence}
 use Rattle.std.proofs.lemmas.Cmp.{nat_eq_equiv}
 use Rattle.std.proofs.lemmas.Map.Views.{exact_unsigned_eq}
 use Rattle.indexmap.proofs.CallerLemmas.{Contains-list_any}
-use Rattle.fst_core.specs.Letter.{Letter, OfByte, letter_of}
+use Rattle.text_base.specs.declared.letter.Letter.{Letter}
+use Rattle.text_base.specs.declared.letter.Letter.TheVariants.{OfByte}
+use Rattle.fst_core.specs.Letter.{letter_of}
 use Rattle.fst_core.specs.Layers.{letters_from, SomeGives, ByMove, ByMoves, TableGives, IsIndex, AddsPlace, StopsBy}
 use Rattle.fst_core.specs.Tables.{TableStep}
 use Rattle.fst_core.specs.declared.out.Out.{Out}

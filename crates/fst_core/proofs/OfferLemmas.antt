@@ -9,7 +9,8 @@ use Rattle.std.specs.declared.vec.Vec.{Vec}
 use Rattle.std.specs.declared.alloc.Global.{Global}
 use Rattle.text_base.specs.declared.byte_range.ByteRange.{ByteRange}
 use Rattle.text_base.specs.ByteRange.{InRange, InBoth}
-use Rattle.fst_core.specs.Letter.{Letter, letter_of}
+use Rattle.text_base.specs.declared.letter.Letter.{Letter}
+use Rattle.fst_core.specs.Letter.{letter_of}
 use Rattle.fst_core.specs.Offers.{Offers, OffersLast, IsWithin, StepBy, StopOf, OffersMore, OffersLastMore}
 use Rattle.fst_core.specs.Tables.{TableStep, TableStop}
 use Rattle.fst_core.specs.Fits.{is_fixed, moves_fit, ends_fit}

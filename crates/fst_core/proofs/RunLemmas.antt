@@ -1,7 +1,8 @@
 -- A run from the front, and the layers of a whole run.
 use Rattle.std.proofs.Common.{◌≡◌, ℕ, ◌+◌, ◌<◌, ◌≤◌, ◌⊎◌, ◌↔◌, inl, inr, Bool, IsTrue, List, [], ◌∷◌, ◌++◌, length, map, drop, get_or, Contains, refl, sym, ◌∙◌, ap, subst, arith, append_assoc}
 use Rattle.std.proofs.lemmas.List.{drop_more, drop_all}
-use Rattle.fst_core.specs.Letter.{Letter, OfByte}
+use Rattle.text_base.specs.declared.letter.Letter.{Letter}
+use Rattle.text_base.specs.declared.letter.Letter.TheVariants.{OfByte}
 use Rattle.fst_core.specs.Runs.{Relates, Gives}
 use Rattle.fst_core.specs.Tables.{TableStep, TableStop, TableRelates}
 use Rattle.fst_core.specs.Layers.{letters_from, SomeGives, TableGives}

@@ -3,7 +3,9 @@ use Rattle.std.specs.Prelude.{◌≡◌, ℕ, ◌<◌, ◌≤◌, ◌⊎◌, Lis
 use Rattle.std.specs.declared.vec.Vec.{Vec}
 use Rattle.std.specs.declared.alloc.Global.{Global}
 use Rattle.text_base.specs.ByteRange.{InRange}
-use Rattle.fst_core.specs.Letter.{Letter, OfByte, letter_of}
+use Rattle.text_base.specs.declared.letter.Letter.{Letter}
+use Rattle.text_base.specs.declared.letter.Letter.TheVariants.{OfByte}
+use Rattle.fst_core.specs.Letter.{letter_of}
 use Rattle.fst_core.specs.Runs.{Gives}
 use Rattle.fst_core.specs.Tables.{TableStep, TableStop}
 use Rattle.fst_core.specs.declared.moves.TableMove.{TableMove}

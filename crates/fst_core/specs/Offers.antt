@@ -8,7 +8,8 @@ use Rattle.std.specs.declared.vec.Vec.{Vec}
 use Rattle.std.specs.declared.alloc.Global.{Global}
 use Rattle.text_base.specs.declared.byte_range.ByteRange.{ByteRange}
 use Rattle.text_base.specs.ByteRange.{InRange}
-use Rattle.fst_core.specs.Letter.{Letter, letter_of}
+use Rattle.text_base.specs.declared.letter.Letter.{Letter}
+use Rattle.fst_core.specs.Letter.{letter_of}
 use Rattle.fst_core.specs.declared.out.Out.{Out}
 use Rattle.fst_core.specs.declared.machine.Move.{Move}
 

@@ -1,6 +1,6 @@
 -- How a machine runs over a text.
 use Rattle.std.specs.Prelude.{◌≡◌, ℕ, List, [], ◌∷◌, ◌++◌}
-use Rattle.fst_core.specs.Letter.{Letter}
+use Rattle.text_base.specs.declared.letter.Letter.{Letter}
 
 module _ {S : Type 0} (steps : S → ℕ → S → List Letter → Type 0) where
   -- from the one state over the text to the other state, with these letters put out on the way

@@ -1,7 +1,8 @@
 -- The machine of a table.
 use Rattle.std.specs.Prelude.{◌≡◌, ℕ, List, map, Contains}
 use Rattle.text_base.specs.ByteRange.{InRange}
-use Rattle.fst_core.specs.Letter.{Letter, letter_of}
+use Rattle.text_base.specs.declared.letter.Letter.{Letter}
+use Rattle.fst_core.specs.Letter.{letter_of}
 use Rattle.fst_core.specs.Runs.{Relates}
 use Rattle.fst_core.specs.declared.moves.TableMove.{TableMove}
 use Rattle.fst_core.specs.declared.moves.TableEnd.{TableEnd}

@@ -2,7 +2,9 @@
 //! that are reached, each with how much of the output it has put out.
 
 ghost use Rattle.std.specs.Prelude.{◌≡◌, ◌≢◌, ℕ, ◌<◌, ◌≤◌, ◌++◌, ◌∷◌, [], ◌⊎◌, ◌↔◌, List, map, length, slice_index_or, vec_len, slice_get, All, Contains, IfOk, OnOk, IfSome, IsTrue, MatchOption, if◌then◌else◌};
-ghost use Rattle.fst_core.specs.Letter.{Letter, OfByte, letter_of};
+ghost use Rattle.text_base.specs.declared.letter.Letter.{Letter};
+ghost use Rattle.text_base.specs.declared.letter.Letter.TheVariants.{OfByte};
+ghost use Rattle.fst_core.specs.Letter.{letter_of};
 ghost use Rattle.fst_core.specs.Tables.{TableRelates};
 ghost use Rattle.fst_core.specs.Layers.{letters_from, SomeGives, ByMove, ByMoves, TableGives, IsIndex, AddsPlace, StopsBy};
 

@@ -3,7 +3,7 @@
 ghost use Rattle.std.specs.Prelude.{◌≡◌, ℕ, ◌≤◌, ◌↔◌, List, IfOk, IsTrue, All};
 ghost use Rattle.std.specs.List.{list_all};
 ghost use Rattle.text_base.specs.ByteRange.{InRange};
-ghost use Rattle.fst_core.specs.Letter.{Letter};
+ghost use Rattle.text_base.specs.declared.letter.Letter.{Letter};
 ghost use Rattle.fst_core.specs.Offers.{Offers, OffersLast, IsWithin};
 ghost use Rattle.fst_core.specs.Fits.{is_fixed};
 

@@ -1,7 +1,7 @@
 //! A table as a machine.
 
 ghost use Rattle.std.specs.Prelude.{◌≡◌, ℕ, ◌<◌, List, OnOk};
-ghost use Rattle.fst_core.specs.Letter.{Letter};
+ghost use Rattle.text_base.specs.declared.letter.Letter.{Letter};
 ghost use Rattle.fst_core.specs.Offers.{OffersMore, OffersLastMore};
 ghost use Rattle.fst_core.specs.Tables.{TableStep, TableStop};
 

@@ -6,7 +6,9 @@ use Rattle.std.proofs.lemmas.Bool.{cases_Bool, eqb-true, eq-eqb, leb-true, le-le
 use Rattle.std.proofs.lemmas.List.Sums.{count_by-le-length}
 use Rattle.std.specs.List.{list_all}
 use Rattle.text_base.specs.ByteRange.{InRange}
-use Rattle.fst_core.specs.Letter.{Letter, OfByte, letter_of}
+use Rattle.text_base.specs.declared.letter.Letter.{Letter}
+use Rattle.text_base.specs.declared.letter.Letter.TheVariants.{OfByte}
+use Rattle.fst_core.specs.Letter.{letter_of}
 use Rattle.fst_core.specs.Runs.{Relates, Gives}
 use Rattle.fst_core.specs.Choices.{choices, stops, in_range}
 use Rattle.fst_core.specs.Tables.{TableStep, TableStop, TableRelates}

@@ -1,7 +1,7 @@
 -- Tables whose moves and ends are listed by functions, and what such a list relates.
 use Rattle.std.specs.Prelude.{◌≡◌, ◌==◌, ◌↔◌, ℕ, ◌+◌, ◌*◌, ◌%◌, ◌<◌, ◌≤◌, Bool, true, false, List, [], ◌∷◌, ◌++◌, map, length, count_by, All, Contains, IsTrue, nat_lt, if◌then◌else◌}
 use Rattle.std.specs.List.{list_all}
-use Rattle.fst_core.specs.Letter.{OfByte}
+use Rattle.text_base.specs.declared.letter.Letter.TheVariants.{OfByte}
 use Rattle.fst_core.specs.Choices.{choices, stops}
 use Rattle.fst_core.specs.Tables.{TableRelates}
 use Rattle.fst_core.specs.declared.out.Out.{Out}

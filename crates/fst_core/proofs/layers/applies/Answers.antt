@@ -1,5 +1,5 @@
 use Rattle.std.proofs.Common.{map}
-use Rattle.fst_core.specs.Letter.{OfByte}
+use Rattle.text_base.specs.declared.letter.Letter.TheVariants.{OfByte}
 use Rattle.fst_core.specs.Layers.{TableGives}
 use Rattle.fst_core.proofs.RunLemmas.{first_layer, layer_more, layer_all}
 use Rattle.fst_core.proofs.layers.applies.Goals as goal

@@ -1,5 +1,5 @@
 use Rattle.std.proofs.Common.{◌↔◌, map, drop}
-use Rattle.fst_core.specs.Letter.{OfByte}
+use Rattle.text_base.specs.declared.letter.Letter.TheVariants.{OfByte}
 use Rattle.fst_core.specs.Layers.{SomeGives, TableGives}
 use Rattle.fst_core.proofs.layers.applies.Given as goal
 
