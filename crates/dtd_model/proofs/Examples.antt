@@ -2,7 +2,10 @@
 use Rattle.std.proofs.Common.{◌≡◌, ℕ, Bool, true, false, List, [], ◌∷◌, ◌++◌, map, refl, ap, codes, Option, None, Some}
 use Rattle.std.specs.Char.{encode_utf8}
 use Rattle.dtd_model.specs.declared.dtd.DoctypeRule.TheVariants.{Strict}
-use Rattle.dtd_model.specs.Characters.{is_name, is_name_token, holds, same_letters}
+use Rattle.std.specs.Str.{str_eq_ignore_ascii_case}
+use Rattle.xml_text.specs.Names.{is_name}
+use Rattle.dtd_model.specs.Lawful.{is_distinct, are_names, height, is_within, has_matches}
+use Rattle.xml_text.specs.Texts.{holds}
 use Rattle.dtd_model.specs.References.{decimal, hexadecimal, entity, is_reference, is_known}
 use Rattle.dtd_model.specs.Matches.{model_matches, matches, may_be_empty, after}
 use Rattle.dtd_model.specs.Table.{Model, one, sequence, choice, optional, any_number, at_least_one, no_models, more_models, cdata, id, one_of, implied, fixed, nothing, text_and, children}
@@ -53,16 +56,35 @@ mixed = refl
 pub not_in_mixed : matches 3 (text_and (2 ∷ [])) (2 ∷ 1 ∷ []) ≡ false
 not_in_mixed = refl
 
--- Names, and the values of attributes.
+-- What a definition keeps.
 
-pub a_name : is_name (codes "xml:lang") ≡ true
-a_name = refl
+pub a_name_twice : is_distinct (codes "a" ∷ codes "b" ∷ codes "a" ∷ []) ≡ false
+a_name_twice = refl
 
-pub begins_with_a_digit : is_name (codes "1a") ≡ false
-begins_with_a_digit = refl
+pub other_names : are_names (codes "a" ∷ codes "A" ∷ []) ≡ true
+other_names = refl
 
-pub a_token : is_name_token (codes "1a") ≡ true
-a_token = refl
+-- (a, (b | c)?)
+abbrev maybe_one : Model
+maybe_one = sequence (more_models (one 0) (more_models (optional (choice (more_models (one 1) (more_models (one 2) no_models)))) no_models))
+
+pub four_levels : height maybe_one ≡ 4
+unfolding height
+four_levels = refl
+
+pub third_of_three : is_within 3 maybe_one ≡ true
+unfolding is_within
+third_of_three = refl
+
+pub third_of_two : is_within 2 maybe_one ≡ false
+unfolding is_within
+third_of_two = refl
+
+pub an_empty_choice : has_matches (optional (choice no_models)) ≡ false
+unfolding has_matches
+an_empty_choice = refl
+
+-- The values of attributes.
 
 pub the_words : words_of (codes "  ab c ") ≡ codes "ab" ∷ codes "c" ∷ []
 the_words = refl
@@ -116,10 +138,10 @@ ends_in_dash = refl
 pub may_begin_with_dash : holds (codes "--") (codes "-a" ++ codes "-") ≡ false
 may_begin_with_dash = refl
 
-pub reserved_target : same_letters (codes "xMl") (codes "xml") ≡ true
+pub reserved_target : str_eq_ignore_ascii_case (codes "xMl") (codes "xml") ≡ true
 reserved_target = refl
 
-pub another_target : same_letters (codes "xml-stylesheet") (codes "xml") ≡ false
+pub another_target : str_eq_ignore_ascii_case (codes "xml-stylesheet") (codes "xml") ≡ false
 another_target = refl
 
 pub no_reference_between : (may_hold (children (one 0))).text ≡ false

@@ -1,8 +1,9 @@
 -- Which attributes a tag may and must have (XML 1.0, 3.3).
-use Rattle.std.specs.Prelude.{◌≡◌, ℕ, Bool, true, false, ◌&&◌, ◌||◌, if◌then◌else◌, List, [], ◌∷◌, codes}
+use Rattle.std.specs.Prelude.{◌≡◌, ℕ, Bool, true, false, ◌&&◌, ◌||◌, if◌then◌else◌, List, [], ◌∷◌, codes, bytes_eq}
 use Rattle.std.specs.Option.{option_map_or}
 use Rattle.std.specs.List.{list_all, list_any}
-use Rattle.dtd_model.specs.Characters.{is_blank, is_name, is_name_token, same}
+use Rattle.xml_text.specs.Characters.{is_blank}
+use Rattle.xml_text.specs.Names.{is_name, is_name_token}
 use Rattle.dtd_model.specs.Table.{Kind, cdata, id, idref, idrefs, nmtoken, nmtokens, one_of, Presence, implied, required, with_default, fixed, Declared}
 use Rattle.dtd_model.specs.References.{is_known}
 use Rattle.dtd_model.specs.PageTree.{ValuePart, value_character, value_reference, Attribute, plain_value, value_then}
@@ -43,19 +44,19 @@ has_kind idref value = passes (λ v. is_one_word is_name (words_of v)) value
 has_kind idrefs value = passes (λ v. are_words is_name (words_of v)) value
 has_kind nmtoken value = passes (λ v. is_one_word is_name_token (words_of v)) value
 has_kind nmtokens value = passes (λ v. are_words is_name_token (words_of v)) value
-has_kind (one_of tokens) value = passes (λ v. is_one_word (λ word. list_any (same word) tokens) (words_of v)) value
+has_kind (one_of tokens) value = passes (λ v. is_one_word (λ word. list_any (bytes_eq word) tokens) (words_of v)) value
 
 -- a fixed value is the declared one, byte for byte (XML 1.0, 3.3.2)
 abbrev pub has_fixed : Presence → List ValuePart → Bool
 has_fixed implied value = true
 has_fixed required value = true
 has_fixed with_default value = true
-has_fixed (fixed wanted) value = same wanted (value_then value [])
+has_fixed (fixed wanted) value = bytes_eq wanted (value_then value [])
 
 -- the attribute is declared, and its value is allowed
 abbrev pub is_declared : List Declared → Attribute → Bool
 is_declared [] a = false
-is_declared (d ∷ ds) a = if same d.name a.name then has_kind d.kind a.value && has_fixed d.presence a.value else is_declared ds a
+is_declared (d ∷ ds) a = if bytes_eq d.name a.name then has_kind d.kind a.value && has_fixed d.presence a.value else is_declared ds a
 
 -- each entity that the value refers to is declared
 abbrev pub are_known : List (List ℕ) → List ValuePart → Bool
@@ -66,7 +67,7 @@ are_known entities (value_reference r ∷ more) = is_known entities r && are_kno
 -- an attribute of this name stands in the tag
 abbrev pub stands : List Attribute → List ℕ → Bool
 stands [] name = false
-stands (a ∷ more) name = same a.name name || stands more name
+stands (a ∷ more) name = bytes_eq a.name name || stands more name
 
 -- no name stands twice (XML 1.0, 3.1)
 abbrev pub is_once : List Attribute → Bool
@@ -81,7 +82,7 @@ is_required (fixed wanted) = false
 
 -- the attribute has to stand: it is required, or it is the `xmlns` of `html` (XHTML 1.0, 3.1.1)
 abbrev pub must_stand : List ℕ → Declared → Bool
-must_stand tag_name d = is_required d.presence || same tag_name (codes "html") && same d.name (codes "xmlns")
+must_stand tag_name d = is_required d.presence || bytes_eq tag_name (codes "html") && bytes_eq d.name (codes "xmlns")
 
 -- the attributes of a tag are those that the element may and must have
 pub record AttributesFit (entities : List (List ℕ)) (tag_name : List ℕ) (rules : List Declared) (attributes : List Attribute) : Type 0 where

@@ -1,9 +1,10 @@
 pub mod Attributes
-pub mod Characters
+pub mod Lawful
 pub mod Matches
 pub mod Mini
 pub mod PageTree
 pub mod Prolog
 pub mod References
 pub mod Table
+pub mod TableOf
 pub mod Valid

@@ -3,7 +3,10 @@ use Rattle.std.specs.Prelude.{◌≡◌, ℕ, Bool, true, false, not, ◌==◌, 
 use Rattle.std.specs.Option.{option_map}
 use Rattle.std.specs.List.{list_all, starts_with}
 use Rattle.std.specs.Char.{encode_utf8}
-use Rattle.dtd_model.specs.Characters.{is_blank, is_character, is_name, holds, same_letters}
+use Rattle.std.specs.Str.{str_eq_ignore_ascii_case}
+use Rattle.xml_text.specs.Characters.{is_blank, is_character}
+use Rattle.xml_text.specs.Names.{is_name}
+use Rattle.xml_text.specs.Texts.{holds}
 use Rattle.dtd_model.specs.References.{Reference, reference_then, is_reference}
 
 -- what the value of an attribute is made of
@@ -136,7 +139,7 @@ pub record IsComment (chars : List ℕ) : Type 0 where
 -- the target of an instruction is a name, but not `xml` in any case; it ends at the first `?>` (XML 1.0, 2.6)
 pub record IsInstruction (target space chars : List ℕ) : Type 0 where
   pub named : is_name target ≡ true
-  pub not_reserved : same_letters target (codes "xml") ≡ false
+  pub not_reserved : str_eq_ignore_ascii_case target (codes "xml") ≡ false
   pub blank_space : list_all is_blank space ≡ true
   pub apart : space ≡ [] → chars ≡ []
   pub characters : list_all is_character chars ≡ true

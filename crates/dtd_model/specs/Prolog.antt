@@ -1,9 +1,11 @@
 -- A page as a whole: what may stand before its root (XML 1.0, 2.8; XHTML 1.0, 3.1.1).
-use Rattle.std.specs.Prelude.{◌≡◌, ℕ, Bool, true, false, not, ◌==◌, ◌&&◌, ◌||◌, ◌≢◌, List, [], ◌∷◌, ◌++◌, codes, Option, Some, None}
+use Rattle.std.specs.Prelude.{◌≡◌, ℕ, Bool, true, false, not, ◌==◌, ◌&&◌, ◌||◌, ◌≢◌, List, [], ◌∷◌, ◌++◌, codes, Option, Some, None, bytes_eq}
 use Rattle.std.specs.List.{list_all}
 use Rattle.dtd_model.specs.declared.dtd.DoctypeRule.{DoctypeRule}
 use Rattle.dtd_model.specs.declared.dtd.DoctypeRule.TheVariants.{Strict, Free}
-use Rattle.dtd_model.specs.Characters.{is_blank, is_character, in_public_identifier, same, same_letters}
+use Rattle.std.specs.Str.{str_eq_ignore_ascii_case}
+use Rattle.xml_text.specs.Characters.{is_blank, is_character}
+use Rattle.xml_text.specs.Names.{in_public_identifier}
 use Rattle.dtd_model.specs.Attributes.{passes}
 use Rattle.dtd_model.specs.PageTree.{Attribute, attributes_then, characters_then, AreAttributes, Nodes, nodes_then, AreNodes}
 
@@ -17,13 +19,13 @@ abbrev pub declaration_then : Declaration → List ℕ → List ℕ
 declaration_then d rest = 60 ∷ 63 ∷ (codes "xml" ++ attributes_then d.attributes (d.space ++ (codes "?>" ++ rest)))
 
 abbrev pub is_version : Attribute → Bool
-is_version a = same a.name (codes "version") && passes (same (codes "1.0")) a.value
+is_version a = bytes_eq a.name (codes "version") && passes (bytes_eq (codes "1.0")) a.value
 
 abbrev pub is_encoding : Attribute → Bool
-is_encoding a = same a.name (codes "encoding") && passes (same_letters (codes "UTF-8")) a.value
+is_encoding a = bytes_eq a.name (codes "encoding") && passes (str_eq_ignore_ascii_case (codes "UTF-8")) a.value
 
 abbrev pub is_standalone : Attribute → Bool
-is_standalone a = same a.name (codes "standalone") && passes (λ v. same (codes "yes") v || same (codes "no") v) a.value
+is_standalone a = bytes_eq a.name (codes "standalone") && passes (λ v. bytes_eq (codes "yes") v || bytes_eq (codes "no") v) a.value
 
 abbrev pub may_follow_version : List Attribute → Bool
 may_follow_version [] = true

@@ -1,7 +1,9 @@
 -- References (XML 1.0, 4.1 and 4.6).
-use Rattle.std.specs.Prelude.{ℕ, Bool, true, false, ◌&&◌, ◌||◌, List, [], ◌∷◌, ◌++◌, codes}
+use Rattle.std.specs.Prelude.{ℕ, ◌+◌, ◌*◌, Bool, true, false, ◌&&◌, ◌||◌, List, [], ◌∷◌, ◌++◌, codes, bytes_eq}
 use Rattle.std.specs.List.{list_all, list_any}
-use Rattle.dtd_model.specs.Characters.{is_character, is_name, is_digit, is_hexadecimal, number_written, same}
+use Rattle.std.specs.Char.{is_ascii_digit, is_ascii_hexdigit, digit_value}
+use Rattle.xml_text.specs.Characters.{is_character}
+use Rattle.xml_text.specs.Names.{is_name}
 
 pub data Reference : Type 0 where
   -- `&#`, decimal digits, `;`
@@ -21,10 +23,15 @@ abbrev pub is_some : List ℕ → Bool
 is_some [] = false
 is_some (c ∷ cs) = true
 
+-- the number that digits write behind a number
+abbrev pub number_written : ℕ → ℕ → List ℕ → ℕ
+number_written base n [] = n
+number_written base n (d ∷ ds) = number_written base (n * base + digit_value d) ds
+
 -- a number is that of a character
 abbrev pub is_reference : Reference → Bool
-is_reference (decimal digits) = is_some digits && list_all is_digit digits && is_character (number_written 10 0 digits)
-is_reference (hexadecimal digits) = is_some digits && list_all is_hexadecimal digits && is_character (number_written 16 0 digits)
+is_reference (decimal digits) = is_some digits && list_all is_ascii_digit digits && is_character (number_written 10 0 digits)
+is_reference (hexadecimal digits) = is_some digits && list_all is_ascii_hexdigit digits && is_character (number_written 16 0 digits)
 is_reference (entity name) = is_name name
 
 -- the entities that need no declaration
@@ -35,4 +42,4 @@ known_entities = codes "amp" ∷ codes "lt" ∷ codes "gt" ∷ codes "quot" ∷ 
 abbrev pub is_known : List (List ℕ) → Reference → Bool
 is_known entities (decimal digits) = true
 is_known entities (hexadecimal digits) = true
-is_known entities (entity name) = list_any (same name) known_entities || list_any (same name) entities
+is_known entities (entity name) = list_any (bytes_eq name) known_entities || list_any (bytes_eq name) entities

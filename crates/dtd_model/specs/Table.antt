@@ -1,7 +1,6 @@
 -- A document type definition as plain lists: what is declared, with no vectors and no boxes.
 use Rattle.std.specs.Prelude.{ℕ, List, [], ◌∷◌, map}
 use Rattle.text_base.specs.declared.numbers.Elem.{Elem}
-use Rattle.dtd_model.specs.declared.dtd.Dtd.{Dtd}
 use Rattle.dtd_model.specs.declared.dtd.ElementRule.{ElementRule}
 use Rattle.dtd_model.specs.declared.dtd.Content.{Content}
 use Rattle.dtd_model.specs.declared.dtd.Content.TheVariants.{Empty, Any, Mixed, Children}
@@ -114,7 +113,3 @@ declared_of rule = record { name = rule.name; kind = kind_of rule.kind; presence
 
 abbrev pub rule_of : ElementRule → Rule
 rule_of rule = record { name = rule.name; holding = holding_of rule.content; attributes = map declared_of rule.attributes.items }
-
--- what the code's definition declares
-abbrev pub table_of : Dtd → Table
-table_of dtd = record { elements = map rule_of dtd.elements.items; entities = dtd.entities.items; doctype = dtd.doctype }

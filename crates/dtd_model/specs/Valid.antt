@@ -1,6 +1,6 @@
 -- When a page is valid (XML 1.0, 2.8 and 3; XHTML 1.0, 3.1.1).
-use Rattle.std.specs.Prelude.{◌≡◌, ℕ, suc, Bool, true, false, if◌then◌else◌, List, [], ◌∷◌, map, length, Option, Some, None, codes}
-use Rattle.dtd_model.specs.Characters.{is_blank, same}
+use Rattle.std.specs.Prelude.{◌≡◌, ℕ, suc, Bool, true, false, if◌then◌else◌, List, [], ◌∷◌, map, length, Option, Some, None, codes, bytes_eq}
+use Rattle.xml_text.specs.Characters.{is_blank}
 use Rattle.dtd_model.specs.References.{is_known}
 use Rattle.dtd_model.specs.Table.{Rule, Table, Holding, nothing, anything, text_and, children}
 use Rattle.dtd_model.specs.Matches.{matches}
@@ -11,12 +11,12 @@ use Rattle.dtd_model.specs.Prolog.{Page, Prolog, no_doctype, with_doctype, PageS
 -- the declaration of an element
 abbrev pub find_rule : List Rule → List ℕ → Option Rule
 find_rule [] name = None
-find_rule (r ∷ rs) name = if same r.name name then Some r else find_rule rs name
+find_rule (r ∷ rs) name = if bytes_eq r.name name then Some r else find_rule rs name
 
 -- the place of its declaration; where it has none, their number
 abbrev pub place_of : List Rule → List ℕ → ℕ
 place_of [] name = 0
-place_of (r ∷ rs) name = if same r.name name then 0 else suc (place_of rs name)
+place_of (r ∷ rs) name = if bytes_eq r.name name then 0 else suc (place_of rs name)
 
 -- the names of the elements among the nodes
 abbrev pub element_names : Nodes → List (List ℕ)

@@ -1,17 +1,6 @@
-//! What a document type definition declares.
+//! What a document type definition says of elements and attributes.
 
 use text_base::{Bytes, Elem};
-
-/// A document type definition (XML 1.0, 2.8): what is declared for the pages that it describes.
-#[derive(Debug, Drop)]
-pub struct Dtd {
-    /// The declared elements. An [`Elem`] is the place of one in this list.
-    pub elements: Vec<ElementRule>,
-    /// The names of the declared general entities, besides the five of XML 1.0, 4.6.
-    pub entities: Vec<Bytes>,
-    /// What a page has to say of its document type.
-    pub doctype: DoctypeRule,
-}
 
 /// An element type declaration with the attribute list of the element (XML 1.0, 3.2 and 3.3).
 #[derive(Debug, Drop)]

@@ -1,10 +1,12 @@
 //! The smallest document type.
 
 ghost use Rattle.std.specs.Prelude.{◌≡◌, IfOk};
-ghost use Rattle.dtd_model.specs.Table.{table_of, rule_of, holding_of, children, sequence, more_models, no_models, one, any_number};
+ghost use Rattle.dtd_model.specs.TableOf.{table_of};
+ghost use Rattle.dtd_model.specs.Table.{rule_of, holding_of, children, sequence, more_models, no_models, one, any_number};
 ghost use Rattle.dtd_model.specs.Mini.{mini_table, plain_rule};
 
-use crate::dtd::{Content, DoctypeRule, Dtd, ElementRule, Particle};
+use crate::definition::Dtd;
+use crate::dtd::{Content, DoctypeRule, ElementRule, Particle};
 use std::alloc::Global;
 use text_base::{Bytes, Elem, NoMemory};
 
@@ -55,31 +57,4 @@ fn body_content(alloc: Global) -> Result<Content, NoMemory>
 {
     let paragraph = Box::new(alloc, Particle::One(Elem(2)))?;
     Ok(Content::Children(Particle::Star(paragraph)))
-}
-
-#[cfg(test)]
-mod tests {
-    use super::*;
-    use std::test::Fail;
-
-    // What `mini` declares, as docs/pages.md has it.
-    #[test]
-    fn the_smallest_document_type(rt: HostRuntime) -> Result<(), Fail> {
-        let dtd = mini(rt.alloc())?;
-        let mut names = Bytes::new(rt.alloc());
-        for element in &dtd.elements {
-            names.append(element.name.as_slice())?;
-            names.push(match element.content {
-                Content::Empty => b'0',
-                Content::Any => b'?',
-                Content::Mixed(_) => b'#',
-                Content::Children(_) => b'<',
-            })?;
-            assert!(rt; element.attributes.is_empty());
-        }
-        assert_eq!(rt; names.as_slice(), b"html<body<p#".as_slice());
-        assert!(rt; dtd.entities.is_empty());
-        assert!(rt; dtd.doctype == DoctypeRule::Free);
-        Ok(())
-    }
 }

@@ -1,11 +1,10 @@
 -- What is left of an element, behind some of what stands in it.
 use Rattle.std.proofs.Common.{◌≡◌, ℕ, ◌<◌, ◌≤◌, Bool, true, false, ◌&&◌, List, [], ◌∷◌, ◌++◌, take, nat_eq, nat_lt, refl, sym, ap, ◌∙◌, subst, arith}
-use Rattle.std.specs.Prelude.{map, Some, ◌≢◌, if◌then◌else◌}
+use Rattle.std.specs.Prelude.{map, Some, ◌≢◌, if◌then◌else◌, bytes_eq}
 use Rattle.std.specs.List.{list_all}
 use Rattle.std.specs.Cmp.Lexicographic.{pointwise}
 use Rattle.std.specs.Char.{encode_utf8}
 use Rattle.dtd_model.specs.Table.{Rule, Table, Declared}
-use Rattle.dtd_model.specs.Characters.{same}
 use Rattle.dtd_model.specs.References.{Reference, decimal, hexadecimal, entity, reference_then}
 use Rattle.dtd_model.specs.PageTree.{Attribute, Tag, IsTag, Nodes, no_nodes, character, reference, section, comment, instruction, element, empty_element, attributes_then, tag_then, nodes_then, AreNodes, is_plain, text, begins_section_end}
 use Rattle.dtd_model.specs.Attributes.{is_declared}
@@ -92,9 +91,9 @@ none_declared (a ∷ more) h = cc
 
 pub found_plain : (rules : List Rule) (name : List ℕ) (rule : Rule) → ArePlain rules → find_rule rules name ≡ Some rule → rule.attributes ≡ []
 found_plain [] name rule plain e = cc
-found_plain (r ∷ rs) name rule plain e = go (same r.name name) refl (found_plain rs name rule plain.1)
+found_plain (r ∷ rs) name rule plain e = go (bytes_eq r.name name) refl (found_plain rs name rule plain.1)
   where
-    go : (x : Bool) → same r.name name ≡ x → (find_rule rs name ≡ Some rule → rule.attributes ≡ []) → rule.attributes ≡ []
+    go : (x : Bool) → bytes_eq r.name name ≡ x → (find_rule rs name ≡ Some rule → rule.attributes ≡ []) → rule.attributes ≡ []
     go true h later =
         let found : Some r ≡ Some rule = subst (λ (b : Bool). (if b then Some r else find_rule rs name) ≡ Some rule) h e in
         let is : r ≡ rule = cc in

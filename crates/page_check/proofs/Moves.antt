@@ -3,7 +3,7 @@ use Rattle.std.proofs.Common.{◌≡◌, ℕ, Bool, true, false, List, [], ◌�
 use Rattle.std.specs.Prelude.{map, Some, if◌then◌else◌}
 use Rattle.std.specs.List.{list_all}
 use Rattle.std.specs.Char.{encode_utf8}
-use Rattle.dtd_model.specs.Characters.{begins_name}
+use Rattle.xml_text.specs.Names.{begins_name}
 use Rattle.dtd_model.specs.Table.{Rule, Table, Declared}
 use Rattle.dtd_model.specs.Matches.{matches}
 use Rattle.dtd_model.specs.References.{decimal, hexadecimal, entity}

@@ -2,7 +2,8 @@
 use Rattle.std.proofs.Common.{◌≡◌, ℕ, Bool, true, false, ◌||◌, List, [], ◌∷◌, ◌++◌, refl, sym, ap, ◌∙◌, subst, arith}
 use Rattle.std.specs.List.{list_all}
 use Rattle.std.specs.Borrow.{Bor}
-use Rattle.dtd_model.specs.Characters.{is_blank, in_name, begins_name, is_name}
+use Rattle.xml_text.specs.Characters.{is_blank}
+use Rattle.xml_text.specs.Names.{in_name, begins_name, is_name}
 use Rattle.std.specs.Prelude.{Option, Some, None, IfNone}
 use Rattle.page_check.specs.declared.piece.Piece.{Piece}
 use Rattle.page_check.specs.Pieces.{Stops, Splits, Named, NamedWhole, NoTag, IsEndTag, IsStartTag}

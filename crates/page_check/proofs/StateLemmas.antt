@@ -1,8 +1,7 @@
 -- What each state leaves of a page, and that a step keeps it.
 use Rattle.std.proofs.Common.{◌≡◌, ℕ, Bool, true, false, ◌&&◌, List, [], ◌∷◌, nat_eq, refl, sym, ap, ◌∙◌, subst, codes, arith}
-use Rattle.std.specs.Prelude.{Option, Some, None, if◌then◌else◌}
+use Rattle.std.specs.Prelude.{Option, Some, None, if◌then◌else◌, bytes_eq}
 use Rattle.std.proofs.lemmas.Bool.Decides.{nat_tests}
-use Rattle.dtd_model.specs.Characters.{same}
 use Rattle.dtd_model.specs.Table.{Rule, children, text_and, sequence, more_models, no_models, one, any_number}
 use Rattle.dtd_model.specs.Matches.{may_be_empty, after}
 use Rattle.dtd_model.specs.Valid.{Besides, around_root, find_rule}
@@ -158,19 +157,19 @@ IsUnknown name = element_named name ≡ None
 eq_turned : (a b : ℕ) → nat_eq a b ≡ nat_eq b a
 eq_turned a b = grind (arith, nat_tests)
 
-same_turned : (xs ys : List ℕ) → same xs ys ≡ same ys xs
+same_turned : (xs ys : List ℕ) → bytes_eq xs ys ≡ bytes_eq ys xs
 same_turned [] [] = refl
 same_turned [] (y ∷ ys) = refl
 same_turned (x ∷ xs) [] = refl
-same_turned (x ∷ xs) (y ∷ ys) = ap (λ (b : Bool). b && same xs ys) (eq_turned x y) ∙ ap (λ (b : Bool). nat_eq y x && b) (same_turned xs ys)
+same_turned (x ∷ xs) (y ∷ ys) = ap (λ (b : Bool). b && bytes_eq xs ys) (eq_turned x y) ∙ ap (λ (b : Bool). nat_eq y x && b) (same_turned xs ys)
 
 not_found : (name : List ℕ) → IsUnknown name → find_rule mini_table.elements name ≡ None
 unfolding mini_table
 not_found name unknown =
     go _ _ _
-    (subst (λ (z : Bool). (if same (codes "html") name then Some Html else (if same (codes "body") name then Some Body else (if z then Some Paragraph else None))) ≡ None) (same_turned name (codes "p"))
-    (subst (λ (z : Bool). (if same (codes "html") name then Some Html else (if z then Some Body else (if same name (codes "p") then Some Paragraph else None))) ≡ None) (same_turned name (codes "body"))
-    (subst (λ (z : Bool). (if z then Some Html else (if same name (codes "body") then Some Body else (if same name (codes "p") then Some Paragraph else None))) ≡ None) (same_turned name (codes "html")) unknown)))
+    (subst (λ (z : Bool). (if bytes_eq (codes "html") name then Some Html else (if bytes_eq (codes "body") name then Some Body else (if z then Some Paragraph else None))) ≡ None) (same_turned name (codes "p"))
+    (subst (λ (z : Bool). (if bytes_eq (codes "html") name then Some Html else (if z then Some Body else (if bytes_eq name (codes "p") then Some Paragraph else None))) ≡ None) (same_turned name (codes "body"))
+    (subst (λ (z : Bool). (if z then Some Html else (if bytes_eq name (codes "body") then Some Body else (if bytes_eq name (codes "p") then Some Paragraph else None))) ≡ None) (same_turned name (codes "html")) unknown)))
   where
     go : (a b c : Bool) → (if a then Some Html else (if b then Some Body else (if c then Some Paragraph else None))) ≡ None → (if a then Some (rule_for Html) else (if b then Some (rule_for Body) else (if c then Some (rule_for Paragraph) else None))) ≡ None
     go true b c h = cc

@@ -1,11 +1,11 @@
 -- A step keeps what is left of the page, and the first state has all of it.
 use Rattle.std.proofs.Common.{◌≡◌, ℕ, suc, Bool, true, false, List, [], ◌∷◌, ◌++◌, nat_eq, refl, sym, ap, ◌∙◌, subst, codes, arith}
-use Rattle.std.specs.Prelude.{map, Option, Some, None, ◌≢◌, if◌then◌else◌}
+use Rattle.std.specs.Prelude.{map, Option, Some, None, ◌≢◌, if◌then◌else◌, bytes_eq}
 use Rattle.std.specs.Option.{option_and_then}
 use Rattle.std.specs.List.{list_all}
 use Rattle.std.proofs.lemmas.Bool.Decides.{nat_tests}
 use Rattle.text_base.specs.Exactness.{exact_bytes}
-use Rattle.dtd_model.specs.Characters.{is_blank, same}
+use Rattle.xml_text.specs.Characters.{is_blank}
 use Rattle.dtd_model.specs.Table.{Table}
 use Rattle.std.specs.Char.{encode_utf8}
 use Rattle.dtd_model.specs.References.{Reference, decimal, hexadecimal, entity, reference_then}
@@ -69,9 +69,9 @@ none_is : (a : Element) → None ≡ Some a → ⊥
 none_is a e = cc
 
 unfold_name : (name : List ℕ) (e : Element) → element_named name ≡ Some e → name ≡ name_of e
-unfold_name name e h = go (same name (codes "html")) (same name (codes "body")) (same name (codes "p")) refl refl refl h
+unfold_name name e h = go (bytes_eq name (codes "html")) (bytes_eq name (codes "body")) (bytes_eq name (codes "p")) refl refl refl h
   where
-    go : (a b c : Bool) → same name (codes "html") ≡ a → same name (codes "body") ≡ b → same name (codes "p") ≡ c → (if a then Some Html else (if b then Some Body else (if c then Some Paragraph else None))) ≡ Some e → name ≡ name_of e
+    go : (a b c : Bool) → bytes_eq name (codes "html") ≡ a → bytes_eq name (codes "body") ≡ b → bytes_eq name (codes "p") ≡ c → (if a then Some Html else (if b then Some Body else (if c then Some Paragraph else None))) ≡ Some e → name ≡ name_of e
     go true b c p q r h = exact_bytes name (codes "html") p ∙ ap name_of (some_is Html e h)
     go false true c p q r h = exact_bytes name (codes "body") q ∙ ap name_of (some_is Body e h)
     go false false true p q r h = exact_bytes name (codes "p") r ∙ ap name_of (some_is Paragraph e h)
@@ -148,9 +148,9 @@ no_place n h = grind (arith, nat_tests)
 
 root_name : (name : List ℕ) → nat_eq (place_of mini_table.elements name) 0 ≡ true → name ≡ codes "html"
 unfolding mini_table
-root_name name h = go (same (codes "html") name) refl h
+root_name name h = go (bytes_eq (codes "html") name) refl h
   where
-    go : (x : Bool) → same (codes "html") name ≡ x → nat_eq (if x then 0 else suc (if same (codes "body") name then 0 else suc (if same (codes "p") name then 0 else suc 0))) 0 ≡ true → name ≡ codes "html"
+    go : (x : Bool) → bytes_eq (codes "html") name ≡ x → nat_eq (if x then 0 else suc (if bytes_eq (codes "body") name then 0 else suc (if bytes_eq (codes "p") name then 0 else suc 0))) 0 ≡ true → name ≡ codes "html"
     go true is h = sym (exact_bytes (codes "html") name is)
     go false is h = absurd (no_place _ h)
 

@@ -3,7 +3,8 @@
 use Rattle.std.specs.Prelude.{◌≡◌, ◌≢◌, ◌<◌, ℕ, Bool, true, false, List, [], ◌∷◌, ◌++◌, length, Option, IfSome, IfNone}
 use Rattle.std.specs.List.{list_all}
 use Rattle.std.specs.Borrow.{Bor}
-use Rattle.dtd_model.specs.Characters.{is_blank, in_name, is_name}
+use Rattle.xml_text.specs.Characters.{is_blank}
+use Rattle.xml_text.specs.Names.{in_name, is_name}
 use Rattle.page_check.specs.declared.piece.Piece.{Piece}
 use Rattle.page_check.specs.declared.piece.Piece.TheVariants.{Start, End, Empty, Character}
 

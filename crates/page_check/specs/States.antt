@@ -2,9 +2,9 @@
 -- speak of it.
 use Rattle.std.specs.Borrow.{Bor}
 use Rattle.page_check.specs.Pieces.{Cuts, NoPiece}
-use Rattle.std.specs.Prelude.{◌≡◌, ℕ, Bool, true, false, List, if◌then◌else◌, Option, Some, None, codes}
+use Rattle.std.specs.Prelude.{◌≡◌, ℕ, Bool, true, false, List, if◌then◌else◌, Option, Some, None, codes, bytes_eq}
 use Rattle.std.specs.Option.{option_and_then}
-use Rattle.dtd_model.specs.Characters.{is_blank, same}
+use Rattle.xml_text.specs.Characters.{is_blank}
 use Rattle.page_check.specs.declared.piece.Piece.{Piece}
 use Rattle.page_check.specs.declared.piece.Piece.TheVariants.{Start, End, Empty, Character}
 use Rattle.page_check.specs.declared.state.State.{State}
@@ -13,7 +13,7 @@ use Rattle.page_check.specs.declared.state.Element.{Element}
 use Rattle.page_check.specs.declared.state.Element.TheVariants.{Html, Body, Paragraph}
 
 abbrev pub element_named : List ℕ → Option Element
-element_named name = if same name (codes "html") then Some Html else (if same name (codes "body") then Some Body else (if same name (codes "p") then Some Paragraph else None))
+element_named name = if bytes_eq name (codes "html") then Some Html else (if bytes_eq name (codes "body") then Some Body else (if bytes_eq name (codes "p") then Some Paragraph else None))
 
 abbrev pub opened : State → Element → Option State
 opened Before Html = Some InHtml

@@ -3,7 +3,7 @@
 ghost use Rattle.std.specs.Prelude.{◌≡◌, ◌-◌, ◌<◌, ◌≤◌, length, IfErr, IfSome, OnOk, true};
 ghost use Rattle.std.specs.List.{list_all};
 ghost use Rattle.dtd_model.specs.Mini.{mini_table};
-ghost use Rattle.dtd_model.specs.Table.{table_of};
+ghost use Rattle.dtd_model.specs.TableOf.{table_of};
 ghost use Rattle.dtd_model.specs.Valid.{Valid};
 ghost use Rattle.page_check.specs.Faults.{IsCause, IsWithin};
 ghost use Rattle.page_check.specs.PageBytes.{is_page_byte};

@@ -1,8 +1,11 @@
 //! Cutting one piece from the beginning of a page: a tag without attributes, or a character.
 
 ghost use Rattle.std.specs.Prelude.{◌≡◌, ◌<◌, ◌≤◌, ◌∷◌, ℕ, List, length, IfSome, IfNone, take, drop};
-ghost use Rattle.dtd_model.specs.Characters.{begins_name, in_name, is_blank};
+ghost use Rattle.xml_text.specs.Names as names;
+ghost use Rattle.xml_text.specs.Characters as characters;
 ghost use Rattle.page_check.specs.Pieces.{Cuts, CutsTag, IsEndTag, IsStartTag, NamedWhole, NoPiece, NoTag, Splits, Stops};
+
+use xml_text::{begins_name, in_name, is_blank};
 
 /// What may stand at the beginning of the rest of a page. The slices are the names in tags.
 #[derive(Clone, Copy)]
@@ -74,10 +77,10 @@ fn cut_start(inside: &[u8]) -> Option<(Piece<'_>, &[u8])>
 // A name at the beginning, and what stands behind it and white space; none where no name begins.
 fn split_name(bytes: &[u8]) -> Option<(&[u8], &[u8])>
     ensures some { IfSome result (λ split. NamedWhole split.0.now bytes.now split.1.now) }
-    ensures none { IfNone result (Stops begins_name bytes.now) }
+    ensures none { IfNone result (Stops names.begins_name bytes.now) }
 {
     let (first, _) = bytes.split_first()?;
-    if !may_begin_name(*first) {
+    if !begins_name(*first) {
         return None;
     }
     let end = name_end(bytes);
@@ -87,10 +90,10 @@ fn split_name(bytes: &[u8]) -> Option<(&[u8], &[u8])>
 // How many bytes of a name stand at the beginning.
 fn name_end(bytes: &[u8]) -> usize
     ensures within { result ≤ length bytes.now }
-    ensures splits { Splits in_name bytes.now (take result bytes.now) (drop result bytes.now) }
+    ensures splits { Splits names.in_name bytes.now (take result bytes.now) (drop result bytes.now) }
 {
     for (i, byte) in bytes.iter().enumerate() {
-        if !may_stand_in_name(*byte) {
+        if !in_name(*byte) {
             return i;
         }
     }
@@ -100,10 +103,10 @@ fn name_end(bytes: &[u8]) -> usize
 // What stands behind the white space at the beginning.
 fn skip_space(bytes: &[u8]) -> &[u8]
     ensures shorter { length result.now ≤ length bytes.now }
-    ensures splits { (space : List ℕ) × Splits is_blank bytes.now space result.now }
+    ensures splits { (space : List ℕ) × Splits characters.is_blank bytes.now space result.now }
 {
     for (i, byte) in bytes.iter().enumerate() {
-        if !is_space(*byte) {
+        if !is_blank(*byte) {
             return &bytes[i..];
         }
     }
@@ -117,22 +120,4 @@ fn after_byte(bytes: &[u8], byte: u8) -> Option<&[u8]>
 {
     let (first, rest) = bytes.split_first()?;
     if *first == byte { Some(rest) } else { None }
-}
-
-fn is_space(byte: u8) -> bool
-    ensures { result ≡ is_blank byte }
-{
-    byte == b'\t' || byte == b'\n' || byte == b'\r' || byte == b' '
-}
-
-fn may_begin_name(byte: u8) -> bool
-    ensures { result ≡ begins_name byte }
-{
-    matches!(byte, b'A'..=b'Z' | b'a'..=b'z' | b'_' | b':')
-}
-
-fn may_stand_in_name(byte: u8) -> bool
-    ensures { result ≡ in_name byte }
-{
-    may_begin_name(byte) || matches!(byte, b'0'..=b'9' | b'.' | b'-')
 }

@@ -1,7 +1,7 @@
 // The answer for a script.
 ghost use Rattle.std.specs.Prelude.{◌≡◌, IfOk, IfErr, IfSome, None, IsTrue, true};
 ghost use Rattle.std.specs.List.{list_all};
-ghost use Rattle.dtd_model.specs.Table.{table_of};
+ghost use Rattle.dtd_model.specs.TableOf.{table_of};
 ghost use Rattle.dtd_model.specs.Valid.{Valid};
 ghost use Rattle.dtd_model.specs.Mini.{mini_table};
 ghost use Rattle.page_check.specs.PageBytes.{is_page_byte};

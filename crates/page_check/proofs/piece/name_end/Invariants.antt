@@ -1,6 +1,6 @@
 use Rattle.std.proofs.Common.{◌≡◌, take, true}
 use Rattle.std.specs.List.{list_all}
-use Rattle.dtd_model.specs.Characters.{in_name}
+use Rattle.xml_text.specs.Names.{in_name}
 use Rattle.page_check.proofs.piece.name_end.Given as goal
 
 abbrev pub invariant-loop-i : goal.invariant-loop-i

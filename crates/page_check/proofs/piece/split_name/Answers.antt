@@ -1,7 +1,7 @@
 use Rattle.std.proofs.Common.{◌≡◌, ℕ, List, ◌-◌, length, take, drop, sym, ap, ◌∙◌, subst}
 use Rattle.std.proofs.Math.Seq.{take-length}
 use Rattle.std.proofs.lemmas.List.{length-drop}
-use Rattle.dtd_model.specs.Characters.{is_blank}
+use Rattle.xml_text.specs.Characters.{is_blank}
 use Rattle.page_check.specs.Pieces.{Splits}
 use Rattle.page_check.proofs.PieceLemmas.{found_name}
 use Rattle.page_check.proofs.piece.split_name.Goals as goal
@@ -14,4 +14,4 @@ pub returns-clause-some : goal.returns-clause-some
 returns-clause-some c =
     let space = c.skip_space.ensures.splits.0 in
     let behind = subst (λ (xs : List ℕ). Splits is_blank xs space c.skip_space.result.now) (to_end c.name_end-end.result c.args.bytes.now) c.skip_space.ensures.splits.1 in
-    found_name _ _ _ space _ _ _ c.in_ok-first.ensures.cases.0 (sym c.may_begin_name.ensures ∙ c.if-not-may_begin_name.false) c.name_end-end.ensures.splits behind
+    found_name _ _ _ space _ _ _ c.in_ok-first.ensures.cases.0 (sym c.begins_name.ensures ∙ c.if-not-begins_name.false) c.name_end-end.ensures.splits behind
