@@ -1,0 +1,3 @@
+pub mod Positions
+pub mod Walks
+pub mod Sets
