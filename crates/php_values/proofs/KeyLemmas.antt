@@ -10,9 +10,9 @@ use Rattle.std.specs.Ordering.{is_eq, nat_cmp, int_cmp}
 use Rattle.std.proofs.lemmas.Cmp.{nat_list_eq_equiv, int_eq_equiv}
 use Rattle.std.proofs.lemmas.Map.Lookups.{exact_signed, exact_bytes}
 use Rattle.std.proofs.lemmas.Map.Text.{is_eq-slice_cmp}
-use Rattle.php_values.specs.Plain.{PlainKey, int_key, text_key}
-use Rattle.php_values.specs.Keys.{same_key, is_absent, are_distinct}
-use Rattle.php_values.specs.Members.{larger, largest_from}
+use Rattle.plain_values.specs.Plain.{PlainKey, int_key, text_key}
+use Rattle.plain_values.specs.Keys.{same_key, is_absent, are_distinct}
+use Rattle.plain_values.specs.Members.{larger, largest_from}
 use Rattle.php_values.specs.View.{plain_key}
 use Rattle.php_values.specs.Index.{place, one_later}
 use Rattle.php_values.specs.declared.key.Key.{Key}

@@ -1,12 +1,6 @@
 mod KeyLemmas
-mod Places
+pub mod Places
 mod IndexLemmas
-mod PartsLemmas
-mod NumeralLemmas
-mod CanonicalLemmas
-mod SameLemmas
-mod Examples
-mod TrimLemmas
-mod SignLemmas
-mod NumberLemmas
-mod NumericLaws
+mod WalkLemmas
+mod WriteLemmas
+mod WriteLaws

@@ -1,16 +1,15 @@
 -- What the place of a key tells of the pairs of an array.
-use Rattle.std.proofs.Common.{◌≡◌, ℕ, zero, suc, ◌+◌, ◌<◌, ◌≤◌, max, ◌==◌, not, Bool, true, false, if◌then◌else◌, List, [], ◌∷◌, ◌++◌, length, get_or, set, take, Some, None, Ok, Err, nat_lt, refl, sym, ◌∙◌, ap, subst, arith}
+use Rattle.std.proofs.Common.{◌≡◌, ℕ, zero, suc, ◌+◌, ◌<◌, ◌≤◌, max, Bool, true, false, if◌then◌else◌, List, [], ◌∷◌, ◌++◌, length, get_or, set, take, Some, None, Ok, Err, nat_le, nat_lt, refl, sym, ◌∙◌, ap, subst, arith}
 use Rattle.std.proofs.lemmas.Bool.Decides.{nat_tests}
-use Rattle.php_values.specs.Text.{pairs_truth}
 use Rattle.std.specs.Cmp.{first_so, second_so}
 use Rattle.std.proofs.lemmas.List.{take_more}
-use Rattle.php_values.specs.Plain.{Plain, PlainKey, Pairs, null, array, empty, pair, keys, depth, deepest}
-use Rattle.php_values.specs.Keys.{same_key, is_absent, are_distinct}
-use Rattle.php_values.specs.Members.{member, put_pair, within_depth}
+use Rattle.plain_values.specs.Plain.{Plain, PlainKey, Pairs, null, array, empty, pair, keys, depth, deepest}
+use Rattle.plain_values.specs.Keys.{same_key, is_absent, are_distinct}
+use Rattle.plain_values.specs.Members.{member, put_pair, within_depth}
 use Rattle.php_values.specs.View.{plain_of, plain_key, pairs_of}
-use Rattle.php_values.specs.Index.{place, one_later}
+use Rattle.php_values.specs.Index.{place, one_later, deepest_after}
 use Rattle.php_values.proofs.KeyLemmas.{later_some, later_none, not_first, no_place, same_back}
-use Rattle.php_values.specs.declared.fault.Fault.TheVariants.{Long}
+use Rattle.plain_values.specs.declared.fault.Fault.TheVariants.{Long}
 use Rattle.php_values.specs.declared.key.Key.{Key}
 use Rattle.php_values.specs.declared.array.Value.{Value}
 
@@ -77,6 +76,29 @@ keys-put_present (pair j u ps) k v i e = by (λ n h. keys-put_present ps k v n h
     by rest true h = refl
     by rest false h = let n = later_some (place (keys ps) k) i h in ap (λ (ks : List PlainKey). j ∷ ks) (rest n.0 n.1)
 
+-- a key among keys where another is not is not that other
+absent_at : (xs : List (Key × Value)) (q : PlainKey) (i : ℕ) (d : Key × Value) → place (keys (pairs_of xs)) q ≡ None → i < length xs → same_key (plain_key (get_or xs i d).0) q ≡ false
+absent_at [] q i d e g = absurd (omega arith)
+absent_at (x ∷ xs) q zero d e g = (not_first (plain_key x.0) q (keys (pairs_of xs)) e).0
+absent_at (x ∷ xs) q (suc i) d e g = absent_at xs q i d (not_first (plain_key x.0) q (keys (pairs_of xs)) e).1 (omega arith)
+
+-- a key is not among those before it
+pub absent_before : (xs : List (Key × Value)) (i : ℕ) (d : Key × Value) → are_distinct (keys (pairs_of xs)) ≡ true → i < length xs → place (keys (pairs_of (take i xs))) (plain_key (get_or xs i d).0) ≡ None
+absent_before [] i d e g = absurd (omega arith)
+absent_before (x ∷ xs) zero d e g = refl
+absent_before (x ∷ xs) (suc i) d e g =
+    let first : place (keys (pairs_of xs)) (plain_key x.0) ≡ None = no_place (keys (pairs_of xs)) (plain_key x.0) (first_so (is_absent (keys (pairs_of xs)) (plain_key x.0)) (are_distinct (keys (pairs_of xs))) e) in
+    let apart : same_key (plain_key x.0) (plain_key (get_or xs i d).0) ≡ false = same_back (plain_key x.0) (plain_key (get_or xs i d).0) ∙ absent_at xs (plain_key x.0) i d first (omega arith) in
+    let rest : place (keys (pairs_of (take i xs))) (plain_key (get_or xs i d).0) ≡ None = absent_before xs i d (second_so (is_absent (keys (pairs_of xs)) (plain_key x.0)) (are_distinct (keys (pairs_of xs))) e) (omega arith) in
+    ap (λ (b : Bool). if b then Some 0 else one_later (place (keys (pairs_of (take i xs))) (plain_key (get_or xs i d).0))) apart ∙ ap one_later rest
+
+pub put_step : (xs : List (Key × Value)) (i : ℕ) (k : Key) (v : Value) (d : Key × Value) → are_distinct (keys (pairs_of xs)) ≡ true → i < length xs → k ≡ (get_or xs i d).0 → v ≡ (get_or xs i d).1 → put_pair (pairs_of (take i xs)) (plain_key k) (plain_of v) ≡ pairs_of (take (i + 1) xs)
+put_step xs i k v d e h kis vis =
+    ap (λ (j : Key). put_pair (pairs_of (take i xs)) (plain_key j) (plain_of v)) kis
+    ∙ ap (λ (u : Value). put_pair (pairs_of (take i xs)) (plain_key (get_or xs i d).0) (plain_of u)) vis
+    ∙ sym (put_absent (take i xs) (get_or xs i d).0 (get_or xs i d).1 (absent_before xs i d e h))
+    ∙ ap (λ (ys : List (Key × Value)). pairs_of ys) (sym (take_more xs i d h))
+
 -- a put makes an array no deeper than the value and the array are
 pub deepest-put : (ps : Pairs) (k : PlainKey) (v : Plain) (n : ℕ) → deepest ps < n → depth v < n → deepest (put_pair ps k v) < n
 deepest-put empty k v n h g = omega arith
@@ -95,36 +117,9 @@ deepest_at [] i n d h g = absurd (omega arith)
 deepest_at (x ∷ xs) zero n d h g = omega arith
 deepest_at (x ∷ xs) (suc i) n d h g = deepest_at xs i n d (omega arith) (omega arith)
 
--- a key among keys where another is not is not that other
-absent_at : (xs : List (Key × Value)) (q : PlainKey) (i : ℕ) (d : Key × Value) → place (keys (pairs_of xs)) q ≡ None → i < length xs → same_key (plain_key (get_or xs i d).0) q ≡ false
-absent_at [] q i d e g = absurd (omega arith)
-absent_at (x ∷ xs) q zero d e g = (not_first (plain_key x.0) q (keys (pairs_of xs)) e).0
-absent_at (x ∷ xs) q (suc i) d e g = absent_at xs q i d (not_first (plain_key x.0) q (keys (pairs_of xs)) e).1 (omega arith)
-
--- a key is not among those before it
-pub absent_before : (xs : List (Key × Value)) (i : ℕ) (d : Key × Value) → are_distinct (keys (pairs_of xs)) ≡ true → i < length xs → place (keys (pairs_of (take i xs))) (plain_key (get_or xs i d).0) ≡ None
-absent_before [] i d e g = absurd (omega arith)
-absent_before (x ∷ xs) zero d e g = refl
-absent_before (x ∷ xs) (suc i) d e g =
-    let first : place (keys (pairs_of xs)) (plain_key x.0) ≡ None = no_place (keys (pairs_of xs)) (plain_key x.0) (first_so (is_absent (keys (pairs_of xs)) (plain_key x.0)) (are_distinct (keys (pairs_of xs))) e) in
-    let apart : same_key (plain_key x.0) (plain_key (get_or xs i d).0) ≡ false = same_back (plain_key x.0) (plain_key (get_or xs i d).0) ∙ absent_at xs (plain_key x.0) i d first (omega arith) in
-    let rest : place (keys (pairs_of (take i xs))) (plain_key (get_or xs i d).0) ≡ None = absent_before xs i d (second_so (is_absent (keys (pairs_of xs)) (plain_key x.0)) (are_distinct (keys (pairs_of xs))) e) (omega arith) in
-    ap (λ (b : Bool). if b then Some 0 else one_later (place (keys (pairs_of (take i xs))) (plain_key (get_or xs i d).0))) apart ∙ ap one_later rest
-
 -- the step of a loop over the pairs
 pub deepest_step : (xs : List (Key × Value)) (i : ℕ) (d : Key × Value) → i < length xs → deepest (pairs_of (take (i + 1) xs)) ≡ max (deepest (pairs_of (take i xs))) (depth (plain_of (get_or xs i d).1))
 deepest_step xs i d h = ap (λ (ys : List (Key × Value)). deepest (pairs_of ys)) (take_more xs i d h) ∙ deepest-push (take i xs) (get_or xs i d)
-
-pub put_step : (xs : List (Key × Value)) (i : ℕ) (k : Key) (v : Value) (d : Key × Value) → are_distinct (keys (pairs_of xs)) ≡ true → i < length xs → k ≡ (get_or xs i d).0 → v ≡ (get_or xs i d).1 → put_pair (pairs_of (take i xs)) (plain_key k) (plain_of v) ≡ pairs_of (take (i + 1) xs)
-put_step xs i k v d e h kis vis =
-    ap (λ (j : Key). put_pair (pairs_of (take i xs)) (plain_key j) (plain_of v)) kis
-    ∙ ap (λ (u : Value). put_pair (pairs_of (take i xs)) (plain_key (get_or xs i d).0) (plain_of u)) vis
-    ∙ sym (put_absent (take i xs) (get_or xs i d).0 (get_or xs i d).1 (absent_before xs i d e h))
-    ∙ ap (λ (ys : List (Key × Value)). pairs_of ys) (sym (take_more xs i d h))
-
-pub is_empty-pairs : (xs : List (Key × Value)) → (length xs == 0) ≡ not (pairs_truth (pairs_of xs))
-is_empty-pairs [] = refl
-is_empty-pairs (x ∷ xs) = grind (arith, nat_tests)
 
 pub depth_le_put : (ps : Pairs) (k : PlainKey) (v : Plain) → depth v ≤ deepest (put_pair ps k v)
 depth_le_put empty k v = omega arith
@@ -147,3 +142,34 @@ put_long ps k v h = by (nat_lt (deepest (put_pair ps k v)) 1000) refl
     by : (b : Bool) → nat_lt (deepest (put_pair ps k v)) 1000 ≡ b → (if b then Ok (array (put_pair ps k v)) else Err Long) ≡ Err Long
     by true e = let l = depth_le_put ps k v in absurd (grind (arith, nat_tests, l))
     by false e = refl
+
+-- how deep the values are after one of them changed
+changed_depth : (xs : List (Key × Value)) (i : ℕ) (d x : Key × Value) → i < length xs
+    → (deepest (pairs_of (set xs i x)) ≤ max (deepest (pairs_of xs)) (depth (plain_of x.1))) × (depth (plain_of x.1) ≤ deepest (pairs_of (set xs i x))) × (deepest (pairs_of xs) ≤ max (deepest (pairs_of (set xs i x))) (depth (plain_of (get_or xs i d).1)))
+changed_depth [] i d x h = absurd (omega arith)
+changed_depth (y ∷ ys) zero d x h = (omega arith, omega arith, omega arith)
+changed_depth (y ∷ ys) (suc i) d x h =
+    let rest = changed_depth ys i d x (omega arith) in
+    (omega (arith, rest.0), omega (arith, rest.1), omega (arith, rest.2))
+
+pub deepest_changed : (xs : List (Key × Value)) (i : ℕ) (d x : Key × Value) → i < length xs → deepest_after (deepest (pairs_of xs)) (depth (plain_of (get_or xs i d).1)) (depth (plain_of x.1)) (deepest (pairs_of (set xs i x))) ≡ deepest (pairs_of (set xs i x))
+deepest_changed xs i d x h =
+    let known = changed_depth xs i d x h in
+    by (deepest (pairs_of xs)) (depth (plain_of (get_or xs i d).1)) (depth (plain_of x.1)) (deepest (pairs_of (set xs i x))) known.0 known.1 known.2
+  where
+    by : (deep before after anew : ℕ) → anew ≤ max deep after → after ≤ anew → deep ≤ max anew before → deepest_after deep before after anew ≡ anew
+    by deep before after anew a b c = first (nat_le deep after) refl
+      where
+        second : (t : Bool) → nat_lt before deep ≡ t → nat_le deep after ≡ false → (if t then deep else anew) ≡ anew
+        second true e f = grind (arith, nat_tests)
+        second false e f = refl
+
+        first : (t : Bool) → nat_le deep after ≡ t → (if t then after else if nat_lt before deep then deep else anew) ≡ anew
+        first true e = grind (arith, nat_tests)
+        first false e = second (nat_lt before deep) refl e
+
+pub not_deeper : (xs : List (Key × Value)) (i : ℕ) (d x : Key × Value) → i < length xs → depth (plain_of x.1) ≤ depth (plain_of (get_or xs i d).1) → deepest (pairs_of (set xs i x)) ≤ deepest (pairs_of xs)
+not_deeper xs i d x h low =
+    let known = changed_depth xs i d x h in
+    let old = deepest_at xs i (suc (deepest (pairs_of xs))) d (omega arith) h in
+    omega (arith, known.0, old, low)

@@ -1,12 +1,5 @@
-pub mod Plain
 pub mod PlainCode
 pub mod View
 pub mod Falls
-pub mod Numeric
-pub mod Keys
-pub mod Text
-pub mod Compare
-pub mod Members
 pub mod Index
-pub mod Parts
-pub mod Grammar
+pub mod Writes

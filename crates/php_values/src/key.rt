@@ -5,23 +5,23 @@ ghost use Rattle.std.proofs.Common.{rules};
 ghost use Rattle.std.specs.Cmp.Rules.{comparing};
 ghost use Rattle.std.specs.Cmp.Lexicographic.{pointwise, slice_cmp, slice_partial_cmp};
 ghost use Rattle.std.specs.Ordering.{nat_cmp, as_partial_cmp};
-ghost use Rattle.php_values.specs.Keys.{canonical_integer};
+ghost use Rattle.plain_values.specs.Keys.{canonical_integer};
 
-use std::alloc::Global;
+use crate::text::Text;
 use std::cmp::Ordering;
 use std::marker::Model;
-use text_base::{Bytes, NoMemory};
+use text_base::NoMemory;
 
 /// A text that is a key: never the decimal form of a 64-bit integer, which would be that integer
 /// as a key.
 #[derive(Debug, Drop)]
 pub struct KeyText {
-    text: Bytes,
+    text: Text,
 }
 
 impl Model for KeyText {
     ghost use Rattle.std.specs.Prelude.{◌≡◌, List, ℕ, None};
-    ghost use Rattle.php_values.specs.Keys.{canonical_integer};
+    ghost use Rattle.plain_values.specs.Keys.{canonical_integer};
 
     ghost Value = { List ℕ };
 
@@ -78,13 +78,12 @@ pub enum Key {
 }
 
 impl KeyText {
-    /// A key of these bytes, which are the decimal form of no integer.
-    pub fn new(alloc: Global, text: &[u8]) -> Result<KeyText, NoMemory>
-        requires { canonical_integer text.now ≡ None }
-        ensures { IfOk result (λ t. t ≡ text.now) }
+    /// A key of this text, which is the decimal form of no integer. The bytes are not copied.
+    pub fn new(text: Text) -> KeyText
+        requires { canonical_integer text ≡ None }
+        ensures { result ≡ text }
     {
-        let text = Bytes::from_slice(alloc, text)?;
-        Ok(KeyText { text })
+        KeyText { text }
     }
 
     /// The bytes of the text.
@@ -95,24 +94,31 @@ impl KeyText {
         self.text.as_slice()
     }
 
-    /// A second text with the same bytes.
-    pub fn copy(&self, alloc: Global) -> Result<KeyText, NoMemory>
+    /// The text. Its bytes are not copied.
+    pub fn text(&self) -> Result<Text, NoMemory>
         ensures { IfOk result (λ t. t ≡ self.now) }
     {
-        let text = self.text.copy(alloc)?;
+        self.text.share()
+    }
+
+    /// The same text once more. The bytes are not copied.
+    pub fn share(&self) -> Result<KeyText, NoMemory>
+        ensures { IfOk result (λ t. t ≡ self.now) }
+    {
+        let text = self.text.share()?;
         Ok(KeyText { text })
     }
 }
 
 impl Key {
-    /// A second key that is the same.
-    pub fn copy(&self, alloc: Global) -> Result<Key, NoMemory>
+    /// The same key once more. The bytes of a text are not copied.
+    pub fn share(&self) -> Result<Key, NoMemory>
         ensures { IfOk result (λ k. k ≡ self.now) }
     {
         match self {
             Key::Int(number) => Ok(Key::Int(*number)),
             Key::Text(text) => {
-                let text = text.copy(alloc)?;
+                let text = text.share()?;
                 Ok(Key::Text(text))
             }
         }

@@ -1,29 +1,17 @@
-//! The values of a script, and what its operations do with them: text form, truth, keys, numeric
-//! texts, identity, loose comparison, reading and writing members, and the limits of size. The
-//! contracts cite the functions over plain values of this crate's specs/ (`text_of`, `truth`,
-//! `key_of`, `numeric`, `compare`, `get`, `put`, `push`), in which an array is a list of pairs with
-//! distinct keys. Below stands text_base, for byte strings and the error for want of memory.
+//! The values of a script, whose copies cost a count and whose writes are in place where one value
+//! holds the text or the array, and else copy one level of it. The contracts cite the definitions
+//! over plain values of plain_values, in which an array is a list of pairs with distinct keys:
+//! nothing of the sharing shows. Below stand text_base and plain_values.
 #![tactic(auto)]
 
 mod array;
-mod comparison;
-mod fault;
-mod identity;
 mod key;
-mod laws;
 mod members;
-mod numeric;
+mod paths;
 mod text;
+mod walk;
 
-pub use array::{Array, DEPTH_LIMIT, Value};
-pub use comparison::{compare, less, loose_equal};
-pub use fault::Fault;
-pub use identity::same;
+pub use array::{Array, Value};
 pub use key::{Key, KeyText};
-pub use laws::numeric_texts;
-pub use members::{TEXT_LIMIT, get, push, put, text_value};
-pub use numeric::{Numeric, numeric_of};
-pub use text::{canonical_integer, decimal, key_of, key_of_text, text_of, truth};
-
-#[cfg(test)]
-mod tests;
+pub use text::Text;
+pub use walk::Walk;

@@ -1,83 +1,203 @@
-//! Reading and writing the members of a value, and the limit of texts.
+//! The members of an array: its pairs, and the index of their keys.
 
-ghost use Rattle.std.specs.Prelude.{◌≡◌, ◌⊎◌, OnOk, OnErr, IfOk, IfErr, Ok, Err};
-ghost use Rattle.php_values.specs.Members as spec;
-ghost use Rattle.php_values.specs.View.{plain_of, plain_key};
+ghost use Rattle.std.specs.Prelude.{◌≡◌, ◌⊎◌, ℕ, ◌<◌, ◌≤◌, true, IfOk, IfErr, OnOk, OnErr, IfSome, IfNone, is_none, Some, None};
+ghost use Rattle.plain_values.specs.Plain.{Plain, keys, empty, depth, deepest};
+ghost use Rattle.plain_values.specs.Plain.{deepest as deepest_in};
+ghost use Rattle.plain_values.specs.Keys.{is_absent, are_distinct};
+ghost use Rattle.plain_values.specs.Members.{member, put_pair, key_after, largest_key, larger as larger_key};
+ghost use Rattle.plain_values.specs.Paths.{named_key};
+ghost use Rattle.php_values.specs.View.{plain_of, plain_key, pairs_of, plain_step};
+ghost use Rattle.php_values.specs.Index.{place as place_of, deepest_after as deepest_after_change};
 
-use crate::array::{Array, Value};
-use crate::fault::Fault;
+use crate::array::{Members, Value};
 use crate::key::Key;
-use std::alloc::Global;
-use text_base::Bytes;
+use plain_values::Fault;
+use std::alloc::{AllocError, Global};
+use std::collections::BTreeMap;
+use text_base::NoMemory;
 
-/// How many bytes a text of a script has at most.
-pub const TEXT_LIMIT: usize = 16_777_216;
-
-/// The value at a key (PHP manual, "Arrays"): null where an array does not have the key, and at
-/// every key of null, a boolean and an integer. Faults BadIndex exactly at a text.
-pub fn get(alloc: Global, value: &Value, key: &Key) -> Result<Value, Fault>
-    ensures ok { IfOk result (λ found. spec.get (plain_of value.now) (plain_key key.now) ≡ Ok (plain_of found)) }
-    ensures err { IfErr result (λ fault. (fault ≡ Fault.Memory) ⊎ (spec.get (plain_of value.now) (plain_key key.now) ≡ Err fault)) }
-{
-    match value {
-        Value::Null | Value::Flag(_) | Value::Int(_) => Ok(Value::Null),
-        Value::Text(_) => Err(Fault::BadIndex),
-        Value::Array(array) => match array.find(key) {
-            None => Ok(Value::Null),
-            Some(found) => Ok(found.copy(alloc)?),
-        },
-    }
-}
-
-/// Writes a value at a key (PHP manual, "Arrays"). Null becomes an array by it. Faults BadIndex
-/// exactly where the container is another value that is no array, and Long exactly where the array
-/// would be nested deeper than 1,000; after a fault nothing has changed.
-pub fn put(alloc: Global, value: &mut Value, key: Key, new: Value) -> Result<(), Fault>
-    ensures ok { OnOk result (spec.put (plain_of value.old) (plain_key key) (plain_of new) ≡ Ok (plain_of value.new)) }
-    ensures err { IfErr result (λ fault. (fault ≡ Fault.Memory) ⊎ (spec.put (plain_of value.old) (plain_key key) (plain_of new) ≡ Err fault)) }
-    ensures unchanged { OnErr result (value.new ≡ value.old) }
-{
-    match value {
-        Value::Null => {
-            let mut array = Array::new(alloc);
-            array.put(alloc, key, new)?;
-            *value = Value::Array(array);
-            Ok(())
+impl Members {
+    /// No members.
+    pub(crate) fn new(alloc: Global) -> Members
+        ensures { result ≡ empty }
+    {
+        Members {
+            pairs: Vec::new(alloc),
+            places: BTreeMap::new(alloc),
+            largest: None,
+            deepest: 0,
         }
-        Value::Flag(_) | Value::Int(_) | Value::Text(_) => Err(Fault::BadIndex),
-        Value::Array(array) => array.put(alloc, key, new),
     }
-}
 
-/// Appends a value (PHP manual, "Arrays"). Null becomes an array by it. Faults BadIndex exactly
-/// where the container is another value that is no array, else Full exactly where the largest
-/// integer key is 9,223,372,036,854,775,807, else Long exactly where the array would be nested
-/// deeper than 1,000; after a fault nothing has changed.
-pub fn push(alloc: Global, value: &mut Value, new: Value) -> Result<(), Fault>
-    ensures ok { OnOk result (spec.push (plain_of value.old) (plain_of new) ≡ Ok (plain_of value.new)) }
-    ensures err { IfErr result (λ fault. (fault ≡ Fault.Memory) ⊎ (spec.push (plain_of value.old) (plain_of new) ≡ Err fault)) }
-    ensures unchanged { OnErr result (value.new ≡ value.old) }
-{
-    match value {
-        Value::Null => {
-            let mut array = Array::new(alloc);
-            array.push(alloc, new)?;
-            *value = Value::Array(array);
-            Ok(())
+    // The pairs, in the order in which their keys came.
+    pub(crate) fn pairs(&self) -> &[(Key, Value)]
+        ensures pairs { pairs_of result.now ≡ self.now }
+        ensures distinct { are_distinct (keys self.now) ≡ true }
+        ensures shallow { deepest self.now < 1000 }
+    {
+        self.pairs.as_slice()
+    }
+
+    // The depth of the deepest member.
+    pub(crate) fn deepest(&self) -> u64
+        ensures depth { result ≡ deepest self.now }
+        ensures small { result < 1000 }
+    {
+        self.deepest
+    }
+
+    // The key that an append takes.
+    pub(crate) fn next_key(&self) -> Option<i64>
+        ensures { result ≡ key_after (largest_key self.now) }
+    {
+        match self.largest {
+            None => Some(0),
+            Some(last) => last.checked_add(1),
         }
-        Value::Flag(_) | Value::Int(_) | Value::Text(_) => Err(Fault::BadIndex),
-        Value::Array(array) => array.push(alloc, new),
+    }
+
+    // The key that a step of a path names.
+    pub(crate) fn key_at(&self, step: &Option<Key>) -> Result<Key, Fault>
+        ensures ok { IfOk result (λ key. named_key (plain_step step.now) (key_after (largest_key self.now)) ≡ Some (plain_key key)) }
+        ensures err { IfErr result (λ fault. (fault ≡ Fault.Memory) ⊎ ((named_key (plain_step step.now) (key_after (largest_key self.now)) ≡ None) × (fault ≡ Fault.Full))) }
+    {
+        match step {
+            Some(key) => {
+                let key = key.share()?;
+                Ok(key)
+            }
+            None => match self.next_key() {
+                None => Err(Fault::Full),
+                Some(next) => Ok(Key::Int(next)),
+            },
+        }
+    }
+
+    // The place of a key.
+    pub(crate) fn place(&self, key: &Key) -> Option<u64>
+        ensures place { result ≡ place_of (keys self.now) (plain_key key.now) }
+        ensures shallow { deepest self.now < 1000 }
+    {
+        self.places.get(key).copied()
+    }
+
+    // The value at a key, if the key is there.
+    pub(crate) fn find(&self, key: &Key) -> Option<&Value>
+        ensures there { is_none result ≡ is_absent (keys self.now) (plain_key key.now) }
+        ensures some { IfSome result (λ v. member self.now (plain_key key.now) ≡ plain_of v.now) }
+        ensures none { IfNone result (member self.now (plain_key key.now) ≡ Plain.null) }
+    {
+        match self.places.get(key) {
+            None => None,
+            Some(place) => Some(&self.pairs[*place as usize].1),
+        }
+    }
+
+    // Changes the value at a place.
+    pub(crate) fn replace(&mut self, key: &Key, place: u64, value: Value)
+        requires known { place_of (keys self.old) (plain_key key.now) ≡ Some place }
+        requires shallow { depth (plain_of value) < 1000 }
+        ensures { self.new ≡ put_pair self.old (plain_key key.now) (plain_of value) }
+    {
+        let member = &mut self.pairs[place as usize].1;
+        let before = member.depth();
+        let after = value.depth();
+        *member = value;
+        self.deepest = deepest_after(self.deepest, before, after, &self.pairs);
+    }
+
+    // Puts a pair behind the others.
+    pub(crate) fn add(&mut self, key: Key, value: Value) -> Result<(), NoMemory>
+        requires absent { place_of (keys self.old) (plain_key key) ≡ None }
+        requires shallow { depth (plain_of value) < 1000 }
+        ensures ok { OnOk result (self.new ≡ put_pair self.old (plain_key key) (plain_of value)) }
+        ensures err { OnErr result (self.new ≡ self.old) }
+    {
+        let own = key.share()?;
+        self.pairs.reserve(1)?;
+        self.places.insert(own, self.pairs.len() as u64)?;
+        self.largest = larger(&key, self.largest);
+        self.deepest = self.deepest.max(value.depth());
+        match self.pairs.push((key, value)) {
+            Ok(()) => Ok(()),
+            Err(_) => unreachable!(),
+        }
+    }
+
+    // Puts a value at a key: at its place, or behind the others.
+    pub(crate) fn put(&mut self, key: Key, value: Value) -> Result<(), NoMemory>
+        requires { depth (plain_of value) < 1000 }
+        ensures ok { OnOk result (self.new ≡ put_pair self.old (plain_key key) (plain_of value)) }
+        ensures err { OnErr result (self.new ≡ self.old) }
+    {
+        match self.place(&key) {
+            Some(place) => {
+                self.replace(&key, place, value);
+                Ok(())
+            }
+            None => self.add(key, value),
+        }
     }
 }
 
-/// The value of a text that an operation makes. Faults Long exactly where it is longer than
-/// 16,777,216 bytes.
-pub fn text_value(text: Bytes) -> Result<Value, Fault>
-    ensures ok { IfOk result (λ value. spec.within_length text ≡ Ok (plain_of value)) }
-    ensures err { IfErr result (λ fault. spec.within_length text ≡ Err fault) }
-{
-    if text.len() > TEXT_LIMIT {
-        return Err(Fault::Long);
+impl Members {
+    // The same members once more: one level is copied, and what the members hold is shared.
+    fn copy(&self) -> Result<Members, NoMemory>
+        ensures { IfOk result (λ m. m ≡ self.now) }
+    {
+        let mut made = Members::new(*self.pairs.allocator());
+        for pair in &self.pairs {
+            let key = pair.0.share()?;
+            let value = pair.1.share()?;
+            made.add(key, value)?;
+        }
+        Ok(made)
     }
-    Ok(Value::Text(text))
+}
+
+impl Clone for Members {
+    ghost is_clone = { λ m copy. copy ≡ m };
+
+    // For a write into one of two arrays that hold the same members.
+    fn clone(&self) -> Result<Members, AllocError> {
+        match self.copy() {
+            Ok(members) => Ok(members),
+            Err(_) => Err(AllocError),
+        }
+    }
+}
+
+// The larger of an integer key and the largest one before it.
+fn larger(key: &Key, best: Option<i64>) -> Option<i64>
+    ensures { result ≡ larger_key (plain_key key.now) best }
+{
+    match (key, best) {
+        (Key::Int(number), None) => Some(*number),
+        (Key::Int(number), Some(before)) => Some((*number).max(before)),
+        (Key::Text(_), best) => best,
+    }
+}
+
+// The depth of the deepest value of some pairs.
+fn deepest_of(pairs: &[(Key, Value)]) -> u64
+    ensures { result ≡ deepest (pairs_of pairs.now) }
+{
+    let mut most: u64 = 0;
+    for pair in pairs {
+        most = most.max(pair.1.depth());
+    }
+    most
+}
+
+// The depth of the deepest value after one changed its depth.
+pub(crate) fn deepest_after(deepest: u64, before: u64, after: u64, pairs: &[(Key, Value)]) -> u64
+    ensures { result ≡ deepest_after_change deepest before after (deepest_in (pairs_of pairs.now)) }
+{
+    if deepest <= after {
+        after
+    } else if before < deepest {
+        deepest
+    } else {
+        deepest_of(pairs)
+    }
 }

@@ -1,110 +1,141 @@
-//! The text form and the truth of a value, and the key that it stands for.
+//! Texts that share their bytes.
 
-ghost use Rattle.std.specs.Prelude.{◌≡◌, ◌⊎◌, IfOk, IfErr, Ok, Err, Some, None, nat_eq, if◌then◌else◌};
-ghost use Rattle.std.specs.Fmt.{signed_decimal};
-ghost use Rattle.std.specs.Cmp.Lexicographic.{pointwise};
-ghost use Rattle.php_values.specs.Text as spec;
-ghost use Rattle.php_values.specs.Keys as keys;
-ghost use Rattle.php_values.specs.View.{plain_of, plain_key};
+ghost use Rattle.std.specs.Prelude.{◌≡◌, ◌⊎◌, ◌++◌, ℕ, ◌≤◌, List, length, IfOk, IfErr, OnOk, OnErr, Ok, Err, nat_eq};
+ghost use Rattle.std.proofs.Common.{rules};
+ghost use Rattle.std.specs.Cmp.Rules.{comparing};
+ghost use Rattle.std.specs.Cmp.Lexicographic.{pointwise, slice_cmp, slice_partial_cmp};
+ghost use Rattle.std.specs.Ordering.{nat_cmp, as_partial_cmp};
+ghost use Rattle.plain_values.specs.Plain.{Plain};
+ghost use Rattle.plain_values.specs.Members.{within_length};
 
-use crate::array::Value;
-use crate::fault::Fault;
-use crate::key::{Key, KeyText};
+use plain_values::Fault;
 use std::alloc::Global;
-use text_base::{Bytes, NoMemory};
+use std::cmp::Ordering;
+use std::marker::Model;
+use std::rc::Rc;
+use text_base::NoMemory;
+use text_base::limits::TEXT_LIMIT;
 
-/// The text form of a value (PHP manual, "Strings: converting to string"). PHP's warning at an
-/// array is not given.
-pub fn text_of(alloc: Global, value: &Value) -> Result<Bytes, NoMemory>
-    ensures { IfOk result (λ text. text ≡ spec.text_of (plain_of value.now)) }
-{
-    match value {
-        Value::Null | Value::Flag(false) => Ok(Bytes::new(alloc)),
-        Value::Flag(true) => Bytes::from_slice(alloc, b"1"),
-        Value::Int(number) => decimal(alloc, *number),
-        Value::Text(text) => text.copy(alloc),
-        Value::Array(_) => Bytes::from_slice(alloc, b"Array"),
+/// A text of at most 16,777,216 bytes. Contracts see it as the list of its bytes, and nothing of
+/// how many texts hold the same bytes in memory.
+#[derive(Debug, Drop)]
+pub struct Text {
+    bytes: Rc<Vec<u8>>,
+}
+
+impl Model for Text {
+    ghost use Rattle.std.specs.Prelude.{ℕ, ◌≤◌, List, length};
+
+    ghost Value = { List ℕ };
+
+    ghost view = { λ t. t.bytes.value.items };
+
+    ghost invariant = { λ t. length t.bytes.value.items ≤ 16777216 };
+}
+
+impl PartialEq for Text {
+    ghost eq = { pointwise nat_eq };
+
+    ghost laws = { Prim.search (comparing, rules) };
+
+    fn eq(&self, other: &Text) -> bool {
+        self.as_slice() == other.as_slice()
     }
 }
 
-/// The decimal form of an integer.
-pub fn decimal(alloc: Global, number: i64) -> Result<Bytes, NoMemory>
-    ensures { IfOk result (λ text. text ≡ signed_decimal number) }
-{
-    let text = format!(in alloc; "{number}")?;
-    Ok(Bytes::from_vec(text.into_bytes()))
+impl Eq for Text {
+    ghost laws = { Prim.search (comparing, rules) };
 }
 
-/// Whether a value is true (PHP manual, "Booleans: converting to boolean").
-pub fn truth(value: &Value) -> bool
-    ensures { result ≡ spec.truth (plain_of value.now) }
-{
-    match value {
-        Value::Null => false,
-        Value::Flag(truth) => *truth,
-        Value::Int(number) => *number != 0,
-        Value::Text(text) => text_truth(text.as_slice()),
-        Value::Array(array) => !array.is_empty(),
+impl PartialOrd for Text {
+    ghost partial_cmp = { as_partial_cmp (slice_cmp nat_cmp) };
+
+    ghost laws = { Prim.search (comparing, rules) };
+
+    fn partial_cmp(&self, other: &Text) -> Option<Ordering> {
+        Some(self.cmp(other))
     }
 }
 
-fn text_truth(text: &[u8]) -> bool
-    ensures { result ≡ spec.text_truth text.now }
-{
-    match text {
-        [] => false,
-        [only] => *only != b'0',
-        _ => true,
+impl Ord for Text {
+    ghost cmp = { slice_cmp nat_cmp };
+
+    ghost total = { Prim.search (comparing, rules) };
+
+    ghost matches_partial_cmp = { Prim.search (comparing, rules) };
+
+    ghost matches_eq = { Prim.search (comparing, rules) };
+
+    fn cmp(&self, other: &Text) -> Ordering {
+        self.as_slice().cmp(&other.as_slice())
     }
 }
 
-/// The integer in range whose decimal form the text is, if there is one.
-pub fn canonical_integer(alloc: Global, text: &[u8]) -> Result<Option<i64>, NoMemory>
-    ensures { IfOk result (λ number. number ≡ keys.canonical_integer text.now) }
-{
-    match str::from_utf8(text) {
-        Ok(characters) => match characters.parse::<i64>() {
-            Ok(number) => {
-                let form = decimal(alloc, number)?;
-                Ok(if_same(form.as_slice(), text, number))
-            }
-            Err(_) => Ok(None),
-        },
-        Err(_) => Ok(None),
-    }
-}
-
-fn if_same(form: &[u8], text: &[u8], number: i64) -> Option<i64>
-    ensures { result ≡ (if pointwise nat_eq form.now text.now then Some number else None) }
-{
-    if form == text { Some(number) } else { None }
-}
-
-/// The key that a text is: the integer whose decimal form it is, or the text itself.
-pub fn key_of_text(alloc: Global, text: &[u8]) -> Result<Key, NoMemory>
-    ensures { IfOk result (λ key. plain_key key ≡ keys.canonical_key text.now (keys.canonical_integer text.now)) }
-{
-    match canonical_integer(alloc, text)? {
-        Some(number) => Ok(Key::Int(number)),
-        None => {
-            let text = KeyText::new(alloc, text)?;
-            Ok(Key::Text(text))
+impl Text {
+    /// A text of these bytes. Faults Long exactly where there are more than 16,777,216.
+    pub fn new(alloc: Global, bytes: &[u8]) -> Result<Text, Fault>
+        ensures ok { IfOk result (λ t. within_length bytes.now ≡ Ok (Plain.text t)) }
+        ensures err { IfErr result (λ fault. (fault ≡ Fault.Memory) ⊎ (within_length bytes.now ≡ Err fault)) }
+    {
+        if bytes.len() > TEXT_LIMIT {
+            return Err(Fault::Long);
         }
+        let own = Vec::from_slice(alloc, bytes)?;
+        let bytes = Rc::new(alloc, own)?;
+        Ok(Text { bytes })
     }
-}
 
-/// The key that a value stands for (PHP manual, "Arrays"): an array is none, which faults
-/// BadIndex.
-pub fn key_of(alloc: Global, value: &Value) -> Result<Key, Fault>
-    ensures ok { IfOk result (λ key. keys.key_of (plain_of value.now) ≡ Ok (plain_key key)) }
-    ensures err { IfErr result (λ fault. (fault ≡ Fault.Memory) ⊎ (keys.key_of (plain_of value.now) ≡ Err fault)) }
-{
-    match value {
-        Value::Null => Ok(key_of_text(alloc, b"")?),
-        Value::Flag(false) => Ok(Key::Int(0)),
-        Value::Flag(true) => Ok(Key::Int(1)),
-        Value::Int(number) => Ok(Key::Int(*number)),
-        Value::Text(text) => Ok(key_of_text(alloc, text.as_slice())?),
-        Value::Array(_) => Err(Fault::BadIndex),
+    /// A text of these bytes, which are no more than 16,777,216.
+    pub fn from_short(alloc: Global, bytes: &[u8]) -> Result<Text, NoMemory>
+        requires { length bytes.now ≤ 16777216 }
+        ensures { IfOk result (λ t. t ≡ bytes.now) }
+    {
+        let own = Vec::from_slice(alloc, bytes)?;
+        let bytes = Rc::new(alloc, own)?;
+        Ok(Text { bytes })
+    }
+
+    /// A text of the bytes of a vector, which are not copied. Faults Long exactly where there are
+    /// more than 16,777,216.
+    pub fn from_vec(alloc: Global, bytes: Vec<u8>) -> Result<Text, Fault>
+        ensures ok { IfOk result (λ t. within_length bytes.items ≡ Ok (Plain.text t)) }
+        ensures err { IfErr result (λ fault. (fault ≡ Fault.Memory) ⊎ (within_length bytes.items ≡ Err fault)) }
+    {
+        if bytes.len() > TEXT_LIMIT {
+            return Err(Fault::Long);
+        }
+        let bytes = Rc::new(alloc, bytes)?;
+        Ok(Text { bytes })
+    }
+
+    /// The bytes.
+    pub fn as_slice(&self) -> &[u8]
+        ensures bytes { result.now ≡ self.now }
+        ensures short { length self.now ≤ 16777216 }
+    {
+        self.bytes.as_slice()
+    }
+
+    /// The same text once more. The bytes are not copied.
+    pub fn share(&self) -> Result<Text, NoMemory>
+        ensures { IfOk result (λ t. t ≡ self.now) }
+    {
+        let bytes = self.bytes.clone()?;
+        Ok(Text { bytes })
+    }
+
+    /// Puts bytes at the end: in place where no other text holds the bytes. Faults Long exactly
+    /// where the text would be longer than 16,777,216 bytes; after a fault nothing has changed.
+    pub fn append(&mut self, more: &[u8]) -> Result<(), Fault>
+        ensures ok { OnOk result (within_length (self.old ++ more.now) ≡ Ok (Plain.text self.new)) }
+        ensures err { IfErr result (λ fault. (fault ≡ Fault.Memory) ⊎ (within_length (self.old ++ more.now) ≡ Err fault)) }
+        ensures unchanged { OnErr result (self.new ≡ self.old) }
+    {
+        if more.len() > TEXT_LIMIT - self.as_slice().len() {
+            return Err(Fault::Long);
+        }
+        let own = Rc::make_mut(&mut self.bytes)?;
+        own.extend_from_slice(more)?;
+        Ok(())
     }
 }

@@ -6,5 +6,3 @@
 
 pub mod laws;
 pub mod of_byte;
-#[cfg(test)]
-mod tests;

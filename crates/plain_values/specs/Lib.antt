@@ -1,0 +1,14 @@
+pub mod Plain
+pub mod Numeric
+pub mod Keys
+pub mod Text
+pub mod Compare
+pub mod Members
+pub mod Parts
+pub mod Grammar
+pub mod Outcome
+pub mod Arithmetic
+pub mod Intval
+pub mod Joins
+pub mod Paths
+pub mod Walks

@@ -1,0 +1,2 @@
+mod SameLemmas
+pub mod JoinLemmas
