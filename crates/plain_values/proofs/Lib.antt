@@ -7,3 +7,4 @@ pub mod SignLemmas
 pub mod NumberLemmas
 pub mod NumericLaws
 mod Examples
+mod IdentityLemmas

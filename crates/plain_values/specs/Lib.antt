@@ -12,3 +12,4 @@ pub mod Intval
 pub mod Joins
 pub mod Paths
 pub mod Walks
+pub mod Identity
