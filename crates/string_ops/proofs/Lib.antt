@@ -11,8 +11,6 @@ pub mod Relations
 pub mod TrimLemmas
 pub mod HtmlLemmas
 pub mod CutBackLemmas
-pub mod BorderLemmas
-pub mod FailureLemmas
 pub mod SearchLemmas
 pub mod OccurrenceLemmas
 pub mod ReplaceLemmas

@@ -12,10 +12,10 @@ use Rattle.fst_core.specs.declared.out.Out.{Out}
 use Rattle.fst_core.specs.declared.out.Out.TheVariants.{Same, Byte}
 use Rattle.fst_core.specs.declared.table.Table.{Table}
 use Rattle.string_ops.specs.Listed.{byte_of, is_plain, Follows, IsShort, AreSmall, AreBytes, IsListed, IsMachine}
-use Rattle.string_ops.specs.Failure.{next_length}
+use Rattle.text_search.specs.Failure.{next_length}
 use Rattle.string_ops.specs.Search.{let_go, turn, turn_by, is_within}
 use Rattle.string_ops.specs.Replace.{replace_rows, replace_lasts}
-use Rattle.string_ops.proofs.BorderLemmas.{IsNext, next_is}
+use Rattle.text_search.proofs.BorderLemmas.{IsNext, next_is}
 use Rattle.string_ops.proofs.OccurrenceLemmas.{NoneIn, replaced_front, none_short, none_gone, gone, read_splits, whole_read, put_bytes, put_gone}
 use Rattle.string_ops.proofs.ListedLemmas.{IsFunction, follows_function, listed_machine}
 

@@ -9,8 +9,8 @@ use Rattle.fst_core.specs.declared.moves.TableMove.{TableMove}
 use Rattle.fst_core.specs.declared.moves.TableEnd.{TableEnd}
 use Rattle.fst_core.specs.declared.moves.Action.{Action}
 use Rattle.string_ops.specs.Search.{let_go, turn, turn_by, is_within, AddsTurn, AddsFirst, AddsTurns, AddsSearch, AddsEnds}
-use Rattle.string_ops.specs.Failure.{next_length}
-use Rattle.string_ops.proofs.BorderLemmas.{next_is}
+use Rattle.text_search.specs.Failure.{next_length}
+use Rattle.text_search.proofs.BorderLemmas.{next_is}
 use Rattle.std.proofs.Common.{IsTrue}
 use Rattle.std.specs.List.{list_all}
 use Rattle.fst_core.specs.Fits.{is_fixed}

@@ -9,7 +9,6 @@ pub mod Breaks
 pub mod First
 pub mod Trim
 pub mod MachineLaws
-pub mod Failure
 pub mod Search
 pub mod Replace
 pub mod Piece

@@ -9,7 +9,6 @@ mod bytewise;
 mod cut;
 mod cut_back;
 mod factor;
-mod failure;
 mod first;
 mod html;
 mod machine;

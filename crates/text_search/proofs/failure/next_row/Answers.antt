@@ -1,8 +1,8 @@
 use Rattle.std.proofs.Common.{rules, ◌≡◌, ◌<◌, ◌≤◌, ◌+◌, ◌-◌, ◌^◌, ℕ, List, length, get_or, subst, sym, ◌∙◌, ap, arith}
-use Rattle.string_ops.specs.Failure.{IsBorder, IsFailure}
-use Rattle.string_ops.proofs.BorderLemmas.{border_whole, border_zero, border_up}
-use Rattle.string_ops.proofs.FailureLemmas.{Noted, noted_none, noted_more, noted_down, noted_all, failure_at}
-use Rattle.string_ops.proofs.failure.next_row.Goals as goal
+use Rattle.text_search.specs.Failure.{IsBorder, IsFailure}
+use Rattle.text_search.proofs.BorderLemmas.{border_whole, border_zero, border_up}
+use Rattle.text_search.proofs.FailureLemmas.{Noted, noted_none, noted_more, noted_down, noted_all, failure_at}
+use Rattle.text_search.proofs.failure.next_row.Goals as goal
 
 pub loop-part-init : goal.loop-part-init
 loop-part-init c =

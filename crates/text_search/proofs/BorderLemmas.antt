@@ -3,7 +3,7 @@ use Rattle.std.proofs.Common.{◌≡◌, ◌≢◌, ℕ, zero, suc, ◌+◌, ◌
 use Rattle.std.proofs.lemmas.List.{take_more, take_all, drop_all, drop-drop, drop-append-le, take-append-le, take-take, take-append-drop, length-take-le, length-take, length-drop, length-append, append_cancel_left, drop_more, get_or_default, drop_at}
 use Rattle.std.proofs.lemmas.Bool.{cases_Bool, cond-true, cond-false, cases_eq, false≢true}
 use Rattle.std.specs.Cmp.Lexicographic.{pointwise, bytes_decides}
-use Rattle.string_ops.specs.Failure.{IsBorder, IsFailure, AreFailures, longest_front, next_length}
+use Rattle.text_search.specs.Failure.{IsBorder, IsFailure, AreFailures, longest_front, next_length}
 
 -- after a byte, the text ends in the front of so many bytes
 abbrev pub Ends : List ℕ → ℕ → ℕ → ℕ → Type 0
@@ -30,7 +30,7 @@ border_down p n j i b h c = (h, c.1 ∙ border_cut p n j i b h)
 pub border_up : (p : List ℕ) (n j i : ℕ) → IsBorder p n j → i ≤ j → IsBorder p j i → IsBorder p n i
 border_up p n j i b h c = (omega (arith, b.0), c.1 ∙ sym (border_cut p n j i b h))
 
-push_same : (xs ys : List ℕ) (x y : ℕ) → xs ++ x ∷ [] ≡ ys ++ y ∷ [] → (xs ≡ ys) × (x ≡ y)
+pub push_same : (xs ys : List ℕ) (x y : ℕ) → xs ++ x ∷ [] ≡ ys ++ y ∷ [] → (xs ≡ ys) × (x ≡ y)
 push_same [] [] x y e = (refl, cc)
 push_same [] (b ∷ []) x y e = cc
 push_same [] (b ∷ c ∷ ys) x y e = cc

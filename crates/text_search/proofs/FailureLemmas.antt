@@ -2,8 +2,8 @@
 use Rattle.std.proofs.Common.{◌≡◌, ◌≢◌, ◌==◌, ℕ, zero, suc, ◌+◌, ◌-◌, ◌<◌, ◌≤◌, ◌⊎◌, inl, inr, Bool, true, false, List, [], ◌∷◌, ◌++◌, length, take, drop, get_or, set, replicate, slice_index, cond, eqb, refl, sym, ◌∙◌, ap, subst, arith}
 use Rattle.std.proofs.lemmas.List.{length-set, get_or-set_same, get_or-set_other, get_or-replicate, length-append, get_or_append_left, get_or_push, length_push, length-take, drop_all}
 use Rattle.std.proofs.lemmas.Bool.{cases_Bool, cases_eq, cases_lt, cond-true, cond-false, eqb-true, eqb-false}
-use Rattle.string_ops.specs.Failure.{IsBorder, IsFailure, AreFailures, next_length}
-use Rattle.string_ops.proofs.BorderLemmas.{Ends, border_zero, border_whole, border_down, border_up, border_more, border_less, ends_from, ends_parts, IsNext, next_same}
+use Rattle.text_search.specs.Failure.{IsBorder, IsFailure, AreFailures, next_length}
+use Rattle.text_search.proofs.BorderLemmas.{Ends, border_zero, border_whole, border_down, border_up, border_more, border_less, ends_from, ends_parts, IsNext, next_same}
 
 cases_le : (m n : ℕ) → (m ≤ n) ⊎ (n < m)
 cases_le m n = elim (cases_lt n m) [ inl h ↦ inr h | inr h ↦ inl h ]
@@ -219,3 +219,60 @@ pub failure_at : (p failures : List ℕ) (count part : ℕ) → AreFailures p fa
 failure_at p failures count part are h l =
     let e : (part - 1) + 1 ≡ part = omega arith in
     subst (λ (n : ℕ). IsFailure p n (get_or failures (part - 1) 0)) e (are.each (part - 1) (omega arith))
+
+-- while a front is shortened after a byte: no border that goes on with the byte is longer
+pub record Falling (p : List ℕ) (at byte part : ℕ) : Type 0 where
+  pub border : IsBorder p at part
+  pub above : (other : ℕ) → part < other → other ≤ at → IsBorder p at other → get_or p other 0 ≡ byte → ⊥
+
+pub falling_first : (p : List ℕ) (at byte : ℕ) → Falling p at byte at
+falling_first p at byte = record { border = border_whole p at; above = λ other o l b e. absurd (omega arith) }
+
+pub falling_more : (p failures : List ℕ) (at byte part count : ℕ) → AreFailures p failures count → at ≤ count → Falling p at byte part → 0 < part → (get_or p part 0 ≡ byte → ⊥) → Falling p at byte (get_or failures (part - 1) 0)
+falling_more p failures at byte part count are small f h differs =
+    let own = get_or failures (part - 1) 0 in
+    let l : part ≤ at = f.border.0 in
+    let is : IsFailure p part own = failure_at p failures count part are h (omega arith) in
+    let m : own < part = is.shorter in
+    record {
+      border = border_up p at part own f.border (omega arith) is.border;
+      above = λ other o u b e. elim (cases_eq other part) [
+        | inl same ↦ differs (ap (λ (n : ℕ). get_or p n 0) (sym same) ∙ e)
+        | inr ne ↦ elim (cases_le part other) [
+          | inl over ↦ f.above other (omega arith) u b e
+          | inr under ↦ let w = is.longest other under (border_down p at part other f.border (omega arith) b) in absurd (omega (arith, w))
+        ]
+      ];
+    }
+
+pub falling_found : (p : List ℕ) (at byte part : ℕ) → at < length p → Falling p at byte part → get_or p part 0 ≡ byte → part + 1 ≡ next_length p at byte
+falling_found p at byte part l f e =
+    sym (next_same p at byte (part + 1) l (record { within = omega (arith, f.border.0); ends = ends_from p at part byte l f.border e; longest = longest }))
+  where
+    longest : (other : ℕ) → other ≤ at + 1 → Ends p at byte other → other ≤ part + 1
+    longest zero o g = omega arith
+    longest (suc k) o g =
+        let q : suc k ≡ k + 1 = omega arith in
+        let r = ends_parts p at k byte l (omega arith) (subst (λ (m : ℕ). Ends p at byte m) q g) in
+        elim (cases_le k part) [
+          | inl under ↦ omega arith
+          | inr over ↦ absurd (f.above k over (omega arith) r.0 r.1)
+        ]
+
+pub falling_none : (p : List ℕ) (at byte part : ℕ) → at < length p → Falling p at byte part → part ≤ 0 → (get_or p part 0 ≡ byte → ⊥) → 0 ≡ next_length p at byte
+falling_none p at byte part l f z differs =
+    sym (next_same p at byte 0 l (record {
+      within = omega arith;
+      ends = sym (drop_all (at + 1 - 0) (take at p ++ byte ∷ []) (omega (arith, length-append (take at p) (byte ∷ []), length-take at p)));
+      longest = longest;
+    }))
+  where
+    longest : (other : ℕ) → other ≤ at + 1 → Ends p at byte other → other ≤ 0
+    longest zero o g = omega arith
+    longest (suc k) o g =
+        let q : suc k ≡ k + 1 = omega arith in
+        let r = ends_parts p at k byte l (omega arith) (subst (λ (m : ℕ). Ends p at byte m) q g) in
+        elim (cases_le k part) [
+          | inl under ↦ let same : k ≡ part = omega arith in absurd (differs (ap (λ (n : ℕ). get_or p n 0) (sym same) ∙ r.1))
+          | inr over ↦ absurd (f.above k over (omega arith) r.0 r.1)
+        ]

@@ -1,7 +1,7 @@
 use Rattle.std.proofs.Common.{◌+◌, ◌≤◌}
-use Rattle.string_ops.specs.Failure.{IsBorder}
-use Rattle.string_ops.proofs.FailureLemmas.{Noted}
-use Rattle.string_ops.proofs.failure.next_row.Given as goal
+use Rattle.text_search.specs.Failure.{IsBorder}
+use Rattle.text_search.proofs.FailureLemmas.{Noted}
+use Rattle.text_search.proofs.failure.next_row.Given as goal
 
 abbrev pub invariant-loop-part : goal.invariant-loop-part
 invariant-loop-part l =

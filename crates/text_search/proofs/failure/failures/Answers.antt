@@ -1,7 +1,7 @@
 use Rattle.std.proofs.Common.{List, ℕ, [], subst, sym}
-use Rattle.string_ops.specs.Failure.{AreFailures}
-use Rattle.string_ops.proofs.FailureLemmas.{failures_none, failures_more}
-use Rattle.string_ops.proofs.failure.failures.Goals as goal
+use Rattle.text_search.specs.Failure.{AreFailures}
+use Rattle.text_search.proofs.FailureLemmas.{failures_none, failures_more}
+use Rattle.text_search.proofs.failure.failures.Goals as goal
 
 pub loop-at-init : goal.loop-at-init
 loop-at-init c = subst (λ (x : List ℕ). AreFailures c.args.pattern.now x 0) (sym c.new-failures.ensures.items) (failures_none c.args.pattern.now)

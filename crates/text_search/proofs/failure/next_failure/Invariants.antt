@@ -1,5 +1,5 @@
-use Rattle.string_ops.proofs.FailureLemmas.{Shortened}
-use Rattle.string_ops.proofs.failure.next_failure.Given as goal
+use Rattle.text_search.proofs.FailureLemmas.{Shortened}
+use Rattle.text_search.proofs.failure.next_failure.Given as goal
 
 abbrev pub invariant-loop-part : goal.invariant-loop-part
 invariant-loop-part l = Shortened l.pattern l.at l.part

@@ -1,7 +1,7 @@
 use Rattle.std.proofs.Common.{arith, ◌≤◌}
-use Rattle.string_ops.proofs.FailureLemmas.{shortened_first, shortened_more, failure_found, failure_none}
-use Rattle.string_ops.proofs.failure.next_failure.Goals as goal
-use Rattle.string_ops.proofs.failure.next_failure.Goals.{then-loop-part-test+else-pattern-part, else-loop-part-test}
+use Rattle.text_search.proofs.FailureLemmas.{shortened_first, shortened_more, failure_found, failure_none}
+use Rattle.text_search.proofs.failure.next_failure.Goals as goal
+use Rattle.text_search.proofs.failure.next_failure.Goals.{then-loop-part-test+else-pattern-part, else-loop-part-test}
 
 pub loop-part-init : goal.loop-part-init
 loop-part-init c = shortened_first c.args.pattern.now c.args.failures.now c.args.at c.if-at-eq0.false c.requires.before

@@ -2,14 +2,14 @@
 //! is read after each byte.
 
 ghost use Rattle.std.specs.Prelude.{◌≡◌, ◌==◌, ◌+◌, ◌<◌, ◌≤◌, ℕ, length, slice_index, slice_set, IfOk, if◌then◌else◌};
-ghost use Rattle.string_ops.specs.Failure.{AreFailures, IsFailure, next_length};
+ghost use Rattle.text_search.specs.Failure.{AreFailures, IsFailure, next_length};
 
 use std::alloc::Global;
 use text_base::NoMemory;
 
 /// For each front of the pattern, from that of one byte on, the length of its longest border that
 /// is shorter than it. Takes time linear in the pattern.
-pub(crate) fn failures(alloc: Global, pattern: &[u8]) -> Result<Vec<usize>, NoMemory>
+pub fn failures(alloc: Global, pattern: &[u8]) -> Result<Vec<usize>, NoMemory>
     ensures { IfOk result (λ failures. AreFailures pattern.now failures.items (length pattern.now)) }
 {
     let mut failures = Vec::new(alloc);
@@ -54,7 +54,7 @@ fn note(row: &mut Vec<usize>, pattern: &[u8], part: usize)
 }
 
 /// For each byte, how much of the pattern is read after it where `at` bytes were read before.
-pub(crate) fn next_row(
+pub fn next_row(
     alloc: Global,
     pattern: &[u8],
     failures: &[usize],
@@ -73,4 +73,18 @@ pub(crate) fn next_row(
     }
     note(&mut row, pattern, 0);
     Ok(row)
+}
+
+/// How much of the pattern is read after the byte where `at` bytes of it were read before. Over a
+/// whole text takes time linear in it.
+pub fn next_part(pattern: &[u8], failures: &[usize], at: usize, byte: u8) -> usize
+    requires at { at < length pattern.now }
+    requires failures { AreFailures pattern.now failures.now (length pattern.now) }
+    ensures { result ≡ next_length pattern.now at byte }
+{
+    let mut part = at;
+    while part > 0 && pattern[part] != byte {
+        part = failures[part - 1];
+    }
+    if pattern[part] == byte { part + 1 } else { 0 }
 }

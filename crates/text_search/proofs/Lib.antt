@@ -1,0 +1,3 @@
+pub mod BorderLemmas
+pub mod FailureLemmas
+pub mod PlaceLemmas

@@ -1,0 +1,24 @@
+use Rattle.std.proofs.Common.{ℕ, get_or, sym, subst, arith}
+use Rattle.text_search.proofs.BorderLemmas.{IsNext, next_is}
+use Rattle.text_search.proofs.PlaceLemmas.{reads_more, found, not_found}
+use Rattle.text_search.proofs.occurrence.find.Goals as goal
+
+pub overflow_sub-result : goal.overflow_sub-result
+overflow_sub-result c =
+    let is = subst (λ (k : ℕ). IsNext c.args.pattern.now c.loop-at.part (get_or c.args.text.now c.loop-at.at 0) k) (sym c.next_part-part.ensures) (next_is c.args.pattern.now c.loop-at.part (get_or c.args.text.now c.loop-at.at 0) c.loop-at.invariant.less) in
+    let u = is.within in
+    let w = c.loop-at.invariant.within in
+    omega (arith, u, w)
+
+pub returns-then-part-pattern : goal.returns-then-part-pattern
+returns-then-part-pattern c =
+    let is = subst (λ (k : ℕ). IsNext c.args.pattern.now c.loop-at.part (get_or c.args.text.now c.loop-at.at 0) k) (sym c.next_part-part.ensures) (next_is c.args.pattern.now c.loop-at.part (get_or c.args.text.now c.loop-at.at 0) c.loop-at.invariant.less) in
+    found c.args.pattern.now c.args.text.now c.loop-at.at c.loop-at.part c.next_part-part.result c.loop-at-test.true c.loop-at.invariant is c.if-part-pattern.true
+
+pub loop-at-preserved : goal.loop-at-preserved
+loop-at-preserved c =
+    let is = subst (λ (k : ℕ). IsNext c.args.pattern.now c.loop-at.part (get_or c.args.text.now c.loop-at.at 0) k) (sym c.next_part-part.ensures) (next_is c.args.pattern.now c.loop-at.part (get_or c.args.text.now c.loop-at.at 0) c.loop-at.invariant.less) in
+    reads_more c.args.pattern.now c.args.text.now c.loop-at.at c.loop-at.part c.next_part-part.result c.loop-at-test.true c.loop-at.invariant is c.if-part-pattern.false
+
+pub returns : goal.returns
+returns c = not_found c.args.pattern.now c.args.text.now c.loop-at.at c.loop-at.part c.loop-at-test.false c.loop-at.auto.at-end c.loop-at.invariant
