@@ -1,4 +1,4 @@
-mod Examples
+pub mod Examples
 mod MiniLemmas
 pub mod Encoded
 pub mod Views

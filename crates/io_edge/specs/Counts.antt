@@ -1,4 +1,4 @@
--- Counts of faults and misses: they never fall, and stay at the largest u64 once they reach it.
+-- Counts of faults, misses and reads: they never fall, and stay at the largest u64 once they reach it.
 use Rattle.std.specs.Prelude.{◌≤◌, ◌+◌, ◌-◌, ◌^◌, ℕ, min}
 
 -- the count after one more

@@ -1,6 +1,7 @@
 -- What files in memory answer: some calls are planned to fail.
-use Rattle.std.specs.Prelude.{◌==◌, ℕ, List, [], ◌∷◌, length, Bool, true, false, Option, None, Some, Result, Ok, Err, if◌then◌else◌, bytes_eq, nat_le}
+use Rattle.std.specs.Prelude.{◌==◌, ◌+◌, ℕ, List, [], ◌∷◌, length, Bool, true, false, Option, None, Some, Result, Ok, Err, if◌then◌else◌, bytes_eq, nat_le}
 use Rattle.std.specs.List.{list_any}
+use Rattle.text_base.specs.declared.limits.TheConstants.{FILE_LIMIT}
 use Rattle.io_edge.specs.declared.files.FileFault.{FileFault}
 use Rattle.io_edge.specs.declared.files.FileFault.TheVariants.{Missing, Failed, TooLong}
 
@@ -17,4 +18,4 @@ is_planned planned call = list_any (λ n. n == call) planned
 abbrev pub planned_answer : Bool → Option (List ℕ) → Result (List ℕ) FileFault
 planned_answer true file = Err Failed
 planned_answer false None = Err Missing
-planned_answer false (Some bytes) = if nat_le (length bytes) 1048576 then Ok bytes else Err (TooLong 1048577)
+planned_answer false (Some bytes) = if nat_le (length bytes) FILE_LIMIT then Ok bytes else Err (TooLong (FILE_LIMIT + 1))

@@ -1,5 +1,6 @@
 -- Why a file was not read.
 use Rattle.std.specs.Prelude.{◌<◌, ℕ, List, Option, None, ⊤}
+use Rattle.text_base.specs.declared.limits.TheConstants.{FILE_LIMIT}
 use Rattle.io_edge.specs.Counts.{Rises}
 use Rattle.io_edge.specs.Told.{Tells, HasAtLeast}
 use Rattle.io_edge.specs.declared.files.FileFault.{FileFault}
@@ -9,12 +10,12 @@ use Rattle.io_edge.specs.declared.files.FileFault.TheVariants.{Memory, Missing, 
 abbrev pub HasReason : Option (Option (List ℕ)) → ℕ → ℕ → ℕ → ℕ → FileFault → Type 0
 HasReason told faults faults' misses misses' Missing = Rises misses misses' × Tells told None
 HasReason told faults faults' misses misses' Failed = Rises faults faults'
-HasReason told faults faults' misses misses' (TooLong len) = (1048576 < len) × HasAtLeast told len
+HasReason told faults faults' misses misses' (TooLong len) = (FILE_LIMIT < len) × HasAtLeast told len
 HasReason told faults faults' misses misses' Memory = ⊤
 
--- a file that is too long has over a million and some bytes: the limit of a file
+-- a file that is too long has more bytes than the limit
 abbrev pub IsOverLimit : FileFault → Type 0
 IsOverLimit Missing = ⊤
 IsOverLimit Failed = ⊤
-IsOverLimit (TooLong len) = 1048576 < len
+IsOverLimit (TooLong len) = FILE_LIMIT < len
 IsOverLimit Memory = ⊤

@@ -2,11 +2,12 @@
 ghost use Rattle.std.specs.Prelude.{◌≤◌, length, ◌≡◌, None, IfSome, IfOk, IfErr};
 ghost use Rattle.io_edge.specs.Reasons.{IsOverLimit};
 
-use crate::{FILE_LIMIT, FileFault, Files};
+use crate::{FileFault, Files};
 use std::alloc::Global;
 use std::io::{ErrorKind, Read};
 use std::{fs, io, rt};
 use text_base::Bytes;
+use text_base::limits::FILE_LIMIT;
 
 /// The files that a runtime reads from the system. They tell nothing of what a name holds.
 #[derive(Drop)]
@@ -14,6 +15,7 @@ pub struct DiskFiles<'a, R: rt::Files> {
     rt: &'a R,
     faults: u64,
     misses: u64,
+    reads: u64,
 }
 
 impl<'a, R: rt::Files> DiskFiles<'a, R> {
@@ -23,6 +25,7 @@ impl<'a, R: rt::Files> DiskFiles<'a, R> {
             rt,
             faults: 0,
             misses: 0,
+            reads: 0,
         }
     }
 }
@@ -30,7 +33,7 @@ impl<'a, R: rt::Files> DiskFiles<'a, R> {
 /// All bytes that the reader has left, up to one more than a file may have.
 fn read_bytes<R: Read>(alloc: Global, reader: &mut R) -> Result<Bytes, FileFault>
     ensures known { IfOk result (λ bytes. IfSome (R.remaining reader.old) (λ xs. bytes ≡ xs)) }
-    ensures limit { IfOk result (λ bytes. length bytes ≤ 1048576) }
+    ensures limit { IfOk result (λ bytes. length bytes ≤ FILE_LIMIT) }
     ensures long { IfErr result IsOverLimit }
 {
     let mut bytes = Vec::new(alloc);
@@ -60,7 +63,7 @@ fn read_bytes<R: Read>(alloc: Global, reader: &mut R) -> Result<Bytes, FileFault
 }
 
 fn read_file<R: rt::Files>(alloc: Global, rt: &R, name: &str) -> Result<Bytes, FileFault>
-    ensures limit { IfOk result (λ bytes. length bytes ≤ 1048576) }
+    ensures limit { IfOk result (λ bytes. length bytes ≤ FILE_LIMIT) }
     ensures long { IfErr result IsOverLimit }
 {
     match fs::open(rt, name) {
@@ -83,8 +86,11 @@ impl<R: rt::Files> Files for DiskFiles<'_, R> {
 
     ghost misses = { λ d. d.misses };
 
+    ghost reads = { λ d. d.reads };
+
     fn read(&mut self, alloc: Global, name: &str) -> Result<Bytes, FileFault> {
         let answer = read_file(alloc, self.rt, name);
+        self.reads = self.reads.saturating_add(1);
         match &answer {
             Err(FileFault::Missing) => self.misses = self.misses.saturating_add(1),
             Err(FileFault::Failed) => self.faults = self.faults.saturating_add(1),
@@ -168,7 +174,12 @@ mod tests {
         assert!(rt; matches!(missing, Err(FileFault::Missing)));
         let is_folder = files.read(alloc, folder.as_str());
         assert!(rt; matches!(is_folder, Err(FileFault::Failed)));
-        assert_eq!(rt; (files.faults, files.misses), (1, 1));
+        let below_a_file = path.join(alloc, "page")?;
+        fs::write(&rt, path.as_str(), "<html/>\n")?;
+        let none_below = files.read(alloc, below_a_file.as_str());
+        fs::remove_file(&rt, path.as_str())?;
+        assert!(rt; matches!(none_below, Err(FileFault::Failed)));
+        assert_eq!(rt; (files.faults, files.misses, files.reads), (2, 1, 4));
         Ok(())
     }
 }

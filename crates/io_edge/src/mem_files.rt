@@ -7,9 +7,10 @@ ghost use Rattle.io_edge.specs.Told.{Tells};
 ghost use Rattle.io_edge.specs.Planned.{file_named, is_planned, planned_answer};
 ghost use Rattle.io_edge.specs.MemFiles.{held_files, planned_faults, calls_made, fault_count, miss_count};
 
-use crate::{FILE_LIMIT, FileFault, Files};
+use crate::{FileFault, Files};
 use std::alloc::Global;
 use text_base::Bytes;
+use text_base::limits::FILE_LIMIT;
 
 /// Files that are held in memory, and the numbers of the calls that are to fail. Calls are numbered from 0.
 #[derive(Drop)]
@@ -50,7 +51,9 @@ impl MemFiles {
         }
         let bytes = file_of(&self.files, name.as_bytes()).ok_or(FileFault::Missing)?;
         if bytes.len() > FILE_LIMIT {
-            return Err(FileFault::TooLong { len: 1_048_577 });
+            return Err(FileFault::TooLong {
+                len: FILE_LIMIT as u64 + 1,
+            });
         }
         Ok(Bytes::from_slice(alloc, bytes.as_slice())?)
     }
@@ -76,14 +79,19 @@ impl Files for MemFiles {
 
     ghost misses = { λ m. miss_count m };
 
+    ghost reads = { λ m. calls_made m };
+
     fn read(&mut self, alloc: Global, name: &str) -> Result<Bytes, FileFault>
         ensures content { IfOk result (λ bytes. Tells (Some (file_named name.now (held_files self.old))) (Some bytes)) }
-        ensures limit { IfOk result (λ bytes. length bytes ≤ 1048576) }
+        ensures limit { IfOk result (λ bytes. length bytes ≤ FILE_LIMIT) }
         ensures reason { IfErr result (λ fault. HasReason (Some (file_named name.now (held_files self.old)))
             (fault_count self.old) (fault_count self.new) (miss_count self.old) (miss_count self.new) fault) }
         ensures same { held_files self.new ≡ held_files self.old }
         ensures faults { fault_count self.old ≤ fault_count self.new }
         ensures misses { miss_count self.old ≤ miss_count self.new }
+        ensures unfailed { result ≢ Err FileFault.Failed → fault_count self.new ≡ fault_count self.old }
+        ensures unmissed { result ≢ Err FileFault.Missing → miss_count self.new ≡ miss_count self.old }
+        ensures asked { calls_made self.new ≡ one_more (calls_made self.old) }
 
         // Want of memory aside, each answer is known beforehand, and memory is wanted only to give a file's bytes.
         ensures answer { result ≢ Err FileFault.Memory → result ≡ planned_answer
@@ -91,12 +99,9 @@ impl Files for MemFiles {
         ensures memory { IsErrOf result FileFault.Memory → IsOk (planned_answer
             (is_planned (planned_faults self.old) (calls_made self.old)) (file_named name.now (held_files self.old))) }
 
-        // A count rises by one at its own fault, and only there.
+        // A count rises by one at its own fault.
         ensures failed { IsErrOf result FileFault.Failed → fault_count self.new ≡ one_more (fault_count self.old) }
-        ensures unfailed { result ≢ Err FileFault.Failed → fault_count self.new ≡ fault_count self.old }
         ensures missed { IsErrOf result FileFault.Missing → miss_count self.new ≡ one_more (miss_count self.old) }
-        ensures unmissed { result ≢ Err FileFault.Missing → miss_count self.new ≡ miss_count self.old }
-        ensures calls { calls_made self.new ≡ one_more (calls_made self.old) }
         ensures planned { planned_faults self.new ≡ planned_faults self.old }
     {
         let answer = self.answer(alloc, name);

@@ -70,7 +70,7 @@ impl Sink for MemSink {
             ++ fitting (sink_room self.old) (length (sink_bytes self.old)) bytes.now }
         ensures memory { IsErrOf result SinkFault.Memory → sink_bytes self.new ≡ sink_bytes self.old }
         ensures counted { IsErrOf result SinkFault.Failed → sink_faults self.new ≡ one_more (sink_faults self.old) }
-        ensures uncounted { result ≢ Err SinkFault.Failed → sink_faults self.new ≡ sink_faults self.old }
+        ensures unfailed { result ≢ Err SinkFault.Failed → sink_faults self.new ≡ sink_faults self.old }
         ensures room { sink_room self.new ≡ sink_room self.old }
     {
         let fitting = self.fitting(bytes);

@@ -1,5 +1,5 @@
 // Where bytes go.
-ghost use Rattle.std.specs.Prelude.{◌≤◌, ℕ, List, Option, OnOk, OnErr, IsErrOf};
+ghost use Rattle.std.specs.Prelude.{◌≡◌, ◌≢◌, ◌≤◌, ℕ, List, Option, Err, OnOk, OnErr, IsErrOf};
 ghost use Rattle.std.specs.Io.KnownBytes.{Appends};
 ghost use Rattle.io_edge.specs.Counts.{Rises};
 ghost use Rattle.io_edge.specs.Taken.{AppendsPrefix};
@@ -35,7 +35,10 @@ pub trait Sink {
         ensures ok { OnOk result (Appends (written self.old) (written self.new) bytes.now) }
         ensures err { OnErr result (AppendsPrefix (written self.old) (written self.new) bytes.now) }
         ensures failed { IsErrOf result SinkFault.Failed → Rises (faults self.old) (faults self.new) }
-        ensures faults { faults self.old ≤ faults self.new };
+        ensures faults { faults self.old ≤ faults self.new }
+
+        // The count stays where the answer is not a fault.
+        ensures unfailed { result ≢ Err SinkFault.Failed → faults self.new ≡ faults self.old };
 }
 
 impl<S: Sink> Sink for &mut S {

@@ -2,36 +2,39 @@
 use Rattle.std.proofs.Common.{◌≡◌, ◌++◌, [], ◌∷◌, None, Some, codes, refl, lit≤}
 use Rattle.std.specs.Fmt.{digits}
 use Rattle.phpsa_main.specs.declared.exit.Exit.TheVariants.{Usage}
-use Rattle.phpsa_main.specs.declared.verdict.ScriptKind.TheVariants as kind
+use Rattle.dtd_model.specs.Mini.{mini_table}
+use Rattle.php_parser.specs.declared.refusal.ParseRefusal.TheVariants as parsed
+use Rattle.phpsa_main.specs.declared.document_type.DocumentType.TheVariants.{Mini}
+use Rattle.phpsa_main.specs.declared.verdict.ScriptRefusal.TheVariants.{Parse}
 use Rattle.phpsa_main.specs.declared.verdict.Refusal.TheVariants as refusal
-use Rattle.phpsa_main.specs.Words.{Asks, asked_file}
+use Rattle.phpsa_main.specs.Words.{Asks, asked_of}
 use Rattle.phpsa_main.specs.Texts.{yes_text, no_text, error_text, write_fault_text, status_of}
 use Rattle.phpsa_main.specs.Call.{output_of, Gains, GainsPrefix, GainsNothing, Fails}
 
 -- the words that ask for a file
-asks : Asks (codes "check" ∷ codes "t.php" ∷ codes "--dtd" ∷ codes "mini" ∷ []) (codes "t.php")
-asks = record { written = refl; named = refl }
+asks : Asks (codes "check" ∷ codes "t.php" ∷ codes "--dtd" ∷ codes "mini" ∷ []) (codes "t.php") mini_table
+asks = record { word = codes "mini"; document_type = Mini; written = refl; file_is = refl; type_is = refl; table_is = refl }
 
-finds : asked_file (codes "check" ∷ codes "t.php" ∷ codes "--dtd" ∷ codes "mini" ∷ []) ≡ Some (codes "t.php")
+finds : asked_of (codes "check" ∷ codes "t.php" ∷ codes "--dtd" ∷ codes "mini" ∷ []) ≡ Some (codes "t.php", Mini)
 finds = refl
 
 -- one word less, one more, another command, another definition, an empty file, and an option for a file ask for none
-too_few : asked_file (codes "check" ∷ codes "t.php" ∷ codes "--dtd" ∷ []) ≡ None
+too_few : asked_of (codes "check" ∷ codes "t.php" ∷ codes "--dtd" ∷ []) ≡ None
 too_few = refl
 
-too_many : asked_file (codes "check" ∷ codes "t.php" ∷ codes "--dtd" ∷ codes "mini" ∷ codes "mini" ∷ []) ≡ None
+too_many : asked_of (codes "check" ∷ codes "t.php" ∷ codes "--dtd" ∷ codes "mini" ∷ codes "mini" ∷ []) ≡ None
 too_many = refl
 
-another_command : asked_file (codes "run" ∷ codes "t.php" ∷ codes "--dtd" ∷ codes "mini" ∷ []) ≡ None
+another_command : asked_of (codes "run" ∷ codes "t.php" ∷ codes "--dtd" ∷ codes "mini" ∷ []) ≡ None
 another_command = refl
 
-another_definition : asked_file (codes "check" ∷ codes "t.php" ∷ codes "--dtd" ∷ codes "strict" ∷ []) ≡ None
+another_definition : asked_of (codes "check" ∷ codes "t.php" ∷ codes "--dtd" ∷ codes "strict" ∷ []) ≡ None
 another_definition = refl
 
-no_file : asked_file (codes "check" ∷ [] ∷ codes "--dtd" ∷ codes "mini" ∷ []) ≡ None
+no_file : asked_of (codes "check" ∷ [] ∷ codes "--dtd" ∷ codes "mini" ∷ []) ≡ None
 no_file = refl
 
-an_option : asked_file (codes "check" ∷ codes "-t" ∷ codes "--dtd" ∷ codes "mini" ∷ []) ≡ None
+an_option : asked_of (codes "check" ∷ codes "-t" ∷ codes "--dtd" ∷ codes "mini" ∷ []) ≡ None
 an_option = refl
 
 -- the texts
@@ -49,7 +52,7 @@ a_long_file = refl
 a_form : error_text refusal.NotBuilt (codes "t.php") ≡ codes "phpsa: NotBuilt t.php" ++ 10 ∷ []
 a_form = refl
 
-a_deep_script : error_text (refusal.Script kind.TooDeep 211) (codes "t.php") ≡ codes "phpsa: TooDeep t.php 211" ++ 10 ∷ []
+a_deep_script : error_text (refusal.Script (Parse (parsed.TooDeep 211))) (codes "t.php") ≡ codes "phpsa: TooDeep t.php 211" ++ 10 ∷ []
 unfolding digits
 a_deep_script = refl
 

@@ -13,10 +13,10 @@ use Rattle.phpsa_main.specs.Decision.{EachIsValid}
 use Rattle.phpsa_main.specs.Pages.{ArePlain, AreValid}
 use Rattle.phpsa_main.proofs.OneProgram.{Laws, one_program}
 use Rattle.dtd_model.specs.Valid.{Valid}
-use Rattle.dtd_model.specs.Mini.{mini_table}
+use Rattle.dtd_model.specs.Table.{Table}
 
-pub each_valid : Laws → (script : List ℕ) (program : PlainFile) (pages : Pages) → IsScript script program → IsFirstTree program → ArePages pages program → AreValid pages → EachIsValid script
-each_valid laws script program pages reading first are valid = record {
+pub each_valid : Laws → (table : Table) (script : List ℕ) (program : PlainFile) (pages : Pages) → IsScript script program → IsFirstTree program → ArePages pages program → AreValid table pages → EachIsValid table script
+each_valid laws table script program pages reading first are valid = record {
   decided = record { program = program; reading = reading; first = first };
   valid = λ page loose. valid page ((are.exact page).0
       (subst (λ (p : PlainFile). Loose p page) (one_program laws script loose.program program loose.reading reading) loose.loose));
@@ -38,7 +38,7 @@ plain_pages pages program are page (inl e) = subst (λ page. list_all is_page_by
 plain_pages pages program are page (inr e) = plain_page page (second_plain pages pages.second page are.second_plain e)
 
 -- where both pages are valid, each of them is
-pub two_valid : (pages : Pages) (second : List ℕ) → pages.second ≡ Some second → Valid mini_table pages.first → Valid mini_table second → AreValid pages
-two_valid pages second is first_valid second_valid page (inl e) = subst (λ (p : List ℕ). Valid mini_table p) (sym e) first_valid
-two_valid pages second is first_valid second_valid page (inr e) =
-    subst (λ (p : List ℕ). Valid mini_table p) (same_Some second page (sym is ∙ e)) second_valid
+pub two_valid : (table : Table) (pages : Pages) (second : List ℕ) → pages.second ≡ Some second → Valid table pages.first → Valid table second → AreValid table pages
+two_valid table pages second is first_valid second_valid page (inl e) = subst (λ (p : List ℕ). Valid table p) (sym e) first_valid
+two_valid table pages second is first_valid second_valid page (inr e) =
+    subst (λ (p : List ℕ). Valid table p) (same_Some second page (sym is ∙ e)) second_valid

@@ -1,11 +1,13 @@
 -- A script has at most one program, and one that has a program is not refused as none.
-use Rattle.std.proofs.Common.{◌≡◌, ◌≤◌, ◌<◌, ℕ, List, subst, sym, arith, inl, inr}
+use Rattle.std.proofs.Common.{◌≡◌, ◌≤◌, ◌<◌, ℕ, List, refl, subst, sym, arith, inl, inr}
 use Rattle.std.specs.Prelude.{Result, Ok, Err, IfErr}
 use Rattle.phpsa_main.specs.declared.verdict.Refusal.{Refusal}
 use Rattle.php_syntax.specs.Tokens.{PlainToken}
 use Rattle.php_syntax.specs.Trees.{PlainFile}
 use Rattle.script_grammar.specs.Terminals.{terminals}
+use Rattle.text_base.specs.declared.limits.TheConstants.{FILE_LIMIT}
 use Rattle.lexical_grammar.specs.Steps.{Fault}
+use Rattle.lexical_grammar.specs.Steps as faults
 use Rattle.lexical_grammar.specs.Cuts.{Cuts, Breaks}
 use Rattle.php_syntax.specs.Height.{file_height}
 use Rattle.script_grammar.specs.Grammar.{SpellsTree, IsTooDeep, most_open}
@@ -16,8 +18,8 @@ use Rattle.php_lexer.specs.Refusals as lexing
 use Rattle.php_parser.specs.declared.refusal.ParseRefusal.{ParseRefusal}
 use Rattle.php_parser.specs.declared.refusal.ParseRefusal.TheVariants as parsed
 use Rattle.php_parser.specs.Refusals as parsing
-use Rattle.phpsa_main.specs.declared.verdict.ScriptKind.{ScriptKind}
-use Rattle.phpsa_main.specs.declared.verdict.ScriptKind.TheVariants as kind
+use Rattle.phpsa_main.specs.declared.verdict.ScriptRefusal.{ScriptRefusal}
+use Rattle.phpsa_main.specs.declared.verdict.ScriptRefusal.TheVariants.{Lex, Parse}
 use Rattle.phpsa_main.specs.Scripts.{IsScript, SpellsNothing, IsDeepScript, IsScriptFault}
 use Rattle.phpsa_main.specs.Decision.{IsDecided, IsUndecided}
 use Rattle.phpsa_main.specs.Steps.{IsRefusalOf, lexed_as, parsed_as}
@@ -44,14 +46,11 @@ spells_nothing laws script program none x =
 not_deep : Laws → (script : List ℕ) (program : PlainFile) → IsDeepScript script → IsScript script program → ⊥
 not_deep laws script program deep x = x.within (subst IsTooDeep (laws.one_tokens script deep.tokens x.tokens deep.cut x.cut) deep.deep)
 
-pub no_script : Laws → (script : List ℕ) (k : ScriptKind) (at : ℕ) → IsScriptFault script k at → (program : PlainFile) → IsScript script program → ⊥
-no_script laws script kind.BadByte at breaks program x = laws.never script x.tokens _ at x.cut breaks
-no_script laws script kind.Unclosed at breaks program x = laws.never script x.tokens _ at x.cut breaks
-no_script laws script kind.Float at breaks program x = laws.never script x.tokens _ at x.cut breaks
-no_script laws script kind.BigInt at breaks program x = laws.never script x.tokens _ at x.cut breaks
-no_script laws script kind.Escape at breaks program x = laws.never script x.tokens _ at x.cut breaks
-no_script laws script kind.NotInSubset at none program x = spells_nothing laws script program none x
-no_script laws script kind.TooDeep at deep program x = not_deep laws script program deep x
+pub no_script : Laws → (script : List ℕ) (fault : ScriptRefusal) → IsScriptFault script fault → (program : PlainFile) → IsScript script program → ⊥
+no_script laws script (Lex refusal) broken program x = laws.never script x.tokens broken.fault broken.at x.cut broken.breaks
+no_script laws script (Parse (parsed.NotInSubset at)) none program x = spells_nothing laws script program none x
+no_script laws script (Parse (parsed.TooDeep at)) deep program x = not_deep laws script program deep x
+no_script laws script (Parse parsed.Memory) none program x = none
 
 -- what the parser says of a tree
 pub shallow : (tokens : List PlainToken) (tree : PlainFile) → (most_open 0 (terminals tokens) ≤ 200) × (file_height tree ≤ 200) → ((other : PlainFile) → SpellsTree tokens other → other ≡ tree) → IsTooDeep tokens → ⊥
@@ -62,16 +61,16 @@ shallow tokens tree (few, low) only (inr (other, spelled, high)) =
 
 -- why the lexer and the parser refuse
 pub lexed_cause : (script : List ℕ) (e : LexRefusal) → lexing.IsCauseOf script e → IsRefusalOf script (lexed_as e)
-lexed_cause script (lexed.BadByte at) (short, breaks) = breaks
-lexed_cause script (lexed.Unclosed at) (short, breaks) = breaks
-lexed_cause script (lexed.Float at) (short, breaks) = breaks
-lexed_cause script (lexed.BigInt at) (short, breaks) = breaks
-lexed_cause script (lexed.Escape at) (short, breaks) = breaks
-lexed_cause script (lexed.TooLong len) (long, is) = (subst (λ n. 1048576 < n) (sym is) long, is)
+lexed_cause script (lexed.BadByte at) (short, breaks) = record { fault = faults.bad_byte; at = at; short = short; breaks = breaks; said = refl }
+lexed_cause script (lexed.Unclosed at) (short, breaks) = record { fault = faults.unclosed; at = at; short = short; breaks = breaks; said = refl }
+lexed_cause script (lexed.Float at) (short, breaks) = record { fault = faults.float; at = at; short = short; breaks = breaks; said = refl }
+lexed_cause script (lexed.BigInt at) (short, breaks) = record { fault = faults.big_int; at = at; short = short; breaks = breaks; said = refl }
+lexed_cause script (lexed.Escape at) (short, breaks) = record { fault = faults.escape; at = at; short = short; breaks = breaks; said = refl }
+lexed_cause script (lexed.TooLong len) (long, is) = (subst (λ n. FILE_LIMIT < n) (sym is) long, is)
 lexed_cause script lexed.Memory free = tt
 
 pub parsed_cause : (script : List ℕ) (tokens : List PlainToken) (e : ParseRefusal) → Cuts script tokens → parsing.IsCauseOf tokens e → IsRefusalOf script (parsed_as e)
-parsed_cause script tokens (parsed.NotInSubset at) cut (shallow, none) = record { tokens = tokens; cut = cut; nothing = none }
+parsed_cause script tokens (parsed.NotInSubset at) cut (within, none) = record { tokens = tokens; cut = cut; nothing = none; within = within }
 parsed_cause script tokens (parsed.TooDeep at) cut deep = record { tokens = tokens; cut = cut; deep = deep }
 parsed_cause script tokens parsed.Memory cut free = tt
 

@@ -4,13 +4,15 @@ use Rattle.std.specs.Io.KnownBytes.{Appends}
 use Rattle.io_edge.specs.Counts.{Rises}
 use Rattle.io_edge.specs.Taken.{AppendsPrefix}
 
--- a source of files: what it tells, and its counts of faults and of misses
+-- a source of files: what it tells, and its counts of faults, of misses and of reads
 pub record Source : Type 0 where
   pub content : List ℕ → Option (Option (List ℕ))
   pub faults : ℕ
   pub faults' : ℕ
   pub misses : ℕ
   pub misses' : ℕ
+  pub reads : ℕ
+  pub reads' : ℕ
 
 -- an output: what is written on it, where that is told, and its count of faults
 pub record Output : Type 0 where
@@ -37,6 +39,10 @@ GainsPrefix output text = AppendsPrefix output.written output.written' text
 abbrev pub GainsNothing : Output → Type 0
 GainsNothing output = output.written' ≡ output.written
 
+-- the count of faults of the output is as it was
+abbrev pub IsUnfailed : Output → Type 0
+IsUnfailed output = output.faults' ≡ output.faults
+
 -- the count of faults of the output rose
 abbrev pub Fails : Output → Type 0
 Fails output = Rises output.faults output.faults'
@@ -46,9 +52,9 @@ abbrev pub output_of : Option (List ℕ) → Option (List ℕ) → ℕ → ℕ �
 output_of written written' faults faults' = record { written = written; written' = written'; faults = faults; faults' = faults' }
 
 -- a source of files by what it tells, and its counts before and after
-abbrev pub source_of : (List ℕ → Option (Option (List ℕ))) → ℕ → ℕ → ℕ → ℕ → Source
-source_of content faults faults' misses misses' =
-    record { content = content; faults = faults; faults' = faults'; misses = misses; misses' = misses' }
+abbrev pub source_of : (List ℕ → Option (Option (List ℕ))) → ℕ → ℕ → ℕ → ℕ → ℕ → ℕ → Source
+source_of content faults faults' misses misses' reads reads' =
+    record { content = content; faults = faults; faults' = faults'; misses = misses; misses' = misses'; reads = reads; reads' = reads' }
 
 abbrev pub call_of : List (List ℕ) → Source → Output → Output → Call
 call_of words files out err = record { words = words; files = files; out = out; err = err }

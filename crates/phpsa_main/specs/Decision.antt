@@ -1,10 +1,10 @@
--- Which scripts are decided, which pages they may print, and which of these are valid by the smallest document type.
+-- Which scripts are decided, which pages they may print, and which of these are valid by a document type.
 use Rattle.std.specs.Prelude.{ℕ, List}
 use Rattle.php_syntax.specs.Trees.{PlainFile}
 use Rattle.first_form.specs.FirstTree.{IsFirstTree}
 use Rattle.first_form.specs.Loose.{Loose}
 use Rattle.dtd_model.specs.Valid.{Valid}
-use Rattle.dtd_model.specs.Mini.{mini_table}
+use Rattle.dtd_model.specs.Table.{Table}
 use Rattle.phpsa_main.specs.Scripts.{IsScript}
 
 -- the script is decided: its program is of the first form
@@ -27,11 +27,11 @@ pub record IsLoosePage (script page : List ℕ) : Type 0 where
   pub loose : Loose program page
 
 -- the script is decided, and each loose page of it is valid
-pub record EachIsValid (script : List ℕ) : Type 0 where
+pub record EachIsValid (table : Table) (script : List ℕ) : Type 0 where
   pub decided : IsDecided script
-  pub valid : (page : List ℕ) → IsLoosePage script page → Valid mini_table page
+  pub valid : (page : List ℕ) → IsLoosePage script page → Valid table page
 
 -- this loose page of the script is not valid
-pub record IsCounterexample (script page : List ℕ) : Type 0 where
+pub record IsCounterexample (table : Table) (script page : List ℕ) : Type 0 where
   pub loose : IsLoosePage script page
-  pub invalid : Valid mini_table page → ⊥
+  pub invalid : Valid table page → ⊥

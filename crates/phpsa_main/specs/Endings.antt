@@ -1,38 +1,40 @@
 -- How a call of the program ends: for each status its cause, and what is left on the outputs.
 use Rattle.std.specs.Prelude.{◌≡◌, ◌<◌, ◌⊎◌, ℕ, List, None, Some, ⊤}
+use Rattle.text_base.specs.declared.limits.TheConstants.{FILE_LIMIT}
+use Rattle.dtd_model.specs.Table.{Table}
 use Rattle.io_edge.specs.Counts.{Rises}
 use Rattle.io_edge.specs.Told.{Tells, HasAtLeast}
 use Rattle.phpsa_main.specs.declared.exit.Exit.{Exit}
 use Rattle.phpsa_main.specs.declared.exit.Exit.TheVariants.{Done, No, NotBuilt, Script, Missing, ReadFault, WriteFault, Usage, Input, Memory}
-use Rattle.phpsa_main.specs.declared.verdict.ScriptKind.{ScriptKind}
+use Rattle.phpsa_main.specs.declared.verdict.ScriptRefusal.{ScriptRefusal}
 use Rattle.phpsa_main.specs.declared.verdict.Refusal.{Refusal}
 use Rattle.phpsa_main.specs.declared.verdict.Refusal.TheVariants as refusal
-use Rattle.phpsa_main.specs.Words.{Asks}
+use Rattle.phpsa_main.specs.Words.{Asks, AsksFile, AsksNothing}
 use Rattle.phpsa_main.specs.Texts.{yes_text, no_text, error_text, write_fault_text}
 use Rattle.phpsa_main.specs.Scripts.{IsScriptFault}
 use Rattle.phpsa_main.specs.Decision.{IsUndecided, EachIsValid, IsCounterexample}
 use Rattle.phpsa_main.specs.Call.{Call, Gains, GainsPrefix, GainsNothing, Fails}
 
--- the words ask for this file, and where the source tells of it, it holds this script
-pub record AsksScript (call : Call) (file script : List ℕ) : Type 0 where
-  pub asked : Asks call.words file
+-- the words ask for this file by this document type, and where the source tells of it, it holds this script
+pub record AsksScript (call : Call) (file : List ℕ) (table : Table) (script : List ℕ) : Type 0 where
+  pub asked : Asks call.words file table
   pub told : Tells (call.files.content file) (Some script)
 
 -- the cause of a refusal of this file
 abbrev pub HasCause : Call → Refusal → List ℕ → Type 0
-HasCause call refusal.NotBuilt file = (script : List ℕ) × AsksScript call file script × IsUndecided script
-HasCause call (refusal.Script kind at) file = (script : List ℕ) × AsksScript call file script × IsScriptFault script kind at
+HasCause call refusal.NotBuilt file = (table : Table) × (script : List ℕ) × AsksScript call file table script × IsUndecided script
+HasCause call (refusal.Script fault) file = (table : Table) × (script : List ℕ) × AsksScript call file table script × IsScriptFault script fault
 HasCause call refusal.Missing file =
-    Asks call.words file × Rises call.files.misses call.files.misses' × Tells (call.files.content file) None
-HasCause call refusal.ReadFault file = Asks call.words file × Rises call.files.faults call.files.faults'
-HasCause call refusal.Usage file = (asked : List ℕ) → Asks call.words asked → ⊥
-HasCause call (refusal.TooLong len) file = Asks call.words file × (1048576 < len) × HasAtLeast (call.files.content file) len
+    AsksFile call.words file × Rises call.files.misses call.files.misses' × Tells (call.files.content file) None
+HasCause call refusal.ReadFault file = AsksFile call.words file × Rises call.files.faults call.files.faults'
+HasCause call refusal.Usage file = AsksNothing call.words
+HasCause call (refusal.TooLong len) file = AsksFile call.words file × (FILE_LIMIT < len) × HasAtLeast (call.files.content file) len
 HasCause call refusal.Memory file = ⊤
 
 -- the text that is due on `out`: the answer for the script
 abbrev pub IsAnswer : Call → List ℕ → Type 0
-IsAnswer call text = (file : List ℕ) × (script : List ℕ) × AsksScript call file script
-    × ((EachIsValid script × (text ≡ yes_text)) ⊎ ((page : List ℕ) × IsCounterexample script page × (text ≡ no_text page)))
+IsAnswer call text = (file : List ℕ) × (table : Table) × (script : List ℕ) × AsksScript call file table script
+    × ((EachIsValid table script × (text ≡ yes_text)) ⊎ ((page : List ℕ) × IsCounterexample table script page × (text ≡ no_text page)))
 
 -- the text that is due on `err`: that of a refusal that has its cause
 abbrev pub IsError : Call → List ℕ → Type 0
@@ -41,19 +43,21 @@ IsError call text = (cause : Refusal) × (file : List ℕ) × HasCause call caus
 -- 0: every loose page is valid
 pub record EndsDone (call : Call) : Type 0 where
   pub file : List ℕ
+  pub table : Table
   pub script : List ℕ
-  pub asked : AsksScript call file script
-  pub valid : EachIsValid script
+  pub asked : AsksScript call file table script
+  pub valid : EachIsValid table script
   pub out : Gains call.out yes_text
   pub err : GainsNothing call.err
 
 -- 1: a loose page is not valid, and is written
 pub record EndsNo (call : Call) : Type 0 where
   pub file : List ℕ
+  pub table : Table
   pub script : List ℕ
   pub page : List ℕ
-  pub asked : AsksScript call file script
-  pub invalid : IsCounterexample script page
+  pub asked : AsksScript call file table script
+  pub invalid : IsCounterexample table script page
   pub out : Gains call.out (no_text page)
   pub err : GainsNothing call.err
 
@@ -96,7 +100,7 @@ abbrev pub Ends : Call → Exit → Type 0
 Ends call Done = EndsDone call
 Ends call No = EndsNo call
 Ends call NotBuilt = EndsRefused call refusal.NotBuilt
-Ends call Script = (kind : ScriptKind) × (at : ℕ) × EndsRefused call (refusal.Script kind at)
+Ends call Script = (fault : ScriptRefusal) × EndsRefused call (refusal.Script fault)
 Ends call Missing = EndsRefused call refusal.Missing
 Ends call ReadFault = EndsRefused call refusal.ReadFault
 Ends call WriteFault = EndsByOut call ⊎ EndsByErr call

@@ -1,3 +1,4 @@
+pub mod DocumentTypes
 pub mod Words
 pub mod Texts
 pub mod Scripts
@@ -6,5 +7,6 @@ pub mod Pages
 pub mod Call
 pub mod Endings
 pub mod Answered
+pub mod Counted
 pub mod Sound
 pub mod Steps

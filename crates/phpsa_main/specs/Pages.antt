@@ -5,16 +5,16 @@ use Rattle.first_form.specs.declared.pages.Pages.{Pages}
 use Rattle.first_form.specs.FirstTree.{IsPage}
 use Rattle.page_check.specs.PageBytes.{is_page_byte}
 use Rattle.dtd_model.specs.Valid.{Valid}
-use Rattle.dtd_model.specs.Mini.{mini_table}
+use Rattle.dtd_model.specs.Table.{Table}
 
 -- each of the pages has only bytes that a page may have so far
 abbrev pub ArePlain : Pages → Type 0
 ArePlain pages = (page : List ℕ) → IsPage pages page → list_all is_page_byte page ≡ true
 
 -- each of the pages is valid
-abbrev pub AreValid : Pages → Type 0
-AreValid pages = (page : List ℕ) → IsPage pages page → Valid mini_table page
+abbrev pub AreValid : Table → Pages → Type 0
+AreValid table pages = (page : List ℕ) → IsPage pages page → Valid table page
 
 -- this one of the pages is not valid
-abbrev pub IsInvalidAmong : Pages → List ℕ → Type 0
-IsInvalidAmong pages page = IsPage pages page × (Valid mini_table page → ⊥)
+abbrev pub IsInvalidAmong : Table → Pages → List ℕ → Type 0
+IsInvalidAmong table pages page = IsPage pages page × (Valid table page → ⊥)

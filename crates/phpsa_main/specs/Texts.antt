@@ -3,8 +3,11 @@ use Rattle.std.specs.Prelude.{ℕ, List, [], ◌∷◌, ◌++◌, take, length, 
 use Rattle.std.specs.Fmt.{decimal}
 use Rattle.phpsa_main.specs.declared.exit.Exit.{Exit}
 use Rattle.phpsa_main.specs.declared.exit.Exit.TheVariants.{Done, No, NotBuilt, Script, Missing, ReadFault, WriteFault, Usage, Input, Memory}
-use Rattle.phpsa_main.specs.declared.verdict.ScriptKind.{ScriptKind}
-use Rattle.phpsa_main.specs.declared.verdict.ScriptKind.TheVariants as kind
+use Rattle.php_lexer.specs.declared.refusal.LexRefusal.TheVariants as lexed
+use Rattle.php_parser.specs.declared.refusal.ParseRefusal.TheVariants as parsed
+use Rattle.phpsa_main.specs.declared.texts.TheConstants.{PAGE_LIMIT}
+use Rattle.phpsa_main.specs.declared.verdict.ScriptRefusal.{ScriptRefusal}
+use Rattle.phpsa_main.specs.declared.verdict.ScriptRefusal.TheVariants.{Lex, Parse}
 use Rattle.phpsa_main.specs.declared.verdict.Refusal.{Refusal}
 use Rattle.phpsa_main.specs.declared.verdict.Refusal.TheVariants as refusal
 
@@ -27,26 +30,33 @@ yes_text = codes "yes" ++ 10 ∷ []
 
 -- on `out`, where this loose page is not valid: its length and its first 1,048,576 bytes
 abbrev pub no_text : List ℕ → List ℕ
-no_text page = codes "no" ++ 10 ∷ (codes "page " ++ decimal (length page) ++ 10 ∷ (take 1048576 page ++ 10 ∷ []))
+no_text page = codes "no" ++ 10 ∷ (codes "page " ++ decimal (length page) ++ 10 ∷ (take PAGE_LIMIT page ++ 10 ∷ []))
 
--- the name of what is wrong with a script
-abbrev pub kind_text : ScriptKind → List ℕ
-kind_text kind.BadByte = codes "BadByte"
-kind_text kind.Unclosed = codes "Unclosed"
-kind_text kind.Float = codes "Float"
-kind_text kind.BigInt = codes "BigInt"
-kind_text kind.Escape = codes "Escape"
-kind_text kind.NotInSubset = codes "NotInSubset"
-kind_text kind.TooDeep = codes "TooDeep"
+-- what is wrong with a script: its name, and the place or the length that is written behind the file
+abbrev pub said_of : ScriptRefusal → List ℕ × ℕ
+said_of (Lex (lexed.BadByte at)) = (codes "BadByte", at)
+said_of (Lex (lexed.Unclosed at)) = (codes "Unclosed", at)
+said_of (Lex (lexed.Float at)) = (codes "Float", at)
+said_of (Lex (lexed.BigInt at)) = (codes "BigInt", at)
+said_of (Lex (lexed.Escape at)) = (codes "Escape", at)
+said_of (Lex (lexed.TooLong len)) = (codes "TooLong", len)
+said_of (Lex lexed.Memory) = (codes "Memory", 0)
+said_of (Parse (parsed.NotInSubset at)) = (codes "NotInSubset", at)
+said_of (Parse (parsed.TooDeep at)) = (codes "TooDeep", at)
+said_of (Parse parsed.Memory) = (codes "Memory", 0)
+
+-- `phpsa: NAME FILE NUMBER`
+abbrev pub counted_text : List ℕ → List ℕ → ℕ → List ℕ
+counted_text name file number = codes "phpsa: " ++ name ++ codes " " ++ file ++ codes " " ++ decimal number ++ 10 ∷ []
 
 -- on `err`, for a refusal of this file
 abbrev pub error_text : Refusal → List ℕ → List ℕ
 error_text refusal.NotBuilt file = codes "phpsa: NotBuilt " ++ file ++ 10 ∷ []
-error_text (refusal.Script k at) file = codes "phpsa: " ++ kind_text k ++ codes " " ++ file ++ codes " " ++ decimal at ++ 10 ∷ []
+error_text (refusal.Script fault) file = counted_text (said_of fault).0 file (said_of fault).1
 error_text refusal.Missing file = codes "phpsa: Missing " ++ file ++ 10 ∷ []
 error_text refusal.ReadFault file = codes "phpsa: ReadFault " ++ file ++ 10 ∷ []
 error_text refusal.Usage file = codes "phpsa: Usage" ++ 10 ∷ []
-error_text (refusal.TooLong len) file = codes "phpsa: TooLong " ++ file ++ codes " " ++ decimal len ++ 10 ∷ []
+error_text (refusal.TooLong len) file = counted_text (codes "TooLong") file len
 error_text refusal.Memory file = codes "phpsa: Memory" ++ 10 ∷ []
 
 -- on `err`, where `out` failed

@@ -1,7 +1,7 @@
 // What is written of an answer or a refusal, and the status that the call ends with.
 ghost use Rattle.std.specs.Prelude.{◌≡◌};
 ghost use Rattle.io_edge.specs.Taken.{AppendsPrefix};
-ghost use Rattle.phpsa_main.specs.Steps.{Puts, Reports, ReportsRefusal};
+ghost use Rattle.phpsa_main.specs.Steps.{Puts, Reports, ReportsRefusal, TellsFault};
 ghost use Rattle.phpsa_main.specs.Call.{output_of};
 
 use crate::Exit;
@@ -13,8 +13,10 @@ use text_base::NoMemory;
 
 /// Puts a text, after which the call ends with this status; or with that of the fault.
 fn put<S: Sink>(sink: &mut S, text: &[u8], status: Exit) -> Exit
-    ensures { Puts (output_of (S.written sink.old) (S.written sink.new) (S.faults sink.old) (S.faults sink.new))
+    ensures puts { Puts (output_of (S.written sink.old) (S.written sink.new) (S.faults sink.old) (S.faults sink.new))
         text.now status result }
+    ensures told { TellsFault (output_of (S.written sink.old) (S.written sink.new) (S.faults sink.old) (S.faults sink.new))
+        result }
 {
     match sink.put(text) {
         Ok(()) => status,
@@ -35,8 +37,10 @@ fn try_put<S: Sink>(sink: &mut S, text: &[u8])
 
 /// Writes a refusal of this file.
 pub(crate) fn refuse<E: Sink>(alloc: Global, file: &[u8], refusal: Refusal, err: &mut E) -> Exit
-    ensures { ReportsRefusal file.now refusal
+    ensures reports { ReportsRefusal file.now refusal
         (output_of (E.written err.old) (E.written err.new) (E.faults err.old) (E.faults err.new)) result }
+    ensures told { TellsFault (output_of (E.written err.old) (E.written err.new) (E.faults err.old) (E.faults err.new))
+        result }
 {
     match refusal_text(alloc, file, refusal) {
         Ok(text) => put(err, text.as_slice(), refusal.status()),
@@ -51,9 +55,13 @@ pub(crate) fn report<O: Sink, E: Sink>(
     out: &mut O,
     err: &mut E,
 ) -> Exit
-    ensures { Reports answer.now
+    ensures reports { Reports answer.now
         (output_of (O.written out.old) (O.written out.new) (O.faults out.old) (O.faults out.new))
         (output_of (E.written err.old) (E.written err.new) (E.faults err.old) (E.faults err.new)) result }
+    ensures told_out { TellsFault (output_of (O.written out.old) (O.written out.new) (O.faults out.old) (O.faults out.new))
+        result }
+    ensures told_err { TellsFault (output_of (E.written err.old) (E.written err.new) (E.faults err.old) (E.faults err.new))
+        result }
 {
     let text = match answer_text(alloc, answer) {
         Ok(text) => text,

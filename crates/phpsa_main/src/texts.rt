@@ -1,16 +1,18 @@
 // The texts that are written.
 ghost use Rattle.std.specs.Prelude.{◌≡◌, ◌++◌, [], ◌∷◌, take, OnOk, OnErr, IfOk};
 ghost use Rattle.std.specs.Fmt.{decimal};
-ghost use Rattle.phpsa_main.specs.Texts.{yes_text, no_text, error_text, kind_text};
+ghost use Rattle.phpsa_main.specs.Texts.{yes_text, no_text, error_text, counted_text, said_of};
 ghost use Rattle.phpsa_main.specs.declared.verdict.Refusal.TheVariants as refusals;
 ghost use Rattle.phpsa_main.specs.Steps.{answer_text};
 
-use crate::verdict::{Answer, Refusal, ScriptKind};
+use crate::verdict::{Answer, Refusal, ScriptRefusal};
+use php_lexer::LexRefusal;
+use php_parser::ParseRefusal;
 use std::alloc::Global;
 use text_base::{Bytes, NoMemory};
 
 /// The most bytes of a page that are written.
-const PAGE_LIMIT: usize = 1_048_576;
+pub(crate) const PAGE_LIMIT: usize = 1_048_576;
 
 /// The text of a write fault.
 pub(crate) const WRITE_FAULT: &[u8] = b"phpsa: WriteFault\n";
@@ -54,18 +56,40 @@ fn append_number(alloc: Global, text: &mut Bytes, number: u64) -> Result<(), NoM
     Ok(())
 }
 
-/// The name of what is wrong with a script.
-fn kind_text(kind: ScriptKind) -> &'static [u8]
-    ensures { result.now ≡ kind_text kind }
+/// What is wrong with a script: its name, and the place or the length that is written behind the file.
+fn said_of(refusal: ScriptRefusal) -> (&'static [u8], u64)
+    ensures name { result.0.now ≡ (said_of refusal).0 }
+    ensures number { result.1 ≡ (said_of refusal).1 }
 {
-    match kind {
-        ScriptKind::BadByte => b"BadByte",
-        ScriptKind::Unclosed => b"Unclosed",
-        ScriptKind::Float => b"Float",
-        ScriptKind::BigInt => b"BigInt",
-        ScriptKind::Escape => b"Escape",
-        ScriptKind::NotInSubset => b"NotInSubset",
-        ScriptKind::TooDeep => b"TooDeep",
+    match refusal {
+        ScriptRefusal::Lex(refusal) => lexed(refusal),
+        ScriptRefusal::Parse(refusal) => parsed(refusal),
+    }
+}
+
+fn lexed(refusal: LexRefusal) -> (&'static [u8], u64)
+    ensures name { result.0.now ≡ (said_of (ScriptRefusal.Lex refusal)).0 }
+    ensures number { result.1 ≡ (said_of (ScriptRefusal.Lex refusal)).1 }
+{
+    match refusal {
+        LexRefusal::BadByte { at } => (b"BadByte", u64::from(at)),
+        LexRefusal::Unclosed { at } => (b"Unclosed", u64::from(at)),
+        LexRefusal::Float { at } => (b"Float", u64::from(at)),
+        LexRefusal::BigInt { at } => (b"BigInt", u64::from(at)),
+        LexRefusal::Escape { at } => (b"Escape", u64::from(at)),
+        LexRefusal::TooLong { len } => (b"TooLong", len),
+        LexRefusal::Memory => (b"Memory", 0),
+    }
+}
+
+fn parsed(refusal: ParseRefusal) -> (&'static [u8], u64)
+    ensures name { result.0.now ≡ (said_of (ScriptRefusal.Parse refusal)).0 }
+    ensures number { result.1 ≡ (said_of (ScriptRefusal.Parse refusal)).1 }
+{
+    match refusal {
+        ParseRefusal::NotInSubset { at } => (b"NotInSubset", u64::from(at)),
+        ParseRefusal::TooDeep { at } => (b"TooDeep", u64::from(at)),
+        ParseRefusal::Memory => (b"Memory", 0),
     }
 }
 
@@ -75,10 +99,10 @@ pub(crate) fn refusal_text(alloc: Global, file: &[u8], refusal: Refusal) -> Resu
 {
     match refusal {
         Refusal::NotBuilt => named_text(alloc, b"phpsa: NotBuilt ", file),
-        Refusal::Script { kind, at } => script_text(alloc, file, kind, at),
+        Refusal::Script(refusal) => script_text(alloc, file, refusal),
         Refusal::Missing => named_text(alloc, b"phpsa: Missing ", file),
         Refusal::ReadFault => named_text(alloc, b"phpsa: ReadFault ", file),
-        Refusal::TooLong { len } => long_text(alloc, file, len),
+        Refusal::TooLong { len } => counted_text(alloc, b"TooLong", file, len),
         Refusal::Usage => Bytes::from_slice(alloc, b"phpsa: Usage\n"),
         Refusal::Memory => Bytes::from_slice(alloc, NO_MEMORY),
     }
@@ -93,26 +117,23 @@ fn named_text(alloc: Global, front: &[u8], file: &[u8]) -> Result<Bytes, NoMemor
     Ok(text)
 }
 
-fn script_text(alloc: Global, file: &[u8], kind: ScriptKind, at: u32) -> Result<Bytes, NoMemory>
-    ensures { IfOk result (λ text. text ≡ error_text (refusals.Script kind at) file.now) }
+fn script_text(alloc: Global, file: &[u8], refusal: ScriptRefusal) -> Result<Bytes, NoMemory>
+    ensures { IfOk result (λ text. text ≡ error_text (refusals.Script refusal) file.now) }
 {
-    let mut text = Bytes::from_slice(alloc, b"phpsa: ")?;
-    text.append(kind_text(kind))?;
-    text.append(b" ")?;
-    text.append(file)?;
-    text.append(b" ")?;
-    append_number(alloc, &mut text, at as u64)?;
-    text.append(b"\n")?;
-    Ok(text)
+    let (name, number) = said_of(refusal);
+    counted_text(alloc, name, file, number)
 }
 
-fn long_text(alloc: Global, file: &[u8], len: u64) -> Result<Bytes, NoMemory>
-    ensures { IfOk result (λ text. text ≡ error_text (refusals.TooLong len) file.now) }
+/// `phpsa: NAME FILE NUMBER`.
+fn counted_text(alloc: Global, name: &[u8], file: &[u8], number: u64) -> Result<Bytes, NoMemory>
+    ensures { IfOk result (λ text. text ≡ counted_text name.now file.now number) }
 {
-    let mut text = Bytes::from_slice(alloc, b"phpsa: TooLong ")?;
+    let mut text = Bytes::from_slice(alloc, b"phpsa: ")?;
+    text.append(name)?;
+    text.append(b" ")?;
     text.append(file)?;
     text.append(b" ")?;
-    append_number(alloc, &mut text, len)?;
+    append_number(alloc, &mut text, number)?;
     text.append(b"\n")?;
     Ok(text)
 }

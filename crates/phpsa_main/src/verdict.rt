@@ -1,7 +1,7 @@
 // What the check of a file comes to.
 ghost use Rattle.std.specs.Prelude.{◌≡◌};
 ghost use Rattle.phpsa_main.specs.Steps.{answer_status, refusal_status, refusal_of, lexed_as, parsed_as};
-ghost use Rattle.phpsa_main.specs.declared.verdict.Refusal.TheVariants.{Memory, Script};
+ghost use Rattle.phpsa_main.specs.declared.verdict.Refusal.TheVariants.{Memory};
 
 use crate::Exit;
 use io_edge::FileFault;
@@ -11,7 +11,7 @@ use text_base::{Bytes, NoMemory};
 
 /// An answer, which is written on `out`.
 #[derive(Debug, PartialEq, Eq, Drop)]
-pub(crate) enum Answer {
+pub enum Answer {
     /// Every loose page is valid.
     Yes,
     /// This loose page is not valid.
@@ -29,23 +29,20 @@ impl Answer {
     }
 }
 
-/// What is wrong with a script.
+/// Why a script is none of the language.
 #[derive(Clone, Copy, Debug, PartialEq, Eq)]
-pub(crate) enum ScriptKind {
-    BadByte,
-    Unclosed,
-    Float,
-    BigInt,
-    Escape,
-    NotInSubset,
-    TooDeep,
+pub enum ScriptRefusal {
+    /// It breaks the lexical grammar.
+    Lex(LexRefusal),
+    /// Its tokens spell no program, or are too deep.
+    Parse(ParseRefusal),
 }
 
 /// Why there is no answer, which is written on `err`.
 #[derive(Clone, Copy, Debug, PartialEq, Eq)]
-pub(crate) enum Refusal {
+pub enum Refusal {
     NotBuilt,
-    Script { kind: ScriptKind, at: u32 },
+    Script(ScriptRefusal),
     Missing,
     ReadFault,
     TooLong { len: u64 },
@@ -59,7 +56,7 @@ impl Refusal {
     {
         match self {
             Refusal::NotBuilt => Exit::NotBuilt,
-            Refusal::Script { .. } => Exit::Script,
+            Refusal::Script(_) => Exit::Script,
             Refusal::Missing => Exit::Missing,
             Refusal::ReadFault => Exit::ReadFault,
             Refusal::TooLong { .. } => Exit::Input,
@@ -90,25 +87,14 @@ impl From<FileFault> for Refusal {
     }
 }
 
-/// A refusal of this kind at this place.
-fn script(kind: ScriptKind, at: u32) -> Refusal
-    ensures { result ≡ Script kind at }
-{
-    Refusal::Script { kind, at }
-}
-
 impl From<LexRefusal> for Refusal {
     ghost from_gives = { λ lexed refusal. refusal ≡ lexed_as lexed };
 
     fn from(refusal: LexRefusal) -> Self {
         match refusal {
-            LexRefusal::BadByte { at } => script(ScriptKind::BadByte, at),
-            LexRefusal::Unclosed { at } => script(ScriptKind::Unclosed, at),
-            LexRefusal::Float { at } => script(ScriptKind::Float, at),
-            LexRefusal::BigInt { at } => script(ScriptKind::BigInt, at),
-            LexRefusal::Escape { at } => script(ScriptKind::Escape, at),
             LexRefusal::TooLong { len } => Refusal::TooLong { len },
             LexRefusal::Memory => Refusal::Memory,
+            _ => Refusal::Script(ScriptRefusal::Lex(refusal)),
         }
     }
 }
@@ -118,9 +104,8 @@ impl From<ParseRefusal> for Refusal {
 
     fn from(refusal: ParseRefusal) -> Self {
         match refusal {
-            ParseRefusal::NotInSubset { at } => script(ScriptKind::NotInSubset, at),
-            ParseRefusal::TooDeep { at } => script(ScriptKind::TooDeep, at),
             ParseRefusal::Memory => Refusal::Memory,
+            _ => Refusal::Script(ScriptRefusal::Parse(refusal)),
         }
     }
 }

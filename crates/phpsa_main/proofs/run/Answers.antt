@@ -1,19 +1,36 @@
-use Rattle.std.proofs.Common.{◌≡◌, Some, None, map, string_bytes, refl}
-use Rattle.phpsa_main.specs.Words.{asked_file}
+use Rattle.std.proofs.Common.{◌≡◌, Some, None, map, string_bytes, refl, inr}
+use Rattle.phpsa_main.specs.Words.{asked_of}
 use Rattle.phpsa_main.proofs.Ended.{unasked, refused, answered}
+use Rattle.phpsa_main.proofs.Counting.{unasked_counts, asked_counts, fault_told}
 use Rattle.phpsa_main.proofs.run.Goals as goal
 
-pub returns-in-None : goal.returns-in-None
-returns-in-None g c =
-    let none : asked_file (map (λ word. string_bytes word) c.args.words.now.items) ≡ None = cc (c.in-None.ensures, c.deref.ensures.value) in
-    unasked _ _ none refl c.refuse.ensures
+pub returns-in-None-clause-ends : goal.returns-in-None-clause-ends
+returns-in-None-clause-ends g c =
+    let none : asked_of (map (λ word. string_bytes word) c.args.words.now.items) ≡ None = cc (c.in-None.ensures, c.deref.ensures.value) in
+    unasked _ _ none refl c.refuse.ensures.reports
 
-pub returns-in-Ok : goal.returns-in-Ok
-returns-in-Ok g c =
-    let asked : asked_file (map (λ word. string_bytes word) c.args.words.now.items) ≡ Some (string_bytes c.in-Some.file.now) = cc (c.in-Some.ensures, c.deref.ensures.value) in
-    answered _ (string_bytes c.in-Some.file.now) c.as_str.result.now c.in-Ok.answer c.report.result asked c.as_str.ensures.value c.in-Ok.ensures.ok c.report.ensures
+pub returns-in-None-clause-counted : goal.returns-in-None-clause-counted
+returns-in-None-clause-counted g c =
+    let none : asked_of (map (λ word. string_bytes word) c.args.words.now.items) ≡ None = cc (c.in-None.ensures, c.deref.ensures.value) in
+    unasked_counts _ _ none refl refl refl c.refuse.ensures.told
 
-pub returns-in-Err : goal.returns-in-Err
-returns-in-Err g c =
-    let asked : asked_file (map (λ word. string_bytes word) c.args.words.now.items) ≡ Some (string_bytes c.in-Some.file.now) = cc (c.in-Some.ensures, c.deref.ensures.value) in
-    refused _ (string_bytes c.in-Some.file.now) c.as_str.result.now c.as_bytes.result.now c.in-Err.refusal c.refuse-in-Err.result asked c.as_str.ensures.value c.as_bytes.ensures.value c.in-Err.ensures.err refl c.refuse-in-Err.ensures
+pub returns-in-Ok-clause-ends : goal.returns-in-Ok-clause-ends
+returns-in-Ok-clause-ends g c =
+    let asked : asked_of (map (λ word. string_bytes word) c.args.words.now.items) ≡ Some (string_bytes c.in-Some.file.now, c.in-Some.document_type) = cc (c.in-Some.ensures, c.deref.ensures.value) in
+    answered _ (string_bytes c.in-Some.file.now, c.in-Some.document_type) c.as_str.result.now c.in-Ok.answer c.report.result asked c.as_str.ensures.value c.in-Ok.ensures.ok c.report.ensures.reports
+
+pub returns-in-Ok-clause-counted : goal.returns-in-Ok-clause-counted
+returns-in-Ok-clause-counted g c =
+    let asked : asked_of (map (λ word. string_bytes word) c.args.words.now.items) ≡ Some (string_bytes c.in-Some.file.now, c.in-Some.document_type) = cc (c.in-Some.ensures, c.deref.ensures.value) in
+    asked_counts _ (string_bytes c.in-Some.file.now, c.in-Some.document_type) c.report.result asked c.in-Ok.ensures.reads c.report.ensures.told_out c.report.ensures.told_err (inr (c.in-Ok.ensures.unfailed (λ e. cc (e))))
+
+pub returns-in-Err-clause-ends : goal.returns-in-Err-clause-ends
+returns-in-Err-clause-ends g c =
+    let asked : asked_of (map (λ word. string_bytes word) c.args.words.now.items) ≡ Some (string_bytes c.in-Some.file.now, c.in-Some.document_type) = cc (c.in-Some.ensures, c.deref.ensures.value) in
+    refused _ (string_bytes c.in-Some.file.now, c.in-Some.document_type) c.as_str.result.now c.as_bytes.result.now c.in-Err.refusal c.refuse-in-Err.result asked c.as_str.ensures.value c.as_bytes.ensures.value c.in-Err.ensures.err refl c.refuse-in-Err.ensures.reports
+
+pub returns-in-Err-clause-counted : goal.returns-in-Err-clause-counted
+returns-in-Err-clause-counted g c =
+    let asked : asked_of (map (λ word. string_bytes word) c.args.words.now.items) ≡ Some (string_bytes c.in-Some.file.now, c.in-Some.document_type) = cc (c.in-Some.ensures, c.deref.ensures.value) in
+    asked_counts _ (string_bytes c.in-Some.file.now, c.in-Some.document_type) c.refuse-in-Err.result asked c.in-Err.ensures.reads (inr refl) c.refuse-in-Err.ensures.told
+    (fault_told _ c.in-Err.refusal _ c.refuse-in-Err.result (λ ne. c.in-Err.ensures.unfailed (λ e. ne (cc (e)))) c.refuse-in-Err.ensures.reports)

@@ -1,9 +1,10 @@
 // The program on files and outputs in memory.
-use crate::{Exit, phpsa};
-use io_edge::{FILE_LIMIT, MemFiles, MemSink};
+use io_edge::{MemFiles, MemSink};
+use phpsa_main::{Exit, phpsa};
 use std::alloc::Global;
 use std::test::Fail;
 use text_base::Bytes;
+use text_base::limits::FILE_LIMIT;
 
 /// A script whose second arm leaves a paragraph open.
 const OPEN: &str =
@@ -12,6 +13,10 @@ const OPEN: &str =
 /// The same with both paragraphs closed.
 const CLOSED: &str =
     "<html><body><?php if (isset($_GET['name'])) { echo '<p>a</p>'; } else { echo '<p>b</p>'; } ?></body></html>";
+
+/// The same with both paragraphs open.
+const BOTH_OPEN: &str =
+    "<html><body><?php if (isset($_GET['name'])) { echo '<p>a'; } else { echo '<p>b'; } ?></body></html>";
 
 const NO_OPEN: &str = "no\npage 30\n<html><body><p>b</body></html>\n";
 
@@ -77,6 +82,11 @@ fn answers_for_scripts(rt: HostRuntime) -> Result<(), Fail> {
     for (script, exit, out) in [
         (OPEN, Exit::No, NO_OPEN),
         (CLOSED, Exit::Done, "yes\n"),
+        (
+            BOTH_OPEN,
+            Exit::No,
+            "no\npage 30\n<html><body><p>a</body></html>\n",
+        ),
         ("<html><body><p>x</p></body></html>", Exit::Done, "yes\n"),
         (
             "<html><body><p>x</body></html>",
