@@ -3,7 +3,8 @@ use Rattle.std.proofs.Common.{◌≡◌, ℕ, true, false, List, [], ◌++◌, r
 use Rattle.std.specs.Prelude.{codes, pos}
 use Rattle.std.specs.List.{list_all}
 use Rattle.php_syntax.specs.Trees.{PlainExpr, PlainStmt, PlainStmts, PlainFile, text_expr, no_exprs, more_exprs, inline_stmt, echo_stmt, if_stmt, no_stmts, more_stmts, no_arms, more_arms}
-use Rattle.first_form.specs.Characters.{is_plain, is_letter}
+use Rattle.std.specs.Char.{is_ascii_alphabetic}
+use Rattle.first_form.specs.Characters.{is_plain}
 use Rattle.first_form.specs.Requests.{Request, Members, text_key, int_key, text_member, array_member, no_members, more_members, has_name, is_xml_character}
 use Rattle.first_form.specs.Meaning.{Meaning, Ended, Spent, statement_run, texts_of, outcome_of}
 use Rattle.first_form.specs.Loose.{Loose, LooseStatement}
@@ -19,7 +20,7 @@ ampersand_is_not = refl
 comment_is_not : list_all is_plain (codes "<!-- -->") ≡ false
 comment_is_not = refl
 
-digits_are_no_letters : list_all is_letter (codes "q1") ≡ false
+digits_are_no_letters : list_all is_ascii_alphabetic (codes "q1") ≡ false
 digits_are_no_letters = refl
 
 -- names that are set: a member under the name itself, be it an array, and none under another name or a number

@@ -3,7 +3,8 @@ use Rattle.std.proofs.Common.{◌≡◌, ℕ, zero, suc, ◌+◌, Bool, true, fa
 use Rattle.std.specs.Prelude.{◌⊎◌}
 use Rattle.std.proofs.lemmas.Option.{some_pair_parts}
 use Rattle.php_syntax.specs.Trees.{PlainStmt, PlainStmts, PlainArms, PlainFile, text_expr, no_exprs, more_exprs, inline_stmt, echo_stmt, run_stmt, if_stmt, while_stmt, do_while_stmt, for_stmt, each_stmt, break_stmt, continue_stmt, return_stmt, include_stmt, no_stmts, more_stmts, no_arms, more_arms}
-use Rattle.first_form.specs.Characters.{Each, is_letter}
+use Rattle.std.specs.Char.{is_ascii_alphabetic}
+use Rattle.first_form.specs.Characters.{Each}
 use Rattle.first_form.specs.Requests.{Request, has_name}
 use Rattle.first_form.specs.Meaning.{Run, going, spent, unwritten, with_unit, ◌then_do◌, texts_of, print_texts, condition_of, choose, statement_run, statements_run, arms_run, outcome_of, Meaning, Ended, Spent}
 use Rattle.first_form.specs.Loose.{LooseStatement, LooseStatements, LooseArms, Loose}
@@ -193,7 +194,7 @@ body_ends r no_stmts h printed = (0, 0, printed, refl)
 body_ends r (more_stmts s ss) h printed = statements_end r s ss (straight_ends r s h.0) (body_ends r ss h.1) printed
 
 -- an if on whether the name is set
-if_ends : (r : Request) (key : List ℕ) (body otherwise : PlainStmts) → Each is_letter key → (printed : List ℕ) → Ends (statements_run r body) printed → Ends (statements_run r otherwise) printed → Ends (statement_run r (if_stmt (more_arms (is_set key) body no_arms) otherwise)) printed
+if_ends : (r : Request) (key : List ℕ) (body otherwise : PlainStmts) → Each is_ascii_alphabetic key → (printed : List ℕ) → Ends (statements_run r body) printed → Ends (statements_run r otherwise) printed → Ends (statement_run r (if_stmt (more_arms (is_set key) body no_arms) otherwise)) printed
 unfolding statement_run with_unit condition_of choose
 if_ends r key body otherwise letters printed a b = go (has_name key r.get) refl
   where

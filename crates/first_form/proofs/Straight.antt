@@ -6,7 +6,8 @@ use Rattle.std.proofs.lemmas.Bool.{and_parts, and_from, eqb-false, ne_eqb, not-t
 use Rattle.std.proofs.lemmas.Option.{same_Some}
 use Rattle.php_syntax.specs.declared.tree.SuperName.TheVariants.{Get, Post, Cookie, Request, Server}
 use Rattle.php_syntax.specs.Trees.{PlainExpr, PlainExprs, PlainStmt, PlainStmts, PlainArms, text_expr, super_expr, member_expr, isset_expr, no_exprs, more_exprs, inline_stmt, echo_stmt, if_stmt, no_stmts, more_stmts, no_arms, more_arms}
-use Rattle.first_form.specs.Characters.{Each, is_plain, is_letter}
+use Rattle.std.specs.Char.{is_ascii_alphabetic}
+use Rattle.first_form.specs.Characters.{Each, is_plain}
 use Rattle.first_form.specs.Meaning.{texts_of}
 use Rattle.first_form.specs.Loose.{LooseStatement, LooseStatements}
 use Rattle.first_form.specs.FirstTree.{IsSetTest, IsStraightStatement, IsStraight, IsBranch}
@@ -115,10 +116,10 @@ printed_by_none (more_stmts s ss) e h = go (printed_of s) refl (printed_by ss) r
     go (Some t) f (Some more) g ih = let some : Some (t ++ more) ≡ None = rw (f, g) at e in cc
 
 -- conditions
-key_true : (p : PlainExpr) → is_key p ≡ true → (key : List ℕ) × (key ≢ []) × Each is_letter key × (p ≡ text_expr key)
+key_true : (p : PlainExpr) → is_key p ≡ true → (key : List ℕ) × (key ≢ []) × Each is_ascii_alphabetic key × (p ≡ text_expr key)
 unfolding is_key
 key_true (text_expr text) e =
-    let both = and_parts (not (length text == 0)) (list_all is_letter text) e in
+    let both = and_parts (not (length text == 0)) (list_all is_ascii_alphabetic text) e in
     (text, λ z. eqb-false (length text) 0 (not-true (length text == 0) both.0) (ap length z), both.1, refl)
 key_true _ e = absurd cc
 
@@ -131,7 +132,7 @@ get_true (super_expr Request) e = absurd cc
 get_true (super_expr Server) e = absurd cc
 get_true _ e = absurd cc
 
-member_true : (p : PlainExpr) → is_get_member p ≡ true → (key : List ℕ) × (key ≢ []) × Each is_letter key × (p ≡ member_expr (super_expr Get) (text_expr key))
+member_true : (p : PlainExpr) → is_get_member p ≡ true → (key : List ℕ) × (key ≢ []) × Each is_ascii_alphabetic key × (p ≡ member_expr (super_expr Get) (text_expr key))
 unfolding is_get_member
 member_true (member_expr a k) e =
     let both = and_parts (is_get a) (is_key k) e in
@@ -139,7 +140,7 @@ member_true (member_expr a k) e =
     (key.0, key.1, key.2, ap (λ x. member_expr x k) (get_true a both.0) ∙ ap (member_expr (super_expr Get)) key.3)
 member_true _ e = absurd cc
 
-one_true : (es : PlainExprs) → is_set_one es ≡ true → (key : List ℕ) × (key ≢ []) × Each is_letter key × (es ≡ more_exprs (member_expr (super_expr Get) (text_expr key)) no_exprs)
+one_true : (es : PlainExprs) → is_set_one es ≡ true → (key : List ℕ) × (key ≢ []) × Each is_ascii_alphabetic key × (es ≡ more_exprs (member_expr (super_expr Get) (text_expr key)) no_exprs)
 unfolding is_set_one
 one_true no_exprs e = absurd cc
 one_true (more_exprs x no_exprs) e = let m = member_true x e in (m.0, m.1, m.2, ap (λ y. more_exprs y no_exprs) m.3)

@@ -3,7 +3,8 @@ use Rattle.std.specs.Prelude.{◌≡◌, ◌≢◌, ◌⊎◌, ◌↔◌, ℕ, L
 use Rattle.php_syntax.specs.declared.tree.SuperName.TheVariants.{Get}
 use Rattle.php_syntax.specs.Trees.{PlainExpr, PlainStmt, PlainStmts, PlainFile, text_expr, super_expr, member_expr, isset_expr, no_exprs, more_exprs, inline_stmt, echo_stmt, if_stmt, no_stmts, more_stmts, no_arms, more_arms}
 use Rattle.first_form.specs.declared.pages.Pages.{Pages}
-use Rattle.first_form.specs.Characters.{Each, is_plain, is_letter}
+use Rattle.std.specs.Char.{is_ascii_alphabetic}
+use Rattle.first_form.specs.Characters.{Each, is_plain}
 use Rattle.first_form.specs.Loose.{Loose}
 
 -- isset($_GET['KEY'])
@@ -12,7 +13,7 @@ is_set key = isset_expr (more_exprs (member_expr (super_expr Get) (text_expr key
 
 -- isset($_GET['KEY']), with a key of one or more letters
 abbrev pub IsSetTest : PlainExpr → Type 0
-IsSetTest condition = (key : List ℕ) × (key ≢ []) × Each is_letter key × (condition ≡ is_set key)
+IsSetTest condition = (key : List ℕ) × (key ≢ []) × Each is_ascii_alphabetic key × (condition ≡ is_set key)
 
 -- inline text, or an echo of one text, of plain bytes
 unfoldable pub IsStraightStatement : PlainStmt → Type 0

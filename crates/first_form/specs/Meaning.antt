@@ -4,7 +4,7 @@ use Rattle.std.specs.Prelude.{◌≡◌, ℕ, zero, suc, Bool, true, false, List
 use Rattle.std.specs.List.{list_all}
 use Rattle.php_syntax.specs.declared.tree.SuperName.TheVariants.{Get}
 use Rattle.php_syntax.specs.Trees.{PlainExpr, PlainExprs, PlainStmt, PlainStmts, PlainArms, PlainFile, text_expr, super_expr, member_expr, isset_expr, no_exprs, more_exprs, inline_stmt, echo_stmt, if_stmt, no_stmts, more_stmts, no_arms, more_arms}
-use Rattle.first_form.specs.Characters.{is_letter}
+use Rattle.std.specs.Char.{is_ascii_alphabetic}
 use Rattle.first_form.specs.Requests.{Request, has_name}
 
 -- how a run ends: at the end of the script, or where no unit is left
@@ -47,7 +47,7 @@ print_texts (Some text) n printed = going n (printed ++ text)
 
 -- whether a condition holds: `isset($_GET['KEY'])` holds where a member stands under the key, since no member is null
 unfoldable pub condition_of : Request → PlainExpr → Option Bool
-condition_of r (isset_expr (more_exprs (member_expr (super_expr Get) (text_expr key)) no_exprs)) = if list_all is_letter key then Some (has_name key r.get) else None
+condition_of r (isset_expr (more_exprs (member_expr (super_expr Get) (text_expr key)) no_exprs)) = if list_all is_ascii_alphabetic key then Some (has_name key r.get) else None
 condition_of r _ = None
 
 unfoldable pub choose : Option Bool → Run → Run → Run

@@ -37,7 +37,8 @@ fn puts(out: Out, byte: u8, wanted: u8) -> bool
 /// How far the output is written after all of `out`, put out as `byte` is read, where it was
 /// written up to `from`; None where the output goes on otherwise.
 fn written_after(out: &[Out], byte: u8, output: &[u8], from: usize) -> Option<usize>
-    ensures puts { MatchOption result ((rest : List Letter) → letters_from output.now from ≢ map (letter_of byte) out.now ++ rest) (λ at. letters_from output.now from ≡ map (letter_of byte) out.now ++ letters_from output.now at) }
+    ensures puts { MatchOption result ((rest : List Letter) → letters_from output.now from ≢ map (letter_of byte) out.now ++ rest)
+        (λ at. letters_from output.now from ≡ map (letter_of byte) out.now ++ letters_from output.now at) }
     ensures within { IfSome result (λ at. (from ≤ length output.now) ↔ (at ≤ length output.now)) }
 {
     let mut at = from;
@@ -62,7 +63,9 @@ fn try_move(
     byte: u8,
     output: &[u8],
 ) -> Result<(), NoMemory>
-    ensures { OnOk result ((text : List ℕ) → SomeGives table.now next.new.keys text output.now ↔ (SomeGives table.now next.old.keys text output.now ⊎ ByMove table.now step.now written byte text output.now)) }
+    ensures { OnOk result ((text : List ℕ) → SomeGives table.now next.new.keys text output.now
+        ↔ (SomeGives table.now next.old.keys text output.now
+        ⊎ ByMove table.now step.now written byte text output.now)) }
 {
     if byte < step.range.lo || step.range.hi < byte {
         return Ok(());
@@ -98,7 +101,9 @@ fn try_moves(
     output: &[u8],
 ) -> Result<(), NoMemory>
     requires { All (λ i. i < length table.now.moves.items) places.now }
-    ensures { OnOk result ((text : List ℕ) → SomeGives table.now next.new.keys text output.now ↔ (SomeGives table.now next.old.keys text output.now ⊎ ByMoves table.now places.now written byte text output.now)) }
+    ensures { OnOk result ((text : List ℕ) → SomeGives table.now next.new.keys text output.now
+        ↔ (SomeGives table.now next.old.keys text output.now
+        ⊎ ByMoves table.now places.now written byte text output.now)) }
 {
     for place in places {
         try_move(table, next, &table.moves[*place], written, byte, output)?;
@@ -116,7 +121,9 @@ fn follow(
     output: &[u8],
 ) -> Result<(), NoMemory>
     requires { IsIndex table.now.moves.items (length table.now.moves.items) index.now }
-    ensures { OnOk result ((text : List ℕ) → SomeGives table.now next.new.keys text output.now ↔ (SomeGives table.now next.old.keys text output.now ⊎ SomeGives table.now (reached ∷ []) (byte ∷ text) output.now)) }
+    ensures { OnOk result ((text : List ℕ) → SomeGives table.now next.new.keys text output.now
+        ↔ (SomeGives table.now next.old.keys text output.now
+        ⊎ SomeGives table.now (reached ∷ []) (byte ∷ text) output.now)) }
 {
     let Some(places) = index.get(reached.state as usize) else {
         return Ok(());
@@ -142,7 +149,8 @@ fn next_layer(
     output: &[u8],
 ) -> Result<IndexSet<Reached>, NoMemory>
     requires { IsIndex table.now.moves.items (length table.now.moves.items) index.now }
-    ensures { IfOk result (λ next. (text : List ℕ) → SomeGives table.now next.keys text output.now ↔ SomeGives table.now layer.now (byte ∷ text) output.now) }
+    ensures { IfOk result (λ next. (text : List ℕ) → SomeGives table.now next.keys text output.now
+        ↔ SomeGives table.now layer.now (byte ∷ text) output.now) }
 {
     let mut next = IndexSet::new(alloc);
     for reached in layer {
@@ -154,7 +162,8 @@ fn next_layer(
 /// Where the output has to have been written up to for an end to put out just what is left; None
 /// where there is no such place.
 fn written_before(out: &[Out], output: &[u8]) -> Option<usize>
-    ensures { MatchOption result ((at : ℕ) → at ≤ length output.now → letters_from output.now at ≢ map (letter_of 0) out.now) (λ at. (at ≤ length output.now) × (letters_from output.now at ≡ map (letter_of 0) out.now)) }
+    ensures { MatchOption result ((at : ℕ) → at ≤ length output.now → letters_from output.now at ≢ map (letter_of 0) out.now)
+        (λ at. (at ≤ length output.now) × (letters_from output.now at ≡ map (letter_of 0) out.now)) }
 {
     if out.len() > output.len() {
         return None;

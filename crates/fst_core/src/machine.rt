@@ -57,7 +57,9 @@ pub trait Machine {
         range: ByteRange,
     ) -> Result<Vec<Move<Self::State>>, NoMemory>
         requires { gives self.now state.now }
-        ensures exact { IfOk result (λ moves. (byte : ℕ) → InRange range byte → (t : Self.State) (letters : List Letter) → Offers moves.items byte t letters ↔ steps self.now state.now byte t letters) }
+        ensures exact { IfOk result (λ moves. (byte : ℕ) → InRange range byte
+            → (t : Self.State) (letters : List Letter)
+            → Offers moves.items byte t letters ↔ steps self.now state.now byte t letters) }
         ensures within { IfOk result (λ moves. All (IsWithin range) moves.items) }
         ensures given { IfOk result (λ moves. All (λ m. gives self.now m.to) moves.items) };
 
@@ -65,6 +67,7 @@ pub trait Machine {
     /// No `Same` and no `Shift` stands in it.
     fn last(&self, alloc: Global, state: &Self::State) -> Result<Vec<Vec<Out>>, NoMemory>
         requires { gives self.now state.now }
-        ensures exact { IfOk result (λ lasts. (letters : List Letter) → OffersLast lasts.items letters ↔ ends self.now state.now letters) }
+        ensures exact { IfOk result (λ lasts. (letters : List Letter)
+            → OffersLast lasts.items letters ↔ ends self.now state.now letters) }
         ensures fixed { IfOk result (λ lasts. All (λ out. IsTrue (list_all is_fixed out.items)) lasts.items) };
 }

@@ -34,7 +34,8 @@ impl OpSystem {
     /// of a rule is not below the count of the grammar, or where a page token stands in it.
     pub fn new(grammar: Grammar, ops: Vec<OpRule>, start: Nt) -> Option<OpSystem>
         ensures kept { IfSome result (λ s. (s.grammar ≡ grammar) × (s.ops.items ≡ ops.items) × (s.start ≡ start)) }
-        ensures variant { IsSome result ↔ ((start.0 < grammar.count) × RulesAreBelow grammar.count ops.items × HaveNoToken grammar.productions.items) }
+        ensures variant { IsSome result ↔ ((start.0 < grammar.count) × RulesAreBelow grammar.count ops.items
+            × HaveNoToken grammar.productions.items) }
     {
         if start.0 < grammar.count && are_below(grammar.count, &ops) && grammar.is_without_token() {
             Some(OpSystem {

@@ -5,7 +5,8 @@ use Rattle.php_syntax.specs.declared.tree.SuperName.{SuperName}
 use Rattle.php_syntax.specs.declared.tree.SuperName.TheVariants.{Get}
 use Rattle.php_syntax.specs.Trees.{PlainExpr, PlainExprs, PlainStmt, PlainStmts, PlainArms, text_expr, super_expr, member_expr, isset_expr, no_exprs, more_exprs, inline_stmt, echo_stmt, if_stmt, no_stmts, more_stmts, no_arms, more_arms}
 use Rattle.first_form.specs.declared.pages.Pages.{Pages}
-use Rattle.first_form.specs.Characters.{is_plain, is_letter}
+use Rattle.std.specs.Char.{is_ascii_alphabetic}
+use Rattle.first_form.specs.Characters.{is_plain}
 
 -- goes on with what there is
 infixl 10 ◌>>=◌
@@ -39,7 +40,7 @@ printed_by (more_stmts s ss) = printed_of s >>= λ text. (printed_by ss >>= λ m
 
 -- a key of one or more letters; `$_GET`; a member of it under such a key; and whether that is set
 unfoldable pub is_key : PlainExpr → Bool
-is_key (text_expr text) = not (length text == 0) && list_all is_letter text
+is_key (text_expr text) = not (length text == 0) && list_all is_ascii_alphabetic text
 is_key _ = false
 
 unfoldable pub is_get_name : SuperName → Bool
