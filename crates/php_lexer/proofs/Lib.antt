@@ -7,3 +7,4 @@ pub mod WithinLemmas
 pub mod PartLemmas
 pub mod SoFarLemmas
 pub mod RefusalLemmas
+pub mod LeadLemmas

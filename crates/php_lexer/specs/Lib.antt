@@ -3,3 +3,4 @@ pub mod Rows
 pub mod Templates
 pub mod Heredocs
 pub mod Refusals
+pub mod Leads

@@ -5,30 +5,11 @@ ghost use Rattle.lexical_grammar.specs.Characters as chars;
 ghost use Rattle.lexical_grammar.specs.Cuts as spec;
 ghost use Rattle.php_lexer.specs.View.{maybe_step, IsWithin};
 
-use crate::classes::{is_blank, is_gap, is_line_end, lower};
 use crate::scan::{begins, behind, front, head_is_line_end, newline_length};
 use crate::step::{Fault, Mode, Step};
 use php_syntax::token::{Sign, TokenKind};
 use std::alloc::Global;
 use text_base::{Bytes, NoMemory};
-
-/// A blank.
-#[tactic(auto, unfolding(lexical_grammar::specs::Cuts::blank_step))]
-pub fn blank_step(bytes: &[u8]) -> Option<Step>
-    ensures value { maybe_step result ≡ spec.blank_step bytes.now }
-    ensures within { IfSome result (IsWithin (length bytes.now)) }
-{
-    match bytes {
-        [] => None,
-        [byte, ..] => {
-            if is_blank(*byte) {
-                Some(Step::Goes(None, 1, Mode::Inside))
-            } else {
-                None
-            }
-        }
-    }
-}
 
 fn ends_line(bytes: &[u8]) -> bool
     ensures { result ≡ spec.ends_line bytes.now }

@@ -8,6 +8,7 @@ mod double;
 mod found;
 mod heredoc;
 mod keys;
+mod lead;
 mod lexer;
 mod numbers;
 mod openers;

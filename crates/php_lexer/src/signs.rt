@@ -1,6 +1,6 @@
 //! Signs and casts.
 
-ghost use Rattle.std.specs.Prelude.{◌≡◌, ◌<◌, ◌≤◌, ℕ, length, Some, IfSome, map, bytes_eq, codes};
+ghost use Rattle.std.specs.Prelude.{◌≡◌, ◌<◌, ◌≤◌, ◌∷◌, ℕ, List, length, Some, IfSome, map, bytes_eq, codes};
 ghost use Rattle.lexical_grammar.specs.Characters as chars;
 ghost use Rattle.lexical_grammar.specs.Steps.{gives};
 ghost use Rattle.php_syntax.specs.Tokens.{sign as sign_kind};
@@ -12,47 +12,35 @@ use crate::scan::{begins, behind, front, gap_length, name_bytes_length};
 use crate::step::{Mode, Step};
 use php_syntax::token::{Sign, TokenKind};
 
-/// The signs, the longer ones first.
-const SIGNS: [Sign; 38] = [
-    Sign::Identical,
-    Sign::NotIdentical,
-    Sign::CoalesceAssign,
-    Sign::Equal,
-    Sign::NotEqual,
-    Sign::LessGreater,
-    Sign::LessEqual,
-    Sign::GreaterEqual,
-    Sign::DoubleArrow,
-    Sign::And,
-    Sign::Or,
-    Sign::Coalesce,
-    Sign::JoinAssign,
-    Sign::AddAssign,
-    Sign::SubAssign,
-    Sign::MulAssign,
-    Sign::RemAssign,
-    Sign::Increment,
-    Sign::Decrement,
-    Sign::Assign,
-    Sign::Less,
-    Sign::Greater,
-    Sign::Not,
-    Sign::Dot,
-    Sign::Plus,
-    Sign::Minus,
-    Sign::Star,
-    Sign::Percent,
-    Sign::Question,
-    Sign::Colon,
-    Sign::Comma,
-    Sign::Semicolon,
-    Sign::OpenParen,
-    Sign::CloseParen,
-    Sign::OpenBracket,
-    Sign::CloseBracket,
-    Sign::OpenBrace,
-    Sign::CloseBrace,
-];
+// The signs that begin with this byte, the longer ones first.
+fn signs_beginning(byte: u8) -> &'static [Sign]
+    ensures { (rest : List ℕ) → spec.first_sign result.now (byte ∷ rest) ≡ spec.first_sign spec.all_signs (byte ∷ rest) }
+{
+    match byte {
+        b'=' => &[Sign::Identical, Sign::Equal, Sign::DoubleArrow, Sign::Assign],
+        b'!' => &[Sign::NotIdentical, Sign::NotEqual, Sign::Not],
+        b'?' => &[Sign::CoalesceAssign, Sign::Coalesce, Sign::Question],
+        b'<' => &[Sign::LessGreater, Sign::LessEqual, Sign::Less],
+        b'>' => &[Sign::GreaterEqual, Sign::Greater],
+        b'&' => &[Sign::And],
+        b'|' => &[Sign::Or],
+        b'.' => &[Sign::JoinAssign, Sign::Dot],
+        b'+' => &[Sign::AddAssign, Sign::Increment, Sign::Plus],
+        b'-' => &[Sign::SubAssign, Sign::Decrement, Sign::Minus],
+        b'*' => &[Sign::MulAssign, Sign::Star],
+        b'%' => &[Sign::RemAssign, Sign::Percent],
+        b':' => &[Sign::Colon],
+        b',' => &[Sign::Comma],
+        b';' => &[Sign::Semicolon],
+        b'(' => &[Sign::OpenParen],
+        b')' => &[Sign::CloseParen],
+        b'[' => &[Sign::OpenBracket],
+        b']' => &[Sign::CloseBracket],
+        b'{' => &[Sign::OpenBrace],
+        b'}' => &[Sign::CloseBrace],
+        _ => &[],
+    }
+}
 
 // A sign of so many bytes.
 fn gives_sign(sign: Sign, n: usize) -> Step
@@ -83,7 +71,10 @@ pub fn sign_step(bytes: &[u8]) -> Option<Step>
     ensures value { maybe_step result ≡ spec.sign_step bytes.now }
     ensures within { IfSome result (IsWithin (length bytes.now)) }
 {
-    first_sign(&SIGNS, bytes)
+    match bytes {
+        [] => None,
+        [byte, ..] => first_sign(signs_beginning(*byte), bytes),
+    }
 }
 
 // Whether the word is `int`, in any case.

@@ -1,13 +1,18 @@
 //! What stands at the head of the bytes.
 
 ghost use Rattle.std.specs.Prelude.{◌≡◌, ◌<◌, length, IfOk, IfSome};
-ghost use Rattle.lexical_grammar.specs.Cuts as spec;
-ghost use Rattle.lexical_grammar.specs.Steps.{inside};
+ghost use Rattle.lexical_grammar.specs.Cuts as cuts;
+ghost use Rattle.lexical_grammar.specs.Heredocs as heredocs;
+ghost use Rattle.lexical_grammar.specs.Signs as signs;
+ghost use Rattle.lexical_grammar.specs.Words as words;
+ghost use Rattle.lexical_grammar.specs.Steps.{inside, or_else};
+ghost use Rattle.php_lexer.specs.Leads as leads;
 ghost use Rattle.php_lexer.specs.View.{maybe_step, plain_step, mode_of, IsWithin};
 
-use crate::blanks::{blank_step, block_comment_step, leaving_step, line_comment_step};
+use crate::blanks::{block_comment_step, leaving_step, line_comment_step};
 use crate::double::double_step;
 use crate::heredoc::{heredoc_step, nowdoc_step};
+use crate::lead::{Lead, lead_of};
 use crate::numbers::number_step;
 use crate::openers::outside_step;
 use crate::signs::{cast_step, sign_step};
@@ -17,61 +22,45 @@ use crate::words::{name_step, variable_step};
 use std::alloc::Global;
 use text_base::NoMemory;
 
-// Blanks, comments and the tag that leaves PHP.
-#[tactic(auto, unfolding(lexical_grammar::specs::Cuts::between_step))]
-fn between_step(bytes: &[u8]) -> Option<Step>
-    ensures value { maybe_step result ≡ spec.between_step bytes.now }
+// A comment.
+fn comment_step(bytes: &[u8]) -> Option<Step>
+    ensures value { maybe_step result ≡ or_else (cuts.line_comment_step bytes.now) (cuts.block_comment_step bytes.now) }
     ensures within { IfSome result (IsWithin (length bytes.now)) }
 {
-    if let Some(step) = blank_step(bytes) {
-        return Some(step);
-    }
     if let Some(step) = line_comment_step(bytes) {
         return Some(step);
     }
-    if let Some(step) = block_comment_step(bytes) {
+    block_comment_step(bytes)
+}
+
+// The tag that leaves PHP, or a sign.
+fn leaving_or_sign(bytes: &[u8]) -> Option<Step>
+    ensures value { maybe_step result ≡ or_else (cuts.leaving_step bytes.now) (signs.sign_step bytes.now) }
+    ensures within { IfSome result (IsWithin (length bytes.now)) }
+{
+    if let Some(step) = leaving_step(bytes) {
         return Some(step);
     }
-    leaving_step(bytes)
+    sign_step(bytes)
 }
 
-// Names, variables and numbers.
-#[tactic(auto, unfolding(lexical_grammar::specs::Cuts::word_step))]
-fn word_step(alloc: Global, bytes: &[u8]) -> Result<Option<Step>, NoMemory>
-    ensures value { IfOk result (λ o. maybe_step o ≡ spec.word_step bytes.now) }
+// A heredoc, a nowdoc or a sign.
+fn heredoc_or_sign(alloc: Global, bytes: &[u8]) -> Result<Option<Step>, NoMemory>
+    ensures value { IfOk result (λ o. maybe_step o ≡ or_else (heredocs.heredoc_step bytes.now) (or_else (heredocs.nowdoc_step bytes.now) (signs.sign_step bytes.now))) }
     ensures within { IfOk result (λ o. IfSome o (IsWithin (length bytes.now))) }
 {
-    if let Some(step) = name_step(alloc, bytes)? {
-        return Ok(Some(step));
-    }
-    if let Some(step) = variable_step(alloc, bytes)? {
-        return Ok(Some(step));
-    }
-    Ok(number_step(bytes))
-}
-
-// Texts.
-#[tactic(auto, unfolding(lexical_grammar::specs::Cuts::text_step))]
-fn text_step(alloc: Global, bytes: &[u8]) -> Result<Option<Step>, NoMemory>
-    ensures value { IfOk result (λ o. maybe_step o ≡ spec.text_step bytes.now) }
-    ensures within { IfOk result (λ o. IfSome o (IsWithin (length bytes.now))) }
-{
-    if let Some(step) = single_step(alloc, bytes)? {
-        return Ok(Some(step));
-    }
-    if let Some(step) = double_step(alloc, bytes)? {
-        return Ok(Some(step));
-    }
     if let Some(step) = heredoc_step(alloc, bytes)? {
         return Ok(Some(step));
     }
-    nowdoc_step(alloc, bytes)
+    if let Some(step) = nowdoc_step(alloc, bytes)? {
+        return Ok(Some(step));
+    }
+    Ok(sign_step(bytes))
 }
 
-// Casts and signs.
-#[tactic(auto, unfolding(lexical_grammar::specs::Cuts::mark_step))]
-fn mark_step(bytes: &[u8]) -> Option<Step>
-    ensures value { maybe_step result ≡ spec.mark_step bytes.now }
+// A cast or a sign.
+fn cast_or_sign(bytes: &[u8]) -> Option<Step>
+    ensures value { maybe_step result ≡ or_else (signs.cast_step bytes.now) (signs.sign_step bytes.now) }
     ensures within { IfSome result (IsWithin (length bytes.now)) }
 {
     if let Some(step) = cast_step(bytes) {
@@ -80,28 +69,57 @@ fn mark_step(bytes: &[u8]) -> Option<Step>
     sign_step(bytes)
 }
 
-// Inside PHP.
-#[tactic(auto, unfolding(lexical_grammar::specs::Cuts::lexeme_step))]
-fn lexeme_step(alloc: Global, bytes: &[u8]) -> Result<Option<Step>, NoMemory>
-    ensures value { IfOk result (λ o. maybe_step o ≡ spec.lexeme_step bytes.now) }
+// A float, which is refused, or a sign.
+fn float_or_sign(bytes: &[u8]) -> Option<Step>
+    ensures value { maybe_step result ≡ or_else (words.number_step bytes.now) (signs.sign_step bytes.now) }
+    ensures within { IfSome result (IsWithin (length bytes.now)) }
+{
+    if let Some(step) = number_step(bytes) {
+        return Some(step);
+    }
+    sign_step(bytes)
+}
+
+// What stands at the head, by what the first byte can begin.
+fn led_step(alloc: Global, lead: Lead, bytes: &[u8]) -> Result<Option<Step>, NoMemory>
+    requires { 0 < length bytes.now }
+    ensures value { IfOk result (λ o. maybe_step o ≡ leads.led_step lead bytes.now) }
     ensures within { IfOk result (λ o. IfSome o (IsWithin (length bytes.now))) }
 {
-    if let Some(step) = between_step(bytes) {
-        return Ok(Some(step));
+    match lead {
+        Lead::Blank => Ok(Some(Step::Goes(None, 1, Mode::Inside))),
+        Lead::Name => name_step(alloc, bytes),
+        Lead::Variable => variable_step(alloc, bytes),
+        Lead::Number => Ok(number_step(bytes)),
+        Lead::SingleQuote => single_step(alloc, bytes),
+        Lead::DoubleQuote => double_step(alloc, bytes),
+        Lead::Slash => Ok(comment_step(bytes)),
+        Lead::Sharp => Ok(line_comment_step(bytes)),
+        Lead::QuestionMark => Ok(leaving_or_sign(bytes)),
+        Lead::LessThan => heredoc_or_sign(alloc, bytes),
+        Lead::Bracket => Ok(cast_or_sign(bytes)),
+        Lead::Point => Ok(float_or_sign(bytes)),
+        Lead::Other => Ok(sign_step(bytes)),
     }
-    if let Some(step) = word_step(alloc, bytes)? {
-        return Ok(Some(step));
+}
+
+// What stands at the head inside PHP, if anything of the lexical grammar does.
+fn lexeme_step(alloc: Global, bytes: &[u8]) -> Result<Option<Step>, NoMemory>
+    requires { 0 < length bytes.now }
+    ensures value { IfOk result (λ o. maybe_step o ≡ cuts.lexeme_step bytes.now) }
+    ensures within { IfOk result (λ o. IfSome o (IsWithin (length bytes.now))) }
+{
+    match bytes {
+        [] => Ok(None),
+        [byte, ..] => led_step(alloc, lead_of(*byte), bytes),
     }
-    if let Some(step) = text_step(alloc, bytes)? {
-        return Ok(Some(step));
-    }
-    Ok(mark_step(bytes))
 }
 
 // What stands at the head inside PHP.
 #[tactic(auto, unfolding(lexical_grammar::specs::Cuts::step))]
 fn inside_step(alloc: Global, bytes: &[u8]) -> Result<Step, NoMemory>
-    ensures value { IfOk result (λ s. plain_step s ≡ spec.step inside bytes.now) }
+    requires { 0 < length bytes.now }
+    ensures value { IfOk result (λ s. plain_step s ≡ cuts.step inside bytes.now) }
     ensures within { IfOk result (IsWithin (length bytes.now)) }
 {
     match lexeme_step(alloc, bytes)? {
@@ -113,7 +131,7 @@ fn inside_step(alloc: Global, bytes: &[u8]) -> Result<Step, NoMemory>
 /// What stands at the head.
 pub fn next_step(alloc: Global, mode: Mode, bytes: &[u8]) -> Result<Step, NoMemory>
     requires { 0 < length bytes.now }
-    ensures value { IfOk result (λ s. plain_step s ≡ spec.step (mode_of mode) bytes.now) }
+    ensures value { IfOk result (λ s. plain_step s ≡ cuts.step (mode_of mode) bytes.now) }
     ensures within { IfOk result (IsWithin (length bytes.now)) }
 {
     match mode {
