@@ -2,7 +2,9 @@
 use Rattle.std.proofs.Common.{◌≡◌, ℕ, zero, suc, ◌+◌, List, [], ◌∷◌, ◌++◌, map, drop, refl, Option, Some, None, pos, codes}
 use Rattle.php_syntax.specs.declared.token.Sign.TheVariants as s
 use Rattle.php_syntax.specs.Tokens.{PlainToken, PlainKind, inline, variable, name, integer, text, sign}
-use Rattle.lexical_grammar.specs.Steps.{Mode, outside, inside, Fault, bad_byte, unclosed, float, big_int, goes, refuses}
+use Rattle.lexical_grammar.specs.Steps.{Mode, outside, inside, goes, refuses}
+use Rattle.lexical_grammar.specs.declared.fault.LexicalFault.{LexicalFault}
+use Rattle.lexical_grammar.specs.declared.fault.LexicalFault.TheVariants.{BadByte, Unclosed, Float, BigInt}
 use Rattle.lexical_grammar.specs.Cuts.{step, opener_step, lexeme_step, between_step, word_step, text_step, mark_step, blank_step, line_comment_step, block_comment_step, leaving_step}
 use Rattle.lexical_grammar.specs.Words.{name_step, variable_step, number_step}
 use Rattle.lexical_grammar.specs.Signs.{sign_step, cast_step}
@@ -13,7 +15,7 @@ use Rattle.lexical_grammar.specs.Heredocs.{heredoc_step, nowdoc_step, indented_a
 -- what a file comes to: its tokens, or the fault and its place
 pub data Answer : Type 0 where
   cut_to : List PlainToken → Answer
-  stopped : Fault → ℕ → Answer
+  stopped : LexicalFault → ℕ → Answer
 
 abbrev pub and_token : Option PlainKind → ℕ → Answer → Answer
 and_token None at answer = answer
@@ -80,9 +82,9 @@ comments : map piece ((codes "# a ?>b")
     ∷ cut_to ([])
     ∷ cut_to (tok (integer (pos 1)) 8 ∷ [])
     ∷ cut_to (tok (integer (pos 1)) 4 ∷ [])
-    ∷ stopped unclosed 1
-    ∷ stopped bad_byte 0
-    ∷ stopped bad_byte 2 ∷ []
+    ∷ stopped Unclosed 1
+    ∷ stopped BadByte 0
+    ∷ stopped BadByte 2 ∷ []
 unfolding step opener_step lexeme_step between_step word_step text_step mark_step blank_step line_comment_step block_comment_step leaving_step name_step variable_step number_step sign_step cast_step row single_step double_step simple_key braced_key subscript_at subscripts escape_at dollar_at brace_at unit_at heredoc_step nowdoc_step indented_at body_step
 comments = refl
 
@@ -93,9 +95,9 @@ words : map piece ((codes "_a1 $b")
     ∷ (codes "$1")
     ∷ (codes "a" ++ (195 ∷ [])) ∷ []) ≡ cut_to (tok (name (codes "_a1")) 0 ∷ tok (variable (codes "b")) 4 ∷ [])
     ∷ cut_to (tok (name (codes "Echo")) 0 ∷ [])
-    ∷ stopped bad_byte 0
-    ∷ stopped bad_byte 0
-    ∷ stopped bad_byte 1 ∷ []
+    ∷ stopped BadByte 0
+    ∷ stopped BadByte 0
+    ∷ stopped BadByte 1 ∷ []
 unfolding step opener_step lexeme_step between_step word_step text_step mark_step blank_step line_comment_step block_comment_step leaving_step name_step variable_step number_step sign_step cast_step row single_step double_step simple_key braced_key subscript_at subscripts escape_at dollar_at brace_at unit_at heredoc_step nowdoc_step indented_at body_step
 words = refl
 
@@ -115,17 +117,17 @@ numbers : map piece ((codes "0 10")
     ∷ (codes "00.5")
     ∷ (codes "1 . 5") ∷ []) ≡ cut_to (tok (integer (pos 0)) 0 ∷ tok (integer (pos 10)) 2 ∷ [])
     ∷ cut_to (tok (integer (pos 9223372036854775807)) 0 ∷ [])
-    ∷ stopped big_int 0
-    ∷ stopped bad_byte 1
-    ∷ stopped bad_byte 1
-    ∷ stopped bad_byte 2
-    ∷ stopped bad_byte 1
-    ∷ stopped float 1
-    ∷ stopped float 0
-    ∷ stopped float 0
-    ∷ stopped float 0
-    ∷ stopped float 0
-    ∷ stopped float 0
+    ∷ stopped BigInt 0
+    ∷ stopped BadByte 1
+    ∷ stopped BadByte 1
+    ∷ stopped BadByte 2
+    ∷ stopped BadByte 1
+    ∷ stopped Float 1
+    ∷ stopped Float 0
+    ∷ stopped Float 0
+    ∷ stopped Float 0
+    ∷ stopped Float 0
+    ∷ stopped Float 0
     ∷ cut_to (tok (integer (pos 1)) 0 ∷ tok (sign s.Dot) 2 ∷ tok (integer (pos 5)) 4 ∷ []) ∷ []
 unfolding step opener_step lexeme_step between_step word_step text_step mark_step blank_step line_comment_step block_comment_step leaving_step name_step variable_step number_step sign_step cast_step row single_step double_step simple_key braced_key subscript_at subscripts escape_at dollar_at brace_at unit_at heredoc_step nowdoc_step indented_at body_step
 numbers = refl
@@ -144,8 +146,8 @@ signs : map piece ((codes "====")
     ∷ cut_to (tok (sign s.LessGreater) 0 ∷ tok (sign s.LessEqual) 2 ∷ tok (sign s.Less) 4 ∷ [])
     ∷ cut_to (tok (sign s.Increment) 0 ∷ tok (sign s.Plus) 2 ∷ [])
     ∷ cut_to (tok (variable (codes "a")) 0 ∷ tok (sign s.And) 2 ∷ tok (variable (codes "b")) 4 ∷ [])
-    ∷ stopped bad_byte 0
-    ∷ stopped bad_byte 0 ∷ []
+    ∷ stopped BadByte 0
+    ∷ stopped BadByte 0 ∷ []
 unfolding step opener_step lexeme_step between_step word_step text_step mark_step blank_step line_comment_step block_comment_step leaving_step name_step variable_step number_step sign_step cast_step row single_step double_step simple_key braced_key subscript_at subscripts escape_at dollar_at brace_at unit_at heredoc_step nowdoc_step indented_at body_step
 signs = refl
 
@@ -173,6 +175,6 @@ single_quoted_texts : map piece ((codes "'a\\'b'")
     ∷ cut_to (tok (text (codes "\\n$x")) 0 ∷ [])
     ∷ cut_to (tok (text (codes "")) 0 ∷ [])
     ∷ cut_to (tok (text (codes "a ?>\n")) 0 ∷ tok (integer (pos 1)) 7 ∷ [])
-    ∷ stopped unclosed 1 ∷ []
+    ∷ stopped Unclosed 1 ∷ []
 unfolding step opener_step lexeme_step between_step word_step text_step mark_step blank_step line_comment_step block_comment_step leaving_step name_step variable_step number_step sign_step cast_step row single_step double_step simple_key braced_key subscript_at subscripts escape_at dollar_at brace_at unit_at heredoc_step nowdoc_step indented_at body_step
 single_quoted_texts = refl

@@ -3,7 +3,9 @@ use Rattle.std.specs.Prelude.{◌≡◌, ℕ, ◌+◌, Bool, not, ◌&&◌, ◌|
 use Rattle.php_syntax.specs.declared.token.Sign.TheVariants.{Semicolon}
 use Rattle.php_syntax.specs.Tokens.{PlainToken, PlainKind, inline, name, sign}
 use Rattle.lexical_grammar.specs.Characters.{begins, head_is, is_gap, is_line_end, is_blank, lower, before, newline_length}
-use Rattle.lexical_grammar.specs.Steps.{Mode, outside, inside, Fault, bad_byte, unclosed, Step, goes, refuses, gives, passes, faults, or_else}
+use Rattle.lexical_grammar.specs.Steps.{Mode, outside, inside, Step, goes, refuses, gives, passes, faults, or_else}
+use Rattle.lexical_grammar.specs.declared.fault.LexicalFault.{LexicalFault}
+use Rattle.lexical_grammar.specs.declared.fault.LexicalFault.TheVariants.{BadByte, Unclosed}
 use Rattle.lexical_grammar.specs.Words.{name_step, variable_step, number_step}
 use Rattle.lexical_grammar.specs.Signs.{sign_step, cast_step}
 use Rattle.lexical_grammar.specs.Texts.{single_step, double_step}
@@ -54,7 +56,7 @@ line_comment_step bytes =
 unfoldable pub block_comment_step : List ℕ → Option Step
 block_comment_step bytes =
     let n = before (begins (codes "*/")) (drop 2 bytes)
-    in if begins (codes "/*") bytes then (if nat_lt n (length (drop 2 bytes)) then passes (4 + n) else faults unclosed 0) else None
+    in if begins (codes "/*") bytes then (if nat_lt n (length (drop 2 bytes)) then passes (4 + n) else faults Unclosed 0) else None
 
 -- `?>`, which gives the semicolon, with the line end behind it
 unfoldable pub leaving_step : List ℕ → Option Step
@@ -82,7 +84,7 @@ unfoldable pub lexeme_step : List ℕ → Option Step
 lexeme_step bytes = or_else (between_step bytes) (or_else (word_step bytes) (or_else (text_step bytes) (mark_step bytes)))
 
 abbrev pub or_bad_byte : Option Step → Step
-or_bad_byte None = refuses bad_byte 0
+or_bad_byte None = refuses BadByte 0
 or_bad_byte (Some step) = step
 
 -- what stands at the head
@@ -99,10 +101,10 @@ pub data CutsFrom : Mode → ℕ → List ℕ → List PlainToken → Type 0 whe
       step mode (b ∷ bytes) ≡ goes None n next → CutsFrom next (at + n) (drop n (b ∷ bytes)) tokens → CutsFrom mode at (b ∷ bytes) tokens
 
 -- from this place on, the lexical grammar is first broken in this way at that place
-pub data BreaksFrom : Mode → ℕ → List ℕ → Fault → ℕ → Type 0 where
-  broken_here : {mode : Mode} {at n b : ℕ} {bytes : List ℕ} {fault : Fault} →
+pub data BreaksFrom : Mode → ℕ → List ℕ → LexicalFault → ℕ → Type 0 where
+  broken_here : {mode : Mode} {at n b : ℕ} {bytes : List ℕ} {fault : LexicalFault} →
       step mode (b ∷ bytes) ≡ refuses fault n → BreaksFrom mode at (b ∷ bytes) fault (at + n)
-  broken_later : {mode next : Mode} {at n b place : ℕ} {bytes : List ℕ} {token : Option PlainKind} {fault : Fault} →
+  broken_later : {mode next : Mode} {at n b place : ℕ} {bytes : List ℕ} {token : Option PlainKind} {fault : LexicalFault} →
       step mode (b ∷ bytes) ≡ goes token n next → BreaksFrom next (at + n) (drop n (b ∷ bytes)) fault place → BreaksFrom mode at (b ∷ bytes) fault place
 
 -- the file is cut into these tokens
@@ -110,5 +112,5 @@ abbrev pub Cuts : List ℕ → List PlainToken → Type 0
 Cuts file tokens = CutsFrom outside 0 file tokens
 
 -- the lexical grammar is broken in the file: in this way at this place, and nowhere before it
-abbrev pub Breaks : List ℕ → Fault → ℕ → Type 0
+abbrev pub Breaks : List ℕ → LexicalFault → ℕ → Type 0
 Breaks file fault at = BreaksFrom outside 0 file fault at

@@ -3,7 +3,8 @@ use Rattle.std.specs.Prelude.{ℕ, ◌+◌, min, Bool, not, ◌&&◌, nat_lt, if
 use Rattle.std.specs.List.{prefix_len}
 use Rattle.php_syntax.specs.Tokens.{text}
 use Rattle.lexical_grammar.specs.Characters.{begins, head_is, is_gap, is_name_byte, before, name_length}
-use Rattle.lexical_grammar.specs.Steps.{Step, unclosed, escape, gives, faults}
+use Rattle.lexical_grammar.specs.Steps.{Step, gives, faults}
+use Rattle.lexical_grammar.specs.declared.fault.LexicalFault.TheVariants.{Unclosed, Escape}
 use Rattle.lexical_grammar.specs.Rows.{Row, whole, broken, endless, row}
 use Rattle.lexical_grammar.specs.Texts.{Unit_of, unit_at, lines, parts_of, kind_of_parts}
 
@@ -33,6 +34,26 @@ indented_at name body =
     let n = before (indented_line name) body
     in if begins_indented name body then Some 0 else if nat_lt n (length body) then Some (n + 1) else None
 
+-- a CR alone, blanks or none, and the name: PHP ends a text there
+abbrev pub ends_by_return : List ℕ → List ℕ → Bool
+ends_by_return name bytes = begins (codes "\r") bytes && begins_name name (drop (prefix_len is_gap (drop 1 bytes)) (drop 1 bytes))
+
+-- how many bytes of a body stand before the first such CR; None where there is none
+unfoldable pub return_at : List ℕ → List ℕ → Option ℕ
+return_at name body =
+    let n = before (ends_by_return name) body
+    in if nat_lt n (length body) then Some n else None
+
+-- the first of two places, where there are any
+abbrev pub first_of : Option ℕ → Option ℕ → Option ℕ
+first_of None second = second
+first_of (Some k) None = Some k
+first_of (Some k) (Some m) = Some (min k m)
+
+-- how many bytes of a body stand before the first place at which PHP would end it and the language does not; None where there is none
+abbrev pub other_end_at : List ℕ → List ℕ → Option ℕ
+other_end_at name body = first_of (indented_at name body) (return_at name body)
+
 -- what stands in the lines: a template, or in a nowdoc the bytes themselves
 pub data Body : Type 0 where
   of_heredoc : Body
@@ -41,20 +62,20 @@ pub data Body : Type 0 where
 -- the lines of a template, so many bytes behind the head, where so many bytes in all are taken
 abbrev pub heredoc_token : ℕ → ℕ → Option ℕ → Row Unit_of → Option Step
 heredoc_token head n None (whole units m) = gives (kind_of_parts (parts_of units)) n
-heredoc_token head n None (broken m) = faults escape (head + m)
-heredoc_token head n None endless = faults unclosed 0
-heredoc_token head n (Some k) (whole units m) = faults escape (head + k)
-heredoc_token head n (Some k) (broken m) = faults escape (head + min k m)
-heredoc_token head n (Some k) endless = faults unclosed 0
+heredoc_token head n None (broken m) = faults Escape (head + m)
+heredoc_token head n None endless = faults Unclosed 0
+heredoc_token head n (Some k) (whole units m) = faults Escape (head + k)
+heredoc_token head n (Some k) (broken m) = faults Escape (head + min k m)
+heredoc_token head n (Some k) endless = faults Unclosed 0
 
 abbrev pub nowdoc_token : ℕ → ℕ → Option ℕ → List ℕ → Option Step
 nowdoc_token head n None body = gives (text body) n
-nowdoc_token head n (Some k) body = faults escape (head + k)
+nowdoc_token head n (Some k) body = faults Escape (head + k)
 
--- the token of a body; the first place that is refused, from the left, is a line that begins with blanks and the name, or an escape or interpolation
+-- the token of a body; the first place that is refused, from the left, is one at which PHP would end it, or an escape or interpolation
 abbrev pub body_token : Body → ℕ → ℕ → List ℕ → List ℕ → Option Step
-body_token of_heredoc head n name body = heredoc_token head n (indented_at name body) (row (unit_at lines) 0 body)
-body_token of_nowdoc head n name body = nowdoc_token head n (indented_at name body) body
+body_token of_heredoc head n name body = heredoc_token head n (other_end_at name body) (row (unit_at lines) 0 body)
+body_token of_nowdoc head n name body = nowdoc_token head n (other_end_at name body) body
 
 -- behind the head of so many bytes: the name at once, or lines up to the first that begins with the name; the line end before it is no part of the body
 unfoldable pub body_step : Body → ℕ → List ℕ → List ℕ → Option Step
@@ -62,7 +83,7 @@ body_step kind head name bytes =
     let n = before (ends_body name) bytes
     in if begins_name name bytes then body_token kind head (head + length name) name []
     else if nat_lt n (length bytes) then body_token kind head (head + n + heredoc_newline (drop n bytes) + length name) name (take n bytes)
-    else faults unclosed 0
+    else faults Unclosed 0
 
 -- a head of so many bytes with the name in it, if a line end stands behind it
 abbrev pub headed : Body → ℕ → List ℕ → List ℕ → Option Step

@@ -3,7 +3,8 @@ use Rattle.std.specs.Prelude.{ℕ, ◌+◌, pos, Bool, true, false, ◌&&◌, �
 use Rattle.php_syntax.specs.Tokens.{PlainKind, PlainPart, PlainKey, text_key, int_key, var_key, plain_part, read_part, text, template}
 use Rattle.lexical_grammar.specs.Characters.{begins, head_is, is_high, name_length, digits_length, value_of, largest}
 use Rattle.lexical_grammar.specs.Words.{has_leading_zero}
-use Rattle.lexical_grammar.specs.Steps.{Step, unclosed, escape, gives, faults}
+use Rattle.lexical_grammar.specs.Steps.{Step, gives, faults}
+use Rattle.lexical_grammar.specs.declared.fault.LexicalFault.TheVariants.{Unclosed, Escape}
 use Rattle.lexical_grammar.specs.Rows.{Found, item, wrong, over, missing, Row, whole, broken, endless, row}
 
 -- in a single-quoted text `\'` and `\\` are escapes, and every other byte stands for itself
@@ -25,8 +26,8 @@ single_quoted bytes = row single_at 0 bytes
 
 abbrev pub single_token : Row ℕ → Option Step
 single_token (whole bytes n) = gives (text bytes) (1 + n)
-single_token (broken n) = faults unclosed 0
-single_token endless = faults unclosed 0
+single_token (broken n) = faults Unclosed 0
+single_token endless = faults Unclosed 0
 
 -- `'`..`'`
 unfoldable pub single_step : List ℕ → Option Step
@@ -184,8 +185,8 @@ kind_of_parts parts = template parts
 
 abbrev pub double_token : Row Unit_of → Option Step
 double_token (whole units n) = gives (kind_of_parts (parts_of units)) (1 + n)
-double_token (broken n) = faults escape (1 + n)
-double_token endless = faults unclosed 0
+double_token (broken n) = faults Escape (1 + n)
+double_token endless = faults Unclosed 0
 
 -- `"`..`"`
 unfoldable pub double_step : List ℕ → Option Step

@@ -4,4 +4,5 @@
 //! lexical grammar. Below this crate stands `php_syntax` alone, which has the tokens.
 #![tactic(auto)]
 
+pub mod fault;
 pub mod laws;

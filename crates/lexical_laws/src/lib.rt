@@ -2,21 +2,22 @@
 //! nothing, and stands for the law that its contract states, over `Cuts` and `Breaks`.
 #![tactic(auto)]
 
-ghost use Rattle.std.specs.Prelude.{◌≡◌, ◌≢◌, ◌⊎◌, ◌∷◌, ◌++◌, ◌+◌, ◌<◌, ◌≤◌, ℕ, true, false, List, [], length, drop, codes, Some, None};
+ghost use Rattle.std.specs.Prelude.{◌≡◌, ◌≢◌, ◌⊎◌, ◌∷◌, ◌++◌, ◌==◌, ◌||◌, ◌+◌, ◌<◌, ◌≤◌, ℕ, true, false, List, [], length, drop, codes, Some, None};
 ghost use Rattle.php_syntax.specs.Tokens.{PlainToken, text, inline, sign};
 ghost use Rattle.lexical_grammar.specs.Characters.{begins, head_is, is_line_end};
 ghost use Rattle.php_syntax.specs.Spelling.{spelling_of};
 ghost use Rattle.lexical_grammar.specs.Signs.{sign_step};
 ghost use Rattle.php_syntax.specs.declared.token.Sign.{Sign};
 ghost use Rattle.php_syntax.specs.declared.token.Sign.TheVariants as signs;
-ghost use Rattle.lexical_grammar.specs.Steps.{Fault, inside, outside, goes, gives};
+ghost use Rattle.lexical_grammar.specs.Steps.{inside, outside, goes, gives};
+ghost use Rattle.lexical_grammar.specs.declared.fault.LexicalFault.{LexicalFault};
 ghost use Rattle.lexical_grammar.specs.Cuts.{step, is_opener, ends_line, Cuts, Breaks};
 ghost use Rattle.lexical_laws.specs.Pieces.{Piece, joined, placed, ArePieces, Rise};
 ghost use Rattle.lexical_laws.specs.Quoting.{Quotes};
 
 /// Each file is cut into tokens or breaks the grammar.
 pub fn cut_or_broken()
-    ensures { (file : List ℕ) → ((tokens : List PlainToken) × Cuts file tokens) ⊎ ((fault : Fault) × (at : ℕ) × Breaks file fault at) }
+    ensures { (file : List ℕ) → ((tokens : List PlainToken) × Cuts file tokens) ⊎ ((fault : LexicalFault) × (at : ℕ) × Breaks file fault at) }
 {}
 
 /// What spells the tokens and what is passed over between them, joined, are the file; each token
@@ -61,7 +62,7 @@ pub fn quoted_text()
 
 /// A text in double quotes with no quote, backslash, `$` or `{` in it is read as its bytes.
 pub fn plain_double_quoted_text()
-    ensures { (bytes rest : List ℕ) → ((n : ℕ) → n < length bytes → head_is (λ b. is_marked b) (drop n bytes) ≡ false) →
+    ensures { (bytes rest : List ℕ) → ((n : ℕ) → n < length bytes → head_is (λ b. b == 34 || b == 92 || b == 36 || b == 123) (drop n bytes) ≡ false) →
         step inside (34 ∷ (bytes ++ (34 ∷ rest))) ≡ goes (Some (text bytes)) (2 + length bytes) inside }
 {}
 

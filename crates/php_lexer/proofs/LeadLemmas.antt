@@ -1,10 +1,13 @@
 -- What the first byte decides inside PHP.
 use Rattle.std.proofs.Common.{◌≡◌, ◌≢◌, ℕ, ◌+◌, ◌<◌, ◌≤◌, Bool, true, false, List, [], ◌∷◌, length, refl, sym, ap, arith, Option, Some, None}
 use Rattle.std.specs.Prelude.{nat_eq, nat_le, ◌==◌, if◌then◌else◌, pos, take, drop, nat_lt}
+use Rattle.std.specs.List.{prefix_len}
+use Rattle.std.proofs.lemmas.Bool.{lt-ltb}
 use Rattle.std.proofs.lemmas.Bool.Decides.{nat_tests}
 use Rattle.php_syntax.specs.Tokens.{integer}
 use Rattle.lexical_grammar.specs.Characters.{is_name_start, is_digit, is_blank, value_of, largest, head_is, is_name_byte, digits_length}
-use Rattle.lexical_grammar.specs.Steps.{Step, or_else, passes, gives, faults, bad_byte, float, big_int}
+use Rattle.lexical_grammar.specs.Steps.{Step, or_else, passes, gives, faults}
+use Rattle.lexical_grammar.specs.declared.fault.LexicalFault.TheVariants.{BadByte, Float, BigInt}
 use Rattle.lexical_grammar.specs.Cuts.{lexeme_step, between_step, word_step, text_step, mark_step, blank_step, line_comment_step, block_comment_step, leaving_step}
 use Rattle.lexical_grammar.specs.Words.{name_step, variable_step, number_step, digits_step, has_leading_zero, goes_on_as_float}
 use Rattle.lexical_grammar.specs.Signs.{sign_step, cast_step, first_sign, all_signs}
@@ -46,7 +49,7 @@ between_high b rest h =
 
 pub led_by_name : (b : ℕ) (rest : List ℕ) → is_name_start b ≡ true → lexeme_step (b ∷ rest) ≡ name_step (b ∷ rest)
 unfolding lexeme_step word_step name_step
-led_by_name b rest start = rw (between_high b rest (name_start_high b start)) (rw start refl)
+led_by_name b rest start = rw (between_high b rest (name_start_high b start)) (rw start (rw (behind_is 0 (1 + prefix_len is_name_byte rest) (omega arith)) refl))
 
 pub led_by_blank : (b : ℕ) (rest : List ℕ) → is_blank b ≡ true → lexeme_step (b ∷ rest) ≡ passes 1
 unfolding lexeme_step between_step blank_step
@@ -65,8 +68,8 @@ no_name b h k = grind (arith, nat_tests)
 
 -- digits always give a token or a fault
 digits_given : (first second third fourth : Bool) (value n : ℕ) (other : Option Step)
-    → or_else (if first then faults float 0 else if second then faults bad_byte 1 else if third then faults big_int 0 else if fourth then faults bad_byte n else gives (integer (pos value)) n) other
-    ≡ (if first then faults float 0 else if second then faults bad_byte 1 else if third then faults big_int 0 else if fourth then faults bad_byte n else gives (integer (pos value)) n)
+    → or_else (if first then faults Float 0 else if second then faults BadByte 1 else if third then faults BigInt 0 else if fourth then faults BadByte n else gives (integer (pos value)) n) other
+    ≡ (if first then faults Float 0 else if second then faults BadByte 1 else if third then faults BigInt 0 else if fourth then faults BadByte n else gives (integer (pos value)) n)
 digits_given true second third fourth value n other = refl
 digits_given false true third fourth value n other = refl
 digits_given false false true fourth value n other = refl
@@ -76,9 +79,12 @@ digits_given false false false false value n other = refl
 or_digits : (digits rest : List ℕ) (other : Option Step) → or_else (digits_step digits rest) other ≡ digits_step digits rest
 or_digits digits rest other = digits_given (goes_on_as_float rest) (has_leading_zero digits) (nat_lt largest (value_of digits)) (head_is is_name_byte rest) (value_of digits) (length digits) other
 
+some_digits : (b : ℕ) (rest : List ℕ) → is_digit b ≡ true → nat_lt 0 (digits_length (b ∷ rest)) ≡ true
+some_digits b rest e = lt-ltb 0 (digits_length (b ∷ rest)) (rw e (omega arith))
+
 or_number : (b : ℕ) (rest : List ℕ) (other : Option Step) → is_digit b ≡ true → or_else (number_step (b ∷ rest)) other ≡ number_step (b ∷ rest)
 unfolding number_step
-or_number b rest other e = rw e (or_digits (take (digits_length (b ∷ rest)) (b ∷ rest)) (drop (digits_length (b ∷ rest)) (b ∷ rest)) other)
+or_number b rest other e = rw (some_digits b rest e) (or_digits (take (digits_length (b ∷ rest)) (b ∷ rest)) (drop (digits_length (b ∷ rest)) (b ∷ rest)) other)
 
 pub led_by_digit : (b : ℕ) (rest : List ℕ) → is_digit b ≡ true → lexeme_step (b ∷ rest) ≡ number_step (b ∷ rest)
 unfolding lexeme_step word_step name_step variable_step

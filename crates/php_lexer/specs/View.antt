@@ -4,8 +4,6 @@ use Rattle.php_syntax.specs.Tokens.{PlainToken, PlainKind, plain_kind}
 use Rattle.lexical_grammar.specs.Steps as syntax
 use Rattle.php_lexer.specs.declared.step.Mode.{Mode}
 use Rattle.php_lexer.specs.declared.step.Mode.TheVariants.{Outside, Inside}
-use Rattle.php_lexer.specs.declared.step.Fault.{Fault}
-use Rattle.php_lexer.specs.declared.step.Fault.TheVariants.{BadByte, Unclosed, Float, BigInt, Escape}
 use Rattle.php_lexer.specs.declared.step.Step.{Step}
 use Rattle.php_lexer.specs.declared.step.Step.TheVariants.{Goes, Refuses}
 
@@ -13,17 +11,10 @@ abbrev pub mode_of : Mode → syntax.Mode
 mode_of Outside = syntax.outside
 mode_of Inside = syntax.inside
 
-abbrev pub fault_of : Fault → syntax.Fault
-fault_of BadByte = syntax.bad_byte
-fault_of Unclosed = syntax.unclosed
-fault_of Float = syntax.float
-fault_of BigInt = syntax.big_int
-fault_of Escape = syntax.escape
-
 -- a step in its plain form
 abbrev pub plain_step : Step → syntax.Step
 plain_step (Goes kind n mode) = syntax.goes (option_map plain_kind kind) n (mode_of mode)
-plain_step (Refuses fault n) = syntax.refuses (fault_of fault) n
+plain_step (Refuses fault n) = syntax.refuses fault n
 
 -- a step, where there is one
 abbrev pub maybe_step : Option Step → Option syntax.Step

@@ -6,7 +6,8 @@ ghost use Rattle.lexical_grammar.specs.Cuts as spec;
 ghost use Rattle.php_lexer.specs.View.{maybe_step, IsWithin};
 
 use crate::scan::{begins, behind, front, head_is_line_end, newline_length};
-use crate::step::{Fault, Mode, Step};
+use crate::step::{Mode, Step};
+use lexical_grammar::fault::LexicalFault;
 use php_syntax::token::{Sign, TokenKind};
 use std::alloc::Global;
 use text_base::{Bytes, NoMemory};
@@ -75,7 +76,7 @@ pub fn block_comment_step(bytes: &[u8]) -> Option<Step>
     if n < inner.len() {
         Some(Step::Goes(None, 4 + n, Mode::Inside))
     } else {
-        Some(Step::Refuses(Fault::Unclosed, 0))
+        Some(Step::Refuses(LexicalFault::Unclosed, 0))
     }
 }
 

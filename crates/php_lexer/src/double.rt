@@ -9,9 +9,10 @@ ghost use Rattle.php_lexer.specs.View.{maybe_step, IsWithin};
 
 use crate::found::Found;
 use crate::scan::{begins, behind};
-use crate::step::{Fault, Mode, Step};
+use crate::step::{Mode, Step};
 use crate::template::{Enclosure, TextRow, TextUnit};
 use crate::units::unit_at;
+use lexical_grammar::fault::LexicalFault;
 use php_syntax::token::{Part, TokenKind};
 use std::alloc::Global;
 use std::mem;
@@ -133,7 +134,7 @@ pub fn double_step(alloc: Global, bytes: &[u8]) -> Result<Option<Step>, NoMemory
             let kind = kind_of_parts(alloc, parts)?;
             Ok(Some(Step::Goes(Some(kind), 1 + n, Mode::Inside)))
         }
-        TextRow::Broken(n) => Ok(Some(Step::Refuses(Fault::Escape, 1 + n))),
-        TextRow::Endless => Ok(Some(Step::Refuses(Fault::Unclosed, 0))),
+        TextRow::Broken(n) => Ok(Some(Step::Refuses(LexicalFault::Escape, 1 + n))),
+        TextRow::Endless => Ok(Some(Step::Refuses(LexicalFault::Unclosed, 0))),
     }
 }

@@ -8,8 +8,9 @@ ghost use Rattle.php_lexer.specs.View.{maybe_step, IsWithin};
 
 use crate::double::{kind_of_parts, template};
 use crate::scan::{begins, behind, front, gap_length, head_is_name_byte, name_length};
-use crate::step::{Fault, Mode, Step};
+use crate::step::{Mode, Step};
 use crate::template::{Enclosure, TextRow};
+use lexical_grammar::fault::LexicalFault;
 use php_syntax::token::TokenKind;
 use std::alloc::Global;
 use text_base::{Bytes, NoMemory};
@@ -94,6 +95,58 @@ fn indented_at(name: &[u8], body: &[u8]) -> Option<usize>
     if n < body.len() { Some(n + 1) } else { None }
 }
 
+// Whether a CR alone, blanks or none, and the name stand at the head.
+fn ends_by_return(name: &[u8], bytes: &[u8]) -> bool
+    ensures { result ≡ spec.ends_by_return name.now bytes.now }
+{
+    let inner = behind(bytes, 1);
+    begins(bytes, b"\r") && begins_name(name, behind(inner, gap_length(inner)))
+}
+
+// How many bytes stand before the first such CR; all where there is none.
+#[tactic(auto, using(crate::proofs::BeforeLemmas::before_more, crate::proofs::BeforeLemmas::before_found, crate::proofs::BeforeLemmas::before_end))]
+fn return_place(name: &[u8], body: &[u8]) -> usize
+    ensures value { result ≡ chars.before (spec.ends_by_return name.now) body.now }
+    ensures within { result ≤ length body.now }
+{
+    for n in 0..body.len() {
+        if ends_by_return(name, behind(body, n)) {
+            return n;
+        }
+    }
+    body.len()
+}
+
+// How many bytes stand before the first such CR.
+#[tactic(auto, unfolding(lexical_grammar::specs::Heredocs::return_at))]
+fn return_at(name: &[u8], body: &[u8]) -> Option<usize>
+    ensures value { result ≡ spec.return_at name.now body.now }
+    ensures within { IfSome result (λ n. n ≤ length body.now) }
+{
+    let n = return_place(name, body);
+    if n < body.len() { Some(n) } else { None }
+}
+
+// The first of two places.
+fn first_of(first: Option<usize>, second: Option<usize>) -> Option<usize>
+    ensures value { result ≡ spec.first_of first second }
+    ensures within { (most : ℕ) → IfSome first (λ n. n ≤ most) → IfSome second (λ n. n ≤ most) → IfSome result (λ n. n ≤ most) }
+{
+    match (first, second) {
+        (None, second) => second,
+        (Some(k), None) => Some(k),
+        (Some(k), Some(m)) => Some(k.min(m)),
+    }
+}
+
+// How many bytes stand before the first place at which PHP would end the body.
+fn other_end_at(name: &[u8], body: &[u8]) -> Option<usize>
+    ensures value { result ≡ spec.other_end_at name.now body.now }
+    ensures within { IfSome result (λ n. n ≤ length body.now) }
+{
+    first_of(indented_at(name, body), return_at(name, body))
+}
+
 // How many bytes stand before the line end and the name that end the body; all where none do.
 #[tactic(auto, using(crate::proofs::BeforeLemmas::before_more, crate::proofs::BeforeLemmas::before_found, crate::proofs::BeforeLemmas::before_end))]
 fn body_length(name: &[u8], bytes: &[u8]) -> usize
@@ -121,20 +174,20 @@ fn heredoc_token(
     ensures value { IfOk result (λ o. maybe_step o ≡ spec.body_token spec.of_heredoc head n name.now body.now) }
     ensures within { (most : ℕ) → head + length body.now ≤ most → 0 < n → n ≤ most → IfOk result (λ o. IfSome o (IsWithin most)) }
 {
-    let indented = indented_at(name, body);
+    let other_end = other_end_at(name, body);
     match template(alloc, Enclosure::Lines, body)? {
-        TextRow::Whole(parts, _) => match indented {
+        TextRow::Whole(parts, _) => match other_end {
             None => {
                 let kind = kind_of_parts(alloc, parts)?;
                 Ok(Some(Step::Goes(Some(kind), n, Mode::Inside)))
             }
-            Some(k) => Ok(Some(Step::Refuses(Fault::Escape, head + k))),
+            Some(k) => Ok(Some(Step::Refuses(LexicalFault::Escape, head + k))),
         },
-        TextRow::Broken(m) => match indented {
-            None => Ok(Some(Step::Refuses(Fault::Escape, head + m))),
-            Some(k) => Ok(Some(Step::Refuses(Fault::Escape, head + k.min(m)))),
+        TextRow::Broken(m) => match other_end {
+            None => Ok(Some(Step::Refuses(LexicalFault::Escape, head + m))),
+            Some(k) => Ok(Some(Step::Refuses(LexicalFault::Escape, head + k.min(m)))),
         },
-        TextRow::Endless => Ok(Some(Step::Refuses(Fault::Unclosed, 0))),
+        TextRow::Endless => Ok(Some(Step::Refuses(LexicalFault::Unclosed, 0))),
     }
 }
 
@@ -150,12 +203,12 @@ fn nowdoc_token(
     ensures value { IfOk result (λ o. maybe_step o ≡ spec.body_token spec.of_nowdoc head n name.now body.now) }
     ensures within { (most : ℕ) → head + length body.now ≤ most → 0 < n → n ≤ most → IfOk result (λ o. IfSome o (IsWithin most)) }
 {
-    match indented_at(name, body) {
+    match other_end_at(name, body) {
         None => {
             let text = Bytes::from_slice(alloc, body)?;
             Ok(Some(Step::Goes(Some(TokenKind::Str(text)), n, Mode::Inside)))
         }
-        Some(k) => Ok(Some(Step::Refuses(Fault::Escape, head + k))),
+        Some(k) => Ok(Some(Step::Refuses(LexicalFault::Escape, head + k))),
     }
 }
 
@@ -201,7 +254,7 @@ fn body_step(
         let taken = head + n + newline + name.len();
         body_token(alloc, kind, head, taken, name, front(bytes, n))
     } else {
-        Ok(Some(Step::Refuses(Fault::Unclosed, 0)))
+        Ok(Some(Step::Refuses(LexicalFault::Unclosed, 0)))
     }
 }
 

@@ -2,22 +2,20 @@
 
 ghost use Rattle.std.specs.Prelude.{◌≡◌, ◌≤◌, ◌<◌, ◌^◌, ℕ, List, length, option_map, OnOk, IfOk, IfErr, MatchResult, Err};
 ghost use Rattle.php_syntax.specs.Tokens.{PlainToken, plain_kind, plain_tokens};
-ghost use Rattle.lexical_grammar.specs.Steps.{Fault};
+ghost use Rattle.lexical_grammar.specs.declared.fault.LexicalFault.{LexicalFault};
 ghost use Rattle.lexical_grammar.specs.Cuts.{Cuts, Breaks};
-ghost use Rattle.php_lexer.specs.Refusals.{IsShort, IsCauseOf, IsRefused, refusal_for};
+ghost use Rattle.php_lexer.specs.Refusals.{IsShort, IsCauseOf, IsRefused};
 ghost use Rattle.php_lexer.specs.View.{tokens_with};
 ghost use Rattle.php_lexer.specs.declared.refusal.LexRefusal.TheVariants as refusals;
 
-use crate::refusal::{LexRefusal, refusal};
+use crate::refusal::LexRefusal;
 use crate::scan::behind;
 use crate::step::{Mode, Step};
 use crate::steps::next_step;
 use php_syntax::token::{Token, TokenKind};
 use std::alloc::Global;
 use text_base::NoMemory;
-
-/// The most bytes that a file may have.
-pub const MOST_BYTES: usize = 1_048_576;
+use text_base::limits::FILE_LIMIT;
 
 // The token that a step gives, if it gives one, behind those before it.
 fn put_token(tokens: &mut Vec<Token>, kind: Option<TokenKind>, at: usize) -> Result<(), NoMemory>
@@ -47,11 +45,11 @@ pub fn lex(alloc: Global, file: &[u8]) -> Result<Vec<Token>, LexRefusal>
         MatchResult result (λ found. plain_tokens found.items ≡ tokens) (λ e. e ≡ refusals.Memory) }
 
     // A file that breaks the lexical grammar is refused so, and one that is too long before all else.
-    ensures faults { (fault : Fault) (at : ℕ) → IsShort file.now → Breaks file.now fault at →
-        IsRefused result (refusal_for fault at) }
-    ensures long { 1048576 < length file.now → result ≡ Err (refusals.TooLong (length file.now)) }
+    ensures faults { (fault : LexicalFault) (at : ℕ) → IsShort file.now → Breaks file.now fault at →
+        IsRefused result (refusals.Breaks fault at) }
+    ensures long { FILE_LIMIT < length file.now → result ≡ Err (refusals.TooLong (length file.now)) }
 {
-    if file.len() > MOST_BYTES {
+    if file.len() > FILE_LIMIT {
         return Err(LexRefusal::TooLong {
             len: file.len() as u64,
         });
@@ -61,7 +59,12 @@ pub fn lex(alloc: Global, file: &[u8]) -> Result<Vec<Token>, LexRefusal>
     let mut at = 0;
     'steps: while at < file.len() {
         match next_step(alloc, mode, behind(file, at))? {
-            Step::Refuses(fault, n) => return Err(refusal(fault, at + n)),
+            Step::Refuses(fault, n) => {
+                return Err(LexRefusal::Breaks {
+                    fault,
+                    at: (at + n) as u32,
+                });
+            }
             Step::Goes(kind, n, next) => {
                 put_token(&mut tokens, kind, at)?;
                 at += n;

@@ -19,10 +19,8 @@ mod single;
 mod step;
 mod steps;
 mod template;
-#[cfg(test)]
-mod tests;
 mod units;
 mod words;
 
-pub use lexer::{MOST_BYTES, lex};
+pub use lexer::lex;
 pub use refusal::LexRefusal;

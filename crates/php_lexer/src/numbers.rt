@@ -6,7 +6,8 @@ ghost use Rattle.lexical_grammar.specs.Words as spec;
 ghost use Rattle.php_lexer.specs.View.{maybe_step, IsWithin};
 
 use crate::scan::{begins, behind, digits_length, front, head_is_digit, head_is_name_byte};
-use crate::step::{Fault, Mode, Step};
+use crate::step::{Mode, Step};
+use lexical_grammar::fault::LexicalFault;
 use php_syntax::token::TokenKind;
 
 /// The largest integer of the language.
@@ -78,16 +79,16 @@ fn digits_step(digits: &[u8], rest: &[u8]) -> Step
     ensures within { 0 < length digits.now → IsWithin (length digits.now) result }
 {
     if goes_on_as_float(rest) {
-        return Step::Refuses(Fault::Float, 0);
+        return Step::Refuses(LexicalFault::Float, 0);
     }
     if has_leading_zero(digits) {
-        return Step::Refuses(Fault::BadByte, 1);
+        return Step::Refuses(LexicalFault::BadByte, 1);
     }
     match value_of(digits) {
-        None => Step::Refuses(Fault::BigInt, 0),
+        None => Step::Refuses(LexicalFault::BigInt, 0),
         Some(value) => {
             if head_is_name_byte(rest) {
-                Step::Refuses(Fault::BadByte, digits.len())
+                Step::Refuses(LexicalFault::BadByte, digits.len())
             } else {
                 Step::Goes(Some(TokenKind::Int(value)), digits.len(), Mode::Inside)
             }
@@ -108,7 +109,7 @@ pub fn number_step(bytes: &[u8]) -> Option<Step>
     let point = begins(bytes, b".");
     let digit = head_is_digit(behind(bytes, 1));
     if point && digit {
-        Some(Step::Refuses(Fault::Float, 0))
+        Some(Step::Refuses(LexicalFault::Float, 0))
     } else {
         None
     }

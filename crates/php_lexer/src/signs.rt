@@ -17,7 +17,12 @@ fn signs_beginning(byte: u8) -> &'static [Sign]
     ensures { (rest : List ℕ) → spec.first_sign result.now (byte ∷ rest) ≡ spec.first_sign spec.all_signs (byte ∷ rest) }
 {
     match byte {
-        b'=' => &[Sign::Identical, Sign::Equal, Sign::DoubleArrow, Sign::Assign],
+        b'=' => &[
+            Sign::Identical,
+            Sign::Equal,
+            Sign::DoubleArrow,
+            Sign::Assign,
+        ],
         b'!' => &[Sign::NotIdentical, Sign::NotEqual, Sign::Not],
         b'?' => &[Sign::CoalesceAssign, Sign::Coalesce, Sign::Question],
         b'<' => &[Sign::LessGreater, Sign::LessEqual, Sign::Less],

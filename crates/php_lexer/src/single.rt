@@ -7,7 +7,8 @@ ghost use Rattle.php_lexer.specs.View.{maybe_step, IsWithin};
 
 use crate::found::Found;
 use crate::scan::{begins, behind};
-use crate::step::{Fault, Mode, Step};
+use crate::step::{Mode, Step};
+use lexical_grammar::fault::LexicalFault;
 use php_syntax::token::TokenKind;
 use std::alloc::Global;
 use text_base::{Bytes, NoMemory};
@@ -70,7 +71,7 @@ pub fn single_step(alloc: Global, bytes: &[u8]) -> Result<Option<Step>, NoMemory
         return Ok(None);
     }
     match single_quoted(alloc, behind(bytes, 1))? {
-        None => Ok(Some(Step::Refuses(Fault::Unclosed, 0))),
+        None => Ok(Some(Step::Refuses(LexicalFault::Unclosed, 0))),
         Some((text, n)) => Ok(Some(Step::Goes(Some(TokenKind::Str(text)), 1 + n, Mode::Inside))),
     }
 }

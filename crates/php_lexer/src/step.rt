@@ -1,5 +1,6 @@
 //! One step of cutting.
 
+use lexical_grammar::fault::LexicalFault;
 use php_syntax::token::TokenKind;
 
 /// Outside PHP or inside it.
@@ -9,20 +10,10 @@ pub enum Mode {
     Inside,
 }
 
-/// In which way the lexical grammar is broken.
-#[derive(Clone, Copy, Debug)]
-pub enum Fault {
-    BadByte,
-    Unclosed,
-    Float,
-    BigInt,
-    Escape,
-}
-
 /// What stands at the head of the bytes: so many bytes, which give this token or none, and the
 /// mode behind them; or a fault, so many bytes on.
 #[derive(Debug, Drop)]
 pub enum Step {
     Goes(Option<TokenKind>, usize, Mode),
-    Refuses(Fault, usize),
+    Refuses(LexicalFault, usize),
 }

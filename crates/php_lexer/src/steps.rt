@@ -17,8 +17,9 @@ use crate::numbers::number_step;
 use crate::openers::outside_step;
 use crate::signs::{cast_step, sign_step};
 use crate::single::single_step;
-use crate::step::{Fault, Mode, Step};
+use crate::step::{Mode, Step};
 use crate::words::{name_step, variable_step};
+use lexical_grammar::fault::LexicalFault;
 use std::alloc::Global;
 use text_base::NoMemory;
 
@@ -123,7 +124,7 @@ fn inside_step(alloc: Global, bytes: &[u8]) -> Result<Step, NoMemory>
     ensures within { IfOk result (IsWithin (length bytes.now)) }
 {
     match lexeme_step(alloc, bytes)? {
-        None => Ok(Step::Refuses(Fault::BadByte, 0)),
+        None => Ok(Step::Refuses(LexicalFault::BadByte, 0)),
         Some(step) => Ok(step),
     }
 }

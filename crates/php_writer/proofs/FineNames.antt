@@ -5,7 +5,8 @@ use Rattle.std.specs.List.{prefix_len, list_all}
 use Rattle.std.proofs.lemmas.Bool.Decides.{nat_tests}
 use Rattle.php_syntax.specs.Tokens.{PlainKind, inline, variable, name, integer, text, template, sign, PlainPart, plain_part, read_part}
 use Rattle.lexical_grammar.specs.Characters.{is_name_start, is_name_byte, is_digit, head_is, begins, name_length, digits_length, value_of, largest}
-use Rattle.lexical_grammar.specs.Steps.{Step, goes, refuses, gives, faults, float, big_int, bad_byte, or_else}
+use Rattle.lexical_grammar.specs.Steps.{Step, goes, refuses, gives, faults, or_else}
+use Rattle.lexical_grammar.specs.declared.fault.LexicalFault.TheVariants.{Float, BigInt, BadByte}
 use Rattle.lexical_grammar.specs.Words.{name_step, variable_step, number_step, digits_step, goes_on_as_float, has_leading_zero}
 use Rattle.token_spelling.specs.Spelled.{IsName}
 use Rattle.php_writer.specs.Spellable.{is_inline, is_unsigned}
@@ -104,7 +105,7 @@ small n h = grind (arith, nat_tests)
 -- what digits give, by four tests of them
 abbrev digits_by : Bool → Bool → Bool → Bool → ℕ → ℕ → Option Step
 digits_by float_follows zero_first large named n m =
-    if float_follows then faults float 0 else if zero_first then faults bad_byte 1 else if large then faults big_int 0 else if named then faults bad_byte m else gives (integer (pos n)) m
+    if float_follows then faults Float 0 else if zero_first then faults BadByte 1 else if large then faults BigInt 0 else if named then faults BadByte m else gives (integer (pos n)) m
 
 is_digits_step : (float_follows zero_first large named : Bool) (n m : ℕ) → large ≡ nat_lt largest n
     → IsMaybeStep (digits_by float_follows zero_first large named n m)
@@ -118,7 +119,7 @@ pub is_number_step : (bytes : List ℕ) → IsMaybeStep (number_step bytes)
 unfolding number_step
 is_number_step bytes = by (nat_lt 0 (digits_length bytes)) (begins (codes ".") bytes && head_is is_digit (drop 1 bytes)) (take (digits_length bytes) bytes) (drop (digits_length bytes) bytes)
   where
-    by : (some dotted : Bool) (digits rest : List ℕ) → IsMaybeStep (if some then digits_step digits rest else if dotted then faults float 0 else None)
+    by : (some dotted : Bool) (digits rest : List ℕ) → IsMaybeStep (if some then digits_step digits rest else if dotted then faults Float 0 else None)
     by true dotted digits rest = is_digits_step (goes_on_as_float rest) (has_leading_zero digits) (nat_lt largest (value_of digits)) (head_is is_name_byte rest) (value_of digits) (length digits) refl
     by false true digits rest = tt
     by false false digits rest = tt

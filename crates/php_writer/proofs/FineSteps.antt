@@ -6,11 +6,12 @@ use Rattle.php_syntax.specs.declared.token.Sign.{Sign}
 use Rattle.php_syntax.specs.declared.token.Sign.TheVariants as signs
 use Rattle.php_syntax.specs.Tokens.{PlainToken, name, sign}
 use Rattle.lexical_grammar.specs.Characters.{begins, before, head_is, is_blank, is_gap, is_name_byte, lower, newline_length, name_length}
-use Rattle.lexical_grammar.specs.Steps.{Mode, outside, inside, unclosed, Step, goes, gives, passes, faults, or_else}
+use Rattle.lexical_grammar.specs.Steps.{Mode, outside, inside, Step, goes, gives, passes, faults, or_else}
+use Rattle.lexical_grammar.specs.declared.fault.LexicalFault.TheVariants.{Unclosed}
 use Rattle.lexical_grammar.specs.Rows.{Row, whole, broken, endless, row}
 use Rattle.lexical_grammar.specs.Words.{name_step, variable_step, number_step}
 use Rattle.lexical_grammar.specs.Texts.{Unit_of, unit_at, quotes, lines, single_step, single_token, single_quoted, double_step, double_token}
-use Rattle.lexical_grammar.specs.Heredocs.{Body, of_heredoc, of_nowdoc, heredoc_newline, begins_name, ends_body, indented_at, heredoc_token, nowdoc_token, body_token, body_step, headed, heredoc_step, nowdoc_step}
+use Rattle.lexical_grammar.specs.Heredocs.{Body, of_heredoc, of_nowdoc, heredoc_newline, begins_name, ends_body, other_end_at, heredoc_token, nowdoc_token, body_token, body_step, headed, heredoc_step, nowdoc_step}
 use Rattle.php_syntax.specs.Spelling.{spelling_of}
 use Rattle.lexical_grammar.specs.Signs.{all_signs, first_sign, sign_step, cast_of, cast_in, cast_step}
 use Rattle.lexical_grammar.specs.Cuts.{echo_opener, blank_behind, opened, php_opener, opener_step, or_inline, blank_step, ends_line, line_comment_step, block_comment_step, leaving_step, between_step, word_step, text_step, mark_step, lexeme_step, or_bad_byte, step, CutsFrom, at_end, after_token, after_blank}
@@ -25,7 +26,7 @@ is_between_step bytes =
     either_step (blank_step bytes) _ (step_by (head_is is_blank bytes) (passes 1) None (λ h. tt) (λ h. tt))
     (either_step (line_comment_step bytes) _ (step_by _ (passes (before ends_line bytes)) None (λ h. tt) (λ h. tt))
     (either_step (block_comment_step bytes) (leaving_step bytes)
-    (step_by (begins (codes "/*") bytes) _ None (λ h. step_by _ (passes _) (faults unclosed 0) (λ k. tt) (λ k. tt)) (λ h. tt))
+    (step_by (begins (codes "/*") bytes) _ None (λ h. step_by _ (passes _) (faults Unclosed 0) (λ k. tt) (λ k. tt)) (λ h. tt))
     (step_by (begins (codes "?>") bytes) (Some (goes (Some (sign signs.Semicolon)) (2 + newline_length (drop 2 bytes)) outside)) None (λ h. tt) (λ h. tt))))
 
 is_word_step : (bytes : List ℕ) → IsMaybeStep (word_step bytes)
@@ -55,16 +56,16 @@ is_nowdoc_token head n None body = tt
 is_nowdoc_token head n (Some k) body = tt
 
 is_body_token : (kind : Body) (head n : ℕ) (w body : List ℕ) → IsMaybeStep (body_token kind head n w body)
-is_body_token of_heredoc head n w body = is_heredoc_token head n (indented_at w body) (row (unit_at lines) 0 body) (template_is lines body)
-is_body_token of_nowdoc head n w body = is_nowdoc_token head n (indented_at w body) body
+is_body_token of_heredoc head n w body = is_heredoc_token head n (other_end_at w body) (row (unit_at lines) 0 body) (template_is lines body)
+is_body_token of_nowdoc head n w body = is_nowdoc_token head n (other_end_at w body) body
 
 is_body_step : (kind : Body) (head : ℕ) (w bytes : List ℕ) → IsMaybeStep (body_step kind head w bytes)
 unfolding body_step
 is_body_step kind head w bytes =
     let n = before (ends_body w) bytes
-    in step_by (begins_name w bytes) (body_token kind head (head + length w) w []) (if nat_lt n (length bytes) then body_token kind head (head + n + heredoc_newline (drop n bytes) + length w) w (take n bytes) else faults unclosed 0)
+    in step_by (begins_name w bytes) (body_token kind head (head + length w) w []) (if nat_lt n (length bytes) then body_token kind head (head + n + heredoc_newline (drop n bytes) + length w) w (take n bytes) else faults Unclosed 0)
     (λ h. is_body_token kind head (head + length w) w [])
-    (λ h. step_by (nat_lt n (length bytes)) (body_token kind head (head + n + heredoc_newline (drop n bytes) + length w) w (take n bytes)) (faults unclosed 0) (λ k. is_body_token kind head (head + n + heredoc_newline (drop n bytes) + length w) w (take n bytes)) (λ k. tt))
+    (λ h. step_by (nat_lt n (length bytes)) (body_token kind head (head + n + heredoc_newline (drop n bytes) + length w) w (take n bytes)) (faults Unclosed 0) (λ k. is_body_token kind head (head + n + heredoc_newline (drop n bytes) + length w) w (take n bytes)) (λ k. tt))
 
 is_headed : (kind : Body) (head : ℕ) (w rest : List ℕ) → IsMaybeStep (headed kind head w rest)
 is_headed kind head w rest =

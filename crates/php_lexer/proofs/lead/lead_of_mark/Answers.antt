@@ -29,4 +29,4 @@ pub returns-in-46 : goal.returns-in-46
 returns-in-46 c = rw c.in-46.is led_by_point
 
 pub returns-in_default : goal.returns-in_default
-returns-in_default c = λ rest. led_by_other c.args.byte rest c.requires.name c.requires.blank c.requires.digit ? ? ? ? ? ? ? ? ?
+returns-in_default c = λ rest. led_by_other c.args.byte rest c.requires.name c.requires.blank c.requires.digit (search) (search) (search) (search) (search) (search) (search) (search) (search)

@@ -1,6 +1,7 @@
 //! Tables of texts with the tokens that the PHP manual says, and of files that are refused.
 
-use crate::{LexRefusal, lex};
+use lexical_grammar::fault::LexicalFault;
+use php_lexer::{LexRefusal, lex};
 use php_syntax::token::{Part, PartKey, Sign, Token, TokenKind};
 use std::alloc::{AllocError, Global};
 use std::test::Fail;
@@ -124,7 +125,7 @@ fn texts(rt: HostRuntime) -> Result<(), Fail> {
         (b"<?=<<<A\na\n\nA;", "N:echo@0 S:a\\n@3 ;@12 "),
         (b"<?=<<<A\r\na\r\nAB\r\nA", "N:echo@0 S:a\\r\\nAB@3 "),
         (b"<?=<<<A\nA", "N:echo@0 S:@3 "),
-        (b"<?=<<<A\na\rA\nA", "N:echo@0 S:a\\rA@3 "),
+        (b"<?=<<<A\na\rAB\r\r\nA", "N:echo@0 S:a\\rAB\\r@3 "),
         (
             b"<?=<<<A\n\"$x\"\n$y[z]\nA.",
             "N:echo@0 T:<\"><$x><\"\\n><$y['z]>@3 .@20 ",
@@ -141,35 +142,39 @@ fn texts(rt: HostRuntime) -> Result<(), Fail> {
 
 #[test]
 fn refusals(rt: HostRuntime) -> Result<(), Fail> {
-    let table: [(&[u8], LexRefusal); 25] = [
-        (b"<?= &1", LexRefusal::BadByte { at: 4 }),
-        (b"<?= 1 / 2", LexRefusal::BadByte { at: 6 }),
-        (b"<?= $1", LexRefusal::BadByte { at: 4 }),
-        (b"<?= #[A]", LexRefusal::BadByte { at: 4 }),
-        (b"<?= a\xc3", LexRefusal::BadByte { at: 5 }),
-        (b"<?= 012", LexRefusal::BadByte { at: 5 }),
-        (b"<?= 0x1", LexRefusal::BadByte { at: 5 }),
-        (b"<?= 12a", LexRefusal::BadByte { at: 6 }),
-        (b"<?= 'a", LexRefusal::Unclosed { at: 4 }),
-        (b"<?= \"\\x", LexRefusal::Unclosed { at: 4 }),
-        (b"<?= /*/", LexRefusal::Unclosed { at: 4 }),
-        (b"<?= <<<A\na A", LexRefusal::Unclosed { at: 4 }),
-        (b"<?= 1.5", LexRefusal::Float { at: 4 }),
-        (b"<?= .5", LexRefusal::Float { at: 4 }),
-        (b"<?= 1E-5", LexRefusal::Float { at: 4 }),
-        (b"<?= 9223372036854775808", LexRefusal::BigInt { at: 4 }),
-        (b"<?= \"a\\0\"", LexRefusal::Escape { at: 6 }),
-        (b"<?= \"${a}\"", LexRefusal::Escape { at: 5 }),
-        (b"<?= \"{$a->b}\"", LexRefusal::Escape { at: 5 }),
-        (b"<?= \"a$b->c\"", LexRefusal::Escape { at: 6 }),
-        (b"<?= \"$a['b']\"", LexRefusal::Escape { at: 5 }),
-        (b"<?= \"$a\xc3\"", LexRefusal::Escape { at: 5 }),
-        (b"<?= <<<A\na\n  A\nA", LexRefusal::Escape { at: 11 }),
-        (b"<?= <<<A\n\\\"\nA", LexRefusal::Escape { at: 9 }),
-        (b"<?= <<<'A'\n\tA\nA", LexRefusal::Escape { at: 11 }),
+    let table: [(&[u8], LexicalFault, u32); 28] = [
+        (b"<?= &1", LexicalFault::BadByte, 4),
+        (b"<?= 1 / 2", LexicalFault::BadByte, 6),
+        (b"<?= $1", LexicalFault::BadByte, 4),
+        (b"<?= #[A]", LexicalFault::BadByte, 4),
+        (b"<?= a\xc3", LexicalFault::BadByte, 5),
+        (b"<?= 012", LexicalFault::BadByte, 5),
+        (b"<?= 0x1", LexicalFault::BadByte, 5),
+        (b"<?= 12a", LexicalFault::BadByte, 6),
+        (b"<?= 'a", LexicalFault::Unclosed, 4),
+        (b"<?= \"\\x", LexicalFault::Unclosed, 4),
+        (b"<?= /*/", LexicalFault::Unclosed, 4),
+        (b"<?= <<<A\na A", LexicalFault::Unclosed, 4),
+        (b"<?= 1.5", LexicalFault::Float, 4),
+        (b"<?= .5", LexicalFault::Float, 4),
+        (b"<?= 1E-5", LexicalFault::Float, 4),
+        (b"<?= 9223372036854775808", LexicalFault::BigInt, 4),
+        (b"<?= \"a\\0\"", LexicalFault::Escape, 6),
+        (b"<?= \"${a}\"", LexicalFault::Escape, 5),
+        (b"<?= \"{$a->b}\"", LexicalFault::Escape, 5),
+        (b"<?= \"a$b->c\"", LexicalFault::Escape, 6),
+        (b"<?= \"$a['b']\"", LexicalFault::Escape, 5),
+        (b"<?= \"$a\xc3\"", LexicalFault::Escape, 5),
+        (b"<?= <<<A\na\n  A\nA", LexicalFault::Escape, 11),
+        (b"<?= <<<A\n\\\"\nA", LexicalFault::Escape, 9),
+        (b"<?= <<<A\na\rA\nA", LexicalFault::Escape, 10),
+        (b"<?= <<<A\n\r \tA\nA", LexicalFault::Escape, 9),
+        (b"<?= <<<'A'\na\rA\nA", LexicalFault::Escape, 12),
+        (b"<?= <<<'A'\n\tA\nA", LexicalFault::Escape, 11),
     ];
-    for (file, expected) in table {
+    for (file, fault, at) in table {
         let found = shown(rt.alloc(), file)?;
+        let expected = LexRefusal::Breaks { fault, at };
         let wanted = format!(in rt.alloc(); "{expected:?}")?;
         assert_eq!(rt; found.as_str(), wanted.as_str());
     }
