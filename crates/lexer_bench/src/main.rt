@@ -82,7 +82,7 @@ fn report(
 fn main(rt: HostRuntime) -> Result<()> {
     let timed = env::args(&rt)?.skip(1).next().is_some();
     let alloc = rt.alloc();
-    let kinds: [(&str, &[u8], &[u8], &[u8]); 9] = [
+    let kinds: [(&str, &[u8], &[u8], &[u8]); 14] = [
         ("inline", b"", b"<p>a</p>\n", b""),
         ("variables", b"<?php ", b"$a ", b""),
         ("signs", b"<?php ", b"; === ", b""),
@@ -97,6 +97,21 @@ fn main(rt: HostRuntime) -> Result<()> {
         ),
         ("heredoc", b"<?php <<<A\n", b"a line\n", b"\nA"),
         ("comment", b"<?php /*", b"* a ", b"*/"),
+        ("statements", b"<?php ", b"$abc = $def + 12;\n", b""),
+        ("blocks", b"<?php ", b"{}", b""),
+        ("arguments", b"<?php f(", b"$a, ", b"1);"),
+        (
+            "calls",
+            b"<?php ",
+            b"echo htmlspecialchars($row['name']), 'x';\n",
+            b"",
+        ),
+        (
+            "page",
+            b"",
+            b"<li id=\"i<?= $key ?>\"><a href=\"?id=<?= $item['id'] ?>\">x</a></li>\n<?php endforeach; ?>\n",
+            b"",
+        ),
     ];
     for (kind, head, middle, tail) in kinds {
         let file = file_of(alloc, head, middle, tail)?;

@@ -1,2 +1,4 @@
 pub mod FitLemmas
 pub mod CutLaws
+pub mod SignLaws
+pub mod TextLaws

@@ -1,5 +1,5 @@
 -- A file as its pieces: the bytes that spell a token, and those that are passed over between two tokens.
-use Rattle.std.specs.Prelude.{◌≡◌, ◌⊎◌, ℕ, ◌+◌, ◌<◌, pos, false, ◌++◌, List, [], ◌∷◌, drop, length, Option, Some, None, codes}
+use Rattle.std.specs.Prelude.{◌≡◌, ◌⊎◌, ℕ, ◌+◌, ◌<◌, pos, Bool, false, ◌++◌, List, [], ◌∷◌, drop, length, Option, Some, None, codes}
 use Rattle.php_syntax.specs.Tokens.{PlainToken, PlainKind, inline, variable, name, integer, text, template, sign}
 use Rattle.lexical_grammar.specs.Characters.{value_of}
 use Rattle.lexical_grammar.specs.Cuts.{is_opener}
@@ -25,10 +25,14 @@ abbrev pub placed : ℕ → List Piece → List PlainToken
 placed at [] = []
 placed at (piece ∷ pieces) = token_before piece.token at (placed (at + length piece.bytes) pieces)
 
+-- at no place of these bytes, with these others behind them, does the test hold
+abbrev pub BeginsNot : (List ℕ → Bool) → List ℕ → List ℕ → Type 0
+BeginsNot test bytes rest = (n : ℕ) → n < length bytes → test (drop n (bytes ++ rest)) ≡ false
+
 -- the bytes of a token, with these bytes behind them, are how such a token is spelled: no opener begins in a piece outside PHP;
 -- a name is a longest run of name bytes, as is a variable behind its `$`, and `<?=` is the name echo; an integer is a longest run of digits and stands for their number
 abbrev pub IsSpelledBy : PlainKind → List ℕ → List ℕ → Type 0
-IsSpelledBy (inline t) bytes rest = (bytes ≡ t) × ((n : ℕ) → n < length bytes → is_opener (drop n (bytes ++ rest)) ≡ false)
+IsSpelledBy (inline t) bytes rest = (bytes ≡ t) × BeginsNot is_opener bytes rest
 IsSpelledBy (variable x) bytes rest = (bytes ≡ 36 ∷ x) × IsName x × EndsName rest
 IsSpelledBy (name x) bytes rest = ((bytes ≡ x) × IsName x × EndsName rest) ⊎ ((bytes ≡ codes "<?=") × (x ≡ codes "echo"))
 IsSpelledBy (integer z) bytes rest = (z ≡ pos (value_of bytes)) × IsInteger bytes × EndsInteger rest

@@ -1,10 +1,10 @@
 //! What a reader would ask of the lexical grammar, in the words of the subject. Each function does
-//! nothing, and stands for the law that its contract states, over `Cuts` and `Breaks`.
+//! nothing, and stands for the law that its contract states, over `Cuts`, `Breaks` and `step`.
 #![tactic(auto)]
 
-ghost use Rattle.std.specs.Prelude.{◌≡◌, ◌≢◌, ◌⊎◌, ◌∷◌, ◌++◌, ◌==◌, ◌||◌, ◌+◌, ◌<◌, ◌≤◌, ℕ, true, false, List, [], length, drop, codes, Some, None};
+ghost use Rattle.std.specs.Prelude.{◌≡◌, ◌≢◌, ◌⊎◌, ◌∷◌, ◌++◌, ◌+◌, ◌≤◌, ℕ, true, false, List, [], length, codes, Some, None};
 ghost use Rattle.php_syntax.specs.Tokens.{PlainToken, text, inline, sign};
-ghost use Rattle.lexical_grammar.specs.Characters.{begins, head_is, is_line_end};
+ghost use Rattle.lexical_grammar.specs.Characters.{begins};
 ghost use Rattle.php_syntax.specs.Spelling.{spelling_of};
 ghost use Rattle.lexical_grammar.specs.Signs.{sign_step};
 ghost use Rattle.php_syntax.specs.declared.token.Sign.{Sign};
@@ -12,8 +12,8 @@ ghost use Rattle.php_syntax.specs.declared.token.Sign.TheVariants as signs;
 ghost use Rattle.lexical_grammar.specs.Steps.{inside, outside, goes, gives};
 ghost use Rattle.lexical_grammar.specs.declared.fault.LexicalFault.{LexicalFault};
 ghost use Rattle.lexical_grammar.specs.Cuts.{step, is_opener, ends_line, Cuts, Breaks};
-ghost use Rattle.lexical_laws.specs.Pieces.{Piece, joined, placed, ArePieces, Rise};
-ghost use Rattle.lexical_laws.specs.Quoting.{Quotes};
+ghost use Rattle.lexical_laws.specs.Pieces.{Piece, joined, placed, ArePieces, Rise, BeginsNot};
+ghost use Rattle.lexical_laws.specs.Quoting.{Quotes, HasNoMark};
 
 /// Each file is cut into tokens or breaks the grammar.
 pub fn cut_or_broken()
@@ -44,14 +44,14 @@ pub fn longest_sign()
 
 /// A comment in `/*` and `*/` ends at the first `*/`.
 pub fn comment_ends_first()
-    ensures { (inner rest : List ℕ) → ((n : ℕ) → n < length inner → begins (codes "*/") (drop n (inner ++ codes "*/")) ≡ false) →
+    ensures { (inner rest : List ℕ) → BeginsNot (begins (codes "*/")) inner (codes "*/" ++ rest) →
         step inside (codes "/*" ++ (inner ++ (codes "*/" ++ rest))) ≡ goes None (4 + length inner) inside }
 {}
 
 /// A comment of one line ends before the first line end or `?>`, or with the file.
 pub fn line_comment_ends_first()
-    ensures slashes { (inner rest : List ℕ) → ((n : ℕ) → n < length inner → ends_line (drop n (inner ++ rest)) ≡ false) →
-        (rest ≡ []) ⊎ (ends_line rest ≡ true) → step inside (codes "//" ++ (inner ++ rest)) ≡ goes None (2 + length inner) inside }
+    ensures { (inner rest : List ℕ) → BeginsNot ends_line inner rest → (rest ≡ []) ⊎ (ends_line rest ≡ true) →
+        step inside (codes "//" ++ (inner ++ rest)) ≡ goes None (2 + length inner) inside }
 {}
 
 /// A text in single quotes is read as what its quoting stands for.
@@ -60,14 +60,20 @@ pub fn quoted_text()
         step inside (39 ∷ (bytes ++ (39 ∷ rest))) ≡ goes (Some (text t)) (2 + length bytes) inside }
 {}
 
-/// A text in double quotes with no quote, backslash, `$` or `{` in it is read as its bytes.
+/// A text in double quotes without a quote, backslash, `$` or `{` in it is read as its bytes.
 pub fn plain_double_quoted_text()
-    ensures { (bytes rest : List ℕ) → ((n : ℕ) → n < length bytes → head_is (λ b. b == 34 || b == 92 || b == 36 || b == 123) (drop n bytes) ≡ false) →
+    ensures { (bytes rest : List ℕ) → HasNoMark bytes →
         step inside (34 ∷ (bytes ++ (34 ∷ rest))) ≡ goes (Some (text bytes)) (2 + length bytes) inside }
 {}
 
 /// A file in which no opener stands is one inline token.
 pub fn without_opener()
-    ensures { (b : ℕ) (file : List ℕ) → ((n : ℕ) → is_opener (drop n (b ∷ file)) ≡ false) →
+    ensures { (b : ℕ) (file : List ℕ) → BeginsNot is_opener (b ∷ file) [] →
         Cuts (b ∷ file) (record { kind = inline (b ∷ file); at = 0 } ∷ []) }
+{}
+
+/// The tag that leaves PHP is a semicolon, and takes the line end behind it with it.
+pub fn leaving_tag()
+    ensures lf { (rest : List ℕ) → step inside (codes "?>\n" ++ rest) ≡ goes (Some (sign signs.Semicolon)) 3 outside }
+    ensures crlf { (rest : List ℕ) → step inside (codes "?>\r\n" ++ rest) ≡ goes (Some (sign signs.Semicolon)) 4 outside }
 {}
