@@ -77,9 +77,9 @@ pieces_last at n b bytes token tokens fit h none = (
 pieces_step : (mode next : Mode) (at n b : ℕ) (bytes : List ℕ) (token : Option PlainKind) (tokens : List PlainToken) → step mode (b ∷ bytes) ≡ goes token n next → CutsFrom next (at + n) (drop n (b ∷ bytes)) tokens
     → HasPieces (at + n) (drop n (b ∷ bytes)) tokens → HasPieces at (b ∷ bytes) (token_before token at tokens)
 pieces_step mode next at n b bytes token tokens e cut more = elim (cases_lt n (length (b ∷ bytes))) [
-    inl h ↦ pieces_more at n b bytes token tokens (fit_of mode next n b bytes token e) (omega arith) more
+  | inl h ↦ pieces_more at n b bytes token tokens (fit_of mode next n b bytes token e) (omega arith) more
   | inr h ↦ pieces_last at n b bytes token tokens (fit_of mode next n b bytes token e) h (no_tokens cut (drop_of_length-le (b ∷ bytes) h))
-  ]
+]
 
 pub pieces_of : {mode : Mode} {at : ℕ} {bytes : List ℕ} {tokens : List PlainToken} → CutsFrom mode at bytes tokens → HasPieces at bytes tokens
 pieces_of at_end = ([], refl, refl, tt)

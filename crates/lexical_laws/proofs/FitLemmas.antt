@@ -84,8 +84,8 @@ comment_goes_on : (bytes : List ℕ) → (begins (codes "//") bytes || (begins (
 comment_goes_on [] e = absurd (cc)
 comment_goes_on (b ∷ bytes) e =
     elim (or_cases (begins (codes "//") (b ∷ bytes)) (begins (codes "#") (b ∷ bytes) && not (begins (codes "#[") (b ∷ bytes))) e) [
-      inl slashes ↦ some_before ends_line b bytes (slash_goes_on b bytes (and_parts (nat_eq 47 b) (starts_with nat_eq bytes (47 ∷ [])) slashes).0)
-    | inr sharp ↦ some_before ends_line b bytes (sharp_goes_on b bytes (and_parts (nat_eq 35 b) (starts_with nat_eq bytes []) (and_parts (begins (codes "#") (b ∷ bytes)) (not (begins (codes "#[") (b ∷ bytes))) sharp).0).0)
+      | inl slashes ↦ some_before ends_line b bytes (slash_goes_on b bytes (and_parts (nat_eq 47 b) (starts_with nat_eq bytes (47 ∷ [])) slashes).0)
+      | inr sharp ↦ some_before ends_line b bytes (sharp_goes_on b bytes (and_parts (nat_eq 35 b) (starts_with nat_eq bytes []) (and_parts (begins (codes "#") (b ∷ bytes)) (not (begins (codes "#[") (b ∷ bytes))) sharp).0).0)
     ]
 
 fits_line_comment : (bytes : List ℕ) → MaybeFits bytes (line_comment_step bytes)
@@ -136,9 +136,9 @@ fits_variable bytes =
     let n = name_length (drop 1 bytes)
     in fits_if bytes (begins (codes "$") bytes && nat_lt 0 n) (gives (variable (take n (drop 1 bytes))) (1 + n)) None
     (λ e.
-      let both = and_parts (begins (codes "$") bytes) (nat_lt 0 n) e
-      in let is = name_is (drop 1 bytes) (ltb-true 0 n both.1)
-      in (omega arith, (dollar_behind bytes n both.0, is.0, subst (λ rest. EndsName rest) (sym (drop_behind bytes n)) is.1))) tt
+    let both = and_parts (begins (codes "$") bytes) (nat_lt 0 n) e
+    in let is = name_is (drop 1 bytes) (ltb-true 0 n both.1)
+    in (omega arith, (dollar_behind bytes n both.0, is.0, subst (λ rest. EndsName rest) (sym (drop_behind bytes n)) is.1))) tt
 
 -- numbers
 digits_are : (bytes : List ℕ) → 0 < digits_length bytes → has_leading_zero (take (digits_length bytes) bytes) ≡ false → value_of (take (digits_length bytes) bytes) ≤ largest
@@ -172,8 +172,8 @@ fits_number bytes =
     in let len : length (take n bytes) ≡ n = length-prefix_len is_digit bytes
     in fits_if bytes (nat_lt 0 n) (digits_step (take n bytes) (drop n bytes)) (if begins (codes ".") bytes && head_is is_digit (drop 1 bytes) then faults Float 0 else None)
     (λ e.
-      let some : 0 < n = ltb-true 0 n e
-      in fits_digits bytes (take n bytes) (drop n bytes) (ap (λ m. take m bytes) (sym len)) (ap (λ m. drop m bytes) (sym len)) (omega (arith, len, some)) (run_ends is_digit bytes) (digits_are bytes some))
+    let some : 0 < n = ltb-true 0 n e
+    in fits_digits bytes (take n bytes) (drop n bytes) (ap (λ m. take m bytes) (sym len)) (ap (λ m. drop m bytes) (sym len)) (omega (arith, len, some)) (run_ends is_digit bytes) (digits_are bytes some))
     (fits_if bytes (begins (codes ".") bytes && head_is is_digit (drop 1 bytes)) (faults Float 0) None (λ e. tt) tt)
 
 -- texts

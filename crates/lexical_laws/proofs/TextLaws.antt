@@ -83,7 +83,7 @@ without_opener b file h =
     in let all : before is_opener (b ∷ file) ≡ length (b ∷ file) = ap (before is_opener) (sym whole_file) ∙ before_first is_opener (b ∷ file) [] h (inl refl)
     in let none : opener_step (b ∷ file) ≡ None = no_opener (opener_step (b ∷ file)) (ap is_opener (sym whole_file) ∙ h 0 (omega arith))
     in let taken : or_inline (opener_step (b ∷ file)) (b ∷ file) ≡ goes (Some (inline (b ∷ file))) (length (b ∷ file)) outside =
-      ap (λ o. or_inline o (b ∷ file)) none ∙ ap (λ n. goes (Some (inline (take n (b ∷ file)))) n outside) all ∙ ap (λ t. goes (Some (inline t)) (length (b ∷ file)) outside) (take_all (length (b ∷ file)) (b ∷ file) (omega arith))
+    ap (λ o. or_inline o (b ∷ file)) none ∙ ap (λ n. goes (Some (inline (take n (b ∷ file)))) n outside) all ∙ ap (λ t. goes (Some (inline t)) (length (b ∷ file)) outside) (take_all (length (b ∷ file)) (b ∷ file) (omega arith))
     in after_token taken (subst (λ bytes. CutsFrom outside (0 + length (b ∷ file)) bytes []) (sym (drop_of_length-le (b ∷ file) {i = length (b ∷ file)} (omega arith))) at_end)
 
 -- the tag that leaves PHP
