@@ -6,8 +6,7 @@ use Rattle.php_syntax.specs.Tokens.{PlainToken}
 use Rattle.php_syntax.specs.Trees.{PlainFile}
 use Rattle.script_grammar.specs.Terminals.{terminals}
 use Rattle.text_base.specs.declared.limits.TheConstants.{FILE_LIMIT}
-use Rattle.lexical_grammar.specs.Steps.{Fault}
-use Rattle.lexical_grammar.specs.Steps as faults
+use Rattle.lexical_grammar.specs.declared.fault.LexicalFault.{LexicalFault}
 use Rattle.lexical_grammar.specs.Cuts.{Cuts, Breaks}
 use Rattle.php_syntax.specs.Height.{file_height}
 use Rattle.script_grammar.specs.Grammar.{SpellsTree, IsTooDeep, most_open}
@@ -27,7 +26,7 @@ use Rattle.phpsa_main.specs.Steps.{IsRefusalOf, lexed_as, parsed_as}
 -- the laws of reading: one token list, tokens or a fault, and one tree
 pub record Laws : Type 0 where
   pub one_tokens : (file : List ℕ) (tokens others : List PlainToken) → Cuts file tokens → Cuts file others → tokens ≡ others
-  pub never : (file : List ℕ) (tokens : List PlainToken) (fault : Fault) (place : ℕ) → Cuts file tokens → Breaks file fault place → ⊥
+  pub never : (file : List ℕ) (tokens : List PlainToken) (fault : LexicalFault) (place : ℕ) → Cuts file tokens → Breaks file fault place → ⊥
   pub one_tree : (tokens : List PlainToken) (a b : PlainFile) → (IsTooDeep tokens → ⊥) → SpellsTree tokens a → SpellsTree tokens b → a ≡ b
 
 pub one_program : Laws → (script : List ℕ) (a b : PlainFile) → IsScript script a → IsScript script b → a ≡ b
@@ -61,11 +60,7 @@ shallow tokens tree (few, low) only (inr (other, spelled, high)) =
 
 -- why the lexer and the parser refuse
 pub lexed_cause : (script : List ℕ) (e : LexRefusal) → lexing.IsCauseOf script e → IsRefusalOf script (lexed_as e)
-lexed_cause script (lexed.BadByte at) (short, breaks) = record { fault = faults.bad_byte; at = at; short = short; breaks = breaks; said = refl }
-lexed_cause script (lexed.Unclosed at) (short, breaks) = record { fault = faults.unclosed; at = at; short = short; breaks = breaks; said = refl }
-lexed_cause script (lexed.Float at) (short, breaks) = record { fault = faults.float; at = at; short = short; breaks = breaks; said = refl }
-lexed_cause script (lexed.BigInt at) (short, breaks) = record { fault = faults.big_int; at = at; short = short; breaks = breaks; said = refl }
-lexed_cause script (lexed.Escape at) (short, breaks) = record { fault = faults.escape; at = at; short = short; breaks = breaks; said = refl }
+lexed_cause script (lexed.Breaks fault at) (short, breaks) = record { fault = fault; at = at; short = short; breaks = breaks; said = refl }
 lexed_cause script (lexed.TooLong len) (long, is) = (subst (λ n. FILE_LIMIT < n) (sym is) long, is)
 lexed_cause script lexed.Memory free = tt
 

@@ -2,11 +2,12 @@
 use Rattle.std.specs.Prelude.{◌≡◌, ℕ, List}
 use Rattle.php_syntax.specs.Tokens.{PlainToken}
 use Rattle.php_syntax.specs.Trees.{PlainFile}
-use Rattle.lexical_grammar.specs.Steps.{Fault}
+use Rattle.lexical_grammar.specs.declared.fault.LexicalFault.{LexicalFault}
 use Rattle.lexical_grammar.specs.Cuts.{Cuts, Breaks}
 use Rattle.script_grammar.specs.Grammar.{SpellsTree, IsTooDeep}
 use Rattle.php_lexer.specs.declared.refusal.LexRefusal.{LexRefusal}
-use Rattle.php_lexer.specs.Refusals.{IsShort, refusal_for}
+use Rattle.php_lexer.specs.declared.refusal.LexRefusal.TheVariants as lexed
+use Rattle.php_lexer.specs.Refusals.{IsShort}
 use Rattle.php_parser.specs.declared.refusal.ParseRefusal.TheVariants as parsed
 use Rattle.phpsa_main.specs.declared.verdict.ScriptRefusal.{ScriptRefusal}
 use Rattle.phpsa_main.specs.declared.verdict.ScriptRefusal.TheVariants.{Lex, Parse}
@@ -20,11 +21,11 @@ pub record IsScript (script : List ℕ) (program : PlainFile) : Type 0 where
 
 -- the script is within the limit of a file and breaks the lexical grammar, in the way and at the place that the refusal says
 pub record BreaksScript (script : List ℕ) (refusal : LexRefusal) : Type 0 where
-  pub fault : Fault
+  pub fault : LexicalFault
   pub at : ℕ
   pub short : IsShort script
   pub breaks : Breaks script fault at
-  pub said : refusal ≡ refusal_for fault at
+  pub said : refusal ≡ lexed.Breaks fault at
 
 -- the script is cut into tokens that spell no program and are not too deep
 pub record SpellsNothing (script : List ℕ) : Type 0 where

@@ -3,6 +3,8 @@ use Rattle.std.specs.Prelude.{ℕ, List, [], ◌∷◌, ◌++◌, take, length, 
 use Rattle.std.specs.Fmt.{decimal}
 use Rattle.phpsa_main.specs.declared.exit.Exit.{Exit}
 use Rattle.phpsa_main.specs.declared.exit.Exit.TheVariants.{Done, No, NotBuilt, Script, Missing, ReadFault, WriteFault, Usage, Input, Memory}
+use Rattle.lexical_grammar.specs.declared.fault.LexicalFault.{LexicalFault}
+use Rattle.lexical_grammar.specs.declared.fault.LexicalFault.TheVariants.{BadByte, Unclosed, Float, BigInt, Escape}
 use Rattle.php_lexer.specs.declared.refusal.LexRefusal.TheVariants as lexed
 use Rattle.php_parser.specs.declared.refusal.ParseRefusal.TheVariants as parsed
 use Rattle.phpsa_main.specs.declared.texts.TheConstants.{PAGE_LIMIT}
@@ -32,13 +34,17 @@ yes_text = codes "yes" ++ 10 ∷ []
 abbrev pub no_text : List ℕ → List ℕ
 no_text page = codes "no" ++ 10 ∷ (codes "page " ++ decimal (length page) ++ 10 ∷ (take PAGE_LIMIT page ++ 10 ∷ []))
 
+-- the name of a way to break the lexical grammar
+abbrev pub fault_name : LexicalFault → List ℕ
+fault_name BadByte = codes "BadByte"
+fault_name Unclosed = codes "Unclosed"
+fault_name Float = codes "Float"
+fault_name BigInt = codes "BigInt"
+fault_name Escape = codes "Escape"
+
 -- what is wrong with a script: its name, and the place or the length that is written behind the file
 abbrev pub said_of : ScriptRefusal → List ℕ × ℕ
-said_of (Lex (lexed.BadByte at)) = (codes "BadByte", at)
-said_of (Lex (lexed.Unclosed at)) = (codes "Unclosed", at)
-said_of (Lex (lexed.Float at)) = (codes "Float", at)
-said_of (Lex (lexed.BigInt at)) = (codes "BigInt", at)
-said_of (Lex (lexed.Escape at)) = (codes "Escape", at)
+said_of (Lex (lexed.Breaks fault at)) = (fault_name fault, at)
 said_of (Lex (lexed.TooLong len)) = (codes "TooLong", len)
 said_of (Lex lexed.Memory) = (codes "Memory", 0)
 said_of (Parse (parsed.NotInSubset at)) = (codes "NotInSubset", at)

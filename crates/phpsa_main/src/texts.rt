@@ -1,11 +1,12 @@
 // The texts that are written.
 ghost use Rattle.std.specs.Prelude.{◌≡◌, ◌++◌, [], ◌∷◌, take, OnOk, OnErr, IfOk};
 ghost use Rattle.std.specs.Fmt.{decimal};
-ghost use Rattle.phpsa_main.specs.Texts.{yes_text, no_text, error_text, counted_text, said_of};
+ghost use Rattle.phpsa_main.specs.Texts.{yes_text, no_text, error_text, counted_text, fault_name, said_of};
 ghost use Rattle.phpsa_main.specs.declared.verdict.Refusal.TheVariants as refusals;
 ghost use Rattle.phpsa_main.specs.Steps.{answer_text};
 
 use crate::verdict::{Answer, Refusal, ScriptRefusal};
+use lexical_grammar::fault::LexicalFault;
 use php_lexer::LexRefusal;
 use php_parser::ParseRefusal;
 use std::alloc::Global;
@@ -67,16 +68,24 @@ fn said_of(refusal: ScriptRefusal) -> (&'static [u8], u64)
     }
 }
 
+fn fault_name(fault: LexicalFault) -> &'static [u8]
+    ensures { result.now ≡ fault_name fault }
+{
+    match fault {
+        LexicalFault::BadByte => b"BadByte",
+        LexicalFault::Unclosed => b"Unclosed",
+        LexicalFault::Float => b"Float",
+        LexicalFault::BigInt => b"BigInt",
+        LexicalFault::Escape => b"Escape",
+    }
+}
+
 fn lexed(refusal: LexRefusal) -> (&'static [u8], u64)
     ensures name { result.0.now ≡ (said_of (ScriptRefusal.Lex refusal)).0 }
     ensures number { result.1 ≡ (said_of (ScriptRefusal.Lex refusal)).1 }
 {
     match refusal {
-        LexRefusal::BadByte { at } => (b"BadByte", u64::from(at)),
-        LexRefusal::Unclosed { at } => (b"Unclosed", u64::from(at)),
-        LexRefusal::Float { at } => (b"Float", u64::from(at)),
-        LexRefusal::BigInt { at } => (b"BigInt", u64::from(at)),
-        LexRefusal::Escape { at } => (b"Escape", u64::from(at)),
+        LexRefusal::Breaks { fault, at } => (fault_name(fault), u64::from(at)),
         LexRefusal::TooLong { len } => (b"TooLong", len),
         LexRefusal::Memory => (b"Memory", 0),
     }
