@@ -5,7 +5,7 @@ ghost use Rattle.lexical_grammar.specs.Rows.{row};
 ghost use Rattle.lexical_grammar.specs.Texts as spec;
 ghost use Rattle.php_syntax.specs.Tokens.{plain_kind, plain_part_of};
 ghost use Rattle.php_lexer.specs.Templates.{enclosure_of, parts_row, plain_row, has_end_of, bytes_part, parts_with, plain_with, unit_of, TextWithin};
-ghost use Rattle.php_lexer.specs.View.{maybe_step, IsWithin};
+ghost use Rattle.php_lexer.specs.View.{Reads, ReadsWithin};
 
 use crate::found::Found;
 use crate::scan::{begins, behind};
@@ -123,8 +123,8 @@ pub fn kind_of_parts(alloc: Global, parts: Vec<Part>) -> Result<TokenKind, NoMem
 /// A text in double quotes.
 #[tactic(auto, unfolding(lexical_grammar::specs::Texts::double_step))]
 pub fn double_step(alloc: Global, bytes: &[u8]) -> Result<Option<Step>, NoMemory>
-    ensures value { IfOk result (λ o. maybe_step o ≡ spec.double_step bytes.now) }
-    ensures within { IfOk result (λ o. IfSome o (IsWithin (length bytes.now))) }
+    ensures value { Reads result (spec.double_step bytes.now) }
+    ensures within { ReadsWithin result (length bytes.now) }
 {
     if !begins(bytes, b"\"") {
         return Ok(None);

@@ -4,7 +4,7 @@ ghost use Rattle.std.specs.Prelude.{◌≡◌, ◌<◌, ◌≤◌, ◌+◌, ◌^
 ghost use Rattle.lexical_grammar.specs.Characters as chars;
 ghost use Rattle.lexical_grammar.specs.Heredocs as spec;
 ghost use Rattle.php_lexer.specs.Heredocs.{body_of};
-ghost use Rattle.php_lexer.specs.View.{maybe_step, IsWithin};
+ghost use Rattle.php_lexer.specs.View.{Reads, ReadsWithin};
 
 use crate::double::{kind_of_parts, template};
 use crate::scan::{begins, behind, front, gap_length, head_is_name_byte, name_length};
@@ -171,8 +171,8 @@ fn heredoc_token(
     body: &[u8],
 ) -> Result<Option<Step>, NoMemory>
     requires { head + length body.now < 2 ^ 63 }
-    ensures value { IfOk result (λ o. maybe_step o ≡ spec.body_token spec.of_heredoc head n name.now body.now) }
-    ensures within { (most : ℕ) → head + length body.now ≤ most → 0 < n → n ≤ most → IfOk result (λ o. IfSome o (IsWithin most)) }
+    ensures value { Reads result (spec.body_token spec.of_heredoc head n name.now body.now) }
+    ensures within { (most : ℕ) → head + length body.now ≤ most → 0 < n → n ≤ most → ReadsWithin result most }
 {
     let other_end = other_end_at(name, body);
     match template(alloc, Enclosure::Lines, body)? {
@@ -200,8 +200,8 @@ fn nowdoc_token(
     body: &[u8],
 ) -> Result<Option<Step>, NoMemory>
     requires { head + length body.now < 2 ^ 63 }
-    ensures value { IfOk result (λ o. maybe_step o ≡ spec.body_token spec.of_nowdoc head n name.now body.now) }
-    ensures within { (most : ℕ) → head + length body.now ≤ most → 0 < n → n ≤ most → IfOk result (λ o. IfSome o (IsWithin most)) }
+    ensures value { Reads result (spec.body_token spec.of_nowdoc head n name.now body.now) }
+    ensures within { (most : ℕ) → head + length body.now ≤ most → 0 < n → n ≤ most → ReadsWithin result most }
 {
     match other_end_at(name, body) {
         None => {
@@ -222,8 +222,8 @@ fn body_token(
     body: &[u8],
 ) -> Result<Option<Step>, NoMemory>
     requires { head + length body.now < 2 ^ 63 }
-    ensures value { IfOk result (λ o. maybe_step o ≡ spec.body_token (body_of kind) head n name.now body.now) }
-    ensures within { (most : ℕ) → head + length body.now ≤ most → 0 < n → n ≤ most → IfOk result (λ o. IfSome o (IsWithin most)) }
+    ensures value { Reads result (spec.body_token (body_of kind) head n name.now body.now) }
+    ensures within { (most : ℕ) → head + length body.now ≤ most → 0 < n → n ≤ most → ReadsWithin result most }
 {
     match kind {
         Body::Heredoc => heredoc_token(alloc, head, n, name, body),
@@ -242,8 +242,8 @@ fn body_step(
 ) -> Result<Option<Step>, NoMemory>
     requires some { 0 < head }
     requires fits { head + length bytes.now < 2 ^ 63 }
-    ensures value { IfOk result (λ o. maybe_step o ≡ spec.body_step (body_of kind) head name.now bytes.now) }
-    ensures within { IfOk result (λ o. IfSome o (IsWithin (head + length bytes.now))) }
+    ensures value { Reads result (spec.body_step (body_of kind) head name.now bytes.now) }
+    ensures within { ReadsWithin result (head + length bytes.now) }
 {
     if begins_name(name, bytes) {
         return body_token(alloc, kind, head, head + name.len(), name, &[]);
@@ -268,8 +268,8 @@ fn headed(
 ) -> Result<Option<Step>, NoMemory>
     requires some { 0 < head }
     requires fits { head + length rest.now < 2 ^ 63 }
-    ensures value { IfOk result (λ o. maybe_step o ≡ spec.headed (body_of kind) head name.now rest.now) }
-    ensures within { IfOk result (λ o. IfSome o (IsWithin (head + length rest.now))) }
+    ensures value { Reads result (spec.headed (body_of kind) head name.now rest.now) }
+    ensures within { ReadsWithin result (head + length rest.now) }
 {
     let newline = heredoc_newline(rest);
     if 0 < name.len() && 0 < newline {
@@ -282,8 +282,8 @@ fn headed(
 /// `<<<NAME` and its lines.
 #[tactic(auto, unfolding(lexical_grammar::specs::Heredocs::heredoc_step))]
 pub fn heredoc_step(alloc: Global, bytes: &[u8]) -> Result<Option<Step>, NoMemory>
-    ensures value { IfOk result (λ o. maybe_step o ≡ spec.heredoc_step bytes.now) }
-    ensures within { IfOk result (λ o. IfSome o (IsWithin (length bytes.now))) }
+    ensures value { Reads result (spec.heredoc_step bytes.now) }
+    ensures within { ReadsWithin result (length bytes.now) }
 {
     if !begins(bytes, b"<<<") {
         return Ok(None);
@@ -302,8 +302,8 @@ pub fn heredoc_step(alloc: Global, bytes: &[u8]) -> Result<Option<Step>, NoMemor
 /// `<<<'NAME'` and its lines.
 #[tactic(auto, unfolding(lexical_grammar::specs::Heredocs::nowdoc_step))]
 pub fn nowdoc_step(alloc: Global, bytes: &[u8]) -> Result<Option<Step>, NoMemory>
-    ensures value { IfOk result (λ o. maybe_step o ≡ spec.nowdoc_step bytes.now) }
-    ensures within { IfOk result (λ o. IfSome o (IsWithin (length bytes.now))) }
+    ensures value { Reads result (spec.nowdoc_step bytes.now) }
+    ensures within { ReadsWithin result (length bytes.now) }
 {
     if !begins(bytes, b"<<<'") {
         return Ok(None);

@@ -4,7 +4,7 @@ ghost use Rattle.std.specs.Prelude.{◌≡◌, ◌<◌, ◌≤◌, length, IfOk,
 ghost use Rattle.lexical_grammar.specs.Characters as chars;
 ghost use Rattle.lexical_grammar.specs.Cuts as spec;
 ghost use Rattle.lexical_grammar.specs.Steps.{outside};
-ghost use Rattle.php_lexer.specs.View.{maybe_step, plain_step, IsWithin};
+ghost use Rattle.php_lexer.specs.View.{maybe_step, plain_step, Reads, ReadsWithin, IsWithin};
 
 use crate::classes::{is_gap, is_line_end, lower};
 use crate::scan::{begins, behind, front, newline_length};
@@ -66,8 +66,8 @@ fn php_opener(bytes: &[u8]) -> Option<Step>
 
 // `<?=`, which gives the name echo.
 fn echo_opener(alloc: Global, bytes: &[u8]) -> Result<Option<Step>, NoMemory>
-    ensures value { IfOk result (λ o. maybe_step o ≡ spec.echo_opener bytes.now) }
-    ensures within { IfOk result (λ o. IfSome o (IsWithin (length bytes.now))) }
+    ensures value { Reads result (spec.echo_opener bytes.now) }
+    ensures within { ReadsWithin result (length bytes.now) }
 {
     if !begins(bytes, b"<?=") {
         return Ok(None);
@@ -79,8 +79,8 @@ fn echo_opener(alloc: Global, bytes: &[u8]) -> Result<Option<Step>, NoMemory>
 // An opener.
 #[tactic(auto, unfolding(lexical_grammar::specs::Cuts::opener_step))]
 fn opener_step(alloc: Global, bytes: &[u8]) -> Result<Option<Step>, NoMemory>
-    ensures value { IfOk result (λ o. maybe_step o ≡ spec.opener_step bytes.now) }
-    ensures within { IfOk result (λ o. IfSome o (IsWithin (length bytes.now))) }
+    ensures value { Reads result (spec.opener_step bytes.now) }
+    ensures within { ReadsWithin result (length bytes.now) }
 {
     match echo_opener(alloc, bytes)? {
         Some(step) => Ok(Some(step)),

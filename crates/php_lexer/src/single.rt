@@ -3,7 +3,7 @@
 ghost use Rattle.std.specs.Prelude.{◌≡◌, ◌≤◌, length, IfOk, IfSome};
 ghost use Rattle.lexical_grammar.specs.Texts as spec;
 ghost use Rattle.php_lexer.specs.Rows.{plain_found, text_row, FoundWithin};
-ghost use Rattle.php_lexer.specs.View.{maybe_step, IsWithin};
+ghost use Rattle.php_lexer.specs.View.{Reads, ReadsWithin};
 
 use crate::found::Found;
 use crate::scan::{begins, behind};
@@ -64,8 +64,8 @@ pub fn single_quoted(alloc: Global, bytes: &[u8]) -> Result<Option<(Bytes, usize
 /// A single-quoted text.
 #[tactic(auto, unfolding(lexical_grammar::specs::Texts::single_step))]
 pub fn single_step(alloc: Global, bytes: &[u8]) -> Result<Option<Step>, NoMemory>
-    ensures value { IfOk result (λ o. maybe_step o ≡ spec.single_step bytes.now) }
-    ensures within { IfOk result (λ o. IfSome o (IsWithin (length bytes.now))) }
+    ensures value { Reads result (spec.single_step bytes.now) }
+    ensures within { ReadsWithin result (length bytes.now) }
 {
     if !begins(bytes, b"'") {
         return Ok(None);

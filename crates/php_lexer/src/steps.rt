@@ -2,12 +2,9 @@
 
 ghost use Rattle.std.specs.Prelude.{◌≡◌, ◌<◌, length, IfOk, IfSome};
 ghost use Rattle.lexical_grammar.specs.Cuts as cuts;
-ghost use Rattle.lexical_grammar.specs.Heredocs as heredocs;
-ghost use Rattle.lexical_grammar.specs.Signs as signs;
-ghost use Rattle.lexical_grammar.specs.Words as words;
-ghost use Rattle.lexical_grammar.specs.Steps.{inside, or_else};
+ghost use Rattle.lexical_grammar.specs.Steps.{inside};
 ghost use Rattle.php_lexer.specs.Leads as leads;
-ghost use Rattle.php_lexer.specs.View.{maybe_step, plain_step, mode_of, IsWithin};
+ghost use Rattle.php_lexer.specs.View.{maybe_step, plain_step, mode_of, Reads, ReadsWithin, IsWithin};
 
 use crate::blanks::{block_comment_step, leaving_step, line_comment_step};
 use crate::double::double_step;
@@ -25,7 +22,7 @@ use text_base::NoMemory;
 
 // A comment.
 fn comment_step(bytes: &[u8]) -> Option<Step>
-    ensures value { maybe_step result ≡ or_else (cuts.line_comment_step bytes.now) (cuts.block_comment_step bytes.now) }
+    ensures value { maybe_step result ≡ leads.comment bytes.now }
     ensures within { IfSome result (IsWithin (length bytes.now)) }
 {
     if let Some(step) = line_comment_step(bytes) {
@@ -36,7 +33,7 @@ fn comment_step(bytes: &[u8]) -> Option<Step>
 
 // The tag that leaves PHP, or a sign.
 fn leaving_or_sign(bytes: &[u8]) -> Option<Step>
-    ensures value { maybe_step result ≡ or_else (cuts.leaving_step bytes.now) (signs.sign_step bytes.now) }
+    ensures value { maybe_step result ≡ leads.leaving_or_sign bytes.now }
     ensures within { IfSome result (IsWithin (length bytes.now)) }
 {
     if let Some(step) = leaving_step(bytes) {
@@ -47,8 +44,8 @@ fn leaving_or_sign(bytes: &[u8]) -> Option<Step>
 
 // A heredoc, a nowdoc or a sign.
 fn heredoc_or_sign(alloc: Global, bytes: &[u8]) -> Result<Option<Step>, NoMemory>
-    ensures value { IfOk result (λ o. maybe_step o ≡ or_else (heredocs.heredoc_step bytes.now) (or_else (heredocs.nowdoc_step bytes.now) (signs.sign_step bytes.now))) }
-    ensures within { IfOk result (λ o. IfSome o (IsWithin (length bytes.now))) }
+    ensures value { Reads result (leads.heredoc_or_sign bytes.now) }
+    ensures within { ReadsWithin result (length bytes.now) }
 {
     if let Some(step) = heredoc_step(alloc, bytes)? {
         return Ok(Some(step));
@@ -61,7 +58,7 @@ fn heredoc_or_sign(alloc: Global, bytes: &[u8]) -> Result<Option<Step>, NoMemory
 
 // A cast or a sign.
 fn cast_or_sign(bytes: &[u8]) -> Option<Step>
-    ensures value { maybe_step result ≡ or_else (signs.cast_step bytes.now) (signs.sign_step bytes.now) }
+    ensures value { maybe_step result ≡ leads.cast_or_sign bytes.now }
     ensures within { IfSome result (IsWithin (length bytes.now)) }
 {
     if let Some(step) = cast_step(bytes) {
@@ -72,7 +69,7 @@ fn cast_or_sign(bytes: &[u8]) -> Option<Step>
 
 // A float, which is refused, or a sign.
 fn float_or_sign(bytes: &[u8]) -> Option<Step>
-    ensures value { maybe_step result ≡ or_else (words.number_step bytes.now) (signs.sign_step bytes.now) }
+    ensures value { maybe_step result ≡ leads.float_or_sign bytes.now }
     ensures within { IfSome result (IsWithin (length bytes.now)) }
 {
     if let Some(step) = number_step(bytes) {
@@ -84,8 +81,8 @@ fn float_or_sign(bytes: &[u8]) -> Option<Step>
 // What stands at the head, by what the first byte can begin.
 fn led_step(alloc: Global, lead: Lead, bytes: &[u8]) -> Result<Option<Step>, NoMemory>
     requires { 0 < length bytes.now }
-    ensures value { IfOk result (λ o. maybe_step o ≡ leads.led_step lead bytes.now) }
-    ensures within { IfOk result (λ o. IfSome o (IsWithin (length bytes.now))) }
+    ensures value { Reads result (leads.led_step lead bytes.now) }
+    ensures within { ReadsWithin result (length bytes.now) }
 {
     match lead {
         Lead::Blank => Ok(Some(Step::Goes(None, 1, Mode::Inside))),
@@ -107,8 +104,8 @@ fn led_step(alloc: Global, lead: Lead, bytes: &[u8]) -> Result<Option<Step>, NoM
 // What stands at the head inside PHP, if anything of the lexical grammar does.
 fn lexeme_step(alloc: Global, bytes: &[u8]) -> Result<Option<Step>, NoMemory>
     requires { 0 < length bytes.now }
-    ensures value { IfOk result (λ o. maybe_step o ≡ cuts.lexeme_step bytes.now) }
-    ensures within { IfOk result (λ o. IfSome o (IsWithin (length bytes.now))) }
+    ensures value { Reads result (cuts.lexeme_step bytes.now) }
+    ensures within { ReadsWithin result (length bytes.now) }
 {
     match bytes {
         [] => Ok(None),

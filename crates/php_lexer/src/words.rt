@@ -2,7 +2,7 @@
 
 ghost use Rattle.std.specs.Prelude.{◌≡◌, length, IfOk, IfSome};
 ghost use Rattle.lexical_grammar.specs.Words as spec;
-ghost use Rattle.php_lexer.specs.View.{maybe_step, IsWithin};
+ghost use Rattle.php_lexer.specs.View.{Reads, ReadsWithin};
 
 use crate::scan::{begins, behind, front, name_length};
 use crate::step::{Mode, Step};
@@ -13,8 +13,8 @@ use text_base::{Bytes, NoMemory};
 /// A name.
 #[tactic(auto, unfolding(lexical_grammar::specs::Words::name_step))]
 pub fn name_step(alloc: Global, bytes: &[u8]) -> Result<Option<Step>, NoMemory>
-    ensures value { IfOk result (λ o. maybe_step o ≡ spec.name_step bytes.now) }
-    ensures within { IfOk result (λ o. IfSome o (IsWithin (length bytes.now))) }
+    ensures value { Reads result (spec.name_step bytes.now) }
+    ensures within { ReadsWithin result (length bytes.now) }
 {
     let n = name_length(bytes);
     if n == 0 {
@@ -27,8 +27,8 @@ pub fn name_step(alloc: Global, bytes: &[u8]) -> Result<Option<Step>, NoMemory>
 /// `$` and a name.
 #[tactic(auto, unfolding(lexical_grammar::specs::Words::variable_step))]
 pub fn variable_step(alloc: Global, bytes: &[u8]) -> Result<Option<Step>, NoMemory>
-    ensures value { IfOk result (λ o. maybe_step o ≡ spec.variable_step bytes.now) }
-    ensures within { IfOk result (λ o. IfSome o (IsWithin (length bytes.now))) }
+    ensures value { Reads result (spec.variable_step bytes.now) }
+    ensures within { ReadsWithin result (length bytes.now) }
 {
     let inner = behind(bytes, 1);
     let n = name_length(inner);
