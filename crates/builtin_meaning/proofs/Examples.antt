@@ -1,12 +1,13 @@
 -- The definitions at worked cases of the PHP manual, and at near misses.
-use Rattle.std.proofs.Common.{◌≡◌, pos, negsuc, true, false, List, [], ◌∷◌, Some, None, Ok, Err, refl}
+use Rattle.std.proofs.Common.{◌≡◌, ℕ, pos, negsuc, true, false, List, [], ◌∷◌, ◌++◌, Some, None, Ok, Err, refl}
 use Rattle.std.specs.Prelude.{codes}
 use Rattle.std.specs.Fmt.{digits}
 use Rattle.std.specs.Str.{is_utf8, chars}
 use lib.Utf8.{encode}
 use Rattle.plain_values.specs.Plain.{int_key, text_key, null, flag, int, text, array, empty, pair}
 use Rattle.plain_values.specs.declared.fault.Fault.TheVariants.{WrongType, NotUtf8, NotNumber, ZeroDivisor, Float}
-use Rattle.builtin_meaning.specs.declared.builtin.Builtin.TheVariants.{Htmlspecialchars, StrReplace, Substr, Strtolower, Ucfirst, Trim, Rtrim, Nl2br, Urlencode, Rawurlencode, Addslashes, Explode, Implode, StrRepeat, Strlen, Count, Intval, Intdiv, Strval, IsArray, IsString}
+use Rattle.builtin_meaning.specs.declared.builtin.Builtin.TheVariants.{Htmlspecialchars, StrReplace, Substr, Strtolower, Strtoupper, Ucfirst, Trim, Ltrim, Rtrim, Nl2br, Urlencode, Rawurlencode, Addslashes, Explode, Implode, StrRepeat, Strlen, Count, Intval, Intdiv, Strval, IsArray, IsString}
+use Rattle.builtin_meaning.specs.declared.builtin.Builtin.{Builtin}
 use Rattle.builtin_meaning.specs.Names.{builtin_named}
 use Rattle.builtin_meaning.specs.Values.{builtin_value}
 
@@ -124,3 +125,62 @@ towards_zero = refl
 
 by_zero : builtin_value Intdiv (int (pos 1) ∷ int (pos 0) ∷ []) ≡ Err ZeroDivisor
 by_zero = refl
+
+-- each function under its own name
+abbrev named : List ℕ → Builtin → Type 0
+named name f = builtin_named name ≡ Some f
+
+names : named (codes "htmlspecialchars") Htmlspecialchars × named (codes "str_replace") StrReplace × named (codes "substr") Substr × named (codes "strtolower") Strtolower
+    × named (codes "strtoupper") Strtoupper × named (codes "ucfirst") Ucfirst × named (codes "trim") Trim × named (codes "ltrim") Ltrim × named (codes "rtrim") Rtrim
+    × named (codes "urlencode") Urlencode × named (codes "rawurlencode") Rawurlencode × named (codes "addslashes") Addslashes × named (codes "explode") Explode
+    × named (codes "implode") Implode × named (codes "str_repeat") StrRepeat × named (codes "strlen") Strlen × named (codes "count") Count × named (codes "intval") Intval
+    × named (codes "intdiv") Intdiv × named (codes "strval") Strval × named (codes "is_array") IsArray × named (codes "is_string") IsString
+names = (refl, refl, refl, refl, refl, refl, refl, refl, refl, refl, refl, refl, refl, refl, refl, refl, refl, refl, refl, refl, refl, refl)
+
+-- case of letters
+lower : builtin_value Strtolower (text (codes "aB1") ∷ []) ≡ Ok (text (codes "ab1"))
+lower = refl
+
+upper : builtin_value Strtoupper (text (codes "aB1") ∷ []) ≡ Ok (text (codes "AB1"))
+upper = refl
+
+-- `trim(" a b\n")` and its like; a form feed stays
+both_ends : builtin_value Trim (text (32 ∷ 97 ∷ 32 ∷ 98 ∷ 10 ∷ []) ∷ []) ≡ Ok (text (codes "a b"))
+both_ends = refl
+
+left_end : builtin_value Ltrim (text (codes " a ") ∷ []) ≡ Ok (text (codes "a "))
+left_end = refl
+
+right_end : builtin_value Rtrim (text (codes " a ") ∷ []) ≡ Ok (text (codes " a"))
+right_end = refl
+
+form_feed : builtin_value Trim (text (12 ∷ 97 ∷ []) ∷ []) ≡ Ok (text (12 ∷ 97 ∷ []))
+form_feed = refl
+
+-- `nl2br("a\r\nb\n")`: CR LF is one line end
+breaks : builtin_value Nl2br (text (97 ∷ 13 ∷ 10 ∷ 98 ∷ 10 ∷ []) ∷ []) ≡ Ok (text (97 ∷ codes "<br />" ++ (13 ∷ 10 ∷ 98 ∷ codes "<br />" ++ (10 ∷ []))))
+breaks = refl
+
+-- `addslashes("a'\0")`
+slashes : builtin_value Addslashes (text (97 ∷ 39 ∷ 0 ∷ []) ∷ []) ≡ Ok (text (97 ∷ 92 ∷ 39 ∷ 92 ∷ 48 ∷ []))
+slashes = refl
+
+-- types
+arrays : builtin_value IsArray (array empty ∷ []) ≡ Ok (flag true)
+arrays = refl
+
+no_arrays : builtin_value IsArray (text (codes "a") ∷ []) ≡ Ok (flag false)
+no_arrays = refl
+
+texts : builtin_value IsString (text (codes "a") ∷ []) ≡ Ok (flag true)
+texts = refl
+
+no_texts : builtin_value IsString (int (pos 1) ∷ []) ≡ Ok (flag false)
+no_texts = refl
+
+-- a fault of the third argument, where the others serve
+third_fault : builtin_value StrReplace (text (codes "a") ∷ text (codes "b") ∷ array empty ∷ []) ≡ Err WrongType
+third_fault = refl
+
+third_number : builtin_value Substr (text (codes "abc") ∷ int (pos 0) ∷ text (codes "x") ∷ []) ≡ Err NotNumber
+third_number = refl

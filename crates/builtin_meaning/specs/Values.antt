@@ -13,7 +13,7 @@ use Rattle.string_functions.specs.Copies.{copies_of}
 use Rattle.plain_values.specs.Plain.{Plain, Pairs, int_key, null, flag, int, text, array, empty, pair}
 use Rattle.plain_values.specs.Text.{text_of}
 use Rattle.plain_values.specs.Members.{within_length}
-use Rattle.plain_values.specs.Arithmetic.{number_of, quotient_of}
+use Rattle.plain_values.specs.Arithmetic.{number_of, quotient_of, in_64_bits, integer}
 use Rattle.plain_values.specs.Intval.{integer_of}
 use Rattle.plain_values.specs.Walks.{count_of, is_array, is_text}
 use Rattle.plain_values.specs.Outcome.{go_on}
@@ -73,7 +73,7 @@ repeated s n = go_on (as_text s) (λ t. go_on (number_of n) (copies_at t))
 
 -- `strlen(s)`
 abbrev pub length_of : Plain → Result Plain Fault
-length_of s = go_on (as_text s) (λ t. Ok (int (pos (length t))))
+length_of s = go_on (as_text s) (λ t. integer (in_64_bits (pos (length t))))
 
 -- the value of a function of one argument
 abbrev pub value_of_one : Builtin → Plain → Result Plain Fault

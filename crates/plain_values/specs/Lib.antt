@@ -13,3 +13,4 @@ pub mod Joins
 pub mod Paths
 pub mod Walks
 pub mod Identity
+pub mod Lawful

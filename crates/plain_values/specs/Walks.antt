@@ -1,6 +1,7 @@
 -- The members of an array, counted and one after the other (PHP manual, count and "foreach").
 use Rattle.std.specs.Prelude.{ℕ, zero, suc, pos, length, Bool, true, false, Result, Ok, Err}
 use Rattle.plain_values.specs.Plain.{Plain, PlainKey, Pairs, int_key, text_key, null, flag, int, text, array, empty, pair, keys}
+use Rattle.plain_values.specs.Arithmetic.{in_64_bits, integer}
 use Rattle.plain_values.specs.declared.fault.Fault.{Fault}
 use Rattle.plain_values.specs.declared.fault.Fault.TheVariants.{WrongType}
 
@@ -9,13 +10,13 @@ abbrev pub value_of_key : PlainKey → Plain
 value_of_key (int_key z) = int z
 value_of_key (text_key t) = text t
 
--- `count(v)`, of an array alone
+-- `count(v)`, of an array alone; no array that a run has holds more members than an integer counts
 abbrev pub count_of : Plain → Result Plain Fault
 count_of null = Err WrongType
 count_of (flag b) = Err WrongType
 count_of (int z) = Err WrongType
 count_of (text t) = Err WrongType
-count_of (array ps) = Ok (int (pos (length (keys ps))))
+count_of (array ps) = integer (in_64_bits (pos (length (keys ps))))
 
 -- the pairs that `foreach` walks over, which later writes do not change; none where the value is no array
 abbrev pub walked : Plain → Pairs
