@@ -1,6 +1,6 @@
 //! The first place of a pattern in a text.
 
-ghost use Rattle.std.specs.Prelude.{◌≡◌, ◌≢◌, ◌<◌, [], length, IfSome};
+ghost use Rattle.std.specs.Prelude.{◌≡◌, ◌+◌, ◌<◌, ◌≤◌, length, IfSome};
 ghost use Rattle.text_search.specs.Failure.{AreFailures};
 ghost use Rattle.text_search.specs.Place.{first_place};
 
@@ -11,7 +11,8 @@ use crate::failure::next_part;
 pub fn find(pattern: &[u8], failures: &[usize], text: &[u8]) -> Option<usize>
     requires pattern { 0 < length pattern.now }
     requires failures { AreFailures pattern.now failures.now (length pattern.now) }
-    ensures { result ≡ first_place pattern.now text.now }
+    ensures place { result ≡ first_place pattern.now text.now }
+    ensures within { IfSome result (λ at. at + length pattern.now ≤ length text.now) }
 {
     let mut part: usize = 0;
     for at in 0..text.len() {

@@ -10,8 +10,8 @@ overflow_sub-result c =
     let w = c.loop-at.invariant.within in
     omega (arith, u, w)
 
-pub returns-then-part-pattern : goal.returns-then-part-pattern
-returns-then-part-pattern c =
+pub returns-then-part-pattern-clause-place : goal.returns-then-part-pattern-clause-place
+returns-then-part-pattern-clause-place c =
     let is = subst (λ (k : ℕ). IsNext c.args.pattern.now c.loop-at.part (get_or c.args.text.now c.loop-at.at 0) k) (sym c.next_part-part.ensures) (next_is c.args.pattern.now c.loop-at.part (get_or c.args.text.now c.loop-at.at 0) c.loop-at.invariant.less) in
     found c.args.pattern.now c.args.text.now c.loop-at.at c.loop-at.part c.next_part-part.result c.loop-at-test.true c.loop-at.invariant is c.if-part-pattern.true
 
@@ -20,5 +20,12 @@ loop-at-preserved c =
     let is = subst (λ (k : ℕ). IsNext c.args.pattern.now c.loop-at.part (get_or c.args.text.now c.loop-at.at 0) k) (sym c.next_part-part.ensures) (next_is c.args.pattern.now c.loop-at.part (get_or c.args.text.now c.loop-at.at 0) c.loop-at.invariant.less) in
     reads_more c.args.pattern.now c.args.text.now c.loop-at.at c.loop-at.part c.next_part-part.result c.loop-at-test.true c.loop-at.invariant is c.if-part-pattern.false
 
-pub returns : goal.returns
-returns c = not_found c.args.pattern.now c.args.text.now c.loop-at.at c.loop-at.part c.loop-at-test.false c.loop-at.auto.at-end c.loop-at.invariant
+pub returns-clause-place : goal.returns-clause-place
+returns-clause-place c = not_found c.args.pattern.now c.args.text.now c.loop-at.at c.loop-at.part c.loop-at-test.false c.loop-at.auto.at-end c.loop-at.invariant
+
+pub returns-then-part-pattern-clause-within : goal.returns-then-part-pattern-clause-within
+returns-then-part-pattern-clause-within c =
+    let is = subst (λ (k : ℕ). IsNext c.args.pattern.now c.loop-at.part (get_or c.args.text.now c.loop-at.at 0) k) (sym c.next_part-part.ensures) (next_is c.args.pattern.now c.loop-at.part (get_or c.args.text.now c.loop-at.at 0) c.loop-at.invariant.less) in
+    let u = is.within in
+    let w = c.loop-at.invariant.within in
+    omega (arith, u, w, c.loop-at-test.true, c.if-part-pattern.true)

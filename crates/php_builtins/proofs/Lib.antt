@@ -1,0 +1,4 @@
+pub mod PieceLemmas
+pub mod CopiesLemmas
+pub mod TrimLemmas
+pub mod ListLemmas

@@ -1,0 +1,3 @@
+pub mod BuiltinValue
+pub mod Names
+pub mod Encodings
