@@ -17,13 +17,13 @@ ghost use Rattle.stmt_parser.specs.Outcomes.{acted, seen};
 
 use crate::bodies::{body_step, opened};
 use crate::heads::{behind_word, inline_at, word_at};
-use crate::jumps::{break_step, continue_step, include_step, return_step};
+use crate::jumps::{break_step, continue_step, exit_step, include_step, return_step};
 use crate::reads::{read_condition, read_statement, read_value};
 use crate::rows::listed_step;
 use crate::step::{Step, gone};
 use expr_parser::head::{behind_sign, sign_at, variable_at};
-use script_grammar::keyword::Keyword;
 use php_syntax::token::{Sign, Token};
+use script_grammar::keyword::Keyword;
 use stacks::Stack;
 use std::alloc::Global;
 use stmt_machine::frame::{Focus, Frame, Loop, Row};
@@ -288,6 +288,7 @@ fn word_step<'a>(
         Keyword::Return => return_step(alloc, maker, behind),
         Keyword::Include => include_step(alloc, maker, behind),
         Keyword::Require => include_step(alloc, maker, behind),
+        Keyword::Exit => exit_step(alloc, maker, behind),
         _ => value_step(alloc, maker, Last::Run, rest),
     }
 }

@@ -1,15 +1,16 @@
-//! Statements of a word and a semicolon, `return` and `include`.
+//! Statements of a word and a semicolon, `return`, `include` and `exit`.
 
-ghost use Rattle.std.specs.Prelude.{◌≡◌, List, IfOk};
+ghost use Rattle.std.specs.Prelude.{◌≡◌, true, List, IfOk};
 ghost use Rattle.expr_parser.specs.Heads.{terminals_of};
 ghost use Rattle.stmt_machine.specs.declared.frame.Frame.{Frame};
-ghost use Rattle.stmt_machine.specs.Actions.{break_action, continue_action};
+ghost use Rattle.stmt_machine.specs.Actions.{break_action, continue_action, exit_action};
 ghost use Rattle.stmt_machine.specs.Machine as machine;
 ghost use Rattle.stmt_maker.specs.Views.{made_of};
 ghost use Rattle.stmt_parser.specs.Nexts.{included_next};
 ghost use Rattle.stmt_parser.specs.Outcomes.{acted, seen};
 
 use crate::begins::{Last, value_step};
+use crate::reads::read_argument;
 use crate::step::{Step, gone, jump};
 use expr_parser::head::{behind_sign, text_at};
 use php_syntax::token::{Sign, Token};
@@ -88,5 +89,56 @@ pub(crate) fn include_step<'a>(
             Some(inner) => included_step(alloc, maker, inner),
             None => Ok(Step::Stuck),
         },
+    }
+}
+
+// Behind the bracket of an `exit`.
+fn exit_parens_step<'a>(
+    alloc: Global,
+    maker: &mut Maker,
+    rest: &'a [Token],
+) -> Result<Step<'a>, NoMemory>
+    ensures { IfOk result (λ s. (fs : List Frame) → acted (machine.exit_parens_move fs (terminals_of rest.now)) (made_of maker.old) ≡ seen s fs (made_of maker.new)) }
+{
+    match behind_sign(rest, Sign::CloseParen) {
+        Some(behind) => {
+            let done = maker.quit(false)?;
+            Ok(jump(done, behind))
+        }
+        None => argument_step(alloc, maker, rest),
+    }
+}
+
+// The argument of an `exit`, behind its bracket.
+fn argument_step<'a>(
+    alloc: Global,
+    maker: &mut Maker,
+    rest: &'a [Token],
+) -> Result<Step<'a>, NoMemory>
+    ensures { IfOk result (λ s. (fs : List Frame) → acted (machine.value_move (exit_action true) fs (machine.argument_at (terminals_of rest.now))) (made_of maker.old) ≡ seen s fs (made_of maker.new)) }
+{
+    match read_argument(alloc, maker, rest)? {
+        None => Ok(Step::Stuck),
+        Some(behind) => {
+            let done = maker.quit(true)?;
+            Ok(gone(done, Focus::Behind, behind))
+        }
+    }
+}
+
+/// Behind `exit` or `die`.
+pub(crate) fn exit_step<'a>(
+    alloc: Global,
+    maker: &mut Maker,
+    rest: &'a [Token],
+) -> Result<Step<'a>, NoMemory>
+    ensures { IfOk result (λ s. (fs : List Frame) → acted (machine.exit_move fs (terminals_of rest.now)) (made_of maker.old) ≡ seen s fs (made_of maker.new)) }
+{
+    match behind_sign(rest, Sign::OpenParen) {
+        Some(inner) => exit_parens_step(alloc, maker, inner),
+        None => {
+            let done = maker.quit(false)?;
+            Ok(jump(done, rest))
+        }
     }
 }
