@@ -15,6 +15,7 @@ use Rattle.lexical_grammar.specs.Characters.{largest}
 use Rattle.php_syntax.specs.Tokens.{PlainKind, inline, variable, name, integer, text, template, sign, PlainToken, PlainKey, text_key, int_key, var_key, PlainPart, plain_part, read_part}
 use Rattle.php_syntax.specs.Trees.{PlainExpr, null_expr, flag_expr, int_expr, text_expr, var_expr, super_expr, member_expr, join_expr}
 use Rattle.script_grammar.specs.Terminals.{Terminal, inline_terminal, variable_terminal, word_terminal, name_terminal, int_terminal, text_terminal, template_terminal, sign_terminal, keyword_of, word_or_name, terminal_of, terminals}
+use Rattle.script_grammar.specs.Rules.{request_named}
 use Rattle.script_grammar.specs.Expressions.{constant_of, request_or, variable_tree, key_tree, read_tree, part_tree, part_trees, prefix_tree, operator_tree, Links, no_links, more_links, link_operands, lean_left, flat_join, chain_tree_of}
 use Rattle.token_spelling.specs.Spelled.{IsName}
 use Rattle.php_writer.specs.Spellable.{is_name, is_own_name, is_inline, is_unsigned, is_part_key, is_read, are_parts, expr_spellable, exprs_spellable}

@@ -70,6 +70,7 @@ keyword_is word.Continue = refl
 keyword_is word.Return = refl
 keyword_is word.Include = refl
 keyword_is word.Require = refl
+keyword_is word.Exit = refl
 keyword_is word.Isset = refl
 keyword_is word.Empty = refl
 keyword_is word.Array = refl
