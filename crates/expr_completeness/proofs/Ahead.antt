@@ -6,13 +6,13 @@ use Rattle.php_syntax.specs.declared.token.Sign.TheVariants as sign
 use Rattle.script_grammar.specs.declared.operator.Level.{Level}
 use Rattle.script_grammar.specs.declared.operator.Level.TheVariants as level
 use Rattle.script_grammar.specs.declared.operator.Operator.{Operator}
-use Rattle.script_grammar.specs.Operators.{repeats, binary_operator}
+use Rattle.script_grammar.specs.Operators.{repeats, binary_operator, level_rank}
 use Rattle.script_grammar.specs.Terminals.{Terminal, sign_terminal}
 use Rattle.expr_machine.specs.declared.frame.Focus.TheVariants as focus
 use Rattle.expr_machine.specs.declared.frame.Frame.{Frame}
 use Rattle.expr_machine.specs.declared.frame.Frame.TheVariants as frame
 use Rattle.expr_machine.specs.Actions.{read_action, binary_action}
-use Rattle.expr_machine.specs.Machine.{moves, move, level_rank, looser, wanted_rank, placed_move, of_level, operator_next, chain_move, right_move, question_move}
+use Rattle.expr_machine.specs.Machine.{moves, move, looser, wanted_rank, placed_move, of_level, operator_next, chain_move, right_move, question_move}
 use Rattle.expr_machine.specs.Reading.{sign_rank, rank_next}
 
 -- behind a variable

@@ -1,5 +1,6 @@
 -- What is claimed of each form: from a place where it begins, the machine comes to the place behind it, by the actions of the form.
 use Rattle.std.proofs.Common.{◌≡◌, ℕ, ◌+◌, ◌<◌, ◌≤◌, Bool, true, false, List, ◌∷◌}
+use Rattle.script_grammar.specs.Operators.{level_rank}
 use Rattle.php_syntax.specs.declared.token.Sign.{Sign}
 use Rattle.php_syntax.specs.declared.token.Sign.TheVariants as sign
 use Rattle.script_grammar.specs.declared.operator.Level.{Level}
@@ -12,7 +13,7 @@ use Rattle.expr_machine.specs.declared.frame.Focus.TheVariants as focus
 use Rattle.expr_machine.specs.declared.frame.Frame.{Frame}
 use Rattle.expr_machine.specs.declared.frame.Frame.TheVariants as frame
 use Rattle.expr_machine.specs.Actions.{Action, call_action, isset_action, array_action}
-use Rattle.expr_machine.specs.Machine.{level_rank, looser, wanted_rank, item_actions}
+use Rattle.expr_machine.specs.Machine.{looser, wanted_rank, item_actions}
 use Rattle.expr_machine.specs.Postfix.{keys_count, subscripts_count, exprs_count, items_count, is_flat, expr_actions, target_keys_actions, choice_actions, nul_actions, chain_actions, joined_actions, counted_actions, leaning_actions, operand_actions, unary_actions, post_actions, keys_of_actions, subscripts_actions, more_exprs_actions, more_items_actions, item_form_actions}
 use Rattle.expr_machine.specs.Reading.{rank_next}
 use Rattle.expr_completeness.proofs.Goes.{Goes}

@@ -5,7 +5,7 @@ use Rattle.php_syntax.specs.declared.token.Sign.TheVariants as sign
 use Rattle.script_grammar.specs.declared.operator.Level.{Level}
 use Rattle.script_grammar.specs.declared.operator.Level.TheVariants as level
 use Rattle.script_grammar.specs.declared.operator.Operator.{Operator}
-use Rattle.script_grammar.specs.Operators.{tighter_level, repeats, binary_operator}
+use Rattle.script_grammar.specs.Operators.{tighter_level, repeats, binary_operator, level_rank}
 use Rattle.script_grammar.specs.Terminals.{Terminal, sign_terminal}
 use Rattle.script_grammar.specs.Expressions.{MoreExprsForm, no_more_exprs, one_more_expr, more_exprs_terminals, MoreForm, no_more, once_more, one_more, more_terminals, expr_terminals, operand_terminals}
 use Rattle.expr_machine.specs.declared.frame.Focus.{Focus}
@@ -13,7 +13,7 @@ use Rattle.expr_machine.specs.declared.frame.Focus.TheVariants as focus
 use Rattle.expr_machine.specs.declared.frame.Frame.{Frame}
 use Rattle.expr_machine.specs.declared.frame.Frame.TheVariants as frame
 use Rattle.expr_machine.specs.Actions.{binary_action, join_action}
-use Rattle.expr_machine.specs.Machine.{moves, move, level_rank, looser, wanted_rank, begun_frame, chain_move, join_move}
+use Rattle.expr_machine.specs.Machine.{moves, move, looser, wanted_rank, begun_frame, chain_move, join_move}
 use Rattle.expr_machine.specs.Postfix.{is_flat}
 use Rattle.expr_machine.specs.Reading.{rank_next}
 use Rattle.expr_completeness.proofs.Ahead.{operator_none, operator_some, operator_rank, level_begins, right_ends}

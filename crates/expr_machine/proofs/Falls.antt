@@ -12,7 +12,7 @@ use Rattle.script_grammar.specs.declared.operator.Operator.{Operator}
 use Rattle.script_grammar.specs.declared.operator.Prefix.{Prefix}
 use Rattle.php_syntax.specs.declared.tree.UpdateSign.{UpdateSign}
 use Rattle.php_syntax.specs.Trees.{PlainExpr}
-use Rattle.script_grammar.specs.Operators.{repeats, prefix_operator, update_sign, step_sign}
+use Rattle.script_grammar.specs.Operators.{repeats, prefix_operator, update_sign, step_sign, level_rank}
 use Rattle.script_grammar.specs.Terminals.{Terminal, variable_terminal, word_terminal, name_terminal, int_terminal, text_terminal, template_terminal, sign_terminal, inline_terminal}
 use Rattle.script_grammar.specs.Expressions.{constant_of}
 use Rattle.expr_machine.specs.declared.frame.Brackets.{Brackets}
@@ -21,7 +21,7 @@ use Rattle.expr_machine.specs.declared.frame.Focus.{Focus}
 use Rattle.expr_machine.specs.declared.frame.Focus.TheVariants as focus
 use Rattle.expr_machine.specs.declared.frame.Frame.{Frame}
 use Rattle.expr_machine.specs.declared.frame.Frame.TheVariants as frame
-use Rattle.expr_machine.specs.Machine.{Move, moves, finished, stuck, level_rank, looser, wanted_rank, closed_next, behind, array_move, keyword_move, word_move, call_move, step_move, bracket_move, sign_move, begin_move, operand_move, key_move, updated_move, placed_move, place_move, subscripted_move, unary_move, operator_next, chain_move, join_move, right_move, level_move}
+use Rattle.expr_machine.specs.Machine.{Move, moves, finished, stuck, looser, wanted_rank, closed_next, behind, array_move, keyword_move, word_move, call_move, step_move, bracket_move, sign_move, begin_move, operand_move, key_move, updated_move, placed_move, place_move, subscripted_move, unary_move, operator_next, chain_move, join_move, right_move, level_move}
 use Rattle.expr_machine.specs.Reading.{weight}
 
 -- a move leads to a weight below w, and leaves no more than m terminals; where it ends, it leaves the n that there are

@@ -12,6 +12,7 @@ use Rattle.script_grammar.specs.declared.operator.Prefix.{Prefix}
 use Rattle.php_syntax.specs.declared.tree.UpdateSign.{UpdateSign}
 use Rattle.php_syntax.specs.Trees.{PlainExpr, int_expr, text_expr}
 use Rattle.script_grammar.specs.Operators.{repeats, binary_operator, prefix_operator, update_sign, step_sign}
+pub use Rattle.script_grammar.specs.Operators.{level_rank}
 use Rattle.script_grammar.specs.Terminals.{Terminal, variable_terminal, word_terminal, name_terminal, int_terminal, text_terminal, template_terminal, sign_terminal, same_bytes}
 use Rattle.script_grammar.specs.Expressions.{constant_of, is_escape}
 use Rattle.expr_machine.specs.declared.frame.Brackets.{Brackets}
@@ -28,16 +29,6 @@ pub data Move : Type 0 where
   moves : Focus → List Frame → List Terminal → List Action → Move
   finished : Move
   stuck : Move
-
--- the levels of operators by number, the tightest first
-abbrev pub level_rank : Level → ℕ
-level_rank level.Product = 1
-level_rank level.Sum = 2
-level_rank level.Join = 3
-level_rank level.Order = 4
-level_rank level.Equality = 5
-level_rank level.And = 6
-level_rank level.Or = 7
 
 -- where a whole chain of a level leads: it is an operand of the next looser level
 abbrev pub looser : Level → Focus

@@ -4,13 +4,13 @@ use Rattle.php_syntax.specs.declared.token.Sign.{Sign}
 use Rattle.php_syntax.specs.declared.token.Sign.TheVariants as sign
 use Rattle.script_grammar.specs.declared.operator.Level.{Level}
 use Rattle.script_grammar.specs.declared.operator.Operator.{Operator}
-use Rattle.script_grammar.specs.Operators.{binary_operator}
+use Rattle.script_grammar.specs.Operators.{binary_operator, level_rank}
 use Rattle.script_grammar.specs.Terminals.{Terminal, sign_terminal}
 use Rattle.expr_machine.specs.declared.frame.Focus.{Focus}
 use Rattle.expr_machine.specs.declared.frame.Focus.TheVariants as focus
 use Rattle.expr_machine.specs.declared.frame.Frame.{Frame}
 use Rattle.expr_machine.specs.Actions.{Action}
-use Rattle.expr_machine.specs.Machine.{Move, moves, finished, stuck, move, level_rank}
+use Rattle.expr_machine.specs.Machine.{Move, moves, finished, stuck, move}
 use Rattle.expr_machine.specs.Values.{PlainValue, execute}
 
 -- how loosely a sign goes on with what stands before it: 0 is a subscript, a step or an assignment, 1 to 7 an operator of that level, 8 is `??`,

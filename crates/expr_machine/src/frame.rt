@@ -1,7 +1,7 @@
 //! Where the machine is in an expression, and what it has begun.
 
-use script_grammar::operator::{Level, Operator, Prefix};
 use php_syntax::tree::UpdateSign;
+use script_grammar::operator::{Level, Operator, Prefix};
 use text_base::Bytes;
 
 /// The brackets round the items of an array.

@@ -14,7 +14,7 @@ use Rattle.expr_machine.specs.declared.frame.Frame.{Frame}
 use Rattle.expr_machine.specs.declared.frame.Frame.TheVariants as frame
 use Rattle.expr_machine.specs.Actions.{prefix_action, binary_action, coalesce_action, short_choice_action, full_choice_action}
 use Rattle.expr_machine.specs.Machine.{moves, stuck, looser, wanted_rank, unary_move, right_move, join_move, operator_next, choice_move, question_move, level_move, chain_move, level_rank}
-use Rattle.expr_parser.specs.declared.stack.Waiting.TheVariants as waiting
+use Rattle.expr_parser.specs.declared.reader.Waiting.TheVariants as waiting
 use Rattle.expr_parser.specs.Frames.{waiting_of, rank_of, behind_top}
 
 pub rank_is : (fs : List Frame) → wanted_rank fs ≡ rank_of (waiting_of fs)

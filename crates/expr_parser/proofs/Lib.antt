@@ -1,11 +1,8 @@
-pub mod ActedLemmas
-pub mod RowLemmas
-pub mod NodeLemmas
 pub mod FrameLemmas
 pub mod NextLemmas
 pub mod ReaderLemmas
-pub mod TemplateLemmas
-pub mod CountedLemmas
-pub mod PassedLemmas
 pub mod ItemLemmas
 pub mod PlaceLemmas
+pub mod MovedLemmas
+pub mod HeadLemmas
+pub mod ClimbLemmas

@@ -3,8 +3,8 @@ use Rattle.std.specs.Prelude.{ℕ, List, [], ◌∷◌}
 use Rattle.expr_machine.specs.declared.frame.Frame.{Frame}
 use Rattle.expr_machine.specs.declared.frame.Frame.TheVariants as frame
 use Rattle.expr_machine.specs.Machine.{level_rank}
-use Rattle.expr_parser.specs.declared.stack.Waiting.{Waiting}
-use Rattle.expr_parser.specs.declared.stack.Waiting.TheVariants as waiting
+use Rattle.expr_parser.specs.declared.reader.Waiting.{Waiting}
+use Rattle.expr_parser.specs.declared.reader.Waiting.TheVariants as waiting
 
 abbrev pub waiting_for : Frame → Waiting
 waiting_for (frame.Prefix p) = waiting.Prefix p

@@ -1,5 +1,5 @@
 pub mod Heads
-pub mod Outcomes
-pub mod Views
-pub mod Rows
 pub mod Frames
+pub mod Outcomes
+pub mod Places
+pub mod Leads

@@ -1,89 +1,69 @@
 //! The moves behind chains of `||` and of `??`.
 
-ghost use Rattle.std.specs.Prelude.{◌≡◌, List, IfOk};
 ghost use Rattle.expr_machine.specs.Machine as machine;
-ghost use Rattle.expr_machine.specs.Values.{PlainValue};
 ghost use Rattle.expr_parser.specs.Heads.{terminals_of};
-ghost use Rattle.expr_parser.specs.Views.{plain_values};
-ghost use Rattle.expr_parser.specs.Outcomes.{acted, seen};
+ghost use Rattle.expr_parser.specs.Outcomes.{Moves};
 
 use crate::head::behind_sign;
-use crate::stack::{Stack, Waiting};
-use crate::step::{Step, go_if};
-use crate::values::Values;
+use crate::reader::{Reader, Waiting};
+use crate::step::Step;
 use expr_machine::frame::{Focus, Frame};
+use expr_values::action::{Action, Actions};
 use php_syntax::token::{Sign, Token};
-use std::alloc::Global;
 use text_base::NoMemory;
 
-/// Behind a chain of `||`.
-pub(crate) fn coalesce_move<'a>(frames: &mut Stack, rest: &'a [Token]) -> Result<Step<'a>, NoMemory>
-    ensures { IfOk result (λ s. (vs : List PlainValue) → acted (machine.coalesce_move frames.old (terminals_of rest.now)) vs ≡ seen s frames.new vs) }
-{
-    if let Some(behind) = behind_sign(rest, Sign::Coalesce) {
-        frames.push(Frame::Coalesce)?;
-        return Ok(Step::Go(Focus::Begin, behind));
+impl Reader {
+    /// Behind a chain of `||`.
+    pub(crate) fn coalesce<'a>(&mut self, rest: &'a [Token]) -> Result<Step<'a>, NoMemory>
+        ensures { Moves result self.new (machine.coalesce_move self.old (terminals_of rest.now)) }
+    {
+        match behind_sign(rest, Sign::Coalesce) {
+            Some(behind) => self.open(Frame::Coalesce, behind),
+            None => Ok(Step::Go(Focus::Coalesced, rest, Actions::Nothing)),
+        }
     }
-    Ok(Step::Go(Focus::Coalesced, rest))
-}
 
-// Behind a condition.
-fn question_move<'a>(frames: &mut Stack, rest: &'a [Token]) -> Result<Step<'a>, NoMemory>
-    ensures { IfOk result (λ s. (vs : List PlainValue) → acted (machine.question_move frames.old (terminals_of rest.now)) vs ≡ seen s frames.new vs) }
-{
-    match behind_sign(rest, Sign::Question) {
-        None => Ok(Step::Go(Focus::Whole, rest)),
-        Some(behind) => match behind_sign(behind, Sign::Colon) {
-            Some(last) => {
-                frames.push(Frame::ShortChoice)?;
-                Ok(Step::Go(Focus::Begin, last))
+    // Behind a condition.
+    fn question<'a>(&mut self, rest: &'a [Token]) -> Result<Step<'a>, NoMemory>
+        ensures { Moves result self.new (machine.question_move self.old (terminals_of rest.now)) }
+    {
+        match behind_sign(rest, Sign::Question) {
+            None => Ok(Step::Go(Focus::Whole, rest, Actions::Nothing)),
+            Some(behind) => match behind_sign(behind, Sign::Colon) {
+                Some(last) => self.open(Frame::ShortChoice, last),
+                None => self.open(Frame::Middle, behind),
+            },
+        }
+    }
+
+    /// Behind a chain of `??`.
+    pub(crate) fn choice<'a>(&mut self, rest: &'a [Token]) -> Result<Step<'a>, NoMemory>
+        ensures { Moves result self.new (machine.choice_move self.old (terminals_of rest.now)) }
+    {
+        match self.waiting() {
+            Waiting::Coalesce => {
+                self.drop_top();
+                Ok(Step::Go(Focus::Coalesced, rest, Actions::One(Action::Coalesce)))
             }
-            None => {
-                frames.push(Frame::Middle)?;
-                Ok(Step::Go(Focus::Begin, behind))
+            Waiting::ShortChoice => {
+                self.drop_top();
+                Ok(Step::Go(Focus::Whole, rest, Actions::One(Action::ShortChoice)))
             }
-        },
+            Waiting::FullChoice => {
+                self.drop_top();
+                Ok(Step::Go(Focus::Whole, rest, Actions::One(Action::FullChoice)))
+            }
+            _ => self.question(rest),
+        }
     }
-}
 
-/// Behind a chain of `??`.
-pub(crate) fn choice_move<'a>(
-    alloc: Global,
-    frames: &mut Stack,
-    values: &mut Values,
-    rest: &'a [Token],
-) -> Result<Step<'a>, NoMemory>
-    ensures { IfOk result (λ s. acted (machine.choice_move frames.old (terminals_of rest.now)) (plain_values values.old) ≡ seen s frames.new (plain_values values.new)) }
-{
-    match frames.waiting() {
-        Waiting::Coalesce => {
-            frames.drop_top();
-            let fine = values.coalesce(alloc)?;
-            Ok(go_if(fine, Focus::Coalesced, rest))
-        }
-        Waiting::ShortChoice => {
-            frames.drop_top();
-            let fine = values.short_choice(alloc)?;
-            Ok(go_if(fine, Focus::Whole, rest))
-        }
-        Waiting::FullChoice => {
-            frames.drop_top();
-            let fine = values.full_choice(alloc)?;
-            Ok(go_if(fine, Focus::Whole, rest))
-        }
-        _ => question_move(frames, rest),
-    }
-}
-
-/// Behind the value where a condition is true.
-pub(crate) fn middle_move<'a>(frames: &mut Stack, rest: &'a [Token]) -> Result<Step<'a>, NoMemory>
-    ensures { IfOk result (λ s. (vs : List PlainValue) → acted (machine.middle_move frames.old (terminals_of rest.now)) vs ≡ seen s frames.new vs) }
-{
-    match behind_sign(rest, Sign::Colon) {
-        None => Ok(Step::Stuck),
-        Some(behind) => {
-            frames.push(Frame::FullChoice)?;
-            Ok(Step::Go(Focus::Begin, behind))
+    /// Behind the value where a condition is true.
+    pub(crate) fn middle<'a>(&mut self, rest: &'a [Token]) -> Result<Step<'a>, NoMemory>
+        ensures { Moves result self.new (machine.middle_move self.old (terminals_of rest.now)) }
+    {
+        match behind_sign(rest, Sign::Colon) {
+            None => Ok(Step::Stuck(rest)),
+            Some(behind) => self.open(Frame::FullChoice, behind),
         }
     }
 }

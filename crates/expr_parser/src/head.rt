@@ -8,8 +8,8 @@ ghost use Rattle.expr_machine.specs.Machine as machine;
 ghost use Rattle.php_syntax.specs.declared.token.TokenKind.TheVariants as token;
 ghost use Rattle.expr_parser.specs.Heads.{terminals_of, terminal_at};
 
-use script_grammar::keyword::{Keyword, keyword_named};
 use php_syntax::token::{Part, Sign, Token, TokenKind};
+use script_grammar::keyword::{Keyword, keyword_named};
 use text_base::Bytes;
 
 /// What a token is to the grammar.
@@ -71,32 +71,86 @@ pub fn head_at<'a>(rest: &'a [Token]) -> Option<(Head<'a>, &'a [Token])>
     }
 }
 
+/// The kind of the first token, and the tokens behind it. It asks for no keyword.
+#[tactic(auto, unfolding(crate::specs::Heads::terminals_of))]
+pub fn kind_at<'a>(rest: &'a [Token]) -> Option<(&'a TokenKind, &'a [Token])>
+    ensures { MatchOption result
+        (terminals_of rest.now ≡ [])
+        (λ found. terminals_of rest.now
+        ≡ terminal_of (plain_kind found.0.now) ∷ terminals_of found.1.now) }
+{
+    match rest {
+        [] => None,
+        [token, behind @ ..] => Some((&token.kind, behind)),
+    }
+}
+
+/// The sign that a token is, if it is one.
+pub fn sign_of(kind: &TokenKind) -> Option<Sign>
+    ensures { MatchOption result
+        ((s : signs.Sign) → terminal_of (plain_kind kind.now) ≢ sign_terminal s)
+        (λ sign. terminal_of (plain_kind kind.now) ≡ sign_terminal sign) }
+{
+    match kind {
+        TokenKind::Sign(sign) => Some(*sign),
+        _ => None,
+    }
+}
+
+// The text that a token is, if it is one.
+fn text_of(kind: &TokenKind) -> Option<&Bytes>
+    ensures { MatchOption result
+        ((t : List ℕ) → terminal_of (plain_kind kind.now) ≢ text_terminal t)
+        (λ text. terminal_of (plain_kind kind.now) ≡ text_terminal text.now) }
+{
+    match kind {
+        TokenKind::Str(text) => Some(text),
+        _ => None,
+    }
+}
+
+// The variable that a token is, if it is one.
+fn variable_of(kind: &TokenKind) -> Option<&Bytes>
+    ensures { MatchOption result
+        ((x : List ℕ) → terminal_of (plain_kind kind.now) ≢ variable_terminal x)
+        (λ name. terminal_of (plain_kind kind.now) ≡ variable_terminal name.now) }
+{
+    match kind {
+        TokenKind::Var(name) => Some(name),
+        _ => None,
+    }
+}
+
+/// The sign that stands first, and the tokens behind it.
+#[tactic(auto, unfolding(crate::specs::Heads::terminals_of))]
+pub fn sign_at<'a>(rest: &'a [Token]) -> Option<(Sign, &'a [Token])>
+    ensures { MatchOption result
+        ((s : signs.Sign) (r : List Terminal) → terminals_of rest.now ≢ sign_terminal s ∷ r)
+        (λ found. terminals_of rest.now ≡ sign_terminal found.0 ∷ terminals_of found.1.now) }
+{
+    match rest {
+        [] => None,
+        [token, behind @ ..] => match sign_of(&token.kind) {
+            None => None,
+            Some(sign) => Some((sign, behind)),
+        },
+    }
+}
+
 /// The tokens behind this sign, if it stands first.
 pub fn behind_sign<'a>(rest: &'a [Token], sign: Sign) -> Option<&'a [Token]>
     ensures { MatchOption result
         ((r : List Terminal) → terminals_of rest.now ≢ sign_terminal sign ∷ r)
         (λ behind. terminals_of rest.now ≡ sign_terminal sign ∷ terminals_of behind.now) }
 {
-    match head_at(rest) {
-        Some((Head::Sign(found), behind)) => {
+    match sign_at(rest) {
+        None => None,
+        Some((found, behind)) => {
             if found == sign {
                 return Some(behind);
             }
             None
         }
-        _ => None,
-    }
-}
-
-/// The sign that stands first, and the tokens behind it.
-pub fn sign_at<'a>(rest: &'a [Token]) -> Option<(Sign, &'a [Token])>
-    ensures { MatchOption result
-        ((s : signs.Sign) (r : List Terminal) → terminals_of rest.now ≢ sign_terminal s ∷ r)
-        (λ found. terminals_of rest.now ≡ sign_terminal found.0 ∷ terminals_of found.1.now) }
-{
-    match head_at(rest) {
-        Some((Head::Sign(sign), behind)) => Some((sign, behind)),
-        _ => None,
     }
 }
 
@@ -113,35 +167,44 @@ pub fn name_at<'a>(rest: &'a [Token]) -> Option<(&'a Bytes, &'a [Token])>
 }
 
 /// The text that stands first, and the tokens behind it.
+#[tactic(auto, unfolding(crate::specs::Heads::terminals_of))]
 pub fn text_at<'a>(rest: &'a [Token]) -> Option<(&'a Bytes, &'a [Token])>
     ensures { MatchOption result
         ((t : List ℕ) (r : List Terminal) → terminals_of rest.now ≢ text_terminal t ∷ r)
         (λ found. terminals_of rest.now ≡ text_terminal found.0.now ∷ terminals_of found.1.now) }
 {
-    match head_at(rest) {
-        Some((Head::Text(text), behind)) => Some((text, behind)),
-        _ => None,
+    match rest {
+        [] => None,
+        [token, behind @ ..] => match text_of(&token.kind) {
+            None => None,
+            Some(text) => Some((text, behind)),
+        },
     }
 }
 
 /// The variable that stands first, and the tokens behind it.
+#[tactic(auto, unfolding(crate::specs::Heads::terminals_of))]
 pub fn variable_at<'a>(rest: &'a [Token]) -> Option<(&'a Bytes, &'a [Token])>
     ensures { MatchOption result
         ((x : List ℕ) (r : List Terminal) → terminals_of rest.now ≢ variable_terminal x ∷ r)
         (λ found. terminals_of rest.now ≡ variable_terminal found.0.now ∷ terminals_of found.1.now) }
 {
-    match head_at(rest) {
-        Some((Head::Var(name), behind)) => Some((name, behind)),
-        _ => None,
+    match rest {
+        [] => None,
+        [token, behind @ ..] => match variable_of(&token.kind) {
+            None => None,
+            Some(name) => Some((name, behind)),
+        },
     }
 }
 
 /// The tokens behind the first one.
+#[tactic(auto, unfolding(crate::specs::Heads::terminals_of))]
 pub(crate) fn behind_first(rest: &[Token]) -> &[Token]
     ensures { terminals_of result.now ≡ machine.behind (terminals_of rest.now) }
 {
-    match head_at(rest) {
-        None => rest,
-        Some((_, behind)) => behind,
+    match rest {
+        [] => rest,
+        [_, behind @ ..] => behind,
     }
 }

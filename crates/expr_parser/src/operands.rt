@@ -1,59 +1,23 @@
 //! The moves behind operands.
 
-ghost use Rattle.std.specs.Prelude.{◌≡◌, ◌∷◌, ◌+◌, ℕ, List, IfOk, if◌then◌else◌};
+ghost use Rattle.std.specs.Prelude.{◌≡◌, if◌then◌else◌};
 ghost use Rattle.script_grammar.specs.Operators as operator;
 ghost use Rattle.expr_machine.specs.declared.frame.Focus.TheVariants as focus;
 ghost use Rattle.expr_machine.specs.Machine as machine;
-ghost use Rattle.expr_machine.specs.Values.{PlainValue};
 ghost use Rattle.expr_parser.specs.Heads.{terminals_of};
-ghost use Rattle.expr_parser.specs.Views.{plain_values};
-ghost use Rattle.expr_parser.specs.Outcomes.{acted, seen};
+ghost use Rattle.expr_parser.specs.Outcomes.{Moves};
 
 use crate::head::{behind_first, behind_sign, sign_at};
-use crate::stack::{Stack, Waiting, level_rank};
-use crate::step::{Step, go_if, one_more};
-use crate::values::Values;
+use crate::reader::{Reader, Waiting};
+use crate::step::{Step, one_more};
 use expr_machine::frame::{Focus, Frame};
-use script_grammar::operator::{Level, Operator, binary_of, is_repeating};
+use expr_values::action::{Action, Actions};
 use php_syntax::token::{Sign, Token};
-use std::alloc::Global;
+use script_grammar::operator::{Level, Operator, binary_of, is_repeating, level_rank};
 use text_base::NoMemory;
 
-/// Behind a value that subscripts may follow.
-pub(crate) fn subscripted_move<'a>(
-    frames: &mut Stack,
-    rest: &'a [Token],
-) -> Result<Step<'a>, NoMemory>
-    ensures { IfOk result (λ s. (vs : List PlainValue) → acted (machine.subscripted_move frames.old (terminals_of rest.now)) vs ≡ seen s frames.new vs) }
-{
-    if let Some(behind) = behind_sign(rest, Sign::OpenBracket) {
-        frames.push(Frame::Subscript)?;
-        return Ok(Step::Go(Focus::Begin, behind));
-    }
-    Ok(Step::Go(Focus::Unary, rest))
-}
-
-/// Behind a unary operand.
-pub(crate) fn unary_move<'a>(
-    alloc: Global,
-    frames: &mut Stack,
-    values: &mut Values,
-    rest: &'a [Token],
-) -> Result<Step<'a>, NoMemory>
-    ensures { IfOk result (λ s. acted (machine.unary_move frames.old (terminals_of rest.now)) (plain_values values.old) ≡ seen s frames.new (plain_values values.new)) }
-{
-    match frames.waiting() {
-        Waiting::Prefix(prefix) => {
-            frames.drop_top();
-            let fine = values.prefix(alloc, prefix)?;
-            Ok(go_if(fine, Focus::Unary, rest))
-        }
-        _ => Ok(Step::Go(Focus::Operand(Level::Product), rest)),
-    }
-}
-
 // The operator of a level, if one stands next.
-fn operator_next(level: Level, rest: &[Token]) -> Option<Operator>
+pub(crate) fn operator_next(level: Level, rest: &[Token]) -> Option<Operator>
     ensures { result ≡ machine.operator_next level (terminals_of rest.now) }
 {
     match sign_at(rest) {
@@ -78,7 +42,7 @@ fn operator_of(level: Level, sign: Sign) -> Option<Operator>
 }
 
 // Where a whole chain of a level leads.
-fn looser(level: Level) -> Focus
+pub(crate) fn looser(level: Level) -> Focus
     ensures { result ≡ machine.looser level }
 {
     match level {
@@ -107,51 +71,10 @@ fn begun_frame(level: Level, operator: Operator) -> Frame
     }
 }
 
-// Behind an operand that begins a chain of its level, or goes on with one that leans left.
-fn chain_move<'a>(
-    operator: Option<Operator>,
-    level: Level,
-    frames: &mut Stack,
-    rest: &'a [Token],
-) -> Result<Step<'a>, NoMemory>
-    ensures { IfOk result (λ s. (vs : List PlainValue) → acted (machine.chain_move operator level frames.old (terminals_of rest.now)) vs ≡ seen s frames.new vs) }
-{
-    match operator {
-        Some(operator) => {
-            frames.push(begun_frame(level, operator))?;
-            Ok(Step::Go(Focus::Begin, behind_first(rest)))
-        }
-        None => Ok(Step::Go(looser(level), rest)),
-    }
-}
-
-// Behind the last operand so far of a chain of `.`.
-fn join_move<'a>(
-    alloc: Global,
-    operator: Option<Operator>,
-    count: usize,
-    frames: &mut Stack,
-    values: &mut Values,
-    rest: &'a [Token],
-) -> Result<Step<'a>, NoMemory>
-    ensures { IfOk result (λ s. acted (machine.join_move operator count frames.old (terminals_of rest.now)) (plain_values values.old) ≡ seen s frames.new (plain_values values.new)) }
-{
-    let more = one_more(count)?;
-    match operator {
-        Some(_) => {
-            frames.push(Frame::Join(more))?;
-            Ok(Step::Go(Focus::Begin, behind_first(rest)))
-        }
-        None => {
-            let fine = values.join(alloc, more)?;
-            Ok(go_if(fine, looser(Level::Join), rest))
-        }
-    }
-}
-
 // Where the right operand of an operator of a level leads.
 fn behind_right(level: Level) -> Focus
-    ensures { result ≡ (if operator.repeats level then focus.Operand level else machine.looser level) }
+    ensures { result ≡ (if operator.repeats level then focus.Operand level else machine.looser
+        level) }
 {
     if is_repeating(level) {
         return Focus::Operand(level);
@@ -159,44 +82,98 @@ fn behind_right(level: Level) -> Focus
     looser(level)
 }
 
-// Behind the right operand of an operator.
-fn right_move<'a>(
-    alloc: Global,
-    level: Level,
-    frames: &mut Stack,
-    values: &mut Values,
-    rest: &'a [Token],
-) -> Result<Step<'a>, NoMemory>
-    ensures { IfOk result (λ s. acted (machine.right_move level frames.old (terminals_of rest.now)) (plain_values values.old) ≡ seen s frames.new (plain_values values.new)) }
-{
-    match frames.waiting() {
-        Waiting::Operator(before, operator) => {
-            frames.drop_top();
-            let fine = values.binary(alloc, operator)?;
-            Ok(go_if(fine, behind_right(before), rest))
+impl Reader {
+    /// Behind a value that subscripts may follow.
+    pub(crate) fn subscripted<'a>(&mut self, rest: &'a [Token]) -> Result<Step<'a>, NoMemory>
+        ensures { Moves result self.new
+            (machine.subscripted_move self.old (terminals_of rest.now)) }
+    {
+        match behind_sign(rest, Sign::OpenBracket) {
+            Some(behind) => self.open(Frame::Subscript, behind),
+            None => Ok(Step::Go(Focus::Unary, rest, Actions::Nothing)),
         }
-        Waiting::Join(count) => {
-            frames.drop_top();
-            let operator = operator_next(Level::Join, rest);
-            join_move(alloc, operator, count, frames, values, rest)
-        }
-        _ => Ok(Step::Stuck),
     }
-}
 
-/// Behind an operand of a level.
-pub(crate) fn level_move<'a>(
-    alloc: Global,
-    level: Level,
-    frames: &mut Stack,
-    values: &mut Values,
-    rest: &'a [Token],
-) -> Result<Step<'a>, NoMemory>
-    ensures { IfOk result (λ s. acted (machine.level_move level frames.old (terminals_of rest.now)) (plain_values values.old) ≡ seen s frames.new (plain_values values.new)) }
-{
-    if frames.wanted_rank() == level_rank(level) {
-        return right_move(alloc, level, frames, values, rest);
+    /// Behind a unary operand.
+    pub(crate) fn unary<'a>(&mut self, rest: &'a [Token]) -> Result<Step<'a>, NoMemory>
+        ensures { Moves result self.new (machine.unary_move self.old (terminals_of rest.now)) }
+    {
+        match self.waiting() {
+            Waiting::Prefix(prefix) => {
+                self.drop_top();
+                Ok(Step::Go(Focus::Unary, rest, Actions::One(Action::Prefix(prefix))))
+            }
+            _ => Ok(Step::Go(Focus::Operand(Level::Product), rest, Actions::Nothing)),
+        }
     }
-    let operator = operator_next(level, rest);
-    chain_move(operator, level, frames, rest)
+
+    // Behind an operand that begins a chain of its level, or goes on with one that leans left.
+    fn chain<'a>(
+        &mut self,
+        operator: Option<Operator>,
+        level: Level,
+        rest: &'a [Token],
+    ) -> Result<Step<'a>, NoMemory>
+        ensures { Moves result self.new
+            (machine.chain_move operator level self.old (terminals_of rest.now)) }
+    {
+        match operator {
+            Some(operator) => self.open(begun_frame(level, operator), behind_first(rest)),
+            None => Ok(Step::Go(looser(level), rest, Actions::Nothing)),
+        }
+    }
+
+    // Behind the last operand so far of a chain of `.`.
+    fn join<'a>(
+        &mut self,
+        operator: Option<Operator>,
+        count: usize,
+        rest: &'a [Token],
+    ) -> Result<Step<'a>, NoMemory>
+        ensures { Moves result self.new
+            (machine.join_move operator count self.old (terminals_of rest.now)) }
+    {
+        let count = one_more(count)?;
+        match operator {
+            Some(_) => self.open(Frame::Join(count), behind_first(rest)),
+            None => Ok(Step::Go(looser(Level::Join), rest, Actions::One(Action::Join(count)))),
+        }
+    }
+
+    // Behind the right operand of an operator.
+    fn right<'a>(&mut self, level: Level, rest: &'a [Token]) -> Result<Step<'a>, NoMemory>
+        ensures { Moves result self.new
+            (machine.right_move level self.old (terminals_of rest.now)) }
+    {
+        match self.waiting() {
+            Waiting::Operator(before, operator) => {
+                self.drop_top();
+                Ok(Step::Go(
+                    behind_right(before),
+                    rest,
+                    Actions::One(Action::Binary(operator)),
+                ))
+            }
+            Waiting::Join(count) => {
+                self.drop_top();
+                self.join(operator_next(Level::Join, rest), count, rest)
+            }
+            _ => Ok(Step::Stuck(rest)),
+        }
+    }
+
+    /// Behind an operand of a level.
+    pub(crate) fn level<'a>(
+        &mut self,
+        level: Level,
+        rest: &'a [Token],
+    ) -> Result<Step<'a>, NoMemory>
+        ensures { Moves result self.new
+            (machine.level_move level self.old (terminals_of rest.now)) }
+    {
+        if self.wanted_rank() == level_rank(level) {
+            return self.right(level, rest);
+        }
+        self.chain(operator_next(level, rest), level, rest)
+    }
 }

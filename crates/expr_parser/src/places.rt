@@ -1,175 +1,167 @@
 //! The moves behind a variable and its keys.
 
-ghost use Rattle.std.specs.Prelude.{◌≡◌, ◌∷◌, ◌+◌, ℕ, Bool, Option, Some, None, IfOk};
-ghost use Rattle.php_syntax.specs.declared.token.Sign as signs_type;
+ghost use Rattle.std.specs.Prelude.{◌≡◌, ◌∷◌, ◌+◌, Some, None};
 ghost use Rattle.php_syntax.specs.declared.token.Sign.TheVariants as signs;
 ghost use Rattle.script_grammar.specs.Operators as operator;
 ghost use Rattle.script_grammar.specs.Terminals.{sign_terminal};
 ghost use Rattle.expr_machine.specs.Machine as machine;
 ghost use Rattle.expr_parser.specs.Heads.{terminals_of};
-ghost use Rattle.expr_parser.specs.Views.{plain_values};
-ghost use Rattle.expr_parser.specs.Outcomes.{acted, seen};
+ghost use Rattle.expr_parser.specs.Outcomes.{Moves};
+ghost use Rattle.expr_parser.specs.Places.{operand_from, key_from, updated_from, placed_from, place_from};
 
 use crate::head::{behind_sign, sign_at};
-use crate::stack::Stack;
-use crate::step::{Step, go_if, is_zero, one_more};
-use crate::values::Values;
+use crate::reader::Reader;
+use crate::step::{Step, is_zero, one_more};
 use expr_machine::frame::{Focus, Frame};
-use script_grammar::operator::{step_of, update_of};
+use expr_values::action::{Action, Actions};
 use php_syntax::token::{Sign, Token};
 use php_syntax::tree::UpdateSign;
-use std::alloc::Global;
+use script_grammar::operator::{step_of, update_of};
 use text_base::{Bytes, NoMemory};
 
 /// A variable and how many keys were read behind it, of which one is left out where there is a gap.
-#[derive(Debug, Drop)]
+#[derive(Drop)]
 pub(crate) struct Place {
     pub(crate) name: Bytes,
     pub(crate) keys: usize,
     pub(crate) gap: bool,
 }
 
-// A variable with keys that nothing goes on with.
-fn operand_move<'a>(
-    alloc: Global,
-    place: Place,
-    frames: &mut Stack,
-    values: &mut Values,
-    rest: &'a [Token],
-) -> Result<Step<'a>, NoMemory>
-    ensures { IfOk result (λ s. acted (machine.operand_move place.name place.keys place.gap frames.old (terminals_of rest.now)) (plain_values values.old) ≡ seen s frames.new (plain_values values.new)) }
-{
-    let Place { name, keys, gap } = place;
-    if gap {
-        return Ok(Step::Stuck);
+impl Reader {
+    // A variable with keys that nothing goes on with.
+    fn operand<'a>(&mut self, place: Place, rest: &'a [Token]) -> Result<Step<'a>, NoMemory>
+        ensures { Moves result self.new (operand_from place self.old (terminals_of rest.now)) }
+    {
+        let Place { name, keys, gap } = place;
+        if gap {
+            return Ok(Step::Stuck(rest));
+        }
+        Ok(Step::Go(Focus::Unary, rest, Actions::One(Action::Read(name, keys))))
     }
-    let fine = values.read(alloc, name, keys)?;
-    Ok(go_if(fine, Focus::Unary, rest))
-}
 
-// `[` behind a variable: a key, or none.
-fn key_move<'a>(
-    place: Place,
-    frames: &mut Stack,
-    values: &mut Values,
-    rest: &'a [Token],
-) -> Result<Step<'a>, NoMemory>
-    ensures { IfOk result (λ s. acted (machine.key_move place.name place.keys place.gap frames.old (terminals_of rest.now)) (plain_values values.old) ≡ seen s frames.new (plain_values values.new)) }
-{
-    let Place { name, keys, gap } = place;
-    if let Some(behind) = behind_sign(rest, Sign::CloseBracket) {
-        let keys = one_more(keys)?;
-        values.absent()?;
-        let focus = Focus::Place {
-            name,
-            keys,
-            gap: true,
-        };
-        return Ok(Step::Go(focus, behind));
+    // `[` behind a variable: a key, or none.
+    fn key<'a>(&mut self, place: Place, rest: &'a [Token]) -> Result<Step<'a>, NoMemory>
+        ensures { Moves result self.new (key_from place self.old (terminals_of rest.now)) }
+    {
+        let Place { name, keys, gap } = place;
+        match behind_sign(rest, Sign::CloseBracket) {
+            Some(behind) => {
+                let focus = Focus::Place {
+                    name,
+                    keys: one_more(keys)?,
+                    gap: true,
+                };
+                Ok(Step::Go(focus, behind, Actions::One(Action::Absent)))
+            }
+            None => self.open(Frame::Key { name, keys, gap }, rest),
+        }
     }
-    frames.push(Frame::Key { name, keys, gap })?;
-    Ok(Step::Go(Focus::Begin, rest))
-}
 
-// An assignment that reads its target, where a whole expression is wanted.
-fn update_move<'a>(
-    alloc: Global,
-    sign: UpdateSign,
-    place: Place,
-    frames: &mut Stack,
-    values: &mut Values,
-    rest: &'a [Token],
-    behind: &'a [Token],
-) -> Result<Step<'a>, NoMemory>
-    ensures { (up : Option Bool) (s : signs_type.Sign) → terminals_of rest.now ≡ sign_terminal s ∷ terminals_of behind.now →
-        IfOk result (λ step. acted (machine.updated_move (Some sign) up place.name place.keys place.gap frames.old s (terminals_of behind.now)) (plain_values values.old) ≡ seen step frames.new (plain_values values.new)) }
-{
-    if frames.wants_whole() {
-        let Place { name, keys, .. } = place;
-        frames.push(Frame::Update { sign, name, keys })?;
-        return Ok(Step::Go(Focus::Begin, behind));
+    // An assignment that reads its target, where a whole expression is wanted.
+    fn update<'a>(
+        &mut self,
+        update: UpdateSign,
+        sign: Sign,
+        place: Place,
+        rest: &'a [Token],
+        behind: &'a [Token],
+    ) -> Result<Step<'a>, NoMemory>
+        requires { terminals_of rest.now ≡ sign_terminal sign ∷ terminals_of behind.now }
+        ensures { Moves result self.new
+            (updated_from (Some update) (operator.step_sign sign) place self.old sign
+            (terminals_of behind.now)) }
+    {
+        if self.wants_whole() {
+            let Place { name, keys, .. } = place;
+            let frame = Frame::Update {
+                sign: update,
+                name,
+                keys,
+            };
+            return self.open(frame, behind);
+        }
+        self.operand(place, rest)
     }
-    operand_move(alloc, place, frames, values, rest)
-}
 
-// A step up or down behind a variable without keys.
-fn step_behind<'a>(
-    alloc: Global,
-    up: bool,
-    place: Place,
-    frames: &mut Stack,
-    values: &mut Values,
-    rest: &'a [Token],
-    behind: &'a [Token],
-) -> Result<Step<'a>, NoMemory>
-    ensures { (s : signs_type.Sign) → terminals_of rest.now ≡ sign_terminal s ∷ terminals_of behind.now →
-        IfOk result (λ step. acted (machine.updated_move None (Some up) place.name place.keys place.gap frames.old s (terminals_of behind.now)) (plain_values values.old) ≡ seen step frames.new (plain_values values.new)) }
-{
-    if is_zero(place.keys) {
-        let fine = values.step(place.name, up, false)?;
-        return Ok(go_if(fine, Focus::Unary, behind));
+    // A step up or down behind a variable without keys.
+    fn step_behind<'a>(
+        &mut self,
+        up: bool,
+        sign: Sign,
+        place: Place,
+        rest: &'a [Token],
+        behind: &'a [Token],
+    ) -> Result<Step<'a>, NoMemory>
+        requires { terminals_of rest.now ≡ sign_terminal sign ∷ terminals_of behind.now }
+        ensures { Moves result self.new
+            (updated_from None (Some up) place self.old sign (terminals_of behind.now)) }
+    {
+        if is_zero(place.keys) {
+            let action = Action::Step {
+                name: place.name,
+                up,
+                before: false,
+            };
+            return Ok(Step::Go(Focus::Unary, behind, Actions::One(action)));
+        }
+        self.operand(place, rest)
     }
-    operand_move(alloc, place, frames, values, rest)
-}
 
-// An assignment that reads its target, or a step, where the sign is one.
-fn updated_move<'a>(
-    alloc: Global,
-    sign: Sign,
-    place: Place,
-    frames: &mut Stack,
-    values: &mut Values,
-    rest: &'a [Token],
-    behind: &'a [Token],
-) -> Result<Step<'a>, NoMemory>
-    ensures { terminals_of rest.now ≡ sign_terminal sign ∷ terminals_of behind.now →
-        IfOk result (λ step. acted (machine.updated_move (operator.update_sign sign) (operator.step_sign sign) place.name place.keys place.gap frames.old sign (terminals_of behind.now)) (plain_values values.old) ≡ seen step frames.new (plain_values values.new)) }
-{
-    match update_of(sign) {
-        Some(update) => update_move(alloc, update, place, frames, values, rest, behind),
-        None => match step_of(sign) {
-            Some(up) => step_behind(alloc, up, place, frames, values, rest, behind),
-            None => operand_move(alloc, place, frames, values, rest),
-        },
+    // An assignment that reads its target, or a step, where the sign is one.
+    fn updated<'a>(
+        &mut self,
+        sign: Sign,
+        place: Place,
+        rest: &'a [Token],
+        behind: &'a [Token],
+    ) -> Result<Step<'a>, NoMemory>
+        requires { terminals_of rest.now ≡ sign_terminal sign ∷ terminals_of behind.now }
+        ensures { Moves result self.new
+            (updated_from (operator.update_sign sign) (operator.step_sign sign) place self.old sign
+            (terminals_of behind.now)) }
+    {
+        match update_of(sign) {
+            Some(update) => self.update(update, sign, place, rest, behind),
+            None => match step_of(sign) {
+                Some(up) => self.step_behind(up, sign, place, rest, behind),
+                None => self.operand(place, rest),
+            },
+        }
     }
-}
 
-// An assignment, where a whole expression is wanted.
-fn assign_move<'a>(
-    alloc: Global,
-    place: Place,
-    frames: &mut Stack,
-    values: &mut Values,
-    rest: &'a [Token],
-    behind: &'a [Token],
-) -> Result<Step<'a>, NoMemory>
-    ensures { terminals_of rest.now ≡ sign_terminal signs.Assign ∷ terminals_of behind.now →
-        IfOk result (λ step. acted (machine.placed_move place.name place.keys place.gap frames.old signs.Assign (terminals_of behind.now)) (plain_values values.old) ≡ seen step frames.new (plain_values values.new)) }
-{
-    if frames.wants_whole() {
-        let Place { name, keys, .. } = place;
-        frames.push(Frame::Assign { name, keys })?;
-        return Ok(Step::Go(Focus::Begin, behind));
+    // An assignment, where a whole expression is wanted.
+    fn assign<'a>(
+        &mut self,
+        place: Place,
+        rest: &'a [Token],
+        behind: &'a [Token],
+    ) -> Result<Step<'a>, NoMemory>
+        requires { terminals_of rest.now ≡ sign_terminal signs.Assign ∷ terminals_of behind.now }
+        ensures { Moves result self.new
+            (placed_from place self.old signs.Assign (terminals_of behind.now)) }
+    {
+        if self.wants_whole() {
+            let Place { name, keys, .. } = place;
+            return self.open(Frame::Assign { name, keys }, behind);
+        }
+        self.operand(place, rest)
     }
-    operand_move(alloc, place, frames, values, rest)
-}
 
-/// Behind a variable and its keys.
-pub(crate) fn place_move<'a>(
-    alloc: Global,
-    place: Place,
-    frames: &mut Stack,
-    values: &mut Values,
-    rest: &'a [Token],
-) -> Result<Step<'a>, NoMemory>
-    ensures { IfOk result (λ s. acted (machine.place_move place.name place.keys place.gap frames.old (terminals_of rest.now)) (plain_values values.old) ≡ seen s frames.new (plain_values values.new)) }
-{
-    match sign_at(rest) {
-        None => operand_move(alloc, place, frames, values, rest),
-        Some((sign, behind)) => match sign {
-            Sign::OpenBracket => key_move(place, frames, values, behind),
-            Sign::Assign => assign_move(alloc, place, frames, values, rest, behind),
-            _ => updated_move(alloc, sign, place, frames, values, rest, behind),
-        },
+    /// Behind a variable and its keys.
+    pub(crate) fn place<'a>(
+        &mut self,
+        place: Place,
+        rest: &'a [Token],
+    ) -> Result<Step<'a>, NoMemory>
+        ensures { Moves result self.new (place_from place self.old (terminals_of rest.now)) }
+    {
+        match sign_at(rest) {
+            None => self.operand(place, rest),
+            Some((sign, behind)) => match sign {
+                Sign::OpenBracket => self.key(place, behind),
+                Sign::Assign => self.assign(place, rest, behind),
+                _ => self.updated(sign, place, rest, behind),
+            },
+        }
     }
 }

@@ -2,11 +2,10 @@
 use Rattle.std.proofs.Common.{◌≡◌, sym, ◌==◌, Bool, true, false, List, refl, ap, subst, Some}
 use Rattle.script_grammar.specs.declared.operator.Level.{Level}
 use Rattle.script_grammar.specs.declared.operator.Level.TheVariants as level
-use Rattle.script_grammar.specs.Operators.{tighter_level}
+use Rattle.script_grammar.specs.Operators.{tighter_level, level_rank}
 use Rattle.script_grammar.specs.Terminals.{Terminal}
 use Rattle.script_grammar.specs.Expressions.{choice_form, expr_terminals, ChoiceForm, only_choice, short_choice, full_choice, choice_terminals, NulForm, only_nul, coalesce_form, nul_terminals, ChainForm, chain_form, chain_terminals, MoreForm, more_terminals, OperandForm, tighter_form, tightest_form, operand_terminals, UnaryForm, unary_terminals}
 use Rattle.expr_machine.specs.Actions.{Action}
-use Rattle.expr_machine.specs.Machine.{level_rank}
 use Rattle.expr_machine.specs.Postfix.{expr_actions, choice_actions, nul_actions, chain_actions, operand_actions, unary_actions}
 use Rattle.expr_soundness.proofs.Shapes.{Rest, Ahead, Reads, joined, OneOf}
 use Rattle.expr_soundness.proofs.Stands.{Want, wants_unary, wants_operand, wants_nul, wants_expr, rank_of, chained_actions, NulTail, end_of_nul, goes_nul, nul_tail_terminals, nul_tail_actions, ChoiceTail, end_of_choice, short_tail, full_tail, choice_tail_terminals, choice_tail_actions, FromCoalesced, FromChain, FromOr, FromAnd, FromEquality, FromOrder, FromJoin, FromSum, FromProduct, FromUnary, FromBegin}

@@ -4,14 +4,14 @@ use Rattle.php_syntax.specs.declared.token.Sign.{Sign}
 use Rattle.script_grammar.specs.declared.operator.Level.{Level}
 use Rattle.script_grammar.specs.declared.operator.Level.TheVariants as level
 use Rattle.script_grammar.specs.declared.operator.Operator.{Operator}
-use Rattle.script_grammar.specs.Operators.{binary_operator}
+use Rattle.script_grammar.specs.Operators.{binary_operator, level_rank}
 use Rattle.script_grammar.specs.Terminals.{Terminal, sign_terminal}
 use Rattle.script_grammar.specs.Expressions.{MoreForm, no_more, once_more, one_more, more_terminals, OperandForm, operand_terminals}
 use Rattle.expr_machine.specs.declared.frame.Focus.TheVariants as focus
 use Rattle.expr_machine.specs.declared.frame.Frame.{Frame}
 use Rattle.expr_machine.specs.declared.frame.Frame.TheVariants as frame
 use Rattle.expr_machine.specs.Actions.{Action, binary_action}
-use Rattle.expr_machine.specs.Machine.{level_rank, looser, wanted_rank, operator_next, behind, begun_frame, chain_move, join_move, right_move, level_move}
+use Rattle.expr_machine.specs.Machine.{looser, wanted_rank, operator_next, behind, begun_frame, chain_move, join_move, right_move, level_move}
 use Rattle.expr_machine.specs.Postfix.{joined_actions, counted_actions, leaning_actions, operand_actions}
 use Rattle.expr_soundness.proofs.Shapes.{Ahead, Reads, joined, after, moved, OneOf}
 use Rattle.expr_soundness.proofs.Stands.{want, rank_of, chained_actions, FromLevel, FromOrder, From, Filled, Stands, Carries}

@@ -7,7 +7,7 @@ use Rattle.php_syntax.specs.declared.token.Sign.TheVariants as sign
 use Rattle.php_syntax.specs.declared.tree.UpdateSign.{UpdateSign}
 use Rattle.script_grammar.specs.declared.operator.Level.{Level}
 use Rattle.script_grammar.specs.declared.operator.Level.TheVariants as level
-use Rattle.script_grammar.specs.Operators.{repeats, update_sign, step_sign}
+use Rattle.script_grammar.specs.Operators.{repeats, update_sign, step_sign, level_rank}
 use Rattle.script_grammar.specs.Terminals.{Terminal, sign_terminal}
 use Rattle.script_grammar.specs.Expressions.{is_escape, ExprForm, expr_terminals, NulForm, nul_terminals, MoreForm, more_terminals, operand_terminals, unary_terminals, KeysForm, keys_terminals, SubscriptsForm, subscripts_terminals, MoreExprsForm, more_exprs_terminals, QuotesForm, quotes_terminals, MoreItemsForm, more_items_terminals}
 use Rattle.expr_machine.specs.declared.frame.Brackets.{Brackets}
@@ -17,7 +17,7 @@ use Rattle.expr_machine.specs.declared.frame.Focus.TheVariants as focus
 use Rattle.expr_machine.specs.declared.frame.Frame.{Frame}
 use Rattle.expr_machine.specs.declared.frame.Frame.TheVariants as frame
 use Rattle.expr_machine.specs.Actions.{Action, unkeyed_action, prefix_action, binary_action, coalesce_action, short_choice_action, full_choice_action, member_action, read_action, assign_action, update_action, step_action, isset_action, empty_action, array_action, call_action}
-use Rattle.expr_machine.specs.Machine.{Move, moves, finished, stuck, level_rank, looser}
+use Rattle.expr_machine.specs.Machine.{Move, moves, finished, stuck, looser}
 use Rattle.expr_machine.specs.Postfix.{expr_actions, nul_actions, is_flat, joined_actions, counted_actions, leaning_actions, operand_actions, unary_actions, target_keys_actions, keys_count, keys_of_actions, subscripts_count, subscripts_actions, more_exprs_actions, exprs_count, more_items_actions, items_count}
 use Rattle.expr_soundness.proofs.Shapes.{Rest, Ahead, Reads, OneOf}
 

@@ -6,14 +6,14 @@ use Rattle.php_syntax.specs.declared.token.Sign.TheVariants as sign
 use Rattle.script_grammar.specs.declared.operator.Level.{Level}
 use Rattle.script_grammar.specs.declared.operator.Level.TheVariants as level
 use Rattle.script_grammar.specs.declared.operator.Operator.{Operator}
-use Rattle.script_grammar.specs.Operators.{binary_operator}
+use Rattle.script_grammar.specs.Operators.{binary_operator, level_rank}
 use Rattle.script_grammar.specs.Terminals.{Terminal, sign_terminal}
 use Rattle.expr_machine.specs.declared.frame.Brackets.{Brackets}
 use Rattle.expr_machine.specs.declared.frame.Brackets.TheVariants as brackets
 use Rattle.expr_machine.specs.declared.frame.Frame.{Frame}
 use Rattle.expr_machine.specs.declared.frame.Frame.TheVariants as frame
 use Rattle.expr_machine.specs.Actions.{Action}
-use Rattle.expr_machine.specs.Machine.{Move, moves, finished, stuck, level_rank, wanted_rank, of_level, operator_next, closes, closed_next, behind}
+use Rattle.expr_machine.specs.Machine.{Move, moves, finished, stuck, wanted_rank, of_level, operator_next, closes, closed_next, behind}
 use Rattle.expr_soundness.proofs.Shapes.{OneOf}
 use Rattle.expr_soundness.proofs.Stands.{wants_expr, want, rank_of, closer, Carries}
 use Rattle.expr_soundness.proofs.Climbing.{false_true, same_level}

@@ -11,7 +11,7 @@ use Rattle.php_syntax.specs.Height.{height}
 use Rattle.expr_machine.specs.Actions.{Action, leaf_action, read_action, join_action, isset_action, empty_action, assign_action, update_action}
 use Rattle.expr_machine.specs.Postfix.{keys_count, subscripts_count, exprs_count, items_count}
 use Rattle.expr_machine.specs.Values.{PlainValue, value_of_tree, read_value, gather_exprs, join_value, execute}
-use Rattle.expr_trees.proofs.Carry.{Left, Made, both, always, ends, tested}
+use Rattle.expr_trees.proofs.Carry.{Left, Goes, both, always, ends, tested}
 use Rattle.expr_trees.proofs.Nodes.{member_is}
 use Rattle.expr_trees.proofs.Rows.{pushed, pushed_last, append_last, append_none, exprs_values, items_values, path_values}
 use Rattle.expr_trees.proofs.Steps.{leaf_done, read_made, join_done, isset_made, empty_made, assign_made, update_made}
@@ -48,7 +48,7 @@ constant_fits word.PhpIntMin = refl
 constant_fits _ = refl
 
 pub constant_made : (k : Keyword) (e : PlainExpr) (acts : List Action) (vs : List PlainValue) → constant_of k ≡ Some e
-    → Made (execute (leaf_action e ∷ acts) vs) (expr_fits e) (execute acts (value_of_tree e ∷ vs))
+    → Goes (execute (leaf_action e ∷ acts) vs) (expr_fits e) (execute acts (value_of_tree e ∷ vs))
 constant_made k e acts vs is =
     tested (sym (constant_fits k) ∙ ap leaf_fits is) (always (leaf_done e acts vs (sym (ap leaf_height is) ∙ constant_height k)))
 
@@ -89,18 +89,18 @@ assign_order false e true false = refl
 assign_order false e false k = refl
 
 pub assign_ends : (x : List ℕ) (ks : KeysForm) (e : PlainExpr) (start middle : Left) (acts : List Action) (vs : List PlainValue)
-    → Made start (path_fits (keys_tree ks)) middle
-    → Made middle (expr_fits e) (execute (assign_action x (keys_count ks) ∷ acts) (value_of_tree e ∷ pushed (path_values (keys_tree ks)) vs))
-    → Made start (expr_fits (assign_expr x (keys_tree ks) e)) (execute acts (value_of_tree (assign_expr x (keys_tree ks) e) ∷ vs))
+    → Goes start (path_fits (keys_tree ks)) middle
+    → Goes middle (expr_fits e) (execute (assign_action x (keys_count ks) ∷ acts) (value_of_tree e ∷ pushed (path_values (keys_tree ks)) vs))
+    → Goes start (expr_fits (assign_expr x (keys_tree ks) e)) (execute acts (value_of_tree (assign_expr x (keys_tree ks) e) ∷ vs))
 unfolding expr_fits
 assign_ends x ks e start middle acts vs keys value =
     tested (assign_order (path_fits (keys_tree ks)) (expr_fits e) (is_writable x) (keyed_before_last (keys_tree ks)))
     (both keys (both value (assign_made x (keys_tree ks) e (keys_count ks) acts vs (keys_length ks))))
 
 pub update_ends : (u : UpdateSign) (x : List ℕ) (ks : KeysForm) (e : PlainExpr) (start middle : Left) (acts : List Action) (vs : List PlainValue)
-    → Made start (path_fits (keys_tree ks)) middle
-    → Made middle (expr_fits e) (execute (update_action u x (keys_count ks) ∷ acts) (value_of_tree e ∷ pushed (path_values (keys_tree ks)) vs))
-    → Made start (expr_fits (update_expr u x (keys_tree ks) e)) (execute acts (value_of_tree (update_expr u x (keys_tree ks) e) ∷ vs))
+    → Goes start (path_fits (keys_tree ks)) middle
+    → Goes middle (expr_fits e) (execute (update_action u x (keys_count ks) ∷ acts) (value_of_tree e ∷ pushed (path_values (keys_tree ks)) vs))
+    → Goes start (expr_fits (update_expr u x (keys_tree ks) e)) (execute acts (value_of_tree (update_expr u x (keys_tree ks) e) ∷ vs))
 unfolding expr_fits
 update_ends u x ks e start middle acts vs keys value =
     tested (assign_order (path_fits (keys_tree ks)) (expr_fits e) (is_writable x) (all_keyed (keys_tree ks)))
@@ -131,8 +131,8 @@ subscripts_rules no_subscript a = and_true (expr_fits a)
 subscripts_rules (subscript_form e ks) a = sym (and_assoc (expr_fits a) (expr_fits (expr_tree e)) (subscripts_fit ks)) ∙ subscripts_rules ks (member_expr a (expr_tree e))
 
 pub read_ends : (x : List ℕ) (ks : SubscriptsForm) (start : Left) (acts : List Action) (vs : List PlainValue)
-    → Made start (subscripts_fit ks) (execute (read_action x (subscripts_count ks) ∷ acts) (pushed (subscript_values ks) vs))
-    → Made start (expr_fits (subscripts_tree ks (variable_tree x))) (execute acts (value_of_tree (subscripts_tree ks (variable_tree x)) ∷ vs))
+    → Goes start (subscripts_fit ks) (execute (read_action x (subscripts_count ks) ∷ acts) (pushed (subscript_values ks) vs))
+    → Goes start (expr_fits (subscripts_tree ks (variable_tree x))) (execute acts (value_of_tree (subscripts_tree ks (variable_tree x)) ∷ vs))
 read_ends x ks start acts vs keys =
     tested (and_swap (subscripts_fit ks) (expr_fits (variable_tree x)) ∙ subscripts_rules ks (variable_tree x))
     (both keys (read_made x (subscript_values ks) (subscripts_count ks) (subscripts_tree ks (variable_tree x)) acts vs (subscripts_length ks) (subscripts_read ks (variable_tree x))))
@@ -140,14 +140,14 @@ read_ends x ks start acts vs keys =
 -- `isset` and `empty`
 
 pub isset_ends : (es : PlainExprs) (n : ℕ) (start : Left) (acts : List Action) (vs : List PlainValue) → n ≡ length (exprs_values es)
-    → Made start (exprs_fit es) (execute (isset_action n ∷ acts) (pushed (exprs_values es) vs))
-    → Made start (expr_fits (isset_expr es)) (execute acts (value_of_tree (isset_expr es) ∷ vs))
+    → Goes start (exprs_fit es) (execute (isset_action n ∷ acts) (pushed (exprs_values es) vs))
+    → Goes start (expr_fits (isset_expr es)) (execute acts (value_of_tree (isset_expr es) ∷ vs))
 unfolding expr_fits
 isset_ends es n start acts vs i parts = tested (and_swap (exprs_fit es) (all_places es)) (both parts (isset_made es n acts vs i))
 
 pub empty_ends : (e : PlainExpr) (start : Left) (acts : List Action) (vs : List PlainValue)
-    → Made start (expr_fits e) (execute (empty_action ∷ acts) (value_of_tree e ∷ vs))
-    → Made start (expr_fits (empty_expr e)) (execute acts (value_of_tree (empty_expr e) ∷ vs))
+    → Goes start (expr_fits e) (execute (empty_action ∷ acts) (value_of_tree e ∷ vs))
+    → Goes start (expr_fits (empty_expr e)) (execute acts (value_of_tree (empty_expr e) ∷ vs))
 unfolding expr_fits
 empty_ends e start acts vs part = tested (and_swap (expr_fits e) (is_place e)) (both part (empty_made e acts vs))
 
@@ -166,6 +166,6 @@ last_counted row v n acts vs i =
     ap (execute (join_action (n + 1) ∷ acts)) (pushed_last row v vs) ∙ join_done (row ++ (v ∷ [])) (n + 1) acts vs (longer row v n i)
 
 pub more_counted : (row rest : List PlainValue) (v : PlainValue) (b : Bool) (next acts : List Action) (vs : List PlainValue)
-    → Made (execute next (pushed (row ++ (v ∷ [])) vs)) b (execute acts (join_value (gather_exprs ((row ++ (v ∷ [])) ++ rest)) ∷ vs))
-    → Made (execute next (v ∷ pushed row vs)) b (execute acts (join_value (gather_exprs (row ++ (v ∷ rest))) ∷ vs))
+    → Goes (execute next (pushed (row ++ (v ∷ [])) vs)) b (execute acts (join_value (gather_exprs ((row ++ (v ∷ [])) ++ rest)) ∷ vs))
+    → Goes (execute next (v ∷ pushed row vs)) b (execute acts (join_value (gather_exprs (row ++ (v ∷ rest))) ∷ vs))
 more_counted row rest v b next acts vs m = rw (pushed_last row v vs) (ends m (ap (λ r. execute acts (join_value (gather_exprs r) ∷ vs)) (append_last row rest v)))

@@ -9,7 +9,7 @@ use Rattle.php_syntax.specs.Height.{height}
 use Rattle.expr_machine.specs.Actions.{Action, unkeyed_action, prefix_action, binary_action, join_action, coalesce_action, short_choice_action, full_choice_action, member_action, read_action, assign_action, update_action, isset_action, empty_action, array_action, call_action}
 use Rattle.expr_machine.specs.Postfix.{keys_count, subscripts_count, exprs_count, items_count, expr_actions, target_keys_actions, choice_actions, nul_actions, chain_actions, joined_actions, counted_actions, leaning_actions, operand_actions, unary_actions, post_actions, keys_of_actions, subscripts_actions, list_actions, more_exprs_actions, items_actions, more_items_actions}
 use Rattle.expr_machine.specs.Values.{PlainValue, absent_value, value_of_tree, gather_exprs, join_value, apply, execute}
-use Rattle.expr_trees.proofs.Carry.{Left, Made, both, always, ends, tested}
+use Rattle.expr_trees.proofs.Carry.{Left, Goes, both, always, ends, tested}
 use Rattle.expr_trees.proofs.Rows.{pushed, exprs_values, items_values, path_values}
 use Rattle.expr_trees.proofs.Steps.{leaf_done, step_made, join_done, join_row, call_done, array_done}
 use Rattle.expr_trees.proofs.Joined.{and_true, prefix_done, binary_done, coalesce_done, short_choice_done, full_choice_done, member_done, prefix_fits, operator_fits, template_made, chain_made_of}
@@ -19,7 +19,7 @@ mutual
   unfolding expr_tree expr_fits expr_actions execute apply height
 
   pub expr_made : (e : ExprForm) (acts : List Action) (vs : List PlainValue)
-      → Made (execute (expr_actions e acts) vs) (expr_fits (expr_tree e)) (execute acts (value_of_tree (expr_tree e) ∷ vs))
+      → Goes (execute (expr_actions e acts) vs) (expr_fits (expr_tree e)) (execute acts (value_of_tree (expr_tree e) ∷ vs))
   expr_made (assign_form (target_form x ks) e) acts vs =
       assign_ends x ks (expr_tree e) _ _ acts vs (target_keys_made ks (expr_actions e (assign_action x (keys_count ks) ∷ acts)) vs) (expr_made e (assign_action x (keys_count ks) ∷ acts) (pushed (path_values (keys_tree ks)) vs))
   expr_made (update_form (target_form x ks) s u is e) acts vs =
@@ -27,13 +27,13 @@ mutual
   expr_made (choice_form c) acts vs = choice_made c acts vs
 
   target_keys_made : (ks : KeysForm) (acts : List Action) (vs : List PlainValue)
-      → Made (execute (target_keys_actions ks acts) vs) (path_fits (keys_tree ks)) (execute acts (pushed (path_values (keys_tree ks)) vs))
+      → Goes (execute (target_keys_actions ks acts) vs) (path_fits (keys_tree ks)) (execute acts (pushed (path_values (keys_tree ks)) vs))
   target_keys_made no_key_form acts vs = always refl
   target_keys_made (open_key_form ks) acts vs = target_keys_made ks acts (absent_value ∷ vs)
   target_keys_made (key_form e ks) acts vs = both (expr_made e (target_keys_actions ks acts) vs) (target_keys_made ks acts (value_of_tree (expr_tree e) ∷ vs))
 
   choice_made : (c : ChoiceForm) (acts : List Action) (vs : List PlainValue)
-      → Made (execute (choice_actions c acts) vs) (expr_fits (choice_tree c)) (execute acts (value_of_tree (choice_tree c) ∷ vs))
+      → Goes (execute (choice_actions c acts) vs) (expr_fits (choice_tree c)) (execute acts (value_of_tree (choice_tree c) ∷ vs))
   choice_made (only_choice a) acts vs = nul_made a acts vs
   choice_made (short_choice a b) acts vs =
       both (nul_made a (nul_actions b (short_choice_action ∷ acts)) vs)
@@ -44,20 +44,20 @@ mutual
       (ends (nul_made b (full_choice_action ∷ acts) (value_of_tree (expr_tree e) ∷ value_of_tree (nul_tree a) ∷ vs)) (full_choice_done (nul_tree a) (expr_tree e) (nul_tree b) acts vs)))
 
   nul_made : (n : NulForm) (acts : List Action) (vs : List PlainValue)
-      → Made (execute (nul_actions n acts) vs) (expr_fits (nul_tree n)) (execute acts (value_of_tree (nul_tree n) ∷ vs))
+      → Goes (execute (nul_actions n acts) vs) (expr_fits (nul_tree n)) (execute acts (value_of_tree (nul_tree n) ∷ vs))
   nul_made (only_nul c) acts vs = chain_made c acts vs
   nul_made (coalesce_form c n) acts vs =
       both (chain_made c (nul_actions n (coalesce_action ∷ acts)) vs)
       (ends (nul_made n (coalesce_action ∷ acts) (value_of_tree (chain_tree c) ∷ vs)) (coalesce_done (chain_tree c) (nul_tree n) acts vs))
 
   chain_made : {l : Level} (c : ChainForm l) (acts : List Action) (vs : List PlainValue)
-      → Made (execute (chain_actions c acts) vs) (expr_fits (chain_tree c)) (execute acts (value_of_tree (chain_tree c) ∷ vs))
+      → Goes (execute (chain_actions c acts) vs) (expr_fits (chain_tree c)) (execute acts (value_of_tree (chain_tree c) ∷ vs))
   chain_made (chain_form {l = l} a m) acts vs =
       chain_made_of l (operand_tree a) (more_tree m) (λ r. execute (operand_actions a r) vs) (joined_actions m acts) (leaning_actions m acts) acts vs
       (λ r. operand_made a r vs) (joined_made m (operand_tree a) acts vs) (λ x first. leaning_made m x (operand_tree a) acts vs first)
 
   joined_made : {l : Level} (m : MoreForm l) (a : PlainExpr) (acts : List Action) (vs : List PlainValue)
-      → Made (execute (joined_actions m acts) (value_of_tree a ∷ vs)) (exprs_fit (link_operands (more_tree m))) (execute acts (value_of_tree (flat_join a (more_tree m)) ∷ vs))
+      → Goes (execute (joined_actions m acts) (value_of_tree a ∷ vs)) (exprs_fit (link_operands (more_tree m))) (execute acts (value_of_tree (flat_join a (more_tree m)) ∷ vs))
   joined_made no_more a acts vs = always refl
   joined_made (once_more s o is last b) a acts vs =
       tested (sym (and_true (expr_fits (operand_tree b))))
@@ -69,7 +69,7 @@ mutual
       (ap (λ v. execute acts (v ∷ vs)) (join_row (more_exprs a (more_exprs (operand_tree b) (link_operands (more_tree m)))))))
 
   counted_made : {l : Level} (m : MoreForm l) (row : List PlainValue) (n : ℕ) → n ≡ length row → (acts : List Action) (vs : List PlainValue)
-      → Made (execute (counted_actions m n acts) (pushed row vs)) (exprs_fit (link_operands (more_tree m))) (execute acts (join_value (gather_exprs (row ++ exprs_values (link_operands (more_tree m)))) ∷ vs))
+      → Goes (execute (counted_actions m n acts) (pushed row vs)) (exprs_fit (link_operands (more_tree m))) (execute acts (join_value (gather_exprs (row ++ exprs_values (link_operands (more_tree m)))) ∷ vs))
   counted_made no_more row n i acts vs = always (counted_ends row n acts vs i)
   counted_made (once_more s o is last b) row n i acts vs =
       tested (sym (and_true (expr_fits (operand_tree b))))
@@ -80,8 +80,8 @@ mutual
       (counted_made m (row ++ (value_of_tree (operand_tree b) ∷ [])) (n + 1) (longer row (value_of_tree (operand_tree b)) n i) acts vs))
 
   leaning_made : {l : Level} (m : MoreForm l) (x : Left) (a : PlainExpr) (acts : List Action) (vs : List PlainValue)
-      → Made x (expr_fits a) (execute (leaning_actions m acts) (value_of_tree a ∷ vs))
-      → Made x (expr_fits (lean_left a (more_tree m))) (execute acts (value_of_tree (lean_left a (more_tree m)) ∷ vs))
+      → Goes x (expr_fits a) (execute (leaning_actions m acts) (value_of_tree a ∷ vs))
+      → Goes x (expr_fits (lean_left a (more_tree m))) (execute acts (value_of_tree (lean_left a (more_tree m)) ∷ vs))
   leaning_made no_more x a acts vs first = first
   leaning_made (once_more s o is last b) x a acts vs first =
       tested (sym (operator_fits o a (operand_tree b)))
@@ -92,18 +92,18 @@ mutual
       (both first (ends (operand_made b (binary_action o ∷ leaning_actions m acts) (value_of_tree a ∷ vs)) (binary_done o a (operand_tree b) (leaning_actions m acts) vs))))
 
   operand_made : {l : Level} (a : OperandForm l) (acts : List Action) (vs : List PlainValue)
-      → Made (execute (operand_actions a acts) vs) (expr_fits (operand_tree a)) (execute acts (value_of_tree (operand_tree a) ∷ vs))
+      → Goes (execute (operand_actions a acts) vs) (expr_fits (operand_tree a)) (execute acts (value_of_tree (operand_tree a) ∷ vs))
   operand_made (tighter_form is c) acts vs = chain_made c acts vs
   operand_made (tightest_form is u) acts vs = unary_made u acts vs
 
   unary_made : (u : UnaryForm) (acts : List Action) (vs : List PlainValue)
-      → Made (execute (unary_actions u acts) vs) (expr_fits (unary_tree u)) (execute acts (value_of_tree (unary_tree u) ∷ vs))
+      → Goes (execute (unary_actions u acts) vs) (expr_fits (unary_tree u)) (execute acts (value_of_tree (unary_tree u) ∷ vs))
   unary_made (prefix_form s p is u) acts vs =
       tested (sym (prefix_fits p (unary_tree u))) (ends (unary_made u (prefix_action p ∷ acts) vs) (prefix_done p (unary_tree u) acts vs))
   unary_made (post_form p) acts vs = post_made p acts vs
 
   post_made : (p : PostForm) (acts : List Action) (vs : List PlainValue)
-      → Made (execute (post_actions p acts) vs) (expr_fits (post_tree p)) (execute acts (value_of_tree (post_tree p) ∷ vs))
+      → Goes (execute (post_actions p acts) vs) (expr_fits (post_tree p)) (execute acts (value_of_tree (post_tree p) ∷ vs))
   post_made (base_form (variable_base x) ks) acts vs = read_ends x ks _ acts vs (keys_of_made ks (read_action x (subscripts_count ks) ∷ acts) vs)
   post_made (base_form (call_base f es) ks) acts vs =
       subscripts_made ks _ (call_expr (str_to_ascii_lowercase f) (list_tree es)) acts vs (list_made f es (subscripts_actions ks acts) vs)
@@ -126,20 +126,20 @@ mutual
   post_made (bracket_form is) acts vs = items_made is acts vs
 
   keys_of_made : (ks : SubscriptsForm) (acts : List Action) (vs : List PlainValue)
-      → Made (execute (keys_of_actions ks acts) vs) (subscripts_fit ks) (execute acts (pushed (subscript_values ks) vs))
+      → Goes (execute (keys_of_actions ks acts) vs) (subscripts_fit ks) (execute acts (pushed (subscript_values ks) vs))
   keys_of_made no_subscript acts vs = always refl
   keys_of_made (subscript_form e ks) acts vs = both (expr_made e (keys_of_actions ks acts) vs) (keys_of_made ks acts (value_of_tree (expr_tree e) ∷ vs))
 
   subscripts_made : (ks : SubscriptsForm) (x : Left) (a : PlainExpr) (acts : List Action) (vs : List PlainValue)
-      → Made x (expr_fits a) (execute (subscripts_actions ks acts) (value_of_tree a ∷ vs))
-      → Made x (expr_fits (subscripts_tree ks a)) (execute acts (value_of_tree (subscripts_tree ks a) ∷ vs))
+      → Goes x (expr_fits a) (execute (subscripts_actions ks acts) (value_of_tree a ∷ vs))
+      → Goes x (expr_fits (subscripts_tree ks a)) (execute acts (value_of_tree (subscripts_tree ks a) ∷ vs))
   subscripts_made no_subscript x a acts vs first = first
   subscripts_made (subscript_form e ks) x a acts vs first =
       subscripts_made ks x (member_expr a (expr_tree e)) acts vs
       (both first (ends (expr_made e (member_action ∷ subscripts_actions ks acts) (value_of_tree a ∷ vs)) (member_done a (expr_tree e) (subscripts_actions ks acts) vs)))
 
   list_made : (f : List ℕ) (es : ListForm) (acts : List Action) (vs : List PlainValue)
-      → Made (execute (list_actions f es acts) vs) (exprs_fit (list_tree es)) (execute acts (value_of_tree (call_expr (str_to_ascii_lowercase f) (list_tree es)) ∷ vs))
+      → Goes (execute (list_actions f es acts) vs) (exprs_fit (list_tree es)) (execute acts (value_of_tree (call_expr (str_to_ascii_lowercase f) (list_tree es)) ∷ vs))
   list_made f empty_list acts vs = always (call_done f no_exprs 0 acts vs refl)
   list_made f (list_form e es) acts vs =
       both (expr_made e (more_exprs_actions es (call_action f (exprs_count es + 1) ∷ acts)) vs)
@@ -147,12 +147,12 @@ mutual
       (call_done f (more_exprs (expr_tree e) (more_exprs_tree es)) (exprs_count es + 1) acts vs (exprs_length (expr_tree e) es)))
 
   more_exprs_made : (es : MoreExprsForm) (acts : List Action) (vs : List PlainValue)
-      → Made (execute (more_exprs_actions es acts) vs) (exprs_fit (more_exprs_tree es)) (execute acts (pushed (exprs_values (more_exprs_tree es)) vs))
+      → Goes (execute (more_exprs_actions es acts) vs) (exprs_fit (more_exprs_tree es)) (execute acts (pushed (exprs_values (more_exprs_tree es)) vs))
   more_exprs_made no_more_exprs acts vs = always refl
   more_exprs_made (one_more_expr e es) acts vs = both (expr_made e (more_exprs_actions es acts) vs) (more_exprs_made es acts (value_of_tree (expr_tree e) ∷ vs))
 
   items_made : (is : ItemsForm) (acts : List Action) (vs : List PlainValue)
-      → Made (execute (items_actions is acts) vs) (items_fit (items_tree is)) (execute acts (value_of_tree (array_expr (items_tree is)) ∷ vs))
+      → Goes (execute (items_actions is acts) vs) (items_fit (items_tree is)) (execute acts (value_of_tree (array_expr (items_tree is)) ∷ vs))
   items_made empty_items acts vs = always (array_done no_items 0 acts vs refl)
   items_made (items_form (value_item e) is) acts vs =
       both (expr_made e (unkeyed_action ∷ more_items_actions is (array_action (items_count is + 1) ∷ acts)) vs)
@@ -165,7 +165,7 @@ mutual
       (array_done (more_items (some_expr (expr_tree k)) (expr_tree e) (more_items_tree is)) (items_count is + 1) acts vs (items_length is (value_of_tree (expr_tree k)) (value_of_tree (expr_tree e))))))
 
   more_items_made : (is : MoreItemsForm) (acts : List Action) (vs : List PlainValue)
-      → Made (execute (more_items_actions is acts) vs) (items_fit (more_items_tree is)) (execute acts (pushed (items_values (more_items_tree is)) vs))
+      → Goes (execute (more_items_actions is acts) vs) (items_fit (more_items_tree is)) (execute acts (pushed (items_values (more_items_tree is)) vs))
   more_items_made end_of_items acts vs = always refl
   more_items_made last_comma acts vs = always refl
   more_items_made (one_more_item (value_item e) is) acts vs =

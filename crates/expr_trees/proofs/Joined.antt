@@ -15,7 +15,7 @@ use Rattle.php_syntax.specs.Height.{height}
 use Rattle.expr_machine.specs.Actions.{Action, prefix_action, binary_action, coalesce_action, short_choice_action, full_choice_action, member_action, join_action, key_action, keys_actions, part_actions, parts_actions, template_actions}
 use Rattle.expr_machine.specs.Postfix.{is_flat}
 use Rattle.expr_machine.specs.Values.{PlainValue, value_of_tree, apply, execute}
-use Rattle.expr_trees.proofs.Carry.{Left, Made, both, always, ends, tested}
+use Rattle.expr_trees.proofs.Carry.{Left, Goes, both, always, ends, tested}
 use Rattle.expr_trees.proofs.Nodes.{prefix_is, binary_is, coalesce_is, short_choice_is, full_choice_is, member_is}
 use Rattle.expr_trees.proofs.Rows.{pushed, exprs_values}
 use Rattle.expr_trees.proofs.Steps.{leaf_done, variable_made, join_done, join_row}
@@ -88,28 +88,28 @@ operator_fits (operator.Arith s) a b = refl
 -- the parts of a template
 
 key_made : (k : PlainKey) (acts : List Action) (vs : List PlainValue)
-    → Made (execute (key_action k ∷ acts) vs) (expr_fits (key_tree k)) (execute acts (value_of_tree (key_tree k) ∷ vs))
+    → Goes (execute (key_action k ∷ acts) vs) (expr_fits (key_tree k)) (execute acts (value_of_tree (key_tree k) ∷ vs))
 unfolding expr_fits height
 key_made (text_key t) acts vs = always (leaf_done (text_expr t) acts vs refl)
 key_made (int_key z) acts vs = always (leaf_done (int_expr z) acts vs refl)
 key_made (var_key x) acts vs = variable_made x acts vs
 
 keys_made : (ks : List PlainKey) (x : Left) (e : PlainExpr) (acts : List Action) (vs : List PlainValue)
-    → Made x (expr_fits e) (execute (keys_actions ks acts) (value_of_tree e ∷ vs))
-    → Made x (expr_fits (read_tree e ks)) (execute acts (value_of_tree (read_tree e ks) ∷ vs))
+    → Goes x (expr_fits e) (execute (keys_actions ks acts) (value_of_tree e ∷ vs))
+    → Goes x (expr_fits (read_tree e ks)) (execute acts (value_of_tree (read_tree e ks) ∷ vs))
 unfolding expr_fits
 keys_made [] x e acts vs m = m
 keys_made (k ∷ ks) x e acts vs m =
     keys_made ks x (member_expr e (key_tree k)) acts vs (both m (ends (key_made k (member_action ∷ keys_actions ks acts) (value_of_tree e ∷ vs)) (member_done e (key_tree k) (keys_actions ks acts) vs)))
 
 part_made : (p : PlainPart) (acts : List Action) (vs : List PlainValue)
-    → Made (execute (part_actions p acts) vs) (expr_fits (part_tree p)) (execute acts (value_of_tree (part_tree p) ∷ vs))
+    → Goes (execute (part_actions p acts) vs) (expr_fits (part_tree p)) (execute acts (value_of_tree (part_tree p) ∷ vs))
 unfolding expr_fits height
 part_made (plain_part t) acts vs = always (leaf_done (text_expr t) acts vs refl)
 part_made (read_part x ks) acts vs = keys_made ks (execute (part_actions (read_part x ks) acts) vs) (variable_tree x) acts vs (variable_made x (keys_actions ks acts) vs)
 
 parts_made : (ps : List PlainPart) (acts : List Action) (vs : List PlainValue)
-    → Made (execute (parts_actions ps acts) vs) (exprs_fit (part_trees ps)) (execute acts (pushed (exprs_values (part_trees ps)) vs))
+    → Goes (execute (parts_actions ps acts) vs) (exprs_fit (part_trees ps)) (execute acts (pushed (exprs_values (part_trees ps)) vs))
 unfolding expr_fits
 parts_made [] acts vs = always refl
 parts_made (p ∷ ps) acts vs = both (part_made p (parts_actions ps acts) vs) (parts_made ps acts (value_of_tree (part_tree p) ∷ vs))
@@ -119,7 +119,7 @@ parts_count [] = refl
 parts_count (p ∷ ps) = omega (arith, parts_count ps)
 
 pub template_made : (ps : List PlainPart) (acts : List Action) (vs : List PlainValue)
-    → Made (execute (template_actions ps acts) vs) (expr_fits (join_expr (part_trees ps))) (execute acts (value_of_tree (join_expr (part_trees ps)) ∷ vs))
+    → Goes (execute (template_actions ps acts) vs) (expr_fits (join_expr (part_trees ps))) (execute acts (value_of_tree (join_expr (part_trees ps)) ∷ vs))
 unfolding expr_fits
 template_made ps acts vs =
     ends (parts_made ps (join_action (length ps) ∷ acts) vs)
@@ -133,10 +133,10 @@ flat_fits a no_links = and_true (expr_fits a)
 flat_fits a (more_links o b ls) = refl
 
 pub chain_made_of : (l : Level) (a : PlainExpr) (ls : Links) (begun : List Action → Left) (flat lean acts : List Action) (vs : List PlainValue)
-    → ((r : List Action) → Made (begun r) (expr_fits a) (execute r (value_of_tree a ∷ vs)))
-    → Made (execute flat (value_of_tree a ∷ vs)) (exprs_fit (link_operands ls)) (execute acts (value_of_tree (flat_join a ls) ∷ vs))
-    → ((x : Left) → Made x (expr_fits a) (execute lean (value_of_tree a ∷ vs)) → Made x (expr_fits (lean_left a ls)) (execute acts (value_of_tree (lean_left a ls) ∷ vs)))
-    → Made (begun (if is_flat l then flat else lean)) (expr_fits (chain_tree_of l a ls)) (execute acts (value_of_tree (chain_tree_of l a ls) ∷ vs))
+    → ((r : List Action) → Goes (begun r) (expr_fits a) (execute r (value_of_tree a ∷ vs)))
+    → Goes (execute flat (value_of_tree a ∷ vs)) (exprs_fit (link_operands ls)) (execute acts (value_of_tree (flat_join a ls) ∷ vs))
+    → ((x : Left) → Goes x (expr_fits a) (execute lean (value_of_tree a ∷ vs)) → Goes x (expr_fits (lean_left a ls)) (execute acts (value_of_tree (lean_left a ls) ∷ vs)))
+    → Goes (begun (if is_flat l then flat else lean)) (expr_fits (chain_tree_of l a ls)) (execute acts (value_of_tree (chain_tree_of l a ls) ∷ vs))
 chain_made_of level.Join a ls begun flat lean acts vs first whole more = tested (flat_fits a ls) (both (first flat) whole)
 chain_made_of level.Product a ls begun flat lean acts vs first whole more = more (begun lean) (first lean)
 chain_made_of level.Sum a ls begun flat lean acts vs first whole more = more (begun lean) (first lean)

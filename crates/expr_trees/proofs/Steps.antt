@@ -9,7 +9,7 @@ use Rattle.script_grammar.specs.Rules.{expr_fits, is_known, is_writable, is_plac
 use Rattle.php_syntax.specs.Height.{height, exprs_height, items_height, path_height}
 use Rattle.expr_machine.specs.Actions.{Action, leaf_action, variable_action, join_action, read_action, assign_action, update_action, step_action, isset_action, empty_action, array_action, call_action}
 use Rattle.expr_machine.specs.Values.{PlainValue, known_value, value_of_tree, is_place_value, empty_value, read_value, gather_exprs, join_value, isset_value, call_value, gather_items, array_value, gather_path, assign_value, update_value, put_if, apply_join, apply_isset, apply_call, apply_array, apply_read, apply_assign, apply_update, apply, with_those, execute}
-use Rattle.expr_trees.proofs.Carry.{Made, tested}
+use Rattle.expr_trees.proofs.Carry.{Goes, tested}
 use Rattle.expr_trees.proofs.NodeValues.{row_is, target_is}
 use Rattle.expr_trees.proofs.Nodes.{empty_is, place_value_is}
 use Rattle.expr_trees.proofs.Rows.{pushed, taken, exprs_values, items_values, path_values, exprs_gathered, items_gathered, path_gathered, places_are, keyed_are, keyed_before_are}
@@ -25,7 +25,7 @@ put_then true v vs acts = refl
 put_then false v vs acts = refl
 
 put_made : (a : Action) (acts : List Action) (vs : List PlainValue) (b : Bool) (v w : PlainValue) (ws : List PlainValue) → apply a vs ≡ put_if b v ws → v ≡ w
-    → Made (execute (a ∷ acts) vs) b (execute acts (w ∷ ws))
+    → Goes (execute (a ∷ acts) vs) b (execute acts (w ∷ ws))
 unfolding execute
 put_made a acts vs b v w ws e f = record { is = ap (λ o. with_those o (execute acts)) e ∙ put_then b v ws acts ∙ ap (λ u. if b then execute acts (u ∷ ws) else None) f }
 
@@ -34,17 +34,17 @@ unfolding execute apply
 leaf_done e acts vs h = ap (λ v. execute acts (v ∷ vs)) (leaf_value e h)
 
 pub variable_made : (x : List ℕ) (acts : List Action) (vs : List PlainValue)
-    → Made (execute (variable_action x ∷ acts) vs) (expr_fits (variable_tree x)) (execute acts (value_of_tree (variable_tree x) ∷ vs))
+    → Goes (execute (variable_action x ∷ acts) vs) (expr_fits (variable_tree x)) (execute acts (value_of_tree (variable_tree x) ∷ vs))
 unfolding apply
 variable_made x acts vs = tested (sym (variable_fits x)) (put_made (variable_action x) acts vs (is_known x) (known_value (variable_tree x) 1) (value_of_tree (variable_tree x)) vs refl (leaf_value (variable_tree x) (variable_height x)))
 
 pub step_made : (x : List ℕ) (up before : Bool) (acts : List Action) (vs : List PlainValue)
-    → Made (execute (step_action x up before ∷ acts) vs) (is_writable x) (execute acts (value_of_tree (step_expr x up before) ∷ vs))
+    → Goes (execute (step_action x up before ∷ acts) vs) (is_writable x) (execute acts (value_of_tree (step_expr x up before) ∷ vs))
 unfolding apply height
 step_made x up before acts vs = put_made (step_action x up before) acts vs (is_writable x) (known_value (step_expr x up before) 1) (value_of_tree (step_expr x up before)) vs refl (leaf_value (step_expr x up before) refl)
 
 pub empty_made : (e : PlainExpr) (acts : List Action) (vs : List PlainValue)
-    → Made (execute (empty_action ∷ acts) (value_of_tree e ∷ vs)) (is_place e) (execute acts (value_of_tree (empty_expr e) ∷ vs))
+    → Goes (execute (empty_action ∷ acts) (value_of_tree e ∷ vs)) (is_place e) (execute acts (value_of_tree (empty_expr e) ∷ vs))
 unfolding apply
 empty_made e acts vs = tested (place_value_is e) (put_made empty_action acts (value_of_tree e ∷ vs) (is_place_value (value_of_tree e)) (empty_value (value_of_tree e)) (value_of_tree (empty_expr e)) vs refl (empty_is e))
 
@@ -83,14 +83,14 @@ unfolding execute apply
 array_done is n acts vs e = ap (λ o. with_those (apply_array o) (execute acts)) (taken (items_values is) (n + n) vs e) ∙ ap (λ v. execute acts (v ∷ vs)) (array_row is)
 
 pub isset_made : (es : PlainExprs) (n : ℕ) (acts : List Action) (vs : List PlainValue) → n ≡ length (exprs_values es)
-    → Made (execute (isset_action n ∷ acts) (pushed (exprs_values es) vs)) (all_places es) (execute acts (value_of_tree (isset_expr es) ∷ vs))
+    → Goes (execute (isset_action n ∷ acts) (pushed (exprs_values es) vs)) (all_places es) (execute acts (value_of_tree (isset_expr es) ∷ vs))
 unfolding apply
 isset_made es n acts vs e = tested (places_are es) (put_made (isset_action n) acts (pushed (exprs_values es) vs) _ (isset_value (gather_exprs (exprs_values es))) (value_of_tree (isset_expr es)) vs (ap apply_isset (taken (exprs_values es) n vs e)) (isset_row es))
 
 -- a member of a variable by a row of keys
 pub read_made : (x : List ℕ) (row : List PlainValue) (n : ℕ) (e : PlainExpr) (acts : List Action) (vs : List PlainValue) → n ≡ length row
     → read_value (value_of_tree (variable_tree x)) row ≡ value_of_tree e
-    → Made (execute (read_action x n ∷ acts) (pushed row vs)) (expr_fits (variable_tree x)) (execute acts (value_of_tree e ∷ vs))
+    → Goes (execute (read_action x n ∷ acts) (pushed row vs)) (expr_fits (variable_tree x)) (execute acts (value_of_tree e ∷ vs))
 unfolding apply
 read_made x row n e acts vs i j =
     tested (sym (variable_fits x)) (put_made (read_action x n) acts (pushed row vs) (is_known x) (read_value (known_value (variable_tree x) 1) row) (value_of_tree e) vs
@@ -107,14 +107,14 @@ unfolding height
 update_row u x ks e = ap (λ o. update_value u x o (value_of_tree e)) (path_gathered ks) ∙ target_is (update_value u x) ks (path_height ks) e (update_expr u x ks e) (λ h. refl) (λ v. refl) refl refl refl
 
 pub assign_made : (x : List ℕ) (ks : PlainPath) (e : PlainExpr) (n : ℕ) (acts : List Action) (vs : List PlainValue) → n ≡ length (path_values ks)
-    → Made (execute (assign_action x n ∷ acts) (value_of_tree e ∷ pushed (path_values ks) vs)) (is_writable x && keyed_before_last ks) (execute acts (value_of_tree (assign_expr x ks e) ∷ vs))
+    → Goes (execute (assign_action x n ∷ acts) (value_of_tree e ∷ pushed (path_values ks) vs)) (is_writable x && keyed_before_last ks) (execute acts (value_of_tree (assign_expr x ks e) ∷ vs))
 unfolding apply
 assign_made x ks e n acts vs i =
     tested (ap (λ b. is_writable x && b) (keyed_before_are ks)) (put_made (assign_action x n) acts (value_of_tree e ∷ pushed (path_values ks) vs) _ (assign_value x (gather_path (path_values ks)) (value_of_tree e)) (value_of_tree (assign_expr x ks e)) vs
     (ap (apply_assign x (value_of_tree e)) (taken (path_values ks) n vs i)) (assign_row x ks e))
 
 pub update_made : (u : UpdateSign) (x : List ℕ) (ks : PlainPath) (e : PlainExpr) (n : ℕ) (acts : List Action) (vs : List PlainValue) → n ≡ length (path_values ks)
-    → Made (execute (update_action u x n ∷ acts) (value_of_tree e ∷ pushed (path_values ks) vs)) (is_writable x && all_keyed ks) (execute acts (value_of_tree (update_expr u x ks e) ∷ vs))
+    → Goes (execute (update_action u x n ∷ acts) (value_of_tree e ∷ pushed (path_values ks) vs)) (is_writable x && all_keyed ks) (execute acts (value_of_tree (update_expr u x ks e) ∷ vs))
 unfolding apply
 update_made u x ks e n acts vs i =
     tested (ap (λ b. is_writable x && b) (keyed_are ks)) (put_made (update_action u x n) acts (value_of_tree e ∷ pushed (path_values ks) vs) _ (update_value u x (gather_path (path_values ks)) (value_of_tree e)) (value_of_tree (update_expr u x ks e)) vs

@@ -2,7 +2,7 @@
 use Rattle.std.proofs.Common.{◌≡◌, ℕ, zero, suc, ◌+◌, Bool, true, false, List, [], ◌++◌, Option, Some, None, refl, sym, ap, ◌∙◌, subst, inl, inr, arith, append_assoc, append-nil}
 use Rattle.std.specs.Prelude.{◌⊎◌}
 use Rattle.std.proofs.lemmas.Option.{some_pair_parts}
-use Rattle.php_syntax.specs.Trees.{PlainStmt, PlainStmts, PlainArms, PlainFile, text_expr, no_exprs, more_exprs, inline_stmt, echo_stmt, run_stmt, if_stmt, while_stmt, do_while_stmt, for_stmt, each_stmt, break_stmt, continue_stmt, return_stmt, include_stmt, no_stmts, more_stmts, no_arms, more_arms}
+use Rattle.php_syntax.specs.Trees.{PlainStmt, PlainStmts, PlainArms, PlainFile, text_expr, no_exprs, more_exprs, inline_stmt, echo_stmt, run_stmt, if_stmt, while_stmt, do_while_stmt, for_stmt, each_stmt, break_stmt, continue_stmt, return_stmt, include_stmt, quit_stmt, no_stmts, more_stmts, no_arms, more_arms}
 use Rattle.std.specs.Char.{is_ascii_alphabetic}
 use Rattle.first_form.specs.Characters.{Each}
 use Rattle.first_form.specs.Requests.{Request, has_name}
@@ -73,6 +73,7 @@ mutual
   statement_loose r continue_stmt n printed m out e = absurd cc
   statement_loose r (return_stmt x) n printed m out e = absurd cc
   statement_loose r (include_stmt x) n printed m out e = absurd cc
+  statement_loose r (quit_stmt x) n printed m out e = absurd cc
 
   statements_loose : (r : Request) (ss : PlainStmts) (n : ℕ) (printed : List ℕ) (m : ℕ) (out : List ℕ) → statements_run r ss n printed ≡ going m out → Prints (LooseStatements ss) printed out
   statements_loose r no_stmts n printed m out e = ([], refl, (let f : printed ≡ out = cc in sym f ∙ sym (append-nil printed)))
@@ -142,6 +143,7 @@ mutual
   statement_more r continue_stmt n more printed m out e = absurd cc
   statement_more r (return_stmt x) n more printed m out e = absurd cc
   statement_more r (include_stmt x) n more printed m out e = absurd cc
+  statement_more r (quit_stmt x) n more printed m out e = absurd cc
 
   statements_more : (r : Request) (ss : PlainStmts) (n more : ℕ) (printed : List ℕ) (m : ℕ) (out : List ℕ) → statements_run r ss n printed ≡ going m out → statements_run r ss (n + more) printed ≡ going (m + more) out
   statements_more r no_stmts n more printed m out e = let a : n ≡ m = cc in let b : printed ≡ out = cc in cc

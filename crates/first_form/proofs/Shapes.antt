@@ -8,10 +8,10 @@ use Rattle.php_syntax.specs.declared.tree.SuperName.{SuperName}
 use Rattle.php_syntax.specs.declared.tree.Expr.{Expr, Null, Flag, Int, Text, Var, Super, Member, ArrayOf, Join, Neg, Not, Arith, Compare, And, Or, Coalesce, Choice, Isset, Empty, Assign, Update, Step, Call, Expr-F, out-Expr, roll-Expr, roll-out-Expr}
 use Rattle.php_syntax.specs.declared.tree.Expr.TheOpen as open_expr
 use Rattle.php_syntax.specs.declared.tree.Target.{Target}
-use Rattle.php_syntax.specs.declared.tree.Stmt.{Stmt, Inline, Echo, Run, If, While, DoWhile, For, Each, Break, Continue, Return, Include, Stmt-F, out-Stmt, roll-Stmt, roll-out-Stmt}
+use Rattle.php_syntax.specs.declared.tree.Stmt.{Stmt, Inline, Echo, Run, If, While, DoWhile, For, Each, Break, Continue, Return, Include, Quit, Stmt-F, out-Stmt, roll-Stmt, roll-out-Stmt}
 use Rattle.php_syntax.specs.declared.tree.Stmt.TheOpen as open_stmt
 use Rattle.php_syntax.specs.Trees.{PlainExpr, plain_expr, text_expr, super_expr, member_expr, isset_expr, PlainStmt, plain_stmt, inline_stmt, echo_stmt, if_stmt, exprs_of, stmts_of, arms_of}
-use Rattle.php_syntax.proofs.Views.{plain_stmt-Inline, plain_stmt-Echo, plain_stmt-Run, plain_stmt-If, plain_stmt-While, plain_stmt-DoWhile, plain_stmt-For, plain_stmt-Each, plain_stmt-Break, plain_stmt-Continue, plain_stmt-Return, plain_stmt-Include, plain_expr-Null, plain_expr-Flag, plain_expr-Int, plain_expr-Text, plain_expr-Var, plain_expr-Super, plain_expr-Member, plain_expr-ArrayOf, plain_expr-Join, plain_expr-Neg, plain_expr-Not, plain_expr-Arith, plain_expr-Compare, plain_expr-And, plain_expr-Or, plain_expr-Coalesce, plain_expr-Choice, plain_expr-Isset, plain_expr-Empty, plain_expr-Assign, plain_expr-Update, plain_expr-Step, plain_expr-Call}
+use Rattle.php_syntax.proofs.Views.{plain_stmt-Inline, plain_stmt-Echo, plain_stmt-Run, plain_stmt-If, plain_stmt-While, plain_stmt-DoWhile, plain_stmt-For, plain_stmt-Each, plain_stmt-Break, plain_stmt-Continue, plain_stmt-Return, plain_stmt-Include, plain_stmt-Quit, plain_expr-Null, plain_expr-Flag, plain_expr-Int, plain_expr-Text, plain_expr-Var, plain_expr-Super, plain_expr-Member, plain_expr-ArrayOf, plain_expr-Join, plain_expr-Neg, plain_expr-Not, plain_expr-Arith, plain_expr-Compare, plain_expr-And, plain_expr-Or, plain_expr-Coalesce, plain_expr-Choice, plain_expr-Isset, plain_expr-Empty, plain_expr-Assign, plain_expr-Update, plain_expr-Step, plain_expr-Call}
 use Rattle.first_form.specs.Steps.Paging.{literal_of, one_text, printed_of, is_key, is_get, is_get_member, is_set_one, is_set_test, arm_body, arms_at}
 
 -- a statement is inline text, an echo or an if, or else its plain form is none of these
@@ -47,6 +47,7 @@ stmt_shape s = go (out-Stmt s) (roll-out-Stmt s)
     go open_stmt.Continue e = at Continue _ e plain_stmt-Continue refl
     go (open_stmt.Return x) e = at (Return x) _ e (plain_stmt-Return x) refl
     go (open_stmt.Include x) e = at (Include x) _ e (plain_stmt-Include x) refl
+    go (open_stmt.Quit x) e = at (Quit x) _ e (plain_stmt-Quit x) refl
 
 -- an expression is a text, a variable of the request, a member or an isset, or else its plain form is none of these
 unfoldable pub is_other_expr : PlainExpr → Bool

@@ -1,13 +1,19 @@
 -- How many brackets are open, along a list.
-use Rattle.std.proofs.Common.{◌≡◌, ℕ, ◌≤◌, ◌<◌, max, List, [], ◌∷◌, subst}
+use Rattle.std.proofs.Common.{◌≡◌, ◌≢◌, ℕ, ◌≤◌, ◌<◌, max, List, [], ◌∷◌, refl, subst}
 use native.Mathlib.Omega.{arith}
-use Rattle.script_grammar.specs.Terminals.{Terminal}
+use Rattle.php_syntax.specs.declared.token.Sign.{Sign}
+use Rattle.script_grammar.specs.Terminals.{Terminal, sign_terminal}
 use Rattle.script_grammar.specs.Grammar.{open_after, most_open}
 
 -- at least those that are open before it
 pub open_before : (n : ℕ) (ts : List Terminal) → n ≤ most_open n ts
 open_before n [] = omega arith
 open_before n (t ∷ ts) = omega arith
+
+-- what is no sign opens and closes none
+pub open_other : (n : ℕ) (t : Terminal) → ((s : Sign) → t ≢ sign_terminal s) → open_after n t ≡ n
+open_other n (sign_terminal s) h = absurd (h s refl)
+open_other n t h = refl
 
 -- so many are open before a rest of a list, at most 200 and no more than before it
 pub record OpenSoFar (all rest : List Terminal) (n : ℕ) : Type 0 where

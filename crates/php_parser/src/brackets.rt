@@ -4,13 +4,11 @@ ghost use Rattle.std.specs.Prelude.{◌≡◌, ◌<◌, ◌≤◌, MatchOption};
 ghost use Rattle.php_syntax.specs.Tokens.{plain_kind};
 ghost use Rattle.script_grammar.specs.Terminals.{terminal_of};
 ghost use Rattle.script_grammar.specs.Grammar.{open_after, open_after_sign, most_open};
-ghost use Rattle.expr_parser.specs.Heads.{terminals_of, terminal_at};
+ghost use Rattle.expr_parser.specs.Heads.{terminals_of};
 
-use expr_parser::head::{Head, head_at};
-use php_syntax::token::{Sign, Token};
-
-/// The most brackets that may be open at once.
-const MOST_BRACKETS: u32 = 200;
+use expr_parser::head::{kind_at, sign_of};
+use php_syntax::token::{Sign, Token, TokenKind};
+use text_base::limits::HEIGHT_LIMIT;
 
 // How many are open behind a sign.
 fn behind_sign(count: u32, sign: Sign) -> u32
@@ -28,29 +26,31 @@ fn behind_sign(count: u32, sign: Sign) -> u32
     }
 }
 
-// How many are open behind a terminal.
-fn behind(count: u32, head: &Head) -> u32
+// How many are open behind a token.
+fn behind(count: u32, kind: &TokenKind) -> u32
     requires { count ≤ 200 }
-    ensures { result ≡ open_after count (terminal_at head.now) }
+    ensures { result ≡ open_after count (terminal_of (plain_kind kind.now)) }
 {
-    match head {
-        Head::Sign(sign) => behind_sign(count, *sign),
-        _ => count,
+    match sign_of(kind) {
+        Some(sign) => behind_sign(count, sign),
+        None => count,
     }
 }
 
 /// Where one bracket too many is opened, if more than 200 are open at once.
 pub(crate) fn too_many(tokens: &[Token]) -> Option<u32>
-    ensures { MatchOption result (most_open 0 (terminals_of tokens.now) ≤ 200) (λ _. 200 < most_open 0 (terminals_of tokens.now)) }
+    ensures { MatchOption result
+        (most_open 0 (terminals_of tokens.now) ≤ 200)
+        (λ _. 200 < most_open 0 (terminals_of tokens.now)) }
 {
     let mut rest = tokens;
     let mut count = 0;
     'tokens: loop {
-        match head_at(rest) {
+        match kind_at(rest) {
             None => return None,
-            Some((head, more)) => {
-                count = behind(count, &head);
-                if count > MOST_BRACKETS {
+            Some((kind, more)) => {
+                count = behind(count, kind);
+                if count > HEIGHT_LIMIT {
                     return Some(place(rest));
                 }
                 rest = more;

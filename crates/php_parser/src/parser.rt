@@ -25,10 +25,13 @@ use stmt_trees::actions_make_files;
 pub fn parse(alloc: Global, tokens: &[Token]) -> Result<FileTree, ParseRefusal>
     // The tokens spell the tree, and no other.
     ensures tree { IfOk result (λ tree. SpellsTree (plain_tokens tokens.now) (plain_file tree)) }
-    ensures only { IfOk result (λ tree. (other : PlainFile) → SpellsTree (plain_tokens tokens.now) other → other ≡ plain_file tree) }
+    ensures only { IfOk result (λ tree.
+        (other : PlainFile) → SpellsTree (plain_tokens tokens.now) other → other ≡ plain_file tree) }
 
     // They are not too deep.
-    ensures within { IfOk result (λ tree. (most_open 0 (terminals (plain_tokens tokens.now)) ≤ 200) × (file_height (plain_file tree) ≤ 200)) }
+    ensures within { IfOk result (λ tree.
+        (most_open 0 (terminals (plain_tokens tokens.now)) ≤ 200)
+        × (file_height (plain_file tree) ≤ 200)) }
 
     // A refusal has its cause.
     ensures refused { IfErr result (IsCauseOf (plain_tokens tokens.now)) }

@@ -1,7 +1,7 @@
 -- Height and number of nodes of worked examples.
 use Rattle.std.proofs.Common.{◌≡◌, List, [], ◌∷◌, refl}
 use Rattle.std.specs.Prelude.{pos, codes}
-use Rattle.php_syntax.specs.Trees.{int_expr, text_expr, var_expr, array_expr, neg_expr, assign_expr, no_expr, some_expr, no_exprs, more_exprs, no_items, more_items, no_keys, more_keys, PlainStmt, echo_stmt, if_stmt, run_stmt, break_stmt, no_stmts, more_stmts, no_arms, more_arms, PlainFile}
+use Rattle.php_syntax.specs.Trees.{int_expr, text_expr, var_expr, array_expr, neg_expr, assign_expr, no_expr, some_expr, no_exprs, more_exprs, no_items, more_items, no_keys, more_keys, PlainStmt, echo_stmt, if_stmt, run_stmt, break_stmt, quit_stmt, no_stmts, more_stmts, no_arms, more_arms, PlainFile}
 use Rattle.php_syntax.specs.Height.{height, nodes, stmt_height, stmt_nodes, file_height, file_nodes}
 
 -- a leaf has height 1
@@ -38,6 +38,19 @@ height_of_branch = refl
 nodes_of_branch : stmt_nodes branch ≡ 5
 unfolding nodes stmt_nodes
 nodes_of_branch = refl
+
+-- `die('a');` and `exit;`
+height_of_die : stmt_height (quit_stmt (some_expr (text_expr (codes "a")))) ≡ 2
+unfolding height stmt_height
+height_of_die = refl
+
+nodes_of_die : stmt_nodes (quit_stmt (some_expr (text_expr (codes "a")))) ≡ 2
+unfolding nodes stmt_nodes
+nodes_of_die = refl
+
+height_of_exit : stmt_height (quit_stmt no_expr) ≡ 1
+unfolding height stmt_height
+height_of_exit = refl
 
 -- `echo 'a';` as a file, and a function without parameters and without statements
 abbrev small : PlainFile

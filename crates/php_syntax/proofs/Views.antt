@@ -11,9 +11,9 @@ use Rattle.php_syntax.specs.declared.tree.SuperName.{SuperName}
 use Rattle.php_syntax.specs.declared.tree.Expr.{Expr, Null, Flag, Int, Text, Var, Super, Member, ArrayOf, Join, Neg, Not, Arith, Compare, And, Or, Coalesce, Choice, Isset, Empty, Assign, Update, Step, Call, Expr-ArrayOf-0-1-None', Expr-ArrayOf-0-1-Some', Row_of-Expr-ArrayOf-0-3, end_of-Expr-ArrayOf-0-3, more_of-Expr-ArrayOf-0-3, items-the_row-Expr-ArrayOf-0-3, items_hidden-the_row-Expr-ArrayOf-0-3-0, Row_of-Expr, end_of-Expr, more_of-Expr, items-the_row-Expr, items_hidden-the_row-Expr-1, Row_of-Target-path-1, end_of-Target-path-1, more_of-Target-path-1, items-the_row-Target-path-1, items_hidden-the_row-Target-path-1-2}
 use Rattle.php_syntax.specs.declared.tree.Expr.TheBlock.{hidden-the_row-Expr-1, hidden-the_row-Expr-ArrayOf-0-3-0, hidden-the_row-Target-path-1-2}
 use Rattle.php_syntax.specs.declared.tree.Target.{Target}
-use Rattle.php_syntax.specs.declared.tree.Stmt.{Stmt, Inline, Echo, Run, If, While, DoWhile, For, Each, Break, Continue, Return, Include, Row_of-Stmt, end_of-Stmt, more_of-Stmt, items-the_row-Stmt, items_shown-the_row-Stmt-0, items_hidden-the_row-Stmt-0, Row_of-Stmt-If-0-3, end_of-Stmt-If-0-3, more_of-Stmt-If-0-3, items-the_row-Stmt-If-0-3, items_hidden-the_row-Stmt-If-0-3-1}
+use Rattle.php_syntax.specs.declared.tree.Stmt.{Stmt, Inline, Echo, Run, If, While, DoWhile, For, Each, Break, Continue, Return, Include, Quit, Row_of-Stmt, end_of-Stmt, more_of-Stmt, items-the_row-Stmt, items_shown-the_row-Stmt-0, items_hidden-the_row-Stmt-0, Row_of-Stmt-If-0-3, end_of-Stmt-If-0-3, more_of-Stmt-If-0-3, items-the_row-Stmt-If-0-3, items_hidden-the_row-Stmt-If-0-3-1}
 use Rattle.php_syntax.specs.declared.tree.Stmt.TheBlock.{shown-the_row-Stmt-0, hidden-the_row-Stmt-0, hidden-the_row-Stmt-If-0-3-1}
-use Rattle.php_syntax.specs.Trees.{null_expr, flag_expr, int_expr, text_expr, var_expr, super_expr, member_expr, array_expr, join_expr, neg_expr, not_expr, arith_expr, compare_expr, and_expr, or_expr, coalesce_expr, choice_expr, isset_expr, empty_expr, assign_expr, update_expr, step_expr, call_expr, no_expr, some_expr, more_exprs, more_items, more_keys, inline_stmt, echo_stmt, run_stmt, if_stmt, while_stmt, do_while_stmt, for_stmt, each_stmt, break_stmt, continue_stmt, return_stmt, include_stmt, more_stmts, more_arms, plain_expr, plain_items, plain_row, plain_keys, exprs_of, maybe_of, boxed_of, items_of, path_of, target_name, target_path, plain_stmt, plain_stmts, plain_arms, stmts_of, arms_of}
+use Rattle.php_syntax.specs.Trees.{null_expr, flag_expr, int_expr, text_expr, var_expr, super_expr, member_expr, array_expr, join_expr, neg_expr, not_expr, arith_expr, compare_expr, and_expr, or_expr, coalesce_expr, choice_expr, isset_expr, empty_expr, assign_expr, update_expr, step_expr, call_expr, no_expr, some_expr, more_exprs, more_items, more_keys, inline_stmt, echo_stmt, run_stmt, if_stmt, while_stmt, do_while_stmt, for_stmt, each_stmt, break_stmt, continue_stmt, return_stmt, include_stmt, quit_stmt, more_stmts, more_arms, plain_expr, plain_items, plain_row, plain_keys, exprs_of, maybe_of, boxed_of, items_of, path_of, target_name, target_path, plain_stmt, plain_stmts, plain_arms, stmts_of, arms_of}
 
 -- vectors of expressions, of items and of keys
 
@@ -191,6 +191,10 @@ pub plain_stmt-Include : (t : List ℕ) → plain_stmt (Include t) ≡ include_s
 unfolding plain_stmt
 plain_stmt-Include t = refl
 
+pub plain_stmt-Quit : (e : Option Expr) → plain_stmt (Quit e) ≡ quit_stmt (maybe_of e)
+unfolding plain_stmt
+plain_stmt-Quit e = refl
+
 arm_row_is : {n : _} (k : Row_of-Stmt-If-0-3 n) → plain_arms k ≡ arms_of (items-the_row-Stmt-If-0-3 n k)
 unfolding plain_stmt
 arm_row_is end_of-Stmt-If-0-3 = refl
@@ -239,4 +243,5 @@ pub ruleset views = (
   plain_stmt-Continue,
   plain_stmt-Return,
   plain_stmt-Include,
+  plain_stmt-Quit,
 )

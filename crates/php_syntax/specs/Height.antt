@@ -1,7 +1,7 @@
 -- Height and number of the nodes of a tree. Each expression and statement, each target, function and parameter is a node; arms of an
 -- `if` and items of an array are not. A leaf has height 1, and each other node one more than its highest part.
 use Rattle.std.specs.Prelude.{ℕ, ◌+◌, max, List, [], ◌∷◌}
-use Rattle.php_syntax.specs.Trees.{PlainExpr, null_expr, flag_expr, int_expr, text_expr, var_expr, super_expr, member_expr, array_expr, join_expr, neg_expr, not_expr, arith_expr, compare_expr, and_expr, or_expr, coalesce_expr, choice_expr, isset_expr, empty_expr, assign_expr, update_expr, step_expr, call_expr, MaybeExpr, no_expr, some_expr, PlainExprs, no_exprs, more_exprs, PlainItems, no_items, more_items, PlainPath, no_keys, more_keys, PlainStmt, inline_stmt, echo_stmt, run_stmt, if_stmt, while_stmt, do_while_stmt, for_stmt, each_stmt, break_stmt, continue_stmt, return_stmt, include_stmt, PlainStmts, no_stmts, more_stmts, PlainArms, no_arms, more_arms, PlainParam, PlainFunction, PlainFile}
+use Rattle.php_syntax.specs.Trees.{PlainExpr, null_expr, flag_expr, int_expr, text_expr, var_expr, super_expr, member_expr, array_expr, join_expr, neg_expr, not_expr, arith_expr, compare_expr, and_expr, or_expr, coalesce_expr, choice_expr, isset_expr, empty_expr, assign_expr, update_expr, step_expr, call_expr, MaybeExpr, no_expr, some_expr, PlainExprs, no_exprs, more_exprs, PlainItems, no_items, more_items, PlainPath, no_keys, more_keys, PlainStmt, inline_stmt, echo_stmt, run_stmt, if_stmt, while_stmt, do_while_stmt, for_stmt, each_stmt, break_stmt, continue_stmt, return_stmt, include_stmt, quit_stmt, PlainStmts, no_stmts, more_stmts, PlainArms, no_arms, more_arms, PlainParam, PlainFunction, PlainFile}
 
 unfoldable mutual
   pub height : PlainExpr → ℕ
@@ -59,6 +59,7 @@ unfoldable mutual
   stmt_height continue_stmt = 1
   stmt_height (return_stmt e) = 1 + maybe_height e
   stmt_height (include_stmt t) = 1
+  stmt_height (quit_stmt e) = 1 + maybe_height e
 
   pub stmts_height : PlainStmts → ℕ
   stmts_height no_stmts = 0
@@ -135,6 +136,7 @@ unfoldable mutual
   stmt_nodes continue_stmt = 1
   stmt_nodes (return_stmt e) = 1 + maybe_nodes e
   stmt_nodes (include_stmt t) = 1
+  stmt_nodes (quit_stmt e) = 1 + maybe_nodes e
 
   pub stmts_nodes : PlainStmts → ℕ
   stmts_nodes no_stmts = 0

@@ -9,7 +9,7 @@ use Rattle.php_syntax.specs.declared.tree.UpdateSign.{UpdateSign}
 use Rattle.php_syntax.specs.declared.tree.SuperName.{SuperName}
 use Rattle.php_syntax.specs.declared.tree.Expr.{Expr, Null, Flag, Int, Text, Var, Super, Member', ArrayOf', Join', Neg', Not', Arith', Compare', And', Or', Coalesce', Choice', Isset', Empty', Assign', Update', Step, Call', Held-Expr-ArrayOf-0-1, Expr-ArrayOf-0-1-None', Expr-ArrayOf-0-1-Some', Row_of-Expr-ArrayOf-0-3, end_of-Expr-ArrayOf-0-3, more_of-Expr-ArrayOf-0-3, Row_of-Expr, end_of-Expr, more_of-Expr, Held-Expr-Choice-1, Expr-Choice-1-None', Expr-Choice-1-Some', Row_of-Target-path-1, end_of-Target-path-1, more_of-Target-path-1}
 use Rattle.php_syntax.specs.declared.tree.Target.{Target, out-Target}
-use Rattle.php_syntax.specs.declared.tree.Stmt.{Stmt, Inline, Echo, Run, If', While', DoWhile', For', Each', Break, Continue, Return, Include, Row_of-Stmt, end_of-Stmt, more_of-Stmt, Row_of-Stmt-If-0-3, end_of-Stmt-If-0-3, more_of-Stmt-If-0-3}
+use Rattle.php_syntax.specs.declared.tree.Stmt.{Stmt, Inline, Echo, Run, If', While', DoWhile', For', Each', Break, Continue, Return, Include, Quit, Row_of-Stmt, end_of-Stmt, more_of-Stmt, Row_of-Stmt-If-0-3, end_of-Stmt-If-0-3, more_of-Stmt-If-0-3}
 use Rattle.php_syntax.specs.declared.tree.Param.{Param}
 use Rattle.php_syntax.specs.declared.tree.FunctionDef.{FunctionDef}
 use Rattle.php_syntax.specs.declared.tree.FileTree.{FileTree}
@@ -77,6 +77,8 @@ mutual
     continue_stmt : PlainStmt
     return_stmt : MaybeExpr → PlainStmt
     include_stmt : List ℕ → PlainStmt
+    -- the end of the run, with what is printed before it, if anything is
+    quit_stmt : MaybeExpr → PlainStmt
 
   pub data PlainStmts : Type 0 where
     no_stmts : PlainStmts
@@ -190,6 +192,7 @@ unfoldable mutual
   plain_stmt Continue = continue_stmt
   plain_stmt (Return e) = return_stmt (maybe_of e)
   plain_stmt (Include t) = include_stmt t
+  plain_stmt (Quit e) = quit_stmt (maybe_of e)
 
   pub plain_stmts : {n : _} → Row_of-Stmt n → PlainStmts
   plain_stmts end_of-Stmt = no_stmts

@@ -157,6 +157,8 @@ pub enum Stmt {
     Return(Option<Expr>),
     /// `include` and `require` of a file, by its path.
     Include(Bytes),
+    /// `exit` and `die`, with what is printed before the run ends, if anything is.
+    Quit(Option<Expr>),
 }
 
 /// A parameter of a function.

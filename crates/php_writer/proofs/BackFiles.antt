@@ -1,16 +1,16 @@
 -- The tree of each form of a file, whose terminals can be written, is spellable.
-use Rattle.std.proofs.Common.{◌≡◌, ℕ, Bool, true, ◌&&◌, List, [], ◌∷◌, refl, sym, subst}
+use Rattle.std.proofs.Common.{◌≡◌, ℕ, Bool, true, false, ◌&&◌, if◌then◌else◌, List, [], ◌∷◌, refl, sym, subst}
 use Rattle.php_syntax.specs.declared.token.Sign.TheVariants as signs
 use Rattle.script_grammar.specs.declared.keyword.Keyword.{Keyword}
 use Rattle.script_grammar.specs.declared.keyword.Keyword.TheVariants as word
 use Rattle.php_syntax.specs.Tokens.{PlainToken}
-use Rattle.php_syntax.specs.Trees.{PlainStmts, no_stmts, PlainFile}
+use Rattle.php_syntax.specs.Trees.{PlainExpr, no_expr, some_expr, PlainStmts, no_stmts, PlainFile}
 use Rattle.script_grammar.specs.Terminals.{Terminal, word_terminal, sign_terminal}
 use Rattle.script_grammar.specs.Expressions.{ExprForm, expr_tree, more_exprs_terminals, list_terminals}
-use Rattle.script_grammar.specs.Statements.{condition_terminals, MaybeForm, nothing_form, something_form, maybe_terminals, maybe_tree, VariablesForm, value_form, key_value_form, variables_terminals, key_variable, value_variable, StmtForm, semicolon_form, inline_form, block_form, echo_form, print_form, run_form, if_form, colon_if_form, while_form, do_form, for_form, each_form, break_form, continue_form, return_form, include_form, include_parens_form, StmtsForm, no_stmts_form, more_stmts_form, ArmsForm, no_arms_form, elseif_form, else_if_form, ElseForm, no_else_form, else_form, ColonArmsForm, no_colon_arms, colon_arm, ColonElseForm, no_colon_else, colon_else, BodyForm, stmt_body, colon_body, stmt_terminals, stmts_terminals, arms_terminals, else_terminals, colon_arms_terminals, colon_else_terminals, body_terminals, stmt_trees, stmts_trees, arms_tree, else_tree, colon_arms_tree, colon_else_tree, body_tree, LiteralForm, int_literal, negated_literal, text_literal, true_literal, false_literal, null_literal, literal_terminals, literal_tree, ParamForm, param_form, default_form, param_terminals, param_tree, more_params_terminals, params_terminals, params_trees, FunctionForm, function_form, function_terminals, function_tree, FileForm, end_of_file, function_part, stmt_part, file_terminals, file_stmts, file_functions, file_tree}
+use Rattle.script_grammar.specs.Statements.{condition_terminals, MaybeForm, nothing_form, something_form, maybe_terminals, maybe_tree, VariablesForm, value_form, key_value_form, variables_terminals, key_variable, value_variable, StmtForm, semicolon_form, inline_form, block_form, echo_form, print_form, run_form, if_form, colon_if_form, while_form, do_form, for_form, each_form, break_form, continue_form, return_form, include_form, include_parens_form, exit_form, exit_parens_form, is_status, printed, StmtsForm, no_stmts_form, more_stmts_form, ArmsForm, no_arms_form, elseif_form, else_if_form, ElseForm, no_else_form, else_form, ColonArmsForm, no_colon_arms, colon_arm, ColonElseForm, no_colon_else, colon_else, BodyForm, stmt_body, colon_body, stmt_terminals, stmts_terminals, arms_terminals, else_terminals, colon_arms_terminals, colon_else_terminals, body_terminals, stmt_trees, stmts_trees, arms_tree, else_tree, colon_arms_tree, colon_else_tree, body_tree, LiteralForm, int_literal, negated_literal, text_literal, true_literal, false_literal, null_literal, literal_terminals, literal_tree, ParamForm, param_form, default_form, param_terminals, param_tree, more_params_terminals, params_terminals, params_trees, FunctionForm, function_form, function_terminals, function_tree, FileForm, end_of_file, function_part, stmt_part, file_terminals, file_stmts, file_functions, file_tree}
 use Rattle.script_grammar.specs.Grammar.{SpellsTree}
 use Rattle.lexical_grammar.specs.Cuts.{Cuts}
-use Rattle.php_writer.specs.Spellable.{is_name, is_call_name, is_maybe_name, expr_spellable, maybe_spellable, stmt_spellable, stmts_spellable, arms_spellable, is_literal, is_default, params_spellable, functions_spellable, is_spellable}
+use Rattle.php_writer.specs.Spellable.{is_name, is_call_name, is_maybe_name, is_printed, expr_spellable, maybe_spellable, stmt_spellable, stmts_spellable, arms_spellable, is_literal, is_default, params_spellable, functions_spellable, is_spellable}
 use Rattle.php_writer.proofs.FineSteps.{each_kind}
 use Rattle.php_writer.proofs.BackNames.{and_true, name_of, lower_call_name}
 use Rattle.php_writer.proofs.BackParts.{EachTerminal, each_terminal}
@@ -44,6 +44,15 @@ three a b c h k l = and_true a (b && c) h (and_true b c k l)
 
 four : (a b c d : Bool) → a ≡ true → b ≡ true → c ≡ true → d ≡ true → (a && (b && (c && d))) ≡ true
 four a b c d h k l m = and_true a (b && (c && d)) h (three b c d k l m)
+
+-- what `exit` prints is no status, and is spellable where its argument is
+printed_spells : (e : PlainExpr) → expr_spellable e ≡ true → (is_printed (printed e) && maybe_spellable (printed e)) ≡ true
+unfolding expr_spellable
+printed_spells e h = go (is_status e) refl
+  where
+    go : (b : Bool) → is_status e ≡ b → (is_printed (if b then no_expr else some_expr e) && maybe_spellable (if b then no_expr else some_expr e)) ≡ true
+    go true i = refl
+    go false i = rw (i, h) refl
 
 mutual
   unfolding stmt_terminals stmt_trees stmt_spellable expr_spellable
@@ -90,6 +99,9 @@ mutual
   stmt_back (return_form e) r h = let one = maybe_back e (sign_terminal signs.Semicolon ∷ r) h.1 in (λ ss g. two _ _ one.0 g, one.1.1)
   stmt_back (include_form k is t) r h = (λ ss g. g, h.1.1.1)
   stmt_back (include_parens_form k is t) r h = (λ ss g. g, h.1.1.1.1.1)
+  stmt_back exit_form r h = (λ ss g. g, h.1.1)
+  stmt_back (exit_parens_form nothing_form) r h = (λ ss g. g, h.1.1.1.1)
+  stmt_back (exit_parens_form (something_form e)) r h = let one = expr_back e (sign_terminal signs.CloseParen ∷ sign_terminal signs.Semicolon ∷ r) h.1.1 in (λ ss g. two _ _ (printed_spells (expr_tree e) one.0) g, one.1.1.1)
 
   pub stmts_back : (fs : StmtsForm) (r : List Terminal) → EachTerminal (stmts_terminals fs r) → Behind (stmts_trees fs) × EachTerminal r
   stmts_back no_stmts_form r h = (λ ss g. g, h)

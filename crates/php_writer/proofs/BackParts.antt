@@ -4,7 +4,7 @@ use Rattle.std.specs.Prelude.{ℤ, nat_le, codes}
 use Rattle.std.proofs.lemmas.Bool.Decides.{nat_tests}
 use Rattle.script_grammar.specs.declared.keyword.Keyword.{Keyword}
 use Rattle.script_grammar.specs.declared.keyword.Keyword.TheVariants as word
-use Rattle.php_syntax.specs.declared.tree.SuperName.TheVariants as request
+use Rattle.php_syntax.specs.declared.tree.SuperName.{SuperName}
 use Rattle.script_grammar.specs.declared.operator.Level.{Level}
 use Rattle.script_grammar.specs.declared.operator.Level.TheVariants as level
 use Rattle.script_grammar.specs.declared.operator.Operator.{Operator}
@@ -14,8 +14,9 @@ use Rattle.script_grammar.specs.declared.operator.Prefix.TheVariants as prefix
 use Rattle.lexical_grammar.specs.Characters.{largest}
 use Rattle.php_syntax.specs.Tokens.{PlainKind, inline, variable, name, integer, text, template, sign, PlainToken, PlainKey, text_key, int_key, var_key, PlainPart, plain_part, read_part}
 use Rattle.php_syntax.specs.Trees.{PlainExpr, null_expr, flag_expr, int_expr, text_expr, var_expr, super_expr, member_expr, join_expr}
-use Rattle.script_grammar.specs.Terminals.{Terminal, inline_terminal, variable_terminal, word_terminal, name_terminal, int_terminal, text_terminal, template_terminal, sign_terminal, same_bytes, keyword_of, word_or_name, terminal_of, terminals}
-use Rattle.script_grammar.specs.Expressions.{constant_of, variable_tree, key_tree, read_tree, part_tree, part_trees, prefix_tree, operator_tree, Links, no_links, more_links, link_operands, lean_left, flat_join, chain_tree_of}
+use Rattle.script_grammar.specs.Terminals.{Terminal, inline_terminal, variable_terminal, word_terminal, name_terminal, int_terminal, text_terminal, template_terminal, sign_terminal, keyword_of, word_or_name, terminal_of, terminals}
+use Rattle.script_grammar.specs.Rules.{request_named}
+use Rattle.script_grammar.specs.Expressions.{constant_of, request_or, variable_tree, key_tree, read_tree, part_tree, part_trees, prefix_tree, operator_tree, Links, no_links, more_links, link_operands, lean_left, flat_join, chain_tree_of}
 use Rattle.token_spelling.specs.Spelled.{IsName}
 use Rattle.php_writer.specs.Spellable.{is_name, is_own_name, is_inline, is_unsigned, is_part_key, is_read, are_parts, expr_spellable, exprs_spellable}
 use Rattle.php_writer.proofs.CutRead.{IsKey, AreKeys}
@@ -56,36 +57,26 @@ each_terminal [] h = tt
 each_terminal (t ∷ ts) h = (terminal_is t.kind h.0, each_terminal ts h.1)
 
 -- variables
-own_by : (a b c d e n : Bool) → n ≡ true → a ≡ false → b ≡ false → c ≡ false → d ≡ false → e ≡ false → (n && not (a || (b || (c || (d || e))))) ≡ true
-own_by a b c d e n m f g h i j = rw (m, f, g, h, i, j) refl
-
-abbrev variable_by : Bool → Bool → Bool → Bool → Bool → List ℕ → PlainExpr
-variable_by a b c d e x = if a then super_expr request.Get else (if b then super_expr request.Post else (if c then super_expr request.Cookie else (if d then super_expr request.Request else (if e then super_expr request.Server else var_expr x))))
+own_of : (x : List ℕ) → is_name x ≡ true → request_named x ≡ None → is_own_name x ≡ true
+own_of x n e = rw (n, e) refl
 
 -- whatever holds of the variables of the request and, where it is none of them, of the variable
-by_variable : (P : PlainExpr → Type 0) (x : List ℕ) (a b c d e : Bool) → P (super_expr request.Get) → P (super_expr request.Post) → P (super_expr request.Cookie) → P (super_expr request.Request) → P (super_expr request.Server)
-    → (a ≡ false → b ≡ false → c ≡ false → d ≡ false → e ≡ false → P (var_expr x)) → P (variable_by a b c d e x)
-by_variable P x true b c d e f g h i j k = f
-by_variable P x false true c d e f g h i j k = g
-by_variable P x false false true d e f g h i j k = h
-by_variable P x false false false true e f g h i j k = i
-by_variable P x false false false false true f g h i j k = j
-by_variable P x false false false false false f g h i j k = k refl refl refl refl refl
-
-of_variable : (P : PlainExpr → Type 0) (x : List ℕ) → P (super_expr request.Get) → P (super_expr request.Post) → P (super_expr request.Cookie) → P (super_expr request.Request) → P (super_expr request.Server) → (is_own_name x ≡ true → P (var_expr x)) → IsName x → P (variable_tree x)
-of_variable P x f g h i j k is =
-    let a = same_bytes x (codes "_GET") in let b = same_bytes x (codes "_POST") in let c = same_bytes x (codes "_COOKIE") in let d = same_bytes x (codes "_REQUEST") in let e = same_bytes x (codes "_SERVER")
-    in by_variable P x a b c d e f g h i j (λ l m n o p. k (own_by a b c d e (is_name x) (name_of x is) l m n o p))
+of_variable : (P : PlainExpr → Type 0) (x : List ℕ) → ((s : SuperName) → P (super_expr s)) → (is_own_name x ≡ true → P (var_expr x)) → IsName x → P (variable_tree x)
+of_variable P x s k is = go (request_named x) refl
+  where
+    go : (o : Option SuperName) → request_named x ≡ o → P (request_or o x)
+    go None e = k (own_of x (name_of x is) e)
+    go (Some n) e = s n
 
 pub variable_spells : (x : List ℕ) → IsName x → expr_spellable (variable_tree x) ≡ true
 unfolding expr_spellable
-variable_spells x is = of_variable (λ v. expr_spellable v ≡ true) x refl refl refl refl refl (λ h. h) is
+variable_spells x is = of_variable (λ v. expr_spellable v ≡ true) x (λ s. refl) (λ h. h) is
 
 variable_read : (x : List ℕ) → IsName x → is_read (variable_tree x) ≡ true
-variable_read x is = of_variable (λ v. is_read v ≡ true) x refl refl refl refl refl (λ h. h) is
+variable_read x is = of_variable (λ v. is_read v ≡ true) x (λ s. refl) (λ h. h) is
 
 variable_key : (x : List ℕ) → IsName x → is_part_key (variable_tree x) ≡ true
-variable_key x is = of_variable (λ v. is_part_key v ≡ true) x refl refl refl refl refl (λ h. h) is
+variable_key x is = of_variable (λ v. is_part_key v ≡ true) x (λ s. refl) (λ h. h) is
 
 -- templates
 small : (n : ℕ) → n ≤ largest → nat_le n largest ≡ true

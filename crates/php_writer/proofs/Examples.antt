@@ -5,7 +5,7 @@ use Rattle.std.specs.Fmt.{digits}
 use Rattle.php_syntax.specs.declared.tree.ArithSign.TheVariants as arith
 use Rattle.php_syntax.specs.declared.tree.SuperName.TheVariants as request
 use Rattle.lexical_grammar.specs.Cuts.{opener_step}
-use Rattle.php_syntax.specs.Trees.{PlainExpr, int_expr, text_expr, var_expr, super_expr, member_expr, join_expr, arith_expr, coalesce_expr, choice_expr, isset_expr, call_expr, no_expr, no_exprs, more_exprs, PlainStmt, inline_stmt, echo_stmt, run_stmt, if_stmt, no_stmts, more_stmts, no_arms, more_arms, PlainFile}
+use Rattle.php_syntax.specs.Trees.{PlainExpr, int_expr, text_expr, var_expr, super_expr, member_expr, join_expr, arith_expr, coalesce_expr, choice_expr, isset_expr, call_expr, no_expr, no_exprs, more_exprs, PlainStmt, inline_stmt, echo_stmt, run_stmt, if_stmt, no_stmts, more_stmts, no_arms, more_arms, PlainFile, some_expr, quit_stmt}
 use Rattle.php_writer.specs.Marks.{all_written, file_written, keys_spelling}
 use Rattle.php_writer.specs.Spellable.{is_name, is_call_name, is_own_name, is_inline, expr_spellable, stmt_spellable}
 use Rattle.php_writer.specs.Written.{int_mark, read_name, read_keys, part_key, expr_marks, stmt_marks, file_marks}
@@ -113,6 +113,19 @@ a_call = refl
 a_written_template : all_written (expr_marks (join_expr (more_exprs (member_expr (member_expr (super_expr request.Get) (text_expr (codes "k"))) b) no_exprs)) []) ≡ codes "\"{$_GET['k'][$b]}\" "
 unfolding all_written expr_marks read_name read_keys part_key keys_spelling
 a_written_template = refl
+
+-- `exit` with what it prints and without; no file spells one that prints a status
+quits : all_written (stmt_marks (quit_stmt (some_expr a)) (stmt_marks (quit_stmt no_expr) [])) ≡ codes "exit ( $a ) ; exit ; "
+unfolding all_written expr_marks stmt_marks
+quits = refl
+
+a_status_printed : stmt_spellable (quit_stmt (some_expr (int_expr (pos 3)))) ≡ false
+unfolding stmt_spellable expr_spellable
+a_status_printed = refl
+
+a_text_printed : stmt_spellable (quit_stmt (some_expr (text_expr (codes "3")))) ≡ true
+unfolding stmt_spellable expr_spellable
+a_text_printed = refl
 
 -- a file: statements, and bytes outside PHP with a line end first
 abbrev page : PlainFile

@@ -2,19 +2,19 @@
 use Rattle.std.proofs.Common.{◌≡◌, ◌∙◌, ℕ, pos, negsuc, true, false, ◌&&◌, List, [], ◌∷◌, refl, ap}
 use Rattle.php_syntax.specs.declared.token.Sign.TheVariants as signs
 use Rattle.script_grammar.specs.declared.keyword.Keyword.TheVariants as word
-use Rattle.php_syntax.specs.Trees.{PlainExpr, null_expr, flag_expr, int_expr, text_expr, neg_expr, MaybeExpr, no_expr, some_expr, PlainExprs, no_exprs, more_exprs, PlainStmt, inline_stmt, echo_stmt, run_stmt, if_stmt, while_stmt, do_while_stmt, for_stmt, each_stmt, break_stmt, continue_stmt, return_stmt, include_stmt, PlainStmts, no_stmts, more_stmts, PlainArms, no_arms, more_arms, PlainParam, PlainFunction, PlainFile}
+use Rattle.php_syntax.specs.Trees.{PlainExpr, null_expr, flag_expr, int_expr, text_expr, neg_expr, MaybeExpr, no_expr, some_expr, PlainExprs, no_exprs, more_exprs, PlainStmt, inline_stmt, echo_stmt, run_stmt, if_stmt, while_stmt, do_while_stmt, for_stmt, each_stmt, break_stmt, continue_stmt, return_stmt, include_stmt, quit_stmt, PlainStmts, no_stmts, more_stmts, PlainArms, no_arms, more_arms, PlainParam, PlainFunction, PlainFile}
 use Rattle.script_grammar.specs.Terminals.{Terminal, variable_terminal, word_terminal, name_terminal, sign_terminal}
-use Rattle.script_grammar.specs.Statements.{StmtsForm, no_stmts_form, more_stmts_form, stmt_terminals, stmts_terminals, stmt_trees, stmts_trees, nearest, all_nearest, LiteralForm, int_literal, negated_literal, text_literal, true_literal, false_literal, null_literal, literal_terminals, literal_tree, ParamForm, param_form, default_form, param_terminals, param_tree, more_params_terminals, params_terminals, params_trees, FunctionForm, function_form, function_terminals, function_tree, function_nearest, FileForm, end_of_file, function_part, stmt_part, file_terminals, file_stmts, file_functions, file_tree, file_nearest}
+use Rattle.script_grammar.specs.Statements.{StmtsForm, no_stmts_form, more_stmts_form, stmt_terminals, stmts_terminals, stmt_trees, stmts_trees, nearest, all_nearest, is_status, LiteralForm, int_literal, negated_literal, text_literal, true_literal, false_literal, null_literal, literal_terminals, literal_tree, ParamForm, param_form, default_form, param_terminals, param_tree, more_params_terminals, params_terminals, params_trees, FunctionForm, function_form, function_terminals, function_tree, function_nearest, FileForm, end_of_file, function_part, stmt_part, file_terminals, file_stmts, file_functions, file_tree, file_nearest}
 use Rattle.php_writer.specs.Marks.{Mark, sign, marked}
-use Rattle.php_writer.specs.Spellable.{is_name, is_call_name, is_some_exprs, is_maybe_name, is_some_arms, expr_spellable, maybe_spellable, exprs_spellable, stmt_spellable, stmts_spellable, arms_spellable, is_unsigned_literal, is_literal, is_default, params_spellable, functions_spellable, is_spellable}
+use Rattle.php_writer.specs.Spellable.{is_name, is_call_name, is_some_exprs, is_maybe_name, is_some_arms, is_printed, expr_spellable, maybe_spellable, exprs_spellable, stmt_spellable, stmts_spellable, arms_spellable, is_unsigned_literal, is_literal, is_default, params_spellable, functions_spellable, is_spellable}
 use Rattle.php_writer.specs.Written.{int_mark, expr_marks, stmt_marks, stmts_marks, param_marks, more_params_marks, params_marks, function_marks, functions_marks}
-use Rattle.php_writer.proofs.Halves.{halves, call_name_is, IsCallName}
+use Rattle.php_writer.proofs.Halves.{halves, not_so, call_name_is, IsCallName}
 use Rattle.php_writer.proofs.FormPlaces.{IsExpr}
 use Rattle.php_writer.proofs.Looseness.{whole}
 use Rattle.php_writer.proofs.ListForms.{AllOwn, more_formed, list_formed}
 use Rattle.php_writer.proofs.ExprForms.{expr_own, maybe_own, exprs_own}
 use Rattle.php_writer.proofs.StmtForms.{IsStmt, IsStmts, stmts_none, stmts_more, inline_said, echo_said, run_said, IsArms, arms_none, arms_more, else_said, if_said}
-use Rattle.php_writer.proofs.LoopForms.{while_said, do_said, maybe_formed, for_said, each_said, break_said, continue_said, return_said, include_said}
+use Rattle.php_writer.proofs.LoopForms.{while_said, do_said, maybe_formed, for_said, each_said, break_said, continue_said, return_said, include_said, quit_nothing, quit_value}
 
 abbrev AllArms : PlainArms → Type 0
 AllArms no_arms = Unit {0}
@@ -36,6 +36,11 @@ echo_own (more_exprs e es) h all = echo_said e es (whole e all.0) (more_formed e
 
 of_expr : (e : PlainExpr) → expr_spellable e ≡ true → IsExpr e (expr_marks e)
 of_expr e h = whole e (expr_own e h)
+
+quit_own : (e : MaybeExpr) → is_printed e ≡ true → maybe_spellable e ≡ true → IsStmt (quit_stmt e) (stmt_marks (quit_stmt e))
+unfolding stmt_marks expr_spellable
+quit_own no_expr p h = quit_nothing
+quit_own (some_expr e) p h = quit_value e (not_so (is_status e) p) (of_expr e h)
 
 mutual
   unfolding stmt_marks stmt_spellable
@@ -63,6 +68,7 @@ mutual
   stmt_own continue_stmt h = continue_said
   stmt_own (return_stmt e) h = return_said e (maybe_formed e (maybe_own e h))
   stmt_own (include_stmt t) h = include_said t
+  stmt_own (quit_stmt e) h = let both = halves (is_printed e) (maybe_spellable e) h in quit_own e both.0 both.1
 
   pub stmts_own : (ss : PlainStmts) → stmts_spellable ss ≡ true → IsStmts ss (stmts_marks ss)
   stmts_own no_stmts h = stmts_none

@@ -1,5 +1,5 @@
 -- Both halves of a test, and the names that tests let through.
-use Rattle.std.proofs.Common.{◌≡◌, ℕ, Bool, true, false, not, ◌&&◌, ◌||◌, List, [], ◌∷◌, Option, Some, None, refl}
+use Rattle.std.proofs.Common.{◌≡◌, ℕ, Bool, true, false, not, ◌&&◌, List, [], ◌∷◌, Option, Some, None, refl, ap}
 use Rattle.std.specs.Prelude.{is_some, codes}
 use Rattle.std.specs.List.{list_all}
 use Rattle.std.specs.Str.{str_to_ascii_lowercase}
@@ -7,8 +7,8 @@ use Rattle.text_base.specs.Exactness.{exact_bytes}
 use Rattle.lexical_grammar.specs.Characters.{is_name_start, is_name_byte}
 use Rattle.php_syntax.specs.Trees.{var_expr}
 use Rattle.script_grammar.specs.Terminals.{same_bytes, keyword_of}
-use Rattle.script_grammar.specs.Expressions.{variable_tree}
-use Rattle.script_grammar.specs.Rules.{is_request}
+use Rattle.script_grammar.specs.Expressions.{request_or, variable_tree}
+use Rattle.script_grammar.specs.Rules.{request_named, is_request}
 use Rattle.token_spelling.specs.Spelled.{IsName}
 use Rattle.php_writer.specs.Spellable.{is_name, is_call_name, is_own_name}
 
@@ -17,12 +17,7 @@ halves true true h = (refl, refl)
 halves true false h = absurd (cc)
 halves false b h = absurd (cc)
 
-neither : (a b : Bool) → (a || b) ≡ false → (a ≡ false) × (b ≡ false)
-neither false false h = (refl, refl)
-neither false true h = absurd (cc)
-neither true b h = absurd (cc)
-
-not_so : (a : Bool) → not a ≡ true → a ≡ false
+pub not_so : (a : Bool) → not a ≡ true → a ≡ false
 not_so false h = refl
 not_so true h = absurd (cc)
 
@@ -39,14 +34,7 @@ own_name_is x h = name_is x (halves (is_name x) (not (is_request x)) h).0
 
 -- a variable of its own name is no variable of the request
 pub own_variable : (x : List ℕ) → is_own_name x ≡ true → variable_tree x ≡ var_expr x
-own_variable x h =
-    let get = same_bytes x (codes "_GET") in let post = same_bytes x (codes "_POST") in let cookie = same_bytes x (codes "_COOKIE") in let both = same_bytes x (codes "_REQUEST") in let server = same_bytes x (codes "_SERVER")
-    in let none = not_so (is_request x) (halves (is_name x) (not (is_request x)) h).1
-    in let one = neither get (post || (cookie || (both || server))) none
-    in let two = neither post (cookie || (both || server)) one.1
-    in let three = neither cookie (both || server) two.1
-    in let four = neither both server three.1
-    in rw (one.0, two.0, three.0, four.0, four.1) refl
+own_variable x h = ap (λ o. request_or o x) (none_of (request_named x) (not_so (is_request x) (halves (is_name x) (not (is_request x)) h).1))
 
 pub record IsCallName (f : List ℕ) : Type 0 where
   pub is_name : IsName f

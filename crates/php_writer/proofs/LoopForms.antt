@@ -1,11 +1,11 @@
 -- Forms of loops, of the statements that leave a body, and of `include`, from forms of their parts.
-use Rattle.std.proofs.Common.{◌≡◌, ◌∙◌, ℕ, List, ◌∷◌, Option, Some, None, refl, ap}
+use Rattle.std.proofs.Common.{◌≡◌, ◌∙◌, ℕ, false, if◌then◌else◌, List, ◌∷◌, Option, Some, None, refl, ap}
 use Rattle.php_syntax.specs.declared.token.Sign.TheVariants as signs
 use Rattle.script_grammar.specs.declared.keyword.Keyword.TheVariants as word
-use Rattle.php_syntax.specs.Trees.{PlainExpr, MaybeExpr, no_expr, some_expr, PlainExprs, while_stmt, do_while_stmt, for_stmt, each_stmt, break_stmt, continue_stmt, return_stmt, include_stmt, PlainStmts, no_stmts, more_stmts}
+use Rattle.php_syntax.specs.Trees.{PlainExpr, MaybeExpr, no_expr, some_expr, PlainExprs, while_stmt, do_while_stmt, for_stmt, each_stmt, break_stmt, continue_stmt, return_stmt, include_stmt, quit_stmt, PlainStmts, no_stmts, more_stmts}
 use Rattle.script_grammar.specs.Terminals.{Terminal, word_terminal, sign_terminal}
 use Rattle.script_grammar.specs.Expressions.{expr_terminals, expr_tree, list_terminals, list_tree}
-use Rattle.script_grammar.specs.Statements.{MaybeForm, nothing_form, something_form, maybe_terminals, maybe_tree, VariablesForm, value_form, key_value_form, variables_terminals, key_variable, value_variable, block_form, while_form, do_form, for_form, each_form, break_form, continue_form, return_form, include_form, stmt_body, stmt_terminals, stmt_trees, stmts_trees, nearest}
+use Rattle.script_grammar.specs.Statements.{MaybeForm, nothing_form, something_form, maybe_terminals, maybe_tree, VariablesForm, value_form, key_value_form, variables_terminals, key_variable, value_variable, block_form, while_form, do_form, for_form, each_form, break_form, continue_form, return_form, include_form, exit_form, exit_parens_form, is_status, printed, stmt_body, stmt_terminals, stmt_trees, stmts_trees, nearest}
 use Rattle.php_writer.specs.Marks.{Mark, keyword, text, sign, marked}
 use Rattle.php_writer.specs.Written.{expr_marks, maybe_marks, list_marks, condition_marks, variables_marks, stmts_marks}
 use Rattle.php_writer.proofs.FormPlaces.{Formed, IsExpr}
@@ -101,3 +101,13 @@ return_said e f = single (return_form f.form) (return_stmt e) (λ r. keyword wor
 pub include_said : (t : List ℕ) → IsStmt (include_stmt t) (λ r. keyword word.Include ∷ text t ∷ sign signs.Semicolon ∷ r)
 unfolding stmt_trees stmt_terminals nearest
 include_said t = single (include_form word.Include refl t) (include_stmt t) (λ r. keyword word.Include ∷ text t ∷ sign signs.Semicolon ∷ r) (λ r. refl) refl (λ r. refl)
+
+pub quit_nothing : IsStmt (quit_stmt no_expr) (λ r. keyword word.Exit ∷ sign signs.Semicolon ∷ r)
+unfolding stmt_trees stmt_terminals nearest
+quit_nothing = single exit_form (quit_stmt no_expr) (λ r. keyword word.Exit ∷ sign signs.Semicolon ∷ r) (λ r. refl) refl (λ r. refl)
+
+pub quit_value : (e : PlainExpr) → is_status e ≡ false → IsExpr e (expr_marks e) → IsStmt (quit_stmt (some_expr e)) (λ r. keyword word.Exit ∷ condition_marks e (sign signs.Semicolon ∷ r))
+unfolding stmt_trees stmt_terminals nearest
+quit_value e n f = single (exit_parens_form (something_form f.form)) (quit_stmt (some_expr e)) (λ r. keyword word.Exit ∷ condition_marks e (sign signs.Semicolon ∷ r))
+    (λ r. ap (λ x. more_stmts (quit_stmt (printed x)) r) f.made ∙ ap (λ b. more_stmts (quit_stmt (if b then no_expr else some_expr e)) r) n) refl
+    (λ r. ap (λ (ts : List Terminal). word_terminal word.Exit ∷ sign_terminal signs.OpenParen ∷ ts) (f.spelled (sign signs.CloseParen ∷ sign signs.Semicolon ∷ r)))

@@ -65,6 +65,7 @@ keyword_no_cast word.Continue rest = refl
 keyword_no_cast word.Return rest = refl
 keyword_no_cast word.Include rest = refl
 keyword_no_cast word.Require rest = refl
+keyword_no_cast word.Exit rest = refl
 keyword_no_cast word.Isset rest = refl
 keyword_no_cast word.Empty rest = refl
 keyword_no_cast word.Array rest = refl

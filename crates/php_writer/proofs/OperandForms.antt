@@ -16,7 +16,8 @@ use Rattle.script_grammar.specs.Terminals.{Terminal, variable_terminal, word_ter
 use Rattle.script_grammar.specs.Expressions.{constant_of, ExprForm, assign_form, update_form, target_form, after_form, before_form, int_form, text_form, template_form, constant_form, isset_form, empty_form, bracket_form, variable_base, call_base, SubscriptsForm, no_subscript, subscript_form, expr_terminals, expr_tree, keys_terminals, base_terminals, subscripts_terminals, base_tree, subscripts_tree, list_tree, more_exprs_tree, variable_tree, key_tree, read_tree}
 use Rattle.php_writer.specs.Marks.{Mark, keyword, name, variable, text, read, sign, marked}
 use Rattle.php_writer.specs.Spellable.{is_own_name, is_integer, is_part_key, is_read}
-use Rattle.php_writer.specs.Written.{flag_word, request_name, int_mark, sign_of_update, sign_of_step, read_name, part_key, read_keys, expr_marks, path_marks, list_marks, more_marks, items_marks}
+use Rattle.script_grammar.specs.Reserved.{request_name}
+use Rattle.php_writer.specs.Written.{flag_word, int_mark, sign_of_update, sign_of_step, read_name, part_key, read_keys, expr_marks, path_marks, list_marks, more_marks, items_marks}
 use Rattle.php_writer.proofs.Halves.{halves, own_variable, IsCallName}
 use Rattle.php_writer.proofs.FormPlaces.{IsExpr, IsPost, IsBase}
 use Rattle.php_writer.proofs.ListForms.{IsMore, IsList, IsKeys}

@@ -1,9 +1,9 @@
 -- The one test of a file: what it says, and that a file of which that holds passes it.
 use Rattle.std.proofs.Common.{◌≡◌, ℕ, ◌+◌, ◌-◌, ◌<◌, ◌≤◌, max, pos, negsuc, Bool, true, false, ◌&&◌, List, [], ◌∷◌, refl, arith}
-use Rattle.php_syntax.specs.Trees.{PlainExpr, null_expr, flag_expr, int_expr, text_expr, neg_expr, MaybeExpr, no_expr, some_expr, PlainStmt, inline_stmt, echo_stmt, run_stmt, if_stmt, while_stmt, do_while_stmt, for_stmt, each_stmt, break_stmt, continue_stmt, return_stmt, include_stmt, PlainStmts, no_stmts, more_stmts, PlainArms, no_arms, more_arms, PlainParam, PlainFunction, PlainFile}
+use Rattle.php_syntax.specs.Trees.{PlainExpr, null_expr, flag_expr, int_expr, text_expr, neg_expr, MaybeExpr, no_expr, some_expr, PlainStmt, inline_stmt, echo_stmt, run_stmt, if_stmt, while_stmt, do_while_stmt, for_stmt, each_stmt, break_stmt, continue_stmt, return_stmt, include_stmt, quit_stmt, PlainStmts, no_stmts, more_stmts, PlainArms, no_arms, more_arms, PlainParam, PlainFunction, PlainFile}
 use Rattle.php_syntax.specs.Height.{height, maybe_height, exprs_height, stmt_height, stmts_height, arms_height, params_height, functions_height, file_height}
 use Rattle.script_grammar.specs.Rules.{is_writable, maybe_writable, is_utf8, is_new_name, expr_fits, maybe_fits, exprs_fit, stmt_fits, stmts_fit, arms_fit, params_fit, functions_fit, file_fits}
-use Rattle.php_writer.specs.Spellable.{is_name, is_call_name, is_some_exprs, is_inline, is_maybe_name, is_some_arms, is_unsigned_literal, is_literal, is_default, expr_spellable, maybe_spellable, exprs_spellable, stmt_spellable, stmts_spellable, arms_spellable, params_spellable, functions_spellable, is_spellable}
+use Rattle.php_writer.specs.Spellable.{is_name, is_call_name, is_some_exprs, is_inline, is_maybe_name, is_some_arms, is_printed, is_unsigned_literal, is_literal, is_default, expr_spellable, maybe_spellable, exprs_spellable, stmt_spellable, stmts_spellable, arms_spellable, params_spellable, functions_spellable, is_spellable}
 use Rattle.php_writer.specs.Tested.{deep, is_target, expr_good, maybe_good, exprs_good, stmt_good, stmts_good, arms_good, pieces_good, params_good, functions_good, file_good}
 use Rattle.php_writer.proofs.Halves.{halves}
 use Rattle.php_writer.proofs.BackNames.{and_true}
@@ -76,6 +76,9 @@ mutual
       let one = deep_is d (i && maybe_good e (d - 1)) h in let both = halves i (maybe_good e (d - 1)) one.1
       in fit_too (1 + maybe_height e) d (maybe_spellable e) (maybe_fits e) i (over_one d (maybe_height e) (maybe_spellable e) (maybe_fits e) one.0 (maybe_sound e (d - 1) both.1)) both.0
   stmt_sound (include_stmt t) l i d h = leaf d true (is_utf8 t) (is_utf8 t) h (λ k. (refl, k))
+  stmt_sound (quit_stmt e) l i d h =
+      let one = deep_is d (is_printed e && maybe_good e (d - 1)) h in let both = halves (is_printed e) (maybe_good e (d - 1)) one.1
+      in spelled_too (1 + maybe_height e) d (maybe_spellable e) (maybe_fits e) (is_printed e) (over_one d (maybe_height e) (maybe_spellable e) (maybe_fits e) one.0 (maybe_sound e (d - 1) both.1)) both.0
 
   stmts_sound : (ss : PlainStmts) (l i : Bool) (d : ℕ) → stmts_good ss l i d ≡ true → StmtsSound ss l i d
   stmts_sound no_stmts l i d h = record { is_high = omega arith; is_spelled = refl; is_fit = refl }
@@ -137,6 +140,10 @@ mutual
       in let parts = under_one d (maybe_height e) (maybe_spellable e) (maybe_fits e) (record { is_high = h.is_high; is_spelled = h.is_spelled; is_fit = both.1 })
       in is_deep d (i && maybe_good e (d - 1)) parts.0 (and_true i (maybe_good e (d - 1)) both.0 (maybe_tests e (d - 1) parts.1))
   stmt_tests (include_stmt t) l i d h = is_deep d (is_utf8 t) (leaf_room d true (is_utf8 t) h) h.is_fit
+  stmt_tests (quit_stmt e) l i d h =
+      let both = halves (is_printed e) (maybe_spellable e) h.is_spelled
+      in let parts = under_one d (maybe_height e) (maybe_spellable e) (maybe_fits e) (record { is_high = h.is_high; is_spelled = both.1; is_fit = h.is_fit })
+      in is_deep d (is_printed e && maybe_good e (d - 1)) parts.0 (and_true (is_printed e) (maybe_good e (d - 1)) both.0 (maybe_tests e (d - 1) parts.1))
 
   stmts_test : (ss : PlainStmts) (l i : Bool) (d : ℕ) → StmtsSound ss l i d → stmts_good ss l i d ≡ true
   stmts_test no_stmts l i d h = refl
@@ -166,6 +173,7 @@ stmt_parts break_stmt l i d = refl
 stmt_parts continue_stmt l i d = refl
 stmt_parts (return_stmt e) l i d = refl
 stmt_parts (include_stmt t) l i d = refl
+stmt_parts (quit_stmt e) l i d = refl
 
 -- a literal is spellable and keeps the rules
 unsigned_so : (a : PlainExpr) → is_unsigned_literal a ≡ true → (expr_spellable a ≡ true) × (expr_fits a ≡ true)

@@ -11,7 +11,8 @@ use Rattle.php_syntax.specs.Trees.{PlainExpr, null_expr, flag_expr, int_expr, te
 use Rattle.token_spelling.specs.Spelled.{IsName}
 use Rattle.php_writer.specs.Marks.{Mark, sign}
 use Rattle.php_writer.specs.Spellable.{is_name, is_call_name, is_integer, is_unsigned, is_part_key, is_read, are_parts, is_some_exprs, expr_spellable, maybe_spellable, exprs_spellable, items_spellable, path_spellable}
-use Rattle.php_writer.specs.Written.{looseness, within, request_name, int_mark, read_name, part_key, read_keys, arith_looseness, arith_side, compare_side, arith_sign, compare_sign, sign_of_update, expr_marks, maybe_marks, join_marks, dotted_marks, list_marks, more_marks, items_marks, more_items_marks, key_marks, path_marks}
+use Rattle.script_grammar.specs.Reserved.{request_name}
+use Rattle.php_writer.specs.Written.{looseness, within, int_mark, read_name, part_key, read_keys, arith_looseness, arith_side, compare_side, arith_sign, compare_sign, sign_of_update, expr_marks, maybe_marks, join_marks, dotted_marks, list_marks, more_marks, items_marks, more_items_marks, key_marks, path_marks}
 use Rattle.php_writer.proofs.Halves.{halves, name_is, own_name_is, call_name_is, IsCallName}
 use Rattle.php_writer.proofs.CutRead.{IsKey, AreKeys}
 use Rattle.php_writer.proofs.NoCasts.{AllWritable}

@@ -3,10 +3,10 @@ use Rattle.std.proofs.Common.{◌≡◌, ℕ, true, ◌&&◌, List, [], ◌∷�
 use Rattle.php_syntax.specs.declared.token.Sign.TheVariants as signs
 use Rattle.script_grammar.specs.declared.keyword.Keyword.{Keyword}
 use Rattle.script_grammar.specs.declared.keyword.Keyword.TheVariants as word
-use Rattle.php_syntax.specs.Trees.{PlainExpr, null_expr, flag_expr, int_expr, text_expr, neg_expr, MaybeExpr, no_expr, some_expr, PlainStmt, inline_stmt, echo_stmt, run_stmt, if_stmt, while_stmt, do_while_stmt, for_stmt, each_stmt, break_stmt, continue_stmt, return_stmt, include_stmt, PlainStmts, no_stmts, more_stmts, PlainArms, no_arms, more_arms, PlainParam, PlainFunction, PlainFile}
+use Rattle.php_syntax.specs.Trees.{PlainExpr, null_expr, flag_expr, int_expr, text_expr, neg_expr, MaybeExpr, no_expr, some_expr, PlainStmt, inline_stmt, echo_stmt, run_stmt, if_stmt, while_stmt, do_while_stmt, for_stmt, each_stmt, break_stmt, continue_stmt, return_stmt, include_stmt, quit_stmt, PlainStmts, no_stmts, more_stmts, PlainArms, no_arms, more_arms, PlainParam, PlainFunction, PlainFile}
 use Rattle.php_writer.specs.Marks.{Mark, keyword, sign}
-use Rattle.php_writer.specs.Spellable.{is_name, is_call_name, is_some_exprs, is_maybe_name, is_some_arms, expr_spellable, maybe_spellable, exprs_spellable, stmt_spellable, stmts_spellable, arms_spellable, is_literal, is_default, params_spellable, functions_spellable, is_spellable}
-use Rattle.php_writer.specs.Written.{expr_marks, maybe_marks, list_marks, condition_marks, variables_marks, stmt_marks, stmts_marks, arms_marks, else_marks, default_marks, param_marks, more_params_marks, params_marks, function_marks, functions_marks, file_marks}
+use Rattle.php_writer.specs.Spellable.{is_name, is_call_name, is_some_exprs, is_maybe_name, is_some_arms, is_printed, expr_spellable, maybe_spellable, exprs_spellable, stmt_spellable, stmts_spellable, arms_spellable, is_literal, is_default, params_spellable, functions_spellable, is_spellable}
+use Rattle.php_writer.specs.Written.{expr_marks, maybe_marks, list_marks, condition_marks, argument_marks, variables_marks, stmt_marks, stmts_marks, arms_marks, else_marks, default_marks, param_marks, more_params_marks, params_marks, function_marks, functions_marks, file_marks}
 use Rattle.php_writer.proofs.Halves.{halves, name_is, call_name_is, IsCallName}
 use Rattle.php_writer.proofs.NoCasts.{AllWritable}
 use Rattle.php_writer.proofs.Writable.{Keeps, expr_keeps, maybe_keeps, list_keeps, integer_keeps}
@@ -19,6 +19,11 @@ else_keeps : (ss : PlainStmts) → Keeps (stmts_marks ss) → Keeps (else_marks 
 unfolding stmt_marks
 else_keeps no_stmts keeps r all = all
 else_keeps (more_stmts s ss) keeps r all = keeps (sign signs.CloseBrace ∷ r) all
+
+argument_keeps : (e : MaybeExpr) → maybe_spellable e ≡ true → Keeps (argument_marks e)
+unfolding expr_spellable
+argument_keeps no_expr h r all = all
+argument_keeps (some_expr e) h r all = expr_keeps e h (sign signs.CloseParen ∷ r) all
 
 abbrev body : PlainStmts → List Mark → List Mark
 body ss r = sign signs.OpenBrace ∷ stmts_marks ss (sign signs.CloseBrace ∷ r)
@@ -54,6 +59,7 @@ mutual
   stmt_keeps continue_stmt h r all = all
   stmt_keeps (return_stmt e) h r all = maybe_keeps e h (sign signs.Semicolon ∷ r) all
   stmt_keeps (include_stmt t) h r all = all
+  stmt_keeps (quit_stmt e) h r all = argument_keeps e (halves (is_printed e) (maybe_spellable e) h).1 (sign signs.Semicolon ∷ r) all
 
   stmts_keep : (ss : PlainStmts) → stmts_spellable ss ≡ true → Keeps (stmts_marks ss)
   stmts_keep no_stmts h r all = all

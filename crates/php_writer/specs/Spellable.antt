@@ -6,7 +6,8 @@ use Rattle.lexical_grammar.specs.Characters.{is_name_start, is_name_byte, before
 use Rattle.lexical_grammar.specs.Cuts.{is_opener}
 use Rattle.script_grammar.specs.Terminals.{same_bytes, keyword_of}
 use Rattle.script_grammar.specs.Rules.{is_request}
-use Rattle.php_syntax.specs.Trees.{PlainExpr, null_expr, flag_expr, int_expr, text_expr, var_expr, super_expr, member_expr, array_expr, join_expr, neg_expr, not_expr, arith_expr, compare_expr, and_expr, or_expr, coalesce_expr, choice_expr, isset_expr, empty_expr, assign_expr, update_expr, step_expr, call_expr, MaybeExpr, no_expr, some_expr, PlainExprs, no_exprs, more_exprs, PlainItems, no_items, more_items, PlainPath, no_keys, more_keys, PlainStmt, inline_stmt, echo_stmt, run_stmt, if_stmt, while_stmt, do_while_stmt, for_stmt, each_stmt, break_stmt, continue_stmt, return_stmt, include_stmt, PlainStmts, no_stmts, more_stmts, PlainArms, no_arms, more_arms, PlainParam, PlainFunction, PlainFile}
+use Rattle.script_grammar.specs.Statements.{is_status}
+use Rattle.php_syntax.specs.Trees.{PlainExpr, null_expr, flag_expr, int_expr, text_expr, var_expr, super_expr, member_expr, array_expr, join_expr, neg_expr, not_expr, arith_expr, compare_expr, and_expr, or_expr, coalesce_expr, choice_expr, isset_expr, empty_expr, assign_expr, update_expr, step_expr, call_expr, MaybeExpr, no_expr, some_expr, PlainExprs, no_exprs, more_exprs, PlainItems, no_items, more_items, PlainPath, no_keys, more_keys, PlainStmt, inline_stmt, echo_stmt, run_stmt, if_stmt, while_stmt, do_while_stmt, for_stmt, each_stmt, break_stmt, continue_stmt, return_stmt, include_stmt, quit_stmt, PlainStmts, no_stmts, more_stmts, PlainArms, no_arms, more_arms, PlainParam, PlainFunction, PlainFile}
 
 -- a name: a letter or an underscore, and then letters, digits and underscores
 abbrev pub is_name : List ℕ → Bool
@@ -115,6 +116,11 @@ abbrev pub is_some_arms : PlainArms → Bool
 is_some_arms no_arms = false
 is_some_arms (more_arms e ss a) = true
 
+-- what `exit` prints: no status, since it prints none
+abbrev pub is_printed : MaybeExpr → Bool
+is_printed no_expr = true
+is_printed (some_expr e) = not (is_status e)
+
 -- statements, lists of them, and arms
 unfoldable mutual
   pub stmt_spellable : PlainStmt → Bool
@@ -130,6 +136,7 @@ unfoldable mutual
   stmt_spellable continue_stmt = true
   stmt_spellable (return_stmt e) = maybe_spellable e
   stmt_spellable (include_stmt t) = true
+  stmt_spellable (quit_stmt e) = is_printed e && maybe_spellable e
 
   pub stmts_spellable : PlainStmts → Bool
   stmts_spellable no_stmts = true

@@ -1,8 +1,8 @@
 -- One test of a tree: that it is so high at most, that it is spellable, and that it keeps the rules. The number is how high the tree may be.
 use Rattle.std.specs.Prelude.{ℕ, ◌-◌, Bool, true, false, ◌&&◌, nat_lt, List, [], ◌∷◌}
-use Rattle.php_syntax.specs.Trees.{PlainExpr, null_expr, flag_expr, int_expr, text_expr, var_expr, super_expr, member_expr, array_expr, join_expr, neg_expr, not_expr, arith_expr, compare_expr, and_expr, or_expr, coalesce_expr, choice_expr, isset_expr, empty_expr, assign_expr, update_expr, step_expr, call_expr, MaybeExpr, no_expr, some_expr, PlainExprs, no_exprs, more_exprs, PlainItems, no_items, more_items, PlainPath, no_keys, more_keys, PlainStmt, inline_stmt, echo_stmt, run_stmt, if_stmt, while_stmt, do_while_stmt, for_stmt, each_stmt, break_stmt, continue_stmt, return_stmt, include_stmt, PlainStmts, no_stmts, more_stmts, PlainArms, no_arms, more_arms, PlainParam, PlainFunction, PlainFile}
+use Rattle.php_syntax.specs.Trees.{PlainExpr, null_expr, flag_expr, int_expr, text_expr, var_expr, super_expr, member_expr, array_expr, join_expr, neg_expr, not_expr, arith_expr, compare_expr, and_expr, or_expr, coalesce_expr, choice_expr, isset_expr, empty_expr, assign_expr, update_expr, step_expr, call_expr, MaybeExpr, no_expr, some_expr, PlainExprs, no_exprs, more_exprs, PlainItems, no_items, more_items, PlainPath, no_keys, more_keys, PlainStmt, inline_stmt, echo_stmt, run_stmt, if_stmt, while_stmt, do_while_stmt, for_stmt, each_stmt, break_stmt, continue_stmt, return_stmt, include_stmt, quit_stmt, PlainStmts, no_stmts, more_stmts, PlainArms, no_arms, more_arms, PlainParam, PlainFunction, PlainFile}
 use Rattle.script_grammar.specs.Rules.{is_known, is_writable, is_place, all_places, all_keyed, keyed_before_last, maybe_writable, is_utf8, is_new_name}
-use Rattle.php_writer.specs.Spellable.{is_name, is_call_name, is_own_name, is_integer, is_some_exprs, are_parts, is_inline, is_maybe_name, is_some_arms, is_default}
+use Rattle.php_writer.specs.Spellable.{is_name, is_call_name, is_own_name, is_integer, is_some_exprs, are_parts, is_inline, is_maybe_name, is_some_arms, is_printed, is_default}
 
 -- room for one node more, and what is asked of its parts
 unfoldable pub deep : ℕ → Bool → Bool
@@ -96,6 +96,7 @@ unfoldable mutual
   stmt_good continue_stmt in_loop in_function d = deep d in_loop
   stmt_good (return_stmt e) in_loop in_function d = deep d (in_function && maybe_good e (d - 1))
   stmt_good (include_stmt t) in_loop in_function d = deep d (is_utf8 t)
+  stmt_good (quit_stmt e) in_loop in_function d = deep d (is_printed e && maybe_good e (d - 1))
 
   pub stmts_good : PlainStmts → Bool → Bool → ℕ → Bool
   stmts_good no_stmts in_loop in_function d = true
@@ -119,6 +120,7 @@ pieces_good break_stmt in_loop in_function d = in_loop
 pieces_good continue_stmt in_loop in_function d = in_loop
 pieces_good (return_stmt e) in_loop in_function d = in_function && maybe_good e d
 pieces_good (include_stmt t) in_loop in_function d = is_utf8 t
+pieces_good (quit_stmt e) in_loop in_function d = is_printed e && maybe_good e d
 
 -- a parameter, whose name those behind it do not have
 abbrev pub param_good : PlainParam → List PlainParam → ℕ → Bool

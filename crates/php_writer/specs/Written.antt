@@ -1,5 +1,5 @@
 -- The marks that a tree is written with, before those behind it. Round brackets stand around an operand just where it is looser than its place allows.
-use Rattle.std.specs.Prelude.{ℕ, ℤ, pos, negsuc, Bool, true, false, nat_lt, if◌then◌else◌, List, [], ◌∷◌, Option, Some, None, codes}
+use Rattle.std.specs.Prelude.{ℕ, ◌+◌, ℤ, pos, negsuc, Bool, true, false, nat_lt, if◌then◌else◌, List, [], ◌∷◌, Option, Some, None, codes}
 use Rattle.php_syntax.specs.declared.token.Sign.{Sign}
 use Rattle.php_syntax.specs.declared.token.Sign.TheVariants as signs
 use Rattle.script_grammar.specs.declared.keyword.Keyword.{Keyword}
@@ -10,10 +10,12 @@ use Rattle.php_syntax.specs.declared.tree.CompareSign.{CompareSign}
 use Rattle.php_syntax.specs.declared.tree.CompareSign.TheVariants as compare
 use Rattle.php_syntax.specs.declared.tree.UpdateSign.{UpdateSign}
 use Rattle.php_syntax.specs.declared.tree.UpdateSign.TheVariants as update
-use Rattle.php_syntax.specs.declared.tree.SuperName.{SuperName}
-use Rattle.php_syntax.specs.declared.tree.SuperName.TheVariants as request
 use Rattle.php_syntax.specs.Tokens.{PlainKey, text_key, int_key, var_key}
-use Rattle.php_syntax.specs.Trees.{PlainExpr, null_expr, flag_expr, int_expr, text_expr, var_expr, super_expr, member_expr, array_expr, join_expr, neg_expr, not_expr, arith_expr, compare_expr, and_expr, or_expr, coalesce_expr, choice_expr, isset_expr, empty_expr, assign_expr, update_expr, step_expr, call_expr, MaybeExpr, no_expr, some_expr, PlainExprs, no_exprs, more_exprs, PlainItems, no_items, more_items, PlainPath, no_keys, more_keys, PlainStmt, inline_stmt, echo_stmt, run_stmt, if_stmt, while_stmt, do_while_stmt, for_stmt, each_stmt, break_stmt, continue_stmt, return_stmt, include_stmt, PlainStmts, no_stmts, more_stmts, PlainArms, no_arms, more_arms, PlainParam, PlainFunction, PlainFile}
+use Rattle.php_syntax.specs.Trees.{PlainExpr, null_expr, flag_expr, int_expr, text_expr, var_expr, super_expr, member_expr, array_expr, join_expr, neg_expr, not_expr, arith_expr, compare_expr, and_expr, or_expr, coalesce_expr, choice_expr, isset_expr, empty_expr, assign_expr, update_expr, step_expr, call_expr, MaybeExpr, no_expr, some_expr, PlainExprs, no_exprs, more_exprs, PlainItems, no_items, more_items, PlainPath, no_keys, more_keys, PlainStmt, inline_stmt, echo_stmt, run_stmt, if_stmt, while_stmt, do_while_stmt, for_stmt, each_stmt, break_stmt, continue_stmt, return_stmt, include_stmt, quit_stmt, PlainStmts, no_stmts, more_stmts, PlainArms, no_arms, more_arms, PlainParam, PlainFunction, PlainFile}
+use Rattle.script_grammar.specs.declared.operator.Level.{Level}
+use Rattle.script_grammar.specs.declared.operator.Level.TheVariants as level
+use Rattle.script_grammar.specs.Operators.{level_rank}
+use Rattle.script_grammar.specs.Reserved.{request_name}
 use Rattle.php_writer.specs.Marks.{Mark, keyword, name, variable, integer, text, read, sign, outside}
 
 -- the sign of an operation
@@ -53,52 +55,46 @@ abbrev pub flag_word : Bool → Keyword
 flag_word true = word.True
 flag_word false = word.False
 
--- a variable of the request
-abbrev pub request_name : SuperName → List ℕ
-request_name request.Get = codes "_GET"
-request_name request.Post = codes "_POST"
-request_name request.Cookie = codes "_COOKIE"
-request_name request.Request = codes "_REQUEST"
-request_name request.Server = codes "_SERVER"
-
 -- a literal, or the constant of the least integer
 unfoldable pub int_mark : ℤ → Mark
 int_mark (pos n) = integer n
 int_mark (negsuc n) = keyword word.PhpIntMin
 
--- How loose an operation is: products 3, sums 4, orders 6 and equalities 7.
+-- the level of an operation, and how loose its place is: two more than the rank of its level, since what takes subscripts and other operands stand below
+abbrev pub level_looseness : Level → ℕ
+level_looseness l = 2 + level_rank l
+
+abbrev pub arith_level : ArithSign → Level
+arith_level arith.Add = level.Sum
+arith_level arith.Sub = level.Sum
+arith_level arith.Mul = level.Product
+arith_level arith.Rem = level.Product
+
 abbrev pub arith_looseness : ArithSign → ℕ
-arith_looseness arith.Add = 4
-arith_looseness arith.Sub = 4
-arith_looseness arith.Mul = 3
-arith_looseness arith.Rem = 3
+arith_looseness s = level_looseness (arith_level s)
 
 -- the same of a comparison
+abbrev pub compare_level : CompareSign → Level
+compare_level compare.Less = level.Order
+compare_level compare.LessEqual = level.Order
+compare_level compare.Greater = level.Order
+compare_level compare.GreaterEqual = level.Order
+compare_level _ = level.Equality
+
 abbrev pub compare_looseness : CompareSign → ℕ
-compare_looseness compare.Less = 6
-compare_looseness compare.LessEqual = 6
-compare_looseness compare.Greater = 6
-compare_looseness compare.GreaterEqual = 6
-compare_looseness _ = 7
+compare_looseness s = level_looseness (compare_level s)
 
 -- how loose the second operand of an operation may be, and either of a comparison
 abbrev pub arith_side : ArithSign → ℕ
-arith_side arith.Add = 3
-arith_side arith.Sub = 3
-arith_side arith.Mul = 2
-arith_side arith.Rem = 2
+arith_side s = 1 + level_rank (arith_level s)
 
 -- the same of a comparison
 abbrev pub compare_side : CompareSign → ℕ
-compare_side compare.Less = 5
-compare_side compare.LessEqual = 5
-compare_side compare.Greater = 5
-compare_side compare.GreaterEqual = 5
-compare_side _ = 6
+compare_side s = 1 + level_rank (compare_level s)
 
 -- a chain of `.` or a template
 abbrev pub join_looseness : PlainExprs → ℕ
-join_looseness (more_exprs e (more_exprs f es)) = 5
+join_looseness (more_exprs e (more_exprs f es)) = level_looseness level.Join
 join_looseness _ = 1
 
 -- How loose an expression is: what takes subscripts 0, then literals, texts and brackets 1, operators before an operand 2, the binary levels
@@ -113,8 +109,8 @@ looseness (neg_expr a) = 2
 looseness (not_expr a) = 2
 looseness (arith_expr s a b) = arith_looseness s
 looseness (compare_expr s a b) = compare_looseness s
-looseness (and_expr a b) = 8
-looseness (or_expr a b) = 9
+looseness (and_expr a b) = level_looseness level.And
+looseness (or_expr a b) = level_looseness level.Or
 looseness (coalesce_expr a b) = 10
 looseness (choice_expr a m b) = 11
 looseness (assign_expr x ks e) = 12
@@ -235,6 +231,11 @@ chain_marks (more_exprs e es) s place r = placed_marks place e (behind_marks es 
 abbrev pub condition_marks : PlainExpr → List Mark → List Mark
 condition_marks e r = sign signs.OpenParen ∷ expr_marks e (sign signs.CloseParen ∷ r)
 
+-- the argument of `exit` in round brackets, if it has one
+abbrev pub argument_marks : MaybeExpr → List Mark → List Mark
+argument_marks no_expr r = r
+argument_marks (some_expr e) r = condition_marks e r
+
 -- the variables of a `foreach`
 abbrev pub variables_marks : Option (List ℕ) → List ℕ → List Mark → List Mark
 variables_marks None x r = variable x ∷ r
@@ -255,6 +256,7 @@ unfoldable mutual
   stmt_marks continue_stmt r = keyword word.Continue ∷ sign signs.Semicolon ∷ r
   stmt_marks (return_stmt e) r = keyword word.Return ∷ maybe_marks e (sign signs.Semicolon ∷ r)
   stmt_marks (include_stmt t) r = keyword word.Include ∷ text t ∷ sign signs.Semicolon ∷ r
+  stmt_marks (quit_stmt e) r = keyword word.Exit ∷ argument_marks e (sign signs.Semicolon ∷ r)
 
   pub stmts_marks : PlainStmts → List Mark → List Mark
   stmts_marks no_stmts r = r

@@ -7,11 +7,11 @@ ghost use Rattle.script_grammar.specs.Rules.{all_places};
 ghost use Rattle.php_writer.specs.Spellable.{is_some_exprs};
 ghost use Rattle.php_writer.specs.Tested as spec;
 
-use crate::names::{is_call_name, is_known, is_own_name, is_target};
-use crate::shapes::{
-    all_keyed, are_parts, are_places, is_integer, is_place, is_some, keyed_before_last,
-};
+use crate::names::{is_call_name, is_own_name, is_target};
+use crate::shapes::{all_keyed, are_parts, are_places, is_integer, is_some, keyed_before_last};
 use php_syntax::tree::{Expr, Target};
+use script_grammar::reserved::is_known;
+use script_grammar::shapes::is_place;
 
 /// Whether an expression is good, where it may be so high.
 #[cycle(expression_tests)]

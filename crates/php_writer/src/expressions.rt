@@ -10,13 +10,13 @@ ghost use Rattle.php_writer.specs.Written.{int_mark, sign_of_update, placed_mark
 
 use crate::marks::Writer;
 use crate::places::{
-    AND, COALESCE, Infix, OR, arithmetic, comparison, flag_word, looseness, request_name,
-    step_sign, update_sign,
+    AND, COALESCE, Infix, OR, arithmetic, comparison, flag_word, looseness, step_sign, update_sign,
 };
 use crate::reads::put_read;
-use script_grammar::keyword::Keyword;
 use php_syntax::token::Sign;
 use php_syntax::tree::{Expr, Target, UpdateSign};
+use script_grammar::keyword::Keyword;
+use script_grammar::reserved::request_name;
 use text_base::{Bytes, NoMemory};
 
 // An operand in a place that allows so much, in round brackets where it is looser.

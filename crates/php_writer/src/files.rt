@@ -12,9 +12,9 @@ ghost use Rattle.php_writer.specs.Written.{default_marks, param_marks, params_ma
 use crate::expressions::expression;
 use crate::marks::Writer;
 use crate::statements::{body, statements};
-use script_grammar::keyword::Keyword;
 use php_syntax::token::Sign;
 use php_syntax::tree::{Expr, FileTree, FunctionDef, Param};
+use script_grammar::keyword::Keyword;
 use std::alloc::Global;
 use text_base::{Bytes, NoMemory};
 

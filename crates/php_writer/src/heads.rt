@@ -7,13 +7,13 @@ ghost use Rattle.script_grammar.specs.declared.keyword.Keyword.TheVariants as wo
 ghost use Rattle.php_syntax.specs.Trees.{plain_expr, exprs_of, maybe_of};
 ghost use Rattle.php_writer.specs.Marks.{Mark, Adds};
 ghost use Rattle.php_writer.specs.Marks as mark;
-ghost use Rattle.php_writer.specs.Written.{expr_marks, maybe_marks, list_marks, condition_marks, variables_marks};
+ghost use Rattle.php_writer.specs.Written.{expr_marks, maybe_marks, list_marks, condition_marks, argument_marks, variables_marks};
 
 use crate::expressions::{condition, expression, list, maybe};
 use crate::marks::Writer;
-use script_grammar::keyword::Keyword;
 use php_syntax::token::Sign;
 use php_syntax::tree::Expr;
+use script_grammar::keyword::Keyword;
 use text_base::{Bytes, NoMemory};
 
 /// `echo`
@@ -50,6 +50,26 @@ pub fn returned(out: &mut Writer, value: &Option<Expr>) -> Result<(), NoMemory>
 {
     out.keyword(Keyword::Return)?;
     maybe(out, value)?;
+    out.sign(Sign::Semicolon)?;
+    Ok(())
+}
+
+// An argument in round brackets, if there is one.
+fn argument(out: &mut Writer, value: &Option<Expr>) -> Result<(), NoMemory>
+    ensures { OnOk result (Adds out.old.bytes out.new.bytes (argument_marks (maybe_of value.now))) }
+{
+    match value {
+        None => Ok(()),
+        Some(value) => condition(out, value),
+    }
+}
+
+/// `exit`
+pub fn quit(out: &mut Writer, value: &Option<Expr>) -> Result<(), NoMemory>
+    ensures { OnOk result (Adds out.old.bytes out.new.bytes (λ behind. mark.keyword words.Exit ∷ argument_marks (maybe_of value.now) (mark.sign signs.Semicolon ∷ behind))) }
+{
+    out.keyword(Keyword::Exit)?;
+    argument(out, value)?;
     out.sign(Sign::Semicolon)?;
     Ok(())
 }

@@ -22,8 +22,6 @@ mod reads;
 mod shapes;
 mod statement_tests;
 mod statements;
-#[cfg(test)]
-mod tests;
 
 pub use file_tests::well_formed;
 pub use files::write_tree;

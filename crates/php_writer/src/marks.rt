@@ -6,8 +6,8 @@ ghost use Rattle.php_writer.specs.Marks as mark;
 ghost use Rattle.php_writer.specs.Written.{int_mark};
 ghost use Rattle.token_spelling.specs.Spelled.{quoted};
 
-use script_grammar::keyword::Keyword;
 use php_syntax::token::Sign;
+use script_grammar::keyword::Keyword;
 use std::alloc::Global;
 use text_base::{Bytes, NoMemory};
 
@@ -156,6 +156,7 @@ fn keyword_text(keyword: Keyword) -> &'static [u8]
         Keyword::Return => b"return",
         Keyword::Include => b"include",
         Keyword::Require => b"require",
+        Keyword::Exit => b"exit",
         Keyword::Isset => b"isset",
         Keyword::Empty => b"empty",
         Keyword::Array => b"array",

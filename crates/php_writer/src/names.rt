@@ -6,11 +6,11 @@ ghost use Rattle.std.specs.List.{list_all};
 ghost use Rattle.std.specs.Str.{str_to_ascii_lowercase};
 ghost use Rattle.lexical_grammar.specs.Characters as chars;
 ghost use Rattle.script_grammar.specs.Terminals.{same_bytes};
-ghost use Rattle.script_grammar.specs.Rules as spec;
 ghost use Rattle.php_writer.specs.Spellable as spelled;
 ghost use Rattle.php_writer.specs.Tested as tested;
 
 use script_grammar::keyword::keyword_named;
+use script_grammar::reserved::{is_request, is_writable};
 
 fn is_digit(byte: u8) -> bool
     ensures { result ≡ chars.is_digit byte }
@@ -51,31 +51,6 @@ pub fn is_name(name: &[u8]) -> bool
         None => false,
         Some((first, rest)) => is_name_start(*first) && are_name_bytes(rest),
     }
-}
-
-/// Whether the name is that of a variable of the request.
-fn is_request(name: &[u8]) -> bool
-    ensures { result ≡ spec.is_request name.now }
-{
-    name == b"_GET".as_slice()
-        || name == b"_POST".as_slice()
-        || name == b"_COOKIE".as_slice()
-        || name == b"_REQUEST".as_slice()
-        || name == b"_SERVER".as_slice()
-}
-
-/// Whether a variable of the name stands in the language.
-pub fn is_known(name: &[u8]) -> bool
-    ensures { result ≡ spec.is_known name.now }
-{
-    !(name == b"this".as_slice() || name == b"GLOBALS".as_slice())
-}
-
-/// Whether a variable of the name may be written.
-pub fn is_writable(name: &[u8]) -> bool
-    ensures { result ≡ spec.is_writable name.now }
-{
-    is_known(name) && !is_request(name)
 }
 
 /// Whether the bytes are the name of a variable that is none of the request.

@@ -4,9 +4,9 @@ ghost use Rattle.std.specs.Prelude.{◌≡◌};
 ghost use Rattle.php_syntax.specs.Trees.{plain_expr, exprs_of};
 ghost use Rattle.php_writer.specs.Written as written;
 
-use script_grammar::keyword::Keyword;
 use php_syntax::token::Sign;
-use php_syntax::tree::{ArithSign, CompareSign, Expr, SuperName, UpdateSign};
+use php_syntax::tree::{ArithSign, CompareSign, Expr, UpdateSign};
+use script_grammar::keyword::Keyword;
 
 /// An operation between two operands: how loose the first may be, its sign, and how loose the
 /// second may be.
@@ -103,19 +103,6 @@ pub fn flag_word(flag: bool) -> Keyword
     ensures { result ≡ written.flag_word flag }
 {
     if flag { Keyword::True } else { Keyword::False }
-}
-
-/// The name of a variable of the request.
-pub fn request_name(name: SuperName) -> &'static [u8]
-    ensures { result.now ≡ written.request_name name }
-{
-    match name {
-        SuperName::Get => b"_GET",
-        SuperName::Post => b"_POST",
-        SuperName::Cookie => b"_COOKIE",
-        SuperName::Request => b"_REQUEST",
-        SuperName::Server => b"_SERVER",
-    }
 }
 
 // How loose a comparison is.

@@ -8,8 +8,8 @@ ghost use Rattle.php_writer.specs.Marks as mark;
 ghost use Rattle.php_writer.specs.Written.{read_name, part_key, read_keys};
 
 use crate::marks::Writer;
-use crate::places::request_name;
 use php_syntax::tree::Expr;
+use script_grammar::reserved::request_name;
 use text_base::NoMemory;
 
 // Puts a text as a key.

@@ -7,6 +7,7 @@ ghost use Rattle.php_writer.specs.Spellable as spelled;
 
 use crate::names::is_own_name;
 use php_syntax::tree::Expr;
+use script_grammar::shapes::is_place;
 
 // Whether an integer is written as a literal.
 fn is_unsigned(number: &i64) -> bool
@@ -20,22 +21,6 @@ pub fn is_integer(number: &i64) -> bool
     ensures { result ≡ spelled.is_integer number.now }
 {
     *number >= 0 || *number == i64::MIN
-}
-
-/// Whether an expression is a variable with subscripts.
-#[tactic(auto, using(php_syntax::proofs::Views::views))]
-pub fn is_place(expr: &Expr) -> bool
-    ensures { result ≡ spec.is_place (plain_expr expr.now) }
-{
-    match expr {
-        Expr::Var(_) | Expr::Super(_) => true,
-        Expr::Member(base, _) => is_place(base),
-        Expr::Null | Expr::Flag(_) | Expr::Int(_) | Expr::Text(_) => false,
-        Expr::Step { .. } | Expr::ArrayOf(_) | Expr::Join(_) | Expr::Neg(_) => false,
-        Expr::Not(_) | Expr::Isset(_) | Expr::Empty(_) | Expr::Arith(..) => false,
-        Expr::Compare(..) | Expr::And(..) | Expr::Or(..) | Expr::Coalesce(..) => false,
-        Expr::Choice(..) | Expr::Assign(..) | Expr::Update(..) | Expr::Call(..) => false,
-    }
 }
 
 /// Whether each is a variable with subscripts.

@@ -7,10 +7,12 @@ ghost use Rattle.php_writer.specs.Spellable as spelled;
 ghost use Rattle.php_writer.specs.Tested as spec;
 
 use crate::expression_tests::{are_good, is_good, is_maybe_good};
-use crate::names::{is_name, is_target, is_writable};
+use crate::names::{is_name, is_target};
 use crate::openers::is_inline;
 use crate::shapes::is_some;
 use php_syntax::tree::{Expr, Stmt};
+use script_grammar::reserved::is_writable;
+use script_grammar::shapes::is_status;
 use text_base::Bytes;
 
 // Whether bytes are UTF-8.
@@ -40,6 +42,16 @@ fn is_maybe_writable(name: &Option<Bytes>) -> bool
 {
     match name {
         Some(name) => is_writable(name.as_slice()),
+        None => true,
+    }
+}
+
+// Whether `exit` prints the expression, if there is one: it prints no status.
+fn is_printed(value: &Option<Expr>) -> bool
+    ensures { result ≡ spelled.is_printed (maybe_of value.now) }
+{
+    match value {
+        Some(value) => !is_status(value),
         None => true,
     }
 }
@@ -146,5 +158,6 @@ fn has_good_pieces(stmt: &Stmt, in_loop: bool, in_function: bool, room: usize) -
         Stmt::Break | Stmt::Continue => in_loop,
         Stmt::Return(value) => in_function && is_maybe_good(value, room),
         Stmt::Include(file) => is_utf8(file.as_slice()),
+        Stmt::Quit(value) => is_printed(value) && is_maybe_good(value, room),
     }
 }

@@ -8,11 +8,11 @@ ghost use Rattle.php_writer.specs.Marks.{Mark, Adds};
 ghost use Rattle.php_writer.specs.Marks as mark;
 ghost use Rattle.php_writer.specs.Written.{condition_marks, stmt_marks, stmts_marks, arms_marks, else_marks};
 
-use crate::heads::{do_end, each_head, echo, for_head, head, include, jump, returned, run};
+use crate::heads::{do_end, each_head, echo, for_head, head, include, jump, quit, returned, run};
 use crate::marks::Writer;
-use script_grammar::keyword::Keyword;
 use php_syntax::token::Sign;
 use php_syntax::tree::{Expr, Stmt};
+use script_grammar::keyword::Keyword;
 use text_base::NoMemory;
 
 /// Statements.
@@ -111,5 +111,6 @@ pub fn statement(out: &mut Writer, stmt: &Stmt) -> Result<(), NoMemory>
         Stmt::Continue => jump(out, Keyword::Continue),
         Stmt::Return(value) => returned(out, value),
         Stmt::Include(file) => include(out, file),
+        Stmt::Quit(value) => quit(out, value),
     }
 }

@@ -1,23 +1,29 @@
 // Scripts, what they have the same tree as, and what no tree is.
 use php_lexer::lex;
 use php_parser::{ParseRefusal, parse};
+use php_syntax::tree::FileTree;
 use php_writer::write_tree;
+use round_trip::read_back;
 use std::alloc::Global;
 use std::test::Fail;
 use text_base::Bytes;
 
-/// The script's tree as it is written; none where its tokens spell no tree.
-fn read_bytes(alloc: Global, script: &[u8]) -> Result<Option<Bytes>, Fail> {
+/// The script's tree; none where its tokens spell no tree.
+fn tree_of(alloc: Global, script: &[u8]) -> Result<Option<FileTree>, Fail> {
     let tokens = lex(alloc, script)?;
     match parse(alloc, tokens.as_slice()) {
-        Ok(tree) => Ok(Some(write_tree(alloc, &tree)?)),
+        Ok(tree) => Ok(Some(tree)),
         Err(ParseRefusal::NotInSubset { .. }) => Ok(None),
         Err(refusal) => Err(Fail::from(refusal)),
     }
 }
 
-fn read(alloc: Global, script: &str) -> Result<Option<Bytes>, Fail> {
-    read_bytes(alloc, script.as_bytes())
+/// The script's tree as it is written; none where its tokens spell no tree.
+fn read_bytes(alloc: Global, script: &[u8]) -> Result<Option<Bytes>, Fail> {
+    match tree_of(alloc, script)? {
+        Some(tree) => Ok(Some(write_tree(alloc, &tree)?)),
+        None => Ok(None),
+    }
 }
 
 /// A statement after the opener.
@@ -72,6 +78,9 @@ fn other_brackets(rt: HostRuntime) -> Result<(), Fail> {
         ("$a || $b && $c;", "($a || $b) && $c;"),
         ("$a ?? $b ?? $c;", "($a ?? $b) ?? $c;"),
         ("$a ?: 2;", "$a ? $a : 2;"),
+        ("die('x');", "die;"),
+        ("exit(1 + 2);", "exit(3);"),
+        ("exit(- -3);", "exit(-3);"),
         (
             "if ($a) if ($b) echo 1; else echo 2;",
             "if ($a) { if ($b) echo 1; } else echo 2;",
@@ -114,6 +123,11 @@ fn alternative_forms(rt: HostRuntime) -> Result<(), Fail> {
         ),
         ("do echo 1; while ($a);", "do { echo 1; } while ($a);"),
         ("include 'a';", "require ('a');"),
+        ("die('x');", "EXIT('x');"),
+        ("exit;", "Die();"),
+        ("exit;", "exit(3);"),
+        ("exit;", "exit(-3);"),
+        ("exit;", "exit((PHP_INT_MAX));"),
         ("$a <> 1;", "$a != 1;"),
         ("array(1, 'k' => 2);", "[1, 'k' => 2,];"),
         ("(string) $a;", "StrVal($a);"),
@@ -155,6 +169,26 @@ fn rules(rt: HostRuntime) -> Result<(), Fail> {
         ("foreach ($_GET as $k => $v) ;", "foreach ($a as $_GET) ;"),
         ("echo $that;", "echo $this;"),
         ("echo $globals;", "echo $GLOBALS;"),
+        ("echo $_files;", "echo $_FILES;"),
+        ("$session['a'] = 1;", "$_SESSION['a'] = 1;"),
+        ("$a .= $b[1];", "$a .= $b[$_ENV];"),
+        ("function f($v) {}", "function f($argv) {}"),
+        (
+            "foreach ($a as $k => $v) ;",
+            "foreach ($a as $argc => $v) ;",
+        ),
+        ("foreach ($a as $v) ;", "foreach ($a as $argv) ;"),
+        ("$c++;", "$argc++;"),
+        ("isset($a['b']);", "isset($_SESSION['b']);"),
+        ("echo \"$a[$k]\";", "echo \"$a[$argv]\";"),
+        ("echo \"{$a['b']}\";", "echo \"{$_FILES['b']}\";"),
+        ("exit('a');", "exit 'a';"),
+        ("exit();", "exit(1, 2);"),
+        ("f(); exit;", "f() || exit;"),
+        ("quit(1);", "$a = die(1);"),
+        ("function quit() {}", "function Exit() {}"),
+        ("function dies() {}", "function die() {}"),
+        ("exit(isset($a));", "exit(isset(1));"),
         ("echo PHP_EOL;", "echo php_eol;"),
         ("$x = 1;", "($x) = 1;"),
         ("1 < 2;", "1 < 2 < 3;"),
@@ -184,13 +218,15 @@ fn written_and_read_again(rt: HostRuntime) -> Result<(), Fail> {
         "<?php echo implode('-', explode(',', 'a,,b'));",
         "<html>\n<?php if (isset($_GET['n'])): ?>\n\n<p><?= $_GET['n'] ?></p><?php endif ?></html>",
         "<?php function f($a, $b = 1) { while ($a--) { if ($a == $b) return -$a; } } echo \"$x[1] and {$y['k'][$z]}\";",
+        "<?php if ($a) exit; elseif ($b) die('x' . $b); else exit(4);",
         "",
     ] {
-        match read(alloc, script)? {
+        match tree_of(alloc, script.as_bytes())? {
             None => assert!(rt; false, "{script}"),
-            Some(written) => {
-                let again = read_bytes(alloc, written.as_slice())?;
-                assert_eq!(rt; again, Some(written), "{script}");
+            Some(tree) => {
+                let written = write_tree(alloc, &tree)?;
+                let again = read_back(alloc, &tree)?;
+                assert_eq!(rt; write_tree(alloc, &again)?, written, "{script}");
             }
         }
     }

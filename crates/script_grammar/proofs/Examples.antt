@@ -9,11 +9,12 @@ use Rattle.script_grammar.specs.declared.operator.Prefix.TheVariants as prefix
 use Rattle.php_syntax.specs.declared.tree.ArithSign.TheVariants as arith
 use Rattle.php_syntax.specs.declared.tree.CompareSign.TheVariants as compare
 use Rattle.php_syntax.specs.declared.tree.UpdateSign.TheVariants as update
+use Rattle.php_syntax.specs.declared.tree.SuperName.TheVariants as request
 use Rattle.php_syntax.specs.Tokens.{PlainToken, name, text, sign}
-use Rattle.php_syntax.specs.Trees.{int_expr, text_expr, var_expr, member_expr, join_expr, neg_expr, arith_expr, compare_expr, coalesce_expr, isset_expr, assign_expr, update_expr, call_expr, no_expr, some_expr, no_exprs, more_exprs, no_keys, more_keys, echo_stmt, while_stmt, break_stmt, return_stmt, no_stmts, more_stmts, PlainFile}
+use Rattle.php_syntax.specs.Trees.{int_expr, text_expr, var_expr, member_expr, join_expr, neg_expr, arith_expr, compare_expr, coalesce_expr, isset_expr, assign_expr, update_expr, call_expr, no_expr, some_expr, no_exprs, more_exprs, no_keys, more_keys, echo_stmt, while_stmt, super_expr, break_stmt, return_stmt, quit_stmt, PlainStmts, no_stmts, more_stmts, PlainFile}
 use Rattle.script_grammar.specs.Terminals.{keyword_of, terminal_of, word_terminal, name_terminal, int_terminal, text_terminal, sign_terminal}
-use Rattle.script_grammar.specs.Expressions.{ExprForm, choice_form, only_choice, only_nul, coalesce_form, ChainForm, chain_form, no_more, once_more, one_more, OperandForm, tighter_form, tightest_form, prefix_form, post_form, PostForm, base_form, int_form, text_form, variable_base, escape_base, quotes_and_charset, no_subscript, no_more_exprs, expr_terminals, expr_tree, chain_terminals, chain_tree, nul_tree, post_tree}
-use Rattle.script_grammar.specs.Statements.{echo_form, if_form, while_form, stmt_body, semicolon_form, colon_if_form, no_stmts_form, more_stmts_form, no_colon_arms, colon_else, no_arms_form, no_else_form, else_form, nearest, takes_else, stmt_terminals, stmt_trees, stmt_part, end_of_file}
+use Rattle.script_grammar.specs.Expressions.{ExprForm, choice_form, only_choice, only_nul, coalesce_form, ChainForm, chain_form, no_more, once_more, one_more, OperandForm, tighter_form, tightest_form, prefix_form, post_form, PostForm, base_form, int_form, text_form, variable_base, escape_base, quotes_and_charset, no_subscript, no_more_exprs, variable_tree, expr_terminals, expr_tree, chain_terminals, chain_tree, nul_tree, post_tree}
+use Rattle.script_grammar.specs.Statements.{something_form, printed, exit_form, exit_parens_form, echo_form, if_form, while_form, stmt_body, semicolon_form, colon_if_form, no_stmts_form, more_stmts_form, no_colon_arms, colon_else, no_arms_form, no_else_form, else_form, nearest, takes_else, stmt_terminals, stmt_trees, stmt_part, end_of_file}
 use Rattle.script_grammar.specs.Rules.{expr_fits, stmt_fits, is_writable}
 use Rattle.script_grammar.specs.Grammar.{SpellsTree, most_open}
 
@@ -123,6 +124,12 @@ constant-keyword = refl
 miscased-keyword : keyword_of (codes "php_eol") ≡ Some word.Miscased
 miscased-keyword = refl
 
+exit-keyword : keyword_of (codes "Exit") ≡ Some word.Exit
+exit-keyword = refl
+
+die-keyword : keyword_of (codes "DIE") ≡ Some word.Exit
+die-keyword = refl
+
 other-name : terminal_of (name (codes "Echoes")) ≡ name_terminal (codes "Echoes")
 other-name = refl
 
@@ -182,6 +189,20 @@ open_key_read = refl
 written_request : is_writable (codes "_GET") ≡ false
 written_request = refl
 
+written_files : is_writable (codes "_FILES") ≡ false
+written_files = refl
+
+read_arguments : expr_fits (var_expr (codes "argv")) ≡ false
+unfolding expr_fits
+read_arguments = refl
+
+read_others : expr_fits (var_expr (codes "_files")) ≡ true
+unfolding expr_fits
+read_others = refl
+
+read_request : variable_tree (codes "_SERVER") ≡ super_expr request.Server
+read_request = refl
+
 read_this : expr_fits (var_expr (codes "this")) ≡ false
 unfolding expr_fits
 read_this = refl
@@ -198,6 +219,32 @@ break_outside = refl
 return_outside : stmt_fits true false (return_stmt no_expr) ≡ false
 unfolding stmt_fits
 return_outside = refl
+
+-- `exit;`, `exit(3);` and `exit(-3);` print nothing, `die('x');` prints its text
+abbrev exit_of : PostForm → PlainStmts
+exit_of p = stmt_trees (exit_parens_form (something_form (expression p))) no_stmts
+
+exit_bare : stmt_trees exit_form no_stmts ≡ more_stmts (quit_stmt no_expr) no_stmts
+unfolding stmt_trees
+exit_bare = refl
+
+exit_status : exit_of (int_form (pos 3)) ≡ more_stmts (quit_stmt no_expr) no_stmts
+unfolding stmt_trees expr_tree
+exit_status = refl
+
+exit_negated : printed (neg_expr (int_expr (pos 3))) ≡ no_expr
+exit_negated = refl
+
+exit_twice_negated : printed (neg_expr (neg_expr (int_expr (pos 3)))) ≡ some_expr (neg_expr (neg_expr (int_expr (pos 3))))
+exit_twice_negated = refl
+
+exit_text : exit_of (text_form (codes "x")) ≡ more_stmts (quit_stmt (some_expr (text_expr (codes "x")))) no_stmts
+unfolding stmt_trees expr_tree
+exit_text = refl
+
+exit_anywhere : stmt_fits false false (quit_stmt no_expr) ≡ true
+unfolding stmt_fits expr_fits
+exit_anywhere = refl
 
 -- the tokens of `ECHO 'a';` spell one statement, wherever they stand
 abbrev echo_a : PlainFile

@@ -7,7 +7,7 @@ use Rattle.php_syntax.specs.declared.token.Sign.TheVariants as sign
 use Rattle.script_grammar.specs.declared.keyword.Keyword.{Keyword}
 use Rattle.script_grammar.specs.declared.keyword.Keyword.TheVariants as word
 use Rattle.php_syntax.specs.declared.tree.UpdateSign.{UpdateSign}
-use Rattle.php_syntax.specs.declared.tree.SuperName.TheVariants as request
+use Rattle.php_syntax.specs.declared.tree.SuperName.{SuperName}
 use Rattle.script_grammar.specs.declared.operator.Level.{Level}
 use Rattle.script_grammar.specs.declared.operator.Level.TheVariants as level
 use Rattle.script_grammar.specs.declared.operator.Operator.{Operator}
@@ -16,8 +16,9 @@ use Rattle.script_grammar.specs.declared.operator.Prefix.{Prefix}
 use Rattle.script_grammar.specs.declared.operator.Prefix.TheVariants as prefix
 use Rattle.php_syntax.specs.Tokens.{PlainKey, text_key, int_key, var_key, PlainPart, plain_part, read_part}
 use Rattle.php_syntax.specs.Trees.{PlainExpr, null_expr, flag_expr, int_expr, text_expr, var_expr, super_expr, member_expr, array_expr, join_expr, neg_expr, not_expr, arith_expr, compare_expr, and_expr, or_expr, coalesce_expr, choice_expr, isset_expr, empty_expr, assign_expr, update_expr, step_expr, call_expr, no_expr, some_expr, PlainExprs, no_exprs, more_exprs, PlainItems, no_items, more_items, PlainPath, no_keys, more_keys}
+use Rattle.script_grammar.specs.Rules.{request_named}
 use Rattle.script_grammar.specs.Operators.{tighter_level, repeats, binary_operator, prefix_operator, update_sign, step_sign}
-use Rattle.script_grammar.specs.Terminals.{Terminal, variable_terminal, word_terminal, name_terminal, int_terminal, text_terminal, template_terminal, sign_terminal, same_bytes}
+use Rattle.script_grammar.specs.Terminals.{Terminal, variable_terminal, word_terminal, name_terminal, int_terminal, text_terminal, template_terminal, sign_terminal}
 
 -- the value of a constant
 abbrev pub constant_of : Keyword → Option PlainExpr
@@ -223,14 +224,12 @@ unfoldable mutual
   item_terminals (keyed_item k e) r = expr_terminals k (sign_terminal sign.DoubleArrow ∷ expr_terminals e r)
 
 -- a variable by its name: the five of the request are their own
+abbrev pub request_or : Option SuperName → List ℕ → PlainExpr
+request_or None x = var_expr x
+request_or (Some s) x = super_expr s
+
 abbrev pub variable_tree : List ℕ → PlainExpr
-variable_tree x =
-    if same_bytes x (codes "_GET") then super_expr request.Get
-    else (if same_bytes x (codes "_POST") then super_expr request.Post
-    else (if same_bytes x (codes "_COOKIE") then super_expr request.Cookie
-    else (if same_bytes x (codes "_REQUEST") then super_expr request.Request
-    else (if same_bytes x (codes "_SERVER") then super_expr request.Server
-    else var_expr x))))
+variable_tree x = request_or (request_named x) x
 
 -- the parts of a template: texts and members of variables
 abbrev pub key_tree : PlainKey → PlainExpr

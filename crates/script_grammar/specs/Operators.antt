@@ -1,5 +1,5 @@
 -- Operators and the levels of their precedence (PHP manual, "Operator Precedence").
-use Rattle.std.specs.Prelude.{Bool, true, false, Option, Some, None}
+use Rattle.std.specs.Prelude.{ℕ, Bool, true, false, Option, Some, None}
 use Rattle.php_syntax.specs.declared.token.Sign.{Sign}
 use Rattle.php_syntax.specs.declared.token.Sign.TheVariants as sign
 use Rattle.php_syntax.specs.declared.tree.ArithSign.TheVariants as arith
@@ -22,6 +22,16 @@ tighter_level level.Order = Some level.Join
 tighter_level level.Join = Some level.Sum
 tighter_level level.Sum = Some level.Product
 tighter_level level.Product = None
+
+-- How loosely a level binds: the one scale of precedence. Operators before an operand stand at 0, `??` at 8, `?:` at 9 and assignments at 10.
+abbrev pub level_rank : Level → ℕ
+level_rank level.Product = 1
+level_rank level.Sum = 2
+level_rank level.Join = 3
+level_rank level.Order = 4
+level_rank level.Equality = 5
+level_rank level.And = 6
+level_rank level.Or = 7
 
 -- whether a level takes any number of operands in a row: comparisons do not
 abbrev pub repeats : Level → Bool

@@ -1,16 +1,29 @@
 -- The rules that a tree of the language keeps beside the grammar.
-use Rattle.std.specs.Prelude.{ℕ, Bool, true, false, not, ◌==◌, ◌&&◌, ◌||◌, List, [], ◌∷◌, length, Option, Some, None, codes}
+use Rattle.std.specs.Prelude.{ℕ, Bool, true, false, not, ◌==◌, ◌&&◌, ◌||◌, List, [], ◌∷◌, length, Option, Some, None, is_some, if◌then◌else◌}
+use Rattle.std.specs.List.{list_any}
 use Rattle.std.specs.Str.Lossy.{utf8_valid_len}
-use Rattle.php_syntax.specs.Trees.{PlainExpr, null_expr, flag_expr, int_expr, text_expr, var_expr, super_expr, member_expr, array_expr, join_expr, neg_expr, not_expr, arith_expr, compare_expr, and_expr, or_expr, coalesce_expr, choice_expr, isset_expr, empty_expr, assign_expr, update_expr, step_expr, call_expr, MaybeExpr, no_expr, some_expr, PlainExprs, no_exprs, more_exprs, PlainItems, no_items, more_items, PlainPath, no_keys, more_keys, PlainStmt, inline_stmt, echo_stmt, run_stmt, if_stmt, while_stmt, do_while_stmt, for_stmt, each_stmt, break_stmt, continue_stmt, return_stmt, include_stmt, PlainStmts, no_stmts, more_stmts, PlainArms, no_arms, more_arms, PlainParam, PlainFunction, PlainFile}
+use Rattle.php_syntax.specs.declared.tree.SuperName.{SuperName}
+use Rattle.php_syntax.specs.declared.tree.SuperName.TheVariants as request
+use Rattle.php_syntax.specs.Trees.{PlainExpr, null_expr, flag_expr, int_expr, text_expr, var_expr, super_expr, member_expr, array_expr, join_expr, neg_expr, not_expr, arith_expr, compare_expr, and_expr, or_expr, coalesce_expr, choice_expr, isset_expr, empty_expr, assign_expr, update_expr, step_expr, call_expr, MaybeExpr, no_expr, some_expr, PlainExprs, no_exprs, more_exprs, PlainItems, no_items, more_items, PlainPath, no_keys, more_keys, PlainStmt, inline_stmt, echo_stmt, run_stmt, if_stmt, while_stmt, do_while_stmt, for_stmt, each_stmt, break_stmt, continue_stmt, return_stmt, include_stmt, quit_stmt, PlainStmts, no_stmts, more_stmts, PlainArms, no_arms, more_arms, PlainParam, PlainFunction, PlainFile}
 use Rattle.script_grammar.specs.Terminals.{same_bytes}
+use Rattle.script_grammar.specs.Reserved.{request_name, outside_names}
 
--- `$this` and `$GLOBALS` are outside the language
+-- a variable of the language
 abbrev pub is_known : List ℕ → Bool
-is_known x = not (same_bytes x (codes "this") || same_bytes x (codes "GLOBALS"))
+is_known x = not (list_any (same_bytes x) outside_names)
 
--- the five variables of the request
+-- which variable of the request a name is, if it is one
+abbrev pub request_named : List ℕ → Option SuperName
+request_named x =
+    if same_bytes x (request_name request.Get) then Some request.Get
+    else (if same_bytes x (request_name request.Post) then Some request.Post
+    else (if same_bytes x (request_name request.Cookie) then Some request.Cookie
+    else (if same_bytes x (request_name request.Request) then Some request.Request
+    else (if same_bytes x (request_name request.Server) then Some request.Server
+    else None))))
+
 abbrev pub is_request : List ℕ → Bool
-is_request x = same_bytes x (codes "_GET") || (same_bytes x (codes "_POST") || (same_bytes x (codes "_COOKIE") || (same_bytes x (codes "_REQUEST") || same_bytes x (codes "_SERVER"))))
+is_request x = is_some (request_named x)
 
 -- a variable that may be written: no variable of the request
 abbrev pub is_writable : List ℕ → Bool
@@ -106,6 +119,7 @@ unfoldable mutual
   stmt_fits in_loop in_function continue_stmt = in_loop
   stmt_fits in_loop in_function (return_stmt e) = in_function && maybe_fits e
   stmt_fits in_loop in_function (include_stmt t) = is_utf8 t
+  stmt_fits in_loop in_function (quit_stmt e) = maybe_fits e
 
   pub stmts_fit : Bool → Bool → PlainStmts → Bool
   stmts_fit in_loop in_function no_stmts = true

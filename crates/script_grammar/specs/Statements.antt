@@ -1,10 +1,10 @@
 -- Statements, functions and files: the grammar in EBNF form as derivations, with the terminals and the tree of each.
-use Rattle.std.specs.Prelude.{◌≡◌, ℕ, ℤ, Bool, true, false, not, ◌&&◌, List, [], ◌∷◌, Option, Some, None}
+use Rattle.std.specs.Prelude.{◌≡◌, ℕ, ℤ, Bool, true, false, not, ◌&&◌, if◌then◌else◌, List, [], ◌∷◌, Option, Some, None}
 use Rattle.std.specs.Str.{str_to_ascii_lowercase}
 use Rattle.php_syntax.specs.declared.token.Sign.TheVariants as sign
 use Rattle.script_grammar.specs.declared.keyword.Keyword.{Keyword}
 use Rattle.script_grammar.specs.declared.keyword.Keyword.TheVariants as word
-use Rattle.php_syntax.specs.Trees.{PlainExpr, null_expr, flag_expr, int_expr, text_expr, neg_expr, MaybeExpr, no_expr, some_expr, no_exprs, more_exprs, inline_stmt, echo_stmt, run_stmt, if_stmt, while_stmt, do_while_stmt, for_stmt, each_stmt, break_stmt, continue_stmt, return_stmt, include_stmt, PlainStmts, no_stmts, more_stmts, PlainArms, no_arms, more_arms, PlainParam, PlainFunction, PlainFile}
+use Rattle.php_syntax.specs.Trees.{PlainExpr, null_expr, flag_expr, int_expr, text_expr, neg_expr, MaybeExpr, no_expr, some_expr, no_exprs, more_exprs, inline_stmt, echo_stmt, run_stmt, if_stmt, while_stmt, do_while_stmt, for_stmt, each_stmt, break_stmt, continue_stmt, return_stmt, include_stmt, quit_stmt, PlainStmts, no_stmts, more_stmts, PlainArms, no_arms, more_arms, PlainParam, PlainFunction, PlainFile}
 use Rattle.script_grammar.specs.Terminals.{Terminal, inline_terminal, variable_terminal, word_terminal, name_terminal, int_terminal, text_terminal, sign_terminal}
 use Rattle.script_grammar.specs.Expressions.{ExprForm, MoreExprsForm, ListForm, expr_terminals, more_exprs_terminals, list_terminals, expr_tree, more_exprs_tree, list_tree}
 
@@ -42,6 +42,24 @@ abbrev pub value_variable : VariablesForm → List ℕ
 value_variable (value_form x) = x
 value_variable (key_value_form k x) = x
 
+-- an integer or a negated one, which `exit` takes as its status and does not print
+abbrev pub is_integer : PlainExpr → Bool
+is_integer (int_expr z) = true
+is_integer _ = false
+
+abbrev pub is_status : PlainExpr → Bool
+is_status (int_expr z) = true
+is_status (neg_expr e) = is_integer e
+is_status _ = false
+
+-- what `exit` prints
+abbrev pub printed : PlainExpr → MaybeExpr
+printed e = if is_status e then no_expr else some_expr e
+
+abbrev pub printed_tree : MaybeForm → MaybeExpr
+printed_tree nothing_form = no_expr
+printed_tree (something_form e) = printed (expr_tree e)
+
 -- "include" or "require"
 abbrev pub is_include : Keyword → Bool
 is_include word.Include = true
@@ -58,6 +76,7 @@ mutual
   --      | "foreach" "(" e "as" [ VAR "=>" ] VAR ")" ( stmt | ":" { stmt } "endforeach" ";" )
   --      | "break" ";" | "continue" ";" | "return" [ e ] ";"
   --      | ( "include" | "require" ) ( STR | "(" STR ")" ) ";"
+  --      | ( "exit" | "die" ) [ "(" [ e ] ")" ] ";"
   pub data StmtForm : Type 0 where
     semicolon_form : StmtForm
     inline_form : List ℕ → StmtForm
@@ -76,6 +95,8 @@ mutual
     return_form : MaybeForm → StmtForm
     include_form : (k : Keyword) → is_include k ≡ true → List ℕ → StmtForm
     include_parens_form : (k : Keyword) → is_include k ≡ true → List ℕ → StmtForm
+    exit_form : StmtForm
+    exit_parens_form : MaybeForm → StmtForm
 
   pub data StmtsForm : Type 0 where
     no_stmts_form : StmtsForm
@@ -123,6 +144,8 @@ unfoldable mutual
   stmt_terminals (return_form e) r = word_terminal word.Return ∷ maybe_terminals e (sign_terminal sign.Semicolon ∷ r)
   stmt_terminals (include_form k is t) r = word_terminal k ∷ text_terminal t ∷ sign_terminal sign.Semicolon ∷ r
   stmt_terminals (include_parens_form k is t) r = word_terminal k ∷ sign_terminal sign.OpenParen ∷ text_terminal t ∷ sign_terminal sign.CloseParen ∷ sign_terminal sign.Semicolon ∷ r
+  stmt_terminals exit_form r = word_terminal word.Exit ∷ sign_terminal sign.Semicolon ∷ r
+  stmt_terminals (exit_parens_form e) r = word_terminal word.Exit ∷ sign_terminal sign.OpenParen ∷ maybe_terminals e (sign_terminal sign.CloseParen ∷ sign_terminal sign.Semicolon ∷ r)
 
   pub stmts_terminals : StmtsForm → List Terminal → List Terminal
   stmts_terminals no_stmts_form r = r
@@ -170,6 +193,8 @@ unfoldable mutual
   stmt_trees (return_form e) r = more_stmts (return_stmt (maybe_tree e)) r
   stmt_trees (include_form k is t) r = more_stmts (include_stmt t) r
   stmt_trees (include_parens_form k is t) r = more_stmts (include_stmt t) r
+  stmt_trees exit_form r = more_stmts (quit_stmt no_expr) r
+  stmt_trees (exit_parens_form e) r = more_stmts (quit_stmt (printed_tree e)) r
 
   pub stmts_trees : StmtsForm → PlainStmts → PlainStmts
   stmts_trees no_stmts_form r = r

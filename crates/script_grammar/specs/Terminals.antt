@@ -5,6 +5,7 @@ use Rattle.std.specs.Str.{str_eq_ignore_ascii_case}
 use Rattle.php_syntax.specs.declared.token.Sign.{Sign}
 use Rattle.script_grammar.specs.declared.keyword.Keyword.{Keyword}
 use Rattle.script_grammar.specs.declared.keyword.Keyword.TheVariants as word
+use Rattle.script_grammar.specs.Reserved.{eol_name, int_max_name, int_min_name}
 use Rattle.php_syntax.specs.Tokens.{PlainPart, PlainKind, inline, variable, name, integer, text, template, sign, PlainToken}
 
 -- two lists of bytes are the same
@@ -26,10 +27,10 @@ abbrev pub branch_words : List (List ℕ × Keyword)
 branch_words =
     (codes "if", word.If) ∷ (codes "elseif", word.ElseIf) ∷ (codes "else", word.Else) ∷ (codes "endif", word.EndIf) ∷ (codes "echo", word.Echo) ∷ (codes "print", word.Print) ∷ []
 
--- the words that leave a body, include a file or begin a function
+-- the words that leave a body, include a file, begin a function or end the run
 abbrev pub jump_words : List (List ℕ × Keyword)
 jump_words =
-    (codes "break", word.Break) ∷ (codes "continue", word.Continue) ∷ (codes "return", word.Return) ∷ (codes "include", word.Include) ∷ (codes "require", word.Require) ∷ (codes "function", word.Function) ∷ []
+    (codes "break", word.Break) ∷ (codes "continue", word.Continue) ∷ (codes "return", word.Return) ∷ (codes "include", word.Include) ∷ (codes "require", word.Require) ∷ (codes "function", word.Function) ∷ (codes "exit", word.Exit) ∷ (codes "die", word.Exit) ∷ []
 
 -- the words of expressions
 abbrev pub value_words : List (List ℕ × Keyword)
@@ -39,10 +40,10 @@ value_words =
 -- the three constants, which have case
 abbrev pub cased_word : List ℕ → Option Keyword
 cased_word w =
-    if same_bytes w (codes "PHP_EOL") then Some word.PhpEol
-    else (if same_bytes w (codes "PHP_INT_MAX") then Some word.PhpIntMax
-    else (if same_bytes w (codes "PHP_INT_MIN") then Some word.PhpIntMin
-    else (if str_eq_ignore_ascii_case w (codes "PHP_EOL") || (str_eq_ignore_ascii_case w (codes "PHP_INT_MAX") || str_eq_ignore_ascii_case w (codes "PHP_INT_MIN")) then Some word.Miscased
+    if same_bytes w eol_name then Some word.PhpEol
+    else (if same_bytes w int_max_name then Some word.PhpIntMax
+    else (if same_bytes w int_min_name then Some word.PhpIntMin
+    else (if str_eq_ignore_ascii_case w eol_name || (str_eq_ignore_ascii_case w int_max_name || str_eq_ignore_ascii_case w int_min_name) then Some word.Miscased
     else None)))
 
 abbrev pub first_of_two : Option Keyword → Option Keyword → Option Keyword

@@ -52,6 +52,8 @@ pub enum Keyword {
     Include,
     /// `require`
     Require,
+    /// `exit` or `die`
+    Exit,
     /// `isset`
     Isset,
     /// `empty`
@@ -143,7 +145,7 @@ fn branch_word(name: &[u8]) -> Option<Keyword>
     None
 }
 
-// The words that leave a body, include a file or begin a function, in any case.
+// The words that leave a body or end the run, include a file or begin a function, in any case.
 fn jump_word(name: &[u8]) -> Option<Keyword>
     ensures { result ≡ find_word jump_words name.now }
 {
@@ -164,6 +166,9 @@ fn jump_word(name: &[u8]) -> Option<Keyword>
     }
     if name.eq_ignore_ascii_case(b"function") {
         return Some(Keyword::Function);
+    }
+    if name.eq_ignore_ascii_case(b"exit") || name.eq_ignore_ascii_case(b"die") {
+        return Some(Keyword::Exit);
     }
     None
 }

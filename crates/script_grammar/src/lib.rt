@@ -6,3 +6,5 @@
 
 pub mod keyword;
 pub mod operator;
+pub mod reserved;
+pub mod shapes;

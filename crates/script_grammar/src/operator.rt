@@ -2,6 +2,7 @@
 //! (PHP manual, "Operator Precedence").
 
 ghost use Rattle.std.specs.Prelude.{◌≡◌};
+ghost use Rattle.script_grammar.specs.Operators as spec;
 ghost use Rattle.script_grammar.specs.Operators.{binary_operator, prefix_operator, update_sign, step_sign, tighter_level, repeats};
 
 use php_syntax::token::Sign;
@@ -66,6 +67,21 @@ pub fn tighter(level: Level) -> Option<Level>
         Level::Join => Some(Level::Sum),
         Level::Sum => Some(Level::Product),
         Level::Product => None,
+    }
+}
+
+/// How loosely a level binds, from 1 for the tightest to 7.
+pub fn level_rank(level: Level) -> u32
+    ensures { result ≡ spec.level_rank level }
+{
+    match level {
+        Level::Product => 1,
+        Level::Sum => 2,
+        Level::Join => 3,
+        Level::Order => 4,
+        Level::Equality => 5,
+        Level::And => 6,
+        Level::Or => 7,
     }
 }
 

@@ -5,7 +5,7 @@ use Rattle.script_grammar.specs.declared.keyword.Keyword.{Keyword}
 use Rattle.script_grammar.specs.declared.keyword.Keyword.TheVariants as word
 use Rattle.script_grammar.specs.Terminals.{Terminal, word_terminal, sign_terminal}
 use Rattle.script_grammar.specs.Expressions.{ExprForm}
-use Rattle.script_grammar.specs.Statements.{condition_terminals, is_include, is_if, StmtForm, semicolon_form, inline_form, block_form, echo_form, print_form, run_form, if_form, colon_if_form, while_form, do_form, for_form, each_form, break_form, continue_form, return_form, include_form, include_parens_form, stmt_terminals}
+use Rattle.script_grammar.specs.Statements.{condition_terminals, is_include, is_if, StmtForm, semicolon_form, inline_form, block_form, echo_form, print_form, run_form, if_form, colon_if_form, while_form, do_form, for_form, each_form, break_form, continue_form, return_form, include_form, include_parens_form, exit_form, exit_parens_form, stmt_terminals}
 use Rattle.expr_machine.specs.Actions.{Action}
 use Rattle.expr_machine.specs.Machine.{behind}
 use Rattle.expr_machine.specs.Postfix.{expr_actions}
@@ -107,6 +107,8 @@ else_begins x continue_form n fs r acts h goes = else_goes n fs _ acts refl goes
 else_begins x (return_form e) n fs r acts h goes = else_goes n fs _ acts refl goes
 else_begins x (include_form k is t) n fs r acts h goes = else_goes n fs _ acts (else_include k n fs _ is) goes
 else_begins x (include_parens_form k is t) n fs r acts h goes = else_goes n fs _ acts (else_include k n fs _ is) goes
+else_begins x exit_form n fs r acts h goes = else_goes n fs _ acts refl goes
+else_begins x (exit_parens_form e) n fs r acts h goes = else_goes n fs _ acts refl goes
 
 -- the form with `:`
 pub colon_elseif_begins : Expressions → (e : ExprForm) (n : ℕ) (fs : List Frame) (ts : List Terminal) (acts : List StmtAction) → Goes focus.Behind (frame.ColonArm (n + 1) ∷ fs) ts acts → Goes focus.Behind (frame.ColonArm n ∷ fs) (word_terminal word.ElseIf ∷ condition_terminals e (sign_terminal sign.Colon ∷ ts)) (value_actions e (open_action false ∷ acts))

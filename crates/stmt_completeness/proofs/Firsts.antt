@@ -5,7 +5,7 @@ use Rattle.php_syntax.specs.declared.token.Sign.TheVariants as sign
 use Rattle.script_grammar.specs.declared.keyword.Keyword.{Keyword}
 use Rattle.script_grammar.specs.declared.keyword.Keyword.TheVariants as word
 use Rattle.script_grammar.specs.Terminals.{Terminal, inline_terminal, word_terminal, sign_terminal}
-use Rattle.script_grammar.specs.Statements.{is_include, StmtForm, semicolon_form, inline_form, block_form, echo_form, print_form, run_form, if_form, colon_if_form, while_form, do_form, for_form, each_form, break_form, continue_form, return_form, include_form, include_parens_form, stmt_terminals}
+use Rattle.script_grammar.specs.Statements.{is_include, StmtForm, semicolon_form, inline_form, block_form, echo_form, print_form, run_form, if_form, colon_if_form, while_form, do_form, for_form, each_form, break_form, continue_form, return_form, include_form, include_parens_form, exit_form, exit_parens_form, stmt_terminals}
 use Rattle.stmt_machine.specs.declared.frame.Loop.{Loop}
 use Rattle.stmt_machine.specs.declared.frame.Loop.TheVariants as loop
 use Rattle.stmt_machine.specs.declared.frame.Row.{Row}
@@ -137,6 +137,8 @@ stmt_begins continue_form r = refl
 stmt_begins (return_form e) r = refl
 stmt_begins (include_form k is t) r = include_first k is
 stmt_begins (include_parens_form k is t) r = include_first k is
+stmt_begins exit_form r = refl
+stmt_begins (exit_parens_form e) r = refl
 
 -- no statement begins with a colon or an `else`
 pub stmt_no_colon : (ts : List Terminal) → stmt_first ts ≡ true → colon_next ts ≡ false

@@ -1,5 +1,5 @@
 -- Statements of a few terminals, and braces.
-use Rattle.std.proofs.Common.{◌≡◌, ℕ, true, List, [], ◌∷◌, refl, arith}
+use Rattle.std.proofs.Common.{◌≡◌, ℕ, true, false, List, [], ◌∷◌, refl, arith}
 use Rattle.php_syntax.specs.declared.token.Sign.TheVariants as sign
 use Rattle.script_grammar.specs.declared.keyword.Keyword.{Keyword}
 use Rattle.script_grammar.specs.declared.keyword.Keyword.TheVariants as word
@@ -8,7 +8,7 @@ use Rattle.script_grammar.specs.Statements.{is_include}
 use Rattle.stmt_machine.specs.declared.frame.Focus.TheVariants as focus
 use Rattle.stmt_machine.specs.declared.frame.Frame.{Frame}
 use Rattle.stmt_machine.specs.declared.frame.Frame.TheVariants as frame
-use Rattle.stmt_machine.specs.Actions.{StmtAction, inline_action, break_action, continue_action, include_action}
+use Rattle.stmt_machine.specs.Actions.{StmtAction, inline_action, break_action, continue_action, include_action, exit_action}
 use Rattle.stmt_machine.specs.Machine.{moves, move}
 use Rattle.stmt_completeness.proofs.Runs.{Goes, steps}
 
@@ -39,6 +39,10 @@ unfolding move
 include_parens_reads word.Include t fs r k is goes = steps refl (omega arith) goes
 include_parens_reads word.Require t fs r k is goes = steps refl (omega arith) goes
 include_parens_reads _ t fs r k is goes = absurd cc
+
+pub exit_reads : (fs : List Frame) (r : List Terminal) (k : List StmtAction) → Goes focus.Behind fs r k → Goes focus.Begin fs (word_terminal word.Exit ∷ sign_terminal sign.Semicolon ∷ r) (exit_action false ∷ k)
+unfolding move
+exit_reads fs r k goes = steps refl (omega arith) goes
 
 -- braces
 pub block_begins : (fs : List Frame) (ts : List Terminal) (acts : List StmtAction) → Goes focus.Behind (frame.Block ∷ fs) ts acts → Goes focus.Begin fs (sign_terminal sign.OpenBrace ∷ ts) acts

@@ -5,7 +5,7 @@ use Rattle.php_syntax.specs.declared.token.Sign.TheVariants as sign
 use Rattle.script_grammar.specs.declared.keyword.Keyword.{Keyword}
 use Rattle.script_grammar.specs.declared.keyword.Keyword.TheVariants as word
 use Rattle.script_grammar.specs.Terminals.{Terminal, word_terminal, sign_terminal}
-use Rattle.script_grammar.specs.Statements.{StmtForm, semicolon_form, inline_form, block_form, echo_form, print_form, run_form, if_form, colon_if_form, while_form, do_form, for_form, each_form, break_form, continue_form, return_form, include_form, include_parens_form, StmtsForm, no_stmts_form, more_stmts_form, ArmsForm, no_arms_form, elseif_form, else_if_form, ElseForm, no_else_form, else_form, ColonArmsForm, no_colon_arms, colon_arm, ColonElseForm, no_colon_else, colon_else, BodyForm, stmt_body, colon_body, key_variable, value_variable, condition_terminals, stmt_terminals, stmts_terminals, arms_terminals, else_terminals, colon_arms_terminals, colon_else_terminals, body_terminals, takes_else, body_takes_else, is_if, goes_on, colon_goes_on, last_takes_else, nearest, all_nearest, arms_nearest, else_nearest, colon_arms_nearest, colon_else_nearest, body_nearest}
+use Rattle.script_grammar.specs.Statements.{StmtForm, semicolon_form, inline_form, block_form, echo_form, print_form, run_form, if_form, colon_if_form, while_form, do_form, for_form, each_form, break_form, continue_form, return_form, include_form, include_parens_form, exit_form, exit_parens_form, StmtsForm, no_stmts_form, more_stmts_form, ArmsForm, no_arms_form, elseif_form, else_if_form, ElseForm, no_else_form, else_form, ColonArmsForm, no_colon_arms, colon_arm, ColonElseForm, no_colon_else, colon_else, BodyForm, stmt_body, colon_body, key_variable, value_variable, condition_terminals, stmt_terminals, stmts_terminals, arms_terminals, else_terminals, colon_arms_terminals, colon_else_terminals, body_terminals, takes_else, body_takes_else, is_if, goes_on, colon_goes_on, last_takes_else, nearest, all_nearest, arms_nearest, else_nearest, colon_arms_nearest, colon_else_nearest, body_nearest}
 use Rattle.stmt_machine.specs.declared.frame.Loop.{Loop}
 use Rattle.stmt_machine.specs.declared.frame.Loop.TheVariants as loop
 use Rattle.stmt_machine.specs.declared.frame.Focus.TheVariants as focus
@@ -17,12 +17,12 @@ use Rattle.stmt_machine.specs.Postfix.{list_count, is_something, value_actions, 
 use Rattle.stmt_machine.specs.Reading.{else_next}
 use Rattle.stmt_completeness.proofs.Runs.{Goes}
 use Rattle.stmt_completeness.proofs.Firsts.{stmt_first, stmt_begins, block_sends, colon_arm_sends, colon_else_sends, colon_body_sends}
-use Rattle.stmt_completeness.proofs.Values.{Expressions, run_reads, print_reads, return_reads}
+use Rattle.stmt_completeness.proofs.Values.{Expressions, run_reads, print_reads, return_reads, exit_parens_reads}
 use Rattle.stmt_completeness.proofs.Rows.{echo_reads}
 use Rattle.stmt_completeness.proofs.Loops.{BodyGoes, stmt_body_goes, body_end, colon_body_goes, colon_body_end, while_reads, for_loop_reads, each_reads, do_begins, do_end}
 use Rattle.stmt_completeness.proofs.Branches.{if_begins, colon_if_begins, arm_ends, else_ends, elseif_begins, else_if_begins, else_begins, colon_elseif_begins, colon_else_begins, colon_arm_ends, colon_else_ends}
 use Rattle.stmt_completeness.proofs.Ahead.{and_left, and_right, not_true, else_takes, if_takes, arm_ahead, colon_arm_ahead, first_ahead, others_ahead, end_ahead}
-use Rattle.stmt_completeness.proofs.Simple.{semicolon_reads, inline_reads, break_reads, continue_reads, include_reads, include_parens_reads, block_begins, block_ends, sent}
+use Rattle.stmt_completeness.proofs.Simple.{semicolon_reads, inline_reads, break_reads, continue_reads, include_reads, include_parens_reads, exit_reads, block_begins, block_ends, sent}
 
 mutual
   unfolding stmt_terminals stmt_actions nearest takes_else
@@ -67,6 +67,8 @@ mutual
   stmt_reads (return_form e) x fs r k near ahead goes = return_reads x e fs r k goes
   stmt_reads (include_form w is t) x fs r k near ahead goes = include_reads w t fs r k is goes
   stmt_reads (include_parens_form w is t) x fs r k near ahead goes = include_parens_reads w t fs r k is goes
+  stmt_reads exit_form x fs r k near ahead goes = exit_reads fs r k goes
+  stmt_reads (exit_parens_form e) x fs r k near ahead goes = exit_parens_reads x e fs r k goes
 
   -- statements, under a frame that sends each to where it begins
   pub stmts_reads : (ss : StmtsForm) → Expressions → (fs : List Frame) (r : List Terminal) (k : List StmtAction) → ((ts : List Terminal) → stmt_first ts ≡ true → move focus.Behind fs ts ≡ moves focus.Begin fs ts []) → all_nearest ss ≡ true → (last_takes_else ss ≡ true → else_next r ≡ false) → Goes focus.Behind fs r k → Goes focus.Behind fs (stmts_terminals ss r) (stmts_actions ss k)

@@ -9,14 +9,15 @@ use Rattle.expr_machine.specs.Actions.{Action}
 use Rattle.expr_machine.specs.Machine.{behind}
 use Rattle.expr_machine.specs.Postfix.{expr_actions}
 use Rattle.expr_machine.specs.Reading.{rank_next, expr_at}
+use Rattle.stmt_machine.specs.declared.frame.Row.TheVariants as row
 use Rattle.stmt_machine.specs.declared.frame.Focus.TheVariants as focus
 use Rattle.stmt_machine.specs.declared.frame.Frame.{Frame}
-use Rattle.stmt_machine.specs.Actions.{StmtAction, value_action, echo_action, run_action, return_action}
-use Rattle.stmt_machine.specs.Machine.{moves, move, semicolon_next, paren_end_next, ended_by, condition_at, statement_at, value_move, return_move}
+use Rattle.stmt_machine.specs.Actions.{StmtAction, value_action, echo_action, run_action, return_action, exit_action}
+use Rattle.stmt_machine.specs.Machine.{moves, move, semicolon_next, paren_end_next, ended_by, condition_at, statement_at, value_move, jump_move, return_move, argument_at, exit_parens_move}
 use Rattle.stmt_machine.specs.Postfix.{value_actions, maybe_value_actions, is_something}
 use Rattle.stmt_completeness.proofs.Runs.{Goes, steps}
 use Rattle.stmt_completeness.proofs.Opening.{expr_first}
-use Rattle.stmt_completeness.proofs.Firsts.{value_begins, value_no_semicolon}
+use Rattle.stmt_completeness.proofs.Firsts.{value_begins, value_no_semicolon, value_no_end}
 
 -- Each expression that nothing goes on with is read, and fewer terminals stand behind it.
 pub record Expressions : Type 0 where
@@ -61,3 +62,21 @@ pub return_reads : Expressions → (e : MaybeForm) (fs : List Frame) (r : List T
 unfolding move
 return_reads x nothing_form fs r k goes = steps refl (omega arith) goes
 return_reads x (something_form e) fs r k goes = steps (return_value x e fs r) (let h = statement_falls x e r in omega (arith, h)) goes
+
+-- the argument of an `exit`
+argument_read : Expressions → (e : ExprForm) (r : List Terminal) → argument_at (expr_terminals e (sign_terminal sign.CloseParen ∷ sign_terminal sign.Semicolon ∷ r)) ≡ Some (expr_actions e [], r)
+argument_read x e r = ap (λ o. ended_by semicolon_next (ended_by paren_end_next o)) (x.read e (sign_terminal sign.CloseParen ∷ sign_terminal sign.Semicolon ∷ r) refl)
+
+argument_falls : Expressions → (e : ExprForm) (r : List Terminal) → 3 + length r ≤ length (expr_terminals e (sign_terminal sign.CloseParen ∷ sign_terminal sign.Semicolon ∷ r))
+argument_falls x e r = let h = expr_falls x e (sign_terminal sign.CloseParen ∷ sign_terminal sign.Semicolon ∷ r) refl in omega (arith, h)
+
+exit_value : Expressions → (e : ExprForm) (fs : List Frame) (r : List Terminal) → exit_parens_move fs (expr_terminals e (sign_terminal sign.CloseParen ∷ sign_terminal sign.Semicolon ∷ r)) ≡ moves focus.Behind fs r (value_action (expr_actions e []) ∷ exit_action true ∷ [])
+exit_value x e fs r =
+    let ts = expr_terminals e (sign_terminal sign.CloseParen ∷ sign_terminal sign.Semicolon ∷ r)
+    in ap (λ b. if b then jump_move (exit_action false) fs (behind ts) else value_move (exit_action true) fs (argument_at ts)) (value_no_end (row.Next 0 false) ts (expr_first e (sign_terminal sign.CloseParen ∷ sign_terminal sign.Semicolon ∷ r)))
+    ∙ ap (value_move (exit_action true) fs) (argument_read x e r)
+
+pub exit_parens_reads : Expressions → (e : MaybeForm) (fs : List Frame) (r : List Terminal) (k : List StmtAction) → Goes focus.Behind fs r k → Goes focus.Begin fs (word_terminal word.Exit ∷ sign_terminal sign.OpenParen ∷ maybe_terminals e (sign_terminal sign.CloseParen ∷ sign_terminal sign.Semicolon ∷ r)) (maybe_value_actions e (exit_action (is_something e) ∷ k))
+unfolding move
+exit_parens_reads x nothing_form fs r k goes = steps refl (omega arith) goes
+exit_parens_reads x (something_form e) fs r k goes = steps (exit_value x e fs r) (let h = argument_falls x e r in omega (arith, h)) goes

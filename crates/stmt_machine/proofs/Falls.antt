@@ -15,8 +15,8 @@ use Rattle.stmt_machine.specs.declared.frame.Row.{Row}
 use Rattle.stmt_machine.specs.declared.frame.Row.TheVariants as row
 use Rattle.stmt_machine.specs.declared.frame.Focus.TheVariants as focus
 use Rattle.stmt_machine.specs.declared.frame.Frame.{Frame}
-use Rattle.stmt_machine.specs.Actions.{StmtAction, value_action, run_action, echo_action, break_action, continue_action, return_action, include_action}
-use Rattle.stmt_machine.specs.Machine.{Move, moves, finished, stuck, colon_next, semicolon_next, paren_end_next, ended_by, condition_at, statement_at, value_move, listed_move, if_move, body_move, while_move, each_move, foreach_move, behind_paren, foreach_begin_move, for_begin_move, jump_move, return_move, include_move, word_move, sign_move, begin_move, row_end_next, start_move, row_end_move, more_move, row_move, for_condition_move, condition_move}
+use Rattle.stmt_machine.specs.Actions.{StmtAction, value_action, run_action, echo_action, break_action, continue_action, return_action, include_action, exit_action}
+use Rattle.stmt_machine.specs.Machine.{Move, moves, finished, stuck, colon_next, semicolon_next, paren_end_next, ended_by, condition_at, statement_at, value_move, listed_move, if_move, body_move, while_move, each_move, foreach_move, behind_paren, foreach_begin_move, for_begin_move, jump_move, return_move, include_move, argument_at, exit_parens_move, exit_move, word_move, sign_move, begin_move, row_end_next, start_move, row_end_move, more_move, row_move, for_condition_move, condition_move}
 use Rattle.stmt_machine.specs.Reading.{weight}
 
 -- a move leads to a weight below w
@@ -78,6 +78,9 @@ condition_short law _ = tt
 
 pub statement_short : ReadsShorter → (ts : List Terminal) → Shorter (length ts) (statement_at ts)
 statement_short law ts = ended_short (length ts) semicolon_next (expr_at ts) (expr_short law ts)
+
+pub argument_short : ReadsShorter → (ts : List Terminal) → Shorter (length ts) (argument_at ts)
+argument_short law ts = ended_short (length ts) semicolon_next (ended_by paren_end_next (expr_at ts)) (ended_short (length ts) paren_end_next (expr_at ts) (expr_short law ts))
 
 -- moves behind an expression
 
@@ -141,6 +144,17 @@ include_falls fs (text_terminal t ∷ r) = weaker (most (suc (length r)) fs) _ (
 include_falls fs (sign_terminal sign.OpenParen ∷ text_terminal t ∷ sign_terminal sign.CloseParen ∷ r) = weaker (most (suc (length r)) fs) _ (jump_move (include_action t) fs r) (jump_falls (include_action t) fs r) (omega arith)
 include_falls fs _ = tt
 
+exit_parens_falls : ReadsShorter → (fs : List Frame) (ts : List Terminal) → Falls (most (suc (length ts)) fs) (exit_parens_move fs ts)
+exit_parens_falls law fs ts =
+    let p = behind_shorter ts in
+    if_falls _ (paren_end_next ts) (jump_move (exit_action false) fs (behind ts)) (value_move (exit_action true) fs (argument_at ts))
+    (weaker (most (suc (length (behind ts))) fs) _ (jump_move (exit_action false) fs (behind ts)) (jump_falls (exit_action false) fs (behind ts)) (omega arith))
+    (weaker (most (length ts) fs) _ (value_move (exit_action true) fs (argument_at ts)) (value_falls (exit_action true) fs (length ts) (argument_at ts) (argument_short law ts)) (omega arith))
+
+exit_falls : ReadsShorter → (fs : List Frame) (ts : List Terminal) → Falls (most (suc (length ts)) fs) (exit_move fs ts)
+exit_falls law fs (sign_terminal sign.OpenParen ∷ r) = weaker (most (suc (length r)) fs) _ (exit_parens_move fs r) (exit_parens_falls law fs r) (omega arith)
+exit_falls law fs ts = jump_falls (exit_action false) fs ts
+
 -- a value at the beginning, and behind a word
 here : ReadsShorter → (a : StmtAction) (fs : List Frame) (ts : List Terminal) → Falls (most (length ts) fs) (value_move a fs (statement_at ts))
 here law a fs ts = value_falls a fs (length ts) (statement_at ts) (statement_short law ts)
@@ -158,6 +172,7 @@ word_falls law word.Continue fs r = jump_falls continue_action fs r
 word_falls law word.Return fs r = return_falls law fs r
 word_falls law word.Include fs r = include_falls fs r
 word_falls law word.Require fs r = include_falls fs r
+word_falls law word.Exit fs r = exit_falls law fs r
 word_falls law k fs r = here law run_action fs (word_terminal k ∷ r)
 
 sign_falls : ReadsShorter → (s : Sign) (fs : List Frame) (r : List Terminal) → Falls (most (suc (length r)) fs) (sign_move s fs r)

@@ -22,6 +22,8 @@ pub data StmtAction : Type 0 where
   -- with a value or not
   return_action : Bool → StmtAction
   include_action : List ℕ → StmtAction
+  -- with an argument or not
+  exit_action : Bool → StmtAction
   -- a function begins: its name; a parameter and its default; its body; its end
   function_action : List ℕ → StmtAction
   parameter_action : List ℕ → MaybeExpr → StmtAction

@@ -17,7 +17,7 @@ use Rattle.stmt_machine.specs.declared.frame.Focus.{Focus}
 use Rattle.stmt_machine.specs.declared.frame.Focus.TheVariants as focus
 use Rattle.stmt_machine.specs.declared.frame.Frame.{Frame}
 use Rattle.stmt_machine.specs.declared.frame.Frame.TheVariants as frame
-use Rattle.stmt_machine.specs.Actions.{StmtAction, value_action, open_action, inline_action, echo_action, run_action, if_action, loop_action, do_action, break_action, continue_action, return_action, include_action, function_action, parameter_action, function_body_action, function_end_action}
+use Rattle.stmt_machine.specs.Actions.{StmtAction, value_action, open_action, inline_action, echo_action, run_action, if_action, loop_action, do_action, break_action, continue_action, return_action, include_action, exit_action, function_action, parameter_action, function_body_action, function_end_action}
 
 -- A move leads to another place, with what is begun there and what is left to read, and does some actions; or the file is whole;
 -- or no file goes on so.
@@ -127,6 +127,17 @@ include_move fs (text_terminal t ∷ r) = jump_move (include_action t) fs r
 include_move fs (sign_terminal sign.OpenParen ∷ text_terminal t ∷ sign_terminal sign.CloseParen ∷ r) = jump_move (include_action t) fs r
 include_move fs _ = stuck
 
+-- `exit` behind its opening bracket
+abbrev pub argument_at : List Terminal → Option (List Action × List Terminal)
+argument_at ts = ended_by semicolon_next (ended_by paren_end_next (expr_at ts))
+
+abbrev pub exit_parens_move : List Frame → List Terminal → Move
+exit_parens_move fs ts = if paren_end_next ts then jump_move (exit_action false) fs (behind ts) else value_move (exit_action true) fs (argument_at ts)
+
+abbrev pub exit_move : List Frame → List Terminal → Move
+exit_move fs (sign_terminal sign.OpenParen ∷ r) = exit_parens_move fs r
+exit_move fs ts = jump_move (exit_action false) fs ts
+
 -- a statement that begins with a keyword
 abbrev pub word_move : Keyword → List Frame → List Terminal → Move
 word_move word.Echo fs r = listed_move row.Echo 1 fs (expr_at r)
@@ -141,6 +152,7 @@ word_move word.Continue fs r = jump_move continue_action fs r
 word_move word.Return fs r = return_move fs r
 word_move word.Include fs r = include_move fs r
 word_move word.Require fs r = include_move fs r
+word_move word.Exit fs r = exit_move fs r
 word_move k fs r = value_move run_action fs (statement_at (word_terminal k ∷ r))
 
 abbrev pub sign_move : Sign → List Frame → List Terminal → Move

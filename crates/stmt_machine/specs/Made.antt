@@ -1,13 +1,14 @@
 -- What a reader of statements has made. A row of statements with one that is too high is not kept.
 use Rattle.std.specs.Prelude.{ℕ, ◌+◌, ◌&&◌, max, nat_lt, nat_le, Bool, true, false, List, [], ◌∷◌, Option, Some, None, if◌then◌else◌, zero, suc}
 use Rattle.std.specs.Str.{str_to_ascii_lowercase}
-use Rattle.php_syntax.specs.Trees.{MaybeExpr, no_expr, some_expr, PlainExprs, PlainStmt, inline_stmt, echo_stmt, run_stmt, if_stmt, while_stmt, do_while_stmt, for_stmt, each_stmt, break_stmt, continue_stmt, return_stmt, include_stmt, PlainStmts, no_stmts, more_stmts, PlainArms, no_arms, more_arms, PlainParam, PlainFunction, PlainFile}
+use Rattle.php_syntax.specs.Trees.{MaybeExpr, no_expr, some_expr, PlainExprs, PlainStmt, inline_stmt, echo_stmt, run_stmt, if_stmt, while_stmt, do_while_stmt, for_stmt, each_stmt, break_stmt, continue_stmt, return_stmt, include_stmt, quit_stmt, PlainStmts, no_stmts, more_stmts, PlainArms, no_arms, more_arms, PlainParam, PlainFunction, PlainFile}
+use Rattle.script_grammar.specs.Statements.{is_status}
 use Rattle.script_grammar.specs.Rules.{is_writable, maybe_writable, is_utf8, is_new_name}
 use Rattle.php_syntax.specs.Height.{stmts_height, params_height}
 use Rattle.expr_machine.specs.Values.{PlainValue, known_value, execute, gather_exprs, take_values}
 use Rattle.stmt_machine.specs.declared.frame.Loop.{Loop}
 use Rattle.stmt_machine.specs.declared.frame.Loop.TheVariants as loop
-use Rattle.stmt_machine.specs.Actions.{StmtAction, value_action, open_action, inline_action, echo_action, run_action, if_action, loop_action, do_action, break_action, continue_action, return_action, include_action, function_action, parameter_action, function_body_action, function_end_action}
+use Rattle.stmt_machine.specs.Actions.{StmtAction, value_action, open_action, inline_action, echo_action, run_action, if_action, loop_action, do_action, break_action, continue_action, return_action, include_action, exit_action, function_action, parameter_action, function_body_action, function_end_action}
 
 -- statements in a row with the height of the highest, where each is at most 200 high
 abbrev pub Row : Type 0
@@ -104,6 +105,11 @@ abbrev pub return_node : PlainValue → Node
 return_node (known_value e h) = Some (return_stmt (some_expr e), h)
 return_node _ = None
 
+-- what `exit` prints: no status
+abbrev pub quit_node : PlainValue → Node
+quit_node (known_value e h) = if is_status e then Some (quit_stmt no_expr, 0) else Some (quit_stmt (some_expr e), h)
+quit_node _ = None
+
 abbrev pub if_node : Option (PlainArms × ℕ) → Row → Node
 if_node (Some arms) (Some row) = Some (if_stmt arms.0 row.0, max arms.1 row.1)
 if_node _ _ = None
@@ -195,6 +201,10 @@ abbrev pub apply_return : Bool → Made → Option Made
 apply_return false m = put_if (stands_in_function m.bodies) (Some (return_stmt no_expr, 0)) m
 apply_return true m = on_some (last_value m.values) (λ last. put_if (stands_in_function m.bodies) (return_node last.0) (with_values last.1 m))
 
+abbrev pub apply_exit : Bool → Made → Option Made
+apply_exit false m = put (Some (quit_stmt no_expr, 0)) m
+apply_exit true m = on_some (last_value m.values) (λ last. put (quit_node last.0) (with_values last.1 m))
+
 -- functions: the header, its parameters, its body and its end
 abbrev pub with_header : Option (List ℕ × List PlainParam) → Made → Made
 with_header h m = record { values = m.values; bodies = m.bodies; header = h; functions = m.functions }
@@ -242,6 +252,7 @@ apply_stmt break_action m = put_if (stands_in_loop m.bodies) (Some (break_stmt, 
 apply_stmt continue_action m = put_if (stands_in_loop m.bodies) (Some (continue_stmt, 0)) m
 apply_stmt (return_action v) m = apply_return v m
 apply_stmt (include_action t) m = put_if (is_utf8 t) (Some (include_stmt t, 0)) m
+apply_stmt (exit_action v) m = apply_exit v m
 apply_stmt (function_action f) m = Some (with_header (Some (f, [])) m)
 apply_stmt (parameter_action x d) m = apply_parameter x d m.header m
 apply_stmt function_body_action m = Some (with_bodies (record { in_loop = false; in_function = true; row = Some (no_stmts, 0) } ∷ m.bodies) m)

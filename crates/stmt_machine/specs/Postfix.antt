@@ -1,11 +1,11 @@
 -- The actions of a statement, a function and a file in postfix order, by its derivation. They stand before the actions that follow.
 use Rattle.std.specs.Prelude.{ℕ, ◌+◌, Bool, true, false, List, [], ◌∷◌}
 use Rattle.script_grammar.specs.Expressions.{ExprForm, MoreExprsForm, no_more_exprs, one_more_expr, ListForm, empty_list, list_form}
-use Rattle.script_grammar.specs.Statements.{MaybeForm, nothing_form, something_form, key_variable, value_variable, StmtForm, semicolon_form, inline_form, block_form, echo_form, print_form, run_form, if_form, colon_if_form, while_form, do_form, for_form, each_form, break_form, continue_form, return_form, include_form, include_parens_form, StmtsForm, no_stmts_form, more_stmts_form, ArmsForm, no_arms_form, elseif_form, else_if_form, ElseForm, no_else_form, else_form, ColonArmsForm, no_colon_arms, colon_arm, ColonElseForm, no_colon_else, colon_else, BodyForm, stmt_body, colon_body, ParamForm, param_tree, FunctionForm, function_form, FileForm, end_of_file, function_part, stmt_part}
+use Rattle.script_grammar.specs.Statements.{MaybeForm, nothing_form, something_form, key_variable, value_variable, StmtForm, semicolon_form, inline_form, block_form, echo_form, print_form, run_form, if_form, colon_if_form, while_form, do_form, for_form, each_form, break_form, continue_form, return_form, include_form, include_parens_form, exit_form, exit_parens_form, StmtsForm, no_stmts_form, more_stmts_form, ArmsForm, no_arms_form, elseif_form, else_if_form, ElseForm, no_else_form, else_form, ColonArmsForm, no_colon_arms, colon_arm, ColonElseForm, no_colon_else, colon_else, BodyForm, stmt_body, colon_body, ParamForm, param_tree, FunctionForm, function_form, FileForm, end_of_file, function_part, stmt_part}
 use Rattle.php_syntax.specs.Trees.{PlainParam}
 use Rattle.expr_machine.specs.Postfix.{expr_actions, exprs_count}
 use Rattle.stmt_machine.specs.declared.frame.Loop.TheVariants as loop
-use Rattle.stmt_machine.specs.Actions.{StmtAction, value_action, open_action, inline_action, echo_action, run_action, if_action, loop_action, do_action, break_action, continue_action, return_action, include_action, function_action, parameter_action, function_body_action, function_end_action}
+use Rattle.stmt_machine.specs.Actions.{StmtAction, value_action, open_action, inline_action, echo_action, run_action, if_action, loop_action, do_action, break_action, continue_action, return_action, include_action, exit_action, function_action, parameter_action, function_body_action, function_end_action}
 
 -- an expression, more of them, a list, and one that may be left out
 abbrev pub value_actions : ExprForm → List StmtAction → List StmtAction
@@ -50,6 +50,8 @@ unfoldable mutual
   stmt_actions (return_form e) r = maybe_value_actions e (return_action (is_something e) ∷ r)
   stmt_actions (include_form k is t) r = include_action t ∷ r
   stmt_actions (include_parens_form k is t) r = include_action t ∷ r
+  stmt_actions exit_form r = exit_action false ∷ r
+  stmt_actions (exit_parens_form e) r = maybe_value_actions e (exit_action (is_something e) ∷ r)
 
   pub stmts_actions : StmtsForm → List StmtAction → List StmtAction
   stmts_actions no_stmts_form r = r

@@ -4,7 +4,7 @@ use Rattle.php_syntax.specs.declared.tree.Stmt.{Stmt}
 use Rattle.php_syntax.specs.declared.tree.Expr.{Expr}
 use Rattle.php_syntax.specs.Trees.{MaybeExpr, PlainExprs, PlainStmts, PlainArms, PlainParam, PlainFunction, maybe_of, exprs_of, plain_stmt, stmts_of, arms_of, params_of_list, functions_of_list}
 use Rattle.stmt_machine.specs.Made.{PlainBody, Node, Made}
-use Rattle.expr_parser.specs.Views.{plain_values}
+use Rattle.expr_values.specs.Views.{plain_values}
 use Rattle.stmt_maker.specs.declared.rows.Exprs.{Exprs}
 use Rattle.stmt_maker.specs.declared.body.Row.{Row}
 use Rattle.stmt_maker.specs.declared.body.Body.{Body}

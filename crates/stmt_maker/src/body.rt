@@ -2,12 +2,12 @@
 
 ghost use Rattle.std.specs.Prelude.{◌≡◌, ℕ, IfOk, Some, None, MatchOption, map, []};
 ghost use Rattle.php_syntax.specs.Trees.{no_stmts};
-ghost use Rattle.expr_parser.specs.Views.{plain_values};
+ghost use Rattle.expr_values.specs.Views.{plain_values};
 ghost use Rattle.stmt_machine.specs.Made as plain;
 ghost use Rattle.stmt_maker.specs.Views.{row_of, node_of, rows_of, plain_body, gathered_arms};
 
-use expr_parser::value::Value;
-use expr_parser::values::Values;
+use expr_values::value::Value;
+use expr_values::values::Values;
 use php_syntax::tree::{Expr, Stmt};
 use stacks::Stack;
 use std::alloc::Global;

@@ -10,9 +10,10 @@ ghost use Rattle.stmt_maker.specs.Answers.{Does};
 
 use crate::body::{Row, empty_row, gather_arms, take_rows};
 use crate::maker::Maker;
-use crate::names::{is_writable, maybe_writable};
+use crate::names::maybe_writable;
 use crate::nodes::{do_node, each_node, for_node, if_node, maybe_value, while_node};
 use crate::rows::gather_exprs;
+use script_grammar::reserved::is_writable;
 use std::alloc::Global;
 use stmt_machine::frame::Loop;
 use text_base::{Bytes, NoMemory};

@@ -12,9 +12,10 @@ ghost use Rattle.stmt_maker.specs.Answers.{Does};
 
 use crate::body::{Body, MOST_HEIGHT, Row, empty_row};
 use crate::maker::Maker;
-use crate::names::{is_writable, lower_case};
+use crate::names::lower_case;
 use indexmap::IndexSet;
 use php_syntax::tree::{Expr, FunctionDef, Param};
+use script_grammar::reserved::is_writable;
 use std::alloc::Global;
 use std::marker::Model;
 use text_base::{Bytes, NoMemory};

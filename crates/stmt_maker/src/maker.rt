@@ -1,7 +1,7 @@
 //! What a reader of statements has made.
 
 ghost use Rattle.std.specs.Prelude.{◌≡◌, IfOk, Some, None, []};
-ghost use Rattle.stmt_machine.specs.Actions.{open_action, inline_action, echo_action, run_action, break_action, continue_action, return_action, include_action};
+ghost use Rattle.stmt_machine.specs.Actions.{open_action, inline_action, echo_action, run_action, break_action, continue_action, return_action, include_action, exit_action};
 ghost use Rattle.stmt_machine.specs.Made as plain;
 ghost use Rattle.stmt_machine.specs.Made.{apply_stmt, nothing_made};
 ghost use Rattle.stmt_maker.specs.Views.{made_of, node_of};
@@ -10,9 +10,9 @@ ghost use Rattle.stmt_maker.specs.Answers.{Does};
 use crate::body::{Body, add, empty_row};
 use crate::functions::{Functions, Header};
 use crate::names::is_text;
-use crate::nodes::{echo_node, return_node, run_node};
+use crate::nodes::{echo_node, quit_node, return_node, run_node};
 use crate::rows::gather_exprs;
-use expr_parser::values::Values;
+use expr_values::values::Values;
 use php_syntax::tree::Stmt;
 use stacks::Stack;
 use std::alloc::Global;
@@ -185,6 +185,20 @@ impl Maker {
         match self.values.pop() {
             None => Ok(false),
             Some(value) => self.put_if(holds, return_node(value)),
+        }
+    }
+
+    /// An `exit`: with an argument, or without one.
+    #[tactic(auto, using(php_syntax::proofs::Views::views), unfolding(stmt_machine::specs::Made::apply_stmt))]
+    pub fn quit(&mut self, with_value: bool) -> Result<bool, NoMemory>
+        ensures { IfOk result (λ done. Does (apply_stmt (exit_action with_value) (made_of self.old)) done (made_of self.new)) }
+    {
+        if !with_value {
+            return self.put(Some((Stmt::Quit(None), 0)));
+        }
+        match self.values.pop() {
+            None => Ok(false),
+            Some(value) => self.put(quit_node(value)),
         }
     }
 

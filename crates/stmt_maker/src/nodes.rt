@@ -2,15 +2,16 @@
 
 ghost use Rattle.std.specs.Prelude.{◌≡◌, max};
 ghost use Rattle.php_syntax.specs.Trees.{plain_expr};
-ghost use Rattle.expr_parser.specs.Views.{plain_value, plain_values};
+ghost use Rattle.expr_values.specs.Views.{plain_value, plain_values};
 ghost use Rattle.stmt_machine.specs.Made as plain;
 ghost use Rattle.stmt_maker.specs.Views.{node_of, row_of, gathered, gathered_arms, maybe_expr};
 
 use crate::body::{Arms, Row};
 use crate::rows::Exprs;
-use expr_parser::value::Value;
-use expr_parser::values::Values;
+use expr_values::value::Value;
+use expr_values::values::Values;
 use php_syntax::tree::{Expr, Stmt};
+use script_grammar::shapes::is_status;
 use text_base::Bytes;
 
 /// An `echo`.
@@ -40,6 +41,22 @@ pub(crate) fn return_node(value: Value) -> Option<(Stmt, u32)>
 {
     match value {
         Value::Known { tree, height } => Some((Stmt::Return(Some(tree)), height)),
+        _ => None,
+    }
+}
+
+/// An `exit` of a value: what it prints, if the value is no status.
+#[tactic(auto, using(php_syntax::proofs::Views::views))]
+pub(crate) fn quit_node(value: Value) -> Option<(Stmt, u32)>
+    ensures { node_of result ≡ plain.quit_node (plain_value value) }
+{
+    match value {
+        Value::Known { tree, height } => {
+            if is_status(&tree) {
+                return Some((Stmt::Quit(None), 0));
+            }
+            Some((Stmt::Quit(Some(tree)), height))
+        }
         _ => None,
     }
 }

@@ -2,11 +2,11 @@
 
 ghost use Rattle.std.specs.Prelude.{◌≡◌, IfOk};
 ghost use Rattle.expr_machine.specs.Values as plain;
-ghost use Rattle.expr_parser.specs.Views.{plain_values};
+ghost use Rattle.expr_values.specs.Views.{plain_values};
 ghost use Rattle.stmt_maker.specs.Views.{gathered};
 
-use expr_parser::value::Value;
-use expr_parser::values::Values;
+use expr_values::value::Value;
+use expr_values::values::Values;
 use php_syntax::tree::Expr;
 use std::alloc::Global;
 use text_base::NoMemory;

@@ -12,8 +12,8 @@ use Rattle.stmt_machine.specs.declared.frame.Row.{Row}
 use Rattle.stmt_machine.specs.declared.frame.Focus.TheVariants as focus
 use Rattle.stmt_machine.specs.declared.frame.Frame.{Frame}
 use Rattle.stmt_machine.specs.declared.frame.Frame.TheVariants as frame
-use Rattle.stmt_machine.specs.Actions.{open_action, if_action, run_action, parameter_action}
-use Rattle.stmt_machine.specs.Machine.{moves, stuck, colon_next, semicolon_next, paren_end_next, condition_at, statement_at, behind_paren, value_move, word_move, sign_move, begin_move, include_move, more_move, literal_word, literal_at, default_move, parameter_move, function_body_move, parameters_move, parameter_end_move, function_move, part_move, else_move, arm_move, colon_arm_move, colon_else_end_move, colon_body_move, do_move, block_move, function_end_move}
+use Rattle.stmt_machine.specs.Actions.{open_action, if_action, run_action, exit_action, parameter_action}
+use Rattle.stmt_machine.specs.Machine.{moves, stuck, colon_next, semicolon_next, paren_end_next, condition_at, statement_at, behind_paren, value_move, word_move, sign_move, begin_move, include_move, exit_move, jump_move, more_move, literal_word, literal_at, default_move, parameter_move, function_body_move, parameters_move, parameter_end_move, function_move, part_move, else_move, arm_move, colon_arm_move, colon_else_end_move, colon_body_move, do_move, block_move, function_end_move}
 use Rattle.stmt_parser.specs.Nexts.{keyed_next, variable_next, each_next, colon_arm_end_next, included_next, with_rest, plain_at, default_at, default_next}
 
 -- a sign does not stand next
@@ -90,20 +90,25 @@ include_other fs _ h k = refl
 
 -- where a statement begins
 
-pub word_other : (k : Keyword) (fs : List Frame) (r : List Terminal) → k ≢ word.Echo → k ≢ word.Print → k ≢ word.If → k ≢ word.While → k ≢ word.Do → k ≢ word.For → k ≢ word.Foreach → k ≢ word.Break → k ≢ word.Continue → k ≢ word.Return → k ≢ word.Include → k ≢ word.Require → word_move k fs r ≡ value_move run_action fs (statement_at (word_terminal k ∷ r))
-word_other word.Echo fs r a b c d e f g h i j l m = absurd (a refl)
-word_other word.Print fs r a b c d e f g h i j l m = absurd (b refl)
-word_other word.If fs r a b c d e f g h i j l m = absurd (c refl)
-word_other word.While fs r a b c d e f g h i j l m = absurd (d refl)
-word_other word.Do fs r a b c d e f g h i j l m = absurd (e refl)
-word_other word.For fs r a b c d e f g h i j l m = absurd (f refl)
-word_other word.Foreach fs r a b c d e f g h i j l m = absurd (g refl)
-word_other word.Break fs r a b c d e f g h i j l m = absurd (h refl)
-word_other word.Continue fs r a b c d e f g h i j l m = absurd (i refl)
-word_other word.Return fs r a b c d e f g h i j l m = absurd (j refl)
-word_other word.Include fs r a b c d e f g h i j l m = absurd (l refl)
-word_other word.Require fs r a b c d e f g h i j l m = absurd (m refl)
-word_other k fs r a b c d e f g h i j l m = refl
+pub exit_plain : (fs : List Frame) (ts : List Terminal) → No sign.OpenParen ts → exit_move fs ts ≡ jump_move (exit_action false) fs ts
+exit_plain fs (sign_terminal sign.OpenParen ∷ r) h = absurd (h r refl)
+exit_plain fs _ h = refl
+
+pub word_other : (k : Keyword) (fs : List Frame) (r : List Terminal) → k ≢ word.Echo → k ≢ word.Print → k ≢ word.If → k ≢ word.While → k ≢ word.Do → k ≢ word.For → k ≢ word.Foreach → k ≢ word.Break → k ≢ word.Continue → k ≢ word.Return → k ≢ word.Include → k ≢ word.Require → k ≢ word.Exit → word_move k fs r ≡ value_move run_action fs (statement_at (word_terminal k ∷ r))
+word_other word.Echo fs r a b c d e f g h i j l m n = absurd (a refl)
+word_other word.Print fs r a b c d e f g h i j l m n = absurd (b refl)
+word_other word.If fs r a b c d e f g h i j l m n = absurd (c refl)
+word_other word.While fs r a b c d e f g h i j l m n = absurd (d refl)
+word_other word.Do fs r a b c d e f g h i j l m n = absurd (e refl)
+word_other word.For fs r a b c d e f g h i j l m n = absurd (f refl)
+word_other word.Foreach fs r a b c d e f g h i j l m n = absurd (g refl)
+word_other word.Break fs r a b c d e f g h i j l m n = absurd (h refl)
+word_other word.Continue fs r a b c d e f g h i j l m n = absurd (i refl)
+word_other word.Return fs r a b c d e f g h i j l m n = absurd (j refl)
+word_other word.Include fs r a b c d e f g h i j l m n = absurd (l refl)
+word_other word.Require fs r a b c d e f g h i j l m n = absurd (m refl)
+word_other word.Exit fs r a b c d e f g h i j l m n = absurd (n refl)
+word_other k fs r a b c d e f g h i j l m n = refl
 
 pub sign_other : (s : Sign) (fs : List Frame) (r : List Terminal) → s ≢ sign.Semicolon → s ≢ sign.OpenBrace → sign_move s fs r ≡ value_move run_action fs (statement_at (sign_terminal s ∷ r))
 sign_other sign.Semicolon fs r a b = absurd (a refl)

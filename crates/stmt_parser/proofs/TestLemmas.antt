@@ -11,10 +11,10 @@ use Rattle.stmt_machine.specs.declared.frame.Row.{Row}
 use Rattle.stmt_machine.specs.declared.frame.Focus.TheVariants as focus
 use Rattle.stmt_machine.specs.declared.frame.Frame.{Frame}
 use Rattle.stmt_machine.specs.declared.frame.Frame.TheVariants as frame
-use Rattle.stmt_machine.specs.Actions.{open_action, return_action, loop_action}
-use Rattle.stmt_machine.specs.Machine.{moves, stuck, colon_next, semicolon_next, value_move, statement_at, return_move, colon_else_move, row_end_next, start_move, row_end_move, row_move, more_move, listed_move, condition_move, for_condition_move, colon_body_move, jump_move, ends_loop}
+use Rattle.stmt_machine.specs.Actions.{open_action, return_action, exit_action, loop_action}
+use Rattle.stmt_machine.specs.Machine.{moves, stuck, colon_next, semicolon_next, paren_end_next, value_move, statement_at, return_move, argument_at, exit_parens_move, colon_else_move, row_end_next, start_move, row_end_move, row_move, more_move, listed_move, condition_move, for_condition_move, colon_body_move, jump_move, ends_loop}
 use Rattle.stmt_parser.specs.Nexts.{if_next, body_next, else_if_next, colon_elseif_next}
-use Rattle.stmt_parser.proofs.OtherLemmas.{No, no_colon, no_semicolon, if_false, if_true}
+use Rattle.stmt_parser.proofs.OtherLemmas.{No, no_colon, no_semicolon, no_paren_end, if_false, if_true}
 
 pub if_plain : (fs : List Frame) (ts : List Terminal) → No sign.Colon ts → if_next fs ts ≡ moves focus.Begin (frame.Arm 1 ∷ fs) ts (open_action false ∷ [])
 if_plain fs ts h = if_false (colon_next ts) _ _ (no_colon ts h)
@@ -33,6 +33,9 @@ colon_else_open k fs ts h = if_false (colon_next ts) _ _ (no_colon ts h)
 
 pub return_value : (fs : List Frame) (ts : List Terminal) → No sign.Semicolon ts → return_move fs ts ≡ value_move (return_action true) fs (statement_at ts)
 return_value fs ts h = if_false (semicolon_next ts) _ _ (no_semicolon ts h)
+
+pub exit_argument : (fs : List Frame) (ts : List Terminal) → No sign.CloseParen ts → exit_parens_move fs ts ≡ value_move (exit_action true) fs (argument_at ts)
+exit_argument fs ts h = if_false (paren_end_next ts) _ _ (no_paren_end ts h)
 
 pub condition_some : (k : ℕ) (fs : List Frame) (ts : List Terminal) → No sign.Semicolon ts → condition_move k fs ts ≡ for_condition_move k fs (statement_at ts)
 condition_some k fs ts h = if_false (semicolon_next ts) _ _ (no_semicolon ts h)

@@ -1,5 +1,5 @@
 -- What a move with its actions leads to, and how the code answers it.
-use Rattle.std.specs.Prelude.{◌≡◌, Bool, true, false, List, ◌∷◌, Option, Some, None, if◌then◌else◌}
+use Rattle.std.specs.Prelude.{◌≡◌, Bool, true, false, List, ◌∷◌, Option, Some, None, Result, IfOk, if◌then◌else◌}
 use Rattle.script_grammar.specs.Terminals.{Terminal}
 use Rattle.expr_machine.specs.Actions.{Action}
 use Rattle.expr_machine.specs.Machine.{behind}
@@ -12,6 +12,8 @@ use Rattle.stmt_machine.specs.declared.frame.Frame.{Frame}
 use Rattle.stmt_machine.specs.Actions.{StmtAction, value_action}
 use Rattle.stmt_machine.specs.Machine.{Move, moves, finished, stuck, semicolon_next}
 use Rattle.stmt_machine.specs.Made.{Made, with_values, execute_stmts}
+use Rattle.stmt_maker.specs.declared.maker.Maker.{Maker}
+use Rattle.stmt_maker.specs.Views.{made_of}
 use Rattle.stmt_parser.specs.declared.step.Step.{Step}
 use Rattle.stmt_parser.specs.declared.step.Step.TheVariants as step
 
@@ -35,7 +37,16 @@ acted stuck m = failed
 abbrev pub seen : Step → List Frame → Made → Outcome
 seen (step.Go f r) fs m = gone f fs (terminals_of r.now) m
 seen step.Finished fs m = ended m
-seen step.Stuck fs m = failed
+seen (step.Stuck r) fs m = failed
+
+-- where there is memory, the code does this move of the machine with its actions: from what was made before to what it answers, what is
+-- begun and what is made afterwards
+abbrev pub Moves : {E : Type 0} → Move → Maker → Result Step E → List Frame → Maker → Type 0
+Moves move before result fs after = IfOk result (λ s. acted move (made_of before) ≡ seen s fs (made_of after))
+
+-- the same, whatever is begun
+abbrev pub MovesIn : {E : Type 0} → (List Frame → Move) → Maker → Result Step E → Maker → Type 0
+MovesIn move before result after = IfOk result (λ s. (fs : List Frame) → acted (move fs) (made_of before) ≡ seen s fs (made_of after))
 
 -- on to another place, where an action was done
 abbrev pub gone_if : Bool → Focus → List Frame → List Terminal → Made → Outcome

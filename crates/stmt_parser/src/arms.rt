@@ -6,15 +6,15 @@ ghost use Rattle.stmt_machine.specs.Machine as machine;
 ghost use Rattle.stmt_machine.specs.Machine.{condition_at};
 ghost use Rattle.stmt_maker.specs.Views.{made_of};
 ghost use Rattle.stmt_parser.specs.Nexts.{else_if_next, colon_elseif_next, colon_arm_end_next};
-ghost use Rattle.stmt_parser.specs.Outcomes.{acted, seen};
+ghost use Rattle.stmt_parser.specs.Outcomes.{Moves};
 
 use crate::bodies::opened;
 use crate::heads::behind_word;
 use crate::reads::read_condition;
 use crate::step::{Step, gone, jump, one_more};
 use expr_parser::head::behind_sign;
-use script_grammar::keyword::Keyword;
 use php_syntax::token::{Sign, Token};
+use script_grammar::keyword::Keyword;
 use stacks::Stack;
 use std::alloc::Global;
 use stmt_machine::frame::{Focus, Frame};
@@ -29,10 +29,11 @@ fn elseif_step<'a>(
     count: usize,
     rest: &'a [Token],
 ) -> Result<Step<'a>, NoMemory>
-    ensures { IfOk result (λ s. acted (machine.elseif_move count frames.old (condition_at (terminals_of rest.now))) (made_of maker.old) ≡ seen s frames.new (made_of maker.new)) }
+    ensures { Moves (machine.elseif_move count frames.old
+        (condition_at (terminals_of rest.now))) maker.old result frames.new maker.new }
 {
     match read_condition(alloc, maker, rest)? {
-        None => Ok(Step::Stuck),
+        None => Ok(Step::Stuck(rest)),
         Some(behind) => {
             let more = one_more(count)?;
             opened(
@@ -56,7 +57,8 @@ fn else_if_body<'a>(
     count: usize,
     rest: &'a [Token],
 ) -> Result<Step<'a>, NoMemory>
-    ensures { IfOk result (λ s. acted (else_if_next count frames.old (terminals_of rest.now)) (made_of maker.old) ≡ seen s frames.new (made_of maker.new)) }
+    ensures { Moves (else_if_next count frames.old
+        (terminals_of rest.now)) maker.old result frames.new maker.new }
 {
     match behind_sign(rest, Sign::Colon) {
         Some(behind) => {
@@ -87,14 +89,15 @@ fn else_if_step<'a>(
     count: usize,
     rest: &'a [Token],
 ) -> Result<Step<'a>, NoMemory>
-    ensures { IfOk result (λ s. acted (machine.else_if_move count frames.old (condition_at (terminals_of rest.now))) (made_of maker.old) ≡ seen s frames.new (made_of maker.new)) }
+    ensures { Moves (machine.else_if_move count frames.old
+        (condition_at (terminals_of rest.now))) maker.old result frames.new maker.new }
 {
     let done = maker.open(alloc, false)?;
     if !done {
-        return Ok(Step::Stuck);
+        return Ok(Step::Stuck(rest));
     }
     match read_condition(alloc, maker, rest)? {
-        None => Ok(Step::Stuck),
+        None => Ok(Step::Stuck(rest)),
         Some(behind) => else_if_body(alloc, frames, maker, count, behind),
     }
 }
@@ -107,7 +110,8 @@ fn else_step<'a>(
     count: usize,
     rest: &'a [Token],
 ) -> Result<Step<'a>, NoMemory>
-    ensures { IfOk result (λ s. acted (machine.else_move count frames.old (terminals_of rest.now)) (made_of maker.old) ≡ seen s frames.new (made_of maker.new)) }
+    ensures { Moves (machine.else_move count frames.old
+        (terminals_of rest.now)) maker.old result frames.new maker.new }
 {
     match behind_word(rest, Keyword::If) {
         Some(behind) => else_if_step(alloc, frames, maker, count, behind),
@@ -131,7 +135,8 @@ pub(crate) fn arm_step<'a>(
     count: usize,
     rest: &'a [Token],
 ) -> Result<Step<'a>, NoMemory>
-    ensures { IfOk result (λ s. acted (machine.arm_move count frames.old (terminals_of rest.now)) (made_of maker.old) ≡ seen s frames.new (made_of maker.new)) }
+    ensures { Moves (machine.arm_move count frames.old
+        (terminals_of rest.now)) maker.old result frames.new maker.new }
 {
     match behind_word(rest, Keyword::ElseIf) {
         Some(behind) => elseif_step(alloc, frames, maker, count, behind),
@@ -153,10 +158,11 @@ fn colon_elseif_body<'a>(
     count: usize,
     rest: &'a [Token],
 ) -> Result<Step<'a>, NoMemory>
-    ensures { IfOk result (λ s. acted (colon_elseif_next count frames.old (terminals_of rest.now)) (made_of maker.old) ≡ seen s frames.new (made_of maker.new)) }
+    ensures { Moves (colon_elseif_next count frames.old
+        (terminals_of rest.now)) maker.old result frames.new maker.new }
 {
     match behind_sign(rest, Sign::Colon) {
-        None => Ok(Step::Stuck),
+        None => Ok(Step::Stuck(rest)),
         Some(behind) => {
             let more = one_more(count)?;
             opened(
@@ -180,10 +186,11 @@ fn colon_elseif_step<'a>(
     count: usize,
     rest: &'a [Token],
 ) -> Result<Step<'a>, NoMemory>
-    ensures { IfOk result (λ s. acted (machine.colon_elseif_move count frames.old (condition_at (terminals_of rest.now))) (made_of maker.old) ≡ seen s frames.new (made_of maker.new)) }
+    ensures { Moves (machine.colon_elseif_move count frames.old
+        (condition_at (terminals_of rest.now))) maker.old result frames.new maker.new }
 {
     match read_condition(alloc, maker, rest)? {
-        None => Ok(Step::Stuck),
+        None => Ok(Step::Stuck(rest)),
         Some(behind) => colon_elseif_body(alloc, frames, maker, count, behind),
     }
 }
@@ -196,10 +203,11 @@ fn colon_else_step<'a>(
     count: usize,
     rest: &'a [Token],
 ) -> Result<Step<'a>, NoMemory>
-    ensures { IfOk result (λ s. acted (machine.colon_else_move count frames.old (terminals_of rest.now)) (made_of maker.old) ≡ seen s frames.new (made_of maker.new)) }
+    ensures { Moves (machine.colon_else_move count frames.old
+        (terminals_of rest.now)) maker.old result frames.new maker.new }
 {
     match behind_sign(rest, Sign::Colon) {
-        None => Ok(Step::Stuck),
+        None => Ok(Step::Stuck(rest)),
         Some(behind) => opened(
             alloc,
             frames,
@@ -220,7 +228,8 @@ fn colon_arm_end<'a>(
     count: usize,
     rest: &'a [Token],
 ) -> Result<Step<'a>, NoMemory>
-    ensures { IfOk result (λ s. acted (colon_arm_end_next count frames.old (terminals_of rest.now)) (made_of maker.old) ≡ seen s frames.new (made_of maker.new)) }
+    ensures { Moves (colon_arm_end_next count frames.old
+        (terminals_of rest.now)) maker.old result frames.new maker.new }
 {
     match behind_word(rest, Keyword::EndIf) {
         Some(behind) => {
@@ -242,7 +251,8 @@ pub(crate) fn colon_arm_step<'a>(
     count: usize,
     rest: &'a [Token],
 ) -> Result<Step<'a>, NoMemory>
-    ensures { IfOk result (λ s. acted (machine.colon_arm_move count frames.old (terminals_of rest.now)) (made_of maker.old) ≡ seen s frames.new (made_of maker.new)) }
+    ensures { Moves (machine.colon_arm_move count frames.old
+        (terminals_of rest.now)) maker.old result frames.new maker.new }
 {
     match behind_word(rest, Keyword::ElseIf) {
         Some(behind) => colon_elseif_step(alloc, frames, maker, count, behind),
@@ -261,7 +271,8 @@ pub(crate) fn colon_else_end_step<'a>(
     count: usize,
     rest: &'a [Token],
 ) -> Result<Step<'a>, NoMemory>
-    ensures { IfOk result (λ s. acted (machine.colon_else_end_move count frames.old (terminals_of rest.now)) (made_of maker.old) ≡ seen s frames.new (made_of maker.new)) }
+    ensures { Moves (machine.colon_else_end_move count frames.old
+        (terminals_of rest.now)) maker.old result frames.new maker.new }
 {
     match behind_word(rest, Keyword::EndIf) {
         Some(behind) => {

@@ -13,17 +13,17 @@ ghost use Rattle.stmt_maker.specs.Views.{made_of};
 ghost use Rattle.stmt_maker.specs.Answers.{Does};
 ghost use Rattle.stmt_parser.specs.Lasts.{last_action};
 ghost use Rattle.stmt_parser.specs.Nexts.{if_next, each_next, variable_next, keyed_next};
-ghost use Rattle.stmt_parser.specs.Outcomes.{acted, seen};
+ghost use Rattle.stmt_parser.specs.Outcomes.{acted, seen, Moves, MovesIn};
 
 use crate::bodies::{body_step, opened};
 use crate::heads::{behind_word, inline_at, word_at};
-use crate::jumps::{break_step, continue_step, include_step, return_step};
+use crate::jumps::{break_step, continue_step, exit_step, include_step, return_step};
 use crate::reads::{read_condition, read_statement, read_value};
 use crate::rows::listed_step;
 use crate::step::{Step, gone};
 use expr_parser::head::{behind_sign, sign_at, variable_at};
-use script_grammar::keyword::Keyword;
 use php_syntax::token::{Sign, Token};
+use script_grammar::keyword::Keyword;
 use stacks::Stack;
 use std::alloc::Global;
 use stmt_machine::frame::{Focus, Frame, Loop, Row};
@@ -43,7 +43,8 @@ pub(crate) enum Last {
 
 // What is made of the value of a statement.
 fn put_value(alloc: Global, maker: &mut Maker, last: Last) -> Result<bool, NoMemory>
-    ensures { IfOk result (λ done. Does (apply_stmt (last_action last) (made_of maker.old)) done (made_of maker.new)) }
+    ensures { IfOk result (λ done.
+        Does (apply_stmt (last_action last) (made_of maker.old)) done (made_of maker.new)) }
 {
     match last {
         Last::Run => maker.run(),
@@ -59,10 +60,11 @@ pub(crate) fn value_step<'a>(
     last: Last,
     rest: &'a [Token],
 ) -> Result<Step<'a>, NoMemory>
-    ensures { IfOk result (λ s. (fs : List Frame) → acted (machine.value_move (last_action last) fs (statement_at (terminals_of rest.now))) (made_of maker.old) ≡ seen s fs (made_of maker.new)) }
+    ensures { MovesIn (λ fs. machine.value_move (last_action last) fs
+        (statement_at (terminals_of rest.now))) maker.old result maker.new }
 {
     match read_statement(alloc, maker, rest)? {
-        None => Ok(Step::Stuck),
+        None => Ok(Step::Stuck(rest)),
         Some(behind) => {
             let done = put_value(alloc, maker, last)?;
             Ok(gone(done, Focus::Behind, behind))
@@ -77,7 +79,8 @@ fn if_body<'a>(
     maker: &mut Maker,
     rest: &'a [Token],
 ) -> Result<Step<'a>, NoMemory>
-    ensures { IfOk result (λ s. acted (if_next frames.old (terminals_of rest.now)) (made_of maker.old) ≡ seen s frames.new (made_of maker.new)) }
+    ensures { Moves (if_next frames.old
+        (terminals_of rest.now)) maker.old result frames.new maker.new }
 {
     match behind_sign(rest, Sign::Colon) {
         Some(behind) => opened(
@@ -108,10 +111,11 @@ fn if_step<'a>(
     maker: &mut Maker,
     rest: &'a [Token],
 ) -> Result<Step<'a>, NoMemory>
-    ensures { IfOk result (λ s. acted (machine.if_move frames.old (condition_at (terminals_of rest.now))) (made_of maker.old) ≡ seen s frames.new (made_of maker.new)) }
+    ensures { Moves (machine.if_move frames.old
+        (condition_at (terminals_of rest.now))) maker.old result frames.new maker.new }
 {
     match read_condition(alloc, maker, rest)? {
-        None => Ok(Step::Stuck),
+        None => Ok(Step::Stuck(rest)),
         Some(behind) => if_body(alloc, frames, maker, behind),
     }
 }
@@ -123,10 +127,11 @@ fn while_step<'a>(
     maker: &mut Maker,
     rest: &'a [Token],
 ) -> Result<Step<'a>, NoMemory>
-    ensures { IfOk result (λ s. acted (machine.while_move frames.old (condition_at (terminals_of rest.now))) (made_of maker.old) ≡ seen s frames.new (made_of maker.new)) }
+    ensures { Moves (machine.while_move frames.old
+        (condition_at (terminals_of rest.now))) maker.old result frames.new maker.new }
 {
     match read_condition(alloc, maker, rest)? {
-        None => Ok(Step::Stuck),
+        None => Ok(Step::Stuck(rest)),
         Some(behind) => body_step(alloc, frames, maker, Loop::While, behind),
     }
 }
@@ -159,14 +164,15 @@ fn keyed_step<'a>(
     key: &Bytes,
     rest: &'a [Token],
 ) -> Result<Step<'a>, NoMemory>
-    ensures { IfOk result (λ s. acted (keyed_next key.now frames.old (terminals_of rest.now)) (made_of maker.old) ≡ seen s frames.new (made_of maker.new)) }
+    ensures { Moves (keyed_next key.now frames.old
+        (terminals_of rest.now)) maker.old result frames.new maker.new }
 {
     match behind_sign(rest, Sign::DoubleArrow) {
-        None => Ok(Step::Stuck),
+        None => Ok(Step::Stuck(rest)),
         Some(behind) => match variable_at(behind) {
-            None => Ok(Step::Stuck),
+            None => Ok(Step::Stuck(behind)),
             Some((value, behind)) => match behind_sign(behind, Sign::CloseParen) {
-                None => Ok(Step::Stuck),
+                None => Ok(Step::Stuck(behind)),
                 Some(last) => {
                     let of = keyed_loop(alloc, key, value)?;
                     body_step(alloc, frames, maker, of, last)
@@ -184,7 +190,8 @@ fn variable_step<'a>(
     name: &Bytes,
     rest: &'a [Token],
 ) -> Result<Step<'a>, NoMemory>
-    ensures { IfOk result (λ s. acted (variable_next name.now frames.old (terminals_of rest.now)) (made_of maker.old) ≡ seen s frames.new (made_of maker.new)) }
+    ensures { Moves (variable_next name.now frames.old
+        (terminals_of rest.now)) maker.old result frames.new maker.new }
 {
     match behind_sign(rest, Sign::CloseParen) {
         Some(behind) => {
@@ -202,12 +209,13 @@ fn each_step<'a>(
     maker: &mut Maker,
     rest: &'a [Token],
 ) -> Result<Step<'a>, NoMemory>
-    ensures { IfOk result (λ s. acted (each_next frames.old (terminals_of rest.now)) (made_of maker.old) ≡ seen s frames.new (made_of maker.new)) }
+    ensures { Moves (each_next frames.old
+        (terminals_of rest.now)) maker.old result frames.new maker.new }
 {
     match behind_word(rest, Keyword::As) {
-        None => Ok(Step::Stuck),
+        None => Ok(Step::Stuck(rest)),
         Some(behind) => match variable_at(behind) {
-            None => Ok(Step::Stuck),
+            None => Ok(Step::Stuck(behind)),
             Some((name, last)) => variable_step(alloc, frames, maker, name, last),
         },
     }
@@ -220,12 +228,13 @@ fn foreach_step<'a>(
     maker: &mut Maker,
     rest: &'a [Token],
 ) -> Result<Step<'a>, NoMemory>
-    ensures { IfOk result (λ s. acted (machine.foreach_begin_move frames.old (machine.behind_paren (terminals_of rest.now))) (made_of maker.old) ≡ seen s frames.new (made_of maker.new)) }
+    ensures { Moves (machine.foreach_begin_move frames.old
+        (machine.behind_paren (terminals_of rest.now))) maker.old result frames.new maker.new }
 {
     match behind_sign(rest, Sign::OpenParen) {
-        None => Ok(Step::Stuck),
+        None => Ok(Step::Stuck(rest)),
         Some(inner) => match read_value(alloc, maker, inner)? {
-            None => Ok(Step::Stuck),
+            None => Ok(Step::Stuck(inner)),
             Some(behind) => each_step(alloc, frames, maker, behind),
         },
     }
@@ -233,10 +242,12 @@ fn foreach_step<'a>(
 
 // Behind `for`.
 fn for_step(rest: &[Token]) -> Step
-    ensures { (fs : List Frame) (m : Made) → acted (machine.for_begin_move fs (machine.behind_paren (terminals_of rest.now))) m ≡ seen result fs m }
+    ensures { (fs : List Frame) (m : Made) →
+        acted (machine.for_begin_move fs (machine.behind_paren (terminals_of rest.now))) m
+        ≡ seen result fs m }
 {
     match behind_sign(rest, Sign::OpenParen) {
-        None => Step::Stuck,
+        None => Step::Stuck(rest),
         Some(inner) => Step::Go(Focus::Start(Row::Begin), inner),
     }
 }
@@ -251,7 +262,8 @@ fn sign_step<'a>(
     rest: &'a [Token],
 ) -> Result<Step<'a>, NoMemory>
     requires { terminals_of rest.now ≡ sign_terminal sign ∷ terminals_of behind.now }
-    ensures { IfOk result (λ s. acted (machine.sign_move sign frames.old (terminals_of behind.now)) (made_of maker.old) ≡ seen s frames.new (made_of maker.new)) }
+    ensures { Moves (machine.sign_move sign frames.old
+        (terminals_of behind.now)) maker.old result frames.new maker.new }
 {
     match sign {
         Sign::Semicolon => Ok(Step::Go(Focus::Behind, behind)),
@@ -273,7 +285,8 @@ fn word_step<'a>(
     rest: &'a [Token],
 ) -> Result<Step<'a>, NoMemory>
     requires { terminals_of rest.now ≡ word_terminal word ∷ terminals_of behind.now }
-    ensures { IfOk result (λ s. acted (machine.word_move word frames.old (terminals_of behind.now)) (made_of maker.old) ≡ seen s frames.new (made_of maker.new)) }
+    ensures { Moves (machine.word_move word frames.old
+        (terminals_of behind.now)) maker.old result frames.new maker.new }
 {
     match word {
         Keyword::Echo => listed_step(alloc, maker, Row::Echo, 1, behind),
@@ -288,6 +301,7 @@ fn word_step<'a>(
         Keyword::Return => return_step(alloc, maker, behind),
         Keyword::Include => include_step(alloc, maker, behind),
         Keyword::Require => include_step(alloc, maker, behind),
+        Keyword::Exit => exit_step(alloc, maker, behind),
         _ => value_step(alloc, maker, Last::Run, rest),
     }
 }
@@ -299,7 +313,8 @@ pub(crate) fn begin_step<'a>(
     maker: &mut Maker,
     rest: &'a [Token],
 ) -> Result<Step<'a>, NoMemory>
-    ensures { IfOk result (λ s. acted (machine.begin_move frames.old (terminals_of rest.now)) (made_of maker.old) ≡ seen s frames.new (made_of maker.new)) }
+    ensures { Moves (machine.begin_move frames.old
+        (terminals_of rest.now)) maker.old result frames.new maker.new }
 {
     match sign_at(rest) {
         Some((sign, behind)) => sign_step(alloc, frames, maker, sign, behind, rest),

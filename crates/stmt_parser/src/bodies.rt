@@ -6,7 +6,7 @@ ghost use Rattle.stmt_machine.specs.Actions.{open_action};
 ghost use Rattle.stmt_machine.specs.Machine.{moves};
 ghost use Rattle.stmt_maker.specs.Views.{made_of};
 ghost use Rattle.stmt_parser.specs.Nexts.{body_next};
-ghost use Rattle.stmt_parser.specs.Outcomes.{acted, seen};
+ghost use Rattle.stmt_parser.specs.Outcomes.{Moves};
 
 use crate::step::{Step, gone};
 use expr_parser::head::behind_sign;
@@ -27,7 +27,8 @@ pub(crate) fn opened<'a>(
     focus: Focus,
     rest: &'a [Token],
 ) -> Result<Step<'a>, NoMemory>
-    ensures { IfOk result (λ s. acted (moves focus (frame ∷ frames.old) (terminals_of rest.now) (open_action of_loop ∷ [])) (made_of maker.old) ≡ seen s frames.new (made_of maker.new)) }
+    ensures { Moves (moves focus (frame ∷ frames.old) (terminals_of rest.now)
+        (open_action of_loop ∷ [])) maker.old result frames.new maker.new }
 {
     let done = maker.open(alloc, of_loop)?;
     frames.push(frame)?;
@@ -42,7 +43,8 @@ pub(crate) fn body_step<'a>(
     of: Loop,
     rest: &'a [Token],
 ) -> Result<Step<'a>, NoMemory>
-    ensures { IfOk result (λ s. acted (body_next of frames.old (terminals_of rest.now)) (made_of maker.old) ≡ seen s frames.new (made_of maker.new)) }
+    ensures { Moves (body_next of frames.old
+        (terminals_of rest.now)) maker.old result frames.new maker.new }
 {
     match behind_sign(rest, Sign::Colon) {
         Some(behind) => opened(

@@ -10,7 +10,7 @@ ghost use Rattle.stmt_machine.specs.Machine as machine;
 ghost use Rattle.stmt_machine.specs.Machine.{condition_at, moves};
 ghost use Rattle.stmt_machine.specs.Made.{Made};
 ghost use Rattle.stmt_maker.specs.Views.{made_of};
-ghost use Rattle.stmt_parser.specs.Outcomes.{acted, seen};
+ghost use Rattle.stmt_parser.specs.Outcomes.{acted, seen, Moves, MovesIn};
 
 use crate::arms::{arm_step, colon_arm_step, colon_else_end_step};
 use crate::functions::{function_end_step, part_step};
@@ -18,8 +18,8 @@ use crate::heads::{behind_word, word_at};
 use crate::reads::read_condition;
 use crate::step::{Step, gone, jump};
 use expr_parser::head::behind_sign;
-use script_grammar::keyword::Keyword;
 use php_syntax::token::{Sign, Token};
+use script_grammar::keyword::Keyword;
 use stacks::Stack;
 use std::alloc::Global;
 use stmt_machine::frame::{Focus, Frame, Loop};
@@ -28,7 +28,8 @@ use text_base::NoMemory;
 
 // Inside braces.
 fn block_step<'a>(frames: &mut Stack<Frame>, rest: &'a [Token]) -> Result<Step<'a>, NoMemory>
-    ensures { IfOk result (λ s. (m : Made) → acted (machine.block_move frames.old (terminals_of rest.now)) m ≡ seen s frames.new m) }
+    ensures { IfOk result (λ s. (m : Made) →
+        acted (machine.block_move frames.old (terminals_of rest.now)) m ≡ seen s frames.new m) }
 {
     match behind_sign(rest, Sign::CloseBrace) {
         Some(behind) => Ok(Step::Go(Focus::Behind, behind)),
@@ -75,7 +76,8 @@ fn colon_body_step<'a>(
     of: Loop,
     rest: &'a [Token],
 ) -> Result<Step<'a>, NoMemory>
-    ensures { IfOk result (λ s. acted (machine.colon_body_move of frames.old (terminals_of rest.now)) (made_of maker.old) ≡ seen s frames.new (made_of maker.new)) }
+    ensures { Moves (machine.colon_body_move of frames.old
+        (terminals_of rest.now)) maker.old result frames.new maker.new }
 {
     match behind_loop(&of, rest) {
         Some(behind) => {
@@ -95,10 +97,11 @@ fn do_end_step<'a>(
     maker: &mut Maker,
     rest: &'a [Token],
 ) -> Result<Step<'a>, NoMemory>
-    ensures { IfOk result (λ s. (fs : List frames.Frame) → acted (machine.do_end_move fs (condition_at (terminals_of rest.now))) (made_of maker.old) ≡ seen s fs (made_of maker.new)) }
+    ensures { MovesIn (λ fs. machine.do_end_move fs
+        (condition_at (terminals_of rest.now))) maker.old result maker.new }
 {
     match read_condition(alloc, maker, rest)? {
-        None => Ok(Step::Stuck),
+        None => Ok(Step::Stuck(rest)),
         Some(behind) => {
             let done = maker.end_do()?;
             Ok(jump(done, behind))
@@ -108,10 +111,11 @@ fn do_end_step<'a>(
 
 // Behind the body of a `do`.
 fn do_step<'a>(alloc: Global, maker: &mut Maker, rest: &'a [Token]) -> Result<Step<'a>, NoMemory>
-    ensures { IfOk result (λ s. (fs : List frames.Frame) → acted (machine.do_move fs (terminals_of rest.now)) (made_of maker.old) ≡ seen s fs (made_of maker.new)) }
+    ensures { MovesIn (λ fs. machine.do_move fs
+        (terminals_of rest.now)) maker.old result maker.new }
 {
     match behind_word(rest, Keyword::While) {
-        None => Ok(Step::Stuck),
+        None => Ok(Step::Stuck(rest)),
         Some(behind) => do_end_step(alloc, maker, behind),
     }
 }
@@ -123,7 +127,8 @@ pub(crate) fn behind_step<'a>(
     maker: &mut Maker,
     rest: &'a [Token],
 ) -> Result<Step<'a>, NoMemory>
-    ensures { IfOk result (λ s. acted (machine.behind_move frames.old (terminals_of rest.now)) (made_of maker.old) ≡ seen s frames.new (made_of maker.new)) }
+    ensures { Moves (machine.behind_move frames.old
+        (terminals_of rest.now)) maker.old result frames.new maker.new }
 {
     match frames.pop() {
         None => part_step(alloc, maker, rest),

@@ -4,13 +4,13 @@ ghost use Rattle.std.specs.Prelude.{◌≡◌, [], IfOk};
 ghost use Rattle.expr_parser.specs.Heads.{terminals_of};
 ghost use Rattle.stmt_machine.specs.Machine as machine;
 ghost use Rattle.stmt_maker.specs.Views.{made_of};
-ghost use Rattle.stmt_parser.specs.Outcomes.{acted, seen};
+ghost use Rattle.stmt_parser.specs.Outcomes.{Moves};
 
 use crate::heads::behind_word;
 use crate::step::{Step, gone};
 use expr_parser::head::{behind_sign, head_at, name_at};
-use script_grammar::keyword::Keyword;
 use php_syntax::token::{Sign, Token};
+use script_grammar::keyword::Keyword;
 use stacks::Stack;
 use std::alloc::Global;
 use stmt_machine::frame::{Focus, Frame};
@@ -23,12 +23,12 @@ fn function_step<'a>(
     maker: &mut Maker,
     rest: &'a [Token],
 ) -> Result<Step<'a>, NoMemory>
-    ensures { IfOk result (λ s. acted (machine.function_move (terminals_of rest.now)) (made_of maker.old) ≡ seen s [] (made_of maker.new)) }
+    ensures { Moves (machine.function_move (terminals_of rest.now)) maker.old result [] maker.new }
 {
     match name_at(rest) {
-        None => Ok(Step::Stuck),
+        None => Ok(Step::Stuck(rest)),
         Some((name, behind)) => match behind_sign(behind, Sign::OpenParen) {
-            None => Ok(Step::Stuck),
+            None => Ok(Step::Stuck(behind)),
             Some(inner) => {
                 maker.begin_function(alloc, name)?;
                 Ok(Step::Go(Focus::Parameters, inner))
@@ -43,7 +43,7 @@ pub(crate) fn part_step<'a>(
     maker: &mut Maker,
     rest: &'a [Token],
 ) -> Result<Step<'a>, NoMemory>
-    ensures { IfOk result (λ s. acted (machine.part_move (terminals_of rest.now)) (made_of maker.old) ≡ seen s [] (made_of maker.new)) }
+    ensures { Moves (machine.part_move (terminals_of rest.now)) maker.old result [] maker.new }
 {
     match head_at(rest) {
         None => Ok(Step::Finished),
@@ -61,10 +61,11 @@ fn function_body_step<'a>(
     maker: &mut Maker,
     rest: &'a [Token],
 ) -> Result<Step<'a>, NoMemory>
-    ensures { IfOk result (λ s. acted (machine.function_body_move frames.old (terminals_of rest.now)) (made_of maker.old) ≡ seen s frames.new (made_of maker.new)) }
+    ensures { Moves (machine.function_body_move frames.old
+        (terminals_of rest.now)) maker.old result frames.new maker.new }
 {
     match behind_sign(rest, Sign::OpenBrace) {
-        None => Ok(Step::Stuck),
+        None => Ok(Step::Stuck(rest)),
         Some(behind) => {
             maker.begin_body(alloc)?;
             frames.push(Frame::Function)?;
@@ -80,7 +81,8 @@ pub(crate) fn parameters_step<'a>(
     maker: &mut Maker,
     rest: &'a [Token],
 ) -> Result<Step<'a>, NoMemory>
-    ensures { IfOk result (λ s. acted (machine.parameters_move frames.old (terminals_of rest.now)) (made_of maker.old) ≡ seen s frames.new (made_of maker.new)) }
+    ensures { Moves (machine.parameters_move frames.old
+        (terminals_of rest.now)) maker.old result frames.new maker.new }
 {
     match behind_sign(rest, Sign::CloseParen) {
         Some(behind) => function_body_step(alloc, frames, maker, behind),
@@ -95,13 +97,14 @@ pub(crate) fn parameter_end_step<'a>(
     maker: &mut Maker,
     rest: &'a [Token],
 ) -> Result<Step<'a>, NoMemory>
-    ensures { IfOk result (λ s. acted (machine.parameter_end_move frames.old (terminals_of rest.now)) (made_of maker.old) ≡ seen s frames.new (made_of maker.new)) }
+    ensures { Moves (machine.parameter_end_move frames.old
+        (terminals_of rest.now)) maker.old result frames.new maker.new }
 {
     match behind_sign(rest, Sign::CloseParen) {
         Some(behind) => function_body_step(alloc, frames, maker, behind),
         None => match behind_sign(rest, Sign::Comma) {
             Some(behind) => Ok(Step::Go(Focus::Parameter, behind)),
-            None => Ok(Step::Stuck),
+            None => Ok(Step::Stuck(rest)),
         },
     }
 }
@@ -113,7 +116,8 @@ pub(crate) fn function_end_step<'a>(
     maker: &mut Maker,
     rest: &'a [Token],
 ) -> Result<Step<'a>, NoMemory>
-    ensures { IfOk result (λ s. acted (machine.function_end_move frames.old (terminals_of rest.now)) (made_of maker.old) ≡ seen s frames.new (made_of maker.new)) }
+    ensures { Moves (machine.function_end_move frames.old
+        (terminals_of rest.now)) maker.old result frames.new maker.new }
 {
     match behind_sign(rest, Sign::CloseBrace) {
         Some(behind) => {

@@ -6,8 +6,8 @@ ghost use Rattle.script_grammar.specs.declared.keyword.Keyword as keywords;
 ghost use Rattle.expr_parser.specs.Heads.{terminals_of};
 
 use expr_parser::head::{Head, head_at};
-use script_grammar::keyword::Keyword;
 use php_syntax::token::Token;
+use script_grammar::keyword::Keyword;
 use text_base::Bytes;
 
 /// The keyword that stands first, and the tokens behind it.

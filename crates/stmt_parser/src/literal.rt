@@ -35,7 +35,9 @@ fn negated(alloc: Global, number: i64) -> Result<Expr, NoMemory>
 /// The tree of a literal, and how high it is.
 #[tactic(auto, using(php_syntax::proofs::Views::views), unfolding(php_syntax::specs::Height::height))]
 pub(crate) fn tree_of(alloc: Global, literal: Literal) -> Result<(Expr, u32), NoMemory>
-    ensures { IfOk result (λ made. (plain_expr made.0 ≡ literal_tree literal.entry) × (made.1 ≡ height (literal_tree literal.entry)) × (made.1 < 200)) }
+    ensures { IfOk result (λ made.
+        (plain_expr made.0 ≡ literal_tree literal.entry) ×
+        (made.1 ≡ height (literal_tree literal.entry)) × (made.1 < 200)) }
 {
     match literal {
         Literal::Minus(number) => {

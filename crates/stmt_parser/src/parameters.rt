@@ -10,14 +10,14 @@ ghost use Rattle.stmt_machine.specs.Machine as machine;
 ghost use Rattle.stmt_maker.specs.Views.{made_of};
 ghost use Rattle.stmt_parser.specs.Literals.{literal_tree};
 ghost use Rattle.stmt_parser.specs.Nexts.{default_at, plain_at, default_next};
-ghost use Rattle.stmt_parser.specs.Outcomes.{acted, seen};
+ghost use Rattle.stmt_parser.specs.Outcomes.{MovesIn};
 
 use crate::heads::{int_at, word_at};
 use crate::literal::{Literal, tree_of};
 use crate::step::{Step, gone};
 use expr_parser::head::{behind_sign, head_at, text_at, variable_at};
-use script_grammar::keyword::Keyword;
 use php_syntax::token::{Sign, Token};
+use script_grammar::keyword::Keyword;
 use std::alloc::Global;
 use stmt_machine::frame::Focus;
 use stmt_maker::maker::Maker;
@@ -25,7 +25,8 @@ use text_base::{Bytes, NoMemory};
 
 // The literal of a word, if it is one.
 fn word_literal<'a>(word: Keyword) -> Option<Literal<'a>>
-    ensures { MatchOption result (machine.literal_word word ≡ None) (λ literal. machine.literal_word word ≡ Some (literal_tree literal)) }
+    ensures { MatchOption result (machine.literal_word word ≡ None)
+        (λ literal. machine.literal_word word ≡ Some (literal_tree literal)) }
 {
     match word {
         Keyword::True => Some(Literal::Flag(true)),
@@ -78,10 +79,11 @@ fn default_step<'a>(
     name: &Bytes,
     rest: &'a [Token],
 ) -> Result<Step<'a>, NoMemory>
-    ensures { IfOk result (λ s. (fs : List Frame) → acted (default_next name.now fs (default_at (terminals_of rest.now))) (made_of maker.old) ≡ seen s fs (made_of maker.new)) }
+    ensures { MovesIn (λ fs. default_next name.now fs
+        (default_at (terminals_of rest.now))) maker.old result maker.new }
 {
     match literal_at(rest) {
-        None => Ok(Step::Stuck),
+        None => Ok(Step::Stuck(rest)),
         Some((literal, behind)) => {
             let made = tree_of(alloc, literal)?;
             let done = maker.parameter(alloc, name, Some(made.0), made.1)?;
@@ -97,7 +99,8 @@ fn plain_step<'a>(
     name: &Bytes,
     rest: &'a [Token],
 ) -> Result<Step<'a>, NoMemory>
-    ensures { IfOk result (λ s. (fs : List Frame) → acted (machine.moves focus.BehindParameter fs (terminals_of rest.now) (parameter_action name.now no_expr ∷ [])) (made_of maker.old) ≡ seen s fs (made_of maker.new)) }
+    ensures { MovesIn (λ fs. machine.moves focus.BehindParameter fs (terminals_of rest.now)
+        (parameter_action name.now no_expr ∷ [])) maker.old result maker.new }
 {
     let done = maker.parameter(alloc, name, None, 0)?;
     Ok(gone(done, Focus::BehindParameter, rest))
@@ -109,10 +112,11 @@ pub(crate) fn parameter_step<'a>(
     maker: &mut Maker,
     rest: &'a [Token],
 ) -> Result<Step<'a>, NoMemory>
-    ensures { IfOk result (λ s. (fs : List Frame) → acted (machine.parameter_move fs (terminals_of rest.now)) (made_of maker.old) ≡ seen s fs (made_of maker.new)) }
+    ensures { MovesIn (λ fs. machine.parameter_move fs
+        (terminals_of rest.now)) maker.old result maker.new }
 {
     match variable_at(rest) {
-        None => Ok(Step::Stuck),
+        None => Ok(Step::Stuck(rest)),
         Some((name, behind)) => match behind_sign(behind, Sign::Assign) {
             None => plain_step(alloc, maker, name, behind),
             Some(default) => match head_at(default) {

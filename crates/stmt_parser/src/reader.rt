@@ -5,7 +5,7 @@ ghost use Rattle.expr_parser.specs.Heads.{terminals_of};
 ghost use Rattle.stmt_machine.specs.Machine as machine;
 ghost use Rattle.stmt_machine.specs.Reading.{makes_file};
 ghost use Rattle.stmt_maker.specs.Views.{made_of};
-ghost use Rattle.stmt_parser.specs.Outcomes.{acted, seen};
+ghost use Rattle.stmt_parser.specs.Outcomes.{Moves};
 ghost use Rattle.stmt_parser.specs.Readings.{IsReading};
 
 use crate::begins::begin_step;
@@ -30,7 +30,7 @@ pub enum Reading {
     File(FileTree),
     /// The tokens of a tree that is over 200 high; and the place of its first token.
     Tall { at: u32 },
-    /// Not the tokens of a file; and the place of the first token that was not read.
+    /// Not the tokens of a file; and the place of the first token that no file goes on with.
     Stuck { at: u32 },
 }
 
@@ -42,7 +42,8 @@ pub(crate) fn step<'a>(
     maker: &mut Maker,
     rest: &'a [Token],
 ) -> Result<Step<'a>, NoMemory>
-    ensures { IfOk result (λ s. acted (machine.move focus frames.old (terminals_of rest.now)) (made_of maker.old) ≡ seen s frames.new (made_of maker.new)) }
+    ensures { Moves (machine.move focus frames.old
+        (terminals_of rest.now)) maker.old result frames.new maker.new }
 {
     match focus {
         Focus::Begin => begin_step(alloc, frames, maker, rest),
@@ -56,9 +57,9 @@ pub(crate) fn step<'a>(
     }
 }
 
-// The place of the first of the tokens that are left; of the last of all where none is left.
-fn place(rest: &[Token], tokens: &[Token]) -> u32 {
-    match rest.first() {
+// The place of the first of so many tokens that are left; of the last of all where none is left.
+fn place(tokens: &[Token], left: usize) -> u32 {
+    match tokens.get(tokens.len().saturating_sub(left)) {
         Some(token) => token.at,
         None => match tokens.last() {
             Some(token) => token.at,
@@ -74,7 +75,7 @@ fn finish(maker: Maker, tokens: &[Token]) -> Reading
     match maker.file() {
         Some(tree) => Reading::File(tree),
         None => Reading::Tall {
-            at: place(tokens, tokens),
+            at: place(tokens, tokens.len()),
         },
     }
 }
@@ -96,9 +97,10 @@ pub fn read_file(alloc: Global, tokens: &[Token]) -> Result<Reading, NoMemory>
                 rest = left;
             }
             Step::Finished => return Ok(finish(maker, tokens)),
-            Step::Stuck => {
+            Step::Stuck(from) => {
+                let left = maker.values.left().min(from.len());
                 return Ok(Reading::Stuck {
-                    at: place(rest, tokens),
+                    at: place(tokens, left),
                 });
             }
         }

@@ -7,7 +7,7 @@ ghost use Rattle.expr_parser.specs.Heads.{terminals_of};
 ghost use Rattle.stmt_machine.specs.declared.frame.Frame.{Frame};
 ghost use Rattle.stmt_machine.specs.Machine as machine;
 ghost use Rattle.stmt_maker.specs.Views.{made_of};
-ghost use Rattle.stmt_parser.specs.Outcomes.{acted, seen};
+ghost use Rattle.stmt_parser.specs.Outcomes.{Moves, MovesIn};
 
 use crate::bodies::body_step;
 use crate::reads::{read_statement, read_value};
@@ -28,10 +28,11 @@ pub(crate) fn listed_step<'a>(
     count: usize,
     rest: &'a [Token],
 ) -> Result<Step<'a>, NoMemory>
-    ensures { IfOk result (λ s. (fs : List Frame) → acted (machine.listed_move row count fs (expr_at (terminals_of rest.now))) (made_of maker.old) ≡ seen s fs (made_of maker.new)) }
+    ensures { MovesIn (λ fs. machine.listed_move row count fs
+        (expr_at (terminals_of rest.now))) maker.old result maker.new }
 {
     match read_value(alloc, maker, rest)? {
-        None => Ok(Step::Stuck),
+        None => Ok(Step::Stuck(rest)),
         Some(behind) => Ok(Step::Go(Focus::Listed { row, count }, behind)),
     }
 }
@@ -80,7 +81,8 @@ pub(crate) fn start_step<'a>(
     row: Row,
     rest: &'a [Token],
 ) -> Result<Step<'a>, NoMemory>
-    ensures { IfOk result (λ s. (fs : List Frame) → acted (machine.start_move row fs (terminals_of rest.now)) (made_of maker.old) ≡ seen s fs (made_of maker.new)) }
+    ensures { MovesIn (λ fs. machine.start_move row fs
+        (terminals_of rest.now)) maker.old result maker.new }
 {
     match row_end(&row, rest) {
         Some(_) => Ok(Step::Go(Focus::Listed { row, count: 0 }, rest)),
@@ -97,7 +99,8 @@ fn row_end_step<'a>(
     count: usize,
     rest: &'a [Token],
 ) -> Result<Step<'a>, NoMemory>
-    ensures { IfOk result (λ s. acted (machine.row_end_move row count frames.old (terminals_of rest.now)) (made_of maker.old) ≡ seen s frames.new (made_of maker.new)) }
+    ensures { Moves (machine.row_end_move row count frames.old
+        (terminals_of rest.now)) maker.old result frames.new maker.new }
 {
     match row {
         Row::Echo => {
@@ -131,13 +134,14 @@ fn more_step<'a>(
     count: usize,
     rest: &'a [Token],
 ) -> Result<Step<'a>, NoMemory>
-    ensures { IfOk result (λ s. (fs : List Frame) → acted (machine.more_move row count fs (terminals_of rest.now)) (made_of maker.old) ≡ seen s fs (made_of maker.new)) }
+    ensures { MovesIn (λ fs. machine.more_move row count fs
+        (terminals_of rest.now)) maker.old result maker.new }
 {
     match behind_sign(rest, Sign::Comma) {
-        None => Ok(Step::Stuck),
+        None => Ok(Step::Stuck(rest)),
         Some(behind) => {
             if is_zero(count) {
-                return Ok(Step::Stuck);
+                return Ok(Step::Stuck(rest));
             }
             let more = one_more(count)?;
             listed_step(alloc, maker, row, more, behind)
@@ -154,7 +158,8 @@ pub(crate) fn row_step<'a>(
     count: usize,
     rest: &'a [Token],
 ) -> Result<Step<'a>, NoMemory>
-    ensures { IfOk result (λ s. acted (machine.row_move row count frames.old (terminals_of rest.now)) (made_of maker.old) ≡ seen s frames.new (made_of maker.new)) }
+    ensures { Moves (machine.row_move row count frames.old
+        (terminals_of rest.now)) maker.old result frames.new maker.new }
 {
     match row_end(&row, rest) {
         Some(last) => row_end_step(alloc, frames, maker, row, count, last),
@@ -169,7 +174,8 @@ pub(crate) fn condition_step<'a>(
     begin: usize,
     rest: &'a [Token],
 ) -> Result<Step<'a>, NoMemory>
-    ensures { IfOk result (λ s. (fs : List Frame) → acted (machine.condition_move begin fs (terminals_of rest.now)) (made_of maker.old) ≡ seen s fs (made_of maker.new)) }
+    ensures { MovesIn (λ fs. machine.condition_move begin fs
+        (terminals_of rest.now)) maker.old result maker.new }
 {
     match behind_sign(rest, Sign::Semicolon) {
         Some(behind) => {
@@ -180,7 +186,7 @@ pub(crate) fn condition_step<'a>(
             Ok(Step::Go(Focus::Start(row), behind))
         }
         None => match read_statement(alloc, maker, rest)? {
-            None => Ok(Step::Stuck),
+            None => Ok(Step::Stuck(rest)),
             Some(behind) => {
                 let row = Row::Next {
                     begin,

@@ -18,26 +18,28 @@ pub(crate) enum Step<'a> {
     Go(Focus, &'a [Token]),
     /// The whole file was read.
     Finished,
-    /// No file goes on so.
-    Stuck,
+    /// No file goes on so: the tokens from the first that nothing goes on with, or fewer where an expression went on.
+    Stuck(&'a [Token]),
 }
 
 /// On to another place, where an action was done.
 pub(crate) fn gone<'a>(done: bool, focus: Focus, rest: &'a [Token]) -> Step<'a>
-    ensures { (fs : List Frame) (m : Made) → gone_if done focus fs (terminals_of rest.now) m ≡ seen result fs m }
+    ensures { (fs : List Frame) (m : Made) → gone_if done focus fs (terminals_of rest.now) m
+        ≡ seen result fs m }
 {
     if done {
         return Step::Go(focus, rest);
     }
-    Step::Stuck
+    Step::Stuck(rest)
 }
 
 /// On behind a semicolon, where an action was done.
 pub(crate) fn jump<'a>(done: bool, rest: &'a [Token]) -> Step<'a>
-    ensures { (fs : List Frame) (m : Made) → jump_if done fs (terminals_of rest.now) m ≡ seen result fs m }
+    ensures { (fs : List Frame) (m : Made) → jump_if done fs (terminals_of rest.now) m
+        ≡ seen result fs m }
 {
     match behind_sign(rest, Sign::Semicolon) {
-        None => Step::Stuck,
+        None => Step::Stuck(rest),
         Some(behind) => gone(done, Focus::Behind, behind),
     }
 }

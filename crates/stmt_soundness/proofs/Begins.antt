@@ -14,15 +14,15 @@ use Rattle.stmt_machine.specs.declared.frame.Row.{Row}
 use Rattle.stmt_machine.specs.declared.frame.Focus.TheVariants as focus
 use Rattle.stmt_machine.specs.declared.frame.Frame.{Frame}
 use Rattle.stmt_machine.specs.declared.frame.Frame.TheVariants as frame
-use Rattle.stmt_machine.specs.Actions.{StmtAction, value_action, open_action, run_action, return_action}
-use Rattle.stmt_machine.specs.Machine.{moves, stuck, statement_at, condition_at, value_move, listed_move, if_move, body_move, while_move, each_move, foreach_move, behind_paren, foreach_begin_move, for_begin_move, jump_move, return_move}
+use Rattle.stmt_machine.specs.Actions.{StmtAction, value_action, open_action, run_action, return_action, exit_action}
+use Rattle.stmt_machine.specs.Machine.{moves, stuck, statement_at, condition_at, value_move, listed_move, if_move, body_move, while_move, each_move, foreach_move, behind_paren, foreach_begin_move, for_begin_move, jump_move, return_move, argument_at, exit_parens_move, exit_move}
 use Rattle.stmt_machine.specs.Postfix.{value_actions}
 use Rattle.stmt_soundness.proofs.Shapes.{Rest}
 use Rattle.stmt_soundness.proofs.Stands.{Begun, LoopBody, Later, Stands, Carries}
-use Rattle.stmt_soundness.proofs.Built.{run_begun, if_begun, colon_if_begun, while_begun, stmt_body_read, colon_body_read, return_begun, return_value_begun}
+use Rattle.stmt_soundness.proofs.Built.{run_begun, if_begun, colon_if_begun, while_begun, stmt_body_read, colon_body_read, return_begun, return_value_begun, exit_begun, exit_parens_begun, exit_value_begun}
 use Rattle.stmt_soundness.proofs.Branches.{branch}
 use Rattle.stmt_soundness.proofs.Rows.{for_begun, each_begun}
-use Rattle.stmt_soundness.proofs.Cases.{ExprSound, expr_case, statement_case, condition_case, semicolon_case, colon_case}
+use Rattle.stmt_soundness.proofs.Cases.{ExprSound, expr_case, statement_case, condition_case, argument_case, semicolon_case, colon_case, paren_case}
 
 pub value_carries : ExprSound → (a : StmtAction) (fs : List Frame) (P : Rest) → ((e : ExprForm) (r : List Terminal) (bs : List StmtAction) → Later fs r bs → P (expr_terminals e (sign_terminal sign.Semicolon ∷ r)) (value_actions e (a ∷ bs)))
     → (ts : List Terminal) → Carries (value_move a fs (statement_at ts)) (P ts)
@@ -98,3 +98,15 @@ return_carries sound fs ts =
     (λ left bs g. return_begun left bs g)
     (λ us. value_carries sound (return_action true) fs (λ vs bs. Begun (Later fs) (word_terminal word.Return ∷ vs) bs) (λ e r bs g. return_value_begun e r bs g) us)
     ts
+
+exit_parens_carries : ExprSound → (fs : List Frame) (ts : List Terminal) → Carries (exit_parens_move fs ts) (Begun (Later fs) (word_terminal word.Exit ∷ sign_terminal sign.OpenParen ∷ ts))
+exit_parens_carries sound fs ts =
+    paren_case
+    (λ b left us. Carries (if b then jump_move (exit_action false) fs left else value_move (exit_action true) fs (argument_at us)) (Begun (Later fs) (word_terminal word.Exit ∷ sign_terminal sign.OpenParen ∷ us)))
+    (λ left. jump_carries (exit_action false) fs (λ us bs. Begun (Later fs) (word_terminal word.Exit ∷ sign_terminal sign.OpenParen ∷ sign_terminal sign.CloseParen ∷ us) bs) (λ r bs g. exit_parens_begun r bs g) left)
+    (λ us. argument_case sound (λ o vs. Carries (value_move (exit_action true) fs o) (Begun (Later fs) (word_terminal word.Exit ∷ sign_terminal sign.OpenParen ∷ vs))) (λ vs. tt) (λ e r bs g. exit_value_begun e r bs g) us)
+    ts
+
+pub exit_carries : ExprSound → (fs : List Frame) (ts : List Terminal) → Carries (exit_move fs ts) (Begun (Later fs) (word_terminal word.Exit ∷ ts))
+exit_carries sound fs (sign_terminal sign.OpenParen ∷ ts) = exit_parens_carries sound fs ts
+exit_carries sound fs ts = jump_carries (exit_action false) fs (λ us bs. Begun (Later fs) (word_terminal word.Exit ∷ us) bs) (λ r bs g. exit_begun r bs g) ts

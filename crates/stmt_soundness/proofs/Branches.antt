@@ -5,7 +5,7 @@ use Rattle.php_syntax.specs.declared.token.Sign.TheVariants as sign
 use Rattle.script_grammar.specs.declared.keyword.Keyword.TheVariants as word
 use Rattle.script_grammar.specs.Terminals.{Terminal, word_terminal, sign_terminal}
 use Rattle.script_grammar.specs.Expressions.{ExprForm}
-use Rattle.script_grammar.specs.Statements.{condition_terminals, StmtForm, semicolon_form, inline_form, block_form, echo_form, print_form, run_form, if_form, colon_if_form, while_form, do_form, for_form, each_form, break_form, continue_form, return_form, include_form, include_parens_form, no_stmts_form, more_stmts_form, no_arms_form, elseif_form, else_if_form, no_else_form, else_form, no_colon_arms, colon_arm, no_colon_else, colon_else, stmt_terminals, takes_else, is_if, nearest}
+use Rattle.script_grammar.specs.Statements.{condition_terminals, StmtForm, semicolon_form, inline_form, block_form, echo_form, print_form, run_form, if_form, colon_if_form, while_form, do_form, for_form, each_form, break_form, continue_form, return_form, include_form, include_parens_form, exit_form, exit_parens_form, no_stmts_form, more_stmts_form, no_arms_form, elseif_form, else_if_form, no_else_form, else_form, no_colon_arms, colon_arm, no_colon_else, colon_else, stmt_terminals, takes_else, is_if, nearest}
 use Rattle.stmt_machine.specs.Actions.{StmtAction, open_action, if_action}
 use Rattle.stmt_machine.specs.Postfix.{value_actions, stmt_actions}
 use Rattle.stmt_machine.specs.Reading.{else_next}
@@ -73,6 +73,8 @@ no_if continue_form r i = refl
 no_if (return_form e) r i = refl
 no_if (include_form k is t) r i = refl
 no_if (include_parens_form k is t) r i = refl
+no_if exit_form r i = refl
+no_if (exit_parens_form e) r i = refl
 
 abbrev NoIf : StmtForm → List Terminal → Type 0
 NoIf s r = StmtHolds s r × (not (is_if s) ≡ true)

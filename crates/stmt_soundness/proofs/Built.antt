@@ -6,10 +6,10 @@ use Rattle.script_grammar.specs.declared.keyword.Keyword.{Keyword}
 use Rattle.script_grammar.specs.declared.keyword.Keyword.TheVariants as word
 use Rattle.script_grammar.specs.Terminals.{Terminal, inline_terminal, word_terminal, text_terminal, sign_terminal}
 use Rattle.script_grammar.specs.Expressions.{ExprForm, expr_terminals}
-use Rattle.script_grammar.specs.Statements.{condition_terminals, nothing_form, something_form, semicolon_form, inline_form, block_form, print_form, run_form, if_form, colon_if_form, while_form, do_form, break_form, continue_form, return_form, is_include, include_form, include_parens_form, no_stmts_form, more_stmts_form, stmt_body, colon_body, stmt_terminals, takes_else, nearest}
+use Rattle.script_grammar.specs.Statements.{condition_terminals, nothing_form, something_form, semicolon_form, inline_form, block_form, print_form, run_form, if_form, colon_if_form, while_form, do_form, break_form, continue_form, return_form, is_include, include_form, include_parens_form, exit_form, exit_parens_form, no_stmts_form, more_stmts_form, stmt_body, colon_body, stmt_terminals, takes_else, nearest}
 use Rattle.stmt_machine.specs.declared.frame.Loop.{Loop}
 use Rattle.stmt_machine.specs.declared.frame.Loop.TheVariants as loop
-use Rattle.stmt_machine.specs.Actions.{StmtAction, inline_action, echo_action, open_action, run_action, break_action, continue_action, return_action, include_action, loop_action}
+use Rattle.stmt_machine.specs.Actions.{StmtAction, inline_action, echo_action, open_action, run_action, break_action, continue_action, return_action, include_action, exit_action, loop_action}
 use Rattle.stmt_machine.specs.Postfix.{value_actions, stmt_actions}
 use Rattle.stmt_soundness.proofs.Shapes.{Rest, here, extend, pair}
 use Rattle.stmt_soundness.proofs.Stands.{Begun, StmtsThen, BlockRest, ColonBodyRest, Branch, BranchRest, ColonBranch, ColonArmRest, DoRest, LoopBody, Done}
@@ -99,6 +99,20 @@ pub include_parens_begun : {k : Rest} (w : Keyword) (is : is_include w ≡ true)
     → Begun k (word_terminal w ∷ sign_terminal sign.OpenParen ∷ text_terminal t ∷ sign_terminal sign.CloseParen ∷ sign_terminal sign.Semicolon ∷ r) (include_action t ∷ bs)
 unfolding stmt_terminals stmt_actions nearest takes_else
 include_parens_begun w is t r bs g = here (include_parens_form w is t) r bs (refl, λ i. absurd (false_true i)) g
+
+pub exit_begun : {k : Rest} (r : List Terminal) (bs : List StmtAction) → k r bs → Begun k (word_terminal word.Exit ∷ sign_terminal sign.Semicolon ∷ r) (exit_action false ∷ bs)
+unfolding stmt_terminals stmt_actions nearest takes_else
+exit_begun r bs g = here exit_form r bs (refl, λ i. absurd (false_true i)) g
+
+pub exit_parens_begun : {k : Rest} (r : List Terminal) (bs : List StmtAction) → k r bs
+    → Begun k (word_terminal word.Exit ∷ sign_terminal sign.OpenParen ∷ sign_terminal sign.CloseParen ∷ sign_terminal sign.Semicolon ∷ r) (exit_action false ∷ bs)
+unfolding stmt_terminals stmt_actions nearest takes_else
+exit_parens_begun r bs g = here (exit_parens_form nothing_form) r bs (refl, λ i. absurd (false_true i)) g
+
+pub exit_value_begun : {k : Rest} (e : ExprForm) (r : List Terminal) (bs : List StmtAction) → k r bs
+    → Begun k (word_terminal word.Exit ∷ sign_terminal sign.OpenParen ∷ expr_terminals e (sign_terminal sign.CloseParen ∷ sign_terminal sign.Semicolon ∷ r)) (value_actions e (exit_action true ∷ bs))
+unfolding stmt_terminals stmt_actions nearest takes_else
+exit_value_begun e r bs g = here (exit_parens_form (something_form e)) r bs (refl, λ i. absurd (false_true i)) g
 
 -- the bodies of loops
 pub stmt_body_read : {k : Rest} (l : Loop) {r : List Terminal} {bs : List StmtAction} → Begun (Done (loop_action l) k) r bs → LoopBody l k r (open_action true ∷ bs)

@@ -9,7 +9,7 @@ use Rattle.expr_machine.specs.Actions.{Action}
 use Rattle.expr_machine.specs.Machine.{behind}
 use Rattle.expr_machine.specs.Postfix.{expr_actions}
 use Rattle.expr_machine.specs.Reading.{expr_at}
-use Rattle.stmt_machine.specs.Machine.{colon_next, semicolon_next, paren_end_next, ended_by, condition_at, statement_at}
+use Rattle.stmt_machine.specs.Machine.{colon_next, semicolon_next, paren_end_next, ended_by, condition_at, statement_at, argument_at}
 
 -- what is read as an expression is one, with its actions
 abbrev pub ExprSound : Type 0
@@ -45,6 +45,15 @@ pub statement_case : ExprSound → (Q : Option (List Action × List Terminal) �
 statement_case sound Q n s ts =
     expr_case sound (λ o us. Q (ended_by semicolon_next o) us) n
     (λ e r. semicolon_case (λ b left us. Q (if b then Some (expr_actions e [], left) else None) (expr_terminals e us)) (λ left. s e left) (λ us. n (expr_terminals e us)) r)
+    ts
+
+pub argument_case : ExprSound → (Q : Option (List Action × List Terminal) → List Terminal → Type 0) → ((ts : List Terminal) → Q None ts)
+    → ((e : ExprForm) (r : List Terminal) → Q (Some (expr_actions e [], r)) (expr_terminals e (sign_terminal sign.CloseParen ∷ sign_terminal sign.Semicolon ∷ r))) → (ts : List Terminal) → Q (argument_at ts) ts
+argument_case sound Q n s ts =
+    expr_case sound (λ o us. Q (ended_by semicolon_next (ended_by paren_end_next o)) us) n
+    (λ e r. paren_case (λ b left us. Q (ended_by semicolon_next (if b then Some (expr_actions e [], left) else None)) (expr_terminals e us))
+    (λ left. semicolon_case (λ b after us. Q (if b then Some (expr_actions e [], after) else None) (expr_terminals e (sign_terminal sign.CloseParen ∷ us))) (λ after. s e after) (λ us. n (expr_terminals e (sign_terminal sign.CloseParen ∷ us))) left)
+    (λ us. n (expr_terminals e us)) r)
     ts
 
 pub condition_case : ExprSound → (Q : Option (List Action × List Terminal) → List Terminal → Type 0) → ((ts : List Terminal) → Q None ts)

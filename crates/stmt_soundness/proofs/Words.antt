@@ -14,7 +14,7 @@ use Rattle.stmt_soundness.proofs.Stands.{Begun, Later, Carries}
 use Rattle.stmt_soundness.proofs.Built.{semicolon_begun, inline_begun, block_begun, print_begun, do_begun, break_begun, continue_begun, include_begun, include_parens_begun}
 use Rattle.stmt_soundness.proofs.Rows.{echo_begun}
 use Rattle.stmt_soundness.proofs.Cases.{ExprSound}
-use Rattle.stmt_soundness.proofs.Begins.{value_carries, run_carries, listed_carries, if_carries, while_carries, foreach_carries, for_carries, jump_carries, return_carries}
+use Rattle.stmt_soundness.proofs.Begins.{value_carries, run_carries, listed_carries, if_carries, while_carries, foreach_carries, for_carries, jump_carries, return_carries, exit_carries}
 
 include_carries : (w : Keyword) → is_include w ≡ true → (fs : List Frame) (ts : List Terminal) → Carries (include_move fs ts) (Begun (Later fs) (word_terminal w ∷ ts))
 include_carries w is fs (text_terminal t ∷ ts) = jump_carries (include_action t) fs (λ us bs. Begun (Later fs) (word_terminal w ∷ text_terminal t ∷ us) bs) (λ r bs g. include_begun w is t r bs g) ts
@@ -47,6 +47,7 @@ word_carries sound word.Continue fs ts = continue_carries fs ts
 word_carries sound word.Return fs ts = return_carries sound fs ts
 word_carries sound word.Include fs ts = include_carries word.Include refl fs ts
 word_carries sound word.Require fs ts = include_carries word.Require refl fs ts
+word_carries sound word.Exit fs ts = exit_carries sound fs ts
 word_carries sound k fs ts = run_carries sound fs (word_terminal k ∷ ts)
 
 sign_carries : ExprSound → (s : Sign) (fs : List Frame) (ts : List Terminal) → Carries (sign_move s fs ts) (Begun (Later fs) (sign_terminal s ∷ ts))

@@ -6,9 +6,9 @@ use Rattle.php_syntax.specs.Height.{height, arms_height, stmt_height, stmts_heig
 use Rattle.expr_machine.specs.Values.{PlainValue, value_of_tree, take_values}
 use Rattle.stmt_machine.specs.Actions.{StmtAction}
 use Rattle.stmt_machine.specs.Made.{Row, row_of, PlainBody, Functions, on_some, put, if_node, add_arm, gather_arms, take_bodies, put_if_stmt, execute_stmts}
-use Rattle.stmt_trees.proofs.Carry.{Left, Goes}
+use Rattle.expr_trees.proofs.Carry.{Goes}
 use Rattle.stmt_trees.proofs.Rows.{kept, put_stmt}
-use Rattle.stmt_trees.proofs.States.{Header, body, made}
+use Rattle.stmt_trees.proofs.States.{Left, Header, body, made}
 use Rattle.stmt_trees.proofs.Nodes.{arm_kept, if_kept}
 use Rattle.stmt_trees.proofs.Simple.{node_done}
 

@@ -9,9 +9,10 @@ use Rattle.php_syntax.specs.Height.{stmts_height, functions_height, file_height}
 use Rattle.stmt_machine.specs.Actions.{StmtAction}
 use Rattle.stmt_machine.specs.Postfix.{stmt_actions, file_actions}
 use Rattle.stmt_machine.specs.Made.{Row, row_of, Functions, add_function, Made, nothing_made, on_some, execute_stmts, file_of_row, file_of}
-use Rattle.stmt_trees.proofs.Carry.{Left, Goes, both, always, ends, tested}
-use Rattle.stmt_trees.proofs.Rows.{kept, put_stmts, all_put, high_left, high_right, higher, max_three}
-use Rattle.stmt_trees.proofs.States.{Premise, body, made, empty}
+use Rattle.expr_trees.proofs.Carry.{Goes, both, always, ends, tested}
+use Rattle.expr_trees.proofs.NodeValues.{high_left, high_right, higher}
+use Rattle.stmt_trees.proofs.Rows.{kept, put_stmts, all_put, max_three}
+use Rattle.stmt_trees.proofs.States.{Left, Premise, body, made, empty}
 use Rattle.stmt_trees.proofs.Runs.{Runs}
 use Rattle.stmt_trees.proofs.Statements.{stmt_goes}
 use Rattle.stmt_trees.proofs.Functions.{height_of, function_done}

@@ -9,8 +9,9 @@ use Rattle.expr_machine.specs.Values.{PlainValue}
 use Rattle.stmt_machine.specs.Actions.{StmtAction, function_action, function_body_action, function_end_action}
 use Rattle.stmt_machine.specs.Postfix.{stmts_actions, params_actions, function_actions}
 use Rattle.stmt_machine.specs.Made.{Row, row_of, PlainBody, Functions, add_function, function_of, put_function, apply_stmt, execute_stmts}
-use Rattle.stmt_trees.proofs.Carry.{Goes, both, ends, begins, tested}
-use Rattle.stmt_trees.proofs.Rows.{kept, high_left, high_right, both_low, higher}
+use Rattle.expr_trees.proofs.Carry.{Goes, both, ends, begins, tested}
+use Rattle.expr_trees.proofs.NodeValues.{high_left, high_right, both_low, higher}
+use Rattle.stmt_trees.proofs.Rows.{kept}
 use Rattle.stmt_trees.proofs.States.{Premise, Header, body, made, empty}
 use Rattle.stmt_trees.proofs.Runs.{as_body}
 use Rattle.stmt_trees.proofs.Statements.{stmts_go}

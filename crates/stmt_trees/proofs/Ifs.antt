@@ -9,7 +9,7 @@ use Rattle.expr_machine.specs.Values.{PlainValue, value_of_tree, take_values}
 use Rattle.stmt_machine.specs.Actions.{StmtAction, open_action, if_action}
 use Rattle.stmt_machine.specs.Postfix.{value_actions}
 use Rattle.stmt_machine.specs.Made.{Row, row_of, PlainBody, Functions, take_bodies, apply_stmt, execute_stmts}
-use Rattle.stmt_trees.proofs.Carry.{Goes, both, always, ends, begins, tested}
+use Rattle.expr_trees.proofs.Carry.{Goes, both, always, ends, begins, tested}
 use Rattle.stmt_trees.proofs.States.{Premise, Header, body, made, empty, value_done, open_done}
 use Rattle.stmt_trees.proofs.Runs.{Actions, StatementGoes, BodyGoes}
 use Rattle.stmt_trees.proofs.Arms.{behind_arms, test_behind, taken_behind, closes, closed, if_end}

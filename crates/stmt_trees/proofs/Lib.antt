@@ -1,4 +1,3 @@
-mod Carry
 mod Rows
 mod States
 mod Taken

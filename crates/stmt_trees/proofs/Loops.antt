@@ -11,10 +11,11 @@ use Rattle.stmt_machine.specs.declared.frame.Loop.TheVariants as loop
 use Rattle.stmt_machine.specs.Actions.{StmtAction, open_action, loop_action, do_action}
 use Rattle.stmt_machine.specs.Postfix.{value_actions, list_values_actions, maybe_value_actions, list_count, is_something}
 use Rattle.stmt_machine.specs.Made.{Row, row_of, PlainBody, Functions, Made, on_some, put, while_node, do_node, each_node, for_node, maybe_value, with_values, apply_for, apply_stmt, execute_stmts}
-use Rattle.stmt_trees.proofs.Carry.{Goes, both, ends, begins, tested}
+use Rattle.expr_trees.proofs.Carry.{Goes, both, ends, begins, tested}
 use Rattle.stmt_trees.proofs.Rows.{kept, put_stmt}
 use Rattle.stmt_trees.proofs.States.{Premise, Header, body, made, value_done, list_values_done, maybe_value_done, open_done, pushed, maybe_pushed}
-use Rattle.stmt_trees.proofs.Taken.{taken, exprs_values, list_length, exprs_gathered, maybe_values, maybe_taken, maybe_gathered}
+use Rattle.expr_trees.proofs.Rows.{exprs_values, exprs_gathered}
+use Rattle.stmt_trees.proofs.Taken.{taken, list_length, maybe_values, maybe_taken, maybe_gathered}
 use Rattle.stmt_trees.proofs.Nodes.{while_kept, do_kept, each_kept, for_kept}
 use Rattle.stmt_trees.proofs.Simple.{node_done, node_tested}
 use Rattle.stmt_trees.proofs.Runs.{Actions, StatementGoes, BodyGoes}

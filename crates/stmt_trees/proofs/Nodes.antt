@@ -1,12 +1,14 @@
 -- The node of a statement is made of the values and rows of its parts.
-use Rattle.std.proofs.Common.{◌≡◌, ℕ, Bool, true, false, List, refl, Some, None}
+use Rattle.std.proofs.Common.{◌≡◌, ℕ, Bool, true, false, List, refl, ap, Some, None}
 use Rattle.std.specs.Prelude.{Option, if◌then◌else◌, nat_le, max}
-use Rattle.php_syntax.specs.Trees.{PlainExpr, MaybeExpr, some_expr, PlainExprs, echo_stmt, run_stmt, if_stmt, while_stmt, do_while_stmt, for_stmt, each_stmt, return_stmt, PlainStmts, PlainArms, more_arms}
+use Rattle.php_syntax.specs.Trees.{PlainExpr, int_expr, neg_expr, MaybeExpr, no_expr, some_expr, PlainExprs, echo_stmt, run_stmt, if_stmt, while_stmt, do_while_stmt, for_stmt, each_stmt, return_stmt, quit_stmt, PlainStmts, PlainArms, more_arms}
+use Rattle.script_grammar.specs.Statements.{is_status, printed}
 use Rattle.script_grammar.specs.Rules.{is_place}
 use Rattle.php_syntax.specs.Height.{height, exprs_height, maybe_height, stmts_height, arms_height}
 use Rattle.expr_machine.specs.Values.{known_value, tall_value, value_of_tree}
-use Rattle.stmt_machine.specs.Made.{row_of, add_arm, echo_node, run_node, return_node, if_node, while_node, do_node, each_node, for_node}
-use Rattle.stmt_trees.proofs.Rows.{kept, high_left, high_right, both_low}
+use Rattle.stmt_machine.specs.Made.{row_of, add_arm, echo_node, run_node, return_node, quit_node, if_node, while_node, do_node, each_node, for_node}
+use Rattle.expr_trees.proofs.NodeValues.{high_left, high_right, both_low}
+use Rattle.stmt_trees.proofs.Rows.{kept}
 
 pub echo_kept : (es : PlainExprs) (h : ℕ) → echo_node (kept es h) ≡ kept (echo_stmt es) h
 echo_kept es h = go (nat_le h 200)
@@ -28,6 +30,27 @@ return_kept e = go (nat_le (height e) 200)
     go : (q : Bool) → return_node (if q then known_value e (height e) else tall_value (is_place e)) ≡ (if q then Some (return_stmt (some_expr e), height e) else None)
     go true = refl
     go false = refl
+
+status_kept : (e : PlainExpr) → is_status e ≡ true → quit_node (value_of_tree e) ≡ kept (quit_stmt no_expr) 0
+unfolding height
+status_kept (int_expr z) i = refl
+status_kept (neg_expr (int_expr z)) i = refl
+status_kept _ i = absurd cc
+
+printed_kept : (e : PlainExpr) → is_status e ≡ false → quit_node (value_of_tree e) ≡ kept (quit_stmt (some_expr e)) (height e)
+printed_kept e i = go (nat_le (height e) 200)
+  where
+    go : (q : Bool) → quit_node (if q then known_value e (height e) else tall_value (is_place e)) ≡ (if q then Some (quit_stmt (some_expr e), height e) else None)
+    go true = ap (λ b. if b then Some (quit_stmt no_expr, 0) else Some (quit_stmt (some_expr e), height e)) i
+    go false = refl
+
+pub quit_kept : (e : PlainExpr) → quit_node (value_of_tree e) ≡ kept (quit_stmt (printed e)) (maybe_height (printed e))
+unfolding height
+quit_kept e = go (is_status e) refl
+  where
+    go : (b : Bool) → is_status e ≡ b → quit_node (value_of_tree e) ≡ kept (quit_stmt (if b then no_expr else some_expr e)) (maybe_height (if b then no_expr else some_expr e))
+    go true i = status_kept e i
+    go false i = printed_kept e i
 
 while_by : (e : PlainExpr) (ss : PlainStmts) (h k : ℕ) (p q r : Bool) → nat_le h 200 ≡ p → nat_le k 200 ≡ q
     → while_node (if p then known_value e h else tall_value r) (if q then Some (ss, k) else None) ≡ kept (while_stmt e ss) (max h k)

@@ -10,7 +10,7 @@ use Rattle.expr_machine.specs.Values.{PlainValue}
 use Rattle.stmt_machine.specs.Actions.{StmtAction}
 use Rattle.stmt_machine.specs.Postfix.{param_actions, params_actions}
 use Rattle.stmt_machine.specs.Made.{PlainBody, Functions, Made, on_some, add_param, apply_stmt, execute_stmts}
-use Rattle.stmt_trees.proofs.Carry.{Goes, both, always, ends, tested}
+use Rattle.expr_trees.proofs.Carry.{Goes, both, always, ends, tested}
 use Rattle.stmt_trees.proofs.States.{made}
 
 -- whether each of some parameters has a name that is none of the earlier ones'

@@ -2,9 +2,9 @@
 use Rattle.std.proofs.Common.{◌≡◌, ◌∙◌, ℕ, suc, ◌+◌, Bool, true, false, refl, ap, arith, add-one, Some, None}
 use Rattle.std.specs.Prelude.{Option, if◌then◌else◌, nat_le, nat_lt, max}
 use Rattle.std.proofs.Math.Nat.{max-zero, zero-max}
-use Rattle.std.proofs.lemmas.Bool.Decides.{nat_tests}
 use Rattle.php_syntax.specs.Trees.{PlainStmt, PlainStmts, no_stmts, more_stmts}
 use Rattle.php_syntax.specs.Height.{stmt_height, stmts_height}
+use Rattle.expr_trees.proofs.NodeValues.{high_left, high_right, both_low, higher}
 use Rattle.stmt_machine.specs.Made.{Row, Node, row_of, add_stmt, add_node}
 
 -- what is kept of something so high
@@ -28,19 +28,6 @@ append_stmts (more_stmts t tt) ss = more_stmts t (append_stmts tt ss)
 append_added : (tt : PlainStmts) (s : PlainStmt) (ss : PlainStmts) → append_stmts (add_stmt tt s) ss ≡ append_stmts tt (more_stmts s ss)
 append_added no_stmts s ss = refl
 append_added (more_stmts t tt) s ss = ap (more_stmts t) (append_added tt s ss)
-
--- which of two numbers the higher one is above
-pub high_left : (h k n : ℕ) → nat_le h n ≡ false → nat_le (max h k) n ≡ false
-high_left h k n e = grind (arith, nat_tests)
-
-pub high_right : (h k n : ℕ) → nat_le k n ≡ false → nat_le (max h k) n ≡ false
-high_right h k n e = grind (arith, nat_tests)
-
-pub both_low : (h k n : ℕ) → nat_le h n ≡ true → nat_le k n ≡ true → nat_le (max h k) n ≡ true
-both_low h k n e f = grind (arith, nat_tests)
-
-pub higher : (h m n : ℕ) → m ≡ 1 + h → nat_le h n ≡ false → nat_le m n ≡ false
-higher h m n e f = grind (arith, nat_tests)
 
 pub max_three : (h k t : ℕ) → max (max h k) t ≡ max h (max k t)
 max_three h k t = omega arith

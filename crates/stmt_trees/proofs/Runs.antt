@@ -5,9 +5,9 @@ use Rattle.script_grammar.specs.Rules.{stmt_fits, stmts_fit}
 use Rattle.expr_machine.specs.Values.{PlainValue}
 use Rattle.stmt_machine.specs.Actions.{StmtAction}
 use Rattle.stmt_machine.specs.Made.{Row, row_of, PlainBody, Functions, execute_stmts}
-use Rattle.stmt_trees.proofs.Carry.{Left, Goes, both, always, ends}
+use Rattle.expr_trees.proofs.Carry.{Goes, both, always, ends}
 use Rattle.stmt_trees.proofs.Rows.{put_stmt, put_stmts, all_put}
-use Rattle.stmt_trees.proofs.States.{Header, body, made, empty}
+use Rattle.stmt_trees.proofs.States.{Left, Header, body, made, empty}
 
 abbrev pub Actions : Type 0
 Actions = List StmtAction → List StmtAction

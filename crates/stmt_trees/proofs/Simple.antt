@@ -2,20 +2,21 @@
 use Rattle.std.proofs.Common.{◌≡◌, ◌∙◌, ℕ, ◌+◌, Bool, true, false, List, [], ◌∷◌, refl, ap, arith, Some, None}
 use Rattle.std.specs.Prelude.{◌&&◌, if◌then◌else◌}
 use Rattle.script_grammar.specs.Expressions.{ExprForm, MoreExprsForm, expr_tree, more_exprs_tree}
-use Rattle.script_grammar.specs.Statements.{MaybeForm, nothing_form, something_form, maybe_tree}
-use Rattle.php_syntax.specs.Trees.{PlainExpr, no_expr, some_expr, PlainExprs, no_exprs, more_exprs, PlainStmt, inline_stmt, echo_stmt, run_stmt, break_stmt, continue_stmt, return_stmt, include_stmt}
-use Rattle.script_grammar.specs.Rules.{expr_fits, stmt_fits, is_utf8}
-use Rattle.php_syntax.specs.Height.{height, exprs_height, stmt_height}
+use Rattle.script_grammar.specs.Statements.{MaybeForm, nothing_form, something_form, maybe_tree, is_status, printed, printed_tree}
+use Rattle.php_syntax.specs.Trees.{PlainExpr, int_expr, neg_expr, no_expr, some_expr, PlainExprs, no_exprs, more_exprs, PlainStmt, inline_stmt, echo_stmt, run_stmt, break_stmt, continue_stmt, return_stmt, include_stmt, quit_stmt}
+use Rattle.script_grammar.specs.Rules.{expr_fits, maybe_fits, stmt_fits, is_utf8}
+use Rattle.php_syntax.specs.Height.{height, maybe_height, exprs_height, stmt_height}
 use Rattle.expr_machine.specs.Postfix.{exprs_count}
 use Rattle.expr_machine.specs.Values.{PlainValue, value_of_tree, take_values, gather_exprs}
-use Rattle.stmt_machine.specs.Actions.{StmtAction, inline_action, echo_action, run_action, break_action, continue_action, return_action, include_action}
+use Rattle.stmt_machine.specs.Actions.{StmtAction, inline_action, echo_action, run_action, break_action, continue_action, return_action, include_action, exit_action}
 use Rattle.stmt_machine.specs.Postfix.{value_actions, more_values_actions, maybe_value_actions, is_something}
-use Rattle.stmt_machine.specs.Made.{Row, PlainBody, Functions, Node, Made, on_some, put, put_if, add_node, echo_node, run_node, return_node, with_values, apply_stmt, execute_stmts}
-use Rattle.stmt_trees.proofs.Carry.{Goes, both, always, ends, tested}
+use Rattle.stmt_machine.specs.Made.{Row, PlainBody, Functions, Node, Made, on_some, put, put_if, add_node, echo_node, run_node, return_node, quit_node, with_values, apply_stmt, execute_stmts}
+use Rattle.expr_trees.proofs.Carry.{Goes, both, always, ends, tested}
 use Rattle.stmt_trees.proofs.Rows.{kept, put_stmt, node_put}
 use Rattle.stmt_trees.proofs.States.{Premise, Header, body, made, value_done, more_values_done, pushed}
-use Rattle.stmt_trees.proofs.Taken.{taken, exprs_values, more_length, exprs_gathered}
-use Rattle.stmt_trees.proofs.Nodes.{echo_kept, run_kept, return_kept}
+use Rattle.expr_trees.proofs.Rows.{exprs_values, exprs_gathered}
+use Rattle.stmt_trees.proofs.Taken.{taken, more_length}
+use Rattle.stmt_trees.proofs.Nodes.{echo_kept, run_kept, return_kept, quit_kept}
 
 -- the node of a statement put on a row
 pub node_done : (n : Node) (s : PlainStmt) (height : ℕ) (l g : Bool) (r : Row) (k : List StmtAction) (vs : List PlainValue) (bs : List PlainBody) (h : Header) (fs : Functions)
@@ -116,3 +117,35 @@ unfolding expr_fits stmt_fits
 return_done p nothing_form l g r k vs bs h fs = tested (one_and g) (return_nothing l g r k vs bs h fs)
 return_done p (something_form e) l g r k vs bs h fs =
     tested (other_order (expr_fits (expr_tree e)) g) (both (value_done p e (return_action true ∷ k) vs (body l g r ∷ bs) h fs) (return_alone (expr_tree e) l g r k vs bs h fs))
+
+-- `exit`, where the value is a status or is printed
+quit_alone : (e : PlainExpr) (l g : Bool) (r : Row) (k : List StmtAction) (vs : List PlainValue) (bs : List PlainBody) (h : Header) (fs : Functions)
+    → execute_stmts (exit_action true ∷ k) (made (value_of_tree e ∷ vs) (body l g r ∷ bs) h fs) ≡ execute_stmts k (made vs (body l g (put_stmt (quit_stmt (printed e)) r) ∷ bs) h fs)
+unfolding execute_stmts apply_stmt stmt_height
+quit_alone e l g r k vs bs h fs = node_done (quit_node (value_of_tree e)) (quit_stmt (printed e)) (maybe_height (printed e)) l g r k vs bs h fs (quit_kept e) refl
+
+pub quit_nothing : (l g : Bool) (r : Row) (k : List StmtAction) (vs : List PlainValue) (bs : List PlainBody) (h : Header) (fs : Functions)
+    → Goes (execute_stmts (exit_action false ∷ k) (made vs (body l g r ∷ bs) h fs)) (stmt_fits l g (quit_stmt no_expr)) (execute_stmts k (made vs (body l g (put_stmt (quit_stmt no_expr) r) ∷ bs) h fs))
+unfolding execute_stmts apply_stmt expr_fits stmt_fits stmt_height height
+quit_nothing l g r k vs bs h fs = always (node_done (Some (quit_stmt no_expr, 0)) (quit_stmt no_expr) 0 l g r k vs bs h fs refl refl)
+
+status_fits : (e : PlainExpr) → is_status e ≡ true → expr_fits e ≡ true
+unfolding expr_fits
+status_fits (int_expr z) i = refl
+status_fits (neg_expr (int_expr z)) i = refl
+status_fits _ i = absurd cc
+
+printed_fits : (e : PlainExpr) → expr_fits e ≡ maybe_fits (printed e)
+unfolding expr_fits
+printed_fits e = go (is_status e) refl
+  where
+    go : (b : Bool) → is_status e ≡ b → expr_fits e ≡ maybe_fits (if b then no_expr else some_expr e)
+    go true i = status_fits e i
+    go false i = refl
+
+pub quit_done : Premise → (e : MaybeForm) (l g : Bool) (r : Row) (k : List StmtAction) (vs : List PlainValue) (bs : List PlainBody) (h : Header) (fs : Functions)
+    → Goes (execute_stmts (maybe_value_actions e (exit_action (is_something e) ∷ k)) (made vs (body l g r ∷ bs) h fs)) (stmt_fits l g (quit_stmt (printed_tree e))) (execute_stmts k (made vs (body l g (put_stmt (quit_stmt (printed_tree e)) r) ∷ bs) h fs))
+unfolding stmt_fits
+quit_done p nothing_form l g r k vs bs h fs = quit_nothing l g r k vs bs h fs
+quit_done p (something_form e) l g r k vs bs h fs =
+    tested (printed_fits (expr_tree e)) (ends (value_done p e (exit_action true ∷ k) vs (body l g r ∷ bs) h fs) (quit_alone (expr_tree e) l g r k vs bs h fs))

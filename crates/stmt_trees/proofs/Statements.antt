@@ -1,11 +1,11 @@
 -- The actions of statements make their trees.
 use Rattle.script_grammar.specs.Expressions.{expr_tree, more_exprs_tree, list_tree}
-use Rattle.script_grammar.specs.Statements.{maybe_tree, key_variable, value_variable, StmtForm, semicolon_form, inline_form, block_form, echo_form, print_form, run_form, if_form, colon_if_form, while_form, do_form, for_form, each_form, break_form, continue_form, return_form, include_form, include_parens_form, StmtsForm, no_stmts_form, more_stmts_form, ArmsForm, no_arms_form, elseif_form, else_if_form, ElseForm, no_else_form, else_form, ColonArmsForm, no_colon_arms, colon_arm, ColonElseForm, no_colon_else, colon_else, BodyForm, stmt_body, colon_body, stmt_trees, stmts_trees, arms_tree, else_tree, colon_arms_tree, colon_else_tree, body_tree}
-use Rattle.php_syntax.specs.Trees.{inline_stmt, echo_stmt, run_stmt, if_stmt, while_stmt, do_while_stmt, for_stmt, each_stmt, break_stmt, continue_stmt, return_stmt, include_stmt, no_stmts, more_arms, no_exprs, more_exprs}
+use Rattle.script_grammar.specs.Statements.{maybe_tree, printed_tree, key_variable, value_variable, StmtForm, semicolon_form, inline_form, block_form, echo_form, print_form, run_form, if_form, colon_if_form, while_form, do_form, for_form, each_form, break_form, continue_form, return_form, include_form, include_parens_form, exit_form, exit_parens_form, StmtsForm, no_stmts_form, more_stmts_form, ArmsForm, no_arms_form, elseif_form, else_if_form, ElseForm, no_else_form, else_form, ColonArmsForm, no_colon_arms, colon_arm, ColonElseForm, no_colon_else, colon_else, BodyForm, stmt_body, colon_body, stmt_trees, stmts_trees, arms_tree, else_tree, colon_arms_tree, colon_else_tree, body_tree}
+use Rattle.php_syntax.specs.Trees.{no_expr, inline_stmt, echo_stmt, run_stmt, if_stmt, while_stmt, do_while_stmt, for_stmt, each_stmt, break_stmt, continue_stmt, return_stmt, include_stmt, quit_stmt, no_stmts, more_arms, no_exprs, more_exprs}
 use Rattle.stmt_machine.specs.Postfix.{stmt_actions, stmts_actions, arms_actions, else_actions, colon_arms_actions, colon_else_actions, body_actions}
 use Rattle.stmt_trees.proofs.States.{Premise}
 use Rattle.stmt_trees.proofs.Runs.{BodyGoes, StatementsGo, one_more, as_body}
-use Rattle.stmt_trees.proofs.Simple.{inline_done, echo_done, print_done, run_done, break_done, continue_done, return_done, include_done}
+use Rattle.stmt_trees.proofs.Simple.{inline_done, echo_done, print_done, run_done, break_done, continue_done, return_done, include_done, quit_nothing, quit_done}
 use Rattle.stmt_trees.proofs.Loops.{while_goes, do_goes, for_goes, each_goes}
 use Rattle.stmt_trees.proofs.Ifs.{ArmsGo, ElseGoes, no_arms_go, elseif_goes, else_if_goes, no_else_goes, else_goes, if_goes}
 
@@ -35,6 +35,8 @@ mutual
   stmt_goes p (return_form e) = one_more (stmt_actions (return_form e)) (return_stmt (maybe_tree e)) (return_done p e)
   stmt_goes p (include_form k is t) = one_more (stmt_actions (include_form k is t)) (include_stmt t) (include_done t)
   stmt_goes p (include_parens_form k is t) = one_more (stmt_actions (include_parens_form k is t)) (include_stmt t) (include_done t)
+  stmt_goes p exit_form = one_more (stmt_actions exit_form) (quit_stmt no_expr) quit_nothing
+  stmt_goes p (exit_parens_form e) = one_more (stmt_actions (exit_parens_form e)) (quit_stmt (printed_tree e)) (quit_done p e)
 
   pub stmts_go : Premise → (ss : StmtsForm) → StatementsGo (stmts_actions ss) (stmts_trees ss)
   stmts_go p no_stmts_form = λ ss finish l g k vs bs h fs q. q

@@ -11,12 +11,16 @@ use Rattle.expr_machine.specs.Values.{PlainValue, value_of_tree, execute}
 use Rattle.stmt_machine.specs.Actions.{StmtAction, open_action}
 use Rattle.stmt_machine.specs.Postfix.{value_actions, more_values_actions, list_values_actions, maybe_value_actions}
 use Rattle.stmt_machine.specs.Made.{Row, PlainBody, Functions, Made, with_values, on_some, apply_stmt, execute_stmts}
-use Rattle.stmt_trees.proofs.Carry.{Goes, both, always}
+use Rattle.expr_trees.proofs.Carry.{Goes, both, always}
 
 -- what is known of expressions
 abbrev pub Premise : Type 0
 Premise = (e : ExprForm) (acts : List Action) (vs : List PlainValue)
     → execute (expr_actions e acts) vs ≡ (if expr_fits (expr_tree e) then execute acts (value_of_tree (expr_tree e) ∷ vs) else None)
+
+-- what a run leaves, if it breaks no rule
+abbrev pub Left : Type 0
+Left = Option Made
 
 abbrev pub Header : Type 0
 Header = Option (List ℕ × List PlainParam)

@@ -8,14 +8,12 @@ use Rattle.script_grammar.specs.Rules.{is_place}
 use Rattle.php_syntax.specs.Height.{height, exprs_height, maybe_height}
 use Rattle.expr_machine.specs.Postfix.{exprs_count}
 use Rattle.expr_machine.specs.Values.{PlainValue, known_value, tall_value, value_of_tree, add_expr, gather_exprs, take_values}
+use Rattle.expr_trees.proofs.Rows.{exprs_values}
 use Rattle.stmt_machine.specs.Postfix.{list_count, is_something}
 use Rattle.stmt_machine.specs.Made.{maybe_value}
-use Rattle.stmt_trees.proofs.Rows.{kept, high_left, high_right, both_low}
+use Rattle.expr_trees.proofs.NodeValues.{high_left, high_right, both_low}
+use Rattle.stmt_trees.proofs.Rows.{kept}
 use Rattle.stmt_trees.proofs.States.{pushed, maybe_pushed}
-
-abbrev pub exprs_values : PlainExprs → List PlainValue
-exprs_values no_exprs = []
-exprs_values (more_exprs e es) = value_of_tree e ∷ exprs_values es
 
 abbrev pub length_of : PlainExprs → ℕ
 length_of no_exprs = 0
@@ -38,17 +36,6 @@ pub list_length : (es : ListForm) → list_count es ≡ length_of (list_tree es)
 unfolding expr_tree
 list_length empty_list = refl
 list_length (list_form e es) = omega (arith, more_length es)
-
-expr_added : (e : PlainExpr) (es : PlainExprs) (h t : ℕ) (p q r : Bool) → nat_le h 200 ≡ q → nat_le t 200 ≡ r
-    → add_expr (if q then known_value e h else tall_value p) (if r then Some (es, t) else None) ≡ kept (more_exprs e es) (max h t)
-expr_added e es h t p true true k l = rw (both_low h t 200 k l) refl
-expr_added e es h t p true false k l = rw (high_right h t 200 l) refl
-expr_added e es h t p false r k l = rw (high_left h t 200 k) refl
-
-pub exprs_gathered : (es : PlainExprs) → gather_exprs (exprs_values es) ≡ kept es (exprs_height es)
-unfolding height
-exprs_gathered no_exprs = refl
-exprs_gathered (more_exprs e es) = ap (add_expr (value_of_tree e)) (exprs_gathered es) ∙ expr_added e es (height e) (exprs_height es) (is_place e) (nat_le (height e) 200) (nat_le (exprs_height es) 200) refl refl
 
 -- one that may be left out
 abbrev pub maybe_values : MaybeExpr → List PlainValue

@@ -1,6 +1,6 @@
 use Rattle.std.proofs.Common.{◌≡◌, length}
 use Rattle.stmt_machine.specs.Made as plain
-use Rattle.expr_parser.specs.Views.{plain_values}
+use Rattle.expr_values.specs.Views.{plain_values}
 use Rattle.stmt_maker.specs.Views.{rows_of}
 use Rattle.stmt_maker.proofs.RowLemmas.{arms_ahead}
 use Rattle.stmt_maker.proofs.body.gather_arms.Given as goal

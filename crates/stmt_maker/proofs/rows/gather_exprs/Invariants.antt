@@ -1,6 +1,6 @@
 use Rattle.std.proofs.Common.{◌≡◌, length}
 use Rattle.expr_machine.specs.Values as plain
-use Rattle.expr_parser.specs.Views.{plain_values}
+use Rattle.expr_values.specs.Views.{plain_values}
 use Rattle.stmt_maker.proofs.RowLemmas.{exprs_ahead}
 use Rattle.stmt_maker.proofs.rows.gather_exprs.Given as goal
 

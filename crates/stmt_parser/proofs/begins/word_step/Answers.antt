@@ -41,8 +41,11 @@ returns-in-Include c = on_ok_at _ _ c.include_step.result c.args.frames.now (ap 
 pub returns-in-Require : goal.returns-in-Require
 returns-in-Require c = on_ok_at _ _ c.include_step-in-Require.result c.args.frames.now (ap (λ k. acted (word_move k c.args.frames.now (terminals_of c.args.behind.now)) (made_of c.args.maker.now)) c.in-Require.is) c.include_step-in-Require.ensures
 
+pub returns-in-Exit : goal.returns-in-Exit
+returns-in-Exit c = on_ok_at _ _ c.exit_step.result c.args.frames.now (ap (λ k. acted (word_move k c.args.frames.now (terminals_of c.args.behind.now)) (made_of c.args.maker.now)) c.in-Exit.is) c.exit_step.ensures
+
 pub returns-in-For : goal.returns-in-For
 returns-in-For c = ap (λ k. acted (word_move k c.args.frames.now (terminals_of c.args.behind.now)) (made_of c.args.maker.now)) c.in-For.is ∙ c.for_step.ensures c.args.frames.now (made_of c.args.maker.now)
 
 pub returns-in_default : goal.returns-in_default
-returns-in_default c = on_ok_at _ _ c.value_step-in_default.result c.args.frames.now (ap (λ x. acted x (made_of c.args.maker.now)) (word_other c.args.word c.args.frames.now (terminals_of c.args.behind.now) c.in_default.not-Echo c.in_default.not-Print c.in_default.not-If c.in_default.not-While c.in_default.not-Do c.in_default.not-For c.in_default.not-Foreach c.in_default.not-Break c.in_default.not-Continue c.in_default.not-Return c.in_default.not-Include c.in_default.not-Require) ∙ ap (λ ts. acted (value_move run_action c.args.frames.now (statement_at ts)) (made_of c.args.maker.now)) (sym c.requires)) c.value_step-in_default.ensures
+returns-in_default c = on_ok_at _ _ c.value_step-in_default.result c.args.frames.now (ap (λ x. acted x (made_of c.args.maker.now)) (word_other c.args.word c.args.frames.now (terminals_of c.args.behind.now) c.in_default.not-Echo c.in_default.not-Print c.in_default.not-If c.in_default.not-While c.in_default.not-Do c.in_default.not-For c.in_default.not-Foreach c.in_default.not-Break c.in_default.not-Continue c.in_default.not-Return c.in_default.not-Include c.in_default.not-Require c.in_default.not-Exit) ∙ ap (λ ts. acted (value_move run_action c.args.frames.now (statement_at ts)) (made_of c.args.maker.now)) (sym c.requires)) c.value_step-in_default.ensures

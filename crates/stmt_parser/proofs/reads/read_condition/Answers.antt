@@ -1,19 +1,10 @@
-use Rattle.std.proofs.Common.{refl}
-use Rattle.script_grammar.specs.Terminals.{sign_terminal}
-use Rattle.expr_machine.specs.Reading.{expr_at}
 use Rattle.expr_parser.specs.Heads.{terminals_of}
 use Rattle.stmt_maker.specs.Views.{made_of}
-use Rattle.stmt_machine.specs.Machine.{paren_end_next}
-use Rattle.stmt_parser.proofs.OtherLemmas.{no_paren_end}
-use Rattle.stmt_parser.proofs.ReadLemmas.{value_missing, sign_missing, sign_found, opened_fails, opened_reads}
-use Rattle.php_syntax.specs.declared.token.Sign.TheVariants as sign
+use Rattle.stmt_parser.proofs.ReadLemmas.{opened_fails, opened_reads}
 use Rattle.stmt_parser.proofs.reads.read_condition.Goals as goal
 
 pub returns-in-None-2 : goal.returns-in-None-2
-returns-in-None-2 c = let h = rw c.in-None-2.is at c.in_ok-read_value-in-Some.ensures in opened_fails (terminals_of c.args.rest.now) (terminals_of c.in-Some.inner.now) (made_of c.args.maker.now) c.in-Some.ensures (value_missing paren_end_next (expr_at (terminals_of c.in-Some.inner.now)) (made_of c.args.maker.now) h)
+returns-in-None-2 c = let h = rw c.in-None-2.is at c.in_ok-read_closed-in-Some.ensures in opened_fails (terminals_of c.args.rest.now) (terminals_of c.in-Some.inner.now) (made_of c.args.maker.now) c.in-Some.ensures h
 
-pub returns-in-None-behind_sign : goal.returns-in-None-behind_sign
-returns-in-None-behind_sign c = let h = rw c.in-Some-2.is at c.in_ok-read_value-in-Some.ensures in opened_fails (terminals_of c.args.rest.now) (terminals_of c.in-Some.inner.now) (made_of c.args.maker.now) c.in-Some.ensures (sign_missing paren_end_next (expr_at (terminals_of c.in-Some.inner.now)) (made_of c.args.maker.now) (made_of c.read_value.new.maker) (terminals_of c.in-Some-2.behind.now) h (no_paren_end (terminals_of c.in-Some-2.behind.now) c.in-None-behind_sign.ensures))
-
-pub returns-in-Some-behind_sign : goal.returns-in-Some-behind_sign
-returns-in-Some-behind_sign c = let h = rw c.in-Some-2.is at c.in_ok-read_value-in-Some.ensures in opened_reads (terminals_of c.args.rest.now) (terminals_of c.in-Some.inner.now) (terminals_of c.in-Some-behind_sign.last.now) (made_of c.args.maker.now) (made_of c.read_value.new.maker) c.in-Some.ensures (sign_found paren_end_next (expr_at (terminals_of c.in-Some.inner.now)) (made_of c.args.maker.now) (made_of c.read_value.new.maker) (terminals_of c.in-Some-2.behind.now) (sign_terminal sign.CloseParen) (terminals_of c.in-Some-behind_sign.last.now) h c.in-Some-behind_sign.ensures refl)
+pub returns-in-Some-2 : goal.returns-in-Some-2
+returns-in-Some-2 c = let h = rw c.in-Some-2.is at c.in_ok-read_closed-in-Some.ensures in opened_reads (terminals_of c.args.rest.now) (terminals_of c.in-Some.inner.now) (terminals_of c.in-Some-2.last.now) (made_of c.args.maker.now) (made_of c.read_closed.new.maker) c.in-Some.ensures h

@@ -1,0 +1,4 @@
+pub mod RowLemmas
+pub mod NodeLemmas
+pub mod TemplateLemmas
+pub mod CountedLemmas
