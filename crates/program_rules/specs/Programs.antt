@@ -1,0 +1,55 @@
+-- Which program a file stands for.
+use Rattle.std.specs.Prelude.{◌≡◌, ℕ, ◌+◌, List, [], ◌∷◌, ◌++◌, Some, slice_get}
+use Rattle.std.specs.List.{Contains}
+use Rattle.php_syntax.specs.Trees.{PlainFile, PlainFunction}
+use Rattle.script_meaning.specs.Programs.{PlainProgram}
+use Rattle.program_rules.specs.Files.{Held, HasTree}
+use Rattle.program_rules.specs.Includes.{Reads, LeadsTo}
+use Rattle.program_rules.specs.Expansion.{StandsFor, FunctionStandsFor}
+use Rattle.program_rules.specs.Rules.{KeepsRules}
+use Rattle.program_rules.specs.Limits.{HasPlaces, HavePlaces, IsWithin}
+
+-- a file that is read, with its tree
+pub record ReadFile : Type 0 where
+  pub name : List ℕ
+  pub tree : PlainFile
+
+-- at a place of a list stands a file
+abbrev pub StandsAt : List ReadFile → ℕ → ReadFile → Type 0
+StandsAt files i file = slice_get files i ≡ Some file
+
+-- these are the files that a program reads, each once
+pub record AreRead (held : Held) (name : List ℕ) (files : List ReadFile) : Type 0 where
+  pub each : (file : ReadFile) → Contains files file → Reads held name file.name × HasTree held file.name file.tree
+  pub all : (path : List ℕ) → Reads held name path → (tree : PlainFile) × Contains files (record { name = path; tree = tree })
+  pub once : (i j : ℕ) (path : List ℕ) (tree other : PlainFile) → StandsAt files i (record { name = path; tree = tree }) → StandsAt files j (record { name = path; tree = other }) → i ≡ j
+
+-- the functions of all files, each file's in turn
+unfoldable pub functions_in : List ReadFile → List PlainFunction
+functions_in [] = []
+functions_in (file ∷ files) = file.tree.functions_of ++ functions_in files
+
+-- each function of a table is one of the files', in their order, with what its body stands for
+pub data TableStandsFor (held : Held) : List PlainFunction → List PlainFunction → Type 0 where
+  none : TableStandsFor held [] []
+  more : (f g : PlainFunction) (fs gs : List PlainFunction) → FunctionStandsFor held f g → TableStandsFor held fs gs → TableStandsFor held (f ∷ fs) (g ∷ gs)
+
+-- no file that the program reads includes itself, directly or through others
+abbrev pub HasNoCycle : Held → List ℕ → Type 0
+HasNoCycle held name = (path : List ℕ) → Reads held name path → LeadsTo held path path → ⊥
+
+-- the program that the file of a name stands for: its statements, and one table of the functions of all files, by the rules and within the limits
+pub record IsProgram (held : Held) (name : List ℕ) (program : PlainProgram) : Type 0 where
+  pub files : List ReadFile
+  pub read : AreRead held name files
+  pub acyclic : HasNoCycle held name
+  pub tree : PlainFile
+  pub spelled : HasTree held name tree
+  pub main : StandsFor held tree.body_of program.main_of
+  pub functions : TableStandsFor held (functions_in files) program.functions_of
+  pub rules : KeepsRules program
+  pub own_places : ℕ
+  pub has_places : HasPlaces held tree.body_of own_places
+  pub function_places : ℕ
+  pub have_places : HavePlaces held (functions_in files) function_places
+  pub within : IsWithin (own_places + function_places) program

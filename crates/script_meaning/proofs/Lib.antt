@@ -1,0 +1,8 @@
+mod Examples
+mod Later
+mod LaterParts
+mod LaterRuns
+mod More
+mod MoreRuns
+mod Keeps
+mod Loops

@@ -1,0 +1,8 @@
+use Rattle.script_meaning.specs.Statements.{nothing}
+use Rattle.script_meaning.specs.Runs.{◌then_do◌}
+use Rattle.script_meaning.proofs.Loops.{loop_turns, while_turns}
+use Rattle.script_meaning.proofs.laws.while_goes_by_turns.Goals as goal
+
+pub returns : goal.returns
+unfolding nothing ◌then_do◌
+returns c r fs room e body s = loop_turns _ _ _ (while_turns r fs room e body) s
