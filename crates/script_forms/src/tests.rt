@@ -1,21 +1,18 @@
 // The rows of the table, in its order.
-use self::Outcome::{BadByte, BigInt, Escape, Float, NotInSubset, Read, Unclosed};
+use self::Outcome::{Breaks, NotInSubset, Read, TooDeep};
+use lexical_grammar::fault::LexicalFault::{self, BadByte, BigInt, Escape, Float, Unclosed};
 use php_lexer::{LexRefusal, lex};
 use php_parser::{ParseRefusal, parse};
 use std::alloc::Global;
 use std::test::Fail;
+use text_base::Bytes;
 use text_base::limits::HEIGHT_LIMIT;
-use text_base::{Bytes, NoMemory};
 
 /// Whether a script is read, or by which refusal it is refused.
 #[derive(Clone, Copy, Debug, PartialEq, Eq)]
 enum Outcome {
     Read,
-    BadByte,
-    Unclosed,
-    Float,
-    BigInt,
-    Escape,
+    Breaks(LexicalFault),
     NotInSubset,
     TooDeep,
 }
@@ -23,25 +20,14 @@ enum Outcome {
 fn outcome_of(alloc: Global, script: &[u8]) -> Result<Outcome, Fail> {
     let tokens = match lex(alloc, script) {
         Ok(tokens) => tokens,
-        Err(refusal) => return lexed(refusal),
+        Err(LexRefusal::Breaks { fault, .. }) => return Ok(Breaks(fault)),
+        Err(refusal) => return Err(Fail::from(refusal)),
     };
     match parse(alloc, tokens.as_slice()) {
         Ok(_) => Ok(Read),
         Err(ParseRefusal::NotInSubset { .. }) => Ok(NotInSubset),
-        Err(ParseRefusal::TooDeep { .. }) => Ok(Outcome::TooDeep),
-        Err(ParseRefusal::Memory) => Err(Fail::from(NoMemory)),
-    }
-}
-
-fn lexed(refusal: LexRefusal) -> Result<Outcome, Fail> {
-    match refusal {
-        LexRefusal::BadByte { .. } => Ok(BadByte),
-        LexRefusal::Unclosed { .. } => Ok(Unclosed),
-        LexRefusal::Float { .. } => Ok(Float),
-        LexRefusal::BigInt { .. } => Ok(BigInt),
-        LexRefusal::Escape { .. } => Ok(Escape),
-        LexRefusal::TooLong { .. } => Err(Fail::from(refusal)),
-        LexRefusal::Memory => Err(Fail::from(NoMemory)),
+        Err(ParseRefusal::TooDeep { .. }) => Ok(TooDeep),
+        Err(refusal) => Err(Fail::from(refusal)),
     }
 }
 
@@ -53,7 +39,7 @@ fn the_page(rt: HostRuntime) -> Result<(), Fail> {
         ("<?php\necho 1;\n", Read),
         ("<? echo 1; ?>", Read),
         ("<?php // a\n# b\n/* c */ echo 1;", Read),
-        ("<?php #[A]\nfunction f() { }", BadByte),
+        ("<?php #[A]\nfunction f() { }", Breaks(BadByte)),
         ("<?php echo 'a', 1; print 'b';", Read),
         ("<?php $x = print 'a';", NotInSubset),
         ("<?php f() or die('x');", NotInSubset),
@@ -68,20 +54,20 @@ fn the_page(rt: HostRuntime) -> Result<(), Fail> {
 fn values(rt: HostRuntime) -> Result<(), Fail> {
     for (script, wanted) in [
         ("<?php echo 0, 42, 9223372036854775807;", Read),
-        ("<?php echo 9223372036854775808;", BigInt),
-        ("<?php echo 0x1F;", BadByte),
-        ("<?php echo 1.5;", Float),
+        ("<?php echo 9223372036854775808;", Breaks(BigInt)),
+        ("<?php echo 0x1F;", Breaks(BadByte)),
+        ("<?php echo 1.5;", Breaks(Float)),
         ("<?php echo 'it\\'s \\\\ \\d';", Read),
         ("<?php echo \"a\\n\\\"b\\\"\";", Read),
         ("<?php echo \"$x $x[k] $x[0] {$x['k'][0]}\";", Read),
-        ("<?php echo \"\\d\";", Escape),
-        ("<?php echo \"\\x41\";", Escape),
-        ("<?php echo \"$o->p\";", Escape),
-        ("<?php echo \"${x}\";", Escape),
+        ("<?php echo \"\\d\";", Breaks(Escape)),
+        ("<?php echo \"\\x41\";", Breaks(Escape)),
+        ("<?php echo \"$o->p\";", Breaks(Escape)),
+        ("<?php echo \"${x}\";", Breaks(Escape)),
         ("<?php echo <<<A\nx $y\nA;\necho <<<'B'\nx\nB;\n", Read),
-        ("<?php echo <<<A\n  x\n  A;\n", Unclosed),
-        ("<?php echo <<<A\n\\\"\nA;\n", Escape),
-        ("<?php echo 'a;", Unclosed),
+        ("<?php echo <<<A\n  x\n  A;\n", Breaks(Unclosed)),
+        ("<?php echo <<<A\n\\\"\nA;\n", Breaks(Escape)),
+        ("<?php echo 'a;", Breaks(Unclosed)),
         ("<?php $a = array(1, 'k' => 2); $b = [1, [2], ];", Read),
         ("<?php echo TRUE, null, PHP_EOL;", Read),
         ("<?php echo SITE_NAME;", NotInSubset),
@@ -107,8 +93,8 @@ fn variables(rt: HostRuntime) -> Result<(), Fail> {
         ("<?php echo $GLOBALS['x'];", NotInSubset),
         ("<?php function f() { global $x; }", NotInSubset),
         ("<?php function f() { static $n = 0; }", NotInSubset),
-        ("<?php echo $$x;", BadByte),
-        ("<?php foreach ($a as &$v) { }", BadByte),
+        ("<?php echo $$x;", Breaks(BadByte)),
+        ("<?php foreach ($a as &$v) { }", Breaks(BadByte)),
         ("<?php list($a, $b) = f();", NotInSubset),
         ("<?php unset($x);", Read),
     ] {
@@ -122,14 +108,14 @@ fn variables(rt: HostRuntime) -> Result<(), Fail> {
 fn expressions(rt: HostRuntime) -> Result<(), Fail> {
     for (script, wanted) in [
         ("<?php echo 'a' . (1 + 2) * 3 % 4 - -5;", Read),
-        ("<?php echo $a / $b;", BadByte),
+        ("<?php echo $a / $b;", Breaks(BadByte)),
         ("<?php echo $x ** 2;", NotInSubset),
         ("<?php echo +$x;", NotInSubset),
         ("<?php echo $a == 1, $a !== 'b', $a <> 1, $a <= 2;", Read),
         ("<?php echo $a <=> $b;", NotInSubset),
         ("<?php echo $a && !$b || $c;", Read),
         ("<?php if ($a and $b) { }", NotInSubset),
-        ("<?php echo $a & 4;", BadByte),
+        ("<?php echo $a & 4;", Breaks(BadByte)),
         ("<?php echo 1 << 2;", NotInSubset),
         ("<?php echo $a ? 1 : 2, $a ?: 3, $a ?? $b ?? 4;", Read),
         ("<?php echo $a ?: $b ?: $c;", NotInSubset),
@@ -141,7 +127,7 @@ fn expressions(rt: HostRuntime) -> Result<(), Fail> {
         ("<?php if (!$x = f()) { }", NotInSubset),
         ("<?php echo $s[0];", Read),
         ("<?php echo 'abc'[0];", NotInSubset),
-        ("<?php echo @$a['k'];", BadByte),
+        ("<?php echo @$a['k'];", Breaks(BadByte)),
         ("<?php echo STRLEN(trim($x));", Read),
         (
             "<?php echo htmlspecialchars($x, ENT_QUOTES, 'UTF-8');",
@@ -151,7 +137,7 @@ fn expressions(rt: HostRuntime) -> Result<(), Fail> {
         ("<?php f(1,);", NotInSubset),
         ("<?php $o = new User;", NotInSubset),
         ("<?php eval('x');", Read),
-        ("<?php echo `ls`;", BadByte),
+        ("<?php echo `ls`;", Breaks(BadByte)),
     ] {
         let found = outcome_of(rt.alloc(), script.as_bytes())?;
         assert_eq!(rt; found, wanted, "{script}");
@@ -195,7 +181,7 @@ fn statements(rt: HostRuntime) -> Result<(), Fail> {
         ("<?php declare(strict_types=1);", NotInSubset),
         ("<?php class A { }", NotInSubset),
         ("<?php namespace App;", NotInSubset),
-        ("<?php echo \\trim('a');", BadByte),
+        ("<?php echo \\trim('a');", Breaks(BadByte)),
         ("<?php include 'a.php'; require('b.php');", Read),
         ("<?php require_once 'a.php';", NotInSubset),
         ("<?php include $path;", NotInSubset),
@@ -209,7 +195,7 @@ fn statements(rt: HostRuntime) -> Result<(), Fail> {
 
 #[test]
 fn over_200_brackets(rt: HostRuntime) -> Result<(), Fail> {
-    for (count, wanted) in [(HEIGHT_LIMIT, Read), (HEIGHT_LIMIT + 1, Outcome::TooDeep)] {
+    for (count, wanted) in [(HEIGHT_LIMIT, Read), (HEIGHT_LIMIT + 1, TooDeep)] {
         let mut script = Bytes::from_slice(rt.alloc(), b"<?php echo ")?;
         for _ in 0..count {
             script.append(b"(")?;
