@@ -1,0 +1,24 @@
+-- What a table of states decides of a document type definition.
+use Rattle.std.specs.Prelude.{◌≡◌, ℕ, ◌↔◌, Bool, List, map, length, Option, Some, slice_get}
+use Rattle.dtd_model.specs.Table.{Rule, Table as Definition}
+use Rattle.dtd_model.specs.Matches.{matches}
+use Rattle.content_automata.specs.Shapes.{Shape, shape, first_state, states_walk}
+use Rattle.content_automata.specs.Tables.{Table, AreElements, run, ends, first_at}
+
+-- what the declared elements may hold
+abbrev pub shapes_in : Definition → List Shape
+shapes_in d = map (λ (r : Rule). shape r.holding) d.elements
+
+-- children in turn lead from the state that the element begins in to one in which a match may end exactly where the
+-- element may hold them
+abbrev pub Decides : Definition → Table → Type 0
+Decides d t = (e : ℕ) (r : Rule) → slice_get d.elements e ≡ Some r → (es : List ℕ) → AreElements (length d.elements) es → ends t (run t (first_at t e) es) ≡ matches (length d.elements) r.holding es
+
+-- the set of positions behind children, of a declared element
+abbrev pub set_behind : Definition → Rule → List ℕ → Option (List Bool)
+set_behind d r es = states_walk (length d.elements) (shape r.holding) (first_state (shape r.holding)) es
+
+-- two states are one exactly where the elements and the sets of positions are
+abbrev pub TellsApart : Definition → Table → Type 0
+TellsApart d t = (e f : ℕ) (r q : Rule) (es fs : List ℕ) (m n : ℕ) → slice_get d.elements e ≡ Some r → slice_get d.elements f ≡ Some q → AreElements (length d.elements) es → AreElements (length d.elements) fs
+    → run t (first_at t e) es ≡ Some m → run t (first_at t f) fs ≡ Some n → (m ≡ n) ↔ ((e ≡ f) × (set_behind d r es ≡ set_behind d q fs))

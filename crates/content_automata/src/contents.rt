@@ -1,0 +1,113 @@
+//! The automata of all elements.
+
+ghost use Rattle.std.specs.Prelude.{◌≡◌, ◌≤◌, ◌<◌, length, map, IfOk, IfErr};
+ghost use Rattle.dtd_model.specs.declared.dtd.ElementRule.{ElementRule};
+ghost use Rattle.dtd_model.specs.Table.{holding_of};
+ghost use Rattle.content_automata.specs.Shapes.{shape};
+ghost use Rattle.dtd_model.specs.TableOf.{table_of};
+ghost use Rattle.content_automata.specs.Tables as spec;
+ghost use Rattle.content_automata.specs.Tables.{AreSized, IsTable};
+ghost use Rattle.content_automata.specs.Refusals.{IsCause};
+ghost use Rattle.content_automata.specs.Decides.{shapes_in, Decides, TellsApart};
+ghost use Rattle.content_automata.specs.Views.{shapes_of};
+
+use crate::explore::{State, begin, explore};
+use crate::model::{Model as Allowed, model_of_content};
+use crate::refusal::ContentRefusal;
+use dtd_model::{Dtd, ElementRule};
+use indexmap::IndexSet;
+use std::alloc::Global;
+use std::marker::Model;
+use text_base::{Elem, NoMemory};
+
+/// The automata of the content models of a document type definition. Contracts see them as a
+/// table: the numbers of the states that elements begin in, and for each state whether a match
+/// may end there and the state behind each element.
+#[derive(Debug, Drop)]
+pub struct Contents {
+    firsts: Vec<u16>,
+    states: Vec<State>,
+}
+
+impl Model for Contents {
+    ghost use Rattle.std.specs.Prelude.{ℕ, Bool, List, Option, map};
+    ghost use Rattle.content_automata.specs.Views.{row_of};
+
+    ghost Value = { List ℕ × List (Bool × List (Option ℕ)) };
+
+    ghost view = { λ c. (c.firsts.items, map row_of c.states.items) };
+}
+
+fn models(alloc: Global, elements: &[ElementRule]) -> Result<Vec<Allowed>, NoMemory>
+    ensures { IfOk result (λ v. shapes_of v.items ≡ map (λ (r : ElementRule). shape (holding_of r.content)) elements.now) }
+{
+    let mut models = Vec::new(alloc);
+    for element in elements {
+        models.push(model_of_content(alloc, &element.content)?)?;
+    }
+    Ok(models)
+}
+
+// The table of these models.
+fn tabled(alloc: Global, models: &[Allowed]) -> Result<Contents, ContentRefusal>
+    requires { AreSized (shapes_of models.now) }
+    ensures table { IfOk result (λ c. IsTable (shapes_of models.now) c) }
+    ensures few { IfOk result (λ c. length c.1 ≤ 4096) }
+    ensures limit { IfErr result (IsCause (shapes_of models.now)) }
+{
+    let mut keys = IndexSet::new(alloc);
+    let firsts = match begin(alloc, models, &mut keys) {
+        Ok(firsts) => firsts,
+        Err(refusal) => return Err(refusal),
+    };
+    match explore(alloc, models, &mut keys) {
+        Ok(states) => Ok(Contents { firsts, states }),
+        Err(refusal) => Err(refusal),
+    }
+}
+
+/// The automata of the content models of a definition.
+pub fn build(alloc: Global, dtd: &Dtd) -> Result<Contents, ContentRefusal>
+    ensures decides { IfOk result (λ c. Decides (table_of dtd.now) c) }
+    ensures apart { IfOk result (λ c. TellsApart (table_of dtd.now) c) }
+    ensures few { IfOk result (λ c. length c.1 ≤ 4096) }
+    ensures elements { IfOk result (λ c. length c.0 ≡ length (table_of dtd.now).elements) }
+    ensures limit { IfErr result (IsCause (shapes_in (table_of dtd.now))) }
+{
+    let models = models(alloc, dtd.elements.as_slice())?;
+    match tabled(alloc, models.as_slice()) {
+        Ok(contents) => Ok(contents),
+        Err(refusal) => Err(refusal),
+    }
+}
+
+impl Contents {
+    /// The number of the state that an element begins in.
+    pub fn init(&self, element: Elem) -> u16
+        requires { element.0 < length self.now.0 }
+        ensures { result ≡ spec.first_at self.now element.0 }
+    {
+        self.firsts[usize::from(element.0)]
+    }
+
+    /// The state behind a child; none where no list of children that goes on so is a match.
+    pub fn step(&self, state: u16, child: Elem) -> Option<u16>
+        ensures { result ≡ spec.next_at self.now state child.0 }
+    {
+        let state = self.states.get(usize::from(state))?;
+        match state.behind.get(usize::from(child.0)) {
+            Some(next) => *next,
+            None => None,
+        }
+    }
+
+    /// Whether a list of children that leads to the state is a match.
+    pub fn accepts(&self, state: u16) -> bool
+        ensures { result ≡ spec.ends_at self.now state }
+    {
+        match self.states.get(usize::from(state)) {
+            Some(state) => state.ends,
+            None => false,
+        }
+    }
+}
