@@ -42,6 +42,7 @@ fn the_page(rt: HostRuntime) -> Result<(), Fail> {
         ("<?php #[A]\nfunction f() { }", Breaks(BadByte)),
         ("<?php echo 'a', 1; print 'b';", Read),
         ("<?php $x = print 'a';", NotInSubset),
+        ("<?php exit; exit(3); die('x');", Read),
         ("<?php f() or die('x');", NotInSubset),
     ] {
         let found = outcome_of(rt.alloc(), script.as_bytes())?;
@@ -90,6 +91,7 @@ fn variables(rt: HostRuntime) -> Result<(), Fail> {
         ("<?php $a['k']++;", NotInSubset),
         ("<?php echo $_GET['a'], $_SERVER['REQUEST_METHOD'];", Read),
         ("<?php $_GET['a'] = 'x';", NotInSubset),
+        ("<?php echo $_SESSION['a'];", NotInSubset),
         ("<?php echo $GLOBALS['x'];", NotInSubset),
         ("<?php function f() { global $x; }", NotInSubset),
         ("<?php function f() { static $n = 0; }", NotInSubset),
