@@ -215,7 +215,7 @@ fn refuses_what_is_no_script(rt: HostRuntime) -> Result<(), Fail> {
             "phpsa: BigInt t.php 11\n",
         ),
         ("<?php echo 1 ^ 2;", "phpsa: BadByte t.php 13\n"),
-        ("<?php break;", "phpsa: NotInSubset t.php 6\n"),
+        ("<?php $a = 1\n$b = 2;", "phpsa: NotInSubset t.php 13\n"),
         ("<?php echo 1", "phpsa: NotInSubset t.php 11\n"),
     ] {
         let ending = run(rt.alloc(), &CHECK, script, QUIET)?;
