@@ -9,7 +9,7 @@ use Rattle.script_grammar.specs.Terminals.{Terminal}
 use Rattle.expr_machine.specs.declared.frame.Focus.{Focus}
 use Rattle.expr_machine.specs.declared.frame.Focus.TheVariants as focus
 use Rattle.expr_machine.specs.declared.frame.Frame.{Frame}
-use Rattle.expr_machine.specs.Machine.{move, moves, looser, wanted_rank, operator_next, chain_move}
+use Rattle.expr_machine.specs.Machine.{move, looser, wanted_rank, operator_next, chain_move}
 use Rattle.expr_machine.specs.Values.{PlainValue, execute}
 use Rattle.expr_machine.specs.Reading.{weight, reads_on, reads_next}
 use Rattle.expr_parser.specs.Leads.{Leads}

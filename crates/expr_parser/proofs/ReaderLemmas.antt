@@ -1,11 +1,11 @@
 -- What a run makes of the values, by what its next move is.
 use Rattle.std.proofs.Common.{◌≡◌, Bool, true, false, List, ap, ◌∙◌}
-use Rattle.std.specs.Prelude.{Some, None}
+use Rattle.std.specs.Prelude.{None}
 use Rattle.script_grammar.specs.Terminals.{Terminal}
 use Rattle.expr_machine.specs.declared.frame.Focus.{Focus}
 use Rattle.expr_machine.specs.declared.frame.Frame.{Frame}
 use Rattle.expr_machine.specs.Actions.{Action}
-use Rattle.expr_machine.specs.Machine.{Move, moves, finished, stuck}
+use Rattle.expr_machine.specs.Machine.{Move, moves}
 use Rattle.expr_machine.specs.Values.{PlainValue, execute}
 use Rattle.expr_machine.specs.Reading.{reads_on, reads_after, reads_next}
 use Rattle.expr_values.specs.Outcomes.{Applied}

@@ -187,7 +187,8 @@ pub fn text_at<'a>(rest: &'a [Token]) -> Option<(&'a Bytes, &'a [Token])>
 pub fn variable_at<'a>(rest: &'a [Token]) -> Option<(&'a Bytes, &'a [Token])>
     ensures { MatchOption result
         ((x : List ℕ) (r : List Terminal) → terminals_of rest.now ≢ variable_terminal x ∷ r)
-        (λ found. terminals_of rest.now ≡ variable_terminal found.0.now ∷ terminals_of found.1.now) }
+        (λ found. terminals_of rest.now
+        ≡ variable_terminal found.0.now ∷ terminals_of found.1.now) }
 {
     match rest {
         [] => None,

@@ -46,8 +46,10 @@ fn behind_end<'a>(rest: &'a [Token]) -> Option<&'a [Token]>
 // The same where a name stands before it.
 fn behind_named<'a>(name: &Bytes, rest: &'a [Token]) -> Option<&'a [Token]>
     ensures { MatchOption result
-        ((if same_bytes name.now (codes "ENT_QUOTES") then quotes_end (terminals_of rest.now) else None) ≡ None)
-        (λ r. (if same_bytes name.now (codes "ENT_QUOTES") then quotes_end (terminals_of rest.now) else None) ≡ Some (terminals_of r.now)) }
+        ((if same_bytes name.now (codes "ENT_QUOTES") then quotes_end
+        (terminals_of rest.now) else None) ≡ None)
+        (λ r. (if same_bytes name.now (codes "ENT_QUOTES") then quotes_end
+        (terminals_of rest.now) else None) ≡ Some (terminals_of r.now)) }
 {
     if name.as_slice() == b"ENT_QUOTES".as_slice() {
         return behind_end(rest);
@@ -77,8 +79,10 @@ pub(crate) fn behind_escape<'a>(
     rest: &'a [Token],
 ) -> Option<&'a [Token]>
     ensures { MatchOption result
-        ((if form.is_escape name.now && count == 0 then machine.behind_quotes (terminals_of rest.now) else None) ≡ None)
-        (λ r. (if form.is_escape name.now && count == 0 then machine.behind_quotes (terminals_of rest.now) else None) ≡ Some (terminals_of r.now)) }
+        ((if form.is_escape name.now && count == 0 then machine.behind_quotes
+        (terminals_of rest.now) else None) ≡ None)
+        (λ r. (if form.is_escape name.now && count == 0 then machine.behind_quotes
+        (terminals_of rest.now) else None) ≡ Some (terminals_of r.now)) }
 {
     if !name.as_slice().eq_ignore_ascii_case(b"htmlspecialchars") {
         return None;

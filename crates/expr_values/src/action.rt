@@ -71,7 +71,9 @@ pub enum Actions<'a> {
 impl Values {
     // One action.
     fn apply(&mut self, alloc: Global, action: Action) -> Result<bool, NoMemory>
-        ensures { IfOk result (λ fine. Applied fine (apply (plain_action action) (plain_values self.old)) (plain_values self.new)) }
+        ensures { IfOk result (λ fine.
+            Applied fine (apply (plain_action action) (plain_values self.old))
+            (plain_values self.new)) }
     {
         match action {
             Action::Leaf(tree) => {
@@ -102,7 +104,9 @@ impl Values {
 
     // The last item of an array, with a key or not.
     fn end_item(&mut self, keyed: bool) -> Result<bool, NoMemory>
-        ensures { IfOk result (λ fine. AppliedFirst fine (item_actions keyed) (plain_values self.old) (plain_values self.new)) }
+        ensures { IfOk result (λ fine.
+            AppliedFirst fine (item_actions keyed) (plain_values self.old)
+            (plain_values self.new)) }
     {
         if keyed {
             return Ok(true);
@@ -112,7 +116,9 @@ impl Values {
 
     // The last item of an array, and the array of so many items.
     fn end_items(&mut self, alloc: Global, keyed: bool, count: usize) -> Result<bool, NoMemory>
-        ensures { IfOk result (λ fine. Applied fine (execute (item_actions keyed (array_action count ∷ [])) (plain_values self.old)) (plain_values self.new)) }
+        ensures { IfOk result (λ fine.
+            Applied fine (execute (item_actions keyed (array_action count ∷ []))
+            (plain_values self.old)) (plain_values self.new)) }
     {
         let fine = self.end_item(keyed)?;
         if !fine {
@@ -124,7 +130,9 @@ impl Values {
     /// Does what a move asks for; false where the values do not allow it: they are too few, or a rule of the language
     /// is broken. Then they are of no use.
     pub fn perform(&mut self, alloc: Global, actions: Actions) -> Result<bool, NoMemory>
-        ensures { IfOk result (λ fine. Applied fine (execute (plain_actions actions.entry) (plain_values self.old)) (plain_values self.new)) }
+        ensures { IfOk result (λ fine.
+            Applied fine (execute (plain_actions actions.entry) (plain_values self.old))
+            (plain_values self.new)) }
     {
         match actions {
             Actions::Nothing => Ok(true),

@@ -21,7 +21,8 @@ use text_base::{Bytes, NoMemory};
 
 // The members of a value by keys, the first one of the value itself.
 fn read_value(alloc: Global, array: Value, keys: Values) -> Result<Value, NoMemory>
-    ensures { IfOk result (λ v. plain_value v ≡ plain.read_value (plain_value array) (plain_values keys)) }
+    ensures { IfOk result (λ v. plain_value v
+        ≡ plain.read_value (plain_value array) (plain_values keys)) }
 {
     let mut value = array;
     let mut left = keys;
@@ -43,7 +44,9 @@ fn lowered(alloc: Global, name: &Bytes) -> Result<Bytes, NoMemory>
 impl Values {
     /// So many operands of `.`.
     pub(crate) fn join(&mut self, alloc: Global, count: usize) -> Result<bool, NoMemory>
-        ensures { IfOk result (λ fine. Applied fine (apply (join_action count) (plain_values self.old)) (plain_values self.new)) }
+        ensures { IfOk result (λ fine.
+            Applied fine (apply (join_action count) (plain_values self.old))
+            (plain_values self.new)) }
     {
         match self.take_exprs(alloc, count)? {
             None => Ok(false),
@@ -56,7 +59,9 @@ impl Values {
 
     /// `isset` of so many values.
     pub(crate) fn isset(&mut self, alloc: Global, count: usize) -> Result<bool, NoMemory>
-        ensures { IfOk result (λ fine. Applied fine (apply (isset_action count) (plain_values self.old)) (plain_values self.new)) }
+        ensures { IfOk result (λ fine.
+            Applied fine (apply (isset_action count) (plain_values self.old))
+            (plain_values self.new)) }
     {
         match self.take_exprs(alloc, count)? {
             None => Ok(false),
@@ -77,7 +82,9 @@ impl Values {
         name: &Bytes,
         count: usize,
     ) -> Result<bool, NoMemory>
-        ensures { IfOk result (λ fine. Applied fine (apply (call_action name.now count) (plain_values self.old)) (plain_values self.new)) }
+        ensures { IfOk result (λ fine.
+            Applied fine (apply (call_action name.now count) (plain_values self.old))
+            (plain_values self.new)) }
     {
         let name = lowered(alloc, name)?;
         match self.take_exprs(alloc, count)? {
@@ -91,7 +98,9 @@ impl Values {
 
     /// An array of so many items.
     pub(crate) fn array(&mut self, alloc: Global, count: usize) -> Result<bool, NoMemory>
-        ensures { IfOk result (λ fine. Applied fine (apply (array_action count) (plain_values self.old)) (plain_values self.new)) }
+        ensures { IfOk result (λ fine.
+            Applied fine (apply (array_action count) (plain_values self.old))
+            (plain_values self.new)) }
     {
         match self.take_items(alloc, count)? {
             None => Ok(false),
@@ -109,7 +118,9 @@ impl Values {
         name: Bytes,
         count: usize,
     ) -> Result<bool, NoMemory>
-        ensures { IfOk result (λ fine. Applied fine (apply (read_action name count) (plain_values self.old)) (plain_values self.new)) }
+        ensures { IfOk result (λ fine.
+            Applied fine (apply (read_action name count) (plain_values self.old))
+            (plain_values self.new)) }
     {
         match self.take_row(alloc, count)? {
             None => Ok(false),
@@ -135,7 +146,9 @@ impl Values {
         count: usize,
         value: Value,
     ) -> Result<bool, NoMemory>
-        ensures { IfOk result (λ fine. Applied fine (plain.apply_assign name (plain_value value) (plain.take_values count [] (plain_values self.old))) (plain_values self.new)) }
+        ensures { IfOk result (λ fine.
+            Applied fine (plain.apply_assign name (plain_value value)
+            (plain.take_values count [] (plain_values self.old))) (plain_values self.new)) }
     {
         match self.take_path(alloc, count)? {
             None => Ok(false),
@@ -160,7 +173,9 @@ impl Values {
         name: Bytes,
         count: usize,
     ) -> Result<bool, NoMemory>
-        ensures { IfOk result (λ fine. Applied fine (apply (assign_action name count) (plain_values self.old)) (plain_values self.new)) }
+        ensures { IfOk result (λ fine.
+            Applied fine (apply (assign_action name count) (plain_values self.old))
+            (plain_values self.new)) }
     {
         match self.pop() {
             None => Ok(false),
@@ -177,7 +192,9 @@ impl Values {
         count: usize,
         value: Value,
     ) -> Result<bool, NoMemory>
-        ensures { IfOk result (λ fine. Applied fine (plain.apply_update sign name (plain_value value) (plain.take_values count [] (plain_values self.old))) (plain_values self.new)) }
+        ensures { IfOk result (λ fine.
+            Applied fine (plain.apply_update sign name (plain_value value)
+            (plain.take_values count [] (plain_values self.old))) (plain_values self.new)) }
     {
         match self.take_path(alloc, count)? {
             None => Ok(false),
@@ -203,7 +220,9 @@ impl Values {
         name: Bytes,
         count: usize,
     ) -> Result<bool, NoMemory>
-        ensures { IfOk result (λ fine. Applied fine (apply (update_action sign name count) (plain_values self.old)) (plain_values self.new)) }
+        ensures { IfOk result (λ fine.
+            Applied fine (apply (update_action sign name count) (plain_values self.old))
+            (plain_values self.new)) }
     {
         match self.pop() {
             None => Ok(false),

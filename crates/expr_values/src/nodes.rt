@@ -51,7 +51,8 @@ pub(crate) fn binary_value(
     left: Value,
     right: Value,
 ) -> Result<Value, NoMemory>
-    ensures { IfOk result (λ v. plain_value v ≡ plain.binary_value operator (plain_value left) (plain_value right)) }
+    ensures { IfOk result (λ v. plain_value v
+        ≡ plain.binary_value operator (plain_value left) (plain_value right)) }
 {
     match both_known(left, right) {
         None => Ok(Value::Tall { place: false }),
@@ -75,7 +76,8 @@ fn coalesce_tree(alloc: Global, left: Expr, right: Expr) -> Result<Expr, NoMemor
 /// `??` between two operands.
 #[tactic(auto, using(crate::proofs::NodeLemmas::nodes))]
 pub(crate) fn coalesce_value(alloc: Global, left: Value, right: Value) -> Result<Value, NoMemory>
-    ensures { IfOk result (λ v. plain_value v ≡ plain.coalesce_value (plain_value left) (plain_value right)) }
+    ensures { IfOk result (λ v. plain_value v
+        ≡ plain.coalesce_value (plain_value left) (plain_value right)) }
 {
     match both_known(left, right) {
         None => Ok(Value::Tall { place: false }),
@@ -89,7 +91,8 @@ pub(crate) fn coalesce_value(alloc: Global, left: Value, right: Value) -> Result
 // `?:` between two trees.
 #[tactic(auto, unfolding(php_syntax::specs::Trees::plain_expr))]
 fn short_choice_tree(alloc: Global, left: Expr, right: Expr) -> Result<Expr, NoMemory>
-    ensures { IfOk result (λ e. plain_expr e ≡ choice_expr (plain_expr left) no_expr (plain_expr right)) }
+    ensures { IfOk result (λ e. plain_expr e
+        ≡ choice_expr (plain_expr left) no_expr (plain_expr right)) }
 {
     let left = Box::new(alloc, left)?;
     let right = Box::new(alloc, right)?;
@@ -103,7 +106,8 @@ pub(crate) fn short_choice_value(
     left: Value,
     right: Value,
 ) -> Result<Value, NoMemory>
-    ensures { IfOk result (λ v. plain_value v ≡ plain.short_choice_value (plain_value left) (plain_value right)) }
+    ensures { IfOk result (λ v. plain_value v
+        ≡ plain.short_choice_value (plain_value left) (plain_value right)) }
 {
     match both_known(left, right) {
         None => Ok(Value::Tall { place: false }),
@@ -122,7 +126,8 @@ fn full_choice_tree(
     middle: Expr,
     right: Expr,
 ) -> Result<Expr, NoMemory>
-    ensures { IfOk result (λ e. plain_expr e ≡ choice_expr (plain_expr condition) (some_expr (plain_expr middle)) (plain_expr right)) }
+    ensures { IfOk result (λ e. plain_expr e
+        ≡ choice_expr (plain_expr condition) (some_expr (plain_expr middle)) (plain_expr right)) }
 {
     let condition = Box::new(alloc, condition)?;
     let middle = Box::new(alloc, middle)?;
@@ -138,7 +143,9 @@ pub(crate) fn full_choice_value(
     middle: Value,
     right: Value,
 ) -> Result<Value, NoMemory>
-    ensures { IfOk result (λ v. plain_value v ≡ plain.full_choice_value (plain_value condition) (plain_value middle) (plain_value right)) }
+    ensures { IfOk result (λ v. plain_value v
+        ≡ plain.full_choice_value (plain_value condition) (plain_value middle)
+        (plain_value right)) }
 {
     match both_known(middle, right) {
         None => Ok(Value::Tall { place: false }),
@@ -169,7 +176,8 @@ fn member_tree(alloc: Global, array: Expr, key: Expr) -> Result<Expr, NoMemory>
 /// A member of a value.
 #[tactic(auto, using(crate::proofs::NodeLemmas::nodes))]
 pub(crate) fn member_value(alloc: Global, array: Value, key: Value) -> Result<Value, NoMemory>
-    ensures { IfOk result (λ v. plain_value v ≡ plain.member_value (plain_value array) (plain_value key)) }
+    ensures { IfOk result (λ v. plain_value v
+        ≡ plain.member_value (plain_value array) (plain_value key)) }
 {
     let place = array.is_place();
     match both_known(array, key) {
@@ -212,7 +220,8 @@ pub(crate) fn isset_value(row: Option<(Vec<Expr>, u32)>) -> Value
 /// A call of a function with the arguments of such a row; the name is given in lower case.
 #[tactic(auto, using(php_syntax::proofs::Views::views))]
 pub(crate) fn call_value(name: Bytes, row: Option<(Vec<Expr>, u32)>) -> Value
-    ensures { (f : List ℕ) → name ≡ str_to_ascii_lowercase f → plain_value result ≡ plain.call_value f (exprs_shown row) }
+    ensures { (f : List ℕ) → name ≡ str_to_ascii_lowercase f → plain_value result
+        ≡ plain.call_value f (exprs_shown row) }
 {
     match row {
         None => Value::Tall { place: false },
@@ -239,7 +248,8 @@ pub(crate) fn array_value(row: Option<(Vec<(Option<Expr>, Expr)>, u32)>) -> Valu
 
 // A tree over a path of keys and a value.
 fn over_path(tree: Expr, path_height: u32, height: u32) -> Value
-    ensures { plain_value result ≡ plain.node_value (plain_expr tree) (max (1 + path_height) height) false }
+    ensures { plain_value result
+        ≡ plain.node_value (plain_expr tree) (max (1 + path_height) height) false }
 {
     if path_height < 200 {
         return node(tree, (path_height + 1).max(height), false);
@@ -255,7 +265,8 @@ fn assign_tree(
     path: Vec<Option<Expr>>,
     value: Expr,
 ) -> Result<Expr, NoMemory>
-    ensures { IfOk result (λ e. plain_expr e ≡ assign_expr name (path_of path.items) (plain_expr value)) }
+    ensures { IfOk result (λ e. plain_expr e
+        ≡ assign_expr name (path_of path.items) (plain_expr value)) }
 {
     let value = Box::new(alloc, value)?;
     Ok(Expr::Assign(Target { name, path }, value))
@@ -268,7 +279,8 @@ pub(crate) fn assign_value(
     path: Option<(Vec<Option<Expr>>, u32)>,
     value: Value,
 ) -> Result<Value, NoMemory>
-    ensures { IfOk result (λ v. plain_value v ≡ plain.assign_value name (path_shown path) (plain_value value)) }
+    ensures { IfOk result (λ v. plain_value v
+        ≡ plain.assign_value name (path_shown path) (plain_value value)) }
 {
     match path {
         None => Ok(Value::Tall { place: false }),
@@ -293,7 +305,8 @@ fn update_tree(
     path: Vec<Option<Expr>>,
     value: Expr,
 ) -> Result<Expr, NoMemory>
-    ensures { IfOk result (λ e. plain_expr e ≡ update_expr sign name (path_of path.items) (plain_expr value)) }
+    ensures { IfOk result (λ e. plain_expr e
+        ≡ update_expr sign name (path_of path.items) (plain_expr value)) }
 {
     let value = Box::new(alloc, value)?;
     Ok(Expr::Update(sign, Target { name, path }, value))
@@ -307,7 +320,8 @@ pub(crate) fn update_value(
     path: Option<(Vec<Option<Expr>>, u32)>,
     value: Value,
 ) -> Result<Value, NoMemory>
-    ensures { IfOk result (λ v. plain_value v ≡ plain.update_value sign name (path_shown path) (plain_value value)) }
+    ensures { IfOk result (λ v. plain_value v
+        ≡ plain.update_value sign name (path_shown path) (plain_value value)) }
 {
     match path {
         None => Ok(Value::Tall { place: false }),

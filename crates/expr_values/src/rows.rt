@@ -53,7 +53,8 @@ fn add_expr(
     row: Option<(Vec<Expr>, u32)>,
     value: Value,
 ) -> Result<Option<(Vec<Expr>, u32)>, NoMemory>
-    ensures { IfOk result (λ r. exprs_shown r ≡ plain.add_expr (plain_value value) (exprs_shown row)) }
+    ensures { IfOk result (λ r. exprs_shown r
+        ≡ plain.add_expr (plain_value value) (exprs_shown row)) }
 {
     match value {
         Value::Tall { .. } => Ok(None),
@@ -73,7 +74,8 @@ fn add_unkeyed(
     row: Option<(Vec<(Option<Expr>, Expr)>, u32)>,
     value: Value,
 ) -> Result<Option<(Vec<(Option<Expr>, Expr)>, u32)>, NoMemory>
-    ensures { IfOk result (λ r. items_shown r ≡ plain.add_item plain.absent_value (plain_value value) (items_shown row)) }
+    ensures { IfOk result (λ r. items_shown r
+        ≡ plain.add_item plain.absent_value (plain_value value) (items_shown row)) }
 {
     match value {
         Value::Tall { .. } => Ok(None),
@@ -95,7 +97,9 @@ fn add_keyed(
     key_height: u32,
     value: Value,
 ) -> Result<Option<(Vec<(Option<Expr>, Expr)>, u32)>, NoMemory>
-    ensures { IfOk result (λ r. items_shown r ≡ plain.add_item (plain.known_value (plain_expr key) key_height) (plain_value value) (items_shown row)) }
+    ensures { IfOk result (λ r. items_shown r
+        ≡ plain.add_item (plain.known_value (plain_expr key) key_height) (plain_value value)
+        (items_shown row)) }
 {
     match value {
         Value::Tall { .. } => Ok(None),
@@ -116,7 +120,8 @@ fn add_item(
     key: Value,
     value: Value,
 ) -> Result<Option<(Vec<(Option<Expr>, Expr)>, u32)>, NoMemory>
-    ensures { IfOk result (λ r. items_shown r ≡ plain.add_item (plain_value key) (plain_value value) (items_shown row)) }
+    ensures { IfOk result (λ r. items_shown r
+        ≡ plain.add_item (plain_value key) (plain_value value) (items_shown row)) }
 {
     match key {
         Value::Tall { .. } => Ok(None),

@@ -25,7 +25,8 @@ impl Values {
     /// A literal.
     #[tactic(auto, unfolding(expr_machine::specs::Values::apply))]
     pub(crate) fn leaf(&mut self, tree: Expr) -> Result<(), NoMemory>
-        ensures { OnOk result (apply (leaf_action (plain_expr tree)) (plain_values self.old) ≡ Some (plain_values self.new)) }
+        ensures { OnOk result (apply (leaf_action (plain_expr tree)) (plain_values self.old)
+            ≡ Some (plain_values self.new)) }
     {
         self.push(Value::Known { tree, height: 1 })
     }
@@ -33,7 +34,8 @@ impl Values {
     /// An integer literal.
     #[tactic(auto, using(php_syntax::proofs::Views::views))]
     pub(crate) fn int_leaf(&mut self, number: i64) -> Result<(), NoMemory>
-        ensures { OnOk result (apply (leaf_action (int_expr number)) (plain_values self.old) ≡ Some (plain_values self.new)) }
+        ensures { OnOk result (apply (leaf_action (int_expr number)) (plain_values self.old)
+            ≡ Some (plain_values self.new)) }
     {
         self.leaf(Expr::Int(number))
     }
@@ -41,7 +43,9 @@ impl Values {
     /// A variable.
     #[tactic(auto, unfolding(expr_machine::specs::Values::apply))]
     pub(crate) fn variable(&mut self, name: Bytes) -> Result<bool, NoMemory>
-        ensures { IfOk result (λ fine. Applied fine (apply (variable_action name) (plain_values self.old)) (plain_values self.new)) }
+        ensures { IfOk result (λ fine.
+            Applied fine (apply (variable_action name) (plain_values self.old))
+            (plain_values self.new)) }
     {
         if !is_known(name.as_slice()) {
             return Ok(false);
@@ -56,7 +60,8 @@ impl Values {
     /// A key that is left out.
     #[tactic(auto, unfolding(expr_machine::specs::Values::apply))]
     pub(crate) fn absent(&mut self) -> Result<(), NoMemory>
-        ensures { OnOk result (apply absent_action (plain_values self.old) ≡ Some (plain_values self.new)) }
+        ensures { OnOk result (apply absent_action (plain_values self.old)
+            ≡ Some (plain_values self.new)) }
     {
         self.push(Value::Absent)
     }
@@ -64,7 +69,8 @@ impl Values {
     /// The last value is that of an item without a key.
     #[tactic(auto, unfolding(expr_machine::specs::Values::apply))]
     pub(crate) fn unkeyed(&mut self) -> Result<bool, NoMemory>
-        ensures { IfOk result (λ fine. Applied fine (apply unkeyed_action (plain_values self.old)) (plain_values self.new)) }
+        ensures { IfOk result (λ fine.
+            Applied fine (apply unkeyed_action (plain_values self.old)) (plain_values self.new)) }
     {
         match self.pop() {
             None => Ok(false),
@@ -79,7 +85,9 @@ impl Values {
     /// An operator before the last value.
     #[tactic(auto, unfolding(expr_machine::specs::Values::apply))]
     pub(crate) fn prefix(&mut self, alloc: Global, prefix: Prefix) -> Result<bool, NoMemory>
-        ensures { IfOk result (λ fine. Applied fine (apply (prefix_action prefix) (plain_values self.old)) (plain_values self.new)) }
+        ensures { IfOk result (λ fine.
+            Applied fine (apply (prefix_action prefix) (plain_values self.old))
+            (plain_values self.new)) }
     {
         match self.pop() {
             None => Ok(false),
@@ -93,7 +101,9 @@ impl Values {
     /// An operator between the last two values.
     #[tactic(auto, unfolding(expr_machine::specs::Values::apply))]
     pub(crate) fn binary(&mut self, alloc: Global, operator: Operator) -> Result<bool, NoMemory>
-        ensures { IfOk result (λ fine. Applied fine (apply (binary_action operator) (plain_values self.old)) (plain_values self.new)) }
+        ensures { IfOk result (λ fine.
+            Applied fine (apply (binary_action operator) (plain_values self.old))
+            (plain_values self.new)) }
     {
         match self.pop_two() {
             None => Ok(false),
@@ -107,7 +117,8 @@ impl Values {
     /// `??` between the last two values.
     #[tactic(auto, unfolding(expr_machine::specs::Values::apply))]
     pub(crate) fn coalesce(&mut self, alloc: Global) -> Result<bool, NoMemory>
-        ensures { IfOk result (λ fine. Applied fine (apply coalesce_action (plain_values self.old)) (plain_values self.new)) }
+        ensures { IfOk result (λ fine.
+            Applied fine (apply coalesce_action (plain_values self.old)) (plain_values self.new)) }
     {
         match self.pop_two() {
             None => Ok(false),
@@ -121,7 +132,9 @@ impl Values {
     /// `?:` between the last two values.
     #[tactic(auto, unfolding(expr_machine::specs::Values::apply))]
     pub(crate) fn short_choice(&mut self, alloc: Global) -> Result<bool, NoMemory>
-        ensures { IfOk result (λ fine. Applied fine (apply short_choice_action (plain_values self.old)) (plain_values self.new)) }
+        ensures { IfOk result (λ fine.
+            Applied fine (apply short_choice_action (plain_values self.old))
+            (plain_values self.new)) }
     {
         match self.pop_two() {
             None => Ok(false),
@@ -135,7 +148,9 @@ impl Values {
     /// `?` and `:` between the last three values.
     #[tactic(auto, unfolding(expr_machine::specs::Values::apply))]
     pub(crate) fn full_choice(&mut self, alloc: Global) -> Result<bool, NoMemory>
-        ensures { IfOk result (λ fine. Applied fine (apply full_choice_action (plain_values self.old)) (plain_values self.new)) }
+        ensures { IfOk result (λ fine.
+            Applied fine (apply full_choice_action (plain_values self.old))
+            (plain_values self.new)) }
     {
         match self.pop_two() {
             None => Ok(false),
@@ -152,7 +167,8 @@ impl Values {
     /// A member of the value before the last one.
     #[tactic(auto, unfolding(expr_machine::specs::Values::apply))]
     pub(crate) fn member(&mut self, alloc: Global) -> Result<bool, NoMemory>
-        ensures { IfOk result (λ fine. Applied fine (apply member_action (plain_values self.old)) (plain_values self.new)) }
+        ensures { IfOk result (λ fine.
+            Applied fine (apply member_action (plain_values self.old)) (plain_values self.new)) }
     {
         match self.pop_two() {
             None => Ok(false),
@@ -166,7 +182,9 @@ impl Values {
     /// A variable goes up or down.
     #[tactic(auto, using(php_syntax::proofs::Views::views), unfolding(expr_machine::specs::Values::apply))]
     pub(crate) fn step(&mut self, name: Bytes, up: bool, before: bool) -> Result<bool, NoMemory>
-        ensures { IfOk result (λ fine. Applied fine (apply (step_action name up before) (plain_values self.old)) (plain_values self.new)) }
+        ensures { IfOk result (λ fine.
+            Applied fine (apply (step_action name up before) (plain_values self.old))
+            (plain_values self.new)) }
     {
         if !is_writable(name.as_slice()) {
             return Ok(false);
@@ -181,7 +199,8 @@ impl Values {
     /// `empty` of the last value.
     #[tactic(auto, unfolding(expr_machine::specs::Values::apply))]
     pub(crate) fn empty(&mut self, alloc: Global) -> Result<bool, NoMemory>
-        ensures { IfOk result (λ fine. Applied fine (apply empty_action (plain_values self.old)) (plain_values self.new)) }
+        ensures { IfOk result (λ fine.
+            Applied fine (apply empty_action (plain_values self.old)) (plain_values self.new)) }
     {
         match self.pop() {
             None => Ok(false),

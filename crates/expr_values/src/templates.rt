@@ -37,7 +37,9 @@ impl Values {
     // A key.
     #[tactic(auto, using(php_syntax::proofs::Views::views))]
     fn template_key(&mut self, alloc: Global, key: &PartKey) -> Result<bool, NoMemory>
-        ensures { IfOk result (λ fine. Applied fine (apply (key_action (plain_key key.now)) (plain_values self.old)) (plain_values self.new)) }
+        ensures { IfOk result (λ fine.
+            Applied fine (apply (key_action (plain_key key.now)) (plain_values self.old))
+            (plain_values self.new)) }
     {
         match key {
             PartKey::Text(text) => {
@@ -54,7 +56,9 @@ impl Values {
 
     // Members by keys, the outermost first.
     fn template_keys(&mut self, alloc: Global, keys: &[PartKey]) -> Result<bool, NoMemory>
-        ensures { IfOk result (λ fine. AppliedFirst fine (keys_actions (map plain_key keys.now)) (plain_values self.old) (plain_values self.new)) }
+        ensures { IfOk result (λ fine.
+            AppliedFirst fine (keys_actions (map plain_key keys.now)) (plain_values self.old)
+            (plain_values self.new)) }
     {
         let mut left = keys;
         'keys: while let Some((key, behind)) = first_key(left) {
@@ -78,7 +82,9 @@ impl Values {
         name: &Bytes,
         keys: &[PartKey],
     ) -> Result<bool, NoMemory>
-        ensures { IfOk result (λ fine. AppliedFirst fine (part_actions (read_part name.now (map plain_key keys.now))) (plain_values self.old) (plain_values self.new)) }
+        ensures { IfOk result (λ fine.
+            AppliedFirst fine (part_actions (read_part name.now (map plain_key keys.now)))
+            (plain_values self.old) (plain_values self.new)) }
     {
         let copied = name.copy(alloc)?;
         let fine = self.variable(copied)?;
@@ -91,7 +97,9 @@ impl Values {
     // A part of a template.
     #[tactic(auto, using(php_syntax::proofs::Views::views))]
     fn template_part(&mut self, alloc: Global, part: &Part) -> Result<bool, NoMemory>
-        ensures { IfOk result (λ fine. AppliedFirst fine (part_actions (plain_part_of part.now)) (plain_values self.old) (plain_values self.new)) }
+        ensures { IfOk result (λ fine.
+            AppliedFirst fine (part_actions (plain_part_of part.now)) (plain_values self.old)
+            (plain_values self.new)) }
     {
         match part {
             Part::Plain(text) => {
@@ -105,7 +113,9 @@ impl Values {
 
     // Parts of a template.
     fn template_parts(&mut self, alloc: Global, parts: &[Part]) -> Result<bool, NoMemory>
-        ensures { IfOk result (λ fine. AppliedFirst fine (parts_actions (map plain_part_of parts.now)) (plain_values self.old) (plain_values self.new)) }
+        ensures { IfOk result (λ fine.
+            AppliedFirst fine (parts_actions (map plain_part_of parts.now)) (plain_values self.old)
+            (plain_values self.new)) }
     {
         let mut left = parts;
         'parts: while let Some((part, behind)) = first_part(left) {
@@ -120,7 +130,9 @@ impl Values {
 
     /// A template is the join of its parts.
     pub(crate) fn template(&mut self, alloc: Global, parts: &[Part]) -> Result<bool, NoMemory>
-        ensures { IfOk result (λ fine. Applied fine (execute (template_actions (map plain_part_of parts.now) []) (plain_values self.old)) (plain_values self.new)) }
+        ensures { IfOk result (λ fine.
+            Applied fine (execute (template_actions (map plain_part_of parts.now) [])
+            (plain_values self.old)) (plain_values self.new)) }
     {
         let fine = self.template_parts(alloc, parts)?;
         if !fine {

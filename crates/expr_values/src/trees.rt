@@ -40,7 +40,8 @@ pub(crate) fn node(expr: Expr, height: u32, place: bool) -> Value
 // A call of a function of one argument.
 #[tactic(auto, using(php_syntax::proofs::Views::views))]
 fn call_of_one(alloc: Global, name: &[u8], argument: Expr) -> Result<Expr, NoMemory>
-    ensures { IfOk result (λ e. plain_expr e ≡ call_expr name.now (more_exprs (plain_expr argument) no_exprs)) }
+    ensures { IfOk result (λ e. plain_expr e
+        ≡ call_expr name.now (more_exprs (plain_expr argument) no_exprs)) }
 {
     let name = Bytes::from_slice(alloc, name)?;
     let mut arguments = Vec::new(alloc);
@@ -76,7 +77,8 @@ pub(crate) fn operator_tree(
     left: Expr,
     right: Expr,
 ) -> Result<Expr, NoMemory>
-    ensures { IfOk result (λ e. plain_expr e ≡ tree.operator_tree operator (plain_expr left) (plain_expr right)) }
+    ensures { IfOk result (λ e. plain_expr e
+        ≡ tree.operator_tree operator (plain_expr left) (plain_expr right)) }
 {
     match operator {
         Operator::Or => {

@@ -51,7 +51,8 @@ impl Values {
 
     /// Takes the last value.
     pub fn pop(&mut self) -> Option<Value>
-        ensures { MatchOption result ((self.old ≡ []) × (self.new ≡ [])) (λ value. self.old ≡ value ∷ self.new) }
+        ensures { MatchOption result ((self.old ≡ []) × (self.new ≡ []))
+            (λ value. self.old ≡ value ∷ self.new) }
     {
         self.stack.pop()
     }
@@ -70,7 +71,8 @@ impl Values {
 
     /// Takes the last two values, the last one second.
     pub(crate) fn pop_two(&mut self) -> Option<(Value, Value)>
-        ensures { MatchOption result (IsShort self.old) (λ two. self.old ≡ two.1 ∷ two.0 ∷ self.new) }
+        ensures { MatchOption result (IsShort self.old)
+            (λ two. self.old ≡ two.1 ∷ two.0 ∷ self.new) }
     {
         match self.pop() {
             None => None,

@@ -10,7 +10,8 @@ use stmt_trees::actions_make_files;
 
 /// Tokens that are not too deep spell at most one tree.
 pub fn one_tree()
-    ensures { (tokens : List PlainToken) (a b : PlainFile) → (IsTooDeep tokens → ⊥) → SpellsTree tokens a → SpellsTree tokens b → a ≡ b }
+    ensures { (tokens : List PlainToken) (a b : PlainFile) → (IsTooDeep tokens → ⊥) →
+        SpellsTree tokens a → SpellsTree tokens b → a ≡ b }
 {
     files_are_read();
     actions_make_files();

@@ -26,7 +26,8 @@ pub fn parse(alloc: Global, tokens: &[Token]) -> Result<FileTree, ParseRefusal>
     // The tokens spell the tree, and no other.
     ensures tree { IfOk result (λ tree. SpellsTree (plain_tokens tokens.now) (plain_file tree)) }
     ensures only { IfOk result (λ tree.
-        (other : PlainFile) → SpellsTree (plain_tokens tokens.now) other → other ≡ plain_file tree) }
+        (other : PlainFile) → SpellsTree (plain_tokens tokens.now) other → other
+        ≡ plain_file tree) }
 
     // They are not too deep.
     ensures within { IfOk result (λ tree.

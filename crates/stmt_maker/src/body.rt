@@ -105,7 +105,8 @@ pub fn gather_arms(
     mut conditions: Values,
     mut rows: Stack<Option<Row>>,
 ) -> Result<Option<Arms>, NoMemory>
-    ensures { IfOk result (λ found. gathered_arms found ≡ plain.gather_arms (plain_values conditions) (rows_of rows)) }
+    ensures { IfOk result (λ found. gathered_arms found
+        ≡ plain.gather_arms (plain_values conditions) (rows_of rows)) }
 {
     let mut arms = Vec::new(alloc);
     let mut height: u32 = 0;

@@ -26,7 +26,9 @@ impl Maker {
         count: usize,
         last: Option<Row>,
     ) -> Result<bool, NoMemory>
-        ensures { IfOk result (λ done. Does (plain.put_if_stmt count (row_of last) (made_of self.old).bodies (made_of self.old)) done (made_of self.new)) }
+        ensures { IfOk result (λ done.
+            Does (plain.put_if_stmt count (row_of last) (made_of self.old).bodies
+            (made_of self.old)) done (made_of self.new)) }
     {
         let Some(rows) = take_rows(alloc, &mut self.bodies, count)? else {
             return Ok(false);
@@ -41,7 +43,9 @@ impl Maker {
     /// The end of an `if` of so many arms, with an `else` or without.
     #[tactic(auto, unfolding(stmt_machine::specs::Made::apply_stmt))]
     pub fn end_if(&mut self, alloc: Global, count: usize, with_else: bool) -> Result<bool, NoMemory>
-        ensures { IfOk result (λ done. Does (apply_stmt (if_action count with_else) (made_of self.old)) done (made_of self.new)) }
+        ensures { IfOk result (λ done.
+            Does (apply_stmt (if_action count with_else) (made_of self.old)) done
+            (made_of self.new)) }
     {
         if !with_else {
             return self.put_if_stmt(alloc, count, empty_row(alloc));
@@ -54,7 +58,9 @@ impl Maker {
 
     // The end of a `while`.
     fn end_while(&mut self, row: Option<Row>) -> Result<bool, NoMemory>
-        ensures { IfOk result (λ done. Does (plain.apply_loop_body loops.While (row_of row) (made_of self.old)) done (made_of self.new)) }
+        ensures { IfOk result (λ done.
+            Does (plain.apply_loop_body loops.While (row_of row) (made_of self.old)) done
+            (made_of self.new)) }
     {
         match self.values.pop() {
             None => Ok(false),
@@ -71,7 +77,9 @@ impl Maker {
         next: usize,
         row: Option<Row>,
     ) -> Result<bool, NoMemory>
-        ensures { IfOk result (λ done. Does (plain.apply_for begin condition next (row_of row) (made_of self.old)) done (made_of self.new)) }
+        ensures { IfOk result (λ done.
+            Does (plain.apply_for begin condition next (row_of row) (made_of self.old)) done
+            (made_of self.new)) }
     {
         let Some(next) = self.values.take_row(alloc, next)? else {
             return Ok(false);
@@ -94,7 +102,9 @@ impl Maker {
         value: Bytes,
         row: Option<Row>,
     ) -> Result<bool, NoMemory>
-        ensures { IfOk result (λ done. Does (plain.apply_loop_body (loops.Each key value) (row_of row) (made_of self.old)) done (made_of self.new)) }
+        ensures { IfOk result (λ done.
+            Does (plain.apply_loop_body (loops.Each key value) (row_of row) (made_of self.old)) done
+            (made_of self.new)) }
     {
         let Some(array) = self.values.pop() else {
             return Ok(false);
@@ -106,7 +116,8 @@ impl Maker {
     /// The end of a loop.
     #[tactic(auto, unfolding(stmt_machine::specs::Made::apply_stmt))]
     pub fn end_loop(&mut self, alloc: Global, of: Loop) -> Result<bool, NoMemory>
-        ensures { IfOk result (λ done. Does (apply_stmt (loop_action of) (made_of self.old)) done (made_of self.new)) }
+        ensures { IfOk result (λ done.
+            Does (apply_stmt (loop_action of) (made_of self.old)) done (made_of self.new)) }
     {
         let Some(body) = self.bodies.pop() else {
             return Ok(false);
@@ -125,7 +136,8 @@ impl Maker {
     /// The end of a `do`.
     #[tactic(auto, unfolding(stmt_machine::specs::Made::apply_stmt))]
     pub fn end_do(&mut self) -> Result<bool, NoMemory>
-        ensures { IfOk result (λ done. Does (apply_stmt do_action (made_of self.old)) done (made_of self.new)) }
+        ensures { IfOk result (λ done.
+            Does (apply_stmt do_action (made_of self.old)) done (made_of self.new)) }
     {
         let Some(condition) = self.values.pop() else {
             return Ok(false);

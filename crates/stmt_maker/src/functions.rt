@@ -133,7 +133,9 @@ fn put_function(
     row: Option<Row>,
     functions: Option<Functions>,
 ) -> Result<Option<Functions>, NoMemory>
-    ensures { IfOk result (λ found. kept_functions found ≡ plain.put_function (header.name, params_of_list header.params) (row_of row) (kept_functions functions)) }
+    ensures { IfOk result (λ found. kept_functions found
+        ≡ plain.put_function (header.name, params_of_list header.params) (row_of row)
+        (kept_functions functions)) }
 {
     let Some(row) = row else {
         return Ok(None);
@@ -160,7 +162,8 @@ impl Maker {
     /// A function begins.
     #[tactic(auto, unfolding(stmt_machine::specs::Made::apply_stmt))]
     pub fn begin_function(&mut self, alloc: Global, name: &Bytes) -> Result<(), NoMemory>
-        ensures { IfOk result (λ _. apply_stmt (function_action name.now) (made_of self.old) ≡ Some (made_of self.new)) }
+        ensures { IfOk result (λ _. apply_stmt (function_action name.now) (made_of self.old)
+            ≡ Some (made_of self.new)) }
     {
         self.header = Some(Header {
             name: name.copy(alloc)?,
@@ -179,7 +182,9 @@ impl Maker {
         height: u32,
     ) -> Result<bool, NoMemory>
         requires { (height ≡ maybe_height (maybe_of default)) × (height < 200) }
-        ensures { IfOk result (λ done. Does (apply_stmt (parameter_action name.now (maybe_of default)) (made_of self.old)) done (made_of self.new)) }
+        ensures { IfOk result (λ done.
+            Does (apply_stmt (parameter_action name.now (maybe_of default)) (made_of self.old)) done
+            (made_of self.new)) }
     {
         let Some(header) = self.header.take() else {
             return Ok(false);
@@ -202,7 +207,8 @@ impl Maker {
     /// The body of the function begins.
     #[tactic(auto, unfolding(stmt_machine::specs::Made::apply_stmt))]
     pub fn begin_body(&mut self, alloc: Global) -> Result<(), NoMemory>
-        ensures { IfOk result (λ _. apply_stmt function_body_action (made_of self.old) ≡ Some (made_of self.new)) }
+        ensures { IfOk result (λ _. apply_stmt function_body_action (made_of self.old)
+            ≡ Some (made_of self.new)) }
     {
         self.bodies.push(Body {
             in_loop: false,
@@ -215,7 +221,8 @@ impl Maker {
     /// The function ends.
     #[tactic(auto, unfolding(stmt_machine::specs::Made::apply_stmt))]
     pub fn end_function(&mut self, alloc: Global) -> Result<bool, NoMemory>
-        ensures { IfOk result (λ done. Does (apply_stmt function_end_action (made_of self.old)) done (made_of self.new)) }
+        ensures { IfOk result (λ done.
+            Does (apply_stmt function_end_action (made_of self.old)) done (made_of self.new)) }
     {
         let Some(header) = self.header.take() else {
             return Ok(false);

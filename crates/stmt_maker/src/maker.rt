@@ -52,7 +52,8 @@ impl Maker {
 
     /// One more statement in the innermost body.
     pub(crate) fn put(&mut self, node: Option<(Stmt, u32)>) -> Result<bool, NoMemory>
-        ensures { IfOk result (λ done. Does (plain.put (node_of node) (made_of self.old)) done (made_of self.new)) }
+        ensures { IfOk result (λ done.
+            Does (plain.put (node_of node) (made_of self.old)) done (made_of self.new)) }
     {
         match self.bodies.pop() {
             None => Ok(false),
@@ -74,7 +75,8 @@ impl Maker {
         holds: bool,
         node: Option<(Stmt, u32)>,
     ) -> Result<bool, NoMemory>
-        ensures { IfOk result (λ done. Does (plain.put_if holds (node_of node) (made_of self.old)) done (made_of self.new)) }
+        ensures { IfOk result (λ done.
+            Does (plain.put_if holds (node_of node) (made_of self.old)) done (made_of self.new)) }
     {
         if holds {
             return self.put(node);
@@ -105,7 +107,8 @@ impl Maker {
     /// A body begins, of a loop or of an `if`.
     #[tactic(auto, unfolding(stmt_machine::specs::Made::apply_stmt))]
     pub fn open(&mut self, alloc: Global, of_loop: bool) -> Result<bool, NoMemory>
-        ensures { IfOk result (λ done. Does (apply_stmt (open_action of_loop) (made_of self.old)) done (made_of self.new)) }
+        ensures { IfOk result (λ done.
+            Does (apply_stmt (open_action of_loop) (made_of self.old)) done (made_of self.new)) }
     {
         match self.bodies.last() {
             None => Ok(false),
@@ -124,7 +127,8 @@ impl Maker {
     /// Inline text.
     #[tactic(auto, using(php_syntax::proofs::Views::views), unfolding(stmt_machine::specs::Made::apply_stmt))]
     pub fn inline(&mut self, alloc: Global, text: &Bytes) -> Result<bool, NoMemory>
-        ensures { IfOk result (λ done. Does (apply_stmt (inline_action text.now) (made_of self.old)) done (made_of self.new)) }
+        ensures { IfOk result (λ done.
+            Does (apply_stmt (inline_action text.now) (made_of self.old)) done (made_of self.new)) }
     {
         let text = text.copy(alloc)?;
         self.put(Some((Stmt::Inline(text), 0)))
@@ -133,7 +137,8 @@ impl Maker {
     /// An `echo` of so many values.
     #[tactic(auto, unfolding(stmt_machine::specs::Made::apply_stmt))]
     pub fn echo(&mut self, alloc: Global, count: usize) -> Result<bool, NoMemory>
-        ensures { IfOk result (λ done. Does (apply_stmt (echo_action count) (made_of self.old)) done (made_of self.new)) }
+        ensures { IfOk result (λ done.
+            Does (apply_stmt (echo_action count) (made_of self.old)) done (made_of self.new)) }
     {
         match self.values.take_row(alloc, count)? {
             None => Ok(false),
@@ -147,7 +152,8 @@ impl Maker {
     /// An expression as a statement.
     #[tactic(auto, unfolding(stmt_machine::specs::Made::apply_stmt))]
     pub fn run(&mut self) -> Result<bool, NoMemory>
-        ensures { IfOk result (λ done. Does (apply_stmt run_action (made_of self.old)) done (made_of self.new)) }
+        ensures { IfOk result (λ done.
+            Does (apply_stmt run_action (made_of self.old)) done (made_of self.new)) }
     {
         match self.values.pop() {
             None => Ok(false),
@@ -158,7 +164,8 @@ impl Maker {
     /// A `break`, in a loop.
     #[tactic(auto, using(php_syntax::proofs::Views::views), unfolding(stmt_machine::specs::Made::apply_stmt))]
     pub fn break_off(&mut self) -> Result<bool, NoMemory>
-        ensures { IfOk result (λ done. Does (apply_stmt break_action (made_of self.old)) done (made_of self.new)) }
+        ensures { IfOk result (λ done.
+            Does (apply_stmt break_action (made_of self.old)) done (made_of self.new)) }
     {
         let holds = self.in_loop();
         self.put_if(holds, Some((Stmt::Break, 0)))
@@ -167,7 +174,8 @@ impl Maker {
     /// A `continue`, in a loop.
     #[tactic(auto, using(php_syntax::proofs::Views::views), unfolding(stmt_machine::specs::Made::apply_stmt))]
     pub fn go_on(&mut self) -> Result<bool, NoMemory>
-        ensures { IfOk result (λ done. Does (apply_stmt continue_action (made_of self.old)) done (made_of self.new)) }
+        ensures { IfOk result (λ done.
+            Does (apply_stmt continue_action (made_of self.old)) done (made_of self.new)) }
     {
         let holds = self.in_loop();
         self.put_if(holds, Some((Stmt::Continue, 0)))
@@ -176,7 +184,9 @@ impl Maker {
     /// A `return`, in a function: of a value, or of none.
     #[tactic(auto, using(php_syntax::proofs::Views::views), unfolding(stmt_machine::specs::Made::apply_stmt))]
     pub fn give_back(&mut self, with_value: bool) -> Result<bool, NoMemory>
-        ensures { IfOk result (λ done. Does (apply_stmt (return_action with_value) (made_of self.old)) done (made_of self.new)) }
+        ensures { IfOk result (λ done.
+            Does (apply_stmt (return_action with_value) (made_of self.old)) done
+            (made_of self.new)) }
     {
         let holds = self.in_function();
         if !with_value {
@@ -191,7 +201,8 @@ impl Maker {
     /// An `exit`: with an argument, or without one.
     #[tactic(auto, using(php_syntax::proofs::Views::views), unfolding(stmt_machine::specs::Made::apply_stmt))]
     pub fn quit(&mut self, with_value: bool) -> Result<bool, NoMemory>
-        ensures { IfOk result (λ done. Does (apply_stmt (exit_action with_value) (made_of self.old)) done (made_of self.new)) }
+        ensures { IfOk result (λ done.
+            Does (apply_stmt (exit_action with_value) (made_of self.old)) done (made_of self.new)) }
     {
         if !with_value {
             return self.put(Some((Stmt::Quit(None), 0)));
@@ -205,7 +216,9 @@ impl Maker {
     /// An `include`, of a path in UTF-8.
     #[tactic(auto, using(php_syntax::proofs::Views::views), unfolding(stmt_machine::specs::Made::apply_stmt))]
     pub fn include(&mut self, alloc: Global, path: &Bytes) -> Result<bool, NoMemory>
-        ensures { IfOk result (λ done. Does (apply_stmt (include_action path.now) (made_of self.old)) done (made_of self.new)) }
+        ensures { IfOk result (λ done.
+            Does (apply_stmt (include_action path.now) (made_of self.old)) done
+            (made_of self.new)) }
     {
         let holds = is_text(path.as_slice());
         let path = path.copy(alloc)?;

@@ -142,7 +142,8 @@ pub(crate) fn for_node(
     next: Option<Exprs>,
     body: Option<Row>,
 ) -> Option<(Stmt, u32)>
-    ensures { node_of result ≡ plain.for_node (gathered begin) (maybe_expr condition) (gathered next) (row_of body) }
+    ensures { node_of result ≡ plain.for_node (gathered begin) (maybe_expr condition)
+        (gathered next) (row_of body) }
 {
     let begin = begin?;
     let condition = condition?;

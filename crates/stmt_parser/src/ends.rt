@@ -54,8 +54,11 @@ fn ends_loop(of: &Loop, word: Keyword) -> bool
 // What stands behind the word that ends a loop, if it stands here.
 fn behind_loop<'a>(of: &Loop, rest: &'a [Token]) -> Option<&'a [Token]>
     ensures { MatchOption result
-        ((fs : List frames.Frame) → machine.colon_body_move of.now fs (terminals_of rest.now) ≡ moves focus.Begin (frame.ColonBody of.now ∷ fs) (terminals_of rest.now) [])
-        (λ behind. (fs : List frames.Frame) → machine.colon_body_move of.now fs (terminals_of rest.now) ≡ machine.jump_move (loop_action of.now) fs (terminals_of behind.now)) }
+        ((fs : List frames.Frame) → machine.colon_body_move of.now fs (terminals_of rest.now)
+        ≡ moves focus.Begin (frame.ColonBody of.now ∷ fs) (terminals_of rest.now) [])
+        (λ behind. (fs : List frames.Frame) →
+        machine.colon_body_move of.now fs (terminals_of rest.now)
+        ≡ machine.jump_move (loop_action of.now) fs (terminals_of behind.now)) }
 {
     match word_at(rest) {
         None => None,

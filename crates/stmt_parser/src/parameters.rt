@@ -40,7 +40,8 @@ fn word_literal<'a>(word: Keyword) -> Option<Literal<'a>>
 fn plain_literal<'a>(rest: &'a [Token]) -> Option<(Literal<'a>, &'a [Token])>
     ensures { MatchOption result
         (plain_at (terminals_of rest.now) ≡ None)
-        (λ found. plain_at (terminals_of rest.now) ≡ Some (literal_tree found.0, terminals_of found.1.now)) }
+        (λ found. plain_at (terminals_of rest.now)
+        ≡ Some (literal_tree found.0, terminals_of found.1.now)) }
 {
     match int_at(rest) {
         Some((number, behind)) => Some((Literal::Int(number), behind)),
@@ -61,7 +62,8 @@ fn plain_literal<'a>(rest: &'a [Token]) -> Option<(Literal<'a>, &'a [Token])>
 fn literal_at<'a>(rest: &'a [Token]) -> Option<(Literal<'a>, &'a [Token])>
     ensures { MatchOption result
         (default_at (terminals_of rest.now) ≡ None)
-        (λ found. default_at (terminals_of rest.now) ≡ Some (literal_tree found.0, terminals_of found.1.now)) }
+        (λ found. default_at (terminals_of rest.now)
+        ≡ Some (literal_tree found.0, terminals_of found.1.now)) }
 {
     match behind_sign(rest, Sign::Minus) {
         None => plain_literal(rest),

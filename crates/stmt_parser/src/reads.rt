@@ -22,7 +22,8 @@ pub(crate) fn read_value<'a>(
 ) -> Result<Option<&'a [Token]>, NoMemory>
     ensures { IfOk result (λ found. MatchOption found
         (Fails (expr_at (terminals_of rest.now)) (made_of maker.old))
-        (λ r. Reads (expr_at (terminals_of rest.now)) (made_of maker.old) (terminals_of r.now) (made_of maker.new))) }
+        (λ r. Reads (expr_at (terminals_of rest.now)) (made_of maker.old) (terminals_of r.now)
+        (made_of maker.new))) }
 {
     match read_expr(alloc, rest, &mut maker.values)? {
         None => Ok(None),
@@ -38,7 +39,8 @@ pub(crate) fn read_statement<'a>(
 ) -> Result<Option<&'a [Token]>, NoMemory>
     ensures { IfOk result (λ found. MatchOption found
         (Fails (statement_at (terminals_of rest.now)) (made_of maker.old))
-        (λ r. Reads (statement_at (terminals_of rest.now)) (made_of maker.old) (terminals_of r.now) (made_of maker.new))) }
+        (λ r. Reads (statement_at (terminals_of rest.now)) (made_of maker.old) (terminals_of r.now)
+        (made_of maker.new))) }
 {
     match read_value(alloc, maker, rest)? {
         None => Ok(None),
@@ -57,7 +59,8 @@ pub(crate) fn read_argument<'a>(
 ) -> Result<Option<&'a [Token]>, NoMemory>
     ensures { IfOk result (λ found. MatchOption found
         (Fails (argument_at (terminals_of rest.now)) (made_of maker.old))
-        (λ r. Reads (argument_at (terminals_of rest.now)) (made_of maker.old) (terminals_of r.now) (made_of maker.new))) }
+        (λ r. Reads (argument_at (terminals_of rest.now)) (made_of maker.old) (terminals_of r.now)
+        (made_of maker.new))) }
 {
     match read_closed(alloc, maker, rest)? {
         None => Ok(None),
@@ -76,7 +79,8 @@ fn read_closed<'a>(
 ) -> Result<Option<&'a [Token]>, NoMemory>
     ensures { IfOk result (λ found. MatchOption found
         (Fails (ended_by paren_end_next (expr_at (terminals_of rest.now))) (made_of maker.old))
-        (λ r. Reads (ended_by paren_end_next (expr_at (terminals_of rest.now))) (made_of maker.old) (terminals_of r.now) (made_of maker.new))) }
+        (λ r. Reads (ended_by paren_end_next (expr_at (terminals_of rest.now))) (made_of maker.old)
+        (terminals_of r.now) (made_of maker.new))) }
 {
     match read_value(alloc, maker, rest)? {
         None => Ok(None),
@@ -95,7 +99,8 @@ pub(crate) fn read_condition<'a>(
 ) -> Result<Option<&'a [Token]>, NoMemory>
     ensures { IfOk result (λ found. MatchOption found
         (Fails (condition_at (terminals_of rest.now)) (made_of maker.old))
-        (λ r. Reads (condition_at (terminals_of rest.now)) (made_of maker.old) (terminals_of r.now) (made_of maker.new))) }
+        (λ r. Reads (condition_at (terminals_of rest.now)) (made_of maker.old) (terminals_of r.now)
+        (made_of maker.new))) }
 {
     match behind_sign(rest, Sign::OpenParen) {
         None => Ok(None),

@@ -41,7 +41,8 @@ pub(crate) fn listed_step<'a>(
 fn row_end<'a>(row: &Row, rest: &'a [Token]) -> Option<&'a [Token]>
     ensures { MatchOption result
         (machine.row_end_next row.now (terminals_of rest.now) ≡ false)
-        (λ last. (machine.row_end_next row.now (terminals_of rest.now) ≡ true) × (behind (terminals_of rest.now) ≡ terminals_of last.now)) }
+        (λ last. (machine.row_end_next row.now (terminals_of rest.now) ≡ true) ×
+        (behind (terminals_of rest.now) ≡ terminals_of last.now)) }
 {
     match row {
         Row::Echo => behind_semicolon(rest),
@@ -54,7 +55,8 @@ fn row_end<'a>(row: &Row, rest: &'a [Token]) -> Option<&'a [Token]>
 fn behind_semicolon<'a>(rest: &'a [Token]) -> Option<&'a [Token]>
     ensures { MatchOption result
         (machine.semicolon_next (terminals_of rest.now) ≡ false)
-        (λ last. (machine.semicolon_next (terminals_of rest.now) ≡ true) × (behind (terminals_of rest.now) ≡ terminals_of last.now)) }
+        (λ last. (machine.semicolon_next (terminals_of rest.now) ≡ true) ×
+        (behind (terminals_of rest.now) ≡ terminals_of last.now)) }
 {
     match behind_sign(rest, Sign::Semicolon) {
         None => None,
@@ -66,7 +68,8 @@ fn behind_semicolon<'a>(rest: &'a [Token]) -> Option<&'a [Token]>
 fn behind_paren<'a>(rest: &'a [Token]) -> Option<&'a [Token]>
     ensures { MatchOption result
         (machine.paren_end_next (terminals_of rest.now) ≡ false)
-        (λ last. (machine.paren_end_next (terminals_of rest.now) ≡ true) × (behind (terminals_of rest.now) ≡ terminals_of last.now)) }
+        (λ last. (machine.paren_end_next (terminals_of rest.now) ≡ true) ×
+        (behind (terminals_of rest.now) ≡ terminals_of last.now)) }
 {
     match behind_sign(rest, Sign::CloseParen) {
         None => None,

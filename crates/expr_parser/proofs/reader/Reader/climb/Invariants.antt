@@ -1,6 +1,5 @@
-use Rattle.std.proofs.Common.{ℕ, []}
+use Rattle.std.proofs.Common.{[]}
 use Rattle.expr_machine.specs.declared.frame.Focus.TheVariants as focus
-use Rattle.expr_machine.specs.Machine as machine
 use Rattle.expr_machine.specs.Reading.{weight}
 use Rattle.expr_parser.specs.Heads.{terminals_of}
 use Rattle.expr_parser.specs.Leads.{Leads}
