@@ -32,7 +32,7 @@ least() {
   best=
   for _ in $(seq "$turns"); do
     /usr/bin/time -o "$folder/time" -f '%U %S' "$@" >"$folder/said" 2>&1 || true
-    taken=$(tail -n 1 "$folder/time" | awk '{ print ($1 + $2) * 1000 }')
+    taken=$(tail -n 1 "$folder/time" | awk '{ printf "%.0f", ($1 + $2) * 1000 }')
     if [ -z "$best" ] || [ "$taken" -lt "$best" ]; then best=$taken; fi
   done
   echo "$best"
