@@ -10,7 +10,7 @@ use Rattle.plain_values.specs.Keys.{same_key}
 use Rattle.plain_values.specs.Members.{put_pair, within_depth, larger, largest_from, largest_key, key_after, push_at}
 use Rattle.plain_values.specs.declared.fault.Fault.{Fault}
 use Rattle.plain_values.specs.declared.fault.Fault.TheVariants.{Full, Long}
-use Rattle.php_builtins.specs.BuiltinValue.{listed}
+use Rattle.builtin_meaning.specs.Values.{numbered_from}
 
 same_number : (n m : ℕ) → pos n ≡ pos m → n ≡ m
 same_number n m e = cc
@@ -30,11 +30,12 @@ larger_last : (n : ℕ) → larger (int_key (pos n)) (last_key n) ≡ Some (pos 
 larger_last zero = refl
 larger_last (suc n) = ap (λ (b : Bool). Some (cond b (pos (suc n)) (pos n))) (lt-ltb n (suc n) (omega arith))
 
-largest_listed : (n : ℕ) (ts : List (List ℕ)) → largest_from (last_key n) (keys (listed n ts)) ≡ last_key (n + length ts)
+largest_listed : (n : ℕ) (ts : List (List ℕ)) → largest_from (last_key n) (keys (numbered_from n ts)) ≡ last_key (n + length ts)
 largest_listed n [] = let s : n ≡ n + 0 = omega arith in ap last_key s
 largest_listed n (t ∷ ts) =
-    let s : suc n + length ts ≡ n + suc (length ts) = omega arith in
-    ap (λ (best : Option ℤ). largest_from best (keys (listed (suc n) ts))) (larger_last n) ∙ largest_listed (suc n) ts ∙ ap last_key s
+    let m : suc n ≡ n + 1 = omega arith in
+    let s : (n + 1) + length ts ≡ n + suc (length ts) = omega arith in
+    ap (λ (best : Option ℤ). largest_from best (keys (numbered_from (n + 1) ts))) (larger_last n ∙ ap last_key m) ∙ largest_listed (n + 1) ts ∙ ap last_key s
 
 next_listed : (n : ℕ) → n ≤ 16777217 → key_after (last_key n) ≡ Some (pos n)
 next_listed zero h = refl
@@ -43,17 +44,17 @@ next_listed (suc n) h = ap (λ (b : Bool). if b then None else Some (pos (n + 1)
 other_key : (n m : ℕ) → n < m → same_key (int_key (pos n)) (int_key (pos m)) ≡ false
 other_key n m h = int_apart n m (λ e. omega (arith, e))
 
-put_listed : (n : ℕ) (ts : List (List ℕ)) (t : List ℕ) → put_pair (listed n ts) (int_key (pos (n + length ts))) (text t) ≡ listed n (ts ++ t ∷ [])
+put_listed : (n : ℕ) (ts : List (List ℕ)) (t : List ℕ) → put_pair (numbered_from n ts) (int_key (pos (n + length ts))) (text t) ≡ numbered_from n (ts ++ t ∷ [])
 put_listed n [] t = let s : n + 0 ≡ n = omega arith in ap (λ (k : ℕ). pair (int_key (pos k)) (text t) empty) s
 put_listed n (u ∷ ts) t =
-    let s : n + suc (length ts) ≡ suc n + length ts = omega arith in
-    ap (λ (b : Bool). if b then pair (int_key (pos n)) (text t) (listed (suc n) ts) else pair (int_key (pos n)) (text u) (put_pair (listed (suc n) ts) (int_key (pos (n + suc (length ts)))) (text t))) (other_key n (n + suc (length ts)) (omega arith))
-    ∙ ap (λ (k : ℕ). pair (int_key (pos n)) (text u) (put_pair (listed (suc n) ts) (int_key (pos k)) (text t))) s
-    ∙ ap (λ (ps : Pairs). pair (int_key (pos n)) (text u) ps) (put_listed (suc n) ts t)
+    let s : n + suc (length ts) ≡ (n + 1) + length ts = omega arith in
+    ap (λ (b : Bool). if b then pair (int_key (pos n)) (text t) (numbered_from (n + 1) ts) else pair (int_key (pos n)) (text u) (put_pair (numbered_from (n + 1) ts) (int_key (pos (n + suc (length ts)))) (text t))) (other_key n (n + suc (length ts)) (omega arith))
+    ∙ ap (λ (k : ℕ). pair (int_key (pos n)) (text u) (put_pair (numbered_from (n + 1) ts) (int_key (pos k)) (text t))) s
+    ∙ ap (λ (ps : Pairs). pair (int_key (pos n)) (text u) ps) (put_listed (n + 1) ts t)
 
-flat : (n : ℕ) (ts : List (List ℕ)) → deepest (listed n ts) ≡ 0
+flat : (n : ℕ) (ts : List (List ℕ)) → deepest (numbered_from n ts) ≡ 0
 flat n [] = refl
-flat n (t ∷ ts) = omega (arith, flat (suc n) ts)
+flat n (t ∷ ts) = omega (arith, flat (n + 1) ts)
 
 fits : (ps : Pairs) → deepest ps ≡ 0 → within_depth ps ≡ Ok (array ps)
 fits ps e = by (nat_lt (deepest ps) 1000) refl
@@ -62,11 +63,11 @@ fits ps e = by (nat_lt (deepest ps) 1000) refl
     by true g = refl
     by false g = absurd (grind (arith, nat_tests, e))
 
-pub push_listed : (ts : List (List ℕ)) (t : List ℕ) → length ts ≤ 16777217 → push_at (listed 0 ts) (key_after (largest_key (listed 0 ts))) (text t) ≡ Ok (array (listed 0 (ts ++ t ∷ [])))
+pub push_listed : (ts : List (List ℕ)) (t : List ℕ) → length ts ≤ 16777217 → push_at (numbered_from 0 ts) (key_after (largest_key (numbered_from 0 ts))) (text t) ≡ Ok (array (numbered_from 0 (ts ++ t ∷ [])))
 push_listed ts t h =
     let z : 0 + length ts ≡ length ts = omega arith in
-    let key : key_after (largest_key (listed 0 ts)) ≡ Some (pos (0 + length ts)) = ap key_after (largest_listed 0 ts) ∙ next_listed (0 + length ts) (omega arith) in
-    ap (λ (o : Option ℤ). push_at (listed 0 ts) o (text t)) key ∙ ap within_depth (put_listed 0 ts t) ∙ fits (listed 0 (ts ++ t ∷ [])) (flat 0 (ts ++ t ∷ []))
+    let key : key_after (largest_key (numbered_from 0 ts)) ≡ Some (pos (0 + length ts)) = ap key_after (largest_listed 0 ts) ∙ next_listed (0 + length ts) (omega arith) in
+    ap (λ (o : Option ℤ). push_at (numbered_from 0 ts) o (text t)) key ∙ ap within_depth (put_listed 0 ts t) ∙ fits (numbered_from 0 (ts ++ t ∷ [])) (flat 0 (ts ++ t ∷ []))
 
 pub same_array : (ps qs : Pairs) (r : Result Plain Fault) → r ≡ Ok (array ps) → r ≡ Ok (array qs) → ps ≡ qs
 same_array ps qs r e f = cc

@@ -1,3 +1,1 @@
-pub mod BuiltinValue
-pub mod Names
 pub mod Encodings

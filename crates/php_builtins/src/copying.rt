@@ -3,7 +3,7 @@
 ghost use Rattle.std.specs.Prelude.{◌≡◌, ◌⊎◌, ◌*◌, length, nat_lt, IfOk, IfErr, Ok, Err};
 ghost use Rattle.plain_values.specs.Plain.{Plain};
 ghost use Rattle.plain_values.specs.Members.{within_length};
-ghost use Rattle.php_builtins.specs.BuiltinValue as spec;
+ghost use Rattle.builtin_meaning.specs.Values.{copies_at};
 ghost use Rattle.string_functions.specs.Copies.{copies_of};
 
 use php_values::Text;
@@ -38,8 +38,8 @@ fn is_too_long(count: usize, len: usize) -> bool
 /// and else Long exactly where the copies are longer than 16,777,216 bytes together, before
 /// anything is built.
 pub fn repeat(alloc: Global, text: &[u8], count: i64) -> Result<Text, Fault>
-    ensures ok { IfOk result (λ t. spec.repeated text.now count ≡ Ok (Plain.text t)) }
-    ensures err { IfErr result (λ fault. (fault ≡ Fault.Memory) ⊎ (spec.repeated text.now count ≡ Err fault)) }
+    ensures ok { IfOk result (λ t. copies_at text.now count ≡ Ok (Plain.text t)) }
+    ensures err { IfErr result (λ fault. (fault ≡ Fault.Memory) ⊎ (copies_at text.now count ≡ Err fault)) }
 {
     if count < 0 {
         return Err(Fault::WrongType);

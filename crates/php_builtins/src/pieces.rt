@@ -4,7 +4,7 @@ ghost use Rattle.std.specs.Prelude.{◌≡◌, ◌⊎◌, ◌++◌, ◌<◌, ◌
 ghost use Rattle.plain_values.specs.Plain.{Plain};
 ghost use Rattle.plain_values.specs.Members.{within_length};
 ghost use Rattle.string_functions.specs.Pieces.{replaced_text, pieces_of};
-ghost use Rattle.php_builtins.specs.BuiltinValue.{exploded, listed};
+ghost use Rattle.builtin_meaning.specs.Values.{pieces_at, numbered_from};
 ghost use Rattle.text_search.specs.Failure.{AreFailures};
 
 use crate::cases::{behind, front};
@@ -107,7 +107,7 @@ fn cut(alloc: Global, sep: &[u8], failures: &[usize], text: &[u8]) -> Result<Vec
 // Texts as an array with the keys 0, 1 and so on.
 fn list_of(alloc: Global, texts: &[Text]) -> Result<Array, Fault>
     requires { length texts.now ≤ 16777217 }
-    ensures ok { IfOk result (λ array. array ≡ listed 0 texts.now) }
+    ensures ok { IfOk result (λ array. array ≡ numbered_from 0 texts.now) }
     ensures err { IfErr result (λ fault. fault ≡ Fault.Memory) }
 {
     let mut made = Array::new(alloc)?;
@@ -121,8 +121,8 @@ fn list_of(alloc: Global, texts: &[Text]) -> Result<Array, Fault>
 /// `explode(sep, text)` (PHP manual): the pieces between the leftmost occurrences that do not
 /// overlap. Faults WrongType exactly where the separator is empty. Takes time linear in both.
 pub fn explode(alloc: Global, sep: &[u8], text: &Text) -> Result<Array, Fault>
-    ensures ok { IfOk result (λ array. exploded sep.now text.now ≡ Ok (Plain.array array)) }
-    ensures err { IfErr result (λ fault. (fault ≡ Fault.Memory) ⊎ (exploded sep.now text.now ≡ Err fault)) }
+    ensures ok { IfOk result (λ array. pieces_at sep.now text.now ≡ Ok (Plain.array array)) }
+    ensures err { IfErr result (λ fault. (fault ≡ Fault.Memory) ⊎ (pieces_at sep.now text.now ≡ Err fault)) }
 {
     if sep.is_empty() {
         return Err(Fault::WrongType);
