@@ -1,6 +1,6 @@
 -- What the grammar makes of terminals that can be written: variables, templates, constants and chains are spellable.
-use Rattle.std.proofs.Common.{◌≡◌, ℕ, ◌≤◌, pos, negsuc, Bool, true, false, not, ◌&&◌, ◌||◌, if◌then◌else◌, List, [], ◌∷◌, refl, subst, arith, Option, Some, None}
-use Rattle.std.specs.Prelude.{ℤ, nat_le, codes}
+use Rattle.std.proofs.Common.{◌≡◌, ℕ, ◌≤◌, pos, negsuc, true, false, ◌&&◌, List, [], ◌∷◌, refl, subst, arith, Option, Some, None}
+use Rattle.std.specs.Prelude.{ℤ, nat_le}
 use Rattle.std.proofs.lemmas.Bool.Decides.{nat_tests}
 use Rattle.script_grammar.specs.declared.keyword.Keyword.{Keyword}
 use Rattle.script_grammar.specs.declared.keyword.Keyword.TheVariants as word

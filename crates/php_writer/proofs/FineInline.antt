@@ -1,12 +1,12 @@
 -- Bytes outside PHP, as the lexical grammar gives them, are those that can be written: where the opener stands behind them, none begins in them.
 use Rattle.std.proofs.Common.{◌≡◌, ◌∙◌, ℕ, suc, Bool, true, false, ◌&&◌, ◌||◌, if◌then◌else◌, List, [], ◌∷◌, ◌++◌, length, take, drop, refl, ap, sym, arith, Option, Some, None, take-append-drop}
-use Rattle.std.specs.Prelude.{◌==◌, nat_eq, is_some, codes}
-use Rattle.std.proofs.lemmas.Bool.Decides.{nat_tests}
+use Rattle.std.specs.Prelude.{nat_eq, is_some, codes}
 use Rattle.lexical_grammar.specs.Characters.{begins, before, lower, is_gap, is_line_end}
 use Rattle.lexical_grammar.specs.Cuts.{is_opener, opener_step, php_opener}
 use Rattle.php_syntax.specs.Tokens.{name}
 use Rattle.lexical_grammar.specs.Steps.{Step, goes, inside, or_else}
 use Rattle.php_writer.specs.Spellable.{is_inline}
+use Rattle.php_writer.proofs.ShapeLemmas.{same_number}
 use Rattle.php_writer.proofs.CutOutside.{six_bytes, opener_more, is_php, opener}
 
 -- `<?=` stands first
@@ -84,12 +84,9 @@ front_before (b ∷ bytes) = by (is_opener (b ∷ bytes)) refl (front_before byt
         let whole : is_opener (b ∷ (Front bytes ++ drop (before is_opener bytes) bytes)) ≡ false = ap (λ w. is_opener (b ∷ w)) (take-append-drop (before is_opener bytes) bytes) ∙ e
         in rw (still_none b (Front bytes) (drop (before is_opener bytes) bytes) whole) (ap suc more)
 
-same_is : (m n : ℕ) → m ≡ n → (m == n) ≡ true
-same_is m n h = grind (arith, nat_tests)
-
 pub front_is_inline : (b : ℕ) (bytes : List ℕ) → is_opener (b ∷ bytes) ≡ false → is_inline (Front (b ∷ bytes)) ≡ true
 front_is_inline b bytes h = by (is_opener (b ∷ bytes)) h (front_before (b ∷ bytes))
   where
     by : (v : Bool) → v ≡ false → before is_opener (take (if v then 0 else suc (before is_opener bytes)) (b ∷ bytes) ++ opener) ≡ length (take (if v then 0 else suc (before is_opener bytes)) (b ∷ bytes)) → is_inline (take (if v then 0 else suc (before is_opener bytes)) (b ∷ bytes)) ≡ true
     by true e more = absurd (cc)
-    by false e more = same_is (before is_opener ((b ∷ Front bytes) ++ opener)) (length (b ∷ Front bytes)) more
+    by false e more = same_number (before is_opener ((b ∷ Front bytes) ++ opener)) (length (b ∷ Front bytes)) more

@@ -67,7 +67,7 @@ taken_all p (b ∷ bytes) = by (p b) refl (taken_all p bytes)
     by true e more = rw (one_plus (prefix_len p bytes)) (rw e more)
     by false e more = refl
 
-start_passes : (b : ℕ) → is_name_start b ≡ true → is_name_byte b ≡ true
+pub start_passes : (b : ℕ) → is_name_start b ≡ true → is_name_byte b ≡ true
 start_passes b h = rw h refl
 
 -- where a name is at least one byte long, it is a name
@@ -82,10 +82,10 @@ name_taken (b ∷ bytes) h = by (is_name_start b) refl
 some_length : (n : ℕ) → (n == 0) ≡ false → 0 < n
 some_length n h = grind (arith, nat_tests)
 
-more_than_none : (n : ℕ) → nat_lt 0 n ≡ true → 0 < n
+pub more_than_none : (n : ℕ) → nat_lt 0 n ≡ true → 0 < n
 more_than_none n h = grind (arith, nat_tests)
 
-both_of : (a b : Bool) → (a && b) ≡ true → b ≡ true
+pub both_of : (a b : Bool) → (a && b) ≡ true → b ≡ true
 both_of true b h = h
 both_of false b h = absurd (cc)
 

@@ -1,5 +1,5 @@
 -- Templates as the lexical grammar gives them read names by keys.
-use Rattle.std.proofs.Common.{◌≡◌, ℕ, zero, suc, ◌+◌, ◌<◌, ◌≤◌, pos, Bool, true, false, ◌&&◌, ◌||◌, if◌then◌else◌, List, [], ◌∷◌, length, take, drop, pred, refl, arith, Option, Some, None}
+use Rattle.std.proofs.Common.{◌≡◌, ℕ, zero, suc, ◌+◌, ◌≤◌, pos, Bool, true, false, ◌&&◌, ◌||◌, if◌then◌else◌, List, [], ◌∷◌, length, take, drop, pred, refl, arith, Option, Some, None}
 use Rattle.std.specs.Prelude.{◌==◌, nat_lt, codes}
 use Rattle.std.proofs.lemmas.Bool.Decides.{nat_tests}
 use Rattle.php_syntax.specs.Tokens.{PlainKey, text_key, int_key, var_key, PlainPart, plain_part, read_part}
@@ -9,7 +9,7 @@ use Rattle.lexical_grammar.specs.Rows.{Found, item, wrong, over, missing, Row, w
 use Rattle.lexical_grammar.specs.Texts.{KeyAt, integer_key, variable_key, or_key, simple_key, braced_key, single_quoted, text_key_of, closed_key, subscript_found, subscript_at, subscripts, whole_of, Enclosure, in_quotes, Unit_of, byte, reads, escape_at, simple_read, named_at, dollar_at, brace_at, braced_read, end_of, quotes, lines, unit_at, with_byte, parts_of, kind_of_parts}
 use Rattle.token_spelling.specs.Spelled.{IsName}
 use Rattle.php_writer.proofs.CutRead.{IsKey, AreKeys}
-use Rattle.php_writer.proofs.FineNames.{IsKind, EachPart, name_taken}
+use Rattle.php_writer.proofs.FineNames.{IsKind, EachPart, name_taken, more_than_none, both_of}
 
 -- what is found at one place has a property
 abbrev IsFound : {X : Type 0} → (X → Type 0) → Found X → Type 0
@@ -55,13 +55,6 @@ either_key : (a b : KeyAt) → IsKeyAt a → IsKeyAt b → IsKeyAt (or_key a b)
 either_key None b f g = g
 either_key (Some k) b f g = f
 
-more_than_none : (n : ℕ) → nat_lt 0 n ≡ true → 0 < n
-more_than_none n h = grind (arith, nat_tests)
-
-second_of : (a b : Bool) → (a && b) ≡ true → b ≡ true
-second_of true b h = h
-second_of false b h = absurd (cc)
-
 third_of : (a b c : Bool) → (a || b || c) ≡ false → c ≡ false
 third_of false false c h = h
 third_of false true c h = absurd (cc)
@@ -79,7 +72,7 @@ integer_key_is bytes =
 variable_key_is : (bytes : List ℕ) → IsKeyAt (variable_key bytes)
 variable_key_is bytes =
     let n = name_length (drop 1 bytes)
-    in key_by (begins (codes "$") bytes && nat_lt 0 n) (Some (var_key (take n (drop 1 bytes)), 1 + n)) None (λ h. name_taken (drop 1 bytes) (more_than_none n (second_of (begins (codes "$") bytes) (nat_lt 0 n) h))) (λ h. tt)
+    in key_by (begins (codes "$") bytes && nat_lt 0 n) (Some (var_key (take n (drop 1 bytes)), 1 + n)) None (λ h. name_taken (drop 1 bytes) (more_than_none n (both_of (begins (codes "$") bytes) (nat_lt 0 n) h))) (λ h. tt)
 
 number_or_variable : (bytes : List ℕ) → IsKeyAt (or_key (integer_key bytes) (variable_key bytes))
 number_or_variable bytes = either_key (integer_key bytes) (variable_key bytes) (integer_key_is bytes) (variable_key_is bytes)

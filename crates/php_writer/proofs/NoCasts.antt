@@ -18,6 +18,7 @@ use Rattle.token_spelling.proofs.SpelledLemmas.{run_length, apart, apart', over,
 use Rattle.php_writer.specs.Marks.{Mark, keyword, name, variable, integer, text, read, sign, outside, keyword_spelling, written, all_written}
 use Rattle.php_writer.specs.Spellable.{is_inline}
 use Rattle.php_writer.proofs.CutRead.{AreKeys}
+use Rattle.php_writer.proofs.FineNames.{start_passes}
 use Rattle.php_writer.proofs.Halves.{halves}
 use Rattle.php_writer.proofs.Decimals.{decimal_integer}
 
@@ -132,9 +133,6 @@ open_in : (o : Option Sign) (n : ℕ) (rest : List ℕ) → cast_in o n (40 ∷ 
 open_in None n rest = refl
 open_in (Some x) n rest = refl
 
-start_is_byte : (b : ℕ) → is_name_start b ≡ true → is_name_byte b ≡ true
-start_is_byte b h = rw h refl
-
 start_no_gap : (b : ℕ) → 32 < b → is_gap b ≡ false
 start_no_gap b h = rw (apart' b 32 h, apart' b 9 (omega arith)) refl
 
@@ -142,7 +140,7 @@ name_no_cast : (f rest : List ℕ) → IsName f → NoCast (f ++ 32 ∷ 40 ∷ r
 name_no_cast [] rest is = absurd is
 name_no_cast (b ∷ more) rest is =
     let high = name_start_high b is.0
-    in word_cast b more (32 ∷ 40 ∷ rest) (start_no_gap b (omega arith)) (rw (start_is_byte b is.0) is.1) refl ∙ open_in (cast_of (b ∷ more)) (1 + 1 + suc (length more) + 1) rest
+    in word_cast b more (32 ∷ 40 ∷ rest) (start_no_gap b (omega arith)) (rw (start_passes b is.0) is.1) refl ∙ open_in (cast_of (b ∷ more)) (1 + 1 + suc (length more) + 1) rest
 
 digit_lower : (b : ℕ) → b < 58 → lower b ≡ b
 digit_lower b h = rw (over 65 b (omega arith)) refl

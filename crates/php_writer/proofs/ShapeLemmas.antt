@@ -45,7 +45,7 @@ pub no_arms_are : (arms : List (Expr × Vec Stmt Global)) → length arms ≡ 0 
 no_arms_are [] h = refl
 no_arms_are (a ∷ arms) h = absurd (omega arith)
 
-same_number : (m n : ℕ) → m ≡ n → (m == n) ≡ true
+pub same_number : (m n : ℕ) → m ≡ n → (m == n) ≡ true
 same_number m n h = grind (arith, nat_tests)
 
 other_number : (m n : ℕ) → m < n → (m == n) ≡ false

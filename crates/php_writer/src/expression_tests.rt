@@ -25,7 +25,8 @@ pub fn is_good(expr: &Expr, room: usize) -> bool
 // Whether both are good.
 #[cycle(expression_tests)]
 fn are_both_good(first: &Expr, second: &Expr, room: usize) -> bool
-    ensures { result ≡ (spec.expr_good (plain_expr first.now) room && spec.expr_good (plain_expr second.now) room) }
+    ensures { result ≡ (spec.expr_good (plain_expr first.now) room &&
+        spec.expr_good (plain_expr second.now) room) }
 {
     is_good(first, room) && is_good(second, room)
 }
@@ -71,7 +72,8 @@ pub fn are_good(exprs: &[Expr], room: usize) -> bool
 // Whether an item is good.
 #[cycle(expression_tests)]
 fn is_good_item(item: &(Option<Expr>, Expr), room: usize) -> bool
-    ensures { result ≡ (spec.maybe_good (maybe_of item.now.0) room && spec.expr_good (plain_expr item.now.1) room) }
+    ensures { result ≡ (spec.maybe_good (maybe_of item.now.0) room &&
+        spec.expr_good (plain_expr item.now.1) room) }
 {
     is_maybe_good(&item.0, room) && is_good(&item.1, room)
 }
@@ -108,7 +110,8 @@ fn are_good_keys(keys: &[Option<Expr>], room: usize) -> bool
 #[cycle(expression_tests)]
 #[tactic(auto, unfolding(crate::specs::Tested::deep))]
 fn is_good_target(target: &Target, room: usize) -> bool
-    ensures { result ≡ spec.deep room (spec.is_target (target_name target.now) && spec.path_good (target_path target.now) (room - 1)) }
+    ensures { result ≡ spec.deep room (spec.is_target (target_name target.now)
+        && spec.path_good (target_path target.now) (room - 1)) }
 {
     0 < room && is_target(target.name.as_slice()) && are_good_keys(target.path.as_slice(), room - 1)
 }
@@ -154,7 +157,8 @@ fn has_good_parts(expr: &Expr, room: usize) -> bool
 // Whether each is a good place, and there is one.
 #[cycle(expression_tests)]
 fn are_good_places(places: &[Expr], room: usize) -> bool
-    ensures { result ≡ (spec.exprs_good (exprs_of places.now) room && (is_some_exprs (exprs_of places.now) && all_places (exprs_of places.now))) }
+    ensures { result ≡ (spec.exprs_good (exprs_of places.now) room &&
+        (is_some_exprs (exprs_of places.now) && all_places (exprs_of places.now))) }
 {
     are_good(places, room) && is_some(places) && are_places(places)
 }

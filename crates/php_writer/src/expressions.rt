@@ -23,7 +23,8 @@ use text_base::{Bytes, NoMemory};
 #[cycle(expressions)]
 #[tactic(auto, unfolding(crate::specs::Written::placed_marks))]
 fn within(out: &mut Writer, place: u8, expr: &Expr) -> Result<(), NoMemory>
-    ensures { OnOk result (Adds out.old.bytes out.new.bytes (placed_marks place (plain_expr expr.now))) }
+    ensures { OnOk result (Adds out.old.bytes out.new.bytes (placed_marks place (plain_expr
+        expr.now))) }
 {
     if place < looseness(expr) {
         out.sign(Sign::OpenParen)?;
@@ -38,7 +39,8 @@ fn within(out: &mut Writer, place: u8, expr: &Expr) -> Result<(), NoMemory>
 // An operand behind a sign.
 #[cycle(expressions)]
 fn signed(out: &mut Writer, sign: Sign, place: u8, expr: &Expr) -> Result<(), NoMemory>
-    ensures { OnOk result (Adds out.old.bytes out.new.bytes (λ behind. mark.sign sign ∷ placed_marks place (plain_expr expr.now) behind)) }
+    ensures { OnOk result (Adds out.old.bytes out.new.bytes (λ behind.
+        mark.sign sign ∷ placed_marks place (plain_expr expr.now) behind)) }
 {
     out.sign(sign)?;
     within(out, place, expr)?;
@@ -48,7 +50,9 @@ fn signed(out: &mut Writer, sign: Sign, place: u8, expr: &Expr) -> Result<(), No
 // Two operands and the sign between them.
 #[cycle(expressions)]
 fn infix(out: &mut Writer, left: &Expr, between: Infix, right: &Expr) -> Result<(), NoMemory>
-    ensures { OnOk result (Adds out.old.bytes out.new.bytes (λ behind. placed_marks between.left (plain_expr left.now) (mark.sign between.sign ∷ placed_marks between.right (plain_expr right.now) behind))) }
+    ensures { OnOk result (Adds out.old.bytes out.new.bytes (λ behind.
+        placed_marks between.left (plain_expr left.now) (mark.sign between.sign ∷
+        placed_marks between.right (plain_expr right.now) behind))) }
 {
     within(out, between.left, left)?;
     signed(out, between.sign, between.right, right)?;
@@ -59,7 +63,8 @@ fn infix(out: &mut Writer, left: &Expr, between: Infix, right: &Expr) -> Result<
 #[cycle(expressions)]
 #[tactic(auto, unfolding(crate::specs::Written::expr_marks))]
 fn between(out: &mut Writer, middle: &Option<Box<Expr>>) -> Result<(), NoMemory>
-    ensures { OnOk result (Adds out.old.bytes out.new.bytes (λ behind. mark.sign signs.Question ∷ maybe_marks (boxed_of middle.now) behind)) }
+    ensures { OnOk result (Adds out.old.bytes out.new.bytes (λ behind.
+        mark.sign signs.Question ∷ maybe_marks (boxed_of middle.now) behind)) }
 {
     out.sign(Sign::Question)?;
     if let Some(expr) = middle {
@@ -83,7 +88,9 @@ pub fn maybe(out: &mut Writer, expr: &Option<Expr>) -> Result<(), NoMemory>
 // A member.
 #[cycle(expressions)]
 fn member(out: &mut Writer, base: &Expr, key: &Expr) -> Result<(), NoMemory>
-    ensures { OnOk result (Adds out.old.bytes out.new.bytes (λ behind. placed_marks 0 (plain_expr base.now) (mark.sign signs.OpenBracket ∷ expr_marks (plain_expr key.now) (mark.sign signs.CloseBracket ∷ behind)))) }
+    ensures { OnOk result (Adds out.old.bytes out.new.bytes (λ behind.
+        placed_marks 0 (plain_expr base.now) (mark.sign signs.OpenBracket ∷
+        expr_marks (plain_expr key.now) (mark.sign signs.CloseBracket ∷ behind)))) }
 {
     within(out, 0, base)?;
     out.sign(Sign::OpenBracket)?;
@@ -96,7 +103,8 @@ fn member(out: &mut Writer, base: &Expr, key: &Expr) -> Result<(), NoMemory>
 #[cycle(expressions)]
 #[tactic(auto, unfolding(crate::specs::Written::behind_marks, crate::specs::Written::chain_marks))]
 fn chain(out: &mut Writer, exprs: &[Expr], separator: Sign, place: u8) -> Result<(), NoMemory>
-    ensures { OnOk result (Adds out.old.bytes out.new.bytes (chain_marks (exprs_of exprs.now) separator place)) }
+    ensures { OnOk result (Adds out.old.bytes out.new.bytes (chain_marks (exprs_of exprs.now)
+        separator place)) }
 {
     if let Some((first, rest)) = exprs.split_first() {
         within(out, place, first)?;
@@ -111,7 +119,9 @@ fn chain(out: &mut Writer, exprs: &[Expr], separator: Sign, place: u8) -> Result
 #[cycle(expressions)]
 #[tactic(auto, using(crate::proofs::RustLemmas::list_is_chain))]
 fn arguments(out: &mut Writer, exprs: &[Expr]) -> Result<(), NoMemory>
-    ensures { OnOk result (Adds out.old.bytes out.new.bytes (λ behind. mark.sign signs.OpenParen ∷ list_marks (exprs_of exprs.now) (mark.sign signs.CloseParen ∷ behind))) }
+    ensures { OnOk result (Adds out.old.bytes out.new.bytes (λ behind.
+        mark.sign signs.OpenParen ∷ list_marks (exprs_of exprs.now) (mark.sign signs.CloseParen ∷
+        behind))) }
 {
     out.sign(Sign::OpenParen)?;
     chain(out, exprs, Sign::Comma, 12)?;
@@ -122,7 +132,9 @@ fn arguments(out: &mut Writer, exprs: &[Expr]) -> Result<(), NoMemory>
 // A call.
 #[cycle(expressions)]
 fn call(out: &mut Writer, name: &Bytes, values: &[Expr]) -> Result<(), NoMemory>
-    ensures { OnOk result (Adds out.old.bytes out.new.bytes (λ behind. mark.name name.now ∷ mark.sign signs.OpenParen ∷ list_marks (exprs_of values.now) (mark.sign signs.CloseParen ∷ behind))) }
+    ensures { OnOk result (Adds out.old.bytes out.new.bytes (λ behind.
+        mark.name name.now ∷ mark.sign signs.OpenParen ∷ list_marks (exprs_of values.now)
+        (mark.sign signs.CloseParen ∷ behind))) }
 {
     out.name(name.as_slice())?;
     arguments(out, values)?;
@@ -132,7 +144,8 @@ fn call(out: &mut Writer, name: &Bytes, values: &[Expr]) -> Result<(), NoMemory>
 // `empty` of an operand.
 #[cycle(expressions)]
 fn empty(out: &mut Writer, place: &Expr) -> Result<(), NoMemory>
-    ensures { OnOk result (Adds out.old.bytes out.new.bytes (λ behind. mark.keyword words.Empty ∷ condition_marks (plain_expr place.now) behind)) }
+    ensures { OnOk result (Adds out.old.bytes out.new.bytes (λ behind.
+        mark.keyword words.Empty ∷ condition_marks (plain_expr place.now) behind)) }
 {
     out.keyword(Keyword::Empty)?;
     condition(out, place)?;
@@ -156,7 +169,8 @@ fn join(out: &mut Writer, parts: &[Expr]) -> Result<(), NoMemory>
 #[cycle(expressions)]
 #[tactic(auto, unfolding(crate::specs::Written::expr_marks))]
 fn item(out: &mut Writer, item: &(Option<Expr>, Expr)) -> Result<(), NoMemory>
-    ensures { OnOk result (Adds out.old.bytes out.new.bytes (λ behind. key_marks (maybe_of item.now.0) (expr_marks (plain_expr item.now.1) behind))) }
+    ensures { OnOk result (Adds out.old.bytes out.new.bytes (λ behind.
+        key_marks (maybe_of item.now.0) (expr_marks (plain_expr item.now.1) behind))) }
 {
     if let Some(key) = &item.0 {
         expression(out, key)?;
@@ -185,7 +199,9 @@ fn several(out: &mut Writer, items: &[(Option<Expr>, Expr)]) -> Result<(), NoMem
 // An array.
 #[cycle(expressions)]
 fn array(out: &mut Writer, items: &[(Option<Expr>, Expr)]) -> Result<(), NoMemory>
-    ensures { OnOk result (Adds out.old.bytes out.new.bytes (λ behind. mark.sign signs.OpenBracket ∷ items_marks (items_of items.now) (mark.sign signs.CloseBracket ∷ behind))) }
+    ensures { OnOk result (Adds out.old.bytes out.new.bytes (λ behind.
+        mark.sign signs.OpenBracket ∷ items_marks (items_of items.now)
+        (mark.sign signs.CloseBracket ∷ behind))) }
 {
     out.sign(Sign::OpenBracket)?;
     several(out, items)?;
@@ -210,7 +226,9 @@ fn path(out: &mut Writer, keys: &[Option<Expr>]) -> Result<(), NoMemory>
 // An assignment.
 #[cycle(expressions)]
 fn assignment(out: &mut Writer, target: &Target, sign: Sign, value: &Expr) -> Result<(), NoMemory>
-    ensures { OnOk result (Adds out.old.bytes out.new.bytes (λ behind. mark.variable (target_name target.now) ∷ path_marks (target_path target.now) (mark.sign sign ∷ expr_marks (plain_expr value.now) behind))) }
+    ensures { OnOk result (Adds out.old.bytes out.new.bytes (λ behind.
+        mark.variable (target_name target.now) ∷ path_marks (target_path target.now)
+        (mark.sign sign ∷ expr_marks (plain_expr value.now) behind))) }
 {
     out.variable(target.name.as_slice())?;
     path(out, target.path.as_slice())?;
@@ -222,7 +240,9 @@ fn assignment(out: &mut Writer, target: &Target, sign: Sign, value: &Expr) -> Re
 // An assignment that reads its target first.
 #[cycle(expressions)]
 fn update(out: &mut Writer, sign: UpdateSign, target: &Target, value: &Expr) -> Result<(), NoMemory>
-    ensures { OnOk result (Adds out.old.bytes out.new.bytes (λ behind. mark.variable (target_name target.now) ∷ path_marks (target_path target.now) (mark.sign (sign_of_update sign) ∷ expr_marks (plain_expr value.now) behind))) }
+    ensures { OnOk result (Adds out.old.bytes out.new.bytes (λ behind.
+        mark.variable (target_name target.now) ∷ path_marks (target_path target.now)
+        (mark.sign (sign_of_update sign) ∷ expr_marks (plain_expr value.now) behind))) }
 {
     assignment(out, target, update_sign(sign), value)?;
     Ok(())
@@ -230,7 +250,8 @@ fn update(out: &mut Writer, sign: UpdateSign, target: &Target, value: &Expr) -> 
 
 // An integer.
 fn integer(out: &mut Writer, number: &i64) -> Result<(), NoMemory>
-    ensures { OnOk result (Adds out.old.bytes out.new.bytes (λ behind. int_mark number.now ∷ behind)) }
+    ensures { OnOk result (Adds out.old.bytes out.new.bytes (λ behind.
+        int_mark number.now ∷ behind)) }
 {
     out.integer(*number)?;
     Ok(())
@@ -239,7 +260,8 @@ fn integer(out: &mut Writer, number: &i64) -> Result<(), NoMemory>
 // A step of a variable.
 #[tactic(auto, unfolding(crate::specs::Written::expr_marks))]
 fn step(out: &mut Writer, name: &Bytes, up: bool, before: bool) -> Result<(), NoMemory>
-    ensures { OnOk result (Adds out.old.bytes out.new.bytes (expr_marks (step_expr name.now up before))) }
+    ensures { OnOk result (Adds out.old.bytes out.new.bytes (expr_marks (step_expr name.now up
+        before))) }
 {
     if before {
         out.sign(step_sign(up))?;
@@ -293,7 +315,8 @@ pub fn expression(out: &mut Writer, expr: &Expr) -> Result<(), NoMemory>
 /// An expression in round brackets.
 #[cycle(expressions)]
 pub fn condition(out: &mut Writer, expr: &Expr) -> Result<(), NoMemory>
-    ensures { OnOk result (Adds out.old.bytes out.new.bytes (condition_marks (plain_expr expr.now))) }
+    ensures { OnOk result (Adds out.old.bytes out.new.bytes (condition_marks (plain_expr
+        expr.now))) }
 {
     out.sign(Sign::OpenParen)?;
     expression(out, expr)?;

@@ -89,7 +89,8 @@ fn is_good_file(tree: &FileTree, room: usize) -> bool
 /// Whether some file spells the tree, and its height is at most 200. Takes no memory, and goes no
 /// deeper into a tree that is higher.
 pub fn well_formed(tree: &FileTree) -> bool
-    ensures { IsTrue result ↔ (IsSpelled (plain_file tree.now) × (file_height (plain_file tree.now) ≤ 200)) }
+    ensures { IsTrue result ↔ (IsSpelled (plain_file tree.now) × (file_height (plain_file tree.now)
+        ≤ 200)) }
 {
     is_good_file(tree, 200)
 }

@@ -40,7 +40,8 @@ fn parameter(out: &mut Writer, param: &Param) -> Result<(), NoMemory>
 
 // Parameters with commas between.
 fn parameters(out: &mut Writer, params: &[Param]) -> Result<(), NoMemory>
-    ensures { OnOk result (Adds out.old.bytes out.new.bytes (params_marks (params_of_list params.now))) }
+    ensures { OnOk result (Adds out.old.bytes out.new.bytes (params_marks (params_of_list
+        params.now))) }
 {
     if let Some((first, rest)) = params.split_first() {
         parameter(out, first)?;
@@ -54,7 +55,9 @@ fn parameters(out: &mut Writer, params: &[Param]) -> Result<(), NoMemory>
 
 // Parameters in round brackets.
 fn in_brackets(out: &mut Writer, params: &[Param]) -> Result<(), NoMemory>
-    ensures { OnOk result (Adds out.old.bytes out.new.bytes (λ behind. mark.sign signs.OpenParen ∷ params_marks (params_of_list params.now) (mark.sign signs.CloseParen ∷ behind))) }
+    ensures { OnOk result (Adds out.old.bytes out.new.bytes (λ behind.
+        mark.sign signs.OpenParen ∷ params_marks (params_of_list params.now)
+        (mark.sign signs.CloseParen ∷ behind))) }
 {
     out.sign(Sign::OpenParen)?;
     parameters(out, params)?;
@@ -64,7 +67,8 @@ fn in_brackets(out: &mut Writer, params: &[Param]) -> Result<(), NoMemory>
 
 // A function.
 fn function(out: &mut Writer, function: &FunctionDef) -> Result<(), NoMemory>
-    ensures { OnOk result (Adds out.old.bytes out.new.bytes (function_marks (plain_function function.now))) }
+    ensures { OnOk result (Adds out.old.bytes out.new.bytes (function_marks (plain_function
+        function.now))) }
 {
     out.keyword(Keyword::Function)?;
     out.name(function.name.as_slice())?;
@@ -75,7 +79,8 @@ fn function(out: &mut Writer, function: &FunctionDef) -> Result<(), NoMemory>
 
 // Functions.
 fn functions(out: &mut Writer, functions: &[FunctionDef]) -> Result<(), NoMemory>
-    ensures { OnOk result (Adds out.old.bytes out.new.bytes (functions_marks (functions_of_list functions.now))) }
+    ensures { OnOk result (Adds out.old.bytes out.new.bytes (functions_marks (functions_of_list
+        functions.now))) }
 {
     for each in functions {
         function(out, each)?;
@@ -99,7 +104,8 @@ fn file_bytes(alloc: Global, tree: &FileTree) -> Result<Bytes, NoMemory>
 /// A file that spells the tree, where some file does. It calls itself as deep as the tree is high:
 /// ask `well_formed` first where that may be much.
 pub fn write_tree(alloc: Global, tree: &FileTree) -> Result<Bytes, NoMemory>
-    ensures { IfOk result (λ bytes. IsSpelled (plain_file tree.now) → Spells bytes (plain_file tree.now)) }
+    ensures { IfOk result (λ bytes.
+        IsSpelled (plain_file tree.now) → Spells bytes (plain_file tree.now)) }
 {
     file_bytes(alloc, tree)
 }

@@ -18,7 +18,9 @@ use text_base::{Bytes, NoMemory};
 
 /// `echo`
 pub fn echo(out: &mut Writer, exprs: &[Expr]) -> Result<(), NoMemory>
-    ensures { OnOk result (Adds out.old.bytes out.new.bytes (λ behind. mark.keyword words.Echo ∷ list_marks (exprs_of exprs.now) (mark.sign signs.Semicolon ∷ behind))) }
+    ensures { OnOk result (Adds out.old.bytes out.new.bytes (λ behind.
+        mark.keyword words.Echo ∷ list_marks (exprs_of exprs.now) (mark.sign signs.Semicolon ∷
+        behind))) }
 {
     out.keyword(Keyword::Echo)?;
     list(out, exprs)?;
@@ -28,7 +30,8 @@ pub fn echo(out: &mut Writer, exprs: &[Expr]) -> Result<(), NoMemory>
 
 /// An expression as a statement.
 pub fn run(out: &mut Writer, expr: &Expr) -> Result<(), NoMemory>
-    ensures { OnOk result (Adds out.old.bytes out.new.bytes (λ behind. expr_marks (plain_expr expr.now) (mark.sign signs.Semicolon ∷ behind))) }
+    ensures { OnOk result (Adds out.old.bytes out.new.bytes (λ behind.
+        expr_marks (plain_expr expr.now) (mark.sign signs.Semicolon ∷ behind))) }
 {
     expression(out, expr)?;
     out.sign(Sign::Semicolon)?;
@@ -37,7 +40,8 @@ pub fn run(out: &mut Writer, expr: &Expr) -> Result<(), NoMemory>
 
 /// A word as a statement.
 pub fn jump(out: &mut Writer, word: Keyword) -> Result<(), NoMemory>
-    ensures { OnOk result (Adds out.old.bytes out.new.bytes (λ behind. mark.keyword word ∷ mark.sign signs.Semicolon ∷ behind)) }
+    ensures { OnOk result (Adds out.old.bytes out.new.bytes (λ behind.
+        mark.keyword word ∷ mark.sign signs.Semicolon ∷ behind)) }
 {
     out.keyword(word)?;
     out.sign(Sign::Semicolon)?;
@@ -46,7 +50,9 @@ pub fn jump(out: &mut Writer, word: Keyword) -> Result<(), NoMemory>
 
 /// `return`
 pub fn returned(out: &mut Writer, value: &Option<Expr>) -> Result<(), NoMemory>
-    ensures { OnOk result (Adds out.old.bytes out.new.bytes (λ behind. mark.keyword words.Return ∷ maybe_marks (maybe_of value.now) (mark.sign signs.Semicolon ∷ behind))) }
+    ensures { OnOk result (Adds out.old.bytes out.new.bytes (λ behind.
+        mark.keyword words.Return ∷ maybe_marks (maybe_of value.now) (mark.sign signs.Semicolon ∷
+        behind))) }
 {
     out.keyword(Keyword::Return)?;
     maybe(out, value)?;
@@ -66,7 +72,9 @@ fn argument(out: &mut Writer, value: &Option<Expr>) -> Result<(), NoMemory>
 
 /// `exit`
 pub fn quit(out: &mut Writer, value: &Option<Expr>) -> Result<(), NoMemory>
-    ensures { OnOk result (Adds out.old.bytes out.new.bytes (λ behind. mark.keyword words.Exit ∷ argument_marks (maybe_of value.now) (mark.sign signs.Semicolon ∷ behind))) }
+    ensures { OnOk result (Adds out.old.bytes out.new.bytes (λ behind.
+        mark.keyword words.Exit ∷ argument_marks (maybe_of value.now) (mark.sign signs.Semicolon ∷
+        behind))) }
 {
     out.keyword(Keyword::Exit)?;
     argument(out, value)?;
@@ -76,7 +84,8 @@ pub fn quit(out: &mut Writer, value: &Option<Expr>) -> Result<(), NoMemory>
 
 /// `include`
 pub fn include(out: &mut Writer, file: &Bytes) -> Result<(), NoMemory>
-    ensures { OnOk result (Adds out.old.bytes out.new.bytes (λ behind. mark.keyword words.Include ∷ mark.text file.now ∷ mark.sign signs.Semicolon ∷ behind)) }
+    ensures { OnOk result (Adds out.old.bytes out.new.bytes (λ behind.
+        mark.keyword words.Include ∷ mark.text file.now ∷ mark.sign signs.Semicolon ∷ behind)) }
 {
     out.keyword(Keyword::Include)?;
     out.text(file.as_slice())?;
@@ -86,7 +95,8 @@ pub fn include(out: &mut Writer, file: &Bytes) -> Result<(), NoMemory>
 
 /// A word and a condition.
 pub fn head(out: &mut Writer, word: Keyword, expr: &Expr) -> Result<(), NoMemory>
-    ensures { OnOk result (Adds out.old.bytes out.new.bytes (λ behind. mark.keyword word ∷ condition_marks (plain_expr expr.now) behind)) }
+    ensures { OnOk result (Adds out.old.bytes out.new.bytes (λ behind.
+        mark.keyword word ∷ condition_marks (plain_expr expr.now) behind)) }
 {
     out.keyword(word)?;
     condition(out, expr)?;
@@ -95,7 +105,9 @@ pub fn head(out: &mut Writer, word: Keyword, expr: &Expr) -> Result<(), NoMemory
 
 /// What stands behind the body of a `do`.
 pub fn do_end(out: &mut Writer, expr: &Expr) -> Result<(), NoMemory>
-    ensures { OnOk result (Adds out.old.bytes out.new.bytes (λ behind. mark.keyword words.While ∷ condition_marks (plain_expr expr.now) (mark.sign signs.Semicolon ∷ behind))) }
+    ensures { OnOk result (Adds out.old.bytes out.new.bytes (λ behind.
+        mark.keyword words.While ∷ condition_marks (plain_expr expr.now)
+        (mark.sign signs.Semicolon ∷ behind))) }
 {
     head(out, Keyword::While, expr)?;
     out.sign(Sign::Semicolon)?;
@@ -104,7 +116,9 @@ pub fn do_end(out: &mut Writer, expr: &Expr) -> Result<(), NoMemory>
 
 // What stands in a `for` up to its first semicolon.
 fn for_begin(out: &mut Writer, begin: &[Expr]) -> Result<(), NoMemory>
-    ensures { OnOk result (Adds out.old.bytes out.new.bytes (λ behind. mark.keyword words.For ∷ mark.sign signs.OpenParen ∷ list_marks (exprs_of begin.now) (mark.sign signs.Semicolon ∷ behind))) }
+    ensures { OnOk result (Adds out.old.bytes out.new.bytes (λ behind.
+        mark.keyword words.For ∷ mark.sign signs.OpenParen ∷ list_marks (exprs_of begin.now)
+        (mark.sign signs.Semicolon ∷ behind))) }
 {
     out.keyword(Keyword::For)?;
     out.sign(Sign::OpenParen)?;
@@ -115,7 +129,9 @@ fn for_begin(out: &mut Writer, begin: &[Expr]) -> Result<(), NoMemory>
 
 // What stands in a `for` behind its first semicolon.
 fn for_end(out: &mut Writer, test: &Option<Expr>, next: &[Expr]) -> Result<(), NoMemory>
-    ensures { OnOk result (Adds out.old.bytes out.new.bytes (λ behind. maybe_marks (maybe_of test.now) (mark.sign signs.Semicolon ∷ list_marks (exprs_of next.now) (mark.sign signs.CloseParen ∷ behind)))) }
+    ensures { OnOk result (Adds out.old.bytes out.new.bytes (λ behind.
+        maybe_marks (maybe_of test.now) (mark.sign signs.Semicolon ∷ list_marks (exprs_of next.now)
+        (mark.sign signs.CloseParen ∷ behind)))) }
 {
     maybe(out, test)?;
     out.sign(Sign::Semicolon)?;
@@ -131,7 +147,10 @@ pub fn for_head(
     test: &Option<Expr>,
     next: &[Expr],
 ) -> Result<(), NoMemory>
-    ensures { OnOk result (Adds out.old.bytes out.new.bytes (λ behind. mark.keyword words.For ∷ mark.sign signs.OpenParen ∷ list_marks (exprs_of begin.now) (mark.sign signs.Semicolon ∷ maybe_marks (maybe_of test.now) (mark.sign signs.Semicolon ∷ list_marks (exprs_of next.now) (mark.sign signs.CloseParen ∷ behind))))) }
+    ensures { OnOk result (Adds out.old.bytes out.new.bytes (λ behind.
+        mark.keyword words.For ∷ mark.sign signs.OpenParen ∷ list_marks (exprs_of begin.now)
+        (mark.sign signs.Semicolon ∷ maybe_marks (maybe_of test.now) (mark.sign signs.Semicolon ∷
+        list_marks (exprs_of next.now) (mark.sign signs.CloseParen ∷ behind))))) }
 {
     for_begin(out, begin)?;
     for_end(out, test, next)?;
@@ -152,7 +171,9 @@ fn variables(out: &mut Writer, key: &Option<Bytes>, value: &Bytes) -> Result<(),
 
 // What stands in a `foreach` up to `as`.
 fn each_begin(out: &mut Writer, array: &Expr) -> Result<(), NoMemory>
-    ensures { OnOk result (Adds out.old.bytes out.new.bytes (λ behind. mark.keyword words.Foreach ∷ mark.sign signs.OpenParen ∷ expr_marks (plain_expr array.now) (mark.keyword words.As ∷ behind))) }
+    ensures { OnOk result (Adds out.old.bytes out.new.bytes (λ behind.
+        mark.keyword words.Foreach ∷ mark.sign signs.OpenParen ∷ expr_marks (plain_expr array.now)
+        (mark.keyword words.As ∷ behind))) }
 {
     out.keyword(Keyword::Foreach)?;
     out.sign(Sign::OpenParen)?;
@@ -168,7 +189,10 @@ pub fn each_head(
     key: &Option<Bytes>,
     value: &Bytes,
 ) -> Result<(), NoMemory>
-    ensures { OnOk result (Adds out.old.bytes out.new.bytes (λ behind. mark.keyword words.Foreach ∷ mark.sign signs.OpenParen ∷ expr_marks (plain_expr array.now) (mark.keyword words.As ∷ variables_marks key.now value.now (mark.sign signs.CloseParen ∷ behind)))) }
+    ensures { OnOk result (Adds out.old.bytes out.new.bytes (λ behind.
+        mark.keyword words.Foreach ∷ mark.sign signs.OpenParen ∷ expr_marks (plain_expr array.now)
+        (mark.keyword words.As ∷ variables_marks key.now value.now (mark.sign signs.CloseParen ∷
+        behind)))) }
 {
     each_begin(out, array)?;
     variables(out, key, value)?;

@@ -21,7 +21,8 @@ pub struct Writer {
 impl Writer {
     /// Puts bytes and a space.
     fn put(&mut self, text: &[u8]) -> Result<(), NoMemory>
-        ensures { OnOk result ((rest : List ℕ) → self.new.bytes ++ rest ≡ self.old.bytes ++ (text.now ++ 32 ∷ rest)) }
+        ensures { OnOk result ((rest : List ℕ) → self.new.bytes ++ rest ≡
+            self.old.bytes ++ (text.now ++ 32 ∷ rest)) }
     {
         self.bytes.append(text)?;
         self.bytes.push(b' ')?;
@@ -31,7 +32,8 @@ impl Writer {
     /// Puts a sign.
     #[tactic(auto, unfolding(crate::specs::Marks::all_written))]
     pub fn sign(&mut self, sign: Sign) -> Result<(), NoMemory>
-        ensures { OnOk result (Adds self.old.bytes self.new.bytes (λ behind. mark.sign sign ∷ behind)) }
+        ensures { OnOk result (Adds self.old.bytes self.new.bytes (λ behind.
+            mark.sign sign ∷ behind)) }
     {
         self.put(sign.spelling())?;
         Ok(())
@@ -40,7 +42,8 @@ impl Writer {
     /// Puts a keyword.
     #[tactic(auto, unfolding(crate::specs::Marks::all_written))]
     pub fn keyword(&mut self, keyword: Keyword) -> Result<(), NoMemory>
-        ensures { OnOk result (Adds self.old.bytes self.new.bytes (λ behind. mark.keyword keyword ∷ behind)) }
+        ensures { OnOk result (Adds self.old.bytes self.new.bytes (λ behind.
+            mark.keyword keyword ∷ behind)) }
     {
         self.put(keyword_text(keyword))?;
         Ok(())
@@ -49,7 +52,8 @@ impl Writer {
     /// Puts a name.
     #[tactic(auto, unfolding(crate::specs::Marks::all_written))]
     pub fn name(&mut self, name: &[u8]) -> Result<(), NoMemory>
-        ensures { OnOk result (Adds self.old.bytes self.new.bytes (λ behind. mark.name name.now ∷ behind)) }
+        ensures { OnOk result (Adds self.old.bytes self.new.bytes (λ behind.
+            mark.name name.now ∷ behind)) }
     {
         self.put(name)?;
         Ok(())
@@ -58,7 +62,8 @@ impl Writer {
     /// Puts a variable.
     #[tactic(auto, unfolding(crate::specs::Marks::all_written))]
     pub fn variable(&mut self, name: &[u8]) -> Result<(), NoMemory>
-        ensures { OnOk result (Adds self.old.bytes self.new.bytes (λ behind. mark.variable name.now ∷ behind)) }
+        ensures { OnOk result (Adds self.old.bytes self.new.bytes (λ behind.
+            mark.variable name.now ∷ behind)) }
     {
         self.bytes.push(b'$')?;
         self.put(name)?;
@@ -68,7 +73,8 @@ impl Writer {
     /// Puts the bytes of a text, with a backslash where one is needed, and the quote behind it.
     #[tactic(auto, using(crate::proofs::RustLemmas::quoted_drop))]
     pub fn quote(&mut self, text: &[u8]) -> Result<(), NoMemory>
-        ensures { OnOk result ((rest : List ℕ) → self.new.bytes ++ rest ≡ self.old.bytes ++ (quoted text.now ++ rest)) }
+        ensures { OnOk result ((rest : List ℕ) → self.new.bytes ++ rest ≡
+            self.old.bytes ++ (quoted text.now ++ rest)) }
     {
         for byte in text {
             if *byte == b'\'' || *byte == b'\\' {
@@ -83,7 +89,8 @@ impl Writer {
     /// Puts a text in single quotes.
     #[tactic(auto, unfolding(crate::specs::Marks::all_written))]
     pub fn text(&mut self, text: &[u8]) -> Result<(), NoMemory>
-        ensures { OnOk result (Adds self.old.bytes self.new.bytes (λ behind. mark.text text.now ∷ behind)) }
+        ensures { OnOk result (Adds self.old.bytes self.new.bytes (λ behind.
+            mark.text text.now ∷ behind)) }
     {
         self.bytes.push(b'\'')?;
         self.quote(text)?;
@@ -94,7 +101,8 @@ impl Writer {
     /// Puts bytes outside PHP, and the tags round them.
     #[tactic(auto, unfolding(crate::specs::Marks::all_written))]
     pub fn outside(&mut self, text: &[u8]) -> Result<(), NoMemory>
-        ensures { OnOk result (Adds self.old.bytes self.new.bytes (λ behind. mark.outside text.now ∷ behind)) }
+        ensures { OnOk result (Adds self.old.bytes self.new.bytes (λ behind.
+            mark.outside text.now ∷ behind)) }
     {
         self.bytes.append(b"?>\n")?;
         self.bytes.append(text)?;
@@ -117,7 +125,8 @@ impl Writer {
     /// Puts an integer literal, or the constant of the least integer.
     #[tactic(auto, unfolding(crate::specs::Marks::all_written, crate::specs::Written::int_mark))]
     pub fn integer(&mut self, number: i64) -> Result<(), NoMemory>
-        ensures { OnOk result (Adds self.old.bytes self.new.bytes (λ behind. int_mark number ∷ behind)) }
+        ensures { OnOk result (Adds self.old.bytes self.new.bytes (λ behind.
+            int_mark number ∷ behind)) }
     {
         if number < 0 {
             return self.keyword(Keyword::PhpIntMin);

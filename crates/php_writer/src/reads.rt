@@ -15,7 +15,9 @@ use text_base::NoMemory;
 // Puts a text as a key.
 #[tactic(auto, unfolding(crate::specs::Marks::keys_spelling))]
 fn put_text_key(out: &mut Writer, text: &[u8]) -> Result<(), NoMemory>
-    ensures { OnOk result ((keys : List PlainKey) (rest : List ℕ) → out.new.bytes ++ (keys_spelling keys ++ rest) ≡ out.old.bytes ++ (keys_spelling (text_key text.now ∷ keys) ++ rest)) }
+    ensures { OnOk result ((keys : List PlainKey) (rest : List ℕ)
+        → out.new.bytes ++ (keys_spelling keys ++ rest)
+        ≡ out.old.bytes ++ (keys_spelling (text_key text.now ∷ keys) ++ rest)) }
 {
     out.bytes.append(b"['")?;
     out.quote(text)?;
@@ -26,7 +28,9 @@ fn put_text_key(out: &mut Writer, text: &[u8]) -> Result<(), NoMemory>
 // Puts an integer as a key.
 #[tactic(auto, unfolding(crate::specs::Marks::keys_spelling))]
 fn put_int_key(out: &mut Writer, number: i64) -> Result<(), NoMemory>
-    ensures { OnOk result ((keys : List PlainKey) (rest : List ℕ) → out.new.bytes ++ (keys_spelling keys ++ rest) ≡ out.old.bytes ++ (keys_spelling (int_key number ∷ keys) ++ rest)) }
+    ensures { OnOk result ((keys : List PlainKey) (rest : List ℕ)
+        → out.new.bytes ++ (keys_spelling keys ++ rest)
+        ≡ out.old.bytes ++ (keys_spelling (int_key number ∷ keys) ++ rest)) }
 {
     out.bytes.push(b'[')?;
     out.digits(number)?;
@@ -37,7 +41,9 @@ fn put_int_key(out: &mut Writer, number: i64) -> Result<(), NoMemory>
 // Puts a variable as a key.
 #[tactic(auto, unfolding(crate::specs::Marks::keys_spelling))]
 fn put_variable_key(out: &mut Writer, name: &[u8]) -> Result<(), NoMemory>
-    ensures { OnOk result ((keys : List PlainKey) (rest : List ℕ) → out.new.bytes ++ (keys_spelling keys ++ rest) ≡ out.old.bytes ++ (keys_spelling (var_key name.now ∷ keys) ++ rest)) }
+    ensures { OnOk result ((keys : List PlainKey) (rest : List ℕ)
+        → out.new.bytes ++ (keys_spelling keys ++ rest)
+        ≡ out.old.bytes ++ (keys_spelling (var_key name.now ∷ keys) ++ rest)) }
 {
     out.bytes.append(b"[$")?;
     out.bytes.append(name)?;
@@ -48,7 +54,9 @@ fn put_variable_key(out: &mut Writer, name: &[u8]) -> Result<(), NoMemory>
 // Puts a key in brackets; what is none is put as an empty text.
 #[tactic(auto, using(php_syntax::proofs::Views::views), unfolding(crate::specs::Written::part_key))]
 fn put_key(out: &mut Writer, key: &Expr) -> Result<(), NoMemory>
-    ensures { OnOk result ((keys : List PlainKey) (rest : List ℕ) → out.new.bytes ++ (keys_spelling keys ++ rest) ≡ out.old.bytes ++ (keys_spelling (part_key (plain_expr key.now) ∷ keys) ++ rest)) }
+    ensures { OnOk result ((keys : List PlainKey) (rest : List ℕ)
+        → out.new.bytes ++ (keys_spelling keys ++ rest)
+        ≡ out.old.bytes ++ (keys_spelling (part_key (plain_expr key.now) ∷ keys) ++ rest)) }
 {
     match key {
         Expr::Int(number) => put_int_key(out, *number),
@@ -68,7 +76,8 @@ fn put_key(out: &mut Writer, key: &Expr) -> Result<(), NoMemory>
 
 // Puts bytes.
 fn put_bytes(out: &mut Writer, text: &[u8]) -> Result<(), NoMemory>
-    ensures { OnOk result ((rest : List ℕ) → out.new.bytes ++ rest ≡ out.old.bytes ++ (text.now ++ rest)) }
+    ensures { OnOk result ((rest : List ℕ) → out.new.bytes ++ rest ≡
+        out.old.bytes ++ (text.now ++ rest)) }
 {
     out.bytes.append(text)?;
     Ok(())
@@ -77,7 +86,10 @@ fn put_bytes(out: &mut Writer, text: &[u8]) -> Result<(), NoMemory>
 // Puts the variable that is read, and the keys in the order in which they are taken.
 #[tactic(auto, using(php_syntax::proofs::Views::views), unfolding(crate::specs::Written::read_name, crate::specs::Written::read_keys))]
 fn put_path(out: &mut Writer, expr: &Expr) -> Result<(), NoMemory>
-    ensures { OnOk result ((keys : List PlainKey) (rest : List ℕ) → out.new.bytes ++ (keys_spelling keys ++ rest) ≡ out.old.bytes ++ (read_name (plain_expr expr.now) ++ (keys_spelling (read_keys (plain_expr expr.now) keys) ++ rest))) }
+    ensures { OnOk result ((keys : List PlainKey) (rest : List ℕ)
+        → out.new.bytes ++ (keys_spelling keys ++ rest)
+        ≡ out.old.bytes ++ (read_name (plain_expr expr.now)
+        ++ (keys_spelling (read_keys (plain_expr expr.now) keys) ++ rest))) }
 {
     match expr {
         Expr::Var(name) => put_bytes(out, name.as_slice()),
@@ -97,7 +109,8 @@ fn put_path(out: &mut Writer, expr: &Expr) -> Result<(), NoMemory>
 /// Puts a template that reads a member of a variable.
 #[tactic(auto, unfolding(crate::specs::Marks::all_written, crate::specs::Marks::keys_spelling))]
 pub fn put_read(out: &mut Writer, expr: &Expr) -> Result<(), NoMemory>
-    ensures { OnOk result (Adds out.old.bytes out.new.bytes (λ behind. mark.read (read_name (plain_expr expr.now)) (read_keys (plain_expr expr.now) []) ∷ behind)) }
+    ensures { OnOk result (Adds out.old.bytes out.new.bytes (λ behind.
+        mark.read (read_name (plain_expr expr.now)) (read_keys (plain_expr expr.now) []) ∷ behind)) }
 {
     out.bytes.append(b"\"{$")?;
     put_path(out, expr)?;

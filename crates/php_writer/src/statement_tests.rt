@@ -66,14 +66,17 @@ fn is_some_arm(arms: &[(Expr, Vec<Stmt>)]) -> bool
 
 // Whether what stands before the body of a `for` is good.
 fn is_good_for(begin: &[Expr], test: &Option<Expr>, next: &[Expr], room: usize) -> bool
-    ensures { result ≡ (spec.exprs_good (exprs_of begin.now) room && (spec.maybe_good (maybe_of test.now) room && spec.exprs_good (exprs_of next.now) room)) }
+    ensures { result ≡ (spec.exprs_good (exprs_of begin.now) room &&
+        (spec.maybe_good (maybe_of test.now) room && spec.exprs_good (exprs_of next.now) room)) }
 {
     are_good(begin, room) && is_maybe_good(test, room) && are_good(next, room)
 }
 
 // Whether what stands before the body of a `foreach` is good.
 fn is_good_each(array: &Expr, key: &Option<Bytes>, value: &Bytes, room: usize) -> bool
-    ensures { result ≡ (spec.expr_good (plain_expr array.now) room && ((spelled.is_maybe_name key.now && rules.maybe_writable key.now) && spec.is_target value.now)) }
+    ensures { result ≡ (spec.expr_good (plain_expr array.now) room &&
+        ((spelled.is_maybe_name key.now && rules.maybe_writable key.now)
+        && spec.is_target value.now)) }
 {
     is_good(array, room)
         && (is_maybe_name(key) && is_maybe_writable(key))
@@ -98,7 +101,8 @@ pub fn are_good_stmts(stmts: &[Stmt], in_loop: bool, in_function: bool, room: us
 // Whether an arm is good.
 #[cycle(statement_tests)]
 fn is_good_arm(arm: &(Expr, Vec<Stmt>), in_loop: bool, in_function: bool, room: usize) -> bool
-    ensures { result ≡ (spec.expr_good (plain_expr arm.now.0) room && spec.stmts_good (stmts_of arm.now.1.items) in_loop in_function room) }
+    ensures { result ≡ (spec.expr_good (plain_expr arm.now.0) room &&
+        spec.stmts_good (stmts_of arm.now.1.items) in_loop in_function room) }
 {
     is_good(&arm.0, room) && are_good_stmts(arm.1.as_slice(), in_loop, in_function, room)
 }

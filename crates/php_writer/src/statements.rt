@@ -30,7 +30,9 @@ pub fn statements(out: &mut Writer, stmts: &[Stmt]) -> Result<(), NoMemory>
 /// Statements in braces.
 #[cycle(statements)]
 pub fn body(out: &mut Writer, stmts: &[Stmt]) -> Result<(), NoMemory>
-    ensures { OnOk result (Adds out.old.bytes out.new.bytes (λ behind. mark.sign signs.OpenBrace ∷ stmts_marks (stmts_of stmts.now) (mark.sign signs.CloseBrace ∷ behind))) }
+    ensures { OnOk result (Adds out.old.bytes out.new.bytes (λ behind.
+        mark.sign signs.OpenBrace ∷ stmts_marks (stmts_of stmts.now) (mark.sign signs.CloseBrace ∷
+        behind))) }
 {
     out.sign(Sign::OpenBrace)?;
     statements(out, stmts)?;
@@ -41,7 +43,9 @@ pub fn body(out: &mut Writer, stmts: &[Stmt]) -> Result<(), NoMemory>
 // An arm of an `if`.
 #[cycle(statements)]
 fn arm(out: &mut Writer, word: Keyword, arm: &(Expr, Vec<Stmt>)) -> Result<(), NoMemory>
-    ensures { OnOk result (Adds out.old.bytes out.new.bytes (λ behind. mark.keyword word ∷ condition_marks (plain_expr arm.now.0) (mark.sign signs.OpenBrace ∷ stmts_marks (stmts_of arm.now.1.items) (mark.sign signs.CloseBrace ∷ behind)))) }
+    ensures { OnOk result (Adds out.old.bytes out.new.bytes (λ behind.
+        mark.keyword word ∷ condition_marks (plain_expr arm.now.0) (mark.sign signs.OpenBrace ∷
+        stmts_marks (stmts_of arm.now.1.items) (mark.sign signs.CloseBrace ∷ behind)))) }
 {
     head(out, word, &arm.0)?;
     body(out, arm.1.as_slice())?;
@@ -52,7 +56,8 @@ fn arm(out: &mut Writer, word: Keyword, arm: &(Expr, Vec<Stmt>)) -> Result<(), N
 #[cycle(statements)]
 #[tactic(auto, unfolding(crate::specs::Written::stmt_marks))]
 fn branches(out: &mut Writer, arms: &[(Expr, Vec<Stmt>)]) -> Result<(), NoMemory>
-    ensures { OnOk result (Adds out.old.bytes out.new.bytes (arms_marks (arms_of arms.now) words.If)) }
+    ensures { OnOk result (Adds out.old.bytes out.new.bytes (arms_marks (arms_of arms.now)
+        words.If)) }
 {
     if let Some((first, rest)) = arms.split_first() {
         arm(out, Keyword::If, first)?;

@@ -2,7 +2,7 @@
 use Rattle.std.proofs.Common.{◌≡◌, ℕ, List, subst}
 use Rattle.php_syntax.specs.Tokens.{PlainToken}
 use Rattle.php_syntax.specs.Trees.{PlainFile}
-use Rattle.lexical_grammar.specs.Steps.{Fault}
+use Rattle.lexical_grammar.specs.declared.fault.LexicalFault.{LexicalFault}
 use Rattle.lexical_grammar.specs.Cuts.{Cuts, Breaks}
 use Rattle.script_grammar.specs.Grammar.{SpellsTree}
 use Rattle.php_writer.specs.Spelled.{Spells}
@@ -19,7 +19,7 @@ abbrev pub OneList : Type 0
 OneList = (file : List ℕ) (tokens others : List PlainToken) → Cuts file tokens → Cuts file others → tokens ≡ others
 
 abbrev pub NeverBoth : Type 0
-NeverBoth = (file : List ℕ) (tokens : List PlainToken) (fault : Fault) (place : ℕ) → Cuts file tokens → Breaks file fault place → ⊥
+NeverBoth = (file : List ℕ) (tokens : List PlainToken) (fault : LexicalFault) (place : ℕ) → Cuts file tokens → Breaks file fault place → ⊥
 
 pub cut_so : OneList → (file : List ℕ) (tree : PlainFile) (tokens : List PlainToken) → Spells file tree → Cuts file tokens → SpellsTree tokens tree
 cut_so law file tree tokens s c = let P : List PlainToken → Type 0 = λ ts. SpellsTree ts tree in subst P (law file s.0 tokens s.1 c) s.2
@@ -27,11 +27,7 @@ cut_so law file tree tokens s c = let P : List PlainToken → Type 0 = λ ts. Sp
 pub lex_cause : NeverBoth → (file : List ℕ) (tree : PlainFile) (e : LexRefusal) → Spells file tree → lexer.IsCauseOf file e → IsLexCause tree e
 lex_cause law file tree (lex.TooLong len) s c = (file, s, c.0)
 lex_cause law file tree lex.Memory s c = tt
-lex_cause law file tree (lex.BadByte at) s c = law file s.0 _ _ s.1 c.1
-lex_cause law file tree (lex.Unclosed at) s c = law file s.0 _ _ s.1 c.1
-lex_cause law file tree (lex.Float at) s c = law file s.0 _ _ s.1 c.1
-lex_cause law file tree (lex.BigInt at) s c = law file s.0 _ _ s.1 c.1
-lex_cause law file tree (lex.Escape at) s c = law file s.0 _ _ s.1 c.1
+lex_cause law file tree (lex.Breaks fault at) s c = law file s.0 fault at s.1 c.1
 
 pub parse_cause : (tokens : List PlainToken) (tree : PlainFile) (e : ParseRefusal) → SpellsTree tokens tree → parser.IsCauseOf tokens e → IsParseCause tree e
 parse_cause tokens tree (parse.NotInSubset at) s c = c.1 tree s

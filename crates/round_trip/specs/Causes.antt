@@ -1,5 +1,6 @@
 -- Why a tree that some file spells is not read again after it was written: the file is too long or nested too deep, or no memory was left.
 use Rattle.std.specs.Prelude.{◌<◌, ℕ, List, length, ⊤}
+use Rattle.text_base.specs.declared.limits.TheConstants.{FILE_LIMIT}
 use Rattle.php_syntax.specs.Tokens.{PlainToken}
 use Rattle.php_syntax.specs.Trees.{PlainFile}
 use Rattle.script_grammar.specs.Grammar.{SpellsTree, IsTooDeep}
@@ -11,9 +12,9 @@ use Rattle.php_parser.specs.declared.refusal.ParseRefusal.TheVariants as parse
 use Rattle.round_trip.specs.declared.unread.Unread.{Unread}
 use Rattle.round_trip.specs.declared.unread.Unread.TheVariants as unread
 
--- a file that spells the tree has over 1,048,576 bytes; the lexical grammar is never broken
+-- a file that spells the tree is too long; the lexical grammar is never broken
 abbrev pub IsLexCause : PlainFile → LexRefusal → Type 0
-IsLexCause tree (lex.TooLong len) = (file : List ℕ) × Spells file tree × (1048576 < length file)
+IsLexCause tree (lex.TooLong len) = (file : List ℕ) × Spells file tree × (FILE_LIMIT < length file)
 IsLexCause tree lex.Memory = ⊤
 IsLexCause tree _ = ⊥
 

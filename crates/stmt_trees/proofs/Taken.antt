@@ -1,17 +1,16 @@
 -- Rows of values on the stack: what an action takes off, and the trees that it gathers.
-use Rattle.std.proofs.Common.{◌≡◌, ◌∙◌, ℕ, suc, ◌+◌, Bool, true, false, List, [], ◌∷◌, refl, ap, arith, Some, None}
-use Rattle.std.specs.Prelude.{if◌then◌else◌, nat_le, max}
-use Rattle.php_syntax.specs.Trees.{PlainExpr, MaybeExpr, no_expr, some_expr, PlainExprs, no_exprs, more_exprs}
+use Rattle.std.proofs.Common.{◌≡◌, ℕ, suc, ◌+◌, Bool, true, false, List, [], ◌∷◌, refl, ap, arith, Some, None}
+use Rattle.std.specs.Prelude.{if◌then◌else◌, nat_le}
+use Rattle.php_syntax.specs.Trees.{MaybeExpr, no_expr, some_expr, PlainExprs, no_exprs, more_exprs}
 use Rattle.script_grammar.specs.Expressions.{MoreExprsForm, no_more_exprs, one_more_expr, ListForm, empty_list, list_form, more_exprs_tree, list_tree, expr_tree}
 use Rattle.script_grammar.specs.Statements.{MaybeForm, nothing_form, something_form, maybe_tree}
 use Rattle.script_grammar.specs.Rules.{is_place}
-use Rattle.php_syntax.specs.Height.{height, exprs_height, maybe_height}
+use Rattle.php_syntax.specs.Height.{height, maybe_height}
 use Rattle.expr_machine.specs.Postfix.{exprs_count}
-use Rattle.expr_machine.specs.Values.{PlainValue, known_value, tall_value, value_of_tree, add_expr, gather_exprs, take_values}
+use Rattle.expr_machine.specs.Values.{PlainValue, known_value, tall_value, value_of_tree, take_values}
 use Rattle.expr_trees.proofs.Rows.{exprs_values}
 use Rattle.stmt_machine.specs.Postfix.{list_count, is_something}
 use Rattle.stmt_machine.specs.Made.{maybe_value}
-use Rattle.expr_trees.proofs.NodeValues.{high_left, high_right, both_low}
 use Rattle.stmt_trees.proofs.Rows.{kept}
 use Rattle.stmt_trees.proofs.States.{pushed, maybe_pushed}
 
