@@ -56,7 +56,8 @@ fn cell(
     keys: &mut IndexSet<(u64, Flags)>,
 ) -> Result<Option<u16>, ContentRefusal>
     requires { IsSized (shape_of model.now) flags.now }
-    ensures cell { IfOk result (λ cell. CellFits keys.new.keys element cell (shapes.state_behind count (shape_of model.now) flags.now child)) }
+    ensures cell { IfOk result (λ cell. CellFits keys.new.keys element cell
+        (shapes.state_behind count (shape_of model.now) flags.now child)) }
     ensures few { OnOk result (length keys.old.keys ≤ 4096 → length keys.new.keys ≤ 4096) }
     ensures keeps { Keeps keys.old.keys keys.new.keys }
     ensures adds { Adds keys.old.keys keys.new.keys element (shapes.state_behind count (shape_of model.now) flags.now) }
@@ -81,7 +82,8 @@ pub fn cells(
     keys: &mut IndexSet<(u64, Flags)>,
 ) -> Result<Vec<Option<u16>>, ContentRefusal>
     requires { IsSized (shape_of model.now) flags.now }
-    ensures cells { IfOk result (λ v. CellsFit keys.new.keys element (shapes.state_behind count (shape_of model.now) flags.now) v.items count) }
+    ensures cells { IfOk result (λ v. CellsFit keys.new.keys element
+        (shapes.state_behind count (shape_of model.now) flags.now) v.items count) }
     ensures few { OnOk result (length keys.old.keys ≤ 4096 → length keys.new.keys ≤ 4096) }
     ensures keeps { Keeps keys.old.keys keys.new.keys }
     ensures adds { Adds keys.old.keys keys.new.keys element (shapes.state_behind count (shape_of model.now) flags.now) }

@@ -13,5 +13,6 @@ ghost use Rattle.expr_machine.specs.Reading.{rank_next, expr_at};
 
 /// Each expression that nothing goes on with is read, with its actions.
 pub fn expressions_are_read()
-    ensures { (e : ExprForm) (rest : List Terminal) → rank_next rest ≡ 10 → expr_at (expr_terminals e rest) ≡ Some (expr_actions e [], rest) }
+    ensures { (e : ExprForm) (rest : List Terminal) → rank_next rest ≡ 10 →
+        expr_at (expr_terminals e rest) ≡ Some (expr_actions e [], rest) }
 {}

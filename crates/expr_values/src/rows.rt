@@ -213,7 +213,8 @@ impl Values {
     ) -> Result<Option<Path>, NoMemory>
         ensures { IfOk result (λ found. MatchOption found
             (take_values count [] (plain_values self.old) ≡ None)
-            (λ path. IsPath (take_values count [] (plain_values self.old)) (path_shown path.keys) path.complete path.before_last (plain_values self.new))) }
+            (λ path. IsPath (take_values count [] (plain_values self.old)) (path_shown path.keys)
+            path.complete path.before_last (plain_values self.new))) }
     {
         let mut keys = Some((Vec::new(alloc), 0));
         let mut complete = true;

@@ -13,7 +13,8 @@ pub fn one_token_list()
 
 /// A file breaks the lexical grammar in at most one way and at one place.
 pub fn one_fault()
-    ensures { (file : List ℕ) (fault other : LexicalFault) (place second : ℕ) → Breaks file fault place → Breaks file other second → (fault ≡ other) × (place ≡ second) }
+    ensures { (file : List ℕ) (fault other : LexicalFault) (place second : ℕ) →
+        Breaks file fault place → Breaks file other second → (fault ≡ other) × (place ≡ second) }
 {}
 
 /// A file that is cut into tokens breaks nothing.

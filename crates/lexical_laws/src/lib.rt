@@ -17,7 +17,8 @@ ghost use Rattle.lexical_laws.specs.Quoting.{Quotes, HasNoMark};
 
 /// Each file is cut into tokens or breaks the grammar.
 pub fn cut_or_broken()
-    ensures { (file : List ℕ) → ((tokens : List PlainToken) × Cuts file tokens) ⊎ ((fault : LexicalFault) × (at : ℕ) × Breaks file fault at) }
+    ensures { (file : List ℕ) → ((tokens : List PlainToken) × Cuts file tokens)
+        ⊎ ((fault : LexicalFault) × (at : ℕ) × Breaks file fault at) }
 {}
 
 /// What spells the tokens and what is passed over between them, joined, are the file; each token

@@ -56,7 +56,8 @@ fn put_unit(
     plain: &mut Bytes,
     unit: TextUnit,
 ) -> Result<(), NoMemory>
-    ensures parts { OnOk result (map plain_part_of parts.new.items ≡ parts_with (map plain_part_of parts.old.items) plain.old (unit_of unit)) }
+    ensures parts { OnOk result (map plain_part_of parts.new.items
+        ≡ parts_with (map plain_part_of parts.old.items) plain.old (unit_of unit)) }
     ensures plain { OnOk result (plain.new ≡ plain_with plain.old (unit_of unit)) }
 {
     match unit {

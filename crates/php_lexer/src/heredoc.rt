@@ -152,7 +152,8 @@ fn other_end_at(name: &[u8], body: &[u8]) -> Option<usize>
 fn body_length(name: &[u8], bytes: &[u8]) -> usize
     ensures value { result ≡ chars.before (spec.ends_body name.now) bytes.now }
     ensures within { result ≤ length bytes.now }
-    ensures fits { result < length bytes.now → result + (spec.heredoc_newline (drop result bytes.now) + length name.now) ≤ length bytes.now }
+    ensures fits { result < length bytes.now → result +
+        (spec.heredoc_newline (drop result bytes.now) + length name.now) ≤ length bytes.now }
 {
     for n in 0..bytes.len() {
         if ends_body(name, behind(bytes, n)) {

@@ -175,7 +175,8 @@ impl Array {
     /// changed.
     pub fn put(&mut self, key: Key, value: Value) -> Result<(), Fault>
         ensures ok { OnOk result (within_depth (put_pair self.old (plain_key key) (plain_of value)) ≡ Ok (Plain.array self.new)) }
-        ensures err { IfErr result (λ fault. (fault ≡ Fault.Memory) ⊎ (within_depth (put_pair self.old (plain_key key) (plain_of value)) ≡ Err fault)) }
+        ensures err { IfErr result (λ fault. (fault ≡ Fault.Memory)
+            ⊎ (within_depth (put_pair self.old (plain_key key) (plain_of value)) ≡ Err fault)) }
         ensures unchanged { OnErr result (self.new ≡ self.old) }
     {
         if value.depth() >= DEPTH_LIMIT {
@@ -202,7 +203,8 @@ impl Array {
     /// none; as `put` in all else. Faults Full exactly where that largest key is the last integer.
     pub fn push(&mut self, value: Value) -> Result<(), Fault>
         ensures ok { OnOk result (push_at self.old (key_after (largest_key self.old)) (plain_of value) ≡ Ok (Plain.array self.new)) }
-        ensures err { IfErr result (λ fault. (fault ≡ Fault.Memory) ⊎ (push_at self.old (key_after (largest_key self.old)) (plain_of value) ≡ Err fault)) }
+        ensures err { IfErr result (λ fault. (fault ≡ Fault.Memory)
+            ⊎ (push_at self.old (key_after (largest_key self.old)) (plain_of value) ≡ Err fault)) }
         ensures unchanged { OnErr result (self.new ≡ self.old) }
     {
         match self.members.next_key() {

@@ -59,7 +59,9 @@ impl Members {
     // The key that a step of a path names.
     pub(crate) fn key_at(&self, step: &Option<Key>) -> Result<Key, Fault>
         ensures ok { IfOk result (λ key. named_key (plain_step step.now) (key_after (largest_key self.now)) ≡ Some (plain_key key)) }
-        ensures err { IfErr result (λ fault. (fault ≡ Fault.Memory) ⊎ ((named_key (plain_step step.now) (key_after (largest_key self.now)) ≡ None) × (fault ≡ Fault.Full))) }
+        ensures err { IfErr result (λ fault. (fault ≡ Fault.Memory)
+            ⊎ ((named_key (plain_step step.now) (key_after (largest_key self.now)) ≡ None)
+            × (fault ≡ Fault.Full))) }
     {
         match step {
             Some(key) => {

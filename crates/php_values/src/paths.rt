@@ -21,7 +21,9 @@ impl Value {
     /// key that an array does not have, at each key of null, a boolean and an integer, and at the
     /// step of an append. Faults BadIndex exactly at a text. Takes no memory.
     pub fn member(&self, step: &Option<Key>) -> Result<Option<&Value>, Fault>
-        ensures ok { IfOk result (λ found. MatchOption found (spec.get_step (plain_of self.now) (plain_step step.now) ≡ Ok Plain.null) (λ v. spec.get_step (plain_of self.now) (plain_step step.now) ≡ Ok (plain_of v.now))) }
+        ensures ok { IfOk result (λ found. MatchOption found
+            (spec.get_step (plain_of self.now) (plain_step step.now) ≡ Ok Plain.null)
+            (λ v. spec.get_step (plain_of self.now) (plain_step step.now) ≡ Ok (plain_of v.now))) }
         ensures err { IfErr result (λ fault. spec.get_step (plain_of self.now) (plain_step step.now) ≡ Err fault) }
     {
         match (self, step) {
@@ -36,7 +38,9 @@ impl Value {
     /// None stands for null. From the outermost step in, faults BadIndex exactly where a member of
     /// a text is read. Takes no memory.
     pub fn read(&self, path: &[Option<Key>]) -> Result<Option<&Value>, Fault>
-        ensures ok { IfOk result (λ found. MatchOption found (spec.read (plain_path path.now) (plain_of self.now) ≡ Ok Plain.null) (λ v. spec.read (plain_path path.now) (plain_of self.now) ≡ Ok (plain_of v.now))) }
+        ensures ok { IfOk result (λ found. MatchOption found
+            (spec.read (plain_path path.now) (plain_of self.now) ≡ Ok Plain.null)
+            (λ v. spec.read (plain_path path.now) (plain_of self.now) ≡ Ok (plain_of v.now))) }
         ensures err { IfErr result (λ fault. spec.read (plain_path path.now) (plain_of self.now) ≡ Err fault) }
     {
         match path.split_first() {
@@ -73,7 +77,8 @@ impl Value {
     /// array would be nested deeper than 1,000. After a fault nothing has changed.
     pub fn write(&mut self, alloc: Global, path: &[Option<Key>], new: Value) -> Result<(), Fault>
         ensures ok { OnOk result (spec.write (plain_path path.now) (plain_of new) (plain_of self.old) ≡ Ok (plain_of self.new)) }
-        ensures err { IfErr result (λ fault. (fault ≡ Fault.Memory) ⊎ (spec.write (plain_path path.now) (plain_of new) (plain_of self.old) ≡ Err fault)) }
+        ensures err { IfErr result (λ fault. (fault ≡ Fault.Memory)
+            ⊎ (spec.write (plain_path path.now) (plain_of new) (plain_of self.old) ≡ Err fault)) }
         ensures unchanged { OnErr result (self.new ≡ self.old) }
     {
         // For its clause: no value is too deep.
@@ -120,7 +125,9 @@ impl Value {
     ) -> Result<(), Fault>
         requires { (fits ≡ true) → (length (plain_path path.now) + depth (plain_of new) ≤ 1000) }
         ensures ok { OnOk result (write_if fits (plain_path path.now) (plain_of new) (plain_of self.old) ≡ Ok (plain_of self.new)) }
-        ensures err { IfErr result (λ fault. (fault ≡ Fault.Memory) ⊎ (write_if fits (plain_path path.now) (plain_of new) (plain_of self.old) ≡ Err fault)) }
+        ensures err { IfErr result (λ fault. (fault ≡ Fault.Memory)
+            ⊎ (write_if fits (plain_path path.now) (plain_of new) (plain_of self.old)
+            ≡ Err fault)) }
         ensures unchanged { OnErr result (self.new ≡ self.old) }
     {
         match path.split_first() {
@@ -157,8 +164,11 @@ impl Array {
         new: Value,
     ) -> Result<(), Fault>
         requires { (fits ≡ true) → (length (plain_path rest.now) + depth (plain_of new) < 1000) }
-        ensures ok { OnOk result (change_in (write_if fits (plain_path rest.now) (plain_of new)) (plain_step step.now) (Ok self.old) ≡ Ok (array self.new)) }
-        ensures err { IfErr result (λ fault. (fault ≡ Fault.Memory) ⊎ (change_in (write_if fits (plain_path rest.now) (plain_of new)) (plain_step step.now) (Ok self.old) ≡ Err fault)) }
+        ensures ok { OnOk result (change_in (write_if fits (plain_path rest.now) (plain_of new))
+            (plain_step step.now) (Ok self.old) ≡ Ok (array self.new)) }
+        ensures err { IfErr result (λ fault. (fault ≡ Fault.Memory)
+            ⊎ (change_in (write_if fits (plain_path rest.now) (plain_of new)) (plain_step step.now)
+            (Ok self.old) ≡ Err fault)) }
         ensures unchanged { OnErr result (self.new ≡ self.old) }
     {
         let key = self.members.key_at(step)?;
@@ -193,8 +203,13 @@ impl Members {
         new: Value,
     ) -> Result<(), Fault>
         requires { (fits ≡ true) → (length (plain_path rest.now) + depth (plain_of new) < 1000) }
-        ensures ok { OnOk result (put_back self.old (plain_key key.now) (write_if fits (plain_path rest.now) (plain_of new) (member self.old (plain_key key.now))) ≡ Ok (array self.new)) }
-        ensures err { IfErr result (λ fault. (fault ≡ Fault.Memory) ⊎ (put_back self.old (plain_key key.now) (write_if fits (plain_path rest.now) (plain_of new) (member self.old (plain_key key.now))) ≡ Err fault)) }
+        ensures ok { OnOk result (put_back self.old (plain_key key.now)
+            (write_if fits (plain_path rest.now) (plain_of new)
+            (member self.old (plain_key key.now))) ≡ Ok (array self.new)) }
+        ensures err { IfErr result (λ fault. (fault ≡ Fault.Memory)
+            ⊎ (put_back self.old (plain_key key.now)
+            (write_if fits (plain_path rest.now) (plain_of new)
+            (member self.old (plain_key key.now))) ≡ Err fault)) }
         ensures unchanged { OnErr result (self.new ≡ self.old) }
     {
         match self.place(key) {

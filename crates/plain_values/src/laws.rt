@@ -12,7 +12,8 @@ ghost use Rattle.plain_values.specs.Grammar.{IsIntegerText, IsFloatText};
 /// range, and those that read as floats are its float texts and its other integer texts.
 pub fn numeric_texts()
     ensures integer { (text : List ℕ) (z : ℤ) → (numeric text ≡ Integer z) ↔ (IsIntegerText text z × (is_in_range z ≡ true)) }
-    ensures float { (text : List ℕ) → (numeric text ≡ Float) ↔ (IsFloatText text ⊎ ((z : ℤ) × IsIntegerText text z × (is_in_range z ≡ false))) }
+    ensures float { (text : List ℕ) → (numeric text ≡ Float) ↔ (IsFloatText text
+        ⊎ ((z : ℤ) × IsIntegerText text z × (is_in_range z ≡ false))) }
 {}
 
 /// Values are identical exactly where they are equal as plain values.

@@ -123,7 +123,8 @@ fn dot_in(text: &[u8]) -> Option<usize>
 
 // What stands before and after the first mark of an exponent.
 fn around_exponent_mark(text: &[u8]) -> Option<(&[u8], &[u8])>
-    ensures { MatchOption result (IsWhole spec.is_exponent_mark text.now) (λ parts. AreAround spec.is_exponent_mark text.now parts.0.now parts.1.now) }
+    ensures { MatchOption result (IsWhole spec.is_exponent_mark text.now)
+        (λ parts. AreAround spec.is_exponent_mark text.now parts.0.now parts.1.now) }
 {
     match exponent_mark_in(text) {
         None => None,

@@ -223,7 +223,9 @@ fn push_place(
     next: &Behind,
     places: &mut Vec<Place>,
 ) -> Result<(), NoMemory>
-    ensures { OnOk result (positions_of places.new.items ≡ positions_of places.old.items ++ (record { element = element; behind = next_of next.now } ∷ [])) }
+    ensures { OnOk result (positions_of places.new.items
+        ≡ positions_of places.old.items ++
+        (record { element = element; behind = next_of next.now } ∷ [])) }
 {
     let behind = copied(alloc, next)?;
     places.push(Place { element, behind })?;
@@ -240,7 +242,9 @@ fn push_places(
     next: &Behind,
     places: &mut Vec<Place>,
 ) -> Result<(), NoMemory>
-    ensures { OnOk result (positions_of places.new.items ≡ positions_of places.old.items ++ spec.places base (model_of particle.now) (next_of next.now)) }
+    ensures { OnOk result (positions_of places.new.items
+        ≡ positions_of places.old.items ++ spec.places base (model_of particle.now)
+        (next_of next.now)) }
 {
     match particle {
         Particle::One(element) => push_place(alloc, usize::from(element.0), next, places),
@@ -267,7 +271,9 @@ fn push_places_in_turn(
     next: &Behind,
     places: &mut Vec<Place>,
 ) -> Result<(), NoMemory>
-    ensures { OnOk result (positions_of places.new.items ≡ positions_of places.old.items ++ spec.places_in_turn base (models_in parts.now) (next_of next.now)) }
+    ensures { OnOk result (positions_of places.new.items
+        ≡ positions_of places.old.items ++ spec.places_in_turn base (models_in parts.now)
+        (next_of next.now)) }
 {
     let mut at = base;
     for i in 0..parts.len() {
@@ -289,7 +295,9 @@ fn push_places_of_each(
     next: &Behind,
     places: &mut Vec<Place>,
 ) -> Result<(), NoMemory>
-    ensures { OnOk result (positions_of places.new.items ≡ positions_of places.old.items ++ spec.places_of_each base (models_in parts.now) (next_of next.now)) }
+    ensures { OnOk result (positions_of places.new.items
+        ≡ positions_of places.old.items ++ spec.places_of_each base (models_in parts.now)
+        (next_of next.now)) }
 {
     let mut at = base;
     for part in parts {

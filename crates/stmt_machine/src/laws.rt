@@ -11,7 +11,8 @@ ghost use Rattle.stmt_machine.specs.Reading.{weight, makes_on, makes_next};
 
 /// Each move makes the weight less, so that a run ends.
 pub fn moves_get_lighter()
-    ensures { (f : Focus) (fs : List Frame) (ts : List Terminal) (g : Focus) (gs : List Frame) (r : List Terminal) (acts : List StmtAction) →
+    ensures { (f : Focus) (fs : List Frame) (ts : List Terminal) (g : Focus) (gs : List Frame)
+        (r : List Terminal) (acts : List StmtAction) →
         move f fs ts ≡ moves g gs r acts → weight g gs r < weight f fs ts }
 {
     expr_machine::laws::what_is_read_is_shorter();

@@ -14,7 +14,8 @@ pub fn pieces(sep: &[u8], text: &[u8])
     requires { sep.now ≢ [] }
     ensures joined { join_of sep.now (pieces_of sep.now text.now) ≡ text.now }
     ensures leftmost { AreLeftmost sep.now (pieces_of sep.now text.now) }
-    ensures unique { (pieces : List (List ℕ)) → join_of sep.now pieces ≡ text.now → AreLeftmost sep.now pieces → pieces ≡ pieces_of sep.now text.now }
+    ensures unique { (pieces : List (List ℕ)) → join_of sep.now pieces ≡ text.now →
+        AreLeftmost sep.now pieces → pieces ≡ pieces_of sep.now text.now }
 {}
 
 /// Each piece is a part of the text.
@@ -30,7 +31,9 @@ pub fn bytes_of_replaced(search: &[u8], with: &[u8], text: &[u8])
 /// Each occurrence that is replaced takes away the length of the search and adds that of the
 /// replacement.
 pub fn length_of_replaced(search: &[u8], with: &[u8], text: &[u8])
-    ensures { length (replaced_text search.now with.now text.now) + occurrences_of search.now text.now * length search.now ≡ length text.now + occurrences_of search.now text.now * length with.now }
+    ensures { length (replaced_text search.now with.now text.now) + occurrences_of search.now
+        text.now * length search.now
+        ≡ length text.now + occurrences_of search.now text.now * length with.now }
 {}
 
 /// An empty search leaves the text, and an empty separator gives no piece.

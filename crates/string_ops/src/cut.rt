@@ -20,7 +20,8 @@ const MOST: u64 = 1 << 61;
 
 /// The machine of `Op::Cut`.
 pub(crate) fn cut_machine(alloc: Global, start: &i64, len: Option<i64>) -> Result<Table, NoMemory>
-    ensures { IfOk result (λ table. IsMachine table (nat_abs start.now + size_of_length len) (λ input output. output ≡ part_of input start.now len)) }
+    ensures { IfOk result (λ table. IsMachine table (nat_abs start.now + size_of_length len)
+        (λ input output. output ≡ part_of input start.now len)) }
 {
     let number = magnitude(start);
     if is_below_zero(start) {
@@ -111,7 +112,8 @@ pub(crate) fn next_machine(alloc: Global, start: u64, len: u64) -> Result<Table,
 
 /// The text from a start on, without its last bytes.
 pub(crate) fn inner_machine(alloc: Global, start: u64, below: u64) -> Result<Table, NoMemory>
-    ensures { IfOk result (λ table. IsMachine table (start + (below + 1)) (λ input output. output ≡ part_of input (pos start) (Some (negsuc below)))) }
+    ensures { IfOk result (λ table. IsMachine table (start + (below + 1))
+        (λ input output. output ≡ part_of input (pos start) (Some (negsuc below)))) }
 {
     if start >= MOST || below >= MOST {
         return Err(NoMemory);

@@ -252,7 +252,8 @@ fn may_end(cut: CutBack, phase: u64, k: u64) -> bool
 /// 2 to the power 60 states needs more memory than there is.
 pub(crate) fn back_machine(alloc: Global, below: u64, len: Option<i64>) -> Result<Table, NoMemory>
     requires { below < 2 ^ 63 }
-    ensures { IfOk result (λ table. IsMachine table (below + 1 + size_of_length len) (λ input output. output ≡ part_of input (negsuc below) len)) }
+    ensures { IfOk result (λ table. IsMachine table (below + 1 + size_of_length len)
+        (λ input output. output ≡ part_of input (negsuc below) len)) }
 {
     let last = below + 1;
     let drops = dropped(len);

@@ -46,7 +46,8 @@ pub(crate) fn add_step(
 ) -> Result<(), NoMemory>
     requires from { from < table.old.states }
     requires to { to < table.old.states }
-    ensures moves { OnOk result (AddsTurns table.old.moves.items table.new.moves.items from (λ byte. (to, if copied then Same ∷ [] else []))) }
+    ensures moves { OnOk result (AddsTurns table.old.moves.items table.new.moves.items from
+        (λ byte. (to, if copied then Same ∷ [] else []))) }
     ensures states { table.new.states ≡ table.old.states }
     ensures start { table.new.start ≡ table.old.start }
     ensures ends { table.new.ends.items ≡ table.old.ends.items }

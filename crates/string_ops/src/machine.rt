@@ -53,7 +53,8 @@ pub fn machine_of(alloc: Global, op: &Op) -> Result<Table, NoMemory>
 
 /// The machine of `Op::Replace`; where the search is empty it changes nothing.
 fn replace_or_same(alloc: Global, search: &[u8], with: &[u8]) -> Result<Table, NoMemory>
-    ensures { IfOk result (λ table. IsMachine table (length search.now + length with.now) (λ input output. output ≡ replaced_text search.now with.now input)) }
+    ensures { IfOk result (λ table. IsMachine table (length search.now + length with.now)
+        (λ input output. output ≡ replaced_text search.now with.now input)) }
 {
     if search.is_empty() {
         let size = with.len();

@@ -32,7 +32,8 @@ pub trait Plan {
 
     ghost three: { (plan : Self) (s byte : ℕ) → length (rows plan s byte) ≤ 3 };
 
-    ghost within: { (plan : Self) (s byte : ℕ) → s < states plan → byte < 256 → list_all (λ choice. nat_lt choice.0 (states plan)) (rows plan s byte) ≡ true };
+    ghost within: { (plan : Self) (s byte : ℕ) → s < states plan → byte < 256 →
+        list_all (λ choice. nat_lt choice.0 (states plan)) (rows plan s byte) ≡ true };
 
     ghost one: { (plan : Self) (s : ℕ) → length (lasts plan s) ≤ 1 };
 
@@ -106,7 +107,8 @@ fn is_same_out(a: Out, b: Out) -> bool
 fn place_of(actions: &mut Vec<Action>, action: Action) -> Result<usize, NoMemory>
     ensures extends { OnOk result (Extends actions.old.items actions.new.items) }
     ensures placed { IfOk result (λ place. choice_in (slice_get actions.new.items place) ≡ Some (action.to, action.out.items)) }
-    ensures below { OnOk result ((states : ℕ) → action.to < states → LeadBelow states actions.old.items → LeadBelow states actions.new.items) }
+    ensures below { OnOk result ((states : ℕ) → action.to < states →
+        LeadBelow states actions.old.items → LeadBelow states actions.new.items) }
 {
     if let Some(last) = actions.last() {
         if is_same(last, &action) {
@@ -123,7 +125,8 @@ fn place_of(actions: &mut Vec<Action>, action: Action) -> Result<usize, NoMemory
 fn name_choice(actions: &mut Vec<Action>, choice: Option<Action>) -> Result<usize, NoMemory>
     ensures extends { OnOk result (Extends actions.old.items actions.new.items) }
     ensures named { IfOk result (λ place. Names actions.new.items place (choice_in choice)) }
-    ensures below { OnOk result ((states : ℕ) → IfSome choice (λ a. a.to < states) → LeadBelow states actions.old.items → LeadBelow states actions.new.items) }
+    ensures below { OnOk result ((states : ℕ) → IfSome choice (λ a. a.to < states) →
+        LeadBelow states actions.old.items → LeadBelow states actions.new.items) }
 {
     match choice {
         Some(action) => place_of(actions, action),
@@ -134,7 +137,8 @@ fn name_choice(actions: &mut Vec<Action>, choice: Option<Action>) -> Result<usiz
 /// What a state does at one turn.
 fn row_of<P: Plan>(alloc: Global, plan: &P, state: u64, turn: usize) -> Result<Row, NoMemory>
     requires { state < P.states plan.now }
-    ensures { IfOk result (λ row. IsRow row.named.items row.actions.items (P.states plan.now) (λ byte. slice_get (P.rows plan.now state byte) turn)) }
+    ensures { IfOk result (λ row. IsRow row.named.items row.actions.items (P.states plan.now)
+        (λ byte. slice_get (P.rows plan.now state byte) turn)) }
 {
     let mut named = Vec::new(alloc);
     let mut actions = Vec::new(alloc);
@@ -156,7 +160,8 @@ fn add_turn<P: Plan>(
 ) -> Result<(), NoMemory>
     requires state { state < P.states plan.now }
     requires all { table.old.states ≡ P.states plan.now }
-    ensures moves { OnOk result (AddsTurn table.old.moves.items table.new.moves.items state (λ byte. slice_get (P.rows plan.now state byte) turn)) }
+    ensures moves { OnOk result (AddsTurn table.old.moves.items table.new.moves.items state
+        (λ byte. slice_get (P.rows plan.now state byte) turn)) }
     ensures states { table.new.states ≡ table.old.states }
     ensures start { table.new.start ≡ table.old.start }
     ensures ends { table.new.ends.items ≡ table.old.ends.items }
@@ -169,7 +174,8 @@ fn add_turn<P: Plan>(
 fn add_last<P: Plan>(alloc: Global, table: &mut Table, plan: &P, state: u64) -> Result<(), NoMemory>
     requires state { state < P.states plan.now }
     requires all { table.old.states ≡ P.states plan.now }
-    ensures ends { OnOk result ((s : ℕ) → stops table.new.ends.items s ≡ stops table.old.ends.items s ++ (if state == s then P.lasts plan.now state else [])) }
+    ensures ends { OnOk result ((s : ℕ) → stops table.new.ends.items s
+        ≡ stops table.old.ends.items s ++ (if state == s then P.lasts plan.now state else [])) }
     ensures states { table.new.states ≡ table.old.states }
     ensures start { table.new.start ≡ table.old.start }
     ensures moves { table.new.moves.items ≡ table.old.moves.items }

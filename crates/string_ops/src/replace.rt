@@ -14,7 +14,8 @@ use text_search::failures;
 /// The machine of `Op::Replace` with a search that is not empty.
 pub(crate) fn replace_machine(alloc: Global, pattern: &[u8], with: &[u8]) -> Result<Table, NoMemory>
     requires { 0 < length pattern.now }
-    ensures { IfOk result (λ table. IsMachine table (length pattern.now + length with.now) (λ input output. output ≡ replaced_text pattern.now with.now input)) }
+    ensures { IfOk result (λ table. IsMachine table (length pattern.now + length with.now)
+        (λ input output. output ≡ replaced_text pattern.now with.now input)) }
 {
     let table = replace_table(alloc, pattern, with)?;
     Ok(table)

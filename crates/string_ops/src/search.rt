@@ -57,7 +57,9 @@ fn let_go(alloc: Global, pattern: &[u8], at: usize, part: usize) -> Result<Vec<O
 fn shown_out(alloc: Global, search: &Search, at: usize, part: usize) -> Result<Vec<Out>, NoMemory>
     requires at { at < length search.now.pattern.now }
     requires part { part ≤ at + 1 }
-    ensures { IfOk result (λ out. out.items ≡ (if search.now.shown then Rattle.string_ops.specs.Search.let_go search.now.pattern.now at part else [])) }
+    ensures { IfOk result (λ out. out.items ≡
+        (if search.now.shown then Rattle.string_ops.specs.Search.let_go search.now.pattern.now at
+        part else [])) }
 {
     if search.shown {
         let out = let_go(alloc, search.pattern, at, part)?;
@@ -71,7 +73,9 @@ fn action_of(alloc: Global, search: &Search, at: usize, part: usize) -> Result<A
     requires at { at < length search.now.pattern.now }
     requires part { part ≤ at + 1 }
     requires room { search.now.base + length search.now.pattern.now < 2 ^ 64 }
-    ensures { IfOk result (λ action. (action.to, action.out.items) ≡ turn search.now.pattern.now search.now.base (search.now.full_to, search.now.full_out.now) search.now.shown at part) }
+    ensures { IfOk result (λ action. (action.to, action.out.items)
+        ≡ turn search.now.pattern.now search.now.base
+        (search.now.full_to, search.now.full_out.now) search.now.shown at part) }
 {
     if part == search.pattern.len() {
         let out = Vec::from_slice(alloc, search.full_out)?;
@@ -104,7 +108,9 @@ fn add_turn(
     requires fits { search.now.base + length search.now.pattern.now < 2 ^ 64 }
     requires at { at < length search.now.pattern.now }
     requires part { part ≤ at + 1 }
-    ensures moves { OnOk result (AddsTurn table.old.moves.items table.new.moves.items from byte part (turn search.now.pattern.now search.now.base (search.now.full_to, search.now.full_out.now) search.now.shown at part)) }
+    ensures moves { OnOk result (AddsTurn table.old.moves.items table.new.moves.items from byte part
+        (turn search.now.pattern.now search.now.base
+        (search.now.full_to, search.now.full_out.now) search.now.shown at part)) }
     ensures states { table.new.states ≡ table.old.states }
     ensures start { table.new.start ≡ table.old.start }
     ensures ends { table.new.ends.items ≡ table.old.ends.items }
@@ -137,7 +143,9 @@ pub(crate) fn add_state(
     requires fits { search.now.base + length search.now.pattern.now < 2 ^ 64 }
     requires at { at < length search.now.pattern.now }
     requires failures { AreFailures search.now.pattern.now search.now.failures.now (length search.now.pattern.now) }
-    ensures moves { OnOk result (AddsTurns table.old.moves.items table.new.moves.items from (turn_by search.now.pattern.now search.now.base (search.now.full_to, search.now.full_out.now) search.now.shown at)) }
+    ensures moves { OnOk result (AddsTurns table.old.moves.items table.new.moves.items from
+        (turn_by search.now.pattern.now search.now.base
+        (search.now.full_to, search.now.full_out.now) search.now.shown at)) }
     ensures states { table.new.states ≡ table.old.states }
     ensures start { table.new.start ≡ table.old.start }
     ensures ends { table.new.ends.items ≡ table.old.ends.items }
@@ -179,7 +187,10 @@ pub(crate) fn add_states(alloc: Global, table: &mut Table, search: &Search) -> R
     requires room { search.now.base + length search.now.pattern.now ≤ table.old.states }
     requires fits { search.now.base + length search.now.pattern.now < 2 ^ 64 }
     requires failures { AreFailures search.now.pattern.now search.now.failures.now (length search.now.pattern.now) }
-    ensures moves { OnOk result (AddsSearch table.old.moves.items table.new.moves.items search.now.base (length search.now.pattern.now) (turn_by search.now.pattern.now search.now.base (search.now.full_to, search.now.full_out.now) search.now.shown)) }
+    ensures moves { OnOk result
+        (AddsSearch table.old.moves.items table.new.moves.items search.now.base
+        (length search.now.pattern.now) (turn_by search.now.pattern.now search.now.base
+        (search.now.full_to, search.now.full_out.now) search.now.shown)) }
     ensures states { table.new.states ≡ table.old.states }
     ensures start { table.new.start ≡ table.old.start }
     ensures ends { table.new.ends.items ≡ table.old.ends.items }

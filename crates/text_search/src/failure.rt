@@ -45,7 +45,9 @@ fn next_failure(pattern: &[u8], failures: &[usize], at: usize) -> usize
 fn note(row: &mut Vec<usize>, pattern: &[u8], part: usize)
     requires row { length row.old.items ≡ 256 }
     requires part { part < length pattern.now }
-    ensures { let byte = slice_index pattern.now part in row.new.items ≡ (if slice_index row.old.items byte == 0 then slice_set row.old.items byte (part + 1) else row.old.items) }
+    ensures { let byte = slice_index pattern.now part in row.new.items
+        ≡ (if slice_index row.old.items byte == 0 then slice_set row.old.items byte
+        (part + 1) else row.old.items) }
 {
     let byte = usize::from(pattern[part]);
     if row[byte] == 0 {
