@@ -39,7 +39,9 @@ pub fn while_goes_by_turns()
     ensures { (r : PlainRequest) (fs : List PlainFunction) (room : ℕ) (e : PlainExpr) (body : PlainStmts) (s : State) →
         let w : Environment = record { request = r; call = call_within r fs room } in
         loop (condition w e) (statements w body) nothing s
-        ≡ (condition w e s then_do λ holds t. (if holds then turn (statements w body) t (loop (condition w e) (statements w body) nothing) else Going goes_on t)) }
+        ≡ (condition w e s then_do λ holds t.
+            (if holds then turn (statements w body) t (loop (condition w e) (statements w body) nothing)
+            else Going goes_on t)) }
 {}
 
 /// `for` likewise, with what stands in its third place behind each turn.
@@ -47,5 +49,7 @@ pub fn for_goes_by_turns()
     ensures { (r : PlainRequest) (fs : List PlainFunction) (room : ℕ) (e : MaybeExpr) (next : PlainExprs) (body : PlainStmts) (s : State) →
         let w : Environment = record { request = r; call = call_within r fs room } in
         let again : (State → Run Flow) = loop (for_condition w e) (statements w body) (values w next) in
-        again s ≡ (for_condition w e s then_do λ holds t. (if holds then turn (statements w body) t (λ u. (values w next u then_do λ vs v. again v)) else Going goes_on t)) }
+        again s ≡ (for_condition w e s then_do λ holds t.
+            (if holds then turn (statements w body) t (λ u. (values w next u then_do λ vs v. again v))
+            else Going goes_on t)) }
 {}
