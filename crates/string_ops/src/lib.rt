@@ -18,8 +18,6 @@ mod plan;
 mod replace;
 mod same;
 mod search;
-#[cfg(test)]
-mod tests;
 mod trim;
 
 pub use machine::machine_of;

@@ -3,11 +3,11 @@
 ghost use Rattle.std.specs.Prelude.{◌≢◌, IfOk};
 ghost use Rattle.op_system.specs.declared.op.Op.TheVariants.{Any};
 
-use crate::machine_of;
 use fst_core::applies;
 use op_system::Op;
 use std::alloc::Global;
 use std::test::Fail;
+use string_ops::machine_of;
 use text_base::{Bytes, NoMemory};
 
 /// Whether the machine of the operation relates the two texts.
