@@ -1,1 +1,3 @@
 pub mod Encodings
+pub mod Front
+pub mod Joined

@@ -4,14 +4,21 @@
 //! text_search, plain_values, php_values, value_operations and builtin_meaning.
 #![tactic(auto)]
 
+mod application;
 mod cases;
 mod copying;
 mod encodings;
+mod intval;
+mod joining;
 mod line_ends;
 mod pieces;
+mod values;
 
+pub use application::apply;
 pub use cases::{first_upper, lower, substr, trim, upper};
 pub use copying::repeat;
-pub use encodings::{Encoding, encode};
+pub use encodings::{html, raw_url, slashes, url};
+pub use intval::text_integer;
+pub use joining::implode;
 pub use line_ends::breaks;
 pub use pieces::{explode, replace};

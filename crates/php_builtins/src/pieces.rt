@@ -72,7 +72,8 @@ fn replaced(
 /// anything is built. Takes time linear in the arguments and the result.
 pub fn replace(alloc: Global, search: &[u8], with: &[u8], text: &[u8]) -> Result<Text, Fault>
     ensures ok { IfOk result (λ t. within_length (replaced_text search.now with.now text.now) ≡ Ok (Plain.text t)) }
-    ensures err { IfErr result (λ fault. (fault ≡ Fault.Memory) ⊎ (within_length (replaced_text search.now with.now text.now) ≡ Err fault)) }
+    ensures err { IfErr result (λ fault. (fault ≡ Fault.Memory)
+        ⊎ (within_length (replaced_text search.now with.now text.now) ≡ Err fault)) }
 {
     if search.is_empty() {
         return Text::new(alloc, text);
