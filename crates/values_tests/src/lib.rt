@@ -3,4 +3,8 @@
 #![tactic(auto)]
 
 #[cfg(test)]
+mod operations;
+#[cfg(test)]
 mod texts;
+#[cfg(test)]
+mod writes;
