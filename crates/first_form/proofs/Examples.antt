@@ -5,7 +5,7 @@ use Rattle.std.specs.List.{list_all}
 use Rattle.php_syntax.specs.Trees.{PlainExpr, PlainStmt, PlainStmts, PlainFile, text_expr, no_exprs, more_exprs, inline_stmt, echo_stmt, if_stmt, no_stmts, more_stmts, no_arms, more_arms}
 use Rattle.std.specs.Char.{is_ascii_alphabetic}
 use Rattle.first_form.specs.Characters.{is_plain}
-use Rattle.first_form.specs.Requests.{Request, Members, text_key, int_key, text_member, array_member, no_members, more_members, has_name, is_xml_character}
+use Rattle.first_form.specs.Requests.{Request, Members, text_key, int_key, text_member, array_member, no_members, more_members, has_name}
 use Rattle.first_form.specs.Meaning.{Meaning, Ended, Spent, statement_run, texts_of, outcome_of}
 use Rattle.first_form.specs.Loose.{Loose, LooseStatement}
 use Rattle.first_form.specs.FirstTree.{is_set, IsSetTest, IsStraightStatement, IsBranch, IsFirstBody, IsFirstTree}
@@ -35,15 +35,6 @@ other_is_not : has_name (codes "Name") some_members ≡ false
 unfolding some_members
 other_is_not = refl
 
--- characters of XML
-tab_is_one : is_xml_character 9 ≡ true
-tab_is_one = refl
-
-null_is_none : is_xml_character 0 ≡ false
-null_is_none = refl
-
-surrogate_is_none : is_xml_character 55296 ≡ false
-surrogate_is_none = refl
 
 -- p<?php if (isset($_GET['name'])) { echo 'y'; } else { echo 'n'; }
 abbrev echo_one : List ℕ → PlainStmt

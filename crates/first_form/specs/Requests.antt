@@ -1,8 +1,7 @@
 -- Requests: the five arrays that a script is given.
-use Rattle.std.specs.Prelude.{◌≡◌, ℕ, ℤ, Bool, false, ◌&&◌, ◌||◌, ◌==◌, nat_le, List, IsTrue, nat_eq, ⊤}
-use Rattle.std.specs.Str.{encode_utf8_all}
-use Rattle.std.specs.List.{list_all}
+use Rattle.std.specs.Prelude.{ℕ, ℤ, Bool, false, ◌||◌, List, nat_eq, ⊤}
 use Rattle.std.specs.Cmp.Lexicographic.{pointwise}
+use Rattle.xml_text.specs.Texts.{IsText}
 
 -- a key of an array: an integer or a text
 pub data Key : Type 0 where
@@ -27,22 +26,15 @@ pub record Request : Type 0 where
   pub request : Members
   pub server : Members
 
--- a character of XML (XML 1.0, 2.2)
-abbrev pub is_xml_character : ℕ → Bool
-is_xml_character c = (c == 9) || (c == 10) || (c == 13) || (nat_le 32 c && nat_le c 55295) || (nat_le 57344 c && nat_le c 65533) || (nat_le 65536 c && nat_le c 1114111)
-
--- the bytes are characters of XML in UTF-8
-abbrev pub IsXmlText : List ℕ → Type 0
-IsXmlText bytes = (characters : List ℕ) × IsTrue (list_all is_xml_character characters) × (bytes ≡ encode_utf8_all characters)
-
+-- a text under which a member stands is of XML's characters in UTF-8
 abbrev pub IsXmlKey : Key → Type 0
 IsXmlKey (int_key z) = ⊤
-IsXmlKey (text_key text) = IsXmlText text
+IsXmlKey (text_key text) = IsText text
 
 -- each text and each text key is of characters of XML
 unfoldable mutual
   pub IsXmlMember : Member → Type 0
-  IsXmlMember (text_member text) = IsXmlText text
+  IsXmlMember (text_member text) = IsText text
   IsXmlMember (array_member members) = AreXmlMembers members
 
   pub AreXmlMembers : Members → Type 0

@@ -104,7 +104,11 @@ fn file_bytes(alloc: Global, tree: &FileTree) -> Result<Bytes, NoMemory>
 /// A file that spells the tree, where some file does. It calls itself as deep as the tree is high:
 /// ask `well_formed` first where that may be much.
 pub fn write_tree(alloc: Global, tree: &FileTree) -> Result<Bytes, NoMemory>
-    ensures { IfOk result (λ bytes.
+    // These bytes and no others.
+    ensures exact { IfOk result (λ bytes. bytes ≡ file_written (file_marks (plain_file tree.now))) }
+
+    // They spell the tree, where some file does.
+    ensures spells { IfOk result (λ bytes.
         IsSpelled (plain_file tree.now) → Spells bytes (plain_file tree.now)) }
 {
     file_bytes(alloc, tree)

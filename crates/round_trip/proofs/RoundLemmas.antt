@@ -1,11 +1,12 @@
 -- What was written spells the tree: so it is cut into tokens that spell the tree, and no refusal but of size has a cause.
 use Rattle.std.proofs.Common.{◌≡◌, ℕ, List, subst, sym}
-use Rattle.std.specs.Prelude.{Result, Ok, Err, IfErr}
+use Rattle.std.specs.Prelude.{◌<◌, length, Result, Ok, Err, IfErr}
+use Rattle.text_base.specs.declared.limits.TheConstants.{FILE_LIMIT}
 use Rattle.php_syntax.specs.Tokens.{PlainToken}
 use Rattle.php_syntax.specs.Trees.{PlainFile}
 use Rattle.lexical_grammar.specs.declared.fault.LexicalFault.{LexicalFault}
 use Rattle.lexical_grammar.specs.Cuts.{Cuts, Breaks}
-use Rattle.script_grammar.specs.Grammar.{SpellsTree}
+use Rattle.script_grammar.specs.Grammar.{SpellsTree, IsTooDeep}
 use Rattle.php_writer.specs.Spelled.{Spells}
 use Rattle.php_lexer.specs.Refusals as lexer
 use Rattle.php_lexer.specs.declared.refusal.LexRefusal.{LexRefusal}
@@ -15,7 +16,7 @@ use Rattle.php_parser.specs.declared.refusal.ParseRefusal.{ParseRefusal}
 use Rattle.php_parser.specs.declared.refusal.ParseRefusal.TheVariants as parse
 use Rattle.round_trip.specs.declared.unread.Unread.{Unread}
 use Rattle.round_trip.specs.declared.unread.Unread.TheVariants as unread
-use Rattle.round_trip.specs.Causes.{IsLexCause, IsParseCause, IsCauseOf}
+use Rattle.round_trip.specs.Causes.{written, IsLexCause, IsParseCause, IsCauseOf}
 
 -- the laws of the lexical grammar
 abbrev pub OneList : Type 0
@@ -27,24 +28,27 @@ NeverBoth = (file : List ℕ) (tokens : List PlainToken) (fault : LexicalFault) 
 pub cut_so : OneList → (file : List ℕ) (tree : PlainFile) (tokens : List PlainToken) → Spells file tree → Cuts file tokens → SpellsTree tokens tree
 cut_so law file tree tokens s c = let P : List PlainToken → Type 0 = λ ts. SpellsTree ts tree in subst P (law file s.0 tokens s.1 c) s.2
 
-pub lex_cause : NeverBoth → (file : List ℕ) (tree : PlainFile) (e : LexRefusal) → Spells file tree → lexer.IsCauseOf file e → IsLexCause tree e
-lex_cause law file tree (lex.TooLong len) s c = (file, s, c.0)
-lex_cause law file tree lex.Memory s c = tt
-lex_cause law file tree (lex.Breaks fault at) s c = law file s.0 fault at s.1 c.1
+pub lex_cause : NeverBoth → (file : List ℕ) (tree : PlainFile) (e : LexRefusal) → file ≡ written tree → Spells file tree → lexer.IsCauseOf file e → IsLexCause tree e
+lex_cause law file tree (lex.TooLong len) w s c = subst (λ (f : List ℕ). IsLong f len) w c
+  where
+    abbrev IsLong : List ℕ → ℕ → Type 0
+    IsLong f n = (FILE_LIMIT < length f) × (n ≡ length f)
+lex_cause law file tree lex.Memory w s c = tt
+lex_cause law file tree (lex.Breaks fault at) w s c = law file s.0 fault at s.1 c.1
 
-pub parse_cause : (tokens : List PlainToken) (tree : PlainFile) (e : ParseRefusal) → SpellsTree tokens tree → parser.IsCauseOf tokens e → IsParseCause tree e
-parse_cause tokens tree (parse.NotInSubset at) s c = c.1 tree s
-parse_cause tokens tree (parse.TooDeep at) s c = (tokens, s, c)
-parse_cause tokens tree parse.Memory s c = tt
+pub parse_cause : (file : List ℕ) (tokens : List PlainToken) (tree : PlainFile) (e : ParseRefusal) → file ≡ written tree → Cuts file tokens → SpellsTree tokens tree → parser.IsCauseOf tokens e → IsParseCause tree e
+parse_cause file tokens tree (parse.NotInSubset at) w k s c = c.1 tree s
+parse_cause file tokens tree (parse.TooDeep at) w k s c = (tokens, subst (λ (f : List ℕ). Cuts f tokens) w k, c)
+parse_cause file tokens tree parse.Memory w k s c = tt
 
 -- the refusal that is handed on
-pub lex_refused : {X : Type 0} → NeverBoth → (file : List ℕ) (tree : PlainFile) (e : LexRefusal) (result : Result X Unread) → Spells file tree → lexer.IsCauseOf file e → IfErr result (λ r. r ≡ unread.Lex e) → IfErr result (λ r. IsCauseOf tree r)
-lex_refused law file tree e (Ok x) s c is = tt
-lex_refused law file tree e (Err r) s c is = subst (IsCauseOf tree) (sym is) (lex_cause law file tree e s c)
+pub lex_refused : {X : Type 0} → NeverBoth → (file : List ℕ) (tree : PlainFile) (e : LexRefusal) (result : Result X Unread) → file ≡ written tree → Spells file tree → lexer.IsCauseOf file e → IfErr result (λ r. r ≡ unread.Lex e) → IfErr result (λ r. IsCauseOf tree r)
+lex_refused law file tree e (Ok x) w s c is = tt
+lex_refused law file tree e (Err r) w s c is = subst (IsCauseOf tree) (sym is) (lex_cause law file tree e w s c)
 
-pub parse_refused : {X : Type 0} (tokens : List PlainToken) (tree : PlainFile) (e : ParseRefusal) (result : Result X Unread) → SpellsTree tokens tree → parser.IsCauseOf tokens e → IfErr result (λ r. r ≡ unread.Parse e) → IfErr result (λ r. IsCauseOf tree r)
-parse_refused tokens tree e (Ok x) s c is = tt
-parse_refused tokens tree e (Err r) s c is = subst (IsCauseOf tree) (sym is) (parse_cause tokens tree e s c)
+pub parse_refused : {X : Type 0} (file : List ℕ) (tokens : List PlainToken) (tree : PlainFile) (e : ParseRefusal) (result : Result X Unread) → file ≡ written tree → Cuts file tokens → SpellsTree tokens tree → parser.IsCauseOf tokens e → IfErr result (λ r. r ≡ unread.Parse e) → IfErr result (λ r. IsCauseOf tree r)
+parse_refused file tokens tree e (Ok x) w k s c is = tt
+parse_refused file tokens tree e (Err r) w k s c is = subst (IsCauseOf tree) (sym is) (parse_cause file tokens tree e w k s c)
 
 -- with the premise that some file spells the tree put last
 pub under : {X : Type 0} {P : Type 0} (tree : PlainFile) (result : Result X Unread) → (P → IfErr result (λ r. IsCauseOf tree r)) → IfErr result (λ r. P → IsCauseOf tree r)

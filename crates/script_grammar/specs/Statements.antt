@@ -1,6 +1,7 @@
 -- Statements, functions and files: the grammar in EBNF form as derivations, with the terminals and the tree of each.
-use Rattle.std.specs.Prelude.{◌≡◌, ℕ, ℤ, Bool, true, false, not, ◌&&◌, if◌then◌else◌, List, [], ◌∷◌, Option, Some, None}
+use Rattle.std.specs.Prelude.{◌≡◌, ℕ, ℤ, negsuc, Bool, true, false, not, ◌&&◌, if◌then◌else◌, List, [], ◌∷◌, Option, Some, None}
 use Rattle.std.specs.Str.{str_to_ascii_lowercase}
+use Rattle.std.specs.Ordering.{int_eq}
 use Rattle.php_syntax.specs.declared.token.Sign.TheVariants as sign
 use Rattle.script_grammar.specs.declared.keyword.Keyword.{Keyword}
 use Rattle.script_grammar.specs.declared.keyword.Keyword.TheVariants as word
@@ -42,14 +43,15 @@ abbrev pub value_variable : VariablesForm → List ℕ
 value_variable (value_form x) = x
 value_variable (key_value_form k x) = x
 
--- an integer or a negated one, which `exit` takes as its status and does not print
-abbrev pub is_integer : PlainExpr → Bool
-is_integer (int_expr z) = true
-is_integer _ = false
+-- an integer whose negation is one too; that of the least integer would be a float, which PHP prints
+abbrev pub is_negatable : PlainExpr → Bool
+is_negatable (int_expr z) = not (int_eq z (negsuc 9223372036854775807))
+is_negatable _ = false
 
+-- an integer or a negated one, which `exit` takes as its status and does not print
 abbrev pub is_status : PlainExpr → Bool
 is_status (int_expr z) = true
-is_status (neg_expr e) = is_integer e
+is_status (neg_expr e) = is_negatable e
 is_status _ = false
 
 -- what `exit` prints

@@ -23,13 +23,13 @@ pub fn is_place(expr: &Expr) -> bool
     }
 }
 
-// Whether an expression is an integer literal.
+// Whether an expression is an integer literal whose negation is an integer too.
 #[tactic(auto, using(php_syntax::proofs::Views::views))]
-fn is_integer(expr: &Expr) -> bool
-    ensures { result ≡ form.is_integer (plain_expr expr.now) }
+fn is_negatable(expr: &Expr) -> bool
+    ensures { result ≡ form.is_negatable (plain_expr expr.now) }
 {
     match expr {
-        Expr::Int(_) => true,
+        Expr::Int(number) => *number != i64::MIN,
         Expr::Var(_) | Expr::Super(_) | Expr::Member(..) => false,
         Expr::Null | Expr::Flag(_) | Expr::Text(_) => false,
         Expr::Step { .. } | Expr::ArrayOf(_) | Expr::Join(_) | Expr::Neg(_) => false,
@@ -46,7 +46,7 @@ pub fn is_status(expr: &Expr) -> bool
 {
     match expr {
         Expr::Int(_) => true,
-        Expr::Neg(inner) => is_integer(inner),
+        Expr::Neg(inner) => is_negatable(inner),
         Expr::Var(_) | Expr::Super(_) | Expr::Member(..) => false,
         Expr::Null | Expr::Flag(_) | Expr::Text(_) => false,
         Expr::Step { .. } | Expr::ArrayOf(_) | Expr::Join(_) => false,

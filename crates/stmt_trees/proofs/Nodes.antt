@@ -34,7 +34,7 @@ return_kept e = go (nat_le (height e) 200)
 status_kept : (e : PlainExpr) → is_status e ≡ true → quit_node (value_of_tree e) ≡ kept (quit_stmt no_expr) 0
 unfolding height
 status_kept (int_expr z) i = refl
-status_kept (neg_expr (int_expr z)) i = refl
+status_kept (neg_expr (int_expr z)) i = ap (λ b. if b then Some (quit_stmt no_expr, 0) else Some (quit_stmt (some_expr (neg_expr (int_expr z))), 2)) i
 status_kept _ i = absurd cc
 
 printed_kept : (e : PlainExpr) → is_status e ≡ false → quit_node (value_of_tree e) ≡ kept (quit_stmt (some_expr e)) (height e)
