@@ -29,10 +29,7 @@ pub cut_so : OneList → (file : List ℕ) (tree : PlainFile) (tokens : List Pla
 cut_so law file tree tokens s c = let P : List PlainToken → Type 0 = λ ts. SpellsTree ts tree in subst P (law file s.0 tokens s.1 c) s.2
 
 pub lex_cause : NeverBoth → (file : List ℕ) (tree : PlainFile) (e : LexRefusal) → file ≡ written tree → Spells file tree → lexer.IsCauseOf file e → IsLexCause tree e
-lex_cause law file tree (lex.TooLong len) w s c = subst (λ (f : List ℕ). IsLong f len) w c
-  where
-    abbrev IsLong : List ℕ → ℕ → Type 0
-    IsLong f n = (FILE_LIMIT < length f) × (n ≡ length f)
+lex_cause law file tree (lex.TooLong len) w s c = subst (λ (f : List ℕ). (FILE_LIMIT < length f) × (len ≡ length f)) w c
 lex_cause law file tree lex.Memory w s c = tt
 lex_cause law file tree (lex.Breaks fault at) w s c = law file s.0 fault at s.1 c.1
 
