@@ -35,7 +35,6 @@ other_is_not : has_name (codes "Name") some_members ≡ false
 unfolding some_members
 other_is_not = refl
 
-
 -- p<?php if (isset($_GET['name'])) { echo 'y'; } else { echo 'n'; }
 abbrev echo_one : List ℕ → PlainStmt
 echo_one text = echo_stmt (more_exprs (text_expr text) no_exprs)

@@ -23,6 +23,7 @@ contains_first path paths = (0, omega arith, refl)
 
 mutual
   unfolding includes_in with_bodies
+
   same_with : (p q : List ℕ → PlainStmts) (ss : PlainStmts) → Agree p q (includes_in ss) → with_bodies p ss ≡ with_bodies q ss
   same_with p q no_stmts h = refl
   same_with p q (more_stmts s ss) h =
@@ -58,8 +59,8 @@ mutual
 pub one_body : (held : Held) → HasOneTree held → (ss a b : PlainStmts) → StandsFor held ss a → StandsFor held ss b → a ≡ b
 one_body held one ss a b (stands _ trees bodies has inner) (stands _ others bodies' has' inner') =
     same_with bodies bodies' ss λ path c.
-      let e = one path (trees path) (others path) (has path c) (has' path c) in
-      one_body held one (trees path).body_of (bodies path) (bodies' path) (inner path c) (subst (λ (t : PlainFile). StandsFor held t.body_of (bodies' path)) (sym e) (inner' path c))
+    let e = one path (trees path) (others path) (has path c) (has' path c) in
+    one_body held one (trees path).body_of (bodies path) (bodies' path) (inner path c) (subst (λ (t : PlainFile). StandsFor held t.body_of (bodies' path)) (sym e) (inner' path c))
 
 agreed_sum : (p q : List ℕ → ℕ) (paths : List (List ℕ)) → ((path : List ℕ) → Contains paths path → p path ≡ q path) → one_each p paths ≡ one_each q paths
 unfolding one_each
@@ -72,5 +73,5 @@ agreed_sum p q (path ∷ paths) h =
 pub one_count : (held : Held) → HasOneTree held → (ss : PlainStmts) (m n : ℕ) → HasPlaces held ss m → HasPlaces held ss n → m ≡ n
 one_count held one ss m n (counted _ trees counts has inner) (counted _ others counts' has' inner') =
     agreed_sum counts counts' (includes_in ss) λ path c.
-      let e = one path (trees path) (others path) (has path c) (has' path c) in
-      one_count held one (trees path).body_of (counts path) (counts' path) (inner path c) (subst (λ (t : PlainFile). HasPlaces held t.body_of (counts' path)) (sym e) (inner' path c))
+    let e = one path (trees path) (others path) (has path c) (has' path c) in
+    one_count held one (trees path).body_of (counts path) (counts' path) (inner path c) (subst (λ (t : PlainFile). HasPlaces held t.body_of (counts' path)) (sym e) (inner' path c))

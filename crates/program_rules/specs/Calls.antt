@@ -14,6 +14,7 @@ number_of (more_exprs e es) = suc (number_of es)
 
 unfoldable mutual
   unfolding number_of
+
   -- the calls in an expression, itself first and then its parts from the left
   pub calls_in : PlainExpr → List PlainCall
   calls_in null_expr = []
@@ -58,6 +59,7 @@ unfoldable mutual
 
 unfoldable mutual
   unfolding calls_in
+
   -- the calls in a statement
   pub calls_of : PlainStmt → List PlainCall
   calls_of (inline_stmt bytes) = []

@@ -12,6 +12,7 @@ followed_by (more_stmts s ss) rest = more_stmts s (followed_by ss rest)
 
 unfoldable mutual
   unfolding followed_by
+
   -- statements with each include replaced by the statements that its path stands for
   pub with_bodies : (List ℕ → PlainStmts) → PlainStmts → PlainStmts
   with_bodies bodies no_stmts = no_stmts
@@ -39,9 +40,9 @@ unfoldable mutual
 -- statements stand for themselves with each include replaced by what the statements of its file stand for; a file that includes itself stands for nothing
 pub data StandsFor (held : Held) : PlainStmts → PlainStmts → Type 0 where
   stands : (ss : PlainStmts) (trees : List ℕ → PlainFile) (bodies : List ℕ → PlainStmts)
-    → ((path : List ℕ) → Contains (includes_in ss) path → HasTree held path (trees path))
-    → ((path : List ℕ) → Contains (includes_in ss) path → StandsFor held (trees path).body_of (bodies path))
-    → StandsFor held ss (with_bodies bodies ss)
+      → ((path : List ℕ) → Contains (includes_in ss) path → HasTree held path (trees path))
+      → ((path : List ℕ) → Contains (includes_in ss) path → StandsFor held (trees path).body_of (bodies path))
+      → StandsFor held ss (with_bodies bodies ss)
 
 -- a function of a file in a program: its body stands for these statements
 pub record FunctionStandsFor (held : Held) (f g : PlainFunction) : Type 0 where

@@ -16,9 +16,9 @@ one_each counts (path ∷ paths) = suc (counts path) + one_each counts paths
 -- so many places of includes are replaced in some statements: each include is one, with those of the statements of its file
 pub data HasPlaces (held : Held) : PlainStmts → ℕ → Type 0 where
   counted : (ss : PlainStmts) (trees : List ℕ → PlainFile) (counts : List ℕ → ℕ)
-    → ((path : List ℕ) → Contains (includes_in ss) path → HasTree held path (trees path))
-    → ((path : List ℕ) → Contains (includes_in ss) path → HasPlaces held (trees path).body_of (counts path))
-    → HasPlaces held ss (one_each counts (includes_in ss))
+      → ((path : List ℕ) → Contains (includes_in ss) path → HasTree held path (trees path))
+      → ((path : List ℕ) → Contains (includes_in ss) path → HasPlaces held (trees path).body_of (counts path))
+      → HasPlaces held ss (one_each counts (includes_in ss))
 
 -- and in the bodies of some functions
 pub data HavePlaces (held : Held) : List PlainFunction → ℕ → Type 0 where

@@ -40,8 +40,8 @@ pub fn while_goes_by_turns()
         let w : Environment = record { request = r; call = call_within r fs room } in
         loop (condition w e) (statements w body) nothing s
         ≡ (condition w e s then_do λ holds t.
-            (if holds then turn (statements w body) t (loop (condition w e) (statements w body) nothing)
-            else Going goes_on t)) }
+        (if holds then turn (statements w body) t (loop (condition w e) (statements w body) nothing)
+        else Going goes_on t)) }
 {}
 
 /// `for` likewise, with what stands in its third place behind each turn.
@@ -50,6 +50,6 @@ pub fn for_goes_by_turns()
         let w : Environment = record { request = r; call = call_within r fs room } in
         let again : (State → Run Flow) = loop (for_condition w e) (statements w body) (values w next) in
         again s ≡ (for_condition w e s then_do λ holds t.
-            (if holds then turn (statements w body) t (λ u. (values w next u then_do λ vs v. again v))
-            else Going goes_on t)) }
+        (if holds then turn (statements w body) t (λ u. (values w next u then_do λ vs v. again v))
+        else Going goes_on t)) }
 {}
