@@ -1,6 +1,6 @@
 //! Copies of a text in a row.
 
-ghost use Rattle.std.specs.Prelude.{◌≡◌, ◌⊎◌, ◌*◌, length, nat_lt, IfOk, IfErr, Ok, Err};
+ghost use Rattle.std.specs.Prelude.{◌≡◌, ◌⊎◌, ◌*◌, ◌≤◌, length, nat_lt, IfOk, IfErr, Ok, Err};
 ghost use Rattle.plain_values.specs.Plain.{Plain};
 ghost use Rattle.plain_values.specs.Members.{within_length};
 ghost use Rattle.builtin_meaning.specs.Values.{copies_at};
@@ -13,6 +13,7 @@ use text_base::NoMemory;
 use text_base::limits::TEXT_LIMIT;
 
 fn copies(alloc: Global, text: &[u8], count: usize) -> Result<Vec<u8>, NoMemory>
+    requires { count * length text.now ≤ 16777216 }
     ensures { IfOk result (λ bytes. bytes.items ≡ copies_of count text.now) }
 {
     let mut out = Vec::new(alloc);

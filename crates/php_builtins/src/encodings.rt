@@ -168,6 +168,7 @@ fn is_too_long(encoding: Encoding, text: &[u8]) -> bool
 }
 
 fn written(alloc: Global, encoding: Encoding, text: &[u8]) -> Result<Vec<u8>, NoMemory>
+    requires { length (encoded encoding text.now) ≤ 16777216 }
     ensures { IfOk result (λ bytes. bytes.items ≡ encoded encoding text.now) }
 {
     let mut out = Vec::new(alloc);

@@ -1,6 +1,6 @@
 //! Joining the members of an array.
 
-ghost use Rattle.std.specs.Prelude.{◌≡◌, ◌⊎◌, ◌++◌, length, nat_lt, IfOk, IfErr, Ok, Err};
+ghost use Rattle.std.specs.Prelude.{◌≡◌, ◌⊎◌, ◌++◌, ◌≤◌, length, nat_lt, IfOk, IfErr, Ok, Err};
 ghost use Rattle.plain_values.specs.Plain.{Plain};
 ghost use Rattle.plain_values.specs.Text.{text_of as text_form};
 ghost use Rattle.plain_values.specs.Members.{within_length};
@@ -58,6 +58,7 @@ fn joined(
     first: &Value,
     others: &[(Key, Value)],
 ) -> Result<Vec<u8>, NoMemory>
+    requires { length (text_form (plain_of first.now) ++ behind_first sep.now (pairs_of others.now)) ≤ 16777216 }
     ensures { IfOk result (λ bytes. bytes.items ≡ text_form (plain_of first.now) ++ behind_first sep.now (pairs_of others.now)) }
 {
     let mut out = Vec::new(alloc);

@@ -1,6 +1,6 @@
 //! Line breaks for HTML.
 
-ghost use Rattle.std.specs.Prelude.{◌≡◌, ◌⊎◌, ◌++◌, length, nat_lt, false, IfOk, IfErr, Ok, Err};
+ghost use Rattle.std.specs.Prelude.{◌≡◌, ◌⊎◌, ◌++◌, ◌≤◌, length, nat_lt, false, IfOk, IfErr, Ok, Err};
 ghost use Rattle.plain_values.specs.Plain.{Plain};
 ghost use Rattle.plain_values.specs.Members.{within_length};
 ghost use Rattle.string_functions.specs.Breaks.{breaks_of, breaks_past, begins_pair as begins_pair_of};
@@ -42,6 +42,7 @@ fn is_too_long(text: &[u8]) -> bool
 }
 
 fn written(alloc: Global, text: &[u8]) -> Result<Vec<u8>, NoMemory>
+    requires { length (breaks_of text.now) ≤ 16777216 }
     ensures { IfOk result (λ bytes. bytes.items ≡ breaks_of text.now) }
 {
     let mut out = Vec::new(alloc);

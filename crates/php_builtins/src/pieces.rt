@@ -54,6 +54,7 @@ fn replaced(
 ) -> Result<Vec<u8>, NoMemory>
     requires search { 0 < length search.now }
     requires failures { AreFailures search.now failures.now (length search.now) }
+    requires short { length (replaced_text search.now with.now text.now) ≤ 16777216 }
     ensures { IfOk result (λ bytes. bytes.items ≡ replaced_text search.now with.now text.now) }
 {
     let mut out = Vec::new(alloc);
