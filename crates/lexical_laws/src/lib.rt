@@ -22,7 +22,8 @@ pub fn cut_or_broken()
 {}
 
 /// What spells the tokens and what is passed over between them, joined, are the file; each token
-/// stands where its spelling begins, and is spelled as tokens of its kind are.
+/// stands where its spelling begins; names are longest runs, integers have the value of their
+/// digits, and no opener stands in an inline token. Of the spelling of other kinds it says nothing.
 pub fn pieces_are_the_file()
     ensures { (file : List ℕ) (tokens : List PlainToken) → Cuts file tokens →
         (pieces : List Piece) × (joined pieces ≡ file) × (placed 0 pieces ≡ tokens) × ArePieces pieces }

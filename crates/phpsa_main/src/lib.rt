@@ -3,8 +3,8 @@
 //!
 //! The contract of `phpsa` cites four definitions. `Ends` says for each status why it came and what is left on the
 //! outputs. `IsAnswered` says when there is an answer, and which. `IsSound` is the headline: after a yes, every run
-//! of the script that ends prints a valid page. `IsCounted` says that the file is read once, and that no fault is told
-//! as something else. `decide` says the same of a script's bytes, for sources that do not tell
+//! of the script that ends prints a valid page. `IsCounted` says that the file is read once, that no fault of an
+//! output is told as something else, and none of the source but as a write fault or want of memory. `decide` says the same of a script's bytes, for sources that do not tell
 //! what they hold. Below stand `io_edge` with files and outputs, `php_lexer` and
 //! `php_parser`, which read a script, `first_form` with the programs that are decided, their meaning and their loose
 //! pages, and `dtd_model` and `page_check` with valid pages.
