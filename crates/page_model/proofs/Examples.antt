@@ -1,0 +1,307 @@
+-- Worked pages and near misses.
+use Rattle.std.proofs.Common.{◌≡◌, ℕ, Bool, true, false, List, [], ◌∷◌, ◌++◌, refl, codes, Option, None, Some}
+use Rattle.std.specs.Str.{str_eq_ignore_ascii_case, encode_utf8_all}
+use Rattle.std.specs.Char.{encode_utf8}
+use Rattle.text_base.specs.declared.page_token.PageToken.TheVariants as token
+use Rattle.xml_text.specs.Names.{is_name}
+use Rattle.xml_text.specs.Texts.{holds}
+use Rattle.dtd_model.specs.declared.dtd.DoctypeRule.TheVariants.{Strict, Free}
+use Rattle.dtd_model.specs.Matches.{may_be_empty, after}
+use Rattle.dtd_model.specs.Mini.{mini_table, plain_rule}
+use Rattle.dtd_model.specs.References.{decimal, hexadecimal, entity, is_reference, is_known}
+use Rattle.dtd_model.specs.Table.{cdata, id, idrefs, nmtoken, one_of, implied, required, fixed, nothing, anything, children, one, Declared}
+use Rattle.page_model.specs.Attributes.{words_of, has_kind, has_fixed, is_declared, is_once, must_stand, attributes_fit, find_rule, leaf_fits, doctype_fits, is_allowed}
+use Rattle.page_model.specs.Broken.{is_loose_reference}
+use Rattle.page_model.specs.Nodes.{Nodes, no_nodes, other, element, empty_element, nodes_then, no_doctype, with_doctype, Page, pieces_of}
+use Rattle.page_model.specs.PageTokens.{piece_bytes, piece_tokens, tokens_then}
+use Rattle.page_model.specs.Parts.{Attribute, Tag, IsTag, character, reference, section, comment, instruction, leaf_then, is_plain, refers_by, may_be_quoted, begins_blank}
+use Rattle.page_model.specs.Pieces.{Piece, mark, declaration, doctype, start_tag, empty_tag, end_tag, leaf, piece_then, pieces_then, may_follow, after as place_after, IsPiece}
+use Rattle.page_model.specs.Places.{at_beginning, behind_mark, behind}
+use Rattle.page_model.specs.Prolog.{Doctype, public, no_identifier, is_in_order}
+use Rattle.page_model.specs.TokenTree.{Trees, no_trees, single, tree, trees_then, singles_pass, TokenTree}
+use Rattle.page_model.specs.Valid.{Valid, place_of, sort_of, blank, text, remark, is_between, may_hold, PrologFits}
+
+-- References (XML 1.0, 4.1 and 4.6).
+
+pub a_letter : is_reference (decimal (codes "65")) ≡ true
+a_letter = refl
+
+pub no_character : is_reference (decimal (codes "0")) ≡ false
+no_character = refl
+
+pub too_large : is_reference (hexadecimal (codes "110000")) ≡ false
+too_large = refl
+
+-- but pages with it do not yet break where less is asked
+pub too_large_is_loose : is_loose_reference mini_table (hexadecimal (codes "110000")) ≡ true
+too_large_is_loose = refl
+
+pub each_ampersand : refers_by is_reference (codes "a&amp;&#60;b") ≡ true
+each_ampersand = refl
+
+pub a_lone_ampersand : refers_by is_reference (codes "a & b;") ≡ false
+a_lone_ampersand = refl
+
+pub no_semicolon : refers_by is_reference (codes "a?b=1&c=2") ≡ false
+no_semicolon = refl
+
+pub not_declared : leaf_fits mini_table (reference (entity (codes "foo"))) ≡ false
+unfolding mini_table
+not_declared = refl
+
+-- The values of attributes (XML 1.0, 3.3.1).
+
+pub the_words : words_of (codes "  ab c ") ≡ codes "ab" ∷ codes "c" ∷ []
+the_words = refl
+
+pub two_names : has_kind id (codes "a b") ≡ false
+two_names = refl
+
+pub names : has_kind idrefs (codes " a  b ") ≡ true
+names = refl
+
+pub no_names : has_kind idrefs (codes " ") ≡ false
+no_names = refl
+
+pub digit_first : has_kind id (codes "1a") ≡ false
+digit_first = refl
+
+pub digit_first_in_token : has_kind nmtoken (codes "1a") ≡ true
+digit_first_in_token = refl
+
+pub reference_in_id : has_kind id (codes "a&#98;") ≡ false
+reference_in_id = refl
+
+pub one_choice : has_kind (one_of (codes "ltr" ∷ codes "rtl" ∷ [])) (codes " rtl ") ≡ true
+one_choice = refl
+
+pub two_choices : has_kind (one_of (codes "ltr" ∷ codes "rtl" ∷ [])) (codes "ltr rtl") ≡ false
+two_choices = refl
+
+pub blank_in_fixed : has_fixed (fixed (codes "a")) (codes "a ") ≡ false
+unfolding encode_utf8
+blank_in_fixed = refl
+
+-- U+E9 is two bytes
+pub fixed_beyond_ascii : has_fixed (fixed (0xC3 ∷ 0xA9 ∷ [])) (0xE9 ∷ []) ≡ true
+unfolding encode_utf8
+fixed_beyond_ascii = refl
+
+-- Attributes of a tag (XML 1.0, 3.1).
+
+abbrev attribute : List ℕ → List ℕ → Attribute
+attribute name value = record { space = codes " "; name = name; before_equals = []; after_equals = codes " "; quote = 34; value = value }
+
+abbrev declared_id : Declared
+declared_id = record { name = codes "id"; kind = id; presence = implied }
+
+abbrev namespace : Declared
+namespace = record { name = codes "xmlns"; kind = cdata; presence = fixed (codes "x") }
+
+pub no_attributes : attributes_fit [] (codes "p") (declared_id ∷ []) [] ≡ true
+no_attributes = refl
+
+pub one_of_a_name : attributes_fit [] (codes "p") (declared_id ∷ []) (attribute (codes "id") (codes "a") ∷ []) ≡ true
+one_of_a_name = refl
+
+pub two_of_a_name : attributes_fit [] (codes "p") (declared_id ∷ []) (attribute (codes "id") (codes "a") ∷ attribute (codes "id") (codes "b") ∷ []) ≡ false
+two_of_a_name = refl
+
+pub undeclared_attribute : attributes_fit [] (codes "p") (declared_id ∷ []) (attribute (codes "class") (codes "a") ∷ []) ≡ false
+undeclared_attribute = refl
+
+pub html_without_namespace : attributes_fit [] (codes "html") (namespace ∷ []) [] ≡ false
+html_without_namespace = refl
+
+pub body_without_namespace : attributes_fit [] (codes "body") (namespace ∷ []) [] ≡ true
+body_without_namespace = refl
+
+pub less_in_value : may_be_quoted 34 60 ≡ false
+less_in_value = refl
+
+pub other_quote_in_value : may_be_quoted 34 39 ≡ true
+other_quote_in_value = refl
+
+-- Pieces and what they spell (XML 1.0, 2.4 to 2.8).
+
+abbrev plain_tag : List ℕ → Tag
+plain_tag name = record { name = name; attributes = []; space = [] }
+
+pub a_tag : piece_bytes (empty_tag (record { name = codes "p"; attributes = attribute (codes "id") (codes "a") ∷ []; space = codes " " })) ≡ codes "<p id= \"a\" />"
+unfolding encode_utf8
+a_tag = refl
+
+pub remarks : pieces_then (leaf (comment (codes " a ")) ∷ leaf (instruction (codes "t") (codes " b")) ∷ leaf (section (codes "<")) ∷ leaf (reference (decimal (codes "9"))) ∷ []) [] ≡ codes "<!-- a --><?t b?><![CDATA[<]]>&#9;"
+remarks = refl
+
+pub the_mark : piece_bytes mark ≡ 0xEF ∷ 0xBB ∷ 0xBF ∷ []
+unfolding encode_utf8
+the_mark = refl
+
+-- XML 1.0, 2.5: `<!-- B+, B, or B--->` is not well-formed
+pub ends_in_dash : holds (codes "--") (codes " B+, B, or B-" ++ codes "-") ≡ true
+ends_in_dash = refl
+
+pub begins_with_dash : holds (codes "--") (codes "-a" ++ codes "-") ≡ false
+begins_with_dash = refl
+
+pub reserved_target : str_eq_ignore_ascii_case (codes "xMl") (codes "xml") ≡ true
+reserved_target = refl
+
+pub another_target : str_eq_ignore_ascii_case (codes "xml-stylesheet") (codes "xml") ≡ false
+another_target = refl
+
+pub target_runs_into_text : begins_blank (codes "(b)") ≡ false
+target_runs_into_text = refl
+
+pub ampersand_is_not_plain : is_plain 38 ≡ false
+ampersand_is_not_plain = refl
+
+-- `]]>` in text, in any number of pieces
+pub second_bracket : place_after (behind 1) (leaf (character 93)) ≡ behind 2
+second_bracket = refl
+
+pub third_bracket : place_after (behind 2) (leaf (character 93)) ≡ behind 2
+third_bracket = refl
+
+pub section_end : may_follow (behind 2) (character 62) ≡ false
+section_end = refl
+
+pub comment_between : may_follow (place_after (behind 2) (leaf (comment []))) (character 62) ≡ true
+comment_between = refl
+
+pub mark_is_no_text : may_follow at_beginning (character 0xFEFF) ≡ false
+mark_is_no_text = refl
+
+pub mark_in_text : may_follow (behind 0) (character 0xFEFF) ≡ true
+mark_in_text = refl
+
+pub second_mark : IsPiece behind_mark mark → ⊥
+second_mark h = cc
+
+-- The prolog (XML 1.0, 2.8).
+
+abbrev strict_type : Doctype
+strict_type = record {
+  space = codes " ";
+  identifier = public (codes " ") (codes " ") (record { quote = 34; text = codes "-//W3C//DTD XHTML 1.0 Strict//EN" }) (codes " ") (record { quote = 39; text = codes "s.dtd" });
+  end_space = [];
+}
+
+pub strict_spelled : piece_then (doctype strict_type) [] ≡ codes "<!DOCTYPE html PUBLIC \"-//W3C//DTD XHTML 1.0 Strict//EN\" 's.dtd'>"
+strict_spelled = refl
+
+pub strict_meets : doctype_fits Strict strict_type ≡ true
+strict_meets = refl
+
+pub strict_wants_its_identifier : doctype_fits Strict (record { space = codes " "; identifier = no_identifier; end_space = [] }) ≡ false
+strict_wants_its_identifier = refl
+
+pub strict_wants_one : PrologFits Strict no_doctype → ⊥
+strict_wants_one h = h
+
+pub version_and_encoding : is_in_order (attribute (codes "version") (codes "1.0") ∷ attribute (codes "encoding") (codes "utf-8") ∷ []) ≡ true
+version_and_encoding = refl
+
+pub encoding_alone : is_in_order (attribute (codes "encoding") (codes "UTF-8") ∷ []) ≡ false
+encoding_alone = refl
+
+pub wrong_order : is_in_order (attribute (codes "version") (codes "1.0") ∷ attribute (codes "standalone") (codes "no") ∷ attribute (codes "encoding") (codes "UTF-8") ∷ []) ≡ false
+wrong_order = refl
+
+-- What may stand where (XML 1.0, 3).
+
+pub blank_reference_between : is_between (sort_of (reference (decimal (codes "32")))) ≡ false
+blank_reference_between = refl
+
+pub blank_section_between : is_between (sort_of (section (codes " "))) ≡ false
+blank_section_between = refl
+
+pub comment_in_empty : may_hold nothing (sort_of (comment (codes " "))) ≡ false
+comment_in_empty = refl
+
+pub comment_between_elements : may_hold (children (one 0)) (sort_of (comment (codes " "))) ≡ true
+comment_between_elements = refl
+
+pub text_between_elements : may_hold (children (one 0)) (sort_of (character 120)) ≡ false
+text_between_elements = refl
+
+-- Pages and tokens.
+
+pub capital_letters : find_rule mini_table.elements (codes "P") ≡ None
+unfolding mini_table
+capital_letters = refl
+
+pub third : place_of mini_table.elements (codes "p") ≡ 2
+unfolding mini_table
+third = refl
+
+abbrev around : List ℕ → Nodes → Nodes
+around name inside = element (plain_tag name) inside [] no_nodes
+
+-- nothing stands before the root
+abbrev bare : Nodes → Page
+bare nodes = record { mark = false; declaration = None; prolog = no_doctype; nodes = nodes }
+
+-- the page with this in its body
+abbrev page_with : Nodes → Page
+page_with inside = bare (around (codes "html") (around (codes "body") inside))
+
+plain : (name : List ℕ) → is_name name ≡ true → IsTag (plain_tag name)
+plain name named = record { named = named; attributes = tt; blank_space = refl }
+
+-- a page with a paragraph
+pub paragraph : Valid mini_table (codes "<html><body><p>x</p></body></html>")
+unfolding mini_table encode_utf8 may_be_empty after
+paragraph = record {
+  page = page_with (around (codes "p") (other (character 120) no_nodes));
+  spells = record {
+    pieces = (plain (codes "html") refl, (plain (codes "body") refl, (plain (codes "p") refl, ((refl, refl), ((refl, refl), ((refl, refl), ((refl, refl), tt)))))));
+    spelled = refl;
+  };
+  allowed = refl;
+  prolog = tt;
+  root = record { root = refl; around = refl };
+  fits = (
+    record { rule = plain_rule _ _; declared = refl; held = refl; elements = refl },
+    (
+      record { rule = plain_rule _ _; declared = refl; held = refl; elements = refl },
+      (record { rule = plain_rule _ _; declared = refl; held = refl; elements = refl }, tt, tt),
+      tt,
+    ),
+    tt,
+  );
+}
+
+-- its tokens, and that they are those of a tree
+pub paragraph_tokens : tokens_then mini_table (pieces_of (page_with (around (codes "p") (other (character 120) no_nodes)))) [] ≡ token.Start (record { 0 = 0 }) ∷ token.Start (record { 0 = 1 }) ∷ token.Start (record { 0 = 2 }) ∷ token.Text ∷ token.End (record { 0 = 2 }) ∷ token.End (record { 0 = 1 }) ∷ token.End (record { 0 = 0 }) ∷ []
+unfolding mini_table
+paragraph_tokens = refl
+
+pub paragraph_tree : TokenTree mini_table (token.Start (record { 0 = 0 }) ∷ token.Start (record { 0 = 1 }) ∷ token.Start (record { 0 = 2 }) ∷ token.Text ∷ token.End (record { 0 = 2 }) ∷ token.End (record { 0 = 1 }) ∷ token.End (record { 0 = 0 }) ∷ [])
+unfolding mini_table may_be_empty after
+paragraph_tree = record {
+  before = None;
+  trees = tree 0 (tree 1 (tree 2 (single text no_trees) no_trees) no_trees) no_trees;
+  flat = refl;
+  prolog = tt;
+  root = refl;
+  around = refl;
+  fits = (
+    record { rule = plain_rule _ _; declared = refl; held = refl; elements = refl },
+    (
+      record { rule = plain_rule _ _; declared = refl; held = refl; elements = refl },
+      (record { rule = plain_rule _ _; declared = refl; held = refl; elements = refl }, tt, tt),
+      tt,
+    ),
+    tt,
+  );
+}
+
+-- the tag of an empty element gives two tokens, a declaration none
+pub two_tokens : piece_tokens mini_table (empty_tag (plain_tag (codes "p"))) ≡ token.Start (record { 0 = 2 }) ∷ token.End (record { 0 = 2 }) ∷ []
+unfolding mini_table
+two_tokens = refl
+
+pub no_token : piece_tokens mini_table mark ≡ []
+no_token = refl

@@ -1,0 +1,10 @@
+pub mod Attributes
+pub mod Broken
+pub mod Nodes
+pub mod PageTokens
+pub mod Parts
+pub mod Pieces
+pub mod Places
+pub mod Prolog
+pub mod TokenTree
+pub mod Valid
