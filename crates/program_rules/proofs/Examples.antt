@@ -6,7 +6,7 @@ use Rattle.script_meaning.specs.Programs.{PlainProgram, function_named}
 use Rattle.program_rules.specs.Includes.{includes_in, includes_of_file}
 use Rattle.program_rules.specs.Expansion.{with_bodies}
 use Rattle.program_rules.specs.Calls.{PlainCall, calls_of_program}
-use Rattle.program_rules.specs.Rules.{DefinesTwice, is_double, Serves, HaveDefaults, ServesCall, IsKnown}
+use Rattle.program_rules.specs.Rules.{is_double, serves, serves_call, is_known}
 
 abbrev includes : List ℕ → PlainStmt
 includes path = include_stmt path
@@ -40,40 +40,43 @@ unfolding calls_of_program
 its_calls = refl
 
 -- `f` is known, `g` is not, and `trim` is
-f_is_known : IsKnown nested (record { name_of = codes "f"; arguments = 1 })
+f_is_known : is_known (f ∷ []) (record { name_of = codes "f"; arguments = 1 }) ≡ true
 unfolding function_named
 f_is_known = refl
 
-g_is_not : IsKnown nested (record { name_of = codes "g"; arguments = 1 }) → ⊥
+g_is_not : is_known (f ∷ []) (record { name_of = codes "g"; arguments = 1 }) ≡ false
 unfolding function_named
-g_is_not e = absurd (cc)
+g_is_not = refl
 
-trim_is_known : IsKnown nested (record { name_of = codes "trim"; arguments = 1 })
+trim_is_known : is_known (f ∷ []) (record { name_of = codes "trim"; arguments = 1 }) ≡ true
 trim_is_known = refl
 
 -- `function f($a, $b = 1)` takes one argument or two, and neither none nor three
 abbrev params : List PlainParam
 params = record { name_of = codes "a"; default_of = no_expr } ∷ record { name_of = codes "b"; default_of = some_expr (int_expr (pos 1)) } ∷ []
 
-one_serves : Serves 1 params
-unfolding Serves
-one_serves = (tt, tt)
+one_serves : serves 1 params ≡ true
+unfolding serves
+one_serves = refl
 
-two_serve : Serves 2 params
-unfolding Serves
-two_serve = tt
+two_serve : serves 2 params ≡ true
+unfolding serves
+two_serve = refl
 
-none_does_not : Serves 0 params → ⊥
-unfolding Serves
-none_does_not p = p.0
+none_does_not : serves 0 params ≡ false
+unfolding serves
+none_does_not = refl
 
-three_do_not : Serves 3 params → ⊥
-unfolding Serves
-three_do_not p = p
+three_do_not : serves 3 params ≡ false
+unfolding serves
+three_do_not = refl
 
--- `substr` with one argument is called with too few
-too_few : ServesCall nested (record { name_of = codes "substr"; arguments = 1 }) → ⊥
-too_few p = absurd (omega (arith, p.0))
+-- `substr` with one argument is called with too few, and with two it is not
+too_few : serves_call (f ∷ []) (record { name_of = codes "substr"; arguments = 1 }) ≡ false
+too_few = refl
+
+enough : serves_call (f ∷ []) (record { name_of = codes "substr"; arguments = 2 }) ≡ true
+enough = refl
 
 -- a function of the name of one of PHP's is a double, and so is one that stands again
 of_php : is_double (codes "trim") [] ≡ true

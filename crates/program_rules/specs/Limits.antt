@@ -5,6 +5,7 @@ use Rattle.std.specs.List.{Contains}
 use Rattle.php_syntax.specs.Trees.{PlainStmts, PlainFunction, PlainFile}
 use Rattle.php_syntax.specs.Height.{file_height, file_nodes}
 use Rattle.script_meaning.specs.Programs.{PlainProgram}
+use Rattle.program_rules.specs.declared.limits.TheConstants.{PLACE_LIMIT, NODE_LIMIT, PROGRAM_HEIGHT_LIMIT}
 use Rattle.program_rules.specs.Files.{Held, HasTree}
 use Rattle.program_rules.specs.Includes.{includes_in}
 
@@ -31,6 +32,6 @@ as_file program = record { body_of = program.main_of; functions_of = program.fun
 
 -- a program, for which so many places of includes were replaced, is within the limits
 pub record IsWithin (places : ℕ) (program : PlainProgram) : Type 0 where
-  pub places_within : places ≤ 256
-  pub nodes_within : file_nodes (as_file program) ≤ 200000
-  pub height_within : file_height (as_file program) ≤ 1000
+  pub places_within : places ≤ PLACE_LIMIT
+  pub nodes_within : file_nodes (as_file program) ≤ NODE_LIMIT
+  pub height_within : file_height (as_file program) ≤ PROGRAM_HEIGHT_LIMIT

@@ -1,5 +1,5 @@
 -- The rules on the functions of a program (PHP manual, "User-defined functions" and "Function parameters and arguments").
-use Rattle.std.specs.Prelude.{◌≡◌, ◌≤◌, ◌⊎◌, ℕ, zero, suc, Bool, true, false, not, ◌||◌, List, [], ◌∷◌, length, map, Option, Some, None, bytes_eq, ⊤}
+use Rattle.std.specs.Prelude.{◌≡◌, ◌⊎◌, ℕ, zero, suc, Bool, true, false, ◌&&◌, ◌||◌, nat_le, List, [], ◌∷◌, Option, Some, None, bytes_eq}
 use Rattle.std.specs.List.{Contains, list_any}
 use Rattle.php_syntax.specs.Trees.{MaybeExpr, no_expr, some_expr, PlainParam, PlainFunction}
 use Rattle.builtin_meaning.specs.declared.builtin.Builtin.{Builtin}
@@ -21,41 +21,41 @@ unfoldable pub DefinesTwice : List PlainFunction → List ℕ → Type 0
 DefinesTwice [] name = ⊥
 DefinesTwice (f ∷ fs) name = ((f.name_of ≡ name) × (is_double name fs ≡ true)) ⊎ DefinesTwice fs name
 
+abbrev pub has_default : MaybeExpr → Bool
+has_default no_expr = false
+has_default (some_expr e) = true
+
 -- each parameter has a default
-unfoldable pub HaveDefaults : List PlainParam → Type 0
-HaveDefaults [] = ⊤
-HaveDefaults (p ∷ ps) = HasDefault p.default_of × HaveDefaults ps
-  where
-    HasDefault : MaybeExpr → Type 0
-    HasDefault no_expr = ⊥
-    HasDefault (some_expr e) = ⊤
+unfoldable pub have_defaults : List PlainParam → Bool
+have_defaults [] = true
+have_defaults (p ∷ ps) = has_default p.default_of && have_defaults ps
 
 -- so many arguments serve these parameters: there are no more of them, and those that are left out have defaults
-unfoldable pub Serves : ℕ → List PlainParam → Type 0
-unfolding HaveDefaults
-Serves zero ps = HaveDefaults ps
-Serves (suc n) [] = ⊥
-Serves (suc n) (p ∷ ps) = Serves n ps
+unfoldable pub serves : ℕ → List PlainParam → Bool
+unfolding have_defaults
+serves zero ps = have_defaults ps
+serves (suc n) [] = false
+serves (suc n) (p ∷ ps) = serves n ps
 
 -- a call names a function that there is
-abbrev pub IsKnown : PlainProgram → PlainCall → Type 0
-IsKnown program call = (is_there (builtin_named call.name_of) || is_there (function_named program.functions_of call.name_of)) ≡ true
+abbrev pub is_known : List PlainFunction → PlainCall → Bool
+is_known functions call = is_there (builtin_named call.name_of) || is_there (function_named functions call.name_of)
 
--- the numbers of arguments that a function takes
-abbrev pub ServesBuiltin : ℕ → Builtin → Type 0
-ServesBuiltin n f = ((arity_of f).0 ≤ n) × (n ≤ (arity_of f).1)
+-- the numbers of arguments that one of PHP's functions takes
+abbrev pub serves_builtin : ℕ → Builtin → Bool
+serves_builtin n f = nat_le (arity_of f).0 n && nat_le n (arity_of f).1
 
--- a call hands in as many arguments as the function takes
-abbrev pub ServesCall : PlainProgram → PlainCall → Type 0
-ServesCall program call = served (builtin_named call.name_of) (function_named program.functions_of call.name_of) call.arguments
+-- a call hands in as many arguments as the function takes, if there is one
+abbrev pub serves_call : List PlainFunction → PlainCall → Bool
+serves_call functions call = served (builtin_named call.name_of) (function_named functions call.name_of) call.arguments
   where
-    served : Option Builtin → Option PlainFunction → ℕ → Type 0
-    served (Some f) own n = ServesBuiltin n f
-    served None (Some f) n = Serves n f.params_of
-    served None None n = ⊤
+    served : Option Builtin → Option PlainFunction → ℕ → Bool
+    served (Some f) own n = serves_builtin n f
+    served None (Some f) n = serves n f.params_of
+    served None None n = true
 
 -- the rules: no function is defined twice or as one of PHP's, each call is known, and each hands in as many arguments as its function takes
 pub record KeepsRules (program : PlainProgram) : Type 0 where
   pub once : (name : List ℕ) → DefinesTwice program.functions_of name → ⊥
-  pub known : (call : PlainCall) → Contains (calls_of_program program) call → IsKnown program call
-  pub served : (call : PlainCall) → Contains (calls_of_program program) call → ServesCall program call
+  pub known : (call : PlainCall) → Contains (calls_of_program program) call → is_known program.functions_of call ≡ true
+  pub served : (call : PlainCall) → Contains (calls_of_program program) call → serves_call program.functions_of call ≡ true
