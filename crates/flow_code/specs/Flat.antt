@@ -1,0 +1,51 @@
+-- The points of a program, numbered through all its functions: first those of the statements outside functions.
+use Rattle.std.specs.Prelude.{ℕ, ◌+◌, List, [], ◌∷◌, ◌++◌, map, length}
+use Rattle.php_syntax.specs.Trees.{PlainParam, PlainFunction}
+use Rattle.plain_values.specs.Plain.{null}
+use Rattle.script_meaning.specs.Programs.{PlainProgram}
+use Rattle.flow_code.specs.Points.{literal_source, set_point, return_point, PlainFlowFunction, PlainFlow}
+use Rattle.flow_code.specs.Variables.{Name, name_of_param, variables_of, place_of}
+use Rattle.flow_code.specs.Code.{Block}
+use Rattle.flow_code.specs.Expressions.{Scope, variable}
+use Rattle.flow_code.specs.Statements.{block}
+
+-- what names stand for in a function whose first slot this is
+unfoldable pub scope_of : List PlainFunction → PlainFunction → ℕ → Scope
+unfolding variables_of
+scope_of table f slot = record { base = slot; names = variables_of f; functions = table }
+
+unfoldable pub body_of_function : List PlainFunction → PlainFunction → ℕ → Block
+unfolding scope_of block
+body_of_function table f slot = block (scope_of table f slot) f.body_of
+
+-- a function from a point and a slot on: its variables have the first slots; at the end of its body it returns null
+unfoldable pub flat_function : List PlainFunction → PlainFunction → ℕ → ℕ → PlainFlowFunction
+unfolding body_of_function variable
+flat_function table f point slot =
+    let body : Block = body_of_function table f slot in
+    let free = slot + length (variables_of f) in
+    let end = point + body.size in
+    record {
+      entry_of = point;
+      params_of = map (λ (p : PlainParam). variable (scope_of table f slot) p.name_of) f.params_of;
+      first_slot_of = slot;
+      slots_of = length (variables_of f) + body.slots + 1;
+      first_point_of = point;
+      points_of = body.points (record { stop = end; again = end }) point free
+          ++ set_point (free + body.slots) (literal_source null) (end + 1) ∷ return_point (free + body.slots) ∷ [];
+    }
+
+unfoldable pub flat_functions : List PlainFunction → List PlainFunction → ℕ → ℕ → List PlainFlowFunction
+unfolding flat_function
+flat_functions table [] point slot = []
+flat_functions table (f ∷ fs) point slot =
+    let first : PlainFlowFunction = flat_function table f point slot in
+    first ∷ flat_functions table fs (point + length first.points_of) (slot + first.slots_of)
+
+-- the statements outside functions, as a function without parameters
+unfoldable pub main_function : PlainProgram → PlainFunction
+main_function program = record { name_of = []; params_of = []; body_of = program.main_of }
+
+unfoldable pub flat : PlainProgram → PlainFlow
+unfolding flat_functions main_function
+flat program = record { functions_of = flat_functions program.functions_of (main_function program ∷ program.functions_of) 0 0 }

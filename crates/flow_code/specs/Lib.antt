@@ -1,0 +1,9 @@
+pub mod Points
+pub mod View
+pub mod Variables
+pub mod Code
+pub mod Builtins
+pub mod Expressions
+pub mod Statements
+pub mod Flat
+pub mod Runs

@@ -1,0 +1,157 @@
+-- What a run of points does: it follows the points with values in slots, and ends where the first function returns or at a `Quit`.
+use Rattle.std.specs.Prelude.{◌≡◌, ℕ, suc, pos, true, false, not, if◌then◌else◌, List, [], ◌∷◌, ◌++◌, Option, Some, None, map, nat_eq, Result, Ok, Err}
+use Rattle.std.specs.List.{list_all}
+use Rattle.plain_values.specs.Plain.{Plain, PlainKey, Pairs, int_key, null, flag, int, text, array, empty, pair}
+use Rattle.plain_values.specs.Text.{text_of, truth}
+use Rattle.plain_values.specs.Arithmetic.{negation_of}
+use Rattle.plain_values.specs.Joins.{join_of}
+use Rattle.plain_values.specs.Outcome.{go_on}
+use Rattle.plain_values.specs.Paths.{subscript_of, literal_of}
+use Rattle.plain_values.specs.Walks.{is_null, walked, value_of_key}
+use Rattle.plain_values.specs.declared.fault.Fault.{Fault}
+use Rattle.plain_values.specs.declared.fault.Fault.TheVariants.{WrongType}
+use Rattle.builtin_meaning.specs.Values.{builtin_value}
+use Rattle.script_meaning.specs.Requests.{PlainRequest, request_array}
+use Rattle.script_meaning.specs.Expressions.{arithmetic, comparison, stepped, assigned}
+use Rattle.flow_code.specs.declared.source.Work.{Work}
+use Rattle.flow_code.specs.declared.source.Work.TheVariants as work
+use Rattle.flow_code.specs.Points.{PlainKeyRef, int_ref, text_ref, read_ref, PlainSource, literal_source, copy_source, super_source, member_source, array_source, put_source, concat_source, repeat_source, implode_source, explode_source, apply_source, number_source, truth_source, PlainPoint, set_point, call_point, print_point, echo_point, branch_point, jump_point, begin_point, next_point, key_point, value_point, return_point, quit_point, PlainFlowFunction, PlainFlow, point_at, function_at}
+
+abbrev pub Slots : Type 0
+Slots = ℕ → Plain
+
+-- a walk over the members of an array: where it stands, and the members that follow
+pub record Walk : Type 0 where
+  pub key : PlainKey
+  pub value : Plain
+  pub rest : Pairs
+
+-- the values of the slots of an open call, and the walks that they hold
+pub record Frame : Type 0 where
+  pub slots : Slots
+  pub walks : ℕ → Walk
+
+-- a slot set to a value
+unfoldable pub set_slot : Frame → ℕ → Plain → Frame
+set_slot f x v = record f { slots = λ y. if nat_eq y x then v else f.slots y }
+
+unfoldable pub set_walk : Frame → ℕ → Walk → Frame
+set_walk f x walk = record f { walks = λ y. if nat_eq y x then walk else f.walks y }
+
+unfoldable pub key_value : Slots → PlainKeyRef → Plain
+key_value f (int_ref z) = int z
+key_value f (text_ref t) = text t
+key_value f (read_ref x) = f x
+
+abbrev pub maybe_key_value : Slots → Option PlainKeyRef → Option Plain
+maybe_key_value f None = None
+maybe_key_value f (Some k) = Some (key_value f k)
+
+abbrev pub item_value : Slots → (Option PlainKeyRef × ℕ) → (Option Plain × Plain)
+item_value f item = (maybe_key_value f item.0, f item.1)
+
+-- the text form of one value, which is as long as the value itself; of several, joined
+unfoldable pub concatenated : List Plain → Result Plain Fault
+concatenated (v ∷ []) = Ok (text (text_of v))
+concatenated vs = join_of vs
+
+-- the result of an operation; with another number of values than it takes no program has it
+unfoldable pub worked : Work → List Plain → Result Plain Fault
+unfolding arithmetic comparison stepped
+worked (work.Arith sign) (a ∷ b ∷ []) = arithmetic sign a b
+worked (work.Compare sign) (a ∷ b ∷ []) = go_on (comparison sign a b) (λ answer. Ok (flag answer))
+worked work.Neg (a ∷ []) = negation_of a
+worked work.Up (a ∷ []) = stepped true a
+worked work.Down (a ∷ []) = stepped false a
+worked work.Not (a ∷ []) = Ok (flag (not (truth a)))
+worked work.Isset vs = Ok (flag (list_all (λ v. not (is_null v)) vs))
+worked work.Empty (a ∷ []) = Ok (flag (not (truth a)))
+worked work.NotNull (a ∷ []) = Ok (flag (not (is_null a)))
+worked work.AsTruth (a ∷ []) = Ok (flag (truth a))
+worked (work.Builtin f) vs = builtin_value f vs
+worked _ vs = Err WrongType
+
+-- the value that a source has, or the fault that it meets
+unfoldable pub source_value : PlainRequest → Slots → PlainSource → Result Plain Fault
+unfolding request_array key_value assigned concatenated worked
+source_value r f (literal_source v) = Ok v
+source_value r f (copy_source x) = Ok (f x)
+source_value r f (super_source name) = Ok (array (request_array r name))
+source_value r f (member_source x k) = subscript_of (f x) (key_value f k)
+source_value r f (array_source items) = literal_of (map (item_value f) items)
+source_value r f (put_source x path v) = assigned (map (maybe_key_value f) path) (f v) (f x)
+source_value r f (concat_source xs) = concatenated (map f xs)
+source_value r f (repeat_source from builtin args) = builtin_value builtin (map f args)
+source_value r f (implode_source sep from builtin args) = builtin_value builtin (map f args)
+source_value r f (explode_source op from builtin args) = builtin_value builtin (map f args)
+source_value r f (apply_source op from builtin args) = builtin_value builtin (map f args)
+source_value r f (number_source sign args) = worked sign (map f args)
+source_value r f (truth_source sign args) = worked sign (map f args)
+
+-- the slots that a call begins with: those of the parameters have the arguments, and all others null
+unfoldable pub arguments_in : List ℕ → List Plain → Slots
+arguments_in (x ∷ xs) (v ∷ vs) y = if nat_eq y x then v else arguments_in xs vs y
+arguments_in _ vs y = null
+
+-- a frame without a walk
+unfoldable pub fresh : Slots → Frame
+fresh slots = record { slots = slots; walks = λ x. record { key = int_key (pos 0); value = null; rest = empty } }
+
+-- how a run of a function ends: with its result, or at a `Quit`, which ends the whole run
+pub data FlowEnd : Type 0 where
+  returned : Plain → FlowEnd
+  exited : FlowEnd
+
+-- where so many more calls may be open: a run from this point, with these slots, up to the function's end prints these bytes and ends so
+pub data RunsFrom (flow : PlainFlow) (r : PlainRequest) : ℕ → ℕ → Frame → List ℕ → FlowEnd → Type 0 where
+  set : (room p x next : ℕ) (source : PlainSource) (f : Frame) (v : Plain) (w : List ℕ) (end : FlowEnd)
+      → point_at flow p ≡ Some (set_point x source next) → source_value r f.slots source ≡ Ok v
+      → RunsFrom flow r room next (set_slot f x v) w end → RunsFrom flow r room p f w end
+  -- a call returns, and the run goes on
+  call : (room p x n next : ℕ) (args : List ℕ) (g : PlainFlowFunction) (f : Frame) (v : Plain) (u w : List ℕ) (end : FlowEnd)
+      → point_at flow p ≡ Some (call_point x n args next) → function_at flow n ≡ Some g
+      → RunsFrom flow r room g.entry_of (fresh (arguments_in g.params_of (map f.slots args))) u (returned v)
+      → RunsFrom flow r (suc room) next (set_slot f x v) w end → RunsFrom flow r (suc room) p f (u ++ w) end
+  -- the run ends in the call
+  call_exits : (room p x n next : ℕ) (args : List ℕ) (g : PlainFlowFunction) (f : Frame) (w : List ℕ)
+      → point_at flow p ≡ Some (call_point x n args next) → function_at flow n ≡ Some g
+      → RunsFrom flow r room g.entry_of (fresh (arguments_in g.params_of (map f.slots args))) w exited
+      → RunsFrom flow r (suc room) p f w exited
+  print : (room p next : ℕ) (bytes : List ℕ) (f : Frame) (w : List ℕ) (end : FlowEnd)
+      → point_at flow p ≡ Some (print_point bytes next) → RunsFrom flow r room next f w end → RunsFrom flow r room p f (bytes ++ w) end
+  echo : (room p x next : ℕ) (f : Frame) (w : List ℕ) (end : FlowEnd)
+      → point_at flow p ≡ Some (echo_point x next) → RunsFrom flow r room next f w end
+      → RunsFrom flow r room p f (text_of (f.slots x) ++ w) end
+  branch : (room p x a b : ℕ) (f : Frame) (w : List ℕ) (end : FlowEnd)
+      → point_at flow p ≡ Some (branch_point x a b)
+      → RunsFrom flow r room (if truth (f.slots x) then a else b) f w end → RunsFrom flow r room p f w end
+  jump : (room p next : ℕ) (f : Frame) (w : List ℕ) (end : FlowEnd)
+      → point_at flow p ≡ Some (jump_point next) → RunsFrom flow r room next f w end → RunsFrom flow r room p f w end
+  -- the walk is of the value as it is now, whatever is written later
+  each_begin : (room p x from next : ℕ) (walk : Walk) (f : Frame) (w : List ℕ) (end : FlowEnd)
+      → point_at flow p ≡ Some (begin_point x from next) → walk.rest ≡ walked (f.slots from)
+      → RunsFrom flow r room next (set_walk (set_slot f x (f.slots from)) x walk) w end → RunsFrom flow r room p f w end
+  each_more : (room p x more done : ℕ) (k : PlainKey) (v : Plain) (rest : Pairs) (f : Frame) (w : List ℕ) (end : FlowEnd)
+      → point_at flow p ≡ Some (next_point x more done) → (f.walks x).rest ≡ pair k v rest
+      → RunsFrom flow r room more (set_walk f x (record { key = k; value = v; rest = rest })) w end → RunsFrom flow r room p f w end
+  each_done : (room p x more done : ℕ) (f : Frame) (w : List ℕ) (end : FlowEnd)
+      → point_at flow p ≡ Some (next_point x more done) → (f.walks x).rest ≡ empty
+      → RunsFrom flow r room done f w end → RunsFrom flow r room p f w end
+  key_of : (room p x from next : ℕ) (f : Frame) (w : List ℕ) (end : FlowEnd)
+      → point_at flow p ≡ Some (key_point x from next)
+      → RunsFrom flow r room next (set_slot f x (value_of_key (f.walks from).key)) w end → RunsFrom flow r room p f w end
+  value_of : (room p x from next : ℕ) (f : Frame) (w : List ℕ) (end : FlowEnd)
+      → point_at flow p ≡ Some (value_point x from next)
+      → RunsFrom flow r room next (set_slot f x (f.walks from).value) w end → RunsFrom flow r room p f w end
+  return : (room p x : ℕ) (f : Frame) → point_at flow p ≡ Some (return_point x) → RunsFrom flow r room p f [] (returned (f.slots x))
+  quit : (room p : ℕ) (f : Frame) → point_at flow p ≡ Some (quit_point None) → RunsFrom flow r room p f [] exited
+  -- a `Quit` prints a text alone
+  quit_with : (room p x : ℕ) (f : Frame) (t : List ℕ)
+      → point_at flow p ≡ Some (quit_point (Some x)) → f.slots x ≡ text t → RunsFrom flow r room p f t exited
+
+-- the first function is entered with all slots null, and 256 calls may be open at once; the run ends and prints these bytes
+pub record FlatRun (flow : PlainFlow) (r : PlainRequest) (printed : List ℕ) : Type 0 where
+  pub main : PlainFlowFunction
+  pub is_main : function_at flow 0 ≡ Some main
+  pub end : FlowEnd
+  pub runs : RunsFrom flow r 256 main.entry_of (fresh (λ x. null)) printed end

@@ -1,0 +1,102 @@
+-- The variables of a function: the names that stand in its parameters and its body, each once, in the order in which they first stand.
+use Rattle.std.specs.Prelude.{ℕ, suc, List, [], ◌∷◌, ◌++◌, Option, Some, None, if◌then◌else◌, bytes_eq, map}
+use Rattle.php_syntax.specs.Trees.{PlainExpr, null_expr, flag_expr, int_expr, text_expr, var_expr, super_expr, member_expr, array_expr, join_expr, neg_expr, not_expr, arith_expr, compare_expr, and_expr, or_expr, coalesce_expr, choice_expr, isset_expr, empty_expr, assign_expr, update_expr, step_expr, call_expr, MaybeExpr, no_expr, some_expr, PlainExprs, no_exprs, more_exprs, PlainItems, no_items, more_items, PlainPath, no_keys, more_keys, PlainStmt, inline_stmt, echo_stmt, run_stmt, if_stmt, while_stmt, do_while_stmt, for_stmt, each_stmt, break_stmt, continue_stmt, return_stmt, include_stmt, quit_stmt, PlainStmts, no_stmts, more_stmts, PlainArms, no_arms, more_arms, PlainParam, PlainFunction}
+
+-- a variable's name
+abbrev pub Name : Type 0
+Name = List ℕ
+
+unfoldable mutual
+  pub names_in : PlainExpr → List Name
+  names_in null_expr = []
+  names_in (flag_expr b) = []
+  names_in (int_expr z) = []
+  names_in (text_expr t) = []
+  names_in (var_expr x) = x ∷ []
+  names_in (super_expr name) = []
+  names_in (member_expr a k) = names_in a ++ names_in k
+  names_in (array_expr items) = item_names items
+  names_in (join_expr parts) = names_in_all parts
+  names_in (neg_expr a) = names_in a
+  names_in (not_expr a) = names_in a
+  names_in (arith_expr sign a b) = names_in a ++ names_in b
+  names_in (compare_expr sign a b) = names_in a ++ names_in b
+  names_in (and_expr a b) = names_in a ++ names_in b
+  names_in (or_expr a b) = names_in a ++ names_in b
+  names_in (coalesce_expr a b) = names_in a ++ names_in b
+  names_in (choice_expr c m b) = names_in c ++ (maybe_names m ++ names_in b)
+  names_in (isset_expr parts) = names_in_all parts
+  names_in (empty_expr a) = names_in a
+  names_in (assign_expr x path e) = x ∷ path_names path ++ names_in e
+  names_in (update_expr sign x path e) = x ∷ path_names path ++ names_in e
+  names_in (step_expr x up before) = x ∷ []
+  names_in (call_expr name args) = names_in_all args
+
+  pub maybe_names : MaybeExpr → List Name
+  maybe_names no_expr = []
+  maybe_names (some_expr e) = names_in e
+
+  pub names_in_all : PlainExprs → List Name
+  names_in_all no_exprs = []
+  names_in_all (more_exprs e es) = names_in e ++ names_in_all es
+
+  pub item_names : PlainItems → List Name
+  item_names no_items = []
+  item_names (more_items k e is) = maybe_names k ++ (names_in e ++ item_names is)
+
+  pub path_names : PlainPath → List Name
+  path_names no_keys = []
+  path_names (more_keys k ks) = maybe_names k ++ path_names ks
+
+-- the variable of the key of a `foreach`, if it has one
+abbrev pub key_names : Option Name → List Name
+key_names None = []
+key_names (Some x) = x ∷ []
+
+unfoldable mutual
+  unfolding names_in
+
+  pub names_of_stmt : PlainStmt → List Name
+  names_of_stmt (inline_stmt bytes) = []
+  names_of_stmt (echo_stmt es) = names_in_all es
+  names_of_stmt (run_stmt e) = names_in e
+  names_of_stmt (if_stmt arms otherwise) = names_of_arms arms ++ names_of otherwise
+  names_of_stmt (while_stmt e body) = names_in e ++ names_of body
+  names_of_stmt (do_while_stmt body e) = names_of body ++ names_in e
+  names_of_stmt (for_stmt begin e next body) = names_in_all begin ++ (maybe_names e ++ (names_of body ++ names_in_all next))
+  names_of_stmt (each_stmt e key x body) = names_in e ++ (key_names key ++ x ∷ names_of body)
+  names_of_stmt break_stmt = []
+  names_of_stmt continue_stmt = []
+  names_of_stmt (return_stmt e) = maybe_names e
+  names_of_stmt (include_stmt path) = []
+  names_of_stmt (quit_stmt e) = maybe_names e
+
+  pub names_of : PlainStmts → List Name
+  names_of no_stmts = []
+  names_of (more_stmts s ss) = names_of_stmt s ++ names_of ss
+
+  pub names_of_arms : PlainArms → List Name
+  names_of_arms no_arms = []
+  names_of_arms (more_arms e body arms) = names_in e ++ (names_of body ++ names_of_arms arms)
+
+unfoldable pub without : Name → List Name → List Name
+without x [] = []
+without x (y ∷ ys) = if bytes_eq x y then without x ys else y ∷ without x ys
+
+-- each name once, where it first stands
+unfoldable pub once : List Name → List Name
+unfolding without
+once [] = []
+once (x ∷ xs) = x ∷ without x (once xs)
+
+abbrev pub name_of_param : PlainParam → Name
+name_of_param p = p.name_of
+
+unfoldable pub variables_of : PlainFunction → List Name
+unfolding once
+variables_of f = once (map name_of_param f.params_of ++ names_of f.body_of)
+
+-- the place of a name among others; where it is none of them, their number
+unfoldable pub place_of : Name → List Name → ℕ
+place_of x [] = 0
+place_of x (y ∷ ys) = if bytes_eq x y then 0 else suc (place_of x ys)
