@@ -1,0 +1,4 @@
+pub mod Forms
+pub mod Bytes
+pub mod Integers
+pub mod Sets

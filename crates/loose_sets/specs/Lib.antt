@@ -1,0 +1,5 @@
+pub mod Reaching
+pub mod Keys
+pub mod Names
+pub mod Table
+pub mod Loose
