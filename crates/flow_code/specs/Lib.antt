@@ -7,3 +7,4 @@ pub mod Expressions
 pub mod Statements
 pub mod Flat
 pub mod Runs
+pub mod Lawful

@@ -11,6 +11,8 @@ use Rattle.plain_values.specs.Walks.{is_null, walked, value_of_key}
 use Rattle.plain_values.specs.declared.fault.Fault.{Fault}
 use Rattle.plain_values.specs.declared.fault.Fault.TheVariants.{WrongType}
 use Rattle.builtin_meaning.specs.Values.{builtin_value}
+use Rattle.op_system.specs.declared.op.Op.{Op}
+use Rattle.op_system.specs.declared.op.Op.TheVariants as op
 use Rattle.script_meaning.specs.Requests.{PlainRequest, request_array}
 use Rattle.script_meaning.specs.Expressions.{arithmetic, comparison, stepped, assigned}
 use Rattle.flow_code.specs.declared.source.Work.{Work}
@@ -71,9 +73,18 @@ worked work.AsTruth (a ∷ []) = Ok (flag (truth a))
 worked (work.Builtin f) vs = builtin_value f vs
 worked _ vs = Err WrongType
 
+-- the arguments of an operation: those that it names stand in the script as literals, and are what it names
+unfoldable pub given : Op → List Plain → List Plain
+given (op.Replace search with) (a ∷ b ∷ c ∷ []) = text search ∷ text with ∷ c ∷ []
+given op.Same (a ∷ b ∷ c ∷ []) = text [] ∷ b ∷ c ∷ []
+given (op.Cut start None) (a ∷ b ∷ []) = a ∷ int start ∷ []
+given (op.Cut start (Some len)) (a ∷ b ∷ c ∷ []) = a ∷ int start ∷ int len ∷ []
+given (op.Piece sep) (a ∷ b ∷ []) = text sep ∷ b ∷ []
+given _ args = args
+
 -- the value that a source has, or the fault that it meets
 unfoldable pub source_value : PlainRequest → Slots → PlainSource → Result Plain Fault
-unfolding request_array key_value assigned concatenated worked
+unfolding request_array key_value assigned concatenated worked given
 source_value r f (literal_source v) = Ok v
 source_value r f (copy_source x) = Ok (f x)
 source_value r f (super_source name) = Ok (array (request_array r name))
@@ -83,8 +94,8 @@ source_value r f (put_source x path v) = assigned (map (maybe_key_value f) path)
 source_value r f (concat_source xs) = concatenated (map f xs)
 source_value r f (repeat_source from builtin args) = builtin_value builtin (map f args)
 source_value r f (implode_source sep from builtin args) = builtin_value builtin (map f args)
-source_value r f (explode_source op from builtin args) = builtin_value builtin (map f args)
-source_value r f (apply_source op from builtin args) = builtin_value builtin (map f args)
+source_value r f (explode_source operation from builtin args) = builtin_value builtin (given operation (map f args))
+source_value r f (apply_source operation from builtin args) = builtin_value builtin (given operation (map f args))
 source_value r f (number_source sign args) = worked sign (map f args)
 source_value r f (truth_source sign args) = worked sign (map f args)
 

@@ -10,7 +10,8 @@ use Rattle.php_syntax.specs.declared.tree.SuperName.{SuperName}
 use Rattle.flow_code.specs.declared.source.Work.{Work}
 use Rattle.flow_code.specs.Points.{PlainKeyRef, int_ref, text_ref, read_ref, PlainSource, literal_source, copy_source, super_source, member_source, array_source, put_source, concat_source, repeat_source, implode_source, explode_source, apply_source, number_source, truth_source, PlainPoint, set_point, call_point, print_point, echo_point, branch_point, jump_point, begin_point, next_point, key_point, value_point, return_point, quit_point, PlainFlowFunction, PlainFlow, point_at, function_at}
 use Rattle.least_sets.specs.Forms.{Form, text_form, same_form, join_form, before_form, request_form, integer_form, apply_form, yes_form, where_form}
-use Rattle.loose_sets.specs.Reaching.{Definition, at_point, at_entry, nexts, Reaches, IsOwn}
+use Rattle.flow_code.specs.Lawful.{nexts, IsOwnSlot, IsOwnPoint}
+use Rattle.loose_sets.specs.Reaching.{Definition, at_point, at_entry, Reaches}
 use Rattle.loose_sets.specs.Keys.{literal_key, told_keys, may_be, may_be_other, is_exactly, is_integer_key, is_among}
 use Rattle.loose_sets.specs.Names.{Half, as_text, as_array, Aspect, own, member, others, keys_of, Leaving, by_return, by_exit, Name, set_of, use_of, all_of, shown_at, result_of, input_of, output_of, joined_from, piece_of, further_piece_of, further_pieces_of, out_of}
 
@@ -131,10 +132,6 @@ pub data SourceRow (flow : PlainFlow) (p : ℕ) : PlainSource → Aspect → For
 abbrev pub IsArgument : List ℕ → List ℕ → ℕ → ℕ → Type 0
 IsArgument params args y x = (i : ℕ) × (slice_get params i ≡ Some y) × (slice_get args i ≡ Some x)
 
--- the point is one of the function's own
-abbrev pub IsPointOf : PlainFlowFunction → ℕ → Type 0
-IsPointOf g q = (i : ℕ) × (q ≡ g.first_point_of + i) × (i < length g.points_of)
-
 -- the point prints nothing and goes on: either way where it may go two ways
 abbrev pub PrintsNothing : PlainPoint → Type 0
 PrintsNothing (set_point x source next) = ⊤
@@ -184,11 +181,11 @@ pub data Row (flow : PlainFlow) : Name → Form Name → Type 0 where
   walk_deep : (a b : Aspect) (p x from next : ℕ) → point_at flow p ≡ Some (value_point x from next) → deeper a ≡ Some b → Row flow (set_of a (at_point p)) (same_form (use_of b from p))
   -- a call has the results of its function, and its arguments are the parameters; every other slot is null at the entry
   result : (a : Aspect) (p x n next : ℕ) (args : List ℕ) → point_at flow p ≡ Some (call_point x n args next) → Row flow (set_of a (at_point p)) (same_form (result_of a n))
-  returned : (a : Aspect) (n q y : ℕ) (g : PlainFlowFunction) → function_at flow n ≡ Some g → IsPointOf g q → point_at flow q ≡ Some (return_point y)
+  returned : (a : Aspect) (n q y : ℕ) (g : PlainFlowFunction) → function_at flow n ≡ Some g → IsOwnPoint g q → point_at flow q ≡ Some (return_point y)
       → Row flow (result_of a n) (same_form (use_of a y q))
   parameter : (a : Aspect) (p x n next y arg : ℕ) (args : List ℕ) (g : PlainFlowFunction) → point_at flow p ≡ Some (call_point x n args next)
       → function_at flow n ≡ Some g → IsArgument g.params_of args y arg → Row flow (set_of a (at_entry n y)) (same_form (use_of a arg p))
-  null_slot : (n y : ℕ) (g : PlainFlowFunction) → function_at flow n ≡ Some g → IsOwn g y → (Contains g.params_of y → ⊥) → Row flow (set_of (own as_text) (at_entry n y)) (text_form [])
+  null_slot : (n y : ℕ) (g : PlainFlowFunction) → function_at flow n ≡ Some g → IsOwnSlot g y → (Contains g.params_of y → ⊥) → Row flow (set_of (own as_text) (at_entry n y)) (text_form [])
   -- what is printed from a point on: until a return, or until the end of the run
   at_return : (p x : ℕ) → point_at flow p ≡ Some (return_point x) → Row flow (out_of p by_return) (text_form [])
   at_quit : (p : ℕ) → point_at flow p ≡ Some (quit_point None) → Row flow (out_of p by_exit) (text_form [])
