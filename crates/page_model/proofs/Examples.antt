@@ -1,25 +1,25 @@
 -- Worked pages and near misses.
-use Rattle.std.proofs.Common.{◌≡◌, ℕ, Bool, true, false, List, [], ◌∷◌, ◌++◌, refl, codes, Option, None, Some}
-use Rattle.std.specs.Str.{str_eq_ignore_ascii_case, encode_utf8_all}
+use Rattle.std.proofs.Common.{◌≡◌, ℕ, true, false, List, [], ◌∷◌, ◌++◌, refl, codes, None}
+use Rattle.std.specs.Str.{str_eq_ignore_ascii_case}
 use Rattle.std.specs.Char.{encode_utf8}
 use Rattle.text_base.specs.declared.page_token.PageToken.TheVariants as token
 use Rattle.xml_text.specs.Names.{is_name}
 use Rattle.xml_text.specs.Texts.{holds}
-use Rattle.dtd_model.specs.declared.dtd.DoctypeRule.TheVariants.{Strict, Free}
+use Rattle.dtd_model.specs.declared.dtd.DoctypeRule.TheVariants.{Strict}
 use Rattle.dtd_model.specs.Matches.{may_be_empty, after}
 use Rattle.dtd_model.specs.Mini.{mini_table, plain_rule}
-use Rattle.dtd_model.specs.References.{decimal, hexadecimal, entity, is_reference, is_known}
-use Rattle.dtd_model.specs.Table.{cdata, id, idrefs, nmtoken, one_of, implied, required, fixed, nothing, anything, children, one, Declared}
-use Rattle.page_model.specs.Attributes.{words_of, has_kind, has_fixed, is_declared, is_once, must_stand, attributes_fit, find_rule, leaf_fits, doctype_fits, is_allowed}
+use Rattle.dtd_model.specs.References.{decimal, hexadecimal, entity, is_reference}
+use Rattle.dtd_model.specs.Table.{cdata, id, idrefs, nmtoken, one_of, implied, fixed, nothing, children, one, Declared}
+use Rattle.page_model.specs.Attributes.{words_of, has_kind, has_fixed, attributes_fit, find_rule, leaf_fits, doctype_fits}
 use Rattle.page_model.specs.Broken.{is_loose_reference}
-use Rattle.page_model.specs.Nodes.{Nodes, no_nodes, other, element, empty_element, nodes_then, no_doctype, with_doctype, Page, pieces_of}
+use Rattle.page_model.specs.Nodes.{Nodes, no_nodes, other, element, no_doctype, Page, pieces_of}
 use Rattle.page_model.specs.PageTokens.{piece_bytes, piece_tokens, tokens_then}
-use Rattle.page_model.specs.Parts.{Attribute, Tag, IsTag, character, reference, section, comment, instruction, leaf_then, is_plain, refers_by, may_be_quoted, begins_blank}
-use Rattle.page_model.specs.Pieces.{Piece, mark, declaration, doctype, start_tag, empty_tag, end_tag, leaf, piece_then, pieces_then, may_follow, after as place_after, IsPiece}
+use Rattle.page_model.specs.Parts.{Attribute, Tag, IsTag, character, reference, section, comment, instruction, is_plain, refers_by, may_be_quoted, begins_blank}
+use Rattle.page_model.specs.Pieces.{mark, doctype, empty_tag, leaf, piece_then, pieces_then, may_follow, after as place_after, IsPiece}
 use Rattle.page_model.specs.Places.{at_beginning, behind_mark, behind}
 use Rattle.page_model.specs.Prolog.{Doctype, public, no_identifier, is_in_order}
-use Rattle.page_model.specs.TokenTree.{Trees, no_trees, single, tree, trees_then, singles_pass, TokenTree}
-use Rattle.page_model.specs.Valid.{Valid, place_of, sort_of, blank, text, remark, is_between, may_hold, PrologFits}
+use Rattle.page_model.specs.TokenTree.{no_trees, single, tree, TokenTree}
+use Rattle.page_model.specs.Valid.{Valid, place_of, sort_of, text, is_between, may_hold, PrologFits}
 
 -- References (XML 1.0, 4.1 and 4.6).
 

@@ -1,6 +1,6 @@
 -- What a document type definition asks of one piece: which attributes a tag may and must have (XML 1.0, 3.3), which
 -- entities are declared (4.1), and which document type a page names (XHTML 1.0, 3.1.1).
-use Rattle.std.specs.Prelude.{◌≡◌, ℕ, Bool, true, false, not, ◌==◌, ◌&&◌, ◌||◌, if◌then◌else◌, List, [], ◌∷◌, codes, bytes_eq, Option, Some, None}
+use Rattle.std.specs.Prelude.{ℕ, Bool, true, false, not, ◌&&◌, ◌||◌, if◌then◌else◌, List, [], ◌∷◌, codes, bytes_eq, Option, Some, None}
 use Rattle.std.specs.List.{list_all, list_any}
 use Rattle.std.specs.Str.{encode_utf8_all}
 use Rattle.xml_text.specs.Characters.{is_blank}

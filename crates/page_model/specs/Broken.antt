@@ -5,12 +5,12 @@ use Rattle.std.specs.Char.{is_ascii_digit, is_ascii_hexdigit}
 use Rattle.std.specs.List.{list_all}
 use Rattle.xml_text.specs.Characters.{is_blank}
 use Rattle.xml_text.specs.Names.{is_name}
-use Rattle.dtd_model.specs.References.{Reference, decimal, hexadecimal, entity, is_reference, is_known, is_some}
+use Rattle.dtd_model.specs.References.{Reference, decimal, hexadecimal, entity, is_known, is_some}
 use Rattle.dtd_model.specs.Table.{Table}
 use Rattle.page_model.specs.Attributes.{find_rule, is_some_rule}
-use Rattle.page_model.specs.Parts.{Attribute, Tag, Leaf, character, reference, section, comment, instruction, is_quote}
+use Rattle.page_model.specs.Parts.{Attribute, Tag, reference, is_quote}
 use Rattle.page_model.specs.PageTokens.{piece_bytes, IsLawful}
-use Rattle.page_model.specs.Pieces.{Piece, mark, declaration, doctype, start_tag, empty_tag, end_tag, leaf, piece_then, after}
+use Rattle.page_model.specs.Pieces.{Piece, start_tag, empty_tag, leaf, piece_then, after}
 use Rattle.page_model.specs.Places.{Place, at_beginning}
 
 -- an attribute with any name, whose quoted value holds any bytes but `<` and its quote

@@ -1,5 +1,5 @@
 -- The tokens of a page: its lawful pieces in turn as far as they go, and one `Bad` for what is left.
-use Rattle.std.specs.Prelude.{◌≡◌, ℕ, Bool, true, List, [], ◌∷◌, ◌++◌}
+use Rattle.std.specs.Prelude.{◌≡◌, ℕ, true, List, [], ◌∷◌, ◌++◌}
 use Rattle.std.specs.Str.{encode_utf8_all}
 use Rattle.text_base.specs.declared.numbers.Elem.{Elem}
 use Rattle.text_base.specs.declared.page_token.PageToken.{PageToken}

@@ -1,6 +1,6 @@
 -- The pieces that a page is cut into (XML 1.0, 2.1, 2.8 and 3.1), the characters that spell each, and which piece may
 -- stand where. A page is a list of pieces; that an end tag answers a start tag is a matter of trees (specs/Nodes.antt).
-use Rattle.std.specs.Prelude.{◌≡◌, ℕ, suc, Bool, true, false, not, ◌==◌, ◌&&◌, if◌then◌else◌, List, [], ◌∷◌, ◌++◌, min}
+use Rattle.std.specs.Prelude.{◌≡◌, ℕ, suc, Bool, true, not, ◌==◌, ◌&&◌, if◌then◌else◌, List, [], ◌∷◌, ◌++◌, min}
 use Rattle.std.specs.List.{list_all}
 use Rattle.xml_text.specs.Characters.{is_blank}
 use Rattle.xml_text.specs.Names.{is_name}

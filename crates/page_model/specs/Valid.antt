@@ -6,7 +6,7 @@ use Rattle.dtd_model.specs.declared.dtd.DoctypeRule.{DoctypeRule}
 use Rattle.dtd_model.specs.declared.dtd.DoctypeRule.TheVariants.{Strict, Free}
 use Rattle.dtd_model.specs.Table.{Rule, Table, Holding, nothing, anything, text_and, children}
 use Rattle.dtd_model.specs.Matches.{matches}
-use Rattle.page_model.specs.Parts.{Tag, Leaf, character, reference, section, comment, instruction}
+use Rattle.page_model.specs.Parts.{Leaf, character, reference, section, comment, instruction}
 use Rattle.page_model.specs.Attributes.{find_rule, is_allowed}
 use Rattle.page_model.specs.Nodes.{Nodes, no_nodes, other, element, empty_element, Prolog, no_doctype, with_doctype, Page, pieces_of, PageSpells}
 
