@@ -22,20 +22,23 @@ use Rattle.flow_code.specs.Points.{PlainKeyRef, int_ref, text_ref, read_ref, Pla
 abbrev pub Slots : Type 0
 Slots = ℕ → Plain
 
--- a walk over the members of an array: where it stands, and the members that follow
+-- a walk over the members of an array: the member where it stands, once it was moved to one, and the members that follow
 pub record Walk : Type 0 where
-  pub key : PlainKey
-  pub value : Plain
+  pub now : Option (PlainKey × Plain)
   pub rest : Pairs
+
+-- a slot that holds no walk
+abbrev pub no_walk : Walk
+no_walk = record { now = None; rest = empty }
 
 -- the values of the slots of an open call, and the walks that they hold
 pub record Frame : Type 0 where
   pub slots : Slots
   pub walks : ℕ → Walk
 
--- a slot set to a value
+-- a slot set to a value; a walk that it held is over
 unfoldable pub set_slot : Frame → ℕ → Plain → Frame
-set_slot f x v = record f { slots = λ y. if nat_eq y x then v else f.slots y }
+set_slot f x v = record { slots = λ y. if nat_eq y x then v else f.slots y; walks = λ y. if nat_eq y x then no_walk else f.walks y }
 
 unfoldable pub set_walk : Frame → ℕ → Walk → Frame
 set_walk f x walk = record f { walks = λ y. if nat_eq y x then walk else f.walks y }
@@ -106,7 +109,7 @@ arguments_in _ vs y = null
 
 -- a frame without a walk
 unfoldable pub fresh : Slots → Frame
-fresh slots = record { slots = slots; walks = λ x. record { key = int_key (pos 0); value = null; rest = empty } }
+fresh slots = record { slots = slots; walks = λ x. no_walk }
 
 -- how a run of a function ends: with its result, or at a `Quit`, which ends the whole run
 pub data FlowEnd : Type 0 where
@@ -139,21 +142,22 @@ pub data RunsFrom (flow : PlainFlow) (r : PlainRequest) : ℕ → ℕ → Frame 
   jump : (room p next : ℕ) (f : Frame) (w : List ℕ) (end : FlowEnd)
       → point_at flow p ≡ Some (jump_point next) → RunsFrom flow r room next f w end → RunsFrom flow r room p f w end
   -- the walk is of the value as it is now, whatever is written later
-  each_begin : (room p x from next : ℕ) (walk : Walk) (f : Frame) (w : List ℕ) (end : FlowEnd)
-      → point_at flow p ≡ Some (begin_point x from next) → walk.rest ≡ walked (f.slots from)
-      → RunsFrom flow r room next (set_walk (set_slot f x (f.slots from)) x walk) w end → RunsFrom flow r room p f w end
+  each_begin : (room p x from next : ℕ) (f : Frame) (w : List ℕ) (end : FlowEnd)
+      → point_at flow p ≡ Some (begin_point x from next)
+      → RunsFrom flow r room next (set_walk (set_slot f x (f.slots from)) x (record { now = None; rest = walked (f.slots from) })) w end
+      → RunsFrom flow r room p f w end
   each_more : (room p x more done : ℕ) (k : PlainKey) (v : Plain) (rest : Pairs) (f : Frame) (w : List ℕ) (end : FlowEnd)
       → point_at flow p ≡ Some (next_point x more done) → (f.walks x).rest ≡ pair k v rest
-      → RunsFrom flow r room more (set_walk f x (record { key = k; value = v; rest = rest })) w end → RunsFrom flow r room p f w end
+      → RunsFrom flow r room more (set_walk f x (record { now = Some (k, v); rest = rest })) w end → RunsFrom flow r room p f w end
   each_done : (room p x more done : ℕ) (f : Frame) (w : List ℕ) (end : FlowEnd)
       → point_at flow p ≡ Some (next_point x more done) → (f.walks x).rest ≡ empty
       → RunsFrom flow r room done f w end → RunsFrom flow r room p f w end
-  key_of : (room p x from next : ℕ) (f : Frame) (w : List ℕ) (end : FlowEnd)
-      → point_at flow p ≡ Some (key_point x from next)
-      → RunsFrom flow r room next (set_slot f x (value_of_key (f.walks from).key)) w end → RunsFrom flow r room p f w end
-  value_of : (room p x from next : ℕ) (f : Frame) (w : List ℕ) (end : FlowEnd)
-      → point_at flow p ≡ Some (value_point x from next)
-      → RunsFrom flow r room next (set_slot f x (f.walks from).value) w end → RunsFrom flow r room p f w end
+  key_of : (room p x from next : ℕ) (k : PlainKey) (v : Plain) (f : Frame) (w : List ℕ) (end : FlowEnd)
+      → point_at flow p ≡ Some (key_point x from next) → (f.walks from).now ≡ Some (k, v)
+      → RunsFrom flow r room next (set_slot f x (value_of_key k)) w end → RunsFrom flow r room p f w end
+  value_of : (room p x from next : ℕ) (k : PlainKey) (v : Plain) (f : Frame) (w : List ℕ) (end : FlowEnd)
+      → point_at flow p ≡ Some (value_point x from next) → (f.walks from).now ≡ Some (k, v)
+      → RunsFrom flow r room next (set_slot f x v) w end → RunsFrom flow r room p f w end
   return : (room p x : ℕ) (f : Frame) → point_at flow p ≡ Some (return_point x) → RunsFrom flow r room p f [] (returned (f.slots x))
   quit : (room p : ℕ) (f : Frame) → point_at flow p ≡ Some (quit_point None) → RunsFrom flow r room p f [] exited
   -- a `Quit` prints a text alone
