@@ -50,9 +50,9 @@ both_true a b = record {
       let right = p + a.size + 1 in
       let left = right + b.size + 1 in
       let result = t + a.slots + b.slots in
-      a.points p t ++ branch_point (a.gives t) right left ∷ b.points right (t + a.slots)
-      ++ set_point result (truth_source work.AsTruth (b.gives (t + a.slots) ∷ [])) (left + 1)
-      ∷ set_point result (truth_source work.AsTruth (a.gives t ∷ [])) (left + 1) ∷ [];
+      a.points p t ++ (branch_point (a.gives t) right left ∷ b.points right (t + a.slots)
+      ++ (set_point result (truth_source work.AsTruth (b.gives (t + a.slots) ∷ [])) (left + 1)
+      ∷ set_point result (truth_source work.AsTruth (a.gives t ∷ [])) (left + 1) ∷ []));
   gives = λ t. t + a.slots + b.slots;
 }
 
@@ -65,9 +65,9 @@ one_true a b = record {
       let right = p + a.size + 1 in
       let left = right + b.size + 1 in
       let result = t + a.slots + b.slots in
-      a.points p t ++ branch_point (a.gives t) left right ∷ b.points right (t + a.slots)
-      ++ set_point result (truth_source work.AsTruth (b.gives (t + a.slots) ∷ [])) (left + 1)
-      ∷ set_point result (truth_source work.AsTruth (a.gives t ∷ [])) (left + 1) ∷ [];
+      a.points p t ++ (branch_point (a.gives t) left right ∷ b.points right (t + a.slots)
+      ++ (set_point result (truth_source work.AsTruth (b.gives (t + a.slots) ∷ [])) (left + 1)
+      ∷ set_point result (truth_source work.AsTruth (a.gives t ∷ [])) (left + 1) ∷ []));
   gives = λ t. t + a.slots + b.slots;
 }
 
@@ -78,12 +78,12 @@ first_there a b = record {
   slots = a.slots + 1 + b.slots + 1;
   points = λ p t.
       let test = t + a.slots in
-      let left = p + a.size + 2 in
+      let left = p + a.size + 1 + 1 in
       let end = left + 1 + b.size + 1 in
       let result = test + 1 + b.slots in
-      a.points p t ++ set_point test (truth_source work.NotNull (a.gives t ∷ [])) (p + a.size + 1) ∷ branch_point test left (left + 1)
+      a.points p t ++ (set_point test (truth_source work.NotNull (a.gives t ∷ [])) (p + a.size + 1) ∷ branch_point test left (left + 1)
       ∷ set_point result (copy_source (a.gives t)) end ∷ b.points (left + 1) (test + 1)
-      ++ set_point result (copy_source (b.gives (test + 1))) end ∷ [];
+      ++ (set_point result (copy_source (b.gives (test + 1))) end ∷ []));
   gives = λ t. t + a.slots + 1 + b.slots;
 }
 
@@ -97,9 +97,9 @@ chosen c a b = record {
       let second = first + a.size + 1 in
       let end = second + b.size + 1 in
       let result = t + c.slots + a.slots + b.slots in
-      c.points p t ++ branch_point (c.gives t) first second ∷ a.points first (t + c.slots)
-      ++ set_point result (copy_source (a.gives (t + c.slots))) end ∷ b.points second (t + c.slots + a.slots)
-      ++ set_point result (copy_source (b.gives (t + c.slots + a.slots))) end ∷ [];
+      c.points p t ++ (branch_point (c.gives t) first second ∷ a.points first (t + c.slots)
+      ++ (set_point result (copy_source (a.gives (t + c.slots))) end ∷ b.points second (t + c.slots + a.slots)
+      ++ (set_point result (copy_source (b.gives (t + c.slots + a.slots))) end ∷ [])));
   gives = λ t. t + c.slots + a.slots + b.slots;
 }
 
@@ -113,8 +113,8 @@ chosen_itself c b = record {
       let second = first + 1 in
       let end = second + b.size + 1 in
       let result = t + c.slots + b.slots in
-      c.points p t ++ branch_point (c.gives t) first second ∷ set_point result (copy_source (c.gives t)) end ∷ b.points second (t + c.slots)
-      ++ set_point result (copy_source (b.gives (t + c.slots))) end ∷ [];
+      c.points p t ++ (branch_point (c.gives t) first second ∷ set_point result (copy_source (c.gives t)) end ∷ b.points second (t + c.slots)
+      ++ (set_point result (copy_source (b.gives (t + c.slots))) end ∷ []));
   gives = λ t. t + c.slots + b.slots;
 }
 
@@ -179,12 +179,12 @@ filled x a b = record {
   points = λ p t.
       let old = (a.gives t).1 in
       let test = t + a.slots in
-      let left = p + a.size + 2 in
+      let left = p + a.size + 1 + 1 in
       let copied = left + 1 + b.size in
       let result = test + 1 + b.slots in
-      a.points p t ++ set_point test (truth_source work.NotNull (old ∷ [])) (p + a.size + 1) ∷ branch_point test left (left + 1)
-      ∷ set_point result (copy_source old) (copied + 2) ∷ b.points (left + 1) (test + 1)
-      ++ set_point result (copy_source (b.gives (test + 1))) (copied + 1) ∷ set_point x (written x (a.gives t).0 result) (copied + 2) ∷ [];
+      a.points p t ++ (set_point test (truth_source work.NotNull (old ∷ [])) (p + a.size + 1) ∷ branch_point test left (left + 1)
+      ∷ set_point result (copy_source old) (copied + 1 + 1) ∷ b.points (left + 1) (test + 1)
+      ++ (set_point result (copy_source (b.gives (test + 1))) (copied + 1) ∷ set_point x (written x (a.gives t).0 result) (copied + 1 + 1) ∷ []));
   gives = λ t. t + a.slots + 1 + b.slots;
 }
 

@@ -32,7 +32,7 @@ flat_function table f point slot =
       slots_of = length (variables_of f) + body.slots + 1;
       first_point_of = point;
       points_of = body.points (record { stop = end; again = end }) point free
-          ++ set_point (free + body.slots) (literal_source null) (end + 1) ∷ return_point (free + body.slots) ∷ [];
+          ++ (set_point (free + body.slots) (literal_source null) (end + 1) ∷ return_point (free + body.slots) ∷ []);
     }
 
 unfoldable pub flat_functions : List PlainFunction → List PlainFunction → ℕ → ℕ → List PlainFlowFunction

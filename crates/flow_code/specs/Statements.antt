@@ -21,8 +21,8 @@ either test one other = record {
   points = λ to p t.
       let first = p + test.size + 1 in
       let second = first + one.size + 1 in
-      test.points p t ++ branch_point (test.gives t) first second ∷ one.points to first (t + test.slots)
-      ++ jump_point (second + other.size) ∷ other.points to second (t + test.slots + one.slots);
+      test.points p t ++ (branch_point (test.gives t) first second ∷ one.points to first (t + test.slots)
+      ++ (jump_point (second + other.size) ∷ other.points to second (t + test.slots + one.slots)));
 }
 
 -- a condition that may be left out, and then holds; where it does not hold it leads to a point
@@ -51,8 +51,8 @@ looping test body behind = record {
   points = λ to p t.
       let again = p + test.size + body.size in
       let stop = again + behind.size + 1 in
-      test.points stop p t ++ body.points (record { stop = stop; again = again }) (p + test.size) (t + test.slots)
-      ++ behind.points to again (t + test.slots + body.slots) ++ jump_point p ∷ [];
+      test.points stop p t ++ (body.points (record { stop = stop; again = again }) (p + test.size) (t + test.slots)
+      ++ (behind.points to again (t + test.slots + body.slots) ++ (jump_point p ∷ [])));
 }
 
 -- a body, a condition, and back to the body where it holds; `continue` leads to the condition
@@ -63,8 +63,8 @@ repeating body test = record {
   points = λ to p t.
       let again = p + body.size in
       let stop = again + test.size + 1 in
-      body.points (record { stop = stop; again = again }) p t ++ test.points again (t + body.slots)
-      ++ branch_point (test.gives (t + body.slots)) p stop ∷ [];
+      body.points (record { stop = stop; again = again }) p t ++ (test.points again (t + body.slots)
+      ++ (branch_point (test.gives (t + body.slots)) p stop ∷ []));
 }
 
 -- the points that set the variables of a turn of `foreach`: the key is set before the value
@@ -86,8 +86,8 @@ walking a key x body = record {
       let again = p + a.size + 1 in
       let inside = again + 1 + pair_size key in
       let stop = inside + body.size + 1 in
-      a.points p t ++ begin_point walk (a.gives t) again ∷ next_point walk (again + 1) stop ∷ pair_points key x walk (again + 1)
-      ++ body.points (record { stop = stop; again = again }) inside (walk + 1) ++ jump_point again ∷ [];
+      a.points p t ++ (begin_point walk (a.gives t) again ∷ next_point walk (again + 1) stop ∷ pair_points key x walk (again + 1)
+      ++ (body.points (record { stop = stop; again = again }) inside (walk + 1) ++ (jump_point again ∷ [])));
 }
 
 unfoldable pub return_block : Scope → MaybeExpr → Block

@@ -1,0 +1,5 @@
+mod Ends
+mod Has
+mod Names
+mod Frames
+mod Codes
