@@ -3,3 +3,4 @@ mod Has
 mod Names
 mod Frames
 mod Codes
+mod Writes
