@@ -112,6 +112,11 @@ EndsAs (Over (Faulted fault) w) r = Unit {0}
 EndsAs (Over Spent w) r = Unit {0}
 EndsAs (Over Deep w) r = Unit {0}
 
+pub then_same : {A B : Type 0} (r : Run A) (go go' : A → State → Run B) → ((v : A) (s : State) → go v s ≡ go' v s) → (r then_do go) ≡ (r then_do go')
+unfolding ◌then_do◌
+then_same (Going v s) go go' h = h v s
+then_same (Over end w) go go' h = refl
+
 module _ {m : World} where
   after_at : {A : Type 0} (p q : ℕ) (f g : Frame) (out out' : List ℕ) (r : Run A) (P : Post A) → Comes m p f out q g out' → Comes_to m q g out' r P → Comes_to m p f out r P
   after_at p q f g out out' (Going v s) P h c = record { at = c.at; frame = c.frame; holds = c.holds; comes = λ w end e. h w end (c.comes w end e) }
@@ -127,6 +132,10 @@ module _ {m : World} where
   -- nothing more
   pub here : {A : Type 0} {v : A} {s : State} {p : ℕ} {f : Frame} {P : Post A} → P v s p f → Follows m A p f s.printed (Going v s) P
   here {s} {p} {f} h = record { is = record { at = p; frame = f; holds = h; comes = λ w end e. e } }
+
+  -- points that only prepare, from which nothing of the run is seen
+  pub land : {A B : Type 0} {p : ℕ} {f : Frame} {out : List ℕ} {v : A} {s : State} {P : Post A} {r : Run B} {Q : Post B} → Follows m A p f out (Going v s) P → ((q : ℕ) (g : Frame) → P v s q g → Follows m B q g s.printed r Q) → Follows m B p f out r Q
+  land h next = after h.is.comes (next h.is.at h.is.frame h.is.holds)
 
   -- the run ends
   pub over : {A : Type 0} {p : ℕ} {f : Frame} {out w : List ℕ} {P : Post A} → Ends m p f out w exited → Follows m A p f out (Over Ended w) P

@@ -4,3 +4,5 @@ mod Names
 mod Frames
 mod Codes
 mod Writes
+mod BuiltinValues
+mod Calls
