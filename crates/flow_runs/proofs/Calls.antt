@@ -115,7 +115,7 @@ found_defaults (g ∷ fs) k n f name h e = by_test (found_defaults fs (k + 1) n 
     by_test go true e = let same : g ≡ f = ap (second g) e in subst (λ f. AreDefaults f.params_of) same h.0
     by_test go false e = go e
 
-neg_value : (r : PlainRequest) (f : Slots) (x : ℕ) (v : Plain) → negation_of (f x) ≡ Ok v → source_value r f (number_source work.Neg (x ∷ [])) ≡ Ok v
+pub neg_value : (r : PlainRequest) (f : Slots) (x : ℕ) (v : Plain) → negation_of (f x) ≡ Ok v → source_value r f (number_source work.Neg (x ∷ [])) ≡ Ok v
 unfolding source_value worked
 neg_value r f x v e = e
 

@@ -6,3 +6,5 @@ mod Codes
 mod Writes
 mod BuiltinValues
 mod Calls
+mod Agreement
+mod Trees
