@@ -8,3 +8,5 @@ mod BuiltinValues
 mod Calls
 mod Agreement
 mod Trees
+mod Blocks
+mod Loops
