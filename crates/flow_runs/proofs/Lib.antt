@@ -10,3 +10,4 @@ mod Agreement
 mod Trees
 mod Blocks
 mod Loops
+mod Stmts
