@@ -57,7 +57,7 @@ by_builtin : (o : Option Builtin) (b : Builtin) (vs : List Plain) (own : State �
 unfolding builtin_or
 by_builtin o b vs own s e = ap (λ o. builtin_or o vs own s) e
 
-by_own : (o : Option Builtin) (vs : List Plain) (own : State → Run Plain) (s : State) → o ≡ None → builtin_or o vs own s ≡ own s
+pub by_own : (o : Option Builtin) (vs : List Plain) (own : State → Run Plain) (s : State) → o ≡ None → builtin_or o vs own s ≡ own s
 unfolding builtin_or
 by_own o vs own s e = ap (λ o. builtin_or o vs own s) e
 

@@ -11,3 +11,4 @@ mod Trees
 mod Blocks
 mod Loops
 mod Stmts
+mod Program

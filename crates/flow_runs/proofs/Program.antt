@@ -1,0 +1,231 @@
+-- The points of a program do what it does.
+use Rattle.std.proofs.Common.{◌≡◌, ◌≢◌, ℕ, zero, suc, ◌+◌, ◌<◌, ◌≤◌, List, [], ◌∷◌, ◌++◌, length, Some, None, Option, refl, sym, ap, ap₂, ◌∙◌, subst, arith, Bool, true, false, map, take, drop, nat_eq, bytes_eq, slice_get}
+use Rattle.std.specs.Prelude.{if◌then◌else◌}
+use Rattle.std.proofs.lemmas.Bool.{eq-eqb, ne_eqb}
+use Rattle.php_syntax.specs.Trees.{PlainStmts, PlainParam, PlainFunction}
+use Rattle.plain_values.specs.Plain.{Plain, null}
+use Rattle.plain_values.specs.declared.fault.Fault.{Fault}
+use Rattle.builtin_meaning.specs.Names.{builtin_named}
+use Rattle.script_meaning.specs.Requests.{PlainRequest}
+use Rattle.script_meaning.specs.Runs.{State, Run, Going, Over, ◌then_do◌, Ended, Faulted, Spent, Deep, unit_at, value_in}
+use Rattle.script_meaning.specs.Programs.{PlainProgram, function_named, arguments_of}
+use Rattle.script_meaning.specs.Statements.{Flow, goes_on, breaks, continues, returns, statements}
+use Rattle.script_meaning.specs.Meaning.{value_returned, call_one, run_body, call_within, Outcome, outcome_of, meaning}
+use Rattle.flow_code.specs.Points.{PlainPoint, literal_source, set_point, call_point, return_point, PlainFlowFunction, PlainFlow, points_in, point_at, function_at}
+use Rattle.flow_code.specs.Variables.{Name, name_of_param, names_of, variables_of, once}
+use Rattle.flow_code.specs.Code.{Targets}
+use Rattle.flow_code.specs.Expressions.{Scope, variable, function_in}
+use Rattle.flow_code.specs.Statements.{block}
+use Rattle.flow_code.specs.Flat.{scope_of, body_of_function, flat_function, flat_functions, main_function, flat}
+use Rattle.flow_code.specs.Runs.{Frame, set_slot, fresh, arguments_in, source_value, FlowEnd, returned, exited, RunsFrom, FlatRun}
+use Rattle.flow_runs.specs.Defaults.{HaveDefaults}
+use Rattle.flow_runs.proofs.Ends.{World, world, Ends, Comes, Comes_to, Post, Follows, after, here, onward, unit, set_comes, return_ends, call_comes, call_quits}
+use Rattle.flow_runs.proofs.Has.{HasAt, has_front, has_back, has_all}
+use Rattle.flow_runs.proofs.Names.{Has, HasAll, all_front, all_back, once_has, place_is, name_is, other_name}
+use Rattle.flow_runs.proofs.Frames.{slot_same, Shows, free}
+use Rattle.flow_runs.proofs.Calls.{env, default_of, handed, Came, CallsDo, by_own, found_defaults}
+use Rattle.flow_runs.proofs.Blocks.{Went, DoesBlock}
+use Rattle.flow_runs.proofs.Stmts.{block_does}
+
+-- a function stands among the points
+record Stands (flow : PlainFlow) (table : List PlainFunction) (n : ℕ) (f : PlainFunction) : Type 0 where
+  point : ℕ
+  slot : ℕ
+  is : function_at flow n ≡ Some (flat_function table f point slot)
+  has : HasAt flow point (flat_function table f point slot).points_of
+
+record Placed (flow : PlainFlow) (table fs : List PlainFunction) (point slot k : ℕ) (f : PlainFunction) : Type 0 where
+  at_point : ℕ
+  at_slot : ℕ
+  is : slice_get (flat_functions table fs point slot) k ≡ Some (flat_function table f at_point at_slot)
+  has : HasAt flow at_point (flat_function table f at_point at_slot).points_of
+
+placed : (flow : PlainFlow) (table fs : List PlainFunction) (point slot : ℕ) → HasAt flow point (points_in (flat_functions table fs point slot)) → (k : ℕ) (f : PlainFunction) → slice_get fs k ≡ Some f → Placed flow table fs point slot k f
+unfolding flat_functions points_in flat_function
+placed flow table [] point slot has k f e = cc
+placed flow table (g ∷ fs) point slot has zero f e =
+    let same : g ≡ f = cc in
+    subst (Placed flow table (g ∷ fs) point slot zero) same (record { at_point = point; at_slot = slot; is = refl; has = has_front flow point (flat_function table g point slot).points_of _ has })
+placed flow table (g ∷ fs) point slot has (suc k) f e =
+    let first = flat_function table g point slot in
+    let rest = placed flow table fs (point + length first.points_of) (slot + first.slots_of) (has_back flow point (length first.points_of) first.points_of _ refl has) k f e in
+    record { at_point = rest.at_point; at_slot = rest.at_slot; is = rest.is; has = rest.has }
+
+record Found (fs : List PlainFunction) (j n : ℕ) (f : PlainFunction) (name : Name) : Type 0 where
+  place : ℕ
+  number : n ≡ j + place
+  is : slice_get fs place ≡ Some f
+  named : function_named fs name ≡ Some f
+
+abbrev first_of : ℕ → Option (ℕ × PlainFunction) → ℕ
+first_of d None = d
+first_of d (Some p) = p.0
+
+abbrev second_of : PlainFunction → Option (ℕ × PlainFunction) → PlainFunction
+second_of d None = d
+second_of d (Some p) = p.1
+
+first_place : {j n : ℕ} → j ≡ n → n ≡ j + 0
+first_place e = omega (arith, e)
+
+found : (fs : List PlainFunction) (j n : ℕ) (f : PlainFunction) (name : Name) → function_in j fs name ≡ Some (n, f) → Found fs j n f name
+unfolding function_in function_named
+found [] j n f name e = cc
+found (g ∷ fs) j n f name e = by_test (found fs (j + 1) n f name) (bytes_eq g.name_of name) refl (subst (λ b. (if b then Some (j, g) else function_in (j + 1) fs name) ≡ Some (n, f)) refl e)
+  where
+    by_test : (function_in (j + 1) fs name ≡ Some (n, f) → Found fs (j + 1) n f name) → (b : Bool) → bytes_eq g.name_of name ≡ b → (if bytes_eq g.name_of name then Some (j, g) else function_in (j + 1) fs name) ≡ Some (n, f) → Found (g ∷ fs) j n f name
+    by_test go true t e =
+        let e' : Some (j, g) ≡ Some (n, f) = ap (λ b. if b then Some (j, g) else function_in (j + 1) fs name) (sym t) ∙ e in
+        let same : g ≡ f = ap (second_of g) e' in
+        let at : j ≡ n = ap (first_of j) e' in
+        record { place = 0; number = first_place at; is = ap Some same; named = ap (λ b. if b then Some g else function_named fs name) t ∙ ap Some same }
+    by_test go false t e =
+        let rest = go (ap (λ b. if b then Some (j, g) else function_in (j + 1) fs name) (sym t) ∙ e) in
+        let at = rest.number in
+        record { place = suc rest.place; number = omega (arith, at); is = rest.is; named = ap (λ b. if b then Some g else function_named fs name) t ∙ rest.named }
+
+take_none : (n : ℕ) → take {A = Plain} n [] ≡ []
+take_none zero = refl
+take_none (suc n) = refl
+
+-- the slots of the parameters hold the values that the call begins with
+module _ (w : Scope) where
+  abbrev slots_of : List PlainParam → List ℕ
+  slots_of ps = map (λ (p : PlainParam). variable w p.name_of) ps
+
+  abbrev values_for : List PlainParam → List Plain → List Plain
+  values_for ps vs = take (length ps) vs ++ map default_of (drop (length vs) ps)
+
+  parameter : (y x : Name) (v rest rest' : Plain) → Has w.names x → Has w.names y → rest ≡ rest' → (if nat_eq (variable w x) (variable w y) then v else rest) ≡ (if bytes_eq y x then v else rest')
+  unfolding variable
+  parameter y x v rest rest' hx hy e = by_test (bytes_eq y x) refl
+    where
+      by_test : (b : Bool) → bytes_eq y x ≡ b → (if nat_eq (variable w x) (variable w y) then v else rest) ≡ (if b then v else rest')
+      by_test true t = ap (λ b. if b then v else rest) (eq-eqb (variable w x) (variable w y) (ap (variable w) (sym (name_is y x t))))
+      by_test false t = ap (λ b. if b then v else rest) (ne_eqb (variable w x) (variable w y) (λ same. other_name y x t (place_is y x w.names hy hx (omega (arith, same))))) ∙ e
+
+  arguments_show : (ps : List PlainParam) (vs : List Plain) (x : Name) → HasAll w.names (map name_of_param ps) → Has w.names x → arguments_in (slots_of ps) (values_for ps vs) (variable w x) ≡ value_in (arguments_of ps vs) x
+  unfolding arguments_in arguments_of
+  arguments_show [] vs x h hx = refl
+  arguments_show (p ∷ ps) [] x h hx =
+      let rest : arguments_in (slots_of ps) (map default_of ps) (variable w x) ≡ value_in (arguments_of ps []) x = ap (λ (l : List Plain). arguments_in (slots_of ps) (l ++ map default_of ps) (variable w x)) (sym (take_none (length ps))) ∙ arguments_show ps [] x h.1 hx in
+      parameter p.name_of x (default_of p) _ _ hx h.0 rest
+  arguments_show (p ∷ ps) (v ∷ vs) x h hx = parameter p.name_of x v _ _ hx h.0 (arguments_show ps vs x h.1 hx)
+
+-- a call of a function that is there
+found_call : (r : PlainRequest) (fs : List PlainFunction) (room : ℕ) (name : Name) (f : PlainFunction) (vs : List Plain) (s : State) → builtin_named name ≡ None → function_named fs name ≡ Some f → call_within r fs (suc room) name vs s ≡ unit_at s.left s (run_body (record { request = r; call = call_within r fs room }) f vs)
+unfolding call_within call_one
+found_call r fs room name f vs s e k = by_own (builtin_named name) vs _ s e ∙ ap (λ o. call_one o (λ f s. run_body (record { request = r; call = call_within r fs room }) f vs s) s) k
+
+deep_call : (r : PlainRequest) (fs : List PlainFunction) (name : Name) (f : PlainFunction) (vs : List Plain) (s : State) → builtin_named name ≡ None → function_named fs name ≡ Some f → call_within r fs zero name vs s ≡ unit_at s.left s (λ s. Over Deep s.printed)
+unfolding call_within call_one
+deep_call r fs name f vs s e k = by_own (builtin_named name) vs _ s e ∙ ap (λ o. call_one o (λ f s. Over Deep s.printed) s) k
+
+module _ {flow : PlainFlow} {r : PlainRequest} {room : ℕ} where
+  -- the points behind a body
+  body_ends : (w : Scope) (to : Targets) (e t y q : ℕ) (f g : Frame) (how : Flow) (s : State) → to.stop ≡ e → to.again ≡ e → point_at flow e ≡ Some (set_point y (literal_source null) (e + 1)) → point_at flow (e + 1) ≡ Some (return_point y) → Went (world flow r room) w to e t f how s q g → Ends (world flow r room) q g s.printed s.printed (returned (value_returned how))
+  unfolding value_returned source_value
+  body_ends w to e t y q f g how s stop again sets back went = by_flow how went
+    where
+      null_ends : Ends (world flow r room) e g s.printed s.printed (returned null)
+      null_ends = set_comes (world flow r room) e y (e + 1) (literal_source null) g null s.printed sets refl s.printed (returned null) (return_ends (world flow r room) (e + 1) y (set_slot g y null) s.printed null back (slot_same g y null))
+
+      by_flow : (how : Flow) → Went (world flow r room) w to e t f how s q g → Ends (world flow r room) q g s.printed s.printed (returned (value_returned how))
+      by_flow goes_on went = subst (λ q. Ends (world flow r room) q g s.printed s.printed (returned null)) (sym went.at) null_ends
+      by_flow breaks went = subst (λ q. Ends (world flow r room) q g s.printed s.printed (returned null)) (sym (went.at ∙ stop)) null_ends
+      by_flow continues went = subst (λ q. Ends (world flow r room) q g s.printed s.printed (returned null)) (sym (went.at ∙ again)) null_ends
+      by_flow (returns v) went = return_ends (world flow r room) q went.at.0 g s.printed v went.at.1 went.at.2
+
+  -- a call's point, where the body of the function follows
+  enters : (p x n next : ℕ) (args : List ℕ) (callee : PlainFlowFunction) (g : Frame) (s : State) (run : Run Flow) (P : Post Flow) → point_at flow p ≡ Some (call_point x n args next) → function_at flow n ≡ Some callee → ((how : Flow) (s : State) (q : ℕ) (h : Frame) → P how s q h → Ends (world flow r room) q h s.printed s.printed (returned (value_returned how))) → Follows (world flow r room) Flow callee.entry_of (fresh (arguments_in callee.params_of (map g.slots args))) s.printed run P → Follows (world flow r (suc room)) Plain p g s.printed (run then_do λ how after. Going (value_returned how) (record after { variables = s.variables })) (Came x next g s)
+  unfolding ◌then_do◌
+  enters p x n next args callee g s run P at is ends h = record { is = by_run run h.is }
+    where
+      by_run : (run : Run Flow) → Comes_to (world flow r room) callee.entry_of (fresh (arguments_in callee.params_of (map g.slots args))) s.printed run P → Comes_to (world flow r (suc room)) p g s.printed (run then_do λ how after. Going (value_returned how) (record after { variables = s.variables })) (Came x next g s)
+      by_run (Going how t) c =
+          let inner = c.comes t.printed (returned (value_returned how)) (ends how t c.at c.frame c.holds) in
+          record {
+            at = next;
+            frame = set_slot g x (value_returned how);
+            holds = record { at = refl; frame = refl; variables = refl };
+            comes = call_comes flow r room p x n next args callee g (value_returned how) s.printed t.printed at is inner;
+          }
+      by_run (Over Ended w) c = call_quits flow r room p x n next args callee g s.printed w at is c
+      by_run (Over (Faulted fault) w) c = tt
+      by_run (Over Spent w) c = tt
+      by_run (Over Deep w) c = tt
+
+names_there : (table : List PlainFunction) (f : PlainFunction) (slot : ℕ) → HasAll (scope_of table f slot).names (map name_of_param f.params_of ++ names_of f.body_of)
+unfolding scope_of variables_of
+names_there table f slot = once_has (map name_of_param f.params_of ++ names_of f.body_of)
+
+module _ {flow : PlainFlow} {r : PlainRequest} (table : List PlainFunction) (defaults : HaveDefaults table) (stands : (k : ℕ) (f : PlainFunction) → slice_get table k ≡ Some f → Stands flow table (suc k) f) where
+  -- a function whose points stand here, from a state whose variables its slots show
+  function_follows : (room : ℕ) → CallsDo (world flow r room) table → (f : PlainFunction) (point slot : ℕ) (frame : Frame) (s : State) → HasAt flow point (flat_function table f point slot).points_of → Shows (scope_of table f slot) s frame → Follows (world flow r room) Flow point frame s.printed (statements (env (world flow r room) table) f.body_of s) (λ how t q g. Ends (world flow r room) q g t.printed t.printed (returned (value_returned how)))
+  unfolding flat_function body_of_function scope_of
+  function_follows room calls f point slot frame s has shows =
+      let w = scope_of table f slot in
+      let body = block w f.body_of in
+      let e = point + body.size in
+      let start = slot + length (variables_of f) in
+      let to : Targets = record { stop = e; again = e } in
+      let d = block_does {m = world flow r room} {w = w} calls defaults f.body_of (all_back w.names (map name_of_param f.params_of) (names_of f.body_of) (names_there table f slot)) in
+      let ends = has_back flow point body.size (body.points to point start) _ (d.long to point start) has in
+      onward (d.follows to point start frame s (has_front flow point (body.points to point start) _ has) (omega arith) shows)
+      (λ how t q g went. here (body_ends w to e start _ q frame g how t refl refl ends.0 ends.1.0 went))
+
+  called_follows : (room : ℕ) → CallsDo (world flow r room) table → (n : ℕ) (f : PlainFunction) (point slot : ℕ) → HasAt flow point (flat_function table f point slot).points_of → function_at flow n ≡ Some (flat_function table f point slot) → (p x next : ℕ) (args : List ℕ) (g : Frame) (s : State) (vs : List Plain) → point_at flow p ≡ Some (call_point x n args next) → map g.slots args ≡ handed f vs → Follows (world flow r (suc room)) Plain p g s.printed (run_body (env (world flow r room) table) f vs s) (Came x next g s)
+  unfolding run_body flat_function scope_of fresh
+  called_follows room calls n f point slot has is p x next args g s vs at given =
+      let w = scope_of table f slot in
+      let callee = flat_function table f point slot in
+      let s1 : State = record s { variables = arguments_of f.params_of vs } in
+      let shows : Shows w s1 (fresh (arguments_in callee.params_of (map g.slots args))) = λ y hy. ap (λ vs. arguments_in callee.params_of vs (variable w y)) given ∙ arguments_show w f.params_of vs y (all_front w.names (map name_of_param f.params_of) (names_of f.body_of) (names_there table f slot)) hy in
+      enters p x n next args callee g s _ (λ how t q g. Ends (world flow r room) q g t.printed t.printed (returned (value_returned how))) at is (λ how t q h e. e) (function_follows room calls f point slot _ s1 has shows)
+
+  calls_do : (room : ℕ) → CallsDo (world flow r room) table
+  calls_do zero name n f not_builtin is p x next args g s vs at given =
+      let fd = found table 1 n f name is in
+      subst (λ run. Follows (world flow r zero) Plain p g s.printed run (Came x next g s)) (sym (deep_call r table name f vs s not_builtin fd.named)) (unit s _ (λ left. record { is = tt }))
+  calls_do (suc room) name n f not_builtin is p x next args g s vs at given =
+      let fd = found table 1 n f name is in
+      let st = stands fd.place f fd.is in
+      let number = fd.number in
+      let callee = flat_function table f st.point st.slot in
+      let is_callee : function_at flow n ≡ Some callee = subst (λ n. function_at flow n ≡ Some callee) (omega (arith, number)) st.is in
+      subst (λ run. Follows (world flow r (suc room)) Plain p g s.printed run (Came x next g s)) (sym (found_call r table room name f vs s not_builtin fd.named))
+      (unit {P = Came x next g s} s _ (λ left. onward (called_follows room (calls_do room) n f st.point st.slot st.has is_callee p x next args g (record s { left = left }) vs at given) (λ v t q h came. here (record { at = came.at; frame = came.frame; variables = came.variables }))))
+
+faulted_apart : (fault : Fault) → Faulted fault ≡ Ended → ⊥
+faulted_apart fault e = cc
+
+spent_apart : Spent ≡ Ended → ⊥
+spent_apart e = cc
+
+deep_apart : Deep ≡ Ended → ⊥
+deep_apart e = cc
+
+outcome_ends : (run : Run Flow) (w : List ℕ) → outcome_of run ≡ record { printed = w; end = Ended } → (flow : PlainFlow) (r : PlainRequest) (point : ℕ) (frame : Frame) → Follows (world flow r 256) Flow point frame [] run (λ how t q g. Ends (world flow r 256) q g t.printed t.printed (returned (value_returned how))) → (end : FlowEnd) × Ends (world flow r 256) point frame [] w end
+unfolding outcome_of
+outcome_ends (Going how s) w e flow r point frame h =
+    let c = h.is in
+    let same : s.printed ≡ w = ap (λ (o : Outcome). o.printed) e in
+    (returned (value_returned how), subst (λ w. Ends (world flow r 256) point frame [] w (returned (value_returned how))) same (c.comes s.printed (returned (value_returned how)) c.holds))
+outcome_ends (Over Ended u) w e flow r point frame h =
+    let same : u ≡ w = ap (λ (o : Outcome). o.printed) e in
+    (exited, subst (λ w. Ends (world flow r 256) point frame [] w exited) same h.is)
+outcome_ends (Over (Faulted fault) u) w e flow r point frame h = absurd (faulted_apart fault (ap (λ (o : Outcome). o.end) e))
+outcome_ends (Over Spent u) w e flow r point frame h = absurd (spent_apart (ap (λ (o : Outcome). o.end) e))
+outcome_ends (Over Deep u) w e flow r point frame h = absurd (deep_apart (ap (λ (o : Outcome). o.end) e))
+
+pub ended_runs : (program : PlainProgram) (r : PlainRequest) (n : ℕ) (w : List ℕ) → HaveDefaults program.functions_of → meaning program r n ≡ record { printed = w; end = Ended } → FlatRun (flat program) r w
+unfolding meaning flat flat_functions flat_function main_function fresh points_in
+ended_runs program r n w defaults e =
+    let main = main_function program in
+    let table = program.functions_of in
+    let flow = flat program in
+    let has = has_all flow in
+    let stands : (k : ℕ) (f : PlainFunction) → slice_get table k ≡ Some f → Stands flow table (suc k) f = λ k f is. (let pl = placed flow table (main ∷ table) 0 0 has (suc k) f is in record { point = pl.at_point; slot = pl.at_slot; is = pl.is; has = pl.has }) in
+    let first = has_front flow 0 (flat_function table main 0 0).points_of _ has in
+    let ends = outcome_ends _ w e flow r 0 (fresh (λ x. null)) (function_follows table defaults stands 256 (calls_do table defaults stands 256) main 0 0 (fresh (λ x. null)) (record { left = n; variables = []; printed = [] }) first (λ x hx. refl)) in
+    record { main = flat_function table main 0 0; is_main = refl; end = ends.0; runs = subst (λ w. RunsFrom flow r 256 0 (fresh (λ x. null)) w ends.0) (sym (ends.1).all) (ends.1).runs }
