@@ -1,10 +1,10 @@
 -- Runs that evaluate all parts first come to the same as those that go on between the parts, where these go on or end.
-use Rattle.std.proofs.Common.{◌≡◌, ℕ, zero, suc, List, [], ◌∷◌, ◌++◌, Some, None, Option, refl, sym, ap, ◌∙◌, subst, Bool, true, false, not, Result, Ok, Err, append-nil, nat_le, length}
-use Rattle.std.specs.Prelude.{if◌then◌else◌, flat_map}
+use Rattle.std.proofs.Common.{◌≡◌, List, [], ◌∷◌, ◌++◌, Option, refl, sym, ap, ◌∙◌, subst, Bool, true, false, not, Result, Ok, Err, append-nil, nat_le, length}
+use Rattle.std.specs.Prelude.{if◌then◌else◌}
 use Rattle.php_syntax.specs.Trees.{PlainItems, no_items, more_items}
 use Rattle.php_syntax.specs.declared.tree.UpdateSign.{UpdateSign}
 use Rattle.php_syntax.specs.declared.tree.UpdateSign.TheVariants as update
-use Rattle.plain_values.specs.Plain.{Plain, null, flag, text}
+use Rattle.plain_values.specs.Plain.{Plain, flag, text}
 use Rattle.plain_values.specs.Text.{text_of}
 use Rattle.plain_values.specs.Joins.{join_of}
 use Rattle.plain_values.specs.Walks.{is_null}
@@ -17,7 +17,7 @@ use Rattle.script_meaning.specs.Expressions.{Environment, value, maybe_value, it
 use Rattle.flow_code.specs.Variables.{Name}
 use Rattle.flow_code.specs.Runs.{concatenated}
 use Rattle.flow_runs.proofs.Ends.{EndsAs}
-use Rattle.flow_runs.proofs.Writes.{KeyValues, old_at, paired, with_new, with_write}
+use Rattle.flow_runs.proofs.Writes.{KeyValues, old_at}
 
 pub ends_self : {A : Type 0} (r : Run A) → EndsAs r r
 ends_self (Going v s) = refl

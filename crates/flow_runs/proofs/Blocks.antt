@@ -1,22 +1,19 @@
 -- Code of statements that does what a run does, and how it is put together.
-use Rattle.std.proofs.Common.{◌≡◌, ◌≢◌, ℕ, zero, suc, ◌+◌, ◌<◌, ◌≤◌, List, [], ◌∷◌, ◌++◌, length, Some, None, Option, refl, sym, ap, ◌∙◌, subst, arith, Bool, true, false}
+use Rattle.std.proofs.Common.{◌≡◌, ℕ, ◌+◌, ◌≤◌, List, [], ◌++◌, length, Some, None, refl, sym, ap, subst, arith, Bool, true, false}
 use Rattle.std.specs.Prelude.{if◌then◌else◌}
-use Rattle.plain_values.specs.Plain.{Plain, PlainKey, Pairs, null, flag, int, text, array, empty, pair}
+use Rattle.plain_values.specs.Plain.{Plain, null, flag, int, text, array}
 use Rattle.plain_values.specs.Text.{truth, text_of}
-use Rattle.plain_values.specs.Walks.{value_of_key, walked}
-use Rattle.script_meaning.specs.Runs.{State, Run, Going, Over, ◌then_do◌, Spent, unit_at, with_variable, printing}
-use Rattle.script_meaning.specs.Statements.{Flow, goes_on, breaks, continues, returns, next_after, turn_after, turn, turns, loop, with_pair, walk, nothing, exit_with}
-use Rattle.flow_code.specs.Points.{PlainPoint, set_point, print_point, echo_point, branch_point, jump_point, begin_point, next_point, key_point, value_point, return_point, quit_point, PlainFlow, point_at}
-use Rattle.flow_code.specs.Variables.{Name}
-use Rattle.flow_code.specs.Code.{Code, known, no_code, Targets, Block, no_block, ◌before◌, run_code, ending}
-use Rattle.flow_code.specs.Expressions.{Scope, variable}
-use Rattle.flow_code.specs.Statements.{either, Test, test_of, looping, repeating, pair_points, pair_size, walking, key_variable}
-use Rattle.flow_code.specs.Runs.{Slots, Frame, Walk, set_slot, set_walk}
-use Rattle.flow_runs.proofs.Ends.{World, Post, Follows, Comes, after, here, over, bind, onward, unit, then_same, jump_comes, print_comes, echo_comes, begin_comes, more_comes, done_comes, key_comes, value_comes, branch_comes, quit_ends, quit_text_ends}
-use Rattle.flow_runs.proofs.Has.{HasAt, has_front, has_back, has_moved, two_long, mid_long, last_long}
-use Rattle.flow_runs.proofs.Names.{Has}
-use Rattle.flow_runs.proofs.Frames.{slot_same, slot_other, slot_walks, walk_same, walk_other, walk_slots, free, Shows, Kept, is_variable, kept_same, kept_join, kept_less, kept_temporary, kept_variable, shows_temporary, shows_variable}
-use Rattle.flow_runs.proofs.Codes.{at_slot, Did, Does, bind_did}
+use Rattle.script_meaning.specs.Runs.{State, Run, Going, ◌then_do◌, unit_at, printing}
+use Rattle.script_meaning.specs.Statements.{Flow, goes_on, breaks, continues, returns, next_after, nothing, exit_with}
+use Rattle.flow_code.specs.Points.{print_point, echo_point, branch_point, jump_point, return_point, quit_point, point_at}
+use Rattle.flow_code.specs.Code.{Code, no_code, Targets, Block, no_block, ◌before◌, run_code, ending}
+use Rattle.flow_code.specs.Expressions.{Scope}
+use Rattle.flow_code.specs.Statements.{either, Test, test_of}
+use Rattle.flow_code.specs.Runs.{Slots, Frame}
+use Rattle.flow_runs.proofs.Ends.{World, Post, Follows, Comes, after, here, over, bind, onward, unit, jump_comes, print_comes, echo_comes, branch_comes, quit_ends, quit_text_ends}
+use Rattle.flow_runs.proofs.Has.{HasAt, has_front, has_back, two_long, mid_long, last_long}
+use Rattle.flow_runs.proofs.Frames.{free, Shows, Kept, kept_same, kept_join}
+use Rattle.flow_runs.proofs.Codes.{at_slot, Does, bind_did}
 
 -- where a run of statements stands that was left so
 abbrev pub At : World → Targets → ℕ → Flow → ℕ → Frame → Type 0

@@ -1,29 +1,28 @@
 -- Code of a call does what the call does, where the points of functions do.
-use Rattle.std.proofs.Common.{◌≡◌, ℕ, zero, suc, ◌+◌, ◌<◌, ◌≤◌, List, [], ◌∷◌, ◌++◌, length, Some, None, Option, refl, sym, ap, ap₂, ◌∙◌, subst, arith, Bool, true, false, map, take, drop, Result, Ok, Err, neg_ℤ, bytes_eq}
+use Rattle.std.proofs.Common.{◌≡◌, ℕ, zero, suc, ◌+◌, List, [], ◌∷◌, ◌++◌, length, Some, None, Option, refl, sym, ap, ap₂, ◌∙◌, subst, arith, Bool, true, false, map, take, drop, Ok, bytes_eq}
 use Rattle.std.specs.Prelude.{if◌then◌else◌}
-use Rattle.php_syntax.specs.Trees.{PlainExpr, neg_expr, int_expr, MaybeExpr, no_expr, some_expr, PlainExprs, no_exprs, more_exprs, PlainParam, PlainFunction}
-use Rattle.plain_values.specs.Plain.{Plain, null, flag, int, text, array}
+use Rattle.php_syntax.specs.Trees.{neg_expr, int_expr, MaybeExpr, no_expr, some_expr, PlainExprs, PlainParam, PlainFunction}
+use Rattle.plain_values.specs.Plain.{Plain, null, int}
 use Rattle.plain_values.specs.Arithmetic.{negation_of}
-use Rattle.plain_values.specs.declared.fault.Fault.{Fault}
 use Rattle.builtin_meaning.specs.declared.builtin.Builtin.{Builtin}
 use Rattle.builtin_meaning.specs.Names.{builtin_named}
 use Rattle.builtin_meaning.specs.Values.{builtin_value}
 use Rattle.script_meaning.specs.Requests.{PlainRequest}
-use Rattle.script_meaning.specs.Runs.{State, Run, Going, Over, ◌then_do◌, result_of, value_in}
+use Rattle.script_meaning.specs.Runs.{State, Run, Going, ◌then_do◌, result_of, value_in}
 use Rattle.script_meaning.specs.Programs.{function_named, default_value, literal_value}
 use Rattle.script_meaning.specs.Expressions.{Environment}
 use Rattle.script_meaning.specs.Meaning.{call_within, builtin_or, call_one}
 use Rattle.flow_code.specs.declared.source.Work.TheVariants as work
-use Rattle.flow_code.specs.Points.{PlainSource, literal_source, number_source, PlainPoint, set_point, call_point, PlainFlow, point_at}
+use Rattle.flow_code.specs.Points.{PlainSource, literal_source, number_source, call_point, point_at}
 use Rattle.flow_code.specs.Variables.{Name}
-use Rattle.flow_code.specs.Code.{Code, known, both, computed, from_source}
+use Rattle.flow_code.specs.Code.{Code, from_source}
 use Rattle.flow_code.specs.Expressions.{Scope, function_in, literal, default_code, default_codes, called, call_own, call_code, number_of}
 use Rattle.flow_code.specs.Builtins.{builtin_source}
 use Rattle.flow_code.specs.Runs.{Slots, Frame, set_slot, source_value, worked}
 use Rattle.flow_runs.specs.Defaults.{IsDefault, AreDefaults, HaveDefaults}
-use Rattle.flow_runs.proofs.Ends.{World, Post, Follows, Comes, after, here, land, onward, then_same}
-use Rattle.flow_runs.proofs.Has.{HasAt, has_front, has_back, two_long, last_long}
-use Rattle.flow_runs.proofs.Frames.{free, Shows, Kept, kept_same, kept_join}
+use Rattle.flow_runs.proofs.Ends.{World, Follows, here, land, onward, then_same}
+use Rattle.flow_runs.proofs.Has.{has_front, has_back, two_long, last_long}
+use Rattle.flow_runs.proofs.Frames.{Shows, kept_same, kept_join}
 use Rattle.flow_runs.proofs.Codes.{at_slot, Did, Does, bind_did, does_same, does_known, does_both, does_computed, did_set, sets}
 use Rattle.flow_runs.proofs.BuiltinValues.{call_value}
 

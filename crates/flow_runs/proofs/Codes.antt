@@ -1,23 +1,20 @@
 -- Pieces of code that do what a run does, and how they are put together.
-use Rattle.std.proofs.Common.{◌≡◌, ℕ, zero, suc, ◌+◌, ◌<◌, ◌≤◌, List, [], ◌∷◌, ◌++◌, length, length-append, Some, None, Option, refl, sym, ap, ap₂, ◌∙◌, subst, arith, Bool, true, false, not, map, Result, Ok, Err}
+use Rattle.std.proofs.Common.{◌≡◌, ℕ, ◌+◌, ◌<◌, ◌≤◌, List, [], ◌∷◌, length, length-append, Some, refl, sym, ap, ap₂, ◌∙◌, subst, arith, Bool, true, false, not, Result, Ok}
 use Rattle.std.specs.Prelude.{if◌then◌else◌}
-use Rattle.plain_values.specs.Plain.{Plain, null, flag}
+use Rattle.plain_values.specs.Plain.{Plain, flag}
 use Rattle.plain_values.specs.Text.{truth}
 use Rattle.plain_values.specs.Walks.{is_null}
 use Rattle.plain_values.specs.declared.fault.Fault.{Fault}
 use Rattle.script_meaning.specs.Requests.{PlainRequest}
-use Rattle.script_meaning.specs.Runs.{State, Run, Going, Over, ◌then_do◌, result_of, with_variable, value_in}
-use Rattle.script_meaning.specs.Expressions.{assigned}
+use Rattle.script_meaning.specs.Runs.{State, Run, Going, ◌then_do◌, result_of}
 use Rattle.flow_code.specs.declared.source.Work.TheVariants as work
-use Rattle.flow_code.specs.Points.{PlainKeyRef, PlainSource, copy_source, put_source, truth_source, PlainPoint, set_point, branch_point, PlainFlow, point_at}
-use Rattle.flow_code.specs.Variables.{Name}
-use Rattle.flow_code.specs.Code.{Code, known, left, both, computed, from_source}
-use Rattle.flow_code.specs.Expressions.{Scope, variable, both_true, one_true, first_there, chosen, chosen_itself, written, stored}
-use Rattle.flow_code.specs.Runs.{Slots, Frame, set_slot, key_value, maybe_key_value, source_value, worked}
-use Rattle.flow_runs.proofs.Ends.{World, Post, Follows, Comes, after, here, bind, onward, computes, EndsAs, follows_as, set_comes, branch_comes}
+use Rattle.flow_code.specs.Points.{PlainSource, copy_source, truth_source, set_point, branch_point, point_at}
+use Rattle.flow_code.specs.Code.{Code, known, left, both, computed}
+use Rattle.flow_code.specs.Expressions.{Scope, both_true, one_true, first_there, chosen, chosen_itself}
+use Rattle.flow_code.specs.Runs.{Slots, Frame, set_slot, source_value, worked}
+use Rattle.flow_runs.proofs.Ends.{World, Post, Follows, after, here, bind, onward, computes, EndsAs, follows_as, set_comes, branch_comes}
 use Rattle.flow_runs.proofs.Has.{HasAt, has_front, has_back, two_long, mid_long, last_long}
-use Rattle.flow_runs.proofs.Names.{Has}
-use Rattle.flow_runs.proofs.Frames.{slot_same, slot_other, free, Shows, Kept, is_variable, kept_same, kept_join, kept_less, kept_temporary, kept_variable, shows_temporary, shows_variable}
+use Rattle.flow_runs.proofs.Frames.{slot_same, slot_other, free, Shows, Kept, kept_same, kept_join, kept_temporary, shows_temporary}
 
 abbrev pub at_slot : Slots → ℕ → Plain
 at_slot f x = f x

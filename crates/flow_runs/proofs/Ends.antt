@@ -1,13 +1,13 @@
 -- Runs of points by all that is printed up to their end.
-use Rattle.std.proofs.Common.{◌≡◌, ℕ, zero, suc, List, [], ◌∷◌, ◌++◌, Option, Some, None, refl, sym, ap, ◌∙◌, subst, append_assoc, append-nil, Bool, true, false, map, Result, Ok, Err}
+use Rattle.std.proofs.Common.{◌≡◌, ℕ, zero, suc, List, [], ◌++◌, Some, None, refl, sym, ap, ◌∙◌, subst, append_assoc, append-nil, Bool, map, Result, Ok, Err}
 use Rattle.std.specs.Prelude.{if◌then◌else◌}
-use Rattle.plain_values.specs.Plain.{Plain, PlainKey, Pairs, null, flag, int, text, array, empty, pair}
+use Rattle.plain_values.specs.Plain.{Plain, PlainKey, Pairs, text, empty, pair}
 use Rattle.plain_values.specs.Text.{text_of, truth}
 use Rattle.plain_values.specs.Walks.{walked, value_of_key}
 use Rattle.plain_values.specs.declared.fault.Fault.{Fault}
 use Rattle.script_meaning.specs.Requests.{PlainRequest}
 use Rattle.script_meaning.specs.Runs.{State, Run, Going, Over, ◌then_do◌, Ended, Faulted, Spent, Deep, result_of, unit_at}
-use Rattle.flow_code.specs.Points.{PlainSource, PlainPoint, set_point, call_point, print_point, echo_point, branch_point, jump_point, begin_point, next_point, key_point, value_point, return_point, quit_point, PlainFlow, PlainFlowFunction, point_at, function_at}
+use Rattle.flow_code.specs.Points.{PlainSource, set_point, call_point, print_point, echo_point, branch_point, jump_point, begin_point, next_point, key_point, value_point, return_point, quit_point, PlainFlow, PlainFlowFunction, point_at, function_at}
 use Rattle.flow_code.specs.Runs.{Frame, Walk, set_slot, set_walk, fresh, arguments_in, source_value, FlowEnd, returned, exited, RunsFrom, set, call, call_exits, print, echo, branch, jump, each_begin, each_more, each_done, key_of, value_of, return, quit, quit_with}
 
 -- the points, the request, and how many more calls may be open

@@ -1,13 +1,13 @@
 -- What a frame holds while a piece of code is followed.
-use Rattle.std.proofs.Common.{◌≡◌, ◌≢◌, ℕ, zero, suc, ◌+◌, ◌<◌, ◌≤◌, List, [], ◌∷◌, length, refl, sym, ap, ◌∙◌, subst, arith, Bool, true, false, nat_eq, bytes_eq}
+use Rattle.std.proofs.Common.{◌≡◌, ◌≢◌, ℕ, ◌+◌, ◌<◌, ◌≤◌, length, refl, sym, ap, ◌∙◌, subst, arith, Bool, true, false, bytes_eq}
 use Rattle.std.specs.Prelude.{if◌then◌else◌}
 use Rattle.std.proofs.lemmas.Bool.{eq-eqb, ne_eqb}
 use Rattle.plain_values.specs.Plain.{Plain}
 use Rattle.script_meaning.specs.Runs.{State, value_in, with_variable}
-use Rattle.flow_code.specs.Variables.{Name, place_of}
+use Rattle.flow_code.specs.Variables.{Name}
 use Rattle.flow_code.specs.Expressions.{Scope, variable}
 use Rattle.flow_code.specs.Runs.{Frame, Walk, set_slot, set_walk}
-use Rattle.flow_runs.proofs.Names.{Has, place_is, name_is, other_name, same_name, value_set, value_other}
+use Rattle.flow_runs.proofs.Names.{Has, place_is, name_is, other_name, value_set, value_other}
 
 pub slot_same : (f : Frame) (x : ℕ) (v : Plain) → (set_slot f x v).slots x ≡ v
 unfolding set_slot

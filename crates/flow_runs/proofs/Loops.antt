@@ -1,23 +1,23 @@
 -- Loops do what the runs of their turns do.
-use Rattle.std.proofs.Common.{◌≡◌, ◌≢◌, ℕ, zero, suc, ◌+◌, ◌<◌, ◌≤◌, List, [], ◌∷◌, ◌++◌, length, Some, None, Option, refl, sym, ap, ◌∙◌, subst, arith, pos, Bool, true, false}
+use Rattle.std.proofs.Common.{◌≡◌, ℕ, zero, suc, ◌+◌, ◌≤◌, List, [], ◌∷◌, ◌++◌, length, Some, None, Option, refl, sym, ap, ◌∙◌, subst, arith, pos, Bool, true, false}
 use Rattle.std.specs.Prelude.{if◌then◌else◌}
 use Rattle.plain_values.specs.Plain.{Plain, PlainKey, Pairs, int_key, null, empty, pair}
 use Rattle.plain_values.specs.Text.{truth}
 use Rattle.plain_values.specs.Walks.{value_of_key, walked}
-use Rattle.script_meaning.specs.Runs.{State, Run, Going, Over, ◌then_do◌, Spent, unit_at, with_variable}
+use Rattle.script_meaning.specs.Runs.{State, Run, Going, Over, ◌then_do◌, Spent, with_variable}
 use Rattle.script_meaning.specs.Statements.{Flow, goes_on, breaks, continues, returns, turn_after, turn, turns, loop, nothing, with_pair, walk as walk_pairs}
-use Rattle.flow_code.specs.Points.{PlainPoint, jump_point, begin_point, next_point, key_point, value_point, point_at}
+use Rattle.flow_code.specs.Points.{jump_point, next_point, point_at}
 use Rattle.flow_code.specs.Variables.{Name, key_names}
-use Rattle.flow_code.specs.Code.{Code, Targets, Block, no_block}
+use Rattle.flow_code.specs.Code.{Code, Targets, Block}
 use Rattle.flow_code.specs.Expressions.{Scope, variable}
-use Rattle.flow_code.specs.Statements.{Test, test_of, looping, repeating, pair_points, pair_size, walking, key_variable}
-use Rattle.flow_code.specs.Runs.{Slots, Frame, Walk, set_slot, set_walk}
-use Rattle.flow_runs.proofs.Ends.{World, Post, Follows, Comes, after, here, bind, onward, unit, jump_comes, begin_comes, more_comes, done_comes, key_comes, value_comes, branch_comes}
+use Rattle.flow_code.specs.Statements.{Test, looping, repeating, pair_points, pair_size, walking, key_variable}
+use Rattle.flow_code.specs.Runs.{Frame, Walk, set_slot, set_walk}
+use Rattle.flow_runs.proofs.Ends.{World, Follows, Comes, after, here, bind, onward, unit, jump_comes, begin_comes, more_comes, done_comes, key_comes, value_comes, branch_comes}
 use Rattle.flow_runs.proofs.Has.{HasAt, has_front, has_back, two_long, mid_long, last_long}
 use Rattle.flow_runs.proofs.Names.{Has, HasAll}
-use Rattle.flow_runs.proofs.Frames.{slot_same, slot_other, slot_walks, walk_same, walk_other, walk_slots, free, Shows, Kept, is_variable, kept_same, kept_join, kept_less, kept_temporary, kept_variable, shows_temporary, shows_variable}
+use Rattle.flow_runs.proofs.Frames.{slot_other, slot_walks, walk_same, walk_other, walk_slots, Shows, Kept, kept_same, kept_join, kept_less, kept_variable, shows_temporary, shows_variable}
 use Rattle.flow_runs.proofs.Codes.{at_slot, Does, bind_did}
-use Rattle.flow_runs.proofs.Blocks.{At, Went, DoesBlock, went_from, Behind, Tested, DoesTest, DoesBehind}
+use Rattle.flow_runs.proofs.Blocks.{Went, DoesBlock, went_from, Behind, Tested, DoesTest, DoesBehind}
 
 module _ {m : World} {w : Scope} where
   -- a body, where what goes on behind a turn follows from the place where `continue` leads
@@ -100,7 +100,7 @@ module _ {m : World} {w : Scope} where
         let h1 = has_back m.flow p body.size _ _ (d.long inner p t) has in
         let h2 = has_back m.flow again a.size _ _ (e.long again (t + body.slots)) h1 in
         let tests = λ (f : Frame) (s : State) (shows : Shows w s f). bind_did (λ v s. Going (truth v) s) (e.follows again (t + body.slots) f s (has_front m.flow _ _ _ h1) (omega (arith, le)) shows) (λ s1 g v gives shows1 kept1.
-            after (branch_comes m (again + a.size) (a.gives (t + body.slots)) p stop g s1.printed (truth v) h2.0 (ap truth gives)) (here {P = Tested w p stop t f} (record { at = refl; shows = shows1; kept = kept_less kept1 (omega arith) }))) in
+        after (branch_comes m (again + a.size) (a.gives (t + body.slots)) p stop g s1.printed (truth v) h2.0 (ap truth gives)) (here {P = Tested w p stop t f} (record { at = refl; shows = shows1; kept = kept_less kept1 (omega arith) }))) in
         let bodies = λ (f : Frame) (s : State) (shows : Shows w s f). d.follows inner p t f s (has_front m.flow p _ _ has) le shows in
         let nexts = λ (f : Frame) (s : State) (shows : Shows w s f). here {m = m} {v = []} {s = s} {P = Behind w again t f} (record { at = refl; shows = shows; kept = kept_same f }) in
         onward

@@ -1,8 +1,8 @@
 -- The points of a program do what it does.
-use Rattle.std.proofs.Common.{◌≡◌, ◌≢◌, ℕ, zero, suc, ◌+◌, ◌<◌, ◌≤◌, List, [], ◌∷◌, ◌++◌, length, Some, None, Option, refl, sym, ap, ap₂, ◌∙◌, subst, arith, Bool, true, false, map, take, drop, nat_eq, bytes_eq, slice_get}
+use Rattle.std.proofs.Common.{◌≡◌, ℕ, zero, suc, ◌+◌, List, [], ◌∷◌, ◌++◌, length, Some, None, Option, refl, sym, ap, ◌∙◌, subst, arith, Bool, true, false, map, take, drop, nat_eq, bytes_eq, slice_get}
 use Rattle.std.specs.Prelude.{if◌then◌else◌}
 use Rattle.std.proofs.lemmas.Bool.{eq-eqb, ne_eqb}
-use Rattle.php_syntax.specs.Trees.{PlainStmts, PlainParam, PlainFunction}
+use Rattle.php_syntax.specs.Trees.{PlainParam, PlainFunction}
 use Rattle.plain_values.specs.Plain.{Plain, null}
 use Rattle.plain_values.specs.declared.fault.Fault.{Fault}
 use Rattle.builtin_meaning.specs.Names.{builtin_named}
@@ -11,20 +11,20 @@ use Rattle.script_meaning.specs.Runs.{State, Run, Going, Over, ◌then_do◌, En
 use Rattle.script_meaning.specs.Programs.{PlainProgram, function_named, arguments_of}
 use Rattle.script_meaning.specs.Statements.{Flow, goes_on, breaks, continues, returns, statements}
 use Rattle.script_meaning.specs.Meaning.{value_returned, call_one, run_body, call_within, Outcome, outcome_of, meaning}
-use Rattle.flow_code.specs.Points.{PlainPoint, literal_source, set_point, call_point, return_point, PlainFlowFunction, PlainFlow, points_in, point_at, function_at}
-use Rattle.flow_code.specs.Variables.{Name, name_of_param, names_of, variables_of, once}
+use Rattle.flow_code.specs.Points.{literal_source, set_point, call_point, return_point, PlainFlowFunction, PlainFlow, points_in, point_at, function_at}
+use Rattle.flow_code.specs.Variables.{Name, name_of_param, names_of, variables_of}
 use Rattle.flow_code.specs.Code.{Targets}
 use Rattle.flow_code.specs.Expressions.{Scope, variable, function_in}
 use Rattle.flow_code.specs.Statements.{block}
 use Rattle.flow_code.specs.Flat.{scope_of, body_of_function, flat_function, flat_functions, main_function, flat}
 use Rattle.flow_code.specs.Runs.{Frame, set_slot, fresh, arguments_in, source_value, FlowEnd, returned, exited, RunsFrom, FlatRun}
 use Rattle.flow_runs.specs.Defaults.{HaveDefaults}
-use Rattle.flow_runs.proofs.Ends.{World, world, Ends, Comes, Comes_to, Post, Follows, after, here, onward, unit, set_comes, return_ends, call_comes, call_quits}
+use Rattle.flow_runs.proofs.Ends.{world, Ends, Comes_to, Post, Follows, here, onward, unit, set_comes, return_ends, call_comes, call_quits}
 use Rattle.flow_runs.proofs.Has.{HasAt, has_front, has_back, has_all}
 use Rattle.flow_runs.proofs.Names.{Has, HasAll, all_front, all_back, once_has, place_is, name_is, other_name}
-use Rattle.flow_runs.proofs.Frames.{slot_same, Shows, free}
-use Rattle.flow_runs.proofs.Calls.{env, default_of, handed, Came, CallsDo, by_own, found_defaults}
-use Rattle.flow_runs.proofs.Blocks.{Went, DoesBlock}
+use Rattle.flow_runs.proofs.Frames.{slot_same, Shows}
+use Rattle.flow_runs.proofs.Calls.{env, default_of, handed, Came, CallsDo, by_own}
+use Rattle.flow_runs.proofs.Blocks.{Went}
 use Rattle.flow_runs.proofs.Stmts.{block_does}
 
 -- a function stands among the points

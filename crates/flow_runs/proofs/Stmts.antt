@@ -1,19 +1,19 @@
 -- The points of statements do what they do.
-use Rattle.std.proofs.Common.{◌≡◌, ℕ, List, [], ◌∷◌, ◌++◌, Some, None, Option, refl, sym, ap, ◌∙◌, Bool, true, false}
+use Rattle.std.proofs.Common.{◌≡◌, ◌∷◌, ◌++◌, Some, refl}
 use Rattle.std.specs.Prelude.{if◌then◌else◌}
-use Rattle.php_syntax.specs.Trees.{PlainExpr, MaybeExpr, no_expr, some_expr, PlainExprs, no_exprs, more_exprs, PlainStmt, inline_stmt, echo_stmt, run_stmt, if_stmt, while_stmt, do_while_stmt, for_stmt, each_stmt, break_stmt, continue_stmt, return_stmt, include_stmt, quit_stmt, PlainStmts, no_stmts, more_stmts, PlainArms, no_arms, more_arms}
+use Rattle.php_syntax.specs.Trees.{MaybeExpr, no_expr, some_expr, PlainExprs, no_exprs, more_exprs, PlainStmt, inline_stmt, echo_stmt, run_stmt, if_stmt, while_stmt, do_while_stmt, for_stmt, each_stmt, break_stmt, continue_stmt, return_stmt, include_stmt, quit_stmt, PlainStmts, no_stmts, more_stmts, PlainArms, no_arms, more_arms}
 use Rattle.plain_values.specs.Plain.{Plain, null}
 use Rattle.plain_values.specs.Text.{truth, text_of}
 use Rattle.script_meaning.specs.Runs.{State, Run, Going, Over, ◌then_do◌, printing}
-use Rattle.script_meaning.specs.Expressions.{Environment, value, values, maybe_value}
-use Rattle.script_meaning.specs.Statements.{Flow, goes_on, returns, next_after, condition, for_condition, nothing, loop, echo, returned, exit_with, statement, statements, arms_in}
+use Rattle.script_meaning.specs.Expressions.{value, values, maybe_value}
+use Rattle.script_meaning.specs.Statements.{Flow, goes_on, next_after, condition, for_condition, loop, echo, returned, exit_with, statement, statements, arms_in}
 use Rattle.flow_code.specs.Variables.{names_in, maybe_names, names_in_all, key_names, names_of_stmt, names_of, names_of_arms}
 use Rattle.flow_code.specs.Code.{Block}
-use Rattle.flow_code.specs.Expressions.{Scope, code, codes}
+use Rattle.flow_code.specs.Expressions.{Scope}
 use Rattle.flow_code.specs.Statements.{echo_block, test_code, return_block, quit_block, stmt_block, block, arms_block}
 use Rattle.flow_runs.specs.Defaults.{HaveDefaults}
 use Rattle.flow_runs.proofs.Ends.{World}
-use Rattle.flow_runs.proofs.Names.{Has, HasAll, all_front, all_back}
+use Rattle.flow_runs.proofs.Names.{HasAll, all_front, all_back}
 use Rattle.flow_runs.proofs.Calls.{env, CallsDo, does_literal}
 use Rattle.flow_runs.proofs.Trees.{code_does, codes_does}
 use Rattle.flow_runs.proofs.Blocks.{DoesBlock, DoesTest, block_same, does_unit, does_nothing, does_before, does_run, does_print, does_echo, does_break, does_continue, does_return, does_quit, does_quit_with, does_test, does_no_test, does_behind, does_no_behind, does_either}

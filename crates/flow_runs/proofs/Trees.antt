@@ -1,6 +1,5 @@
 -- The points of an expression do what it does.
-use Rattle.std.proofs.Common.{◌≡◌, ℕ, zero, suc, ◌+◌, List, [], ◌∷◌, ◌++◌, length, Some, None, Option, refl, sym, ap, ap₂, ◌∙◌, subst, arith, Bool, true, false, not, map, Result, Ok, Err}
-use Rattle.std.specs.Prelude.{if◌then◌else◌}
+use Rattle.std.proofs.Common.{◌≡◌, ℕ, ◌+◌, List, [], ◌∷◌, ◌++◌, length, Some, None, Option, refl, ◌∙◌, arith, Bool, not, map, Ok}
 use Rattle.std.specs.List.{list_all}
 use Rattle.php_syntax.specs.declared.tree.UpdateSign.{UpdateSign}
 use Rattle.php_syntax.specs.declared.tree.UpdateSign.TheVariants as update
@@ -12,17 +11,15 @@ use Rattle.plain_values.specs.Text.{truth}
 use Rattle.plain_values.specs.Arithmetic.{negation_of}
 use Rattle.plain_values.specs.Joins.{join_of}
 use Rattle.plain_values.specs.Walks.{is_null}
-use Rattle.plain_values.specs.Outcome.{go_on}
 use Rattle.plain_values.specs.Paths.{subscript_of, path_of, literal_of}
-use Rattle.plain_values.specs.declared.fault.Fault.{Fault}
 use Rattle.builtin_meaning.specs.Names.{builtin_named}
 use Rattle.script_meaning.specs.Requests.{request_array}
 use Rattle.script_meaning.specs.Runs.{State, Run, Going, Over, ◌then_do◌, result_of, value_in}
-use Rattle.script_meaning.specs.Expressions.{Environment, arithmetic, comparison, value, values, maybe_value, items_in, subscripts, is_kept, update_at}
+use Rattle.script_meaning.specs.Expressions.{arithmetic, comparison, value, values, maybe_value, subscripts, is_kept, update_at}
 use Rattle.flow_code.specs.declared.source.Work.TheVariants as work
 use Rattle.flow_code.specs.Points.{PlainKeyRef, int_ref, text_ref, read_ref, PlainSource, copy_source, super_source, member_source, array_source, concat_source, number_source, truth_source}
 use Rattle.flow_code.specs.Variables.{names_in, maybe_names, names_in_all, item_names, path_names}
-use Rattle.flow_code.specs.Code.{Code, known, left, both, computed}
+use Rattle.flow_code.specs.Code.{Code, both, computed}
 use Rattle.flow_code.specs.Expressions.{Scope, variable, function_in, code, codes, maybe_key, path_code, items_code, key_code, old_value, update_code, number_of, length_of_path}
 use Rattle.flow_code.specs.Runs.{Slots, key_value, maybe_key_value, item_value, source_value, worked}
 use Rattle.flow_runs.specs.Defaults.{HaveDefaults}

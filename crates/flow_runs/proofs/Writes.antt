@@ -1,5 +1,5 @@
 -- Code that writes variables does what a write does.
-use Rattle.std.proofs.Common.{◌≡◌, ℕ, zero, suc, ◌+◌, ◌<◌, ◌≤◌, List, [], ◌∷◌, ◌++◌, length, length-append, Some, None, Option, refl, sym, ap, ap₂, ◌∙◌, subst, arith, Bool, true, false, not, map, Result, Ok, Err, append-nil}
+use Rattle.std.proofs.Common.{◌≡◌, ℕ, ◌+◌, ◌<◌, ◌≤◌, List, [], ◌∷◌, ◌++◌, length, length-append, Some, None, Option, refl, sym, ap, ap₂, ◌∙◌, subst, arith, Bool, true, false, not, map, Result, Ok, Err, append-nil}
 use Rattle.std.specs.Prelude.{if◌then◌else◌, flat_map}
 use Rattle.php_syntax.specs.declared.tree.UpdateSign.{UpdateSign}
 use Rattle.php_syntax.specs.declared.tree.UpdateSign.TheVariants as update
@@ -9,22 +9,21 @@ use Rattle.plain_values.specs.Walks.{is_null}
 use Rattle.plain_values.specs.Keys.{key_of}
 use Rattle.plain_values.specs.Members.{get, within_length}
 use Rattle.plain_values.specs.Outcome.{go_on}
-use Rattle.plain_values.specs.Paths.{Step, subscript_of, step_of, path_of, get_step, read, write}
+use Rattle.plain_values.specs.Paths.{Step, subscript_of, path_of, read}
 use Rattle.plain_values.specs.declared.fault.Fault.{Fault}
 use Rattle.script_meaning.specs.Requests.{PlainRequest}
-use Rattle.script_meaning.specs.Runs.{State, Run, Going, Over, ◌then_do◌, Ended, Faulted, Spent, Deep, result_of, with_variable, value_in}
-use Rattle.script_meaning.specs.Expressions.{assigned, updated, is_kept, store, update_at, stepped, arithmetic}
-use Rattle.flow_code.specs.declared.source.Work.TheVariants as work
-use Rattle.flow_code.specs.Points.{PlainKeyRef, PlainSource, literal_source, copy_source, member_source, put_source, truth_source, number_source, PlainPoint, set_point, branch_point, PlainFlow, point_at}
+use Rattle.script_meaning.specs.Runs.{State, Run, Going, ◌then_do◌, result_of, with_variable, value_in}
+use Rattle.script_meaning.specs.Expressions.{assigned, updated, stepped, arithmetic}
+use Rattle.flow_code.specs.Points.{PlainKeyRef, copy_source, number_source, set_point}
 use Rattle.flow_code.specs.Variables.{Name}
-use Rattle.flow_code.specs.Code.{Code, both}
+use Rattle.flow_code.specs.Code.{Code}
 use Rattle.flow_code.specs.Expressions.{Scope, variable, written, stored, member_at, members_along, old_value, updating, updated_at, filled, step_work, step_code}
 use Rattle.flow_code.specs.Runs.{Slots, Frame, set_slot, key_value, maybe_key_value, source_value, worked, concatenated}
-use Rattle.flow_runs.proofs.Ends.{World, Post, Follows, Comes, after, here, bind, onward, EndsAs, follows_as, set_comes}
-use Rattle.flow_runs.proofs.Has.{HasAt, has_front, has_back, two_long, mid_long, last_long}
+use Rattle.flow_runs.proofs.Ends.{World, Post, Follows, Comes, after, here, set_comes}
+use Rattle.flow_runs.proofs.Has.{HasAt, has_front, has_back, mid_long, last_long}
 use Rattle.flow_runs.proofs.Names.{Has}
-use Rattle.flow_runs.proofs.Frames.{slot_same, slot_other, slot_walks, free, Shows, Kept, is_variable, kept_same, kept_join, kept_less, kept_temporary, kept_variable, shows_temporary, shows_variable}
-use Rattle.flow_runs.proofs.Codes.{at_slot, Did, Does, bind_did, does_both, did_set, sets, branches_not, as_present, as_copy}
+use Rattle.flow_runs.proofs.Frames.{slot_same, slot_other, slot_walks, Kept, is_variable, kept_join, kept_temporary, kept_variable, shows_temporary, shows_variable}
+use Rattle.flow_runs.proofs.Codes.{at_slot, Does, bind_did, does_both, did_set, sets, branches_not, as_present, as_copy}
 
 abbrev pub Keys : Type 0
 Keys = List (Option PlainKeyRef)

@@ -1,0 +1,16 @@
+//! Laws of the points.
+
+ghost use Rattle.std.specs.Prelude.{◌≡◌, ℕ, List};
+ghost use Rattle.script_meaning.specs.Requests.{PlainRequest};
+ghost use Rattle.script_meaning.specs.Runs.{Ended};
+ghost use Rattle.script_meaning.specs.Programs.{PlainProgram};
+ghost use Rattle.script_meaning.specs.Meaning.{meaning};
+ghost use Rattle.flow_code.specs.Flat.{flat};
+ghost use Rattle.flow_code.specs.Runs.{FlatRun};
+ghost use Rattle.flow_runs.specs.Defaults.{HaveDefaults};
+
+/// Where a run of a program ended, the points of the program have a run that printed the same.
+pub fn ended_runs_are_runs_of_points()
+    ensures { (program : PlainProgram) (r : PlainRequest) (n : ℕ) (w : List ℕ) → HaveDefaults program.functions_of →
+        meaning program r n ≡ record { printed = w; end = Ended } → FlatRun (flat program) r w }
+{}
