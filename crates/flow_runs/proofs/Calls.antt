@@ -23,8 +23,9 @@ use Rattle.flow_runs.specs.Defaults.{IsDefault, AreDefaults, HaveDefaults}
 use Rattle.flow_runs.proofs.Ends.{World, Follows, here, land, onward, then_same}
 use Rattle.flow_runs.proofs.Has.{has_front, has_back, two_long, last_long}
 use Rattle.flow_runs.proofs.Frames.{Shows, kept_same, kept_join}
-use Rattle.flow_runs.proofs.Codes.{at_slot, Did, Does, bind_did, does_same, does_known, does_both, does_computed, did_set, sets}
+use Rattle.flow_runs.proofs.Codes.{at_slot, Did, Does, bind_did, does_same, does_known, does_both, does_known_computed, does_computed, did_set, sets}
 use Rattle.flow_runs.proofs.BuiltinValues.{call_value}
+use Rattle.flow_runs.proofs.Literals.{Literals}
 
 abbrev pub read_slots : Slots → List ℕ → List Plain
 read_slots f xs = map f xs
@@ -171,10 +172,10 @@ module _ {m : World} {w : Scope} where
             (here (did_set {c = all} {q = p + all.size} x next v s3 g2 refl (omega arith) (omega arith) le (shows_same w s1 s3 g2 came.variables did.shows) (kept_join kept1 did.kept (omega arith) (omega arith))))))));
       }
 
-  pub does_call : {args : Code (List ℕ)} {run : State → Run (List Plain)} (name : Name) (trees : PlainExprs) (b : Option Builtin) (own : Option (ℕ × PlainFunction)) → builtin_named name ≡ b → function_in 1 w.functions name ≡ own → CallsDo m w.functions → HaveDefaults w.functions → ((t : ℕ) → length (args.gives t) ≡ number_of trees) → Does m w (List ℕ) (List Plain) args read_slots run → Does m w ℕ Plain (call_code b own trees args) at_slot (λ s. run s then_do λ vs s. call_within m.request w.functions m.room name vs s)
+  pub does_call : {args : Code (List ℕ)} {run : State → Run (List Plain)} (name : Name) (trees : PlainExprs) (b : Option Builtin) (own : Option (ℕ × PlainFunction)) → builtin_named name ≡ b → function_in 1 w.functions name ≡ own → CallsDo m w.functions → HaveDefaults w.functions → ((t : ℕ) → length (args.gives t) ≡ number_of trees) → ((s t : State) (vs : List Plain) → run s ≡ Going vs t → Literals trees vs) → Does m w (List ℕ) (List Plain) args read_slots run → Does m w ℕ Plain (call_code b own trees args) at_slot (λ s. run s then_do λ vs s. call_within m.request w.functions m.room name vs s)
   unfolding call_code call_own source_value result_of
-  does_call {args} {run} name trees (Some b) own eb eo calls defaults count d =
-      does_same _ _ (λ s. then_same (run s) _ _ (λ vs t. sym (call_builtin m.request w.functions m.room name b vs t eb))) (does_computed (builtin_source b trees) (builtin_value b) (λ f xs v e. call_value m.request f b trees xs ∙ e) d)
-  does_call {args} {run} name trees None None eb eo calls defaults count d =
+  does_call {args} {run} name trees (Some b) own eb eo calls defaults count literals d =
+      does_same _ _ (λ s. then_same (run s) _ _ (λ vs t. sym (call_builtin m.request w.functions m.room name b vs t eb))) (does_known_computed (Literals trees) (builtin_source b trees) (builtin_value b) literals (λ f xs v k e. call_value m.request f b trees xs k ∙ e) d)
+  does_call {args} {run} name trees None None eb eo calls defaults count literals d =
       does_same _ _ (λ s. then_same (run s) _ _ (λ vs t. sym (call_missing m.request w.functions m.room name vs t eb (missing w.functions 1 name eo)))) (does_computed (λ xs. literal_source null) (λ vs. Ok null) (λ f xs v e. e) d)
-  does_call name trees None (Some found) eb eo calls defaults count d = does_called name found.0 (number_of trees) found.1 calls eb eo (found_defaults w.functions 1 found.0 found.1 name defaults eo) count d
+  does_call name trees None (Some found) eb eo calls defaults count literals d = does_called name found.0 (number_of trees) found.1 calls eb eo (found_defaults w.functions 1 found.0 found.1 name defaults eo) count d

@@ -12,7 +12,7 @@ use Rattle.flow_code.specs.Points.{PlainSource, copy_source, truth_source, set_p
 use Rattle.flow_code.specs.Code.{Code, known, left, both, computed}
 use Rattle.flow_code.specs.Expressions.{Scope, both_true, one_true, first_there, chosen, chosen_itself}
 use Rattle.flow_code.specs.Runs.{Slots, Frame, set_slot, source_value, worked}
-use Rattle.flow_runs.proofs.Ends.{World, Post, Follows, after, here, bind, onward, computes, EndsAs, follows_as, set_comes, branch_comes}
+use Rattle.flow_runs.proofs.Ends.{World, Post, Follows, after, here, bind, knows, onward, computes, EndsAs, follows_as, set_comes, branch_comes}
 use Rattle.flow_runs.proofs.Has.{HasAt, has_front, has_back, two_long, mid_long, last_long}
 use Rattle.flow_runs.proofs.Frames.{slot_same, slot_other, free, Shows, Kept, kept_same, kept_join, kept_temporary, shows_temporary}
 
@@ -93,6 +93,19 @@ module _ {m : World} {w : Scope} where
           shows = shows2;
           kept = kept_join kept1 kept2 (omega arith) (omega arith);
         })));
+  }
+
+  -- the same, with what is known of the values
+  pub does_known_computed : {A V : Type 0} {a : Code A} {ra : Slots → A → V} {run : State → Run V} (K : V → Type 0) (source : A → PlainSource) (op : V → Result Plain Fault) → ((s t : State) (v : V) → run s ≡ Going v t → K v) → ((f : Slots) (x : A) (v : Plain) → K (ra f x) → op (ra f x) ≡ Ok v → source_value m.request f (source x) ≡ Ok v) → Does m w A V a ra run → Does m w ℕ Plain (computed a source) at_slot (λ s. run s then_do λ v s. result_of (op v) s)
+  does_known_computed {a} {ra} {run} K source op known h d = record {
+    long = λ p t. last_long _ _ a.size (d.long p t);
+    reads = λ t f g e. e (t + a.slots) (omega arith) (omega arith);
+    follows = λ p t f s has le shows.
+        let at = (has_back m.flow p a.size _ _ (d.long p t) has).0 in
+        bind (knows K (run s) (λ v t. known s t v) (d.follows p t f s (has_front m.flow p _ _ has) le shows)) (λ u s1 q g both.
+        let did = both.0 in
+        let at' = subst (λ q. point_at m.flow q ≡ Some (set_point (t + a.slots) (source (a.gives t)) (p + a.size + 1))) (sym did.at) at in
+        computes (op u) s1 at' (λ v e. h g.slots (a.gives t) v (subst K (sym did.gives) both.1) (ap op did.gives ∙ e)) (λ v e. did_set (t + a.slots) _ v s1 g refl (omega arith) (omega arith) le did.shows did.kept));
   }
 
   pub does_computed : {A V : Type 0} {a : Code A} {ra : Slots → A → V} {run : State → Run V} (source : A → PlainSource) (op : V → Result Plain Fault) → ((f : Slots) (x : A) (v : Plain) → op (ra f x) ≡ Ok v → source_value m.request f (source x) ≡ Ok v) → Does m w A V a ra run → Does m w ℕ Plain (computed a source) at_slot (λ s. run s then_do λ v s. result_of (op v) s)

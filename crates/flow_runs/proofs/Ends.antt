@@ -8,7 +8,7 @@ use Rattle.plain_values.specs.declared.fault.Fault.{Fault}
 use Rattle.script_meaning.specs.Requests.{PlainRequest}
 use Rattle.script_meaning.specs.Runs.{State, Run, Going, Over, ◌then_do◌, Ended, Faulted, Spent, Deep, result_of, unit_at}
 use Rattle.flow_code.specs.Points.{PlainSource, set_point, call_point, print_point, echo_point, branch_point, jump_point, begin_point, next_point, key_point, value_point, return_point, quit_point, PlainFlow, PlainFlowFunction, point_at, function_at}
-use Rattle.flow_code.specs.Runs.{Frame, Walk, set_slot, set_walk, fresh, arguments_in, source_value, FlowEnd, returned, exited, RunsFrom, set, call, call_exits, print, echo, branch, jump, each_begin, each_more, each_done, key_of, value_of, return, quit, quit_with}
+use Rattle.flow_code.specs.Runs.{Frame, set_slot, set_walk, fresh, arguments_in, source_value, FlowEnd, returned, exited, RunsFrom, set, call, call_exits, print, echo, branch, jump, each_begin, each_more, each_done, key_of, value_of, return, quit, quit_with}
 
 -- the points, the request, and how many more calls may be open
 pub record World : Type 0 where
@@ -42,20 +42,20 @@ branch_comes m p x a b f out v at is w end e =
 pub jump_comes : (m : World) (p next : ℕ) (f : Frame) (out : List ℕ) → point_at m.flow p ≡ Some (jump_point next) → Comes m p f out next f out
 jump_comes m p next f out at w end e = record { more = e.more; all = e.all; runs = jump m.room p next f e.more end at e.runs }
 
-pub begin_comes : (m : World) (p x from next : ℕ) (walk : Walk) (f : Frame) (out : List ℕ) → point_at m.flow p ≡ Some (begin_point x from next) → walk.rest ≡ walked (f.slots from) → Comes m p f out next (set_walk (set_slot f x (f.slots from)) x walk) out
-begin_comes m p x from next walk f out at is w end e = record { more = e.more; all = e.all; runs = each_begin m.room p x from next walk f e.more end at is e.runs }
+pub begin_comes : (m : World) (p x from next : ℕ) (f : Frame) (out : List ℕ) → point_at m.flow p ≡ Some (begin_point x from next) → Comes m p f out next (set_walk (set_slot f x (f.slots from)) x (record { now = None; rest = walked (f.slots from) })) out
+begin_comes m p x from next f out at w end e = record { more = e.more; all = e.all; runs = each_begin m.room p x from next f e.more end at e.runs }
 
-pub more_comes : (m : World) (p x more done : ℕ) (k : PlainKey) (v : Plain) (rest : Pairs) (f : Frame) (out : List ℕ) → point_at m.flow p ≡ Some (next_point x more done) → (f.walks x).rest ≡ pair k v rest → Comes m p f out more (set_walk f x (record { key = k; value = v; rest = rest })) out
+pub more_comes : (m : World) (p x more done : ℕ) (k : PlainKey) (v : Plain) (rest : Pairs) (f : Frame) (out : List ℕ) → point_at m.flow p ≡ Some (next_point x more done) → (f.walks x).rest ≡ pair k v rest → Comes m p f out more (set_walk f x (record { now = Some (k, v); rest = rest })) out
 more_comes m p x more done k v rest f out at is w end e = record { more = e.more; all = e.all; runs = each_more m.room p x more done k v rest f e.more end at is e.runs }
 
 pub done_comes : (m : World) (p x more done : ℕ) (f : Frame) (out : List ℕ) → point_at m.flow p ≡ Some (next_point x more done) → (f.walks x).rest ≡ empty → Comes m p f out done f out
 done_comes m p x more done f out at is w end e = record { more = e.more; all = e.all; runs = each_done m.room p x more done f e.more end at is e.runs }
 
-pub key_comes : (m : World) (p x from next : ℕ) (f : Frame) (out : List ℕ) → point_at m.flow p ≡ Some (key_point x from next) → Comes m p f out next (set_slot f x (value_of_key (f.walks from).key)) out
-key_comes m p x from next f out at w end e = record { more = e.more; all = e.all; runs = key_of m.room p x from next f e.more end at e.runs }
+pub key_comes : (m : World) (p x from next : ℕ) (k : PlainKey) (v : Plain) (f : Frame) (out : List ℕ) → point_at m.flow p ≡ Some (key_point x from next) → (f.walks from).now ≡ Some (k, v) → Comes m p f out next (set_slot f x (value_of_key k)) out
+key_comes m p x from next k v f out at is w end e = record { more = e.more; all = e.all; runs = key_of m.room p x from next k v f e.more end at is e.runs }
 
-pub value_comes : (m : World) (p x from next : ℕ) (f : Frame) (out : List ℕ) → point_at m.flow p ≡ Some (value_point x from next) → Comes m p f out next (set_slot f x (f.walks from).value) out
-value_comes m p x from next f out at w end e = record { more = e.more; all = e.all; runs = value_of m.room p x from next f e.more end at e.runs }
+pub value_comes : (m : World) (p x from next : ℕ) (k : PlainKey) (v : Plain) (f : Frame) (out : List ℕ) → point_at m.flow p ≡ Some (value_point x from next) → (f.walks from).now ≡ Some (k, v) → Comes m p f out next (set_slot f x v) out
+value_comes m p x from next k v f out at is w end e = record { more = e.more; all = e.all; runs = value_of m.room p x from next k v f e.more end at is e.runs }
 
 pub return_ends : (m : World) (p x : ℕ) (f : Frame) (out : List ℕ) (v : Plain) → point_at m.flow p ≡ Some (return_point x) → f.slots x ≡ v → Ends m p f out out (returned v)
 return_ends m p x f out v at is = record { more = []; all = sym (append-nil out); runs = subst (λ v. RunsFrom m.flow m.request m.room p f [] (returned v)) is (return m.room p x f at) }
@@ -151,6 +151,14 @@ module _ {m : World} where
       by_run (Over (Faulted fault) w) c = tt
       by_run (Over Spent w) c = tt
       by_run (Over Deep w) c = tt
+
+  -- what holds where it goes on, with what is known of what it gives
+  pub knows : {A : Type 0} {p : ℕ} {f : Frame} {out : List ℕ} {P : Post A} (K : A → Type 0) (r : Run A) → ((v : A) (s : State) → r ≡ Going v s → K v) → Follows m A p f out r P → Follows m A p f out r (λ v s q g. P v s q g × K v)
+  knows K (Going v s) k h = record { is = record { at = h.is.at; frame = h.is.frame; holds = (h.is.holds, k v s refl); comes = h.is.comes } }
+  knows K (Over Ended w) k h = record { is = h.is }
+  knows K (Over (Faulted fault) w) k h = record { is = tt }
+  knows K (Over Spent w) k h = record { is = tt }
+  knows K (Over Deep w) k h = record { is = tt }
 
   -- what holds where it goes on, told otherwise, perhaps some points later
   pub onward : {A : Type 0} {p : ℕ} {f : Frame} {out : List ℕ} {r : Run A} {P Q : Post A} → Follows m A p f out r P → ((v : A) (s : State) (q : ℕ) (g : Frame) → P v s q g → Follows m A q g s.printed (Going v s) Q) → Follows m A p f out r Q

@@ -4,6 +4,7 @@ mod Names
 mod Frames
 mod Codes
 mod Writes
+mod Literals
 mod BuiltinValues
 mod Calls
 mod Agreement

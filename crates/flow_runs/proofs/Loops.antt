@@ -1,7 +1,7 @@
 -- Loops do what the runs of their turns do.
-use Rattle.std.proofs.Common.{◌≡◌, ℕ, zero, suc, ◌+◌, ◌≤◌, List, [], ◌∷◌, ◌++◌, length, Some, None, Option, refl, sym, ap, ◌∙◌, subst, arith, pos, Bool, true, false}
+use Rattle.std.proofs.Common.{◌≡◌, ℕ, zero, suc, ◌+◌, ◌≤◌, List, [], ◌∷◌, ◌++◌, length, Some, None, Option, refl, sym, ap, ◌∙◌, subst, arith, Bool, true, false}
 use Rattle.std.specs.Prelude.{if◌then◌else◌}
-use Rattle.plain_values.specs.Plain.{Plain, PlainKey, Pairs, int_key, null, empty, pair}
+use Rattle.plain_values.specs.Plain.{Plain, PlainKey, Pairs, empty, pair}
 use Rattle.plain_values.specs.Text.{truth}
 use Rattle.plain_values.specs.Walks.{value_of_key, walked}
 use Rattle.script_meaning.specs.Runs.{State, Run, Going, Over, ◌then_do◌, Spent, with_variable}
@@ -15,7 +15,7 @@ use Rattle.flow_code.specs.Runs.{Frame, Walk, set_slot, set_walk}
 use Rattle.flow_runs.proofs.Ends.{World, Follows, Comes, after, here, bind, onward, unit, jump_comes, begin_comes, more_comes, done_comes, key_comes, value_comes, branch_comes}
 use Rattle.flow_runs.proofs.Has.{HasAt, has_front, has_back, two_long, mid_long, last_long}
 use Rattle.flow_runs.proofs.Names.{Has, HasAll}
-use Rattle.flow_runs.proofs.Frames.{slot_other, slot_walks, walk_same, walk_other, walk_slots, Shows, Kept, kept_same, kept_join, kept_less, kept_variable, shows_temporary, shows_variable}
+use Rattle.flow_runs.proofs.Frames.{free, is_variable, slot_other, slot_walks, walk_same, walk_other, walk_slots, Shows, Kept, kept_same, kept_join, kept_less, kept_variable, shows_temporary, shows_variable}
 use Rattle.flow_runs.proofs.Codes.{at_slot, Does, bind_did}
 use Rattle.flow_runs.proofs.Blocks.{Went, DoesBlock, went_from, Behind, Tested, DoesTest, DoesBehind}
 
@@ -121,51 +121,49 @@ pairs_long None x walk p = refl
 pairs_long (Some key) x walk p = refl
 
 module _ {m : World} {w : Scope} where
-  pairs_follow : (key : Option Name) (x : Name) (k : PlainKey) (v : Plain) (rest : Pairs) (p t walk : ℕ) (f : Frame) (s : State) → HasAll w.names (key_names key) → Has w.names x → HasAt m.flow p (pair_points (key_variable w key) (variable w x) walk p) → f.walks walk ≡ record { key = k; value = v; rest = rest } → Shows w s f → Paired m w s (with_pair key x k v s) p (p + pair_size (key_variable w key)) t walk f
+  pairs_follow : (key : Option Name) (x : Name) (k : PlainKey) (v : Plain) (rest : Pairs) (p t walk : ℕ) (f : Frame) (s : State) → free w ≤ walk → HasAll w.names (key_names key) → Has w.names x → HasAt m.flow p (pair_points (key_variable w key) (variable w x) walk p) → f.walks walk ≡ record { now = Some (k, v); rest = rest } → Shows w s f → Paired m w s (with_pair key x k v s) p (p + pair_size (key_variable w key)) t walk f
   unfolding with_pair
-  pairs_follow None x k v rest p t walk f s hk hx has is shows =
-      let u = (f.walks walk).value in
-      let e : u ≡ v = ap (λ (y : Walk). y.value) is in
+  pairs_follow None x k v rest p t walk f s behind hk hx has is shows =
+      let below = is_variable w x hx in
       record {
-        frame = set_slot f (variable w x) u;
-        comes = value_comes m p (variable w x) walk (p + 1) f s.printed has.0;
-        shows = subst (λ v. Shows w (with_variable s x v) (set_slot f (variable w x) u)) e (shows_variable w s x u f hx shows);
-        kept = kept_variable w t x u f hx;
-        walk' = slot_walks f (variable w x) u walk;
+        frame = set_slot f (variable w x) v;
+        comes = value_comes m p (variable w x) walk (p + 1) k v f s.printed has.0 (ap (λ (y : Walk). y.now) is);
+        shows = shows_variable w s x v f hx shows;
+        kept = kept_variable w t x v f hx;
+        walk' = slot_walks f (variable w x) v walk (λ same. omega (arith, same, below, behind));
       }
-  pairs_follow (Some key) x k v rest p t walk f s hk hx has is shows =
-      let c = value_of_key (f.walks walk).key in
-      let ec : c ≡ value_of_key k = ap (λ (y : Walk). value_of_key y.key) is in
+  pairs_follow (Some key) x k v rest p t walk f s behind hk hx has is shows =
+      let below = is_variable w x hx in
+      let below_key = is_variable w key hk.0 in
+      let c = value_of_key k in
       let f1 = set_slot f (variable w key) c in
-      let u = (f1.walks walk).value in
-      let e : u ≡ v = ap (λ (y : Walk). y.value) (slot_walks f (variable w key) c walk ∙ is) in
-      let shows1 = subst (λ v. Shows w (with_variable s key v) f1) ec (shows_variable w s key c f hk.0 shows) in
-      let to : p + 1 + 1 ≡ p + 2 = omega arith in
+      let held = slot_walks f (variable w key) c walk (λ same. omega (arith, same, below_key, behind)) in
+      let shows1 = shows_variable w s key c f hk.0 shows in
       let kept1 : Kept w t f f1 = kept_variable w t key c f hk.0 in
       record {
-        frame = set_slot f1 (variable w x) u;
-        comes = λ z end h. key_comes m p (variable w key) walk (p + 1) f s.printed has.0 z end (value_comes m (p + 1) (variable w x) walk (p + 2) f1 s.printed has.1.0 z end h);
-        shows = subst (λ v. Shows w (with_variable (with_variable s key (value_of_key k)) x v) (set_slot f1 (variable w x) u)) e (shows_variable w (with_variable s key (value_of_key k)) x u f1 hx shows1);
-        kept = kept_join kept1 (kept_variable w t x u f1 hx) (omega arith) (omega arith);
-        walk' = slot_walks f1 (variable w x) u walk ∙ slot_walks f (variable w key) c walk;
+        frame = set_slot f1 (variable w x) v;
+        comes = λ z end h. key_comes m p (variable w key) walk (p + 1) k v f s.printed has.0 (ap (λ (y : Walk). y.now) is) z end (value_comes m (p + 1) (variable w x) walk (p + 2) k v f1 s.printed has.1.0 (ap (λ (y : Walk). y.now) (held ∙ is)) z end h);
+        shows = shows_variable w (with_variable s key c) x v f1 hx shows1;
+        kept = kept_join kept1 (kept_variable w t x v f1 hx) (omega arith) (omega arith);
+        walk' = slot_walks f1 (variable w x) v walk (λ same. omega (arith, same, below, behind)) ∙ held;
       }
 
   -- a walk whose points stand here
-  module _ (to : Targets) (t walk at end stop : ℕ) (key : Option Name) (x : Name) (body : State → Run Flow) (ge : t ≤ walk) (hk : HasAll w.names (key_names key)) (hx : Has w.names x)
+  module _ (to : Targets) (t walk at end stop : ℕ) (key : Option Name) (x : Name) (body : State → Run Flow) (above : free w ≤ t) (ge : t ≤ walk) (hk : HasAll w.names (key_names key)) (hx : Has w.names x)
       (next_at : point_at m.flow at ≡ Some (next_point walk (at + 1) stop)) (pairs_at : HasAt m.flow (at + 1) (pair_points (key_variable w key) (variable w x) walk (at + 1))) (jump_at : point_at m.flow end ≡ Some (jump_point at))
       (bodies : (f : Frame) (s : State) → Shows w s f → Follows m Flow (at + 1 + pair_size (key_variable w key)) f s.printed (body s) (Went m w (record { stop = stop; again = at }) end (walk + 1) f)) where
     walk_follows : (ps : Pairs) (f : Frame) (s : State) → Shows w s f → (f.walks walk).rest ≡ ps → Follows m Flow at f s.printed (walk_pairs ps key x body s) (Went m w to stop t f)
     unfolding walk_pairs turn
     walk_follows empty f s shows is = after (done_comes m at walk (at + 1) stop f s.printed next_at is) (here (record { at = refl; shows = shows; kept = kept_same f }))
     walk_follows (pair k v ps) f s shows is =
-        let one : Walk = record { key = k; value = v; rest = ps } in
+        let one : Walk = record { now = Some (k, v); rest = ps } in
         let f1 = set_walk f walk one in
-        let kept1 : Kept w t f f1 = record { slots' = λ y ge lt. walk_slots f walk one y; walks' = λ y lt. walk_other f walk one y (λ same. omega (arith, same, lt, ge)) } in
+        let kept1 : Kept w t f f1 = record { slots' = λ y ge lt. walk_slots f walk one y; walks' = λ y low lt. walk_other f walk one y (λ same. omega (arith, same, lt, ge)) } in
         unit s _ (λ n.
         let s0 : State = record s { left = n } in
-        let pr = pairs_follow key x k v ps (at + 1) t walk f1 s0 hk hx pairs_at (walk_same f walk one) (λ y hy. walk_slots f walk one (variable w y) ∙ shows y hy) in
+        let pr = pairs_follow key x k v ps (at + 1) t walk f1 s0 (omega (arith, above, ge)) hk hx pairs_at (walk_same f walk one) (λ y hy. walk_slots f walk one (variable w y) ∙ shows y hy) in
         let rest : (pr.frame.walks walk).rest ≡ ps = ap (λ (y : Walk). y.rest) (pr.walk' ∙ walk_same f walk one) in
-        let on : (s : State) (g : Frame) → Shows w s g → Kept w (walk + 1) pr.frame g → Follows m Flow at g s.printed (walk_pairs ps key x body s) (Went m w to stop t pr.frame) = λ s g shows kept. onward (walk_follows ps g s shows (ap (λ (y : Walk). y.rest) (kept.walks' walk (omega arith)) ∙ rest)) (λ flow s q h went. here (went_from went refl (omega arith) (kept_less kept (omega (arith, ge))))) in
+        let on : (s : State) (g : Frame) → Shows w s g → Kept w (walk + 1) pr.frame g → Follows m Flow at g s.printed (walk_pairs ps key x body s) (Went m w to stop t pr.frame) = λ s g shows kept. onward (walk_follows ps g s shows (ap (λ (y : Walk). y.rest) (kept.walks' walk (omega (arith, above, ge)) (omega arith)) ∙ rest)) (λ flow s q h went. here (went_from went refl (omega arith) (kept_less kept (omega (arith, ge))))) in
         after (more_comes m at walk (at + 1) stop k v ps f s.printed next_at is)
         (after pr.comes
         (onward (bind (bodies pr.frame (with_pair key x k v s0) pr.shows) (turned (record { stop = stop; again = at }) to t (walk + 1) stop refl (omega (arith, ge)) _ pr.frame end (λ s g shows kept. after (jump_comes m end at g s.printed jump_at) (on s g shows kept)) on))
@@ -189,12 +187,12 @@ module _ {m : World} {w : Scope} where
         let h2 = has_back m.flow (at + 1) (pair_size (key_variable w key)) _ _ (pairs_long (key_variable w key) (variable w x) walk (at + 1)) h1.1.1 in
         let h3 = has_back m.flow inside body.size _ _ (e.long inner inside (walk + 1)) h2 in
         bind_did _ (d.follows p t f s (has_front m.flow p _ _ has) le shows) (λ s1 g v gives shows1 kept1.
-        let whole : Walk = record { key = int_key (pos 0); value = null; rest = walked (g.slots (a.gives t)) } in
+        let whole : Walk = record { now = None; rest = walked (g.slots (a.gives t)) } in
         let g1 = set_slot g walk (g.slots (a.gives t)) in
         let g2 = set_walk g1 walk whole in
-        let kept2 : Kept w t g g2 = record { slots' = λ y ge lt. walk_slots g1 walk whole y ∙ slot_other g walk (g.slots (a.gives t)) y (λ same. omega (arith, same, lt)); walks' = λ y lt. walk_other g1 walk whole y (λ same. omega (arith, same, lt)) ∙ slot_walks g walk (g.slots (a.gives t)) y } in
+        let kept2 : Kept w t g g2 = record { slots' = λ y ge lt. walk_slots g1 walk whole y ∙ slot_other g walk (g.slots (a.gives t)) y (λ same. omega (arith, same, lt)); walks' = λ y ge lt. walk_other g1 walk whole y (λ same. omega (arith, same, lt)) ∙ slot_walks g walk (g.slots (a.gives t)) y (λ same. omega (arith, same, lt)) } in
         let shows2 : Shows w s1 g2 = λ y hy. walk_slots g1 walk whole (variable w y) ∙ shows_temporary w s1 walk (g.slots (a.gives t)) g (omega (arith, le)) shows1 y hy in
-        after (begin_comes m (p + a.size) walk (a.gives t) at whole g s1.printed h1.0 refl)
-        (onward (walk_follows to t walk at (inside + body.size) stop key x run_body (omega arith) hk hx h1.1.0 (has_front m.flow (at + 1) _ _ h1.1.1) h3.0 (λ f s shows. e.follows inner inside (walk + 1) f s (has_front m.flow inside _ _ h2) (omega (arith, le)) shows) (walked v) g2 s1 shows2 (ap (λ (y : Walk). y.rest) (walk_same g1 walk whole) ∙ ap walked gives))
+        after (begin_comes m (p + a.size) walk (a.gives t) at g s1.printed h1.0)
+        (onward (walk_follows to t walk at (inside + body.size) stop key x run_body le (omega arith) hk hx h1.1.0 (has_front m.flow (at + 1) _ _ h1.1.1) h3.0 (λ f s shows. e.follows inner inside (walk + 1) f s (has_front m.flow inside _ _ h2) (omega (arith, le)) shows) (walked v) g2 s1 shows2 (ap (λ (y : Walk). y.rest) (walk_same g1 walk whole) ∙ ap walked gives))
         (λ flow s q h went. here (went_from went (omega arith) (omega arith) (kept_join kept1 kept2 (omega arith) (omega arith))))));
   }

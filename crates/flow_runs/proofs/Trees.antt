@@ -28,6 +28,7 @@ use Rattle.flow_runs.proofs.Names.{Has, HasAll, all_front, all_back}
 use Rattle.flow_runs.proofs.Codes.{at_slot, Does, does_as, does_same, does_known, does_left, does_both, does_computed, as_copy, does_and, does_or, does_first_there, does_chosen, does_chosen_itself}
 use Rattle.flow_runs.proofs.Writes.{Keys, KeyValues, read_keys, read_write, does_stored, does_old, does_updated, does_filled, does_step}
 use Rattle.flow_runs.proofs.Calls.{read_slots, env, CallsDo, neg_value, does_source, does_literal, does_call}
+use Rattle.flow_runs.proofs.Literals.{values_literals}
 use Rattle.flow_runs.proofs.Agreement.{paired_then, flagged, join_value, item_values, items_agree, update_agrees, filled_agrees}
 
 abbrev read_items : Slots → List (Option PlainKeyRef × ℕ) → List (Option Plain × Plain)
@@ -145,7 +146,7 @@ module _ {m : World} {w : Scope} where
           (does_stored x h.0 (does_both read_write (λ ks v. (ks, v)) (λ ks v. (ks, v)) (λ f ks v. refl) (path_does path (all_front w.names (path_names path) (names_in e) h.1)) (code_does e (all_back w.names (path_names path) (names_in e) h.1))))
       code_does (update_expr sign x path e) h = update_does _ _ sign x (length_of_path path) h.0 (path_count w path) (path_does path (all_front w.names (path_names path) (names_in e) h.1)) (code_does e (all_back w.names (path_names path) (names_in e) h.1))
       code_does (step_expr x up before) h = does_step x up before h.0
-      code_does (call_expr name args) h = does_call name args (builtin_named name) (function_in 1 w.functions name) refl refl calls defaults (codes_count w args) (codes_does args h)
+      code_does (call_expr name args) h = does_call name args (builtin_named name) (function_in 1 w.functions name) refl refl calls defaults (codes_count w args) (values_literals (env m w.functions) args) (codes_does args h)
 
       pub codes_does : (es : PlainExprs) → HasAll w.names (names_in_all es) → Does m w (List ℕ) (List Plain) (codes w es) read_slots (values (env m w.functions) es)
       codes_does no_exprs h = does_known read_slots [] [] (λ f. refl)

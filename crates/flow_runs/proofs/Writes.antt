@@ -125,7 +125,7 @@ record Members (m : World) (p q last t : ℕ) (f : Frame) (out : List ℕ) (res 
   comes : Comes m p f out q frame out
   gives : frame.slots last ≡ res
   slots' : (z : ℕ) → z < t → frame.slots z ≡ f.slots z
-  walks' : (z : ℕ) → frame.walks z ≡ f.walks z
+  walks' : (z : ℕ) → z < t → frame.walks z ≡ f.walks z
 
 module _ {m : World} where
   members : (ks : Keys) (kvs : KeyValues) (hi y p : ℕ) (f0 : Slots) (f : Frame) (v res : Plain) (out : List ℕ) → HasAt m.flow p (members_along y ks p (y + 1)) → ((g : Slots) → ((z : ℕ) → z < hi → g z ≡ f0 z) → read_keys g ks ≡ kvs) → ((z : ℕ) → z < hi → f.slots z ≡ f0 z) → hi ≤ y → f.slots y ≡ v → old_at kvs v ≡ Ok res → Members m p (p + length ks) (y + length ks) (y + 1) f out res
@@ -139,7 +139,7 @@ module _ {m : World} where
         comes = subst (λ q. Comes m p f out q f out) to (λ w end e. e);
         gives = subst (λ y. f.slots y ≡ res) last (is ∙ ok_same v res (old_at [] v) refl (ap (λ ks. old_at ks v) none ∙ h));
         slots' = λ z lt. refl;
-        walks' = λ z. refl;
+        walks' = λ z lt. refl;
       }
   members (k ∷ ks) kvs hi y p f0 f v res out has keys same le is h =
       let e : (maybe_key_value f.slots k ∷ read_keys f.slots ks) ≡ kvs = keys f.slots same in
@@ -153,7 +153,7 @@ module _ {m : World} where
         comes = λ w end e. set_comes m p (y + 1) (p + 1) (member_at y k) f st.mid out has.0 (member_value m.request f.slots y k v st.mid is st.member) w end (subst (λ q. Comes m (p + 1) f1 out q rest.frame out) to rest.comes w end e);
         gives = subst (λ y. rest.frame.slots y ≡ res) last rest.gives;
         slots' = λ z lt. rest.slots' z (omega (arith, lt)) ∙ slot_other f (y + 1) st.mid z (λ is. omega (arith, is, lt));
-        walks' = λ z. rest.walks' z ∙ slot_walks f (y + 1) st.mid z;
+        walks' = λ z lt. rest.walks' z (omega (arith, lt)) ∙ slot_walks f (y + 1) st.mid z (λ is. omega (arith, is, lt));
       }
 
 module _ {m : World} {w : Scope} where
@@ -191,7 +191,7 @@ module _ {m : World} {w : Scope} where
         let keys : (g : Slots) → ((z : ℕ) → z < y → g z ≡ g1.slots z) → read_keys g (path.gives t) ≡ ks = λ g same. d.reads t g g1.slots (λ z ge lt. same z lt) ∙ gives1 in
         let ms = members {m = m} (path.gives t) ks y y (p + path.size + 1) g1.slots g2 v old s1.printed h.1 keys (λ z lt. slot_other g1 y v z (λ is. omega (arith, is, lt))) (omega arith) (slot_same g1 y v) e in
         let c = count t in
-        let kept2 : Kept w t g1 ms.frame = record { slots' = λ z ge lt. ms.slots' z (omega (arith, lt)) ∙ slot_other g1 y v z (λ is. omega (arith, is, lt)); walks' = λ z lt. ms.walks' z ∙ slot_walks g1 y v z } in
+        let kept2 : Kept w t g1 ms.frame = record { slots' = λ z ge lt. ms.slots' z (omega (arith, lt)) ∙ slot_other g1 y v z (λ is. omega (arith, is, lt)); walks' = λ z ge lt. ms.walks' z (omega (arith, lt)) ∙ slot_walks g1 y v z (λ is. omega (arith, is, lt)) } in
         after (set_comes m _ _ _ _ g1 v s1.printed h.0 (as_copy m.request g1.slots _ v (shows1 x hx)))
         (after ms.comes
         (here (record {
