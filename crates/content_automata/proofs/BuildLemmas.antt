@@ -1,17 +1,20 @@
 -- What is built decides.
-use Rattle.std.proofs.Common.{◌≡◌, ℕ, zero, suc, Bool, List, [], ◌∷◌, length, refl, sym, ◌∙◌, ap, subst, arith, Option, Some, None, slice_get, map}
+use Rattle.std.proofs.Common.{◌≡◌, ℕ, zero, suc, ◌+◌, ◌<◌, ◌≤◌, inl, inr, Bool, false, List, [], ◌∷◌, ◌++◌, take, length, refl, sym, ◌∙◌, ap, subst, arith, Option, Some, None, slice_get, map}
 use Rattle.std.specs.Prelude.{slice_index_or}
 use Rattle.std.specs.List.{IsDistinct}
 use Rattle.dtd_model.specs.Table.{Rule, rule_of, holding_of}
 use Rattle.dtd_model.specs.declared.dtd.ElementRule.{ElementRule}
 use Rattle.content_automata.specs.declared.refusal.ContentRefusal.{ContentRefusal}
 use Rattle.content_automata.specs.declared.refusal.ContentRefusal.TheVariants.{Limit, Memory}
-use Rattle.content_automata.specs.Shapes.{Shape, shape, first_state, states_walk, IsSized}
-use Rattle.content_automata.specs.Tables.{Table, IsTable, Row, Key, key_eq, Keeps, CellFits, RowsFit, FirstsFit, AreElements, AllReached, AreSized, run, ends, first_at}
+use Rattle.content_automata.specs.Shapes.{Shape, shape, first_state, state_behind, states_walk, IsSized}
+use Rattle.content_automata.specs.Tables.{Table, IsTable, Row, Key, key_eq, Keeps, CellFits, RowsFit, FirstsFit, AreElements, AllReached, AreSized, run, ends, first_at, next_at, row_at, owner_at}
 use Rattle.content_automata.specs.Refusals.{IsOver, IsCause}
 use Rattle.dtd_model.specs.Table.{Table as Definition}
 use Rattle.dtd_model.specs.Matches.{matches}
-use Rattle.content_automata.specs.Decides.{shapes_in, Decides, TellsApart, set_behind}
+use Rattle.std.proofs.lemmas.Bool.{cases_lt}
+use Rattle.std.proofs.lemmas.Option.{slice_get_within, get_or_from_slice_get}
+use Rattle.std.proofs.lemmas.List.{take_more, map-append}
+use Rattle.content_automata.specs.Decides.{shapes_in, Decides, TellsApart, HasOwners, set_behind}
 use Rattle.content_automata.specs.declared.model.Model.{Model}
 use Rattle.content_automata.specs.Views.{shapes_of}
 use Rattle.content_automata.proofs.ExploreLemmas.{shapes_length}
@@ -79,9 +82,9 @@ table_apart d t i e f r q es fs m n at_e at_f below_es below_fs run_e run_f =
         one_number keys m n (f, y) apart (at_m ∙ ap (λ (k : ℕ). Some (k, x)) same_e ∙ ap (λ (z : List Bool). Some (f, z)) flags) at_n
 
 -- from what was put down
-pub table_is : (models : List Model) (old new : List Key) (firsts : List ℕ) (rows : List Row) → IsDistinct key_eq new → Keeps old new → FirstsFit (shapes_of models) old firsts (length models) → RowsFit (shapes_of models) new rows (length new) → IsTable (shapes_of models) (firsts, rows)
-table_is models old new firsts rows apart keeps f r =
-    record { keys = new; apart = apart; firsts = subst (FirstsFit (shapes_of models) new firsts) (sym (shapes_length models)) (firsts_kept (shapes_of models) old new firsts (length models) keeps f); rows = r }
+pub table_is : (models : List Model) (old new : List Key) (firsts : List ℕ) (rows : List Row) (owners : List ℕ) → owners ≡ map (λ (k : Key). k.0) new → IsDistinct key_eq new → Keeps old new → FirstsFit (shapes_of models) old firsts (length models) → RowsFit (shapes_of models) new rows (length new) → IsTable (shapes_of models) (firsts, rows, owners)
+table_is models old new firsts rows owners own apart keeps f r =
+    record { keys = new; apart = apart; firsts = subst (FirstsFit (shapes_of models) new firsts) (sym (shapes_length models)) (firsts_kept (shapes_of models) old new firsts (length models) keeps f); rows = r; owners = own }
 
 -- the models are those of the declared elements
 pub shapes_same : (models slice : List Model) (elements es : List ElementRule) → slice ≡ models → shapes_of models ≡ map (λ (r : ElementRule). shape (holding_of r.content)) es → es ≡ elements → shapes_of slice ≡ map (λ (r : Rule). shape r.holding) (map rule_of elements)
@@ -96,3 +99,76 @@ all_begin d t i = i.firsts.long ∙ rules_length d.elements
 
 pub table_as : (shapes : List Shape) (d : Definition) (t : Table) → shapes ≡ shapes_in d → IsTable shapes t → IsTable (shapes_in d) t
 table_as shapes d t e i = subst (λ (ss : List Shape). IsTable ss t) e i
+
+-- the state at a number, and its row
+at_some : {X : Type 0} (xs : List X) (n : ℕ) → n < length xs → (x : X) × (slice_get xs n ≡ Some x)
+at_some [] n h = absurd (omega (arith, h))
+at_some (x ∷ xs) zero h = (x, refl)
+at_some (x ∷ xs) (suc n) h = at_some xs n (omega (arith, h))
+
+owner_of : (keys : List Key) (n : ℕ) (k : Key) → slice_get keys n ≡ Some k → slice_index_or (map (λ (x : Key). x.0) keys) n 0 ≡ k.0
+owner_of [] n k h = cc
+owner_of (x ∷ keys) zero k h = let same : x ≡ k = cc in ap (λ (y : Key). y.0) same
+owner_of (x ∷ keys) (suc n) k h = owner_of keys n k h
+
+module _ (d : Definition) (t : Table) (i : IsTable (shapes_in d) t) where
+  owned : (n : ℕ) (k : Key) → slice_get i.keys n ≡ Some k → owner_at t n ≡ k.0
+  owned n k h = ap (λ (os : List ℕ). slice_index_or os n 0) i.owners ∙ owner_of i.keys n k h
+
+  first_key : (e : ℕ) → e < length d.elements → (s : Shape) × (slice_get i.keys (first_at t e) ≡ Some (e, first_state s))
+  first_key e h =
+      let within = subst (λ (n : ℕ). e < n) (sym (rules_length d.elements)) h in
+      let s = at_some (shapes_in d) e within in
+      (s.0, i.firsts.fit e s.0 within s.1)
+
+  -- a step is that of a state's row
+  next_key : (s r e : ℕ) → next_at t s e ≡ Some r → (k : Key) × (flags : List Bool) × (slice_get i.keys s ≡ Some k) × (slice_get i.keys r ≡ Some (k.0, flags))
+  next_key s r e h = elim (cases_lt s (length i.keys)) [
+    | inl below ↦
+        let k = at_some i.keys s below in
+        let row = i.rows.fit s k.0 below k.1 in
+        elim (cases_lt e (length (shapes_in d))) [
+          | inl small ↦
+              let cell = some_of k.0.0 i.keys (next_at t s e) r (state_behind (length (shapes_in d)) row.shape_of_it k.0.1 e) (row.cells_fit.fit e small) h in
+              (k.0, cell.0, k.1, cell.2)
+          | inr large ↦ absurd (none_some r (sym (past (row_at t s).1 e (subst (λ (n : ℕ). n ≤ e) (sym row.cells_fit.long) large)) ∙ h))
+        ]
+    | inr above ↦ absurd (none_some r (sym (ap (λ (x : Row). slice_index_or x.1 e None) (past_row t.1 s (subst (λ (n : ℕ). n ≤ s) (sym i.rows.long) above))) ∙ h))
+  ]
+    where
+      none_some : (n : ℕ) → None ≡ Some n → ⊥
+      none_some n h = cc
+
+      past : (cells : List (Option ℕ)) (n : ℕ) → length cells ≤ n → slice_index_or cells n None ≡ None
+      past [] n h = refl
+      past (x ∷ cells) zero h = absurd (omega (arith, h))
+      past (x ∷ cells) (suc n) h = past cells n (omega (arith, h))
+
+      past_row : (rows : List Row) (n : ℕ) → length rows ≤ n → slice_index_or rows n (false, []) ≡ (false, [])
+      past_row [] n h = refl
+      past_row (x ∷ rows) zero h = absurd (omega (arith, h))
+      past_row (x ∷ rows) (suc n) h = past_row rows n (omega (arith, h))
+
+  key_below : (n : ℕ) (k : Key) → slice_get i.keys n ≡ Some k → n < length t.1
+  key_below n k h = subst (λ (m : ℕ). n < m) (sym i.rows.long) (slice_get_within i.keys n k h)
+
+  pub table_owners : HasOwners (length d.elements) t
+  table_owners =
+      record {
+        first_below = λ e h. let k = first_key e h in key_below (first_at t e) (e, first_state k.0) k.1;
+        first_own = λ e h. let k = first_key e h in owned (first_at t e) (e, first_state k.0) k.1;
+        next_below = λ s r e h. let k = next_key s r e h in key_below r (k.0.0, k.1) k.3;
+        next_own = λ s r e h. let k = next_key s r e h in owned r (k.0.0, k.1) k.3 ∙ sym (owned s k.0 k.2);
+        declared = λ s h.
+            let k = at_some i.keys s (subst (λ (m : ℕ). s < m) i.rows.long h) in
+            let row = i.rows.fit s k.0 (subst (λ (m : ℕ). s < m) i.rows.long h) k.1 in
+            subst (λ (m : ℕ). owner_at t s < m) (rules_length d.elements)
+            (subst (λ (m : ℕ). m < length (shapes_in d)) (sym (owned s k.0 k.1)) (slice_get_within (shapes_in d) k.0.0 row.shape_of_it row.declared));
+      }
+
+-- one more state
+pub owners_more : (keys : List Key) (n : ℕ) (k : Key) (items new : List ℕ) → Some k ≡ slice_get keys n → items ≡ map (λ (x : Key). x.0) (take n keys) → new ≡ items ++ k.0 ∷ [] → new ≡ map (λ (x : Key). x.0) (take (n + 1) keys)
+owners_more keys n k items new at e m =
+    let i = slice_get_within keys n k (sym at) in
+    let same : take (n + 1) keys ≡ take n keys ++ k ∷ [] = take_more keys n k i ∙ ap (λ z. take n keys ++ z ∷ []) (get_or_from_slice_get keys n k k (sym at)) in
+    m ∙ ap (λ (l : List ℕ). l ++ k.0 ∷ []) e ∙ sym (map-append (λ (x : Key). x.0) (take n keys) (k ∷ [])) ∙ ap (map (λ (x : Key). x.0)) (sym same)

@@ -1,9 +1,9 @@
 -- What a table of states decides of a document type definition.
-use Rattle.std.specs.Prelude.{◌≡◌, ℕ, ◌↔◌, Bool, List, map, length, Option, Some, slice_get}
+use Rattle.std.specs.Prelude.{◌≡◌, ℕ, ◌<◌, ◌↔◌, Bool, List, map, length, Option, Some, slice_get}
 use Rattle.dtd_model.specs.Table.{Rule, Table as Definition}
 use Rattle.dtd_model.specs.Matches.{matches}
 use Rattle.content_automata.specs.Shapes.{Shape, shape, first_state, states_walk}
-use Rattle.content_automata.specs.Tables.{Table, AreElements, run, ends, first_at}
+use Rattle.content_automata.specs.Tables.{Table, AreElements, run, ends, first_at, next_at, owner_at}
 
 -- what the declared elements may hold
 abbrev pub shapes_in : Definition → List Shape
@@ -22,3 +22,11 @@ set_behind d r es = states_walk (length d.elements) (shape r.holding) (first_sta
 abbrev pub TellsApart : Definition → Table → Type 0
 TellsApart d t = (e f : ℕ) (r q : Rule) (es fs : List ℕ) (m n : ℕ) → slice_get d.elements e ≡ Some r → slice_get d.elements f ≡ Some q → AreElements (length d.elements) es → AreElements (length d.elements) fs
     → run t (first_at t e) es ≡ Some m → run t (first_at t f) fs ≡ Some n → (m ≡ n) ↔ ((e ≡ f) × (set_behind d r es ≡ set_behind d q fs))
+
+-- each state belongs to one of so many elements: the one that begins in it, or that of the state before it
+pub record HasOwners (count : ℕ) (t : Table) : Type 0 where
+  pub first_below : (e : ℕ) → e < count → first_at t e < length t.1
+  pub first_own : (e : ℕ) → e < count → owner_at t (first_at t e) ≡ e
+  pub next_below : (s r e : ℕ) → next_at t s e ≡ Some r → r < length t.1
+  pub next_own : (s r e : ℕ) → next_at t s e ≡ Some r → owner_at t r ≡ owner_at t s
+  pub declared : (s : ℕ) → s < length t.1 → owner_at t s < count

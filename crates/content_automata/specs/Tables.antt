@@ -1,5 +1,5 @@
 -- Tables of numbered states.
-use Rattle.std.specs.Prelude.{◌≡◌, ℕ, ◌<◌, ◌⊎◌, Bool, false, ◌&&◌, List, [], ◌∷◌, length, Contains, Option, Some, None, nat_eq, slice_get, slice_index_or}
+use Rattle.std.specs.Prelude.{◌≡◌, ℕ, ◌<◌, ◌⊎◌, Bool, false, ◌&&◌, List, [], ◌∷◌, map, length, Contains, Option, Some, None, nat_eq, slice_get, slice_index_or}
 use Rattle.std.specs.Bool.{beq}
 use Rattle.std.specs.Cmp.Lexicographic.{pointwise}
 use Rattle.std.specs.List.{IsDistinct}
@@ -10,9 +10,9 @@ use Rattle.content_automata.specs.Shapes.{Shape, first_state, state_behind, stat
 abbrev pub Row : Type 0
 Row = Bool × List (Option ℕ)
 
--- the numbers of the states that elements begin in, and the rows of all states
+-- the numbers of the states that elements begin in, the rows of all states, and the element of each
 abbrev pub Table : Type 0
-Table = List ℕ × List Row
+Table = List ℕ × List Row × List ℕ
 
 abbrev pub row_at : Table → ℕ → Row
 row_at t s = slice_index_or t.1 s (false, [])
@@ -25,6 +25,9 @@ next_at t s e = slice_index_or (row_at t s).1 e None
 
 abbrev pub ends_at : Table → ℕ → Bool
 ends_at t s = (row_at t s).0
+
+abbrev pub owner_at : Table → ℕ → ℕ
+owner_at t s = slice_index_or t.2 s 0
 
 -- the state behind children in turn
 abbrev pub run : Table → ℕ → List ℕ → Option ℕ
@@ -104,3 +107,4 @@ pub record IsTable (shapes : List Shape) (t : Table) : Type 0 where
   pub apart : IsDistinct key_eq keys
   pub firsts : FirstsFit shapes keys t.0 (length shapes)
   pub rows : RowsFit shapes keys t.1 (length keys)
+  pub owners : t.2 ≡ map (λ (k : Key). k.0) keys

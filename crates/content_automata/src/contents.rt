@@ -1,14 +1,14 @@
 //! The automata of all elements.
 
-ghost use Rattle.std.specs.Prelude.{◌≡◌, ◌≤◌, ◌<◌, length, map, IfOk, IfErr};
+ghost use Rattle.std.specs.Prelude.{◌≡◌, ◌≤◌, ◌<◌, ◌↔◌, IsTrue, length, map, IfOk, IfErr};
 ghost use Rattle.dtd_model.specs.declared.dtd.ElementRule.{ElementRule};
 ghost use Rattle.dtd_model.specs.Table.{holding_of};
 ghost use Rattle.content_automata.specs.Shapes.{shape};
 ghost use Rattle.dtd_model.specs.TableOf.{table_of};
 ghost use Rattle.content_automata.specs.Tables as spec;
-ghost use Rattle.content_automata.specs.Tables.{AreSized, IsTable};
+ghost use Rattle.content_automata.specs.Tables.{AreSized, IsTable, Key};
 ghost use Rattle.content_automata.specs.Refusals.{IsCause};
-ghost use Rattle.content_automata.specs.Decides.{shapes_in, Decides, TellsApart};
+ghost use Rattle.content_automata.specs.Decides.{shapes_in, Decides, TellsApart, HasOwners};
 ghost use Rattle.content_automata.specs.Views.{shapes_of};
 
 use crate::explore::{State, begin, explore};
@@ -16,26 +16,28 @@ use crate::model::{Model as Allowed, model_of_content};
 use crate::refusal::ContentRefusal;
 use dtd_model::{Dtd, ElementRule};
 use indexmap::IndexSet;
+use position_sets::Flags;
 use std::alloc::Global;
 use std::marker::Model;
 use text_base::{Elem, NoMemory};
 
 /// The automata of the content models of a document type definition. Contracts see them as a
-/// table: the numbers of the states that elements begin in, and for each state whether a match
-/// may end there and the state behind each element.
+/// table: the numbers of the states that elements begin in, for each state whether a match may
+/// end there and the state behind each element, and the element of each state.
 #[derive(Debug, Drop)]
 pub struct Contents {
     firsts: Vec<u16>,
     states: Vec<State>,
+    owners: Vec<u64>,
 }
 
 impl Model for Contents {
     ghost use Rattle.std.specs.Prelude.{ℕ, Bool, List, Option, map};
     ghost use Rattle.content_automata.specs.Views.{row_of};
 
-    ghost Value = { List ℕ × List (Bool × List (Option ℕ)) };
+    ghost Value = { List ℕ × List (Bool × List (Option ℕ)) × List ℕ };
 
-    ghost view = { λ c. (c.firsts.items, map row_of c.states.items) };
+    ghost view = { λ c. (c.firsts.items, map row_of c.states.items, c.owners.items) };
 }
 
 fn models(alloc: Global, elements: &[ElementRule]) -> Result<Vec<Allowed>, NoMemory>
@@ -46,6 +48,20 @@ fn models(alloc: Global, elements: &[ElementRule]) -> Result<Vec<Allowed>, NoMem
         models.push(model_of_content(alloc, &element.content)?)?;
     }
     Ok(models)
+}
+
+// The elements of the states, by their places.
+fn owners_of(alloc: Global, keys: &IndexSet<(u64, Flags)>) -> Result<Vec<u64>, NoMemory>
+    ensures { IfOk result (λ v. v.items ≡ map (λ (k : Key). k.0) keys.now.keys) }
+{
+    let mut owners = Vec::new(alloc);
+    for number in 0..keys.len() {
+        match keys.get_index(number) {
+            Some(key) => owners.push(key.0)?,
+            None => unreachable!(),
+        }
+    }
+    Ok(owners)
 }
 
 // The table of these models.
@@ -60,16 +76,23 @@ fn tabled(alloc: Global, models: &[Allowed]) -> Result<Contents, ContentRefusal>
         Ok(firsts) => firsts,
         Err(refusal) => return Err(refusal),
     };
-    match explore(alloc, models, &mut keys) {
-        Ok(states) => Ok(Contents { firsts, states }),
-        Err(refusal) => Err(refusal),
-    }
+    let states = match explore(alloc, models, &mut keys) {
+        Ok(states) => states,
+        Err(refusal) => return Err(refusal),
+    };
+    let owners = owners_of(alloc, &keys)?;
+    Ok(Contents {
+        firsts,
+        states,
+        owners,
+    })
 }
 
 /// The automata of the content models of a definition.
 pub fn build(alloc: Global, dtd: &Dtd) -> Result<Contents, ContentRefusal>
     ensures decides { IfOk result (λ c. Decides (table_of dtd.now) c) }
     ensures apart { IfOk result (λ c. TellsApart (table_of dtd.now) c) }
+    ensures owners { IfOk result (λ c. HasOwners (length (table_of dtd.now).elements) c) }
     ensures few { IfOk result (λ c. length c.1 ≤ 4096) }
     ensures elements { IfOk result (λ c. length c.0 ≡ length (table_of dtd.now).elements) }
     ensures limit { IfErr result (IsCause (shapes_in (table_of dtd.now))) }
@@ -82,6 +105,30 @@ pub fn build(alloc: Global, dtd: &Dtd) -> Result<Contents, ContentRefusal>
 }
 
 impl Contents {
+    /// How many states there are; they are the numbers below.
+    pub fn len(&self) -> usize
+        ensures { result ≡ length self.now.1 }
+    {
+        self.states.len()
+    }
+
+    /// Whether there is no state.
+    pub fn is_empty(&self) -> bool
+        ensures { IsTrue result ↔ (length self.now.1 ≡ 0) }
+    {
+        self.states.is_empty()
+    }
+
+    /// The place of the element that a state belongs to; 0 for a number that is no state.
+    pub fn owner(&self, state: u16) -> u64
+        ensures { result ≡ spec.owner_at self.now state }
+    {
+        match self.owners.get(usize::from(state)) {
+            Some(owner) => *owner,
+            None => 0,
+        }
+    }
+
     /// The number of the state that an element begins in.
     pub fn init(&self, element: Elem) -> u16
         requires { element.0 < length self.now.0 }

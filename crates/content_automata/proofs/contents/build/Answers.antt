@@ -1,7 +1,7 @@
 use Rattle.std.proofs.Common.{subst}
 use Rattle.dtd_model.specs.TableOf.{table_of}
 use Rattle.content_automata.specs.Refusals.{IsCause}
-use Rattle.content_automata.proofs.BuildLemmas.{shapes_same, sized_as, table_as, table_decides, table_apart, all_begin}
+use Rattle.content_automata.proofs.BuildLemmas.{shapes_same, sized_as, table_as, table_decides, table_apart, table_owners, all_begin}
 use Rattle.content_automata.proofs.contents.build.Goals as goal
 
 pub tabled-requires : goal.tabled-requires
@@ -14,6 +14,10 @@ returns-in-Ok-clause-decides c =
 pub returns-in-Ok-clause-apart : goal.returns-in-Ok-clause-apart
 returns-in-Ok-clause-apart c =
     table_apart (table_of c.args.dtd.now) _ (table_as _ (table_of c.args.dtd.now) _ (shapes_same _ _ _ _ c.as_slice-2.ensures.value c.in_ok-models.ensures c.as_slice.ensures.value) c.in-Ok.ensures.table)
+
+pub returns-in-Ok-clause-owners : goal.returns-in-Ok-clause-owners
+returns-in-Ok-clause-owners c =
+    table_owners (table_of c.args.dtd.now) _ (table_as _ (table_of c.args.dtd.now) _ (shapes_same _ _ _ _ c.as_slice-2.ensures.value c.in_ok-models.ensures c.as_slice.ensures.value) c.in-Ok.ensures.table)
 
 pub returns-in-Ok-clause-elements : goal.returns-in-Ok-clause-elements
 returns-in-Ok-clause-elements c =
