@@ -1,0 +1,46 @@
+//! Text and elements (XML 1.0, 3.2.2, Mixed).
+
+ghost use Rattle.std.specs.Prelude.{◌≡◌};
+ghost use Rattle.dtd_tokens.specs.Views.{token_of};
+ghost use Rattle.dtd_texts.specs.ContentModels as spec;
+ghost use Rattle.dtd_declarations.specs.Views.{Gives, stage_of, numbers_of};
+
+use crate::fault::Fault;
+use crate::stage::Stage;
+use dtd_model::Content;
+use dtd_tokens::Token;
+use std::alloc::Global;
+use text_base::Elem;
+
+// Behind `(#`.
+pub fn text_step(alloc: Global, token: Token<'_>) -> Result<Stage, Fault>
+    ensures { Gives stage_of result (spec.text_step (token_of token)) }
+{
+    match token {
+        Token::Word(word) if word == b"PCDATA".as_slice() => Ok(Stage::BehindText(Vec::new(alloc))),
+        _ => Err(Fault::Refused),
+    }
+}
+
+// Behind text or an element.
+pub fn behind_text_step(elements: Vec<Elem>, token: Token<'_>) -> Result<Stage, Fault>
+    ensures { Gives stage_of result (spec.behind_text_step (numbers_of elements.items) (token_of token)) }
+{
+    match token {
+        Token::Gap => Ok(Stage::BehindText(elements)),
+        Token::Bar => Ok(Stage::AtElement(elements)),
+        Token::Closing => Ok(Stage::BehindMixed(elements)),
+        _ => Err(Fault::Refused),
+    }
+}
+
+// Behind the closing bracket.
+pub fn mixed_step(elements: Vec<Elem>, token: Token<'_>) -> Result<Stage, Fault>
+    ensures { Gives stage_of result (spec.mixed_step (numbers_of elements.items) (token_of token)) }
+{
+    match token {
+        Token::Star => Ok(Stage::Done(Content::Mixed(elements))),
+        Token::Gap if elements.is_empty() => Ok(Stage::Done(Content::Mixed(elements))),
+        _ => Err(Fault::Refused),
+    }
+}

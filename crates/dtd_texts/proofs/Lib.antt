@@ -1,0 +1,5 @@
+pub mod Once
+pub mod Grows
+pub mod Never
+pub mod Run
+pub mod Examples

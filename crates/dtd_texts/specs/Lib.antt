@@ -1,0 +1,10 @@
+pub mod Heads
+pub mod Tokens
+pub mod Places
+pub mod Reading
+pub mod Causes
+pub mod Went
+pub mod ContentModels
+pub mod AttributeLists
+pub mod Tables
+pub mod Spells

@@ -1,0 +1,24 @@
+-- What the tokens of the code stand for.
+use Rattle.std.specs.Prelude.{ℕ, List, map}
+use Rattle.dtd_texts.specs.Tokens.{Token, gap, word, literal, opening, closing, bar, comma, question, star, plus, hash, percent, equals, other}
+use Rattle.dtd_tokens.specs.declared.token.Token.{Token as CodeToken}
+use Rattle.dtd_tokens.specs.declared.token.Token.TheVariants.{Gap, Word, Literal, Opening, Closing, Bar, Comma, Question, Star, Plus, Hash, Percent, Equals, Other}
+
+abbrev pub token_of : CodeToken → Token
+token_of Gap = gap
+token_of (Word w) = word w.now
+token_of (Literal text) = literal text.now
+token_of Opening = opening
+token_of Closing = closing
+token_of Bar = bar
+token_of Comma = comma
+token_of Question = question
+token_of Star = star
+token_of Plus = plus
+token_of Hash = hash
+token_of Percent = percent
+token_of Equals = equals
+token_of Other = other
+
+abbrev pub tokens_of : List CodeToken → List Token
+tokens_of ts = map token_of ts
