@@ -1,11 +1,13 @@
 //! Text and elements (XML 1.0, 3.2.2, Mixed).
 
-ghost use Rattle.std.specs.Prelude.{◌≡◌};
+ghost use Rattle.std.specs.Prelude.{◌≡◌, ◌++◌, ◌∷◌, []};
+ghost use Rattle.dtd_texts.specs.Went.{leads};
 ghost use Rattle.dtd_tokens.specs.Views.{token_of};
 ghost use Rattle.dtd_texts.specs.ContentModels as spec;
 ghost use Rattle.dtd_declarations.specs.Views.{Gives, stage_of, numbers_of};
 
 use crate::fault::Fault;
+use crate::names::Names;
 use crate::stage::Stage;
 use dtd_model::Content;
 use dtd_tokens::Token;
@@ -17,7 +19,13 @@ pub fn text_step(alloc: Global, token: Token<'_>) -> Result<Stage, Fault>
     ensures { Gives stage_of result (spec.text_step (token_of token)) }
 {
     match token {
-        Token::Word(word) if word == b"PCDATA".as_slice() => Ok(Stage::BehindText(Vec::new(alloc))),
+        Token::Word(word) => {
+            if word == b"PCDATA".as_slice() {
+                Ok(Stage::BehindText(Vec::new(alloc)))
+            } else {
+                Err(Fault::Refused)
+            }
+        }
         _ => Err(Fault::Refused),
     }
 }
@@ -34,13 +42,47 @@ pub fn behind_text_step(elements: Vec<Elem>, token: Token<'_>) -> Result<Stage, 
     }
 }
 
+// The elements with one more.
+fn with_element(mut elements: Vec<Elem>, element: Elem) -> Result<Vec<Elem>, Fault>
+    ensures { Gives (λ es. numbers_of es.items) result (leads (numbers_of elements.items ++ element.0 ∷ [])) }
+{
+    elements.push(element)?;
+    Ok(elements)
+}
+
+// Behind a bar.
+pub fn element_step(
+    alloc: Global,
+    names: &Names,
+    elements: Vec<Elem>,
+    token: Token<'_>,
+) -> Result<Stage, Fault>
+    ensures { Gives stage_of result (spec.element_step names.now (numbers_of elements.items) (token_of token)) }
+{
+    match token {
+        Token::Gap => Ok(Stage::AtElement(elements)),
+        Token::Word(word) => {
+            let element = names.element(alloc, word)?;
+            let elements = with_element(elements, element)?;
+            Ok(Stage::BehindText(elements))
+        }
+        _ => Err(Fault::Refused),
+    }
+}
+
 // Behind the closing bracket.
 pub fn mixed_step(elements: Vec<Elem>, token: Token<'_>) -> Result<Stage, Fault>
     ensures { Gives stage_of result (spec.mixed_step (numbers_of elements.items) (token_of token)) }
 {
     match token {
         Token::Star => Ok(Stage::Done(Content::Mixed(elements))),
-        Token::Gap if elements.is_empty() => Ok(Stage::Done(Content::Mixed(elements))),
+        Token::Gap => {
+            if elements.is_empty() {
+                Ok(Stage::Done(Content::Mixed(elements)))
+            } else {
+                Err(Fault::Refused)
+            }
+        }
         _ => Err(Fault::Refused),
     }
 }

@@ -1,6 +1,6 @@
 -- The text of a declaration as tokens (XML 1.0, 2.3): white space, name tokens, literals and signs. Its references have
 -- been replaced.
-use Rattle.std.specs.Option.{option_and_then}
+use Rattle.std.specs.Option.{option_and_then, unwrap_or}
 use Rattle.std.specs.Prelude.{ℕ, zero, suc, pred, ◌+◌, Bool, true, false, not, ◌&&◌, ◌||◌, ◌==◌, if◌then◌else◌, List, [], ◌∷◌, take, drop, codes, Option, Some, None}
 use Rattle.std.specs.List.{prefix_len}
 use Rattle.std.specs.Str.{str_eq_ignore_ascii_case}
@@ -92,8 +92,7 @@ behind class (t ∷ ts) = if class t then Some ts else None
 
 -- the same, or all where none stands there
 abbrev pub behind_maybe : (Token → Bool) → List Token → List Token
-behind_maybe class [] = []
-behind_maybe class (t ∷ ts) = if class t then ts else t ∷ ts
+behind_maybe class ts = unwrap_or (behind class ts) ts
 
 abbrev pub with_rest : Option (List ℕ) → List Token → Option (List ℕ × List Token)
 with_rest None ts = None

@@ -1,6 +1,7 @@
 -- The number that digits write is never less than one that some of them write.
-use Rattle.std.proofs.Common.{◌≡◌, ◌∙◌, ℕ, suc, ◌+◌, ◌*◌, ◌≤◌, ◌<◌, Bool, true, false, cond, List, [], ◌∷◌, take, refl, sym, ap, arith, add_comm, add-one}
-use Rattle.std.specs.Prelude.{◌&&◌}
+use Rattle.std.proofs.Common.{◌≡◌, ◌∙◌, ℕ, suc, ◌+◌, ◌*◌, ◌≤◌, ◌<◌, Bool, true, false, cond, List, [], ◌∷◌, take, drop, refl, sym, ap, arith, add_comm, add-one}
+use Rattle.std.specs.Prelude.{◌&&◌, nat_eq}
+use Rattle.dtd_texts.specs.Heads.{head_is, digits_length}
 use Rattle.xml_text.specs.Characters.{is_character}
 use Rattle.std.specs.Char.{digit_value, is_ascii_digit, is_ascii_hexdigit}
 use Rattle.std.specs.List.{list_all, prefix_len}
@@ -48,3 +49,13 @@ all_digits (x ∷ xs) e = let both = is_both {a = is_ascii_digit x} {b = list_al
 
 pub all_decimal : (n : ℕ) (xs : List ℕ) → n ≡ prefix_len is_ascii_digit xs → list_all is_ascii_hexdigit (take n xs) ≡ true
 all_decimal n xs e = all_digits (take n xs) (ap (λ k. list_all is_ascii_digit (take k xs)) e ∙ all_prefix is_ascii_digit xs)
+
+-- digits without a semicolon behind them are no reference
+pub no_digits : (class : ℕ → Bool) (base opening n : ℕ) (bytes digits rest : List ℕ) (b : Bool) → digits ≡ drop opening bytes → n ≡ prefix_len class digits
+    → rest ≡ drop (opening + n) bytes → b ≡ head_is (nat_eq 59) rest → b ≡ false → digits_length class base opening bytes ≡ 0
+unfolding digits_length
+no_digits class base opening n bytes digits rest b at long behind is none =
+    let k : prefix_len class (drop opening bytes) ≡ n = ap (prefix_len class) (sym at) ∙ sym long in
+    let e : head_is (nat_eq 59) (drop (opening + prefix_len class (drop opening bytes)) bytes) ≡ false =
+      ap (λ m. head_is (nat_eq 59) (drop (opening + m) bytes)) k ∙ ap (head_is (nat_eq 59)) (sym behind) ∙ sym is ∙ none in
+    rw e refl

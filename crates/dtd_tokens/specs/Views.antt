@@ -1,6 +1,7 @@
 -- What the tokens of the code stand for.
-use Rattle.std.specs.Prelude.{ℕ, List, map}
-use Rattle.dtd_texts.specs.Tokens.{Token, gap, word, literal, opening, closing, bar, comma, question, star, plus, hash, percent, equals, other}
+use Rattle.std.specs.Prelude.{ℕ, List, map, Option, Some, None, Bool, false, [], ◌∷◌}
+use Rattle.std.specs.Borrow.{Bor}
+use Rattle.dtd_texts.specs.Tokens.{Token, gap, word, literal, opening, closing, bar, comma, question, star, plus, hash, percent, equals, other, is_percent}
 use Rattle.dtd_tokens.specs.declared.token.Token.{Token as CodeToken}
 use Rattle.dtd_tokens.specs.declared.token.Token.TheVariants.{Gap, Word, Literal, Opening, Closing, Bar, Comma, Question, Star, Plus, Hash, Percent, Equals, Other}
 
@@ -22,3 +23,20 @@ token_of Other = other
 
 abbrev pub tokens_of : List CodeToken → List Token
 tokens_of ts = map token_of ts
+
+abbrev pub maybe_text : Option (Bor (List ℕ)) → Option (List ℕ)
+maybe_text None = None
+maybe_text (Some text) = Some text.now
+
+abbrev pub maybe_tokens : Option (Bor (List CodeToken)) → Option (List Token)
+maybe_tokens None = None
+maybe_tokens (Some ts) = Some (tokens_of ts.now)
+
+-- a text and what stands behind it
+abbrev pub found : Option (Bor (List ℕ) × Bor (List CodeToken)) → Option (List ℕ × List Token)
+found None = None
+found (Some x) = Some (x.0.now, tokens_of x.1.now)
+
+abbrev pub head_is_percent : List Token → Bool
+head_is_percent [] = false
+head_is_percent (t ∷ ts) = is_percent t

@@ -3,11 +3,18 @@
 //! below stand text_base and xml_text.
 #![tactic(auto)]
 
+mod declaration;
+mod heads;
 mod references;
 mod scan;
 mod token;
 mod tokens;
 
+pub use declaration::behind_declaration;
+pub use heads::{
+    Found, are_none, behind_gap, first_literal, first_word, head_is_percent, is_end, next_literal,
+    next_word,
+};
 pub use references::{
     character, entity_length, is_attribute_value, is_plain_value, reference_length,
 };
