@@ -1,5 +1,7 @@
 //! Why a declaration is not read.
 
+ghost use Rattle.std.specs.Prelude.{◌≡◌};
+
 use text_base::{Bytes, NoMemory};
 
 /// Why a declaration is not read.

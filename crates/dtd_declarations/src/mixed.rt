@@ -1,7 +1,6 @@
 //! Text and elements (XML 1.0, 3.2.2, Mixed).
 
-ghost use Rattle.std.specs.Prelude.{◌≡◌, ◌++◌, ◌∷◌, []};
-ghost use Rattle.dtd_texts.specs.Went.{leads};
+ghost use Rattle.std.specs.Prelude.{◌≡◌, ◌++◌, ◌∷◌, [], IfOk};
 ghost use Rattle.dtd_tokens.specs.Views.{token_of};
 ghost use Rattle.dtd_texts.specs.ContentModels as spec;
 ghost use Rattle.dtd_declarations.specs.Views.{Gives, stage_of, numbers_of};
@@ -12,15 +11,15 @@ use crate::stage::Stage;
 use dtd_model::Content;
 use dtd_tokens::Token;
 use std::alloc::Global;
-use text_base::Elem;
+use text_base::{Elem, NoMemory};
 
 // Behind `(#`.
-pub fn text_step(alloc: Global, token: Token<'_>) -> Result<Stage, Fault>
-    ensures { Gives stage_of result (spec.text_step (token_of token)) }
+pub fn text_step(alloc: Global, token: &Token<'_>) -> Result<Stage, Fault>
+    ensures { Gives stage_of result (spec.text_step (token_of token.now)) }
 {
     match token {
         Token::Word(word) => {
-            if word == b"PCDATA".as_slice() {
+            if *word == b"PCDATA".as_slice() {
                 Ok(Stage::BehindText(Vec::new(alloc)))
             } else {
                 Err(Fault::Refused)
@@ -31,8 +30,8 @@ pub fn text_step(alloc: Global, token: Token<'_>) -> Result<Stage, Fault>
 }
 
 // Behind text or an element.
-pub fn behind_text_step(elements: Vec<Elem>, token: Token<'_>) -> Result<Stage, Fault>
-    ensures { Gives stage_of result (spec.behind_text_step (numbers_of elements.items) (token_of token)) }
+pub fn behind_text_step(elements: Vec<Elem>, token: &Token<'_>) -> Result<Stage, Fault>
+    ensures { Gives stage_of result (spec.behind_text_step (numbers_of elements.items) (token_of token.now)) }
 {
     match token {
         Token::Gap => Ok(Stage::BehindText(elements)),
@@ -43,36 +42,36 @@ pub fn behind_text_step(elements: Vec<Elem>, token: Token<'_>) -> Result<Stage, 
 }
 
 // The elements with one more.
-fn with_element(mut elements: Vec<Elem>, element: Elem) -> Result<Vec<Elem>, Fault>
-    ensures { Gives (λ es. numbers_of es.items) result (leads (numbers_of elements.items ++ element.0 ∷ [])) }
+fn with_element(mut elements: Vec<Elem>, element: Elem) -> Result<Vec<Elem>, NoMemory>
+    ensures { IfOk result (λ es. numbers_of es.items ≡ numbers_of elements.items ++ element.0 ∷ []) }
 {
     elements.push(element)?;
     Ok(elements)
 }
 
 // Behind a bar.
+#[tactic(auto, using(crate::proofs::Passing::passed_on))]
 pub fn element_step(
     alloc: Global,
     names: &Names,
     elements: Vec<Elem>,
-    token: Token<'_>,
+    token: &Token<'_>,
 ) -> Result<Stage, Fault>
-    ensures { Gives stage_of result (spec.element_step names.now (numbers_of elements.items) (token_of token)) }
+    ensures { Gives stage_of result (spec.element_step names.now (numbers_of elements.items) (token_of token.now)) }
 {
     match token {
         Token::Gap => Ok(Stage::AtElement(elements)),
-        Token::Word(word) => {
-            let element = names.element(alloc, word)?;
-            let elements = with_element(elements, element)?;
-            Ok(Stage::BehindText(elements))
-        }
+        Token::Word(word) => match names.element(alloc, word) {
+            Ok(element) => Ok(Stage::BehindText(with_element(elements, element)?)),
+            Err(fault) => Err(fault),
+        },
         _ => Err(Fault::Refused),
     }
 }
 
 // Behind the closing bracket.
-pub fn mixed_step(elements: Vec<Elem>, token: Token<'_>) -> Result<Stage, Fault>
-    ensures { Gives stage_of result (spec.mixed_step (numbers_of elements.items) (token_of token)) }
+pub fn mixed_step(elements: Vec<Elem>, token: &Token<'_>) -> Result<Stage, Fault>
+    ensures { Gives stage_of result (spec.mixed_step (numbers_of elements.items) (token_of token.now)) }
 {
     match token {
         Token::Star => Ok(Stage::Done(Content::Mixed(elements))),

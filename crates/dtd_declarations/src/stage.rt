@@ -18,6 +18,13 @@ pub struct Group {
     pub parts: Vec<Particle>,
 }
 
+/// The open brackets: the inner one, and the others from the outer one inwards.
+#[derive(Debug, Drop)]
+pub struct Groups {
+    pub inner: Group,
+    pub outer: Vec<Group>,
+}
+
 /// A place in what stands behind the name of an element in its declaration.
 #[derive(Debug, Drop)]
 pub enum Stage {
@@ -35,12 +42,12 @@ pub enum Stage {
     AtElement(Vec<Elem>),
     /// Behind the closing bracket of text and elements.
     BehindMixed(Vec<Elem>),
-    /// In groups, where a particle is due; the inner group is the last.
-    AtParticle(Vec<Group>),
+    /// In groups, where a particle is due.
+    AtParticle(Groups),
     /// Directly behind a particle.
-    OnParticle(Vec<Group>, Particle),
+    OnParticle(Groups, Particle),
     /// Behind a particle that is put into its group.
-    BehindParticle(Vec<Group>),
+    BehindParticle(Groups),
     /// Behind the last bracket.
     BehindGroup(Particle),
     /// Where only white space may follow.

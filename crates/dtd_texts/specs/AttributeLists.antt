@@ -4,7 +4,7 @@ use Rattle.std.specs.Prelude.{ℕ, ◌||◌, if◌then◌else◌, List, [], ◌�
 use Rattle.xml_text.specs.Names.{is_name}
 use Rattle.dtd_model.specs.Table.{Kind, cdata, id, idref, idrefs, nmtoken, nmtokens, one_of, Presence, implied, required, with_default, fixed, Declared}
 use Rattle.dtd_texts.specs.Heads.{same, is_attribute_value}
-use Rattle.dtd_texts.specs.Tokens.{Token, gap, word, literal, opening, closing, bar, hash}
+use Rattle.dtd_texts.specs.Tokens.{Token, is_gap, gap, word, literal, opening, closing, bar, hash}
 use Rattle.dtd_texts.specs.Went.{Went, leads, refused, left_out, all_steps, then_go}
 
 pub data Stage : Type 0 where
@@ -42,16 +42,14 @@ kind_named w =
     else refused
 
 abbrev pub between_step : List Declared → Token → Went Stage
-between_step ds gap = leads (at_name ds)
-between_step ds _ = refused
+between_step ds t = if is_gap t then leads (at_name ds) else refused
 
 abbrev pub name_step : List Declared → Token → Went Stage
 name_step ds (word w) = if is_name w then leads (behind_name ds w) else refused
 name_step ds _ = refused
 
 abbrev pub behind_name_step : List Declared → List ℕ → Token → Went Stage
-behind_name_step ds n gap = leads (at_kind ds n)
-behind_name_step ds n _ = refused
+behind_name_step ds n t = if is_gap t then leads (at_kind ds n) else refused
 
 abbrev pub kind_step : List Declared → List ℕ → Token → Went Stage
 kind_step ds n (word w) = then_go (kind_named w) (λ kind. leads (behind_kind ds n kind))
@@ -70,8 +68,7 @@ behind_token_step ds n tokens closing = leads (behind_kind ds n (one_of tokens))
 behind_token_step ds n tokens _ = refused
 
 abbrev pub behind_kind_step : List Declared → List ℕ → Kind → Token → Went Stage
-behind_kind_step ds n kind gap = leads (at_default ds n kind)
-behind_kind_step ds n kind _ = refused
+behind_kind_step ds n kind t = if is_gap t then leads (at_default ds n kind) else refused
 
 abbrev pub default_step : List Declared → List ℕ → Kind → Token → Went Stage
 default_step ds n kind hash = leads (at_word ds n kind)
@@ -86,8 +83,7 @@ word_step ds n kind (word w) =
 word_step ds n kind _ = refused
 
 abbrev pub behind_fixed_step : List Declared → List ℕ → Kind → Token → Went Stage
-behind_fixed_step ds n kind gap = leads (at_fixed ds n kind)
-behind_fixed_step ds n kind _ = refused
+behind_fixed_step ds n kind t = if is_gap t then leads (at_fixed ds n kind) else refused
 
 abbrev pub fixed_step : List Declared → List ℕ → Kind → Token → Went Stage
 fixed_step ds n kind (literal value) = if is_attribute_value value then leads (with_attribute ds n kind (fixed value)) else refused

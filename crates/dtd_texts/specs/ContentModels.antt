@@ -46,14 +46,13 @@ bracket_limit = 200
 abbrev pub number_of : List (List ℕ) → List ℕ → Option ℕ
 number_of names name = position (bytes_eq name) names
 
--- what an element of this number leads to
-abbrev pub numbered : Option ℕ → List ℕ → (ℕ → Stage) → Went Stage
-numbered None name next = undeclared name
-numbered (Some k) name next = leads (next k)
+-- the number of the element of this name, where it is one
+abbrev pub numbered : Option ℕ → List ℕ → Went ℕ
+numbered None name = undeclared name
+numbered (Some k) name = leads k
 
--- the element of this name, where it is one
-abbrev pub named : List (List ℕ) → List ℕ → (ℕ → Stage) → Went Stage
-named names w next = if is_name w then numbered (number_of names w) w next else refused
+abbrev pub element_named : List (List ℕ) → List ℕ → Went ℕ
+element_named names w = if is_name w then numbered (number_of names w) w else refused
 
 abbrev pub content_step : Token → Went Stage
 content_step (word w) = if same w (codes "EMPTY") then leads (done nothing) else if same w (codes "ANY") then leads (done anything) else refused
@@ -80,7 +79,7 @@ group_model by_comma ms = sequence ms
 
 abbrev pub particle_step : List (List ℕ) → List Group → Token → Went Stage
 particle_step names groups gap = leads (at_particle groups)
-particle_step names groups (word w) = named names w (λ k. on_particle groups (one k))
+particle_step names groups (word w) = then_go (element_named names w) (λ k. leads (on_particle groups (one k)))
 particle_step names groups opening = if nat_lt (length groups) bracket_limit then leads (at_particle (new_group ∷ groups)) else too_deep
 particle_step names groups _ = refused
 
@@ -138,7 +137,7 @@ behind_text_step es _ = refused
 
 abbrev pub element_step : List (List ℕ) → List ℕ → Token → Went Stage
 element_step names es gap = leads (at_element es)
-element_step names es (word w) = named names w (λ k. behind_text (es ++ k ∷ []))
+element_step names es (word w) = then_go (element_named names w) (λ k. leads (behind_text (es ++ k ∷ [])))
 element_step names es _ = refused
 
 -- the star may be left out where no elements are named (3.2.2)

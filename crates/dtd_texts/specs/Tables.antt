@@ -21,11 +21,17 @@ abbrev pub with_name : {S : Type 0} → Option (List ℕ × List Token) → (Lis
 with_name None f = refused
 with_name (Some found) f = if is_name found.0 then f found.0 found.1 else refused
 
+abbrev pub element_said : List (List ℕ) → Option (List ℕ × List Token) → Went Said
+element_said names found = with_name found (λ name rest. then_go (content_of names rest) (λ h. leads (element name h)))
+
+abbrev pub attributes_said : Option (List ℕ × List Token) → Went Said
+attributes_said found = with_name found (λ name rest. then_go (attributes_of rest) (λ ds. leads (attributes name ds)))
+
 abbrev pub said_by : List (List ℕ) → Option (List ℕ × List Token) → Went Said
 said_by names None = refused
 said_by names (Some found) =
-    if same found.0 (codes "ELEMENT") then with_name (next_word found.1) (λ name rest. then_go (content_of names rest) (λ h. leads (element name h)))
-    else if same found.0 (codes "ATTLIST") then with_name (next_word found.1) (λ name rest. then_go (attributes_of rest) (λ ds. leads (attributes name ds)))
+    if same found.0 (codes "ELEMENT") then element_said names (next_word found.1)
+    else if same found.0 (codes "ATTLIST") then attributes_said (next_word found.1)
     else if same found.0 (codes "NOTATION") then left_out else refused
 
 -- what the text of a declaration says, where these elements are declared

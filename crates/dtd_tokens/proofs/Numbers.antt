@@ -57,5 +57,5 @@ unfolding digits_length
 no_digits class base opening n bytes digits rest b at long behind is none =
     let k : prefix_len class (drop opening bytes) ≡ n = ap (prefix_len class) (sym at) ∙ sym long in
     let e : head_is (nat_eq 59) (drop (opening + prefix_len class (drop opening bytes)) bytes) ≡ false =
-      ap (λ m. head_is (nat_eq 59) (drop (opening + m) bytes)) k ∙ ap (head_is (nat_eq 59)) (sym behind) ∙ sym is ∙ none in
+    ap (λ m. head_is (nat_eq 59) (drop (opening + m) bytes)) k ∙ ap (head_is (nat_eq 59)) (sym behind) ∙ sym is ∙ none in
     rw e refl

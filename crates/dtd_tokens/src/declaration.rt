@@ -29,13 +29,7 @@ fn setting<'a, 'b>(name: &[u8], tokens: &'b [Token<'a>]) -> Option<Found<'a, 'b>
     ensures { found result ≡ spec.setting name.now (tokens_of tokens.now) }
 {
     match next_word(tokens) {
-        Some((word, others)) => {
-            if word == name {
-                set_to(others)
-            } else {
-                None
-            }
-        }
+        Some((word, others)) => { if word == name { set_to(others) } else { None } }
         None => None,
     }
 }
@@ -55,7 +49,8 @@ fn is_version(tokens: &[Token<'_>]) -> bool
     ensures { result ≡ spec.is_version (spec.setting (codes "version") (tokens_of tokens.now)) (tokens_of tokens.now) }
 {
     match setting(b"version", tokens) {
-        Some((value, others)) => value == b"1.0".as_slice() && (is_end(others) || is_encoding(others)),
+        Some((value, others)) => value == b"1.0".as_slice()
+            && (is_end(others) || is_encoding(others)),
         None => is_encoding(tokens),
     }
 }
