@@ -61,6 +61,11 @@ abbrev pub target_length : List ℕ → ℕ
 target_length bytes =
     if str_eq_ignore_ascii_case (codes "xml") (take (name_length (drop 2 bytes)) (drop 2 bytes)) then 0 else name_length (drop 2 bytes)
 
+abbrev pub instruction_or_reference : List ℕ → Step
+instruction_or_reference bytes =
+    if begins (codes "<?") bytes && nat_lt 0 (target_length bytes) then goes (2 + target_length bytes) behind_target
+    else reference_or bytes refuses
+
 -- a comment, a conditional section (which is left out), another declaration, an instruction, white space, or a reference
 unfoldable pub between_step : List ℕ → Step
 between_step bytes =
@@ -68,8 +73,7 @@ between_step bytes =
     else if begins (codes "<!--") bytes then goes 4 in_comment
     else if begins (codes "<![") bytes then leaves_out
     else if begins (codes "<!") bytes then goes 2 (inside [] false)
-    else if begins (codes "<?") bytes && nat_lt 0 (target_length bytes) then goes (2 + target_length bytes) behind_target
-    else reference_or bytes refuses
+    else instruction_or_reference bytes
 
 -- a comment ends with `-->`, and no other `--` stands in it (2.5)
 unfoldable pub comment_step : List ℕ → Step
@@ -170,15 +174,19 @@ literal_step text quote (b ∷ bytes) = goes 1 (if b == quote then inside (text 
 
 -- In an entity value: a quote from an entity opened behind the first quote is a character as any other (4.4.5); a
 -- character reference is expanded, and a general entity reference stays as it is (4.4.7 and 4.5).
+abbrev pub value_else : Entity → ℕ → List ℕ → ℕ → ℕ → List ℕ → Step
+value_else entity quote value depth b bytes =
+    if b == 38 then (if nat_lt 0 (entity_length bytes) then goes 1 (in_value entity quote (value ++ b ∷ []) depth) else refuses)
+    else if b == 37 then reference_or bytes refuses
+    else goes 1 (in_value entity quote (value ++ b ∷ []) depth)
+
 unfoldable pub value_step : Entity → ℕ → List ℕ → ℕ → List ℕ → Step
 value_step entity quote value depth [] = refuses
 value_step entity quote value depth (b ∷ bytes) =
     if b == quote && depth == 0 then goes 1 (behind_value entity value)
     else if nat_lt 0 (character_length (b ∷ bytes))
     then goes (character_length (b ∷ bytes)) (in_value entity quote (value ++ encode_utf8 (character_number (b ∷ bytes))) depth)
-    else if b == 38
-    then (if nat_lt 0 (entity_length (b ∷ bytes)) then goes 1 (in_value entity quote (value ++ b ∷ []) depth) else refuses)
-    else reference_or (b ∷ bytes) (if b == 37 then refuses else goes 1 (in_value entity quote (value ++ b ∷ []) depth))
+    else value_else entity quote value depth b (b ∷ bytes)
 
 -- the value of a general entity that is left out holds `<`, or a reference to another entity
 abbrev pub declares_value : Entity → List ℕ → Step

@@ -1,7 +1,7 @@
 -- What the tokens of the code stand for.
-use Rattle.std.specs.Prelude.{ℕ, List, map, Option, Some, None, Bool, false, [], ◌∷◌}
+use Rattle.std.specs.Prelude.{ℕ, List, map, Option, Some, None}
 use Rattle.std.specs.Borrow.{Bor}
-use Rattle.dtd_texts.specs.Tokens.{Token, gap, word, literal, opening, closing, bar, comma, question, star, plus, hash, percent, equals, other, is_percent}
+use Rattle.dtd_texts.specs.Tokens.{Token, gap, word, literal, opening, closing, bar, comma, question, star, plus, hash, percent, equals, other}
 use Rattle.dtd_tokens.specs.declared.token.Token.{Token as CodeToken}
 use Rattle.dtd_tokens.specs.declared.token.Token.TheVariants.{Gap, Word, Literal, Opening, Closing, Bar, Comma, Question, Star, Plus, Hash, Percent, Equals, Other}
 
@@ -36,7 +36,3 @@ maybe_tokens (Some ts) = Some (tokens_of ts.now)
 abbrev pub found : Option (Bor (List ℕ) × Bor (List CodeToken)) → Option (List ℕ × List Token)
 found None = None
 found (Some x) = Some (x.0.now, tokens_of x.1.now)
-
-abbrev pub head_is_percent : List Token → Bool
-head_is_percent [] = false
-head_is_percent (t ∷ ts) = is_percent t

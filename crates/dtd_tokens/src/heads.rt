@@ -2,7 +2,7 @@
 
 ghost use Rattle.std.specs.Prelude.{◌≡◌, ℕ, List, Option};
 ghost use Rattle.dtd_texts.specs.Tokens as spec;
-ghost use Rattle.dtd_tokens.specs.Views.{token_of, tokens_of, maybe_text, maybe_tokens, found, head_is_percent};
+ghost use Rattle.dtd_tokens.specs.Views.{token_of, tokens_of, maybe_text, maybe_tokens, found};
 
 use crate::token::Token;
 
@@ -18,7 +18,8 @@ fn is_gap(token: &Token<'_>) -> bool
     }
 }
 
-fn is_percent_sign(token: &Token<'_>) -> bool
+/// Whether the token is a percent sign.
+pub fn is_percent_sign(token: &Token<'_>) -> bool
     ensures { result ≡ spec.is_percent (token_of token.now) }
 {
     match token {
@@ -124,16 +125,6 @@ pub fn next_literal<'a, 'b>(tokens: &'b [Token<'a>]) -> Option<Found<'a, 'b>>
     match behind_gap(tokens) {
         Some(others) => first_literal(others),
         None => None,
-    }
-}
-
-/// Whether a percent sign stands at the head.
-pub fn head_is_percent(tokens: &[Token<'_>]) -> bool
-    ensures { result ≡ head_is_percent (tokens_of tokens.now) }
-{
-    match tokens.split_first() {
-        Some((first, _)) => is_percent_sign(first),
-        None => false,
     }
 }
 

@@ -12,7 +12,7 @@ mod tokens;
 
 pub use declaration::behind_declaration;
 pub use heads::{
-    Found, are_none, behind_gap, first_literal, first_word, head_is_percent, is_end, next_literal,
+    Found, are_none, behind_gap, first_literal, first_word, is_end, is_percent_sign, next_literal,
     next_word,
 };
 pub use references::{
