@@ -8,3 +8,6 @@ mod entity;
 mod parameters;
 mod places;
 mod state;
+
+pub use parameters::source_of;
+pub use state::{Mode, Move, Reading, Source, Written};

@@ -17,6 +17,7 @@ use dtd_tokens::{
     begins, behind, character, entity_length, front, head_is_blank, is_plain_value, is_quote,
     name_length, reference_length, same_letters, tokens_of,
 };
+use indexmap::{IndexMap, IndexSet};
 use std::alloc::Global;
 use std::mem;
 use text_base::{Bytes, NoMemory};
@@ -45,6 +46,26 @@ fn target_length(bytes: &[u8]) -> usize
 }
 
 impl Reading {
+    /// Before all text. Takes no memory.
+    pub fn new(alloc: Global) -> Reading
+        ensures { state_of result ≡ spec.start }
+    {
+        Reading {
+            mode: Mode::Between,
+            text: Bytes::new(alloc),
+            is_parameter: true,
+            name: Bytes::new(alloc),
+            quote: 0,
+            depth: 0,
+            parameters: IndexMap::new(alloc),
+            generals: IndexSet::new(alloc),
+            written: Vec::new(alloc),
+            length: 0,
+            begun: 0,
+            references: 0,
+        }
+    }
+
     // So many bytes more.
     fn count(&mut self, n: usize)
         requires small { self.old.length < 2 ^ 32 }

@@ -3,10 +3,7 @@
 //! words of XML 1.0; the functions here do nothing, and each stands for the law that its contract
 //! states. Below stand xml_text, io_edge and dtd_model.
 #![tactic(auto)]
-<<<<<<< HEAD
 
 mod laws;
 
 pub use laws::{never_larger, nothing_missing, nothing_refused, one_reading};
-=======
->>>>>>> 5485ad7 (Declarations of elements and attributes are read by their tokens)
