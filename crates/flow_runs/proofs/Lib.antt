@@ -13,3 +13,6 @@ mod Blocks
 mod Loops
 mod Stmts
 mod Program
+mod FitCodes
+mod FitBuiltins
+mod FitWrites

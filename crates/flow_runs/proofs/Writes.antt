@@ -106,7 +106,7 @@ unfolding source_value
 member_value r f y None v mid e h = ap Ok (sym h)
 member_value r f y (Some k) v mid e h = ap (λ v. subscript_of v (key_value f k)) e ∙ h
 
-members_long : (x : ℕ) (ks : Keys) (p t : ℕ) → length (members_along x ks p t) ≡ length ks
+pub members_long : (x : ℕ) (ks : Keys) (p t : ℕ) → length (members_along x ks p t) ≡ length ks
 unfolding members_along
 members_long x [] p t = refl
 members_long x (k ∷ ks) p t = let e = members_long t ks (p + 1) (t + 1) in omega (arith, e)
