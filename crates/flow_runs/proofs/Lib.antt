@@ -16,3 +16,5 @@ mod Program
 mod FitCodes
 mod FitBuiltins
 mod FitWrites
+mod FitTrees
+mod FitBlocks

@@ -37,12 +37,12 @@ read_items f items = map (item_value f) items
 abbrev read_item : Slots → Option PlainKeyRef × ℕ → Option Plain × Plain
 read_item f item = item_value f item
 
-codes_count : (w : Scope) (es : PlainExprs) (t : ℕ) → length ((codes w es).gives t) ≡ number_of es
+pub codes_count : (w : Scope) (es : PlainExprs) (t : ℕ) → length ((codes w es).gives t) ≡ number_of es
 unfolding code number_of
 codes_count w no_exprs t = refl
 codes_count w (more_exprs e es) t = let h = codes_count w es (t + (code w e).slots) in omega (arith, h)
 
-path_count : (w : Scope) (ks : PlainPath) (t : ℕ) → length ((path_code w ks).gives t) ≡ length_of_path ks
+pub path_count : (w : Scope) (ks : PlainPath) (t : ℕ) → length ((path_code w ks).gives t) ≡ length_of_path ks
 unfolding code length_of_path
 path_count w no_keys t = refl
 path_count w (more_keys k ks) t = let h = path_count w ks (t + (maybe_key w k).slots) in omega (arith, h)
