@@ -1,20 +1,18 @@
 -- The points of statements, and of whole functions and programs, are of their form.
-use Rattle.std.proofs.Common.{◌≡◌, ℕ, zero, suc, ◌+◌, ◌<◌, ◌≤◌, List, [], ◌∷◌, ◌++◌, length, length-append, Some, None, Option, refl, sym, ap, ◌∙◌, subst, arith, Bool, true, false, All, map, slice_get}
-use Rattle.std.specs.List.{AllByRecursion}
+use Rattle.std.proofs.Common.{◌≡◌, ℕ, ◌+◌, ◌<◌, ◌≤◌, List, [], ◌∷◌, ◌++◌, Some, None, Option, refl, ap, arith}
 use Rattle.std.proofs.lemmas.List.Elements.{All-from_recursion}
-use Rattle.php_syntax.specs.Trees.{PlainExpr, MaybeExpr, no_expr, some_expr, PlainExprs, no_exprs, more_exprs, PlainStmt, inline_stmt, echo_stmt, run_stmt, if_stmt, while_stmt, do_while_stmt, for_stmt, each_stmt, break_stmt, continue_stmt, return_stmt, include_stmt, quit_stmt, PlainStmts, no_stmts, more_stmts, PlainArms, no_arms, more_arms, PlainParam, PlainFunction}
+use Rattle.php_syntax.specs.Trees.{MaybeExpr, no_expr, some_expr, PlainExprs, no_exprs, more_exprs, PlainStmt, inline_stmt, echo_stmt, run_stmt, if_stmt, while_stmt, do_while_stmt, for_stmt, each_stmt, break_stmt, continue_stmt, return_stmt, include_stmt, quit_stmt, PlainStmts, no_stmts, more_stmts, PlainArms, no_arms, more_arms}
 use Rattle.plain_values.specs.Plain.{null}
-use Rattle.flow_code.specs.Points.{literal_source, PlainPoint, set_point, print_point, echo_point, branch_point, jump_point, begin_point, next_point, key_point, value_point, return_point, quit_point, PlainFlowFunction}
+use Rattle.flow_code.specs.Points.{PlainPoint, print_point, echo_point, jump_point, begin_point, next_point, key_point, value_point, return_point, quit_point, PlainFlowFunction}
 use Rattle.flow_code.specs.Variables.{Name, names_in, maybe_names, names_in_all, key_names, names_of_stmt, names_of, names_of_arms}
-use Rattle.flow_code.specs.Code.{Code, known, no_code, Targets, Block, no_block, ◌before◌, run_code, ending}
-use Rattle.flow_code.specs.Expressions.{Scope, variable, code, codes, number_of}
+use Rattle.flow_code.specs.Code.{Code, no_code, Targets, Block, no_block, ◌before◌, run_code, ending}
+use Rattle.flow_code.specs.Expressions.{Scope, variable}
 use Rattle.flow_code.specs.Statements.{either, Test, test_of, test_code, looping, repeating, pair_points, pair_size, walking, key_variable, echo_block, return_block, quit_block, stmt_block, block, arms_block}
 use Rattle.flow_code.specs.Lawful.{reads, sets, nexts, IsOwnSlot, IsOwnPoint, PointFits}
 use Rattle.flow_runs.specs.Fits.{ExprFits, MaybeFits, ExprsFit, StmtFits, StmtsFit, ArmsFit}
 use Rattle.flow_runs.proofs.Frames.{free}
 use Rattle.flow_runs.proofs.Names.{Has, HasAll, all_front, all_back}
-use Rattle.flow_runs.proofs.FitCodes.{AllOwn, AllFit, all_both, Lies, last_slot, last_point, CodeFits, own_temporary, own_variable, own_point, some_own, branch_fits}
-use Rattle.flow_runs.proofs.FitWrites.{SlotsAre, null_is}
+use Rattle.flow_runs.proofs.FitCodes.{AllFit, all_both, Lies, last_slot, last_point, CodeFits, own_temporary, own_variable, own_point, some_own, branch_fits}
 use Rattle.flow_runs.proofs.FitTrees.{Callees, fits_literal, null_literal, expr_fits, exprs_fit}
 
 none_own : (g : PlainFlowFunction) (y : ℕ) → None ≡ Some y → IsOwnSlot g y
@@ -103,11 +101,13 @@ module _ {fs : List PlainFlowFunction} {g : PlainFlowFunction} {w : Scope} where
     fits = λ to p t hs ha lp up lt ut.
         let first = p + a.size + 1 in
         let second = first + one.size + 1 in
-        all_both (PointFits fs g) _ _ (d.fits p t lp (omega (arith, up)) lt (omega (arith, ut)))
-        (branch_fits (a.gives t) first second (d.gives t lt (omega (arith, ut))) (own_point first (omega (arith, lp)) (omega (arith, up))) (own_point second (omega (arith, lp)) (omega (arith, up))),
-        all_both (PointFits fs g) _ _ (e.fits to first (t + a.slots) hs ha (omega (arith, lp)) (omega (arith, up)) (omega (arith, lt)) (omega (arith, ut)))
-        (jump_fits (second + other.size) (own_point (second + other.size) (omega (arith, lp)) (omega (arith, up))),
-        k.fits to second (t + a.slots + one.slots) hs ha (omega (arith, lp)) (omega (arith, up)) (omega (arith, lt)) (omega (arith, ut))));
+        all_both (PointFits fs g) _ _ (d.fits p t lp (omega (arith, up)) lt (omega (arith, ut))) (
+          branch_fits (a.gives t) first second (d.gives t lt (omega (arith, ut))) (own_point first (omega (arith, lp)) (omega (arith, up))) (own_point second (omega (arith, lp)) (omega (arith, up))),
+          all_both (PointFits fs g) _ _ (e.fits to first (t + a.slots) hs ha (omega (arith, lp)) (omega (arith, up)) (omega (arith, lt)) (omega (arith, ut))) (
+            jump_fits (second + other.size) (own_point (second + other.size) (omega (arith, lp)) (omega (arith, up))),
+            k.fits to second (t + a.slots + one.slots) hs ha (omega (arith, lp)) (omega (arith, up)) (omega (arith, lt)) (omega (arith, ut)),
+          ),
+        );
   }
 
   fits_test : {a : Code ℕ} → CodeFits fs g w ℕ a (IsOwnSlot g) → TestFits fs g w (test_of a)
@@ -153,12 +153,15 @@ module _ {fs : List PlainFlowFunction} {g : PlainFlowFunction} {w : Scope} where
           let own_walk = own_temporary lies walk (omega (arith, lt)) (omega (arith, ut)) in
           let own_stop = own_point {g = g} stop (omega (arith, lp)) (omega (arith, up)) in
           let own_again = own_point {g = g} again (omega (arith, lp)) (omega (arith, up)) in
-          all_both (PointFits fs g) _ _ (d.fits p t lp (omega (arith, up)) lt (omega (arith, ut)))
-          (begin_fits walk (a.gives t) again own_walk (d.gives t lt (omega (arith, ut))) own_again,
-          (next_fits walk (again + 1) stop own_walk (own_point (again + 1) (omega (arith, lp)) (omega (arith, up))) own_stop,
-          all_both (PointFits fs g) _ _ (pairs_fit fs g w lies key x walk (again + 1) hk hx own_walk (own_point (again + 1 + 1) (omega (arith, lp)) (omega (arith, up, some))) (λ key' same. let two = size_two w key key' same in own_point (again + 1 + 2) (omega (arith, lp)) (omega (arith, up, two))))
-          (all_both (PointFits fs g) _ _ (e.fits (record { stop = stop; again = again }) inside (walk + 1) own_stop own_again (omega (arith, lp)) (omega (arith, up)) (omega (arith, lt)) (omega (arith, ut)))
-          (jump_fits again own_again, tt))));
+          all_both (PointFits fs g) _ _ (d.fits p t lp (omega (arith, up)) lt (omega (arith, ut))) (
+            begin_fits walk (a.gives t) again own_walk (d.gives t lt (omega (arith, ut))) own_again,
+            (
+              next_fits walk (again + 1) stop own_walk (own_point (again + 1) (omega (arith, lp)) (omega (arith, up))) own_stop,
+              all_both (PointFits fs g) _ _ (pairs_fit fs g w lies key x walk (again + 1) hk hx own_walk (own_point (again + 1 + 1) (omega (arith, lp)) (omega (arith, up, some))) (λ key' same. let two = size_two w key key' same in own_point (again + 1 + 2) (omega (arith, lp)) (omega (arith, up, two))))
+                  (all_both (PointFits fs g) _ _ (e.fits (record { stop = stop; again = again }) inside (walk + 1) own_stop own_again (omega (arith, lp)) (omega (arith, up)) (omega (arith, lt)) (omega (arith, ut)))
+                  (jump_fits again own_again, tt)),
+            ),
+          );
     }
 
     module _ (callees : Callees fs w.functions) where

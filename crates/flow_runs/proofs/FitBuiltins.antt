@@ -1,5 +1,5 @@
 -- The source of a call of one of PHP's functions is of its form.
-use Rattle.std.proofs.Common.{◌≡◌, ℕ, ℤ, ◌+◌, ◌≤◌, List, [], ◌∷◌, length, refl, arith, Bool, true, false, Option, Some, None}
+use Rattle.std.proofs.Common.{◌≡◌, ℕ, ℤ, ◌≤◌, List, [], ◌∷◌, length, refl, arith, Bool, true, false, Option, Some, None}
 use Rattle.std.specs.Prelude.{if◌then◌else◌, ◌&&◌}
 use Rattle.php_syntax.specs.Trees.{PlainExpr, text_expr, PlainExprs, no_exprs, more_exprs}
 use Rattle.builtin_meaning.specs.declared.builtin.Builtin.{Builtin}

@@ -1,18 +1,14 @@
 -- The points of pieces of code are of their form.
-use Rattle.std.proofs.Common.{◌≡◌, ℕ, zero, suc, ◌+◌, ◌<◌, ◌≤◌, List, [], ◌∷◌, ◌++◌, length, Some, None, Option, refl, sym, ap, ◌∙◌, subst, arith, Bool, true, false, All, flat_map}
+use Rattle.std.proofs.Common.{◌≡◌, ℕ, ◌+◌, ◌<◌, ◌≤◌, List, [], ◌∷◌, ◌++◌, length, Some, subst, arith}
 use Rattle.std.specs.List.{AllByRecursion}
-use Rattle.std.proofs.lemmas.List.Elements.{All-from_recursion, recursion_from_All}
-use Rattle.plain_values.specs.Plain.{Plain, null}
-use Rattle.php_syntax.specs.declared.tree.UpdateSign.{UpdateSign}
-use Rattle.php_syntax.specs.declared.tree.UpdateSign.TheVariants as update
+use Rattle.std.proofs.lemmas.List.Elements.{All-from_recursion}
 use Rattle.flow_code.specs.declared.source.Work.TheVariants as work
-use Rattle.php_syntax.specs.declared.tree.ArithSign.TheVariants.{Add, Sub, Mul, Rem}
-use Rattle.flow_code.specs.Points.{PlainKeyRef, PlainSource, literal_source, copy_source, member_source, put_source, concat_source, number_source, truth_source, PlainPoint, set_point, branch_point, PlainFlowFunction}
+use Rattle.flow_code.specs.Points.{PlainSource, copy_source, truth_source, PlainPoint, set_point, branch_point, PlainFlowFunction}
 use Rattle.flow_code.specs.Variables.{Name}
 use Rattle.flow_code.specs.Code.{Code, known, left, both, computed}
-use Rattle.flow_code.specs.Expressions.{Scope, variable, both_true, one_true, first_there, chosen, chosen_itself, written, stored, member_at, members_along, old_value, updating, updated_at, filled, update_code, step_code, step_work}
-use Rattle.flow_code.specs.Lawful.{maybe_key_slots, source_reads, reads, sets, nexts, IsOwnSlot, IsOwnPoint, IsMaybeKey, IsLiteral, SourceFits, CallFits, PointFits, GivesTruth, GivesNumber, arithmetic, up, down, not_null, as_truth}
-use Rattle.flow_runs.proofs.Frames.{free, is_variable}
+use Rattle.flow_code.specs.Expressions.{Scope, variable, both_true, one_true, first_there, chosen, chosen_itself}
+use Rattle.flow_code.specs.Lawful.{source_reads, reads, sets, nexts, IsOwnSlot, IsOwnPoint, SourceFits, PointFits, not_null, as_truth}
+use Rattle.flow_runs.proofs.Frames.{free}
 use Rattle.flow_runs.proofs.Names.{Has}
 
 abbrev pub AllOwn : PlainFlowFunction → List ℕ → Type 0
@@ -118,10 +114,11 @@ module _ {fs : List PlainFlowFunction} {g : PlainFlowFunction} {w : Scope} where
           let own_b = e.gives (t + a.slots) (omega (arith, lt)) (omega (arith, ut)) in
           let own_result = own_temporary lies result (omega (arith, lt)) (omega (arith, ut)) in
           let behind = own_point {g = g} (left + 1) (omega (arith, lp)) (omega (arith, up)) in
-          all_both (PointFits fs g) _ _ (d.fits p t lp (omega (arith, up)) lt (omega (arith, ut)))
-          (branch_fits (a.gives t) right left own_a (own_point right (omega (arith, lp)) (omega (arith, up))) (own_point left (omega (arith, lp)) (omega (arith, up))),
-          all_both (PointFits fs g) _ _ (e.fits right (t + a.slots) (omega (arith, lp)) (omega (arith, up)) (omega (arith, lt)) (omega (arith, ut)))
-          (set_fits result (left + 1) _ own_result (truth_is g _ own_b) behind, (set_fits result (left + 1) _ own_result (truth_is g _ own_a) behind, tt)));
+          all_both (PointFits fs g) _ _ (d.fits p t lp (omega (arith, up)) lt (omega (arith, ut))) (
+            branch_fits (a.gives t) right left own_a (own_point right (omega (arith, lp)) (omega (arith, up))) (own_point left (omega (arith, lp)) (omega (arith, up))),
+            all_both (PointFits fs g) _ _ (e.fits right (t + a.slots) (omega (arith, lp)) (omega (arith, up)) (omega (arith, lt)) (omega (arith, ut)))
+                (set_fits result (left + 1) _ own_result (truth_is g _ own_b) behind, (set_fits result (left + 1) _ own_result (truth_is g _ own_a) behind, tt)),
+          );
       gives = λ t lt ut. own_temporary lies (t + a.slots + b.slots) (omega (arith, lt)) (omega (arith, ut));
     }
 
@@ -135,10 +132,11 @@ module _ {fs : List PlainFlowFunction} {g : PlainFlowFunction} {w : Scope} where
           let own_b = e.gives (t + a.slots) (omega (arith, lt)) (omega (arith, ut)) in
           let own_result = own_temporary lies result (omega (arith, lt)) (omega (arith, ut)) in
           let behind = own_point {g = g} (left + 1) (omega (arith, lp)) (omega (arith, up)) in
-          all_both (PointFits fs g) _ _ (d.fits p t lp (omega (arith, up)) lt (omega (arith, ut)))
-          (branch_fits (a.gives t) left right own_a (own_point left (omega (arith, lp)) (omega (arith, up))) (own_point right (omega (arith, lp)) (omega (arith, up))),
-          all_both (PointFits fs g) _ _ (e.fits right (t + a.slots) (omega (arith, lp)) (omega (arith, up)) (omega (arith, lt)) (omega (arith, ut)))
-          (set_fits result (left + 1) _ own_result (truth_is g _ own_b) behind, (set_fits result (left + 1) _ own_result (truth_is g _ own_a) behind, tt)));
+          all_both (PointFits fs g) _ _ (d.fits p t lp (omega (arith, up)) lt (omega (arith, ut))) (
+            branch_fits (a.gives t) left right own_a (own_point left (omega (arith, lp)) (omega (arith, up))) (own_point right (omega (arith, lp)) (omega (arith, up))),
+            all_both (PointFits fs g) _ _ (e.fits right (t + a.slots) (omega (arith, lp)) (omega (arith, up)) (omega (arith, lt)) (omega (arith, ut)))
+                (set_fits result (left + 1) _ own_result (truth_is g _ own_b) behind, (set_fits result (left + 1) _ own_result (truth_is g _ own_a) behind, tt)),
+          );
       gives = λ t lt ut. own_temporary lies (t + a.slots + b.slots) (omega (arith, lt)) (omega (arith, ut));
     }
 
@@ -154,12 +152,17 @@ module _ {fs : List PlainFlowFunction} {g : PlainFlowFunction} {w : Scope} where
           let own_test = own_temporary lies test (omega (arith, lt)) (omega (arith, ut)) in
           let own_result = own_temporary lies result (omega (arith, lt)) (omega (arith, ut)) in
           let behind = own_point {g = g} end (omega (arith, lp)) (omega (arith, up)) in
-          all_both (PointFits fs g) _ _ (d.fits p t lp (omega (arith, up)) lt (omega (arith, ut)))
-          (set_fits test _ _ own_test (present_is g _ own_a) (own_point (p + a.size + 1) (omega (arith, lp)) (omega (arith, up))),
-          (branch_fits test left (left + 1) own_test (own_point left (omega (arith, lp)) (omega (arith, up))) (own_point (left + 1) (omega (arith, lp)) (omega (arith, up))),
-          (set_fits result end _ own_result (copy_is g _ own_a) behind,
-          all_both (PointFits fs g) _ _ (e.fits (left + 1) (test + 1) (omega (arith, lp)) (omega (arith, up)) (omega (arith, lt)) (omega (arith, ut)))
-          (set_fits result end _ own_result (copy_is g _ own_b) behind, tt))));
+          all_both (PointFits fs g) _ _ (d.fits p t lp (omega (arith, up)) lt (omega (arith, ut))) (
+            set_fits test _ _ own_test (present_is g _ own_a) (own_point (p + a.size + 1) (omega (arith, lp)) (omega (arith, up))),
+            (
+              branch_fits test left (left + 1) own_test (own_point left (omega (arith, lp)) (omega (arith, up))) (own_point (left + 1) (omega (arith, lp)) (omega (arith, up))),
+              (
+                set_fits result end _ own_result (copy_is g _ own_a) behind,
+                all_both (PointFits fs g) _ _ (e.fits (left + 1) (test + 1) (omega (arith, lp)) (omega (arith, up)) (omega (arith, lt)) (omega (arith, ut)))
+                    (set_fits result end _ own_result (copy_is g _ own_b) behind, tt),
+              ),
+            ),
+          );
       gives = λ t lt ut. own_temporary lies (t + a.slots + 1 + b.slots) (omega (arith, lt)) (omega (arith, ut));
     }
 
@@ -175,12 +178,14 @@ module _ {fs : List PlainFlowFunction} {g : PlainFlowFunction} {w : Scope} where
           let own_b = e.gives (t + c.slots + a.slots) (omega (arith, lt)) (omega (arith, ut)) in
           let own_result = own_temporary lies result (omega (arith, lt)) (omega (arith, ut)) in
           let behind = own_point {g = g} end (omega (arith, lp)) (omega (arith, up)) in
-          all_both (PointFits fs g) _ _ (k.fits p t lp (omega (arith, up)) lt (omega (arith, ut)))
-          (branch_fits (c.gives t) first second own_c (own_point first (omega (arith, lp)) (omega (arith, up))) (own_point second (omega (arith, lp)) (omega (arith, up))),
-          all_both (PointFits fs g) _ _ (d.fits first (t + c.slots) (omega (arith, lp)) (omega (arith, up)) (omega (arith, lt)) (omega (arith, ut)))
-          (set_fits result end _ own_result (copy_is g _ own_a) behind,
-          all_both (PointFits fs g) _ _ (e.fits second (t + c.slots + a.slots) (omega (arith, lp)) (omega (arith, up)) (omega (arith, lt)) (omega (arith, ut)))
-          (set_fits result end _ own_result (copy_is g _ own_b) behind, tt)));
+          all_both (PointFits fs g) _ _ (k.fits p t lp (omega (arith, up)) lt (omega (arith, ut))) (
+            branch_fits (c.gives t) first second own_c (own_point first (omega (arith, lp)) (omega (arith, up))) (own_point second (omega (arith, lp)) (omega (arith, up))),
+            all_both (PointFits fs g) _ _ (d.fits first (t + c.slots) (omega (arith, lp)) (omega (arith, up)) (omega (arith, lt)) (omega (arith, ut))) (
+              set_fits result end _ own_result (copy_is g _ own_a) behind,
+              all_both (PointFits fs g) _ _ (e.fits second (t + c.slots + a.slots) (omega (arith, lp)) (omega (arith, up)) (omega (arith, lt)) (omega (arith, ut)))
+                  (set_fits result end _ own_result (copy_is g _ own_b) behind, tt),
+            ),
+          );
       gives = λ t lt ut. own_temporary lies (t + c.slots + a.slots + b.slots) (omega (arith, lt)) (omega (arith, ut));
     }
 
@@ -195,10 +200,13 @@ module _ {fs : List PlainFlowFunction} {g : PlainFlowFunction} {w : Scope} where
           let own_b = e.gives (t + c.slots) (omega (arith, lt)) (omega (arith, ut)) in
           let own_result = own_temporary lies result (omega (arith, lt)) (omega (arith, ut)) in
           let behind = own_point {g = g} end (omega (arith, lp)) (omega (arith, up)) in
-          all_both (PointFits fs g) _ _ (k.fits p t lp (omega (arith, up)) lt (omega (arith, ut)))
-          (branch_fits (c.gives t) first second own_c (own_point first (omega (arith, lp)) (omega (arith, up))) (own_point second (omega (arith, lp)) (omega (arith, up))),
-          (set_fits result end _ own_result (copy_is g _ own_c) behind,
-          all_both (PointFits fs g) _ _ (e.fits second (t + c.slots) (omega (arith, lp)) (omega (arith, up)) (omega (arith, lt)) (omega (arith, ut)))
-          (set_fits result end _ own_result (copy_is g _ own_b) behind, tt)));
+          all_both (PointFits fs g) _ _ (k.fits p t lp (omega (arith, up)) lt (omega (arith, ut))) (
+            branch_fits (c.gives t) first second own_c (own_point first (omega (arith, lp)) (omega (arith, up))) (own_point second (omega (arith, lp)) (omega (arith, up))),
+            (
+              set_fits result end _ own_result (copy_is g _ own_c) behind,
+              all_both (PointFits fs g) _ _ (e.fits second (t + c.slots) (omega (arith, lp)) (omega (arith, up)) (omega (arith, lt)) (omega (arith, ut)))
+                  (set_fits result end _ own_result (copy_is g _ own_b) behind, tt),
+            ),
+          );
       gives = λ t lt ut. own_temporary lies (t + c.slots + b.slots) (omega (arith, lt)) (omega (arith, ut));
     }

@@ -1,24 +1,23 @@
 -- The points of an expression are of their form.
-use Rattle.std.proofs.Common.{◌≡◌, ℕ, zero, suc, ◌+◌, ◌≤◌, List, [], ◌∷◌, ◌++◌, length, Some, None, Option, refl, sym, ap, ◌∙◌, arith, Bool, true, false, All, drop, flat_map, slice_get}
+use Rattle.std.proofs.Common.{◌≡◌, ℕ, zero, suc, ◌≤◌, List, [], ◌∷◌, ◌++◌, length, Some, None, Option, refl, arith, Bool, true, drop, flat_map, slice_get}
 use Rattle.std.specs.List.{AllByRecursion}
 use Rattle.std.proofs.lemmas.List.Elements.{All-from_recursion}
 use Rattle.php_syntax.specs.Trees.{PlainExpr, null_expr, flag_expr, int_expr, text_expr, var_expr, super_expr, member_expr, array_expr, join_expr, neg_expr, not_expr, arith_expr, compare_expr, and_expr, or_expr, coalesce_expr, choice_expr, isset_expr, empty_expr, assign_expr, update_expr, step_expr, call_expr, MaybeExpr, no_expr, some_expr, PlainExprs, no_exprs, more_exprs, PlainItems, no_items, more_items, PlainPath, no_keys, more_keys, PlainParam, PlainFunction}
 use Rattle.plain_values.specs.Plain.{Plain, null, flag, int, text}
 use Rattle.plain_values.specs.Numeric.{is_in_range}
-use Rattle.plain_values.specs.Lawful.{IsValue}
 use Rattle.builtin_meaning.specs.declared.builtin.Builtin.{Builtin}
 use Rattle.builtin_meaning.specs.Names.{builtin_named}
 use Rattle.script_meaning.specs.Programs.{literal_value}
 use Rattle.flow_code.specs.declared.source.Work.TheVariants as work
 use Rattle.flow_code.specs.Points.{PlainKeyRef, int_ref, text_ref, read_ref, PlainSource, literal_source, copy_source, super_source, member_source, array_source, concat_source, number_source, truth_source, PlainFlowFunction}
 use Rattle.flow_code.specs.Variables.{Name, names_in, maybe_names, names_in_all, item_names, path_names}
-use Rattle.flow_code.specs.Code.{Code, known, both, computed, from_source}
+use Rattle.flow_code.specs.Code.{Code, both, computed, from_source}
 use Rattle.flow_code.specs.Expressions.{Scope, variable, function_in, literal, default_code, default_codes, code, codes, maybe_key, path_code, items_code, key_code, call_code, call_own, number_of, length_of_path}
 use Rattle.flow_code.specs.Builtins.{builtin_source}
 use Rattle.flow_code.specs.Lawful.{key_slots, maybe_key_slots, item_slots, source_reads, IsOwnSlot, IsKeyLiteral, IsItemKey, IsLiteral, arithmetic, comparison, negation, isset, empty}
 use Rattle.flow_runs.specs.Fits.{CallFits, ExprFits, MaybeFits, ExprsFit, ItemsFit, PathFits, ParamsFit}
-use Rattle.flow_runs.proofs.Names.{Has, HasAll, all_front, all_back}
-use Rattle.flow_runs.proofs.Trees.{codes_count, path_count}
+use Rattle.flow_runs.proofs.Names.{HasAll, all_front, all_back}
+use Rattle.flow_runs.proofs.Trees.{path_count}
 use Rattle.flow_runs.proofs.FitCodes.{AllOwn, SourceIs, all_both, Lies, CodeFits, own_variable, copy_is, fits_known, fits_left, fits_both, fits_computed, fits_and, fits_or, fits_first_there, fits_chosen, fits_chosen_itself}
 use Rattle.flow_runs.proofs.FitBuiltins.{call_is}
 use Rattle.flow_runs.proofs.FitWrites.{KeyIs, KeysAre, WriteIs, keys_more, null_is, SlotsAre, fits_stored, fits_update, fits_step, fits_called}

@@ -1,20 +1,20 @@
 -- The points of writes and of calls are of their form.
-use Rattle.std.proofs.Common.{◌≡◌, ◌≢◌, ℕ, zero, suc, ◌+◌, ◌<◌, ◌≤◌, List, [], ◌∷◌, ◌++◌, length, Some, None, Option, refl, sym, ap, ◌∙◌, subst, arith, Bool, true, false, All, take, drop, flat_map, slice_get}
+use Rattle.std.proofs.Common.{◌≡◌, ℕ, zero, suc, ◌+◌, ◌<◌, ◌≤◌, List, [], ◌∷◌, ◌++◌, length, Some, None, Option, sym, ap, ◌∙◌, arith, Bool, true, false, take, drop, flat_map, slice_get}
 use Rattle.std.specs.List.{AllByRecursion}
 use Rattle.std.proofs.lemmas.List.Elements.{All-from_recursion}
-use Rattle.plain_values.specs.Plain.{Plain, null}
+use Rattle.plain_values.specs.Plain.{null}
 use Rattle.plain_values.specs.Lawful.{IsValue}
 use Rattle.php_syntax.specs.declared.tree.UpdateSign.{UpdateSign}
 use Rattle.php_syntax.specs.declared.tree.UpdateSign.TheVariants as update
 use Rattle.php_syntax.specs.declared.tree.ArithSign.TheVariants.{Add, Sub, Mul, Rem}
-use Rattle.flow_code.specs.Points.{PlainKeyRef, int_ref, text_ref, read_ref, PlainSource, literal_source, copy_source, number_source, PlainPoint, set_point, call_point, PlainFlowFunction}
+use Rattle.flow_code.specs.Points.{PlainKeyRef, literal_source, number_source, call_point, PlainFlowFunction}
 use Rattle.flow_code.specs.Variables.{Name}
 use Rattle.flow_code.specs.Code.{Code, both}
 use Rattle.flow_code.specs.Expressions.{Scope, variable, written, stored, member_at, members_along, old_value, updating, updated_at, filled, update_code, step_code, step_work, called}
 use Rattle.flow_code.specs.Lawful.{maybe_key_slots, source_reads, reads, sets, nexts, IsOwnSlot, IsOwnPoint, IsMaybeKey, PointFits, arithmetic, up as step_up, down as step_down}
 use Rattle.flow_runs.proofs.Frames.{free}
 use Rattle.flow_runs.proofs.Names.{Has}
-use Rattle.flow_runs.proofs.Writes.{Keys, members_long}
+use Rattle.flow_runs.proofs.Writes.{Keys}
 use Rattle.flow_runs.proofs.FitCodes.{AllOwn, AllFit, SourceIs, all_both, Lies, last_slot, last_point, CodeFits, own_temporary, own_variable, own_point, some_own, set_fits, branch_fits, copy_is, present_is, fits_both}
 
 -- a key, and the keys of a path
@@ -95,9 +95,10 @@ members_fit : (fs : List PlainFlowFunction) (g : PlainFlowFunction) (w : Scope) 
 unfolding members_along
 members_fit fs g w lies [] x p t hs hx lp up lt ut = tt
 members_fit fs g w lies (k ∷ ks) x p t hs hx lp up lt ut =
-    let own = own_temporary lies t lt (omega (arith, ut)) in
-    (set_fits t (p + 1) (member_at x k) own (member_is g x k hx hs.0) (own_point (p + 1) (omega (arith, lp)) (omega (arith, up))),
-    members_fit fs g w lies ks t (p + 1) (t + 1) hs.1 own (omega (arith, lp)) (omega (arith, up)) (omega (arith, lt)) (omega (arith, ut)))
+    let own = own_temporary lies t lt (omega (arith, ut)) in (
+      set_fits t (p + 1) (member_at x k) own (member_is g x k hx hs.0) (own_point (p + 1) (omega (arith, lp)) (omega (arith, up))),
+      members_fit fs g w lies ks t (p + 1) (t + 1) hs.1 own (omega (arith, lp)) (omega (arith, up)) (omega (arith, lt)) (omega (arith, ut)),
+    )
 
 module _ {fs : List PlainFlowFunction} {g : PlainFlowFunction} where
   call_fits : (x n next : ℕ) (args : List ℕ) (h : PlainFlowFunction) → IsOwnSlot g x → AllOwn g args → IsOwnPoint g next → slice_get fs n ≡ Some h → length args ≡ length h.params_of → PointFits fs g (call_point x n args next)
@@ -126,9 +127,10 @@ module _ {fs : List PlainFlowFunction} {g : PlainFlowFunction} {w : Scope} (lies
         let y = t + path.slots in
         let c = count t in
         let own = own_temporary lies y (omega (arith, lt)) (omega (arith, ut)) in
-        all_both (PointFits fs g) _ _ (d.fits p t lp (omega (arith, up)) lt (omega (arith, ut)))
-        (set_fits y (p + path.size + 1) _ own (copy_is g _ (own_variable w lies x hx)) (own_point (p + path.size + 1) (omega (arith, lp)) (omega (arith, up))),
-        members_fit fs g w lies (path.gives t) y (p + path.size + 1) (y + 1) (split_keys g (path.gives t) keys) own (omega (arith, lp)) (omega (arith, c, up)) (omega (arith, lt)) (omega (arith, c, ut)));
+        all_both (PointFits fs g) _ _ (d.fits p t lp (omega (arith, up)) lt (omega (arith, ut))) (
+          set_fits y (p + path.size + 1) _ own (copy_is g _ (own_variable w lies x hx)) (own_point (p + path.size + 1) (omega (arith, lp)) (omega (arith, up))),
+          members_fit fs g w lies (path.gives t) y (p + path.size + 1) (y + 1) (split_keys g (path.gives t) keys) own (omega (arith, lp)) (omega (arith, c, up)) (omega (arith, lt)) (omega (arith, c, ut)),
+        );
     gives = λ t lt ut. (d.gives t lt (omega (arith, ut)), own_temporary lies (t + path.slots + n) (omega (arith, lt)) (omega (arith, ut)));
   }
 
@@ -158,13 +160,19 @@ module _ {fs : List PlainFlowFunction} {g : PlainFlowFunction} {w : Scope} (lies
         let own_result = own_temporary lies result (omega (arith, lt)) (omega (arith, ut)) in
         let own = own_variable w lies x hx in
         let behind = own_point {g = g} (copied + 1 + 1) (omega (arith, lp)) (omega (arith, up)) in
-        all_both (PointFits fs g) _ _ (d.fits p t lp (omega (arith, up)) lt (omega (arith, ut)))
-        (set_fits test _ _ own_test (present_is g _ is.1) (own_point (p + a.size + 1) (omega (arith, lp)) (omega (arith, up))),
-        (branch_fits test left (left + 1) own_test (own_point left (omega (arith, lp)) (omega (arith, up))) (own_point (left + 1) (omega (arith, lp)) (omega (arith, up))),
-        (set_fits result _ _ own_result (copy_is g _ is.1) behind,
-        all_both (PointFits fs g) _ _ (e.fits (left + 1) (test + 1) (omega (arith, lp)) (omega (arith, up)) (omega (arith, lt)) (omega (arith, ut)))
-        (set_fits result (copied + 1) _ own_result (copy_is g _ own_b) (own_point (copied + 1) (omega (arith, lp)) (omega (arith, up))),
-        (set_fits (variable w x) _ _ own (written_is g (variable w x) result (a.gives t).0 is.0 own own_result) behind, tt)))));
+        all_both (PointFits fs g) _ _ (d.fits p t lp (omega (arith, up)) lt (omega (arith, ut))) (
+          set_fits test _ _ own_test (present_is g _ is.1) (own_point (p + a.size + 1) (omega (arith, lp)) (omega (arith, up))),
+          (
+            branch_fits test left (left + 1) own_test (own_point left (omega (arith, lp)) (omega (arith, up))) (own_point (left + 1) (omega (arith, lp)) (omega (arith, up))),
+            (
+              set_fits result _ _ own_result (copy_is g _ is.1) behind,
+              all_both (PointFits fs g) _ _ (e.fits (left + 1) (test + 1) (omega (arith, lp)) (omega (arith, up)) (omega (arith, lt)) (omega (arith, ut))) (
+                set_fits result (copied + 1) _ own_result (copy_is g _ own_b) (own_point (copied + 1) (omega (arith, lp)) (omega (arith, up))),
+                (set_fits (variable w x) _ _ own (written_is g (variable w x) result (a.gives t).0 is.0 own own_result) behind, tt),
+              ),
+            ),
+          ),
+        );
     gives = λ t lt ut. own_temporary lies (t + a.slots + 1 + b.slots) (omega (arith, lt)) (omega (arith, ut));
   }
 

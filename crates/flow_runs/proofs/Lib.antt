@@ -18,3 +18,4 @@ mod FitBuiltins
 mod FitWrites
 mod FitTrees
 mod FitBlocks
+mod FitProgram

@@ -28,19 +28,19 @@ use Rattle.flow_runs.proofs.Blocks.{Went}
 use Rattle.flow_runs.proofs.Stmts.{block_does}
 
 -- a function stands among the points
-record Stands (flow : PlainFlow) (table : List PlainFunction) (n : ℕ) (f : PlainFunction) : Type 0 where
-  point : ℕ
-  slot : ℕ
-  is : function_at flow n ≡ Some (flat_function table f point slot)
-  has : HasAt flow point (flat_function table f point slot).points_of
+pub record Stands (flow : PlainFlow) (table : List PlainFunction) (n : ℕ) (f : PlainFunction) : Type 0 where
+  pub point : ℕ
+  pub slot : ℕ
+  pub is : function_at flow n ≡ Some (flat_function table f point slot)
+  pub has : HasAt flow point (flat_function table f point slot).points_of
 
-record Placed (flow : PlainFlow) (table fs : List PlainFunction) (point slot k : ℕ) (f : PlainFunction) : Type 0 where
-  at_point : ℕ
-  at_slot : ℕ
-  is : slice_get (flat_functions table fs point slot) k ≡ Some (flat_function table f at_point at_slot)
-  has : HasAt flow at_point (flat_function table f at_point at_slot).points_of
+pub record Placed (flow : PlainFlow) (table fs : List PlainFunction) (point slot k : ℕ) (f : PlainFunction) : Type 0 where
+  pub at_point : ℕ
+  pub at_slot : ℕ
+  pub is : slice_get (flat_functions table fs point slot) k ≡ Some (flat_function table f at_point at_slot)
+  pub has : HasAt flow at_point (flat_function table f at_point at_slot).points_of
 
-placed : (flow : PlainFlow) (table fs : List PlainFunction) (point slot : ℕ) → HasAt flow point (points_in (flat_functions table fs point slot)) → (k : ℕ) (f : PlainFunction) → slice_get fs k ≡ Some f → Placed flow table fs point slot k f
+pub placed : (flow : PlainFlow) (table fs : List PlainFunction) (point slot : ℕ) → HasAt flow point (points_in (flat_functions table fs point slot)) → (k : ℕ) (f : PlainFunction) → slice_get fs k ≡ Some f → Placed flow table fs point slot k f
 unfolding flat_functions points_in flat_function
 placed flow table [] point slot has k f e = cc
 placed flow table (g ∷ fs) point slot has zero f e =
@@ -51,11 +51,11 @@ placed flow table (g ∷ fs) point slot has (suc k) f e =
     let rest = placed flow table fs (point + length first.points_of) (slot + first.slots_of) (has_back flow point (length first.points_of) first.points_of _ refl has) k f e in
     record { at_point = rest.at_point; at_slot = rest.at_slot; is = rest.is; has = rest.has }
 
-record Found (fs : List PlainFunction) (j n : ℕ) (f : PlainFunction) (name : Name) : Type 0 where
-  place : ℕ
-  number : n ≡ j + place
-  is : slice_get fs place ≡ Some f
-  named : function_named fs name ≡ Some f
+pub record Found (fs : List PlainFunction) (j n : ℕ) (f : PlainFunction) (name : Name) : Type 0 where
+  pub place : ℕ
+  pub number : n ≡ j + place
+  pub is : slice_get fs place ≡ Some f
+  pub named : function_named fs name ≡ Some f
 
 abbrev first_of : ℕ → Option (ℕ × PlainFunction) → ℕ
 first_of d None = d
@@ -68,7 +68,7 @@ second_of d (Some p) = p.1
 first_place : {j n : ℕ} → j ≡ n → n ≡ j + 0
 first_place e = omega (arith, e)
 
-found : (fs : List PlainFunction) (j n : ℕ) (f : PlainFunction) (name : Name) → function_in j fs name ≡ Some (n, f) → Found fs j n f name
+pub found : (fs : List PlainFunction) (j n : ℕ) (f : PlainFunction) (name : Name) → function_in j fs name ≡ Some (n, f) → Found fs j n f name
 unfolding function_in function_named
 found [] j n f name e = cc
 found (g ∷ fs) j n f name e = by_test (found fs (j + 1) n f name) (bytes_eq g.name_of name) refl (subst (λ b. (if b then Some (j, g) else function_in (j + 1) fs name) ≡ Some (n, f)) refl e)
@@ -155,7 +155,7 @@ module _ {flow : PlainFlow} {r : PlainRequest} {room : ℕ} where
       by_run (Over Spent w) c = tt
       by_run (Over Deep w) c = tt
 
-names_there : (table : List PlainFunction) (f : PlainFunction) (slot : ℕ) → HasAll (scope_of table f slot).names (map name_of_param f.params_of ++ names_of f.body_of)
+pub names_there : (table : List PlainFunction) (f : PlainFunction) (slot : ℕ) → HasAll (scope_of table f slot).names (map name_of_param f.params_of ++ names_of f.body_of)
 unfolding scope_of variables_of
 names_there table f slot = once_has (map name_of_param f.params_of ++ names_of f.body_of)
 
@@ -183,7 +183,7 @@ module _ {flow : PlainFlow} {r : PlainRequest} (table : List PlainFunction) (def
       let shows : Shows w s1 (fresh (arguments_in callee.params_of (map g.slots args))) = λ y hy. ap (λ vs. arguments_in callee.params_of vs (variable w y)) given ∙ arguments_show w f.params_of vs y (all_front w.names (map name_of_param f.params_of) (names_of f.body_of) (names_there table f slot)) hy in
       enters p x n next args callee g s _ (λ how t q g. Ends (world flow r room) q g t.printed t.printed (returned (value_returned how))) at is (λ how t q h e. e) (function_follows room calls f point slot _ s1 has shows)
 
-  calls_do : (room : ℕ) → CallsDo (world flow r room) table
+  pub calls_do : (room : ℕ) → CallsDo (world flow r room) table
   calls_do zero name n f not_builtin is p x next args g s vs at given =
       let fd = found table 1 n f name is in
       subst (λ run. Follows (world flow r zero) Plain p g s.printed run (Came x next g s)) (sym (deep_call r table name f vs s not_builtin fd.named)) (unit s _ (λ left. record { is = tt }))

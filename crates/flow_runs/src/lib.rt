@@ -4,4 +4,4 @@
 
 mod laws;
 
-pub use laws::ended_runs_are_runs_of_points;
+pub use laws::{ended_runs_are_runs_of_points, points_are_of_their_form};

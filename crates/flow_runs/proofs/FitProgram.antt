@@ -1,0 +1,105 @@
+-- The points of a program are of their form.
+use Rattle.std.proofs.Common.{◌≡◌, ℕ, zero, suc, ◌+◌, List, [], ◌∷◌, length, length-append, Some, refl, subst, arith, map, slice_get}
+use Rattle.std.specs.List.{AllByRecursion}
+use Rattle.std.proofs.lemmas.List.Elements.{All-from_recursion}
+use Rattle.php_syntax.specs.Trees.{PlainParam, PlainFunction}
+use Rattle.plain_values.specs.Plain.{null, empty}
+use Rattle.script_meaning.specs.Requests.{PlainRequest}
+use Rattle.script_meaning.specs.Programs.{PlainProgram}
+use Rattle.flow_code.specs.Points.{literal_source, set_point, return_point, PlainFlowFunction, PlainFlow}
+use Rattle.flow_code.specs.Variables.{name_of_param, names_of, variables_of}
+use Rattle.flow_code.specs.Code.{Targets}
+use Rattle.flow_code.specs.Expressions.{Scope, variable}
+use Rattle.flow_code.specs.Statements.{block}
+use Rattle.flow_code.specs.Flat.{scope_of, body_of_function, flat_function, flat_functions, main_function, flat}
+use Rattle.flow_code.specs.Lawful.{IsOwnSlot, IsOwnPoint, PointFits, FunctionFits, AreNumbered, IsFlow}
+use Rattle.flow_runs.specs.Defaults.{HaveDefaults}
+use Rattle.flow_runs.specs.Fits.{StmtsFit, ParamsFit, FunctionsFit, ProgramFits}
+use Rattle.flow_runs.proofs.Ends.{world}
+use Rattle.flow_runs.proofs.Has.{has_all}
+use Rattle.flow_runs.proofs.Names.{HasAll, all_front, all_back}
+use Rattle.flow_runs.proofs.Calls.{CallsDo}
+use Rattle.flow_runs.proofs.Stmts.{block_does}
+use Rattle.flow_runs.proofs.Program.{Stands, placed, found, names_there, calls_do}
+use Rattle.flow_runs.proofs.FitCodes.{all_both, Lies, own_temporary, own_variable, own_point, set_fits}
+use Rattle.flow_runs.proofs.FitWrites.{null_is}
+use Rattle.flow_runs.proofs.FitTrees.{Callees}
+use Rattle.flow_runs.proofs.FitBlocks.{return_fits, block_fits}
+
+functions_at : (fs : List PlainFunction) (k : ℕ) (f : PlainFunction) → FunctionsFit fs → slice_get fs k ≡ Some f → ParamsFit f.params_of
+functions_at [] k f h e = cc
+functions_at (g ∷ fs) zero f h e = let same : g ≡ f = cc in subst (λ f. ParamsFit f.params_of) same h.0
+functions_at (g ∷ fs) (suc k) f h e = functions_at fs k f h.2 e
+
+bodies_fit : (fs : List PlainFunction) → FunctionsFit fs → AllByRecursion (λ (f : PlainFunction). StmtsFit f.body_of) fs
+bodies_fit [] h = tt
+bodies_fit (f ∷ fs) h = (h.1, bodies_fit fs h.2)
+
+map_long : (k : PlainParam → ℕ) (ps : List PlainParam) → length (map k ps) ≡ length ps
+map_long k [] = refl
+map_long k (p ∷ ps) = let e = map_long k ps in omega (arith, e)
+
+numbered : (table fs : List PlainFunction) (p t : ℕ) → AreNumbered (flat_functions table fs p t) p t
+unfolding AreNumbered flat_functions flat_function
+numbered table [] p t = tt
+numbered table (f ∷ fs) p t = let first = flat_function table f p t in (refl, refl, numbered table fs (p + length first.points_of) (t + first.slots_of))
+
+params_own : (g : PlainFlowFunction) (w : Scope) → Lies g w → (ps : List PlainParam) → HasAll w.names (map name_of_param ps) → AllByRecursion (IsOwnSlot g) (map (λ (p : PlainParam). variable w p.name_of) ps)
+params_own g w lies [] h = tt
+params_own g w lies (p ∷ ps) h = (own_variable w lies p.name_of h.0, params_own g w lies ps h.1)
+
+no_request : PlainRequest
+no_request = record { get_of = empty; post_of = empty; cookie_of = empty; request_of = empty; server_of = empty }
+
+module _ (flow : PlainFlow) (table : List PlainFunction) (defaults : HaveDefaults table) (calls : CallsDo (world flow no_request zero) table) (fs : List PlainFlowFunction) (callees : Callees fs table) where
+  function_fits : (f : PlainFunction) (point slot : ℕ) → StmtsFit f.body_of → FunctionFits fs (flat_function table f point slot)
+  unfolding flat_function body_of_function scope_of
+  function_fits f point slot h =
+      let w = scope_of table f slot in
+      let g = flat_function table f point slot in
+      let body = block w f.body_of in
+      let e = point + body.size in
+      let start = slot + length (variables_of f) in
+      let y = start + body.slots in
+      let to : Targets = record { stop = e; again = e } in
+      let names = names_there table f slot in
+      let of_body = all_back w.names (map name_of_param f.params_of) (names_of f.body_of) names in
+      let d = block_does {m = world flow no_request zero} {w = w} calls defaults f.body_of of_body in
+      let n : length g.points_of ≡ body.size + 2 = omega (arith, length-append (body.points to point start) (set_point y (literal_source null) (e + 1) ∷ return_point y ∷ []), d.long to point start) in
+      let lies : Lies g w = record { low = omega arith; high = omega arith } in
+      let own_e : IsOwnPoint g e = own_point e (omega arith) (omega (arith, n)) in
+      let own_y : IsOwnSlot g y = own_temporary lies y (omega arith) (omega arith) in
+      record {
+        entry = own_point point (omega arith) (omega (arith, n));
+        params = All-from_recursion (IsOwnSlot g) g.params_of (params_own g w lies f.params_of (all_front w.names (map name_of_param f.params_of) (names_of f.body_of) names));
+        points = All-from_recursion (PointFits fs g) g.points_of
+            (all_both (PointFits fs g) (body.points to point start) _ ((block_fits lies callees f.body_of h of_body).fits to point start own_e own_e (omega arith) (omega (arith, n)) (omega arith) (omega arith))
+            (set_fits y (e + 1) (literal_source null) own_y (null_is g) (own_point (e + 1) (omega arith) (omega (arith, n))), (return_fits y own_y, tt)));
+      }
+
+  functions_fit : (gs : List PlainFunction) (point slot : ℕ) → AllByRecursion (λ (f : PlainFunction). StmtsFit f.body_of) gs → AllByRecursion (FunctionFits fs) (flat_functions table gs point slot)
+  unfolding flat_functions
+  functions_fit [] point slot h = tt
+  functions_fit (f ∷ gs) point slot h = let first = flat_function table f point slot in (function_fits f point slot h.0, functions_fit gs (point + length first.points_of) (slot + first.slots_of) h.1)
+
+pub flat_fits : (program : PlainProgram) → HaveDefaults program.functions_of → ProgramFits program → IsFlow (flat program)
+unfolding flat flat_functions flat_function main_function
+flat_fits program defaults fit =
+    let main = main_function program in
+    let table = program.functions_of in
+    let flow = flat program in
+    let fs = flat_functions table (main ∷ table) 0 0 in
+    let has = has_all flow in
+    let stands : (k : ℕ) (f : PlainFunction) → slice_get table k ≡ Some f → Stands flow table (suc k) f = λ k f is. (let pl = placed flow table (main ∷ table) 0 0 has (suc k) f is in record { point = pl.at_point; slot = pl.at_slot; is = pl.is; has = pl.has }) in
+    let callees : Callees fs table = record {
+      there = λ name n f is. (let fd = found table 1 n f name is in let pl = placed flow table (main ∷ table) 0 0 has (suc fd.place) f fd.is in let number = fd.number in let at : suc fd.place ≡ n = omega (arith, number) in
+          (flat_function table f pl.at_point pl.at_slot, subst (λ n. slice_get fs n ≡ Some (flat_function table f pl.at_point pl.at_slot)) at pl.is, map_long _ f.params_of));
+      fit = λ name n f is. (let fd = found table 1 n f name is in functions_at table fd.place f fit.functions fd.is);
+    } in
+    record {
+      main = flat_function table main 0 0;
+      is_main = refl;
+      no_params = refl;
+      numbered = numbered table (main ∷ table) 0 0;
+      functions = All-from_recursion (FunctionFits fs) fs (functions_fit flow table defaults (calls_do {flow = flow} {r = no_request} table defaults stands zero) fs callees (main ∷ table) 0 0 (fit.main, bodies_fit table fit.functions));
+    }
