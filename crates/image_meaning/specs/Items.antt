@@ -7,11 +7,8 @@ use Rattle.cfg_grammar.specs.declared.symbol.Symbol.{Symbol}
 use Rattle.cfg_grammar.specs.declared.symbol.Symbol.TheVariants.{Nt}
 use Rattle.cfg_grammar.specs.declared.production.Production.{Production}
 use Rattle.cfg_grammar.specs.Below.{symbols_of}
+use Rattle.numbered_sets.specs.Numbers.{AreDifferent}
 use Rattle.image_meaning.specs.Outputs.{Leads}
-
--- no value stands at two places
-abbrev pub AreDifferent : {X : Type 0} → List X → Type 0
-AreDifferent {X} xs = (i j : ℕ) (x : X) → slice_get xs i ≡ Some x → slice_get xs j ≡ Some x → i ≡ j
 
 -- a production by its place in the grammar, the state in which the machine comes to it, and the state after each of
 -- its symbols that are read

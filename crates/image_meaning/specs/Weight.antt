@@ -8,7 +8,8 @@ use Rattle.cfg_grammar.specs.declared.symbol.Symbol.TheVariants.{Range, Nt}
 use Rattle.cfg_grammar.specs.declared.production.Production.{Production}
 use Rattle.cfg_grammar.specs.Below.{symbols_of}
 use Rattle.image_meaning.specs.Outputs.{Leads}
-use Rattle.image_meaning.specs.Items.{Item, IsItem, AreDifferent}
+use Rattle.numbered_sets.specs.Numbers.{AreDifferent}
+use Rattle.image_meaning.specs.Items.{Item, IsItem}
 
 -- one unit of weight: an item; a letter, by its place, of what is put out as an item's symbol at a place is read by a
 -- byte; a letter of what is put out at the end of a text

@@ -1,0 +1,29 @@
+use Rattle.std.proofs.Common.{◌≡◌, ◌<◌, ℕ, List, length, refl, sym, ◌∙◌, ap, subst, arith}
+use Rattle.std.proofs.lemmas.Option.{slice_get_read, slice_get_within}
+use Rattle.grammar_chart.specs.declared.keys.Begun.{Begun}
+use Rattle.grammar_chart.specs.Rules.{read_on}
+use Rattle.grammar_chart.specs.Adding.{AddsAll}
+use Rattle.grammar_chart.proofs.chart.leave_entry.Goals as goal
+
+pub returns : goal.returns
+returns c =
+    let visits = c.enter.new.visits in
+    let long : length visits.items ≡ length c.enter.new.entries.keys = omega (arith, visits.ok.0, c.in_ok-at.ensures.len) in
+    let after = c.leave.new.visits in
+    let still : length after.items ≡ length c.enter.new.entries.keys = omega (arith, after.ok.0, c.in_ok-leave.ensures.len, c.in_ok-at.ensures.len) in
+    let below = slice_get_within c.enter.new.entries.keys c.in_ok-at.at _ c.in_ok-at.ensures.number in
+    let within : c.in_ok-at.at < length visits.items = omega (arith, below, long) in
+    record {
+      place = c.in_ok-at.at;
+      visits = visits.items;
+      visit = c.index.result.now;
+      at = c.in_ok-at.ensures.number;
+      keeps = c.in_ok-at.ensures.keeps;
+      adds = c.in_ok-at.ensures.adds;
+      grows = c.in_ok-at.ensures.grows;
+      is_visit = slice_get_read visits.items (length visits.items) c.in_ok-at.at c.index.result.now refl within c.index.ensures;
+      advances = subst (λ (xs : List Begun). AddsAll c.args.begun.now.keys c.advance_all.new.begun.keys xs (λ (b : Begun). read_on b c.args.one.to)) c.as_slice.ensures.value c.in_ok-advance_all.ensures;
+      leaves = c.in_ok-leave.ensures.adds;
+      long = long;
+      still_long = still;
+    }

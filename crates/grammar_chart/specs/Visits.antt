@@ -1,0 +1,19 @@
+-- What is kept of the entries of a chart.
+use Rattle.std.specs.Prelude.{◌≡◌, ◌⊎◌, ◌↔◌, ℕ, List, [], Some, slice_get, Contains}
+use Rattle.grammar_chart.specs.declared.keys.Begun.{Begun}
+use Rattle.grammar_chart.specs.declared.steps.Visit.{Visit}
+
+-- what was kept stays, and of a new entry nothing is kept yet
+pub record VisitsGrow (old new : List Visit) : Type 0 where
+  pub kept : (q : ℕ) (v : Visit) → slice_get old q ≡ Some v → slice_get new q ≡ Some v
+  pub empty : (q : ℕ) (v : Visit) → slice_get new q ≡ Some v → (slice_get old q ≡ Some v) ⊎ ((v.waiting.items ≡ []) × (v.exits.items ≡ []))
+
+-- one more waits at an entry
+abbrev pub AddsWaiting : List Visit → List Visit → ℕ → Begun → Type 0
+AddsWaiting old new at one =
+    (q : ℕ) (v : Visit) → slice_get new q ≡ Some v → (w : Visit) × (slice_get old q ≡ Some w) × (v.exits ≡ w.exits) × ((b : Begun) → Contains v.waiting.items b ↔ (Contains w.waiting.items b ⊎ ((q ≡ at) × (b ≡ one))))
+
+-- one more exit of an entry
+abbrev pub AddsExit : List Visit → List Visit → ℕ → ℕ → Type 0
+AddsExit old new at exit =
+    (q : ℕ) (v : Visit) → slice_get new q ≡ Some v → (w : Visit) × (slice_get old q ≡ Some w) × (v.waiting ≡ w.waiting) × ((t : ℕ) → Contains v.exits.items t ↔ (Contains w.exits.items t ⊎ ((q ≡ at) × (t ≡ exit))))

@@ -1,0 +1,117 @@
+//! Single steps on the parts of a chart.
+
+ghost use Rattle.std.specs.Prelude.{◌≡◌, ◌⊎◌, ◌<◌, ◌++◌, ◌∷◌, [], ℕ, All, Contains, OnOk, IfOk, Some, slice_get, length, vec_len};
+ghost use Rattle.numbered_sets.specs.Numbers.{Keeps};
+ghost use Rattle.grammar_chart.specs.Rules.{read_on};
+ghost use Rattle.grammar_chart.specs.Adding.{AddsAll};
+ghost use Rattle.grammar_chart.specs.Visits.{VisitsGrow, AddsWaiting, AddsExit};
+ghost use Rattle.grammar_chart.specs.declared.keys.Read.TheVariants.{Nothing};
+
+use crate::keys::{Begun, Entry, Read};
+use crate::rules::advanced;
+use indexmap::IndexSet;
+use numbered_sets::number;
+use std::alloc::Global;
+use text_base::NoMemory;
+
+/// What is kept of an entry: the begun productions that wait for its symbol there, and the states in which it is left.
+#[derive(Drop)]
+pub struct Visit {
+    pub waiting: Vec<Begun>,
+    pub exits: Vec<u64>,
+}
+
+/// Adds a begun production, unless it is there.
+pub fn add_begun(begun: &mut IndexSet<Begun>, one: Begun) -> Result<(), NoMemory>
+    ensures has { OnOk result (Contains begun.new.keys one) }
+    ensures keeps { Keeps begun.old.keys begun.new.keys }
+    ensures adds { (x : Begun) → Contains begun.new.keys x → Contains begun.old.keys x ⊎ (x ≡ one) }
+{
+    let (_, _) = number(begun, one)?;
+    Ok(())
+}
+
+/// Adds what a begun production becomes by each of the exits of the symbol that it waits for.
+pub fn advance_over(begun: &mut IndexSet<Begun>, one: Begun, exits: &[u64]) -> Result<(), NoMemory>
+    ensures { OnOk result (AddsAll begun.old.keys begun.new.keys exits.now (λ t. read_on one t)) }
+{
+    for exit in exits {
+        add_begun(begun, advanced(one, *exit))?;
+    }
+    Ok(())
+}
+
+/// Adds what each of the begun productions becomes by an exit of the symbol that they wait for.
+pub fn advance_all(
+    begun: &mut IndexSet<Begun>,
+    waiting: &[Begun],
+    exit: u64,
+) -> Result<(), NoMemory>
+    ensures { OnOk result (AddsAll begun.old.keys begun.new.keys waiting.now (λ b. read_on b exit)) }
+{
+    for one in waiting {
+        add_begun(begun, advanced(*one, exit))?;
+    }
+    Ok(())
+}
+
+/// Adds the productions at these places, of which nothing is read yet.
+pub fn begin_all(begun: &mut IndexSet<Begun>, places: &[usize], from: u64) -> Result<(), NoMemory>
+    ensures { OnOk result (AddsAll begun.old.keys begun.new.keys places.now (λ p. record { place = p; from = from; read = Nothing })) }
+{
+    for place in places {
+        add_begun(
+            begun,
+            Begun {
+                place: *place as u64,
+                from,
+                read: Read::Nothing,
+            },
+        )?;
+    }
+    Ok(())
+}
+
+/// The number of an entry, a new one with nothing kept of it if it has none.
+pub fn enter(
+    alloc: Global,
+    entries: &mut IndexSet<Entry>,
+    visits: &mut Vec<Visit>,
+    entry: Entry,
+) -> Result<usize, NoMemory>
+    requires { vec_len visits.old ≡ length entries.old.keys }
+    ensures number { IfOk result (λ n. slice_get entries.new.keys n ≡ Some entry) }
+    ensures keeps { OnOk result (Keeps entries.old.keys entries.new.keys) }
+    ensures adds { OnOk result ((x : Entry) → Contains entries.new.keys x → Contains entries.old.keys x ⊎ (x ≡ entry)) }
+    ensures len { OnOk result (vec_len visits.new ≡ length entries.new.keys) }
+    ensures grows { OnOk result (VisitsGrow visits.old.items visits.new.items) }
+{
+    let (place, is_new) = number(entries, entry)?;
+    if is_new {
+        visits.push(Visit {
+            waiting: Vec::new(alloc),
+            exits: Vec::new(alloc),
+        })?;
+    }
+    Ok(place)
+}
+
+/// Notes that a begun production waits at an entry.
+pub fn wait(visits: &mut Vec<Visit>, at: usize, one: Begun) -> Result<(), NoMemory>
+    requires { at < vec_len visits.old }
+    ensures len { vec_len visits.new ≡ vec_len visits.old }
+    ensures adds { OnOk result (AddsWaiting visits.old.items visits.new.items at one) }
+{
+    visits[at].waiting.push(one)?;
+    Ok(())
+}
+
+/// Notes that an entry is left in a state.
+pub fn leave(visits: &mut Vec<Visit>, at: usize, exit: u64) -> Result<(), NoMemory>
+    requires { at < vec_len visits.old }
+    ensures len { vec_len visits.new ≡ vec_len visits.old }
+    ensures adds { OnOk result (AddsExit visits.old.items visits.new.items at exit) }
+{
+    visits[at].exits.push(exit)?;
+    Ok(())
+}
