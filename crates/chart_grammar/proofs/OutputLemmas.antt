@@ -1,0 +1,142 @@
+-- The productions of outputs.
+use Rattle.std.proofs.Common.{◌≡◌, ℕ, ◌+◌, ◌<◌, ◌≤◌, ◌⊎◌, inl, inr, zero, suc, List, [], ◌∷◌, ◌++◌, length, take, get_or, Contains, refl, sym, ◌∙◌, ap, subst, arith, add-one, Option, None, Some, slice_get}
+use Rattle.std.specs.Prelude.{IfSome, IsSome}
+use Rattle.std.proofs.lemmas.List.Elements.{Contains-push_cases, Contains-append_left, Contains-push}
+use Rattle.std.proofs.lemmas.Bool.{cases_eq}
+use Rattle.text_base.specs.declared.byte_range.ByteRange.{ByteRange}
+use Rattle.text_base.specs.declared.numbers.Nt as nt
+use Rattle.text_base.specs.ByteRange.{InRange}
+use Rattle.cfg_grammar.specs.declared.symbol.Symbol.{Symbol}
+use Rattle.cfg_grammar.specs.declared.symbol.Symbol.TheVariants.{Range, Nt}
+use Rattle.cfg_grammar.specs.declared.production.Right.{Right}
+use Rattle.cfg_grammar.specs.declared.production.Production.{Production}
+use Rattle.fst_core.specs.declared.out.Out.{Out}
+use Rattle.numbered_sets.specs.Numbers.{Keeps}
+use Rattle.grammar_chart.specs.declared.keys.Passage.{Passage}
+use Rattle.grammar_chart.specs.declared.keys.Reading.{Reading}
+use Rattle.chart_grammar.specs.declared.fronts.Front.{Front}
+use Rattle.chart_grammar.specs.declared.lifts.Last.{Last}
+use Rattle.chart_grammar.specs.Outs.{IsOutput}
+use Rattle.chart_grammar.specs.Fronts.{StandsFor}
+use Rattle.chart_grammar.specs.Lifts.{ReadLift, EndLift, FrontLift, HasFronts, front_right, front_by, end_by}
+use Rattle.chart_grammar.specs.Writing.{ReadMade, ReadHas, EndMade, EndHas, HasPart, HasByte, WritesSome}
+use Rattle.chart_grammar.specs.Written.{WritesOne}
+use Rattle.chart_grammar.proofs.MonoLemmas.{read_lift_kept}
+use Rattle.chart_grammar.proofs.WriteLemmas.{pushed_in}
+
+nt_at : (a : nt.Nt) (k : ℕ) → a.0 ≡ k + 1 → a ≡ record { 0 = suc k }
+nt_at a k e = ap (λ (n : ℕ). let b : nt.Nt = record { 0 = n } in b) (e ∙ add-one k)
+
+pub part_lift : (fs : List Passage) (fr : List Front) (base : ℕ) (r : Reading) (part : ByteRange) (a : nt.Nt) (outs : List Out) (symbols stood : List Symbol) (front : ℕ) (right : Right) → ((k : ℕ) × (slice_get fs k ≡ Some (record { symbol = Range r.asked; from = r.from; to = r.to })) × (a.0 ≡ k + 1)) → r.range.lo ≤ part.lo → part.hi ≤ r.range.hi → outs ≡ r.out.items → IsOutput part outs symbols → stood ≡ symbols → StandsFor base fr front stood → right ≡ front_right front → ReadLift fs fr base r part (record { left = a; right = right })
+part_lift fs fr base r part a outs symbols stood front right at low high is puts same stands e =
+    record {
+      number = at.0;
+      passed = at.1;
+      low = low;
+      high = high;
+      symbols = symbols;
+      outs = subst (λ (xs : List Out). IsOutput part xs symbols) is puts;
+      front = front;
+      stands = subst (λ (xs : List Symbol). StandsFor base fr front xs) same stands;
+      left = nt_at a at.0 at.2;
+      right = e;
+    }
+
+pub end_lift : (from : nt.Nt) (fs : List Passage) (fr : List Front) (base : ℕ) (l : Last) (range : ByteRange) (a : nt.Nt) (outs : List Out) (symbols stood : List Symbol) (front : ℕ) (right : Right) → ((k : ℕ) × (slice_get fs k ≡ Some (record { symbol = Nt from; from = 0; to = l.state })) × (a.0 ≡ k + 1)) → outs ≡ l.out.items → IsOutput range outs symbols → stood ≡ symbols → StandsFor base fr front stood → right ≡ end_by a.0 front → EndLift from fs fr base l (record { left = record { 0 = 0 }; right = right })
+end_lift from fs fr base l range a outs symbols stood front right at is puts same stands e =
+    record {
+      number = at.0;
+      passed = at.1;
+      range = range;
+      symbols = symbols;
+      outs = subst (λ (xs : List Out). IsOutput range xs symbols) is puts;
+      front = front;
+      stands = subst (λ (xs : List Symbol). StandsFor base fr front xs) same stands;
+      left = refl;
+      right = e ∙ ap (λ (n : ℕ). end_by n front) (at.2 ∙ add-one at.0);
+    }
+
+pub some_none : (fs : List Passage) (base : ℕ) (r : Reading) (w : List Front) (old : List Production) → WritesSome fs base r w w old old
+some_none fs base r w old = record { grows = λ n x h. h; keeps = λ p h. h; only = λ p h. inl h }
+
+pub some_pushed : (fs : List Passage) (base : ℕ) (r : Reading) (w v : List Front) (old new : List Production) (part : ByteRange) (p : Production) → Keeps w v → new ≡ old ++ p ∷ [] → ReadLift fs v base r part p → WritesSome fs base r w v old new
+some_pushed fs base r w v old new part p grows is lift =
+    record {
+      grows = grows;
+      keeps = λ q h. subst (λ (xs : List Production). Contains xs q) (sym is) (Contains-append_left old (p ∷ []) q h);
+      only = λ q h. elim (Contains-push_cases old p q (subst (λ (xs : List Production). Contains xs q) is h)) [
+        | inl o ↦ inl o
+        | inr e ↦ inr (subst (λ (x : Production). ReadMade fs base v r x) e (part, lift))
+      ];
+    }
+
+pub some_both : (fs : List Passage) (base : ℕ) (r : Reading) (w v u : List Front) (old mid new : List Production) → WritesSome fs base r w v old mid → WritesSome fs base r v u mid new → WritesSome fs base r w u old new
+some_both fs base r w v u old mid new a b =
+    record {
+      grows = λ n x h. b.grows n x (a.grows n x h);
+      keeps = λ p h. b.keeps p (a.keeps p h);
+      only = λ p h. elim (b.only p h) [
+        | inl m ↦ elim (a.only p m) [ inl o ↦ inl o | inr d ↦ inr (d.0, read_lift_kept fs base v u r d.0 p b.grows d.1) ]
+        | inr d ↦ inr d
+      ];
+    }
+
+pub byte_kept : (fs : List Passage) (base : ℕ) (r : Reading) (w v : List Front) (byte : ℕ) (old new : List Production) → Keeps w v → ((p : Production) → Contains old p → Contains new p) → HasByte fs base r w byte old → HasByte fs base r v byte new
+byte_kept fs base r w v byte old new grows keeps h = λ passed.
+    let x = h passed in
+    (x.0, x.1, x.2, keeps x.1 x.3, read_lift_kept fs base w v r x.0 x.1 grows x.4)
+
+-- the first bytes are written
+pub record BytesWritten (fs : List Passage) (base : ℕ) (r : Reading) (n : ℕ) (w v : List Front) (old new : List Production) : Type 0 where
+  pub some : WritesSome fs base r w v old new
+  pub has : (byte : ℕ) → byte < n → InRange r.range byte → HasByte fs base r v byte new
+
+pub bytes_none : (fs : List Passage) (base : ℕ) (r : Reading) (w : List Front) (old : List Production) → BytesWritten fs base r 0 w w old old
+bytes_none fs base r w old = record { some = some_none fs base r w old; has = λ byte below. absurd (omega (arith, below)) }
+
+pub bytes_more : (fs : List Passage) (base : ℕ) (r : Reading) (n : ℕ) (w v u : List Front) (old mid new : List Production) → BytesWritten fs base r n w v old mid → WritesSome fs base r v u mid new → (InRange r.range n → HasByte fs base r u n new) → BytesWritten fs base r (n + 1) w u old new
+bytes_more fs base r n w v u old mid new before some has =
+    record {
+      some = some_both fs base r w v u old mid new before.some some;
+      has = λ byte below within. elim (cases_eq byte n) [
+        | inl e ↦ subst (λ (b : ℕ). HasByte fs base r u b new) (sym e) (has (subst (λ (b : ℕ). InRange r.range b) e within))
+        | inr other ↦ byte_kept fs base r v u byte mid new some.grows some.keeps (before.has byte (omega (arith, below, other)) within)
+      ];
+    }
+
+pub one_of_some : (fs : List Passage) (base : ℕ) (r : Reading) (w v : List Front) (old new : List Production) → WritesSome fs base r w v old new → ReadHas fs base v r new → WritesOne (ReadMade fs base) (ReadHas fs base) r w v old new
+one_of_some fs base r w v old new some has = record { grows = some.grows; keeps = some.keeps; only = some.only; has = has }
+
+-- the first fronts are written
+pub record FrontsWritten (fr : List Front) (base n : ℕ) (old new : List Production) : Type 0 where
+  pub keeps : (p : Production) → Contains old p → Contains new p
+  pub only : (p : Production) → Contains new p → Contains old p ⊎ FrontLift fr base p
+  pub has : (i : ℕ) (f : Front) → i < n → slice_get fr i ≡ Some f → Contains new (record { left = record { 0 = base + i }; right = front_by f.before f.last })
+
+pub fronts_none : (fr : List Front) (base : ℕ) (old : List Production) → FrontsWritten fr base 0 old old
+fronts_none fr base old = record { keeps = λ p h. h; only = λ p h. inl h; has = λ i f below. absurd (omega (arith, below)) }
+
+pub fronts_more : (fr : List Front) (base n : ℕ) (f : Front) (right : Right) (old mid new : List Production) → slice_get fr n ≡ Some f → right ≡ front_by f.before f.last → new ≡ mid ++ record { left = record { 0 = base + n }; right = right } ∷ [] → FrontsWritten fr base n old mid → FrontsWritten fr base (n + 1) old new
+fronts_more fr base n f right old mid new at e is before =
+    let p : Production = record { left = record { 0 = base + n }; right = right } in
+    record {
+      keeps = λ q h. subst (λ (xs : List Production). Contains xs q) (sym is) (Contains-append_left mid (p ∷ []) q (before.keeps q h));
+      only = λ q h. elim (Contains-push_cases mid p q (subst (λ (xs : List Production). Contains xs q) is h)) [
+        | inl o ↦ before.only q o
+        | inr same ↦ inr (subst (λ (x : Production). FrontLift fr base x) same (record { number = n; front = f; at = at; left = refl; right = e }))
+      ];
+      has = λ i g below found. elim (cases_eq i n) [
+        | inl eq ↦
+            let s : Some f ≡ Some g = sym at ∙ (ap (slice_get fr) (sym eq) ∙ found) in
+            let same : f ≡ g = cc in
+            subst (λ (j : ℕ). Contains new (record { left = record { 0 = base + j }; right = front_by g.before g.last })) (sym eq)
+            (subst (λ (x : Front). Contains new (record { left = record { 0 = base + n }; right = front_by x.before x.last })) same
+            (subst (λ (x : Right). Contains new (record { left = record { 0 = base + n }; right = x })) e (pushed_in mid new p is)))
+        | inr other ↦
+            subst (λ (xs : List Production). Contains xs (record { left = record { 0 = base + i }; right = front_by g.before g.last })) (sym is)
+            (Contains-append_left mid (p ∷ []) _ (before.has i g (omega (arith, below, other)) found))
+      ];
+    }
+
+pub byte_of_part : (fs : List Passage) (base : ℕ) (r : Reading) (fr : List Front) (part : ByteRange) (byte : ℕ) (qs : List Production) → HasPart fs base r fr part qs → part.lo ≤ byte → byte ≤ part.hi → HasByte fs base r fr byte qs
+byte_of_part fs base r fr part byte qs h low high = λ passed. let x = h passed in (part, x.0, (low, high), x.1, x.2)

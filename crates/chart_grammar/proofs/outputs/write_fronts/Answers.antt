@@ -1,0 +1,20 @@
+use Rattle.std.proofs.Common.{◌≡◌, ◌<◌, ◌≤◌, Some, slice_get, length, arith, refl}
+use Rattle.std.proofs.lemmas.Option.{slice_get_read, slice_get_within}
+use Rattle.chart_grammar.proofs.OutputLemmas.{fronts_none, fronts_more}
+use Rattle.chart_grammar.proofs.outputs.write_fronts.Goals as goal
+
+pub loop-number-init : goal.loop-number-init
+loop-number-init c = fronts_none _ _ _
+
+pub loop-number-preserved : goal.loop-number-preserved
+loop-number-preserved c =
+    let fr = c.args.fronts.now in
+    let one = c.index-fronts-number.result in
+    let at : slice_get fr c.loop-number.number ≡ Some one = slice_get_read fr (length fr) c.loop-number.number one refl c.loop-number-test.true c.index-fronts-number.is in
+    fronts_more fr c.args.base c.loop-number.number one c.right_of_front.result c.args.out.now.items c.loop-number.out.items c.push.new.self.items at c.right_of_front.ensures c.in_ok-push.ensures.items c.loop-number.invariant
+
+pub returns-clause-has : goal.returns-clause-has
+returns-clause-has c = λ n f at.
+    let w = slice_get_within c.args.fronts.now n f at in
+    let past : length c.args.fronts.now ≤ c.loop-number.number = c.loop-number-test.false in
+    c.loop-number.invariant.has n f (omega (arith, w, past)) at

@@ -1,0 +1,51 @@
+-- What the writers write.
+use Rattle.std.specs.Prelude.{◌≡◌, ◌≤◌, ◌⊎◌, ℕ, List, Option, None, Some, Contains, Bool, true, IfOk}
+use Rattle.text_base.specs.declared.byte_range.ByteRange.{ByteRange}
+use Rattle.text_base.specs.declared.numbers.Nt as nt
+use Rattle.text_base.specs.ByteRange.{InRange}
+use Rattle.cfg_grammar.specs.declared.symbol.Symbol.TheVariants.{Range, Nt}
+use Rattle.cfg_grammar.specs.declared.production.Production.{Production}
+use Rattle.numbered_sets.specs.Numbers.{Keeps}
+use Rattle.grammar_chart.specs.declared.keys.Begun.{Begun}
+use Rattle.grammar_chart.specs.declared.keys.Passage.{Passage}
+use Rattle.grammar_chart.specs.declared.keys.Reading.{Reading}
+use Rattle.grammar_chart.specs.Rules.{awaited_of}
+use Rattle.chart_grammar.specs.declared.fronts.Front.{Front}
+use Rattle.chart_grammar.specs.declared.lifts.Last.{Last}
+use Rattle.chart_grammar.specs.Lifts.{WholeLift, ReadLift, FrontLift, EndLift, HasWhole, HasReading, HasFronts, HasEnd}
+use Rattle.chart_grammar.specs.Written.{WritesOne, WritesAll}
+
+abbrev pub WholeMade : List Production → List Passage → List Front → Begun → Production → Type 0
+WholeMade ps fs fr b p = (awaited_of ps b ≡ None) × WholeLift ps fs b p
+
+abbrev pub WholeHas : List Production → List Passage → List Front → Begun → List Production → Type 0
+WholeHas ps fs fr b qs = HasWhole ps fs b qs
+
+abbrev pub ReadMade : List Passage → ℕ → List Front → Reading → Production → Type 0
+ReadMade fs base fr r p = (part : ByteRange) × ReadLift fs fr base r part p
+
+abbrev pub ReadHas : List Passage → ℕ → List Front → Reading → List Production → Type 0
+ReadHas fs base fr r qs = HasReading fs fr base r qs
+
+abbrev pub EndMade : nt.Nt → List Passage → ℕ → List Front → Last → Production → Type 0
+EndMade from fs base fr l p = EndLift from fs fr base l p
+
+abbrev pub EndHas : nt.Nt → List Passage → ℕ → List Front → Last → List Production → Type 0
+EndHas from fs base fr l qs = HasEnd from fs fr base l qs
+
+-- a part of a reading has its production
+abbrev pub HasPart : List Passage → ℕ → Reading → List Front → ByteRange → List Production → Type 0
+HasPart fs base r fr part qs = Contains fs (record { symbol = Range r.asked; from = r.from; to = r.to }) → (p : Production) × Contains qs p × ReadLift fs fr base r part p
+
+abbrev pub PartMade : List Passage → ℕ → Reading → List Front → ByteRange → Production → Type 0
+PartMade fs base r fr part p = ReadLift fs fr base r part p
+
+-- the old ones stay, and nothing but productions of the reading is written
+pub record WritesSome (fs : List Passage) (base : ℕ) (r : Reading) (w v : List Front) (old new : List Production) : Type 0 where
+  pub grows : Keeps w v
+  pub keeps : (p : Production) → Contains old p → Contains new p
+  pub only : (p : Production) → Contains new p → Contains old p ⊎ ReadMade fs base v r p
+
+-- some part with the byte has its production
+abbrev pub HasByte : List Passage → ℕ → Reading → List Front → ℕ → List Production → Type 0
+HasByte fs base r fr byte qs = Contains fs (record { symbol = Range r.asked; from = r.from; to = r.to }) → (part : ByteRange) × (p : Production) × InRange part byte × Contains qs p × ReadLift fs fr base r part p
