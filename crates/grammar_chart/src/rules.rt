@@ -7,7 +7,7 @@ use crate::keys::{Begun, Entry, Passage, Read};
 use cfg_grammar::{Production, Right, Symbol};
 
 /// The production at a place.
-fn production_at(productions: &[Production], place: u64) -> Option<Production>
+pub fn production_at(productions: &[Production], place: u64) -> Option<Production>
     ensures { result ≡ slice_get productions.now place }
 {
     productions.get(place as usize).copied()
@@ -74,16 +74,23 @@ fn last(begun: Begun) -> u64
     }
 }
 
+/// Where the left side of the production leads, if all of its right side is read.
+pub fn whole_passage(production: Production, begun: Begun) -> Passage
+    ensures { result ≡ passage_by production begun }
+{
+    Passage {
+        symbol: Symbol::Nt(production.left),
+        from: begun.from,
+        to: last(begun),
+    }
+}
+
 /// Where the left side leads, if all of the right side is read.
 pub fn passage(productions: &[Production], begun: Begun) -> Option<Passage>
     ensures { result ≡ passage_of productions.now begun }
 {
     match production_at(productions, begun.place) {
         None => None,
-        Some(production) => Some(Passage {
-            symbol: Symbol::Nt(production.left),
-            from: begun.from,
-            to: last(begun),
-        }),
+        Some(production) => Some(whole_passage(production, begun)),
     }
 }
