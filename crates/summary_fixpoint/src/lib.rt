@@ -1,0 +1,8 @@
+//! Whether each sentence of a grammar is whole by a summary (tag_sums): definitions so far. What
+//! an answer says is `IsVerdict` of specs/. Below stand text_base, cfg_grammar, derivations and
+//! tag_sums.
+#![tactic(auto)]
+
+mod verdict;
+
+pub use verdict::{TAG_LIMIT, Verdict};
