@@ -5,8 +5,8 @@ use Rattle.loose_sets.specs.Reaching.{Definition}
 
 -- what is said of a value: its text forms where it is no array, and whether it may be an array
 pub data Half : Type 0 where
-  as_text : Half
-  as_array : Half
+  text_half : Half
+  array_half : Half
 
 -- of which value it is said
 pub data Aspect : Type 0 where

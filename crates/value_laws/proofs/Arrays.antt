@@ -41,7 +41,7 @@ and_parts : (a b : Bool) → (a && b) ≡ true → (a ≡ true) × (b ≡ true)
 and_parts true b e = (refl, e)
 and_parts false b e = cc
 
-canonical_range : (t : List ℕ) (z : ℤ) → canonical_integer t ≡ Some z → is_in_range z ≡ true
+pub canonical_range : (t : List ℕ) (z : ℤ) → canonical_integer t ≡ Some z → is_in_range z ≡ true
 canonical_range t z e = by (is_in_range (signed_digits_value 10 t) && pointwise nat_eq (signed_decimal (signed_digits_value 10 t)) t) refl e
   where
     by : (b : Bool) → (is_in_range (signed_digits_value 10 t) && pointwise nat_eq (signed_decimal (signed_digits_value 10 t)) t) ≡ b → (if b then Some (signed_digits_value 10 t) else None) ≡ Some z → is_in_range z ≡ true
@@ -199,7 +199,7 @@ after_range (Some y) z h e = by (int_eq y (pos 9223372036854775807)) refl e
     by true i g = cc
     by false i g = let is : z ≡ y +ℤ pos 1 = cc in subst (λ (z : ℤ). is_in_range z ≡ true) (sym is) (next_range y h i)
 
-next_key : (ps : Pairs) (z : ℤ) → PairsHaveValues ps → key_after (largest_key ps) ≡ Some z → is_in_range z ≡ true
+pub next_key : (ps : Pairs) (z : ℤ) → PairsHaveValues ps → key_after (largest_key ps) ≡ Some z → is_in_range z ≡ true
 next_key ps z h e = after_range (largest_key ps) z (largest_range None ps tt h) e
 
 push_value_at : (ps : Pairs) (o : Option ℤ) (new u : Plain) → HasPairs ps → ((z : ℤ) → o ≡ Some z → is_in_range z ≡ true) → IsValue new → push_at ps o new ≡ Ok u → IsValue u
@@ -214,9 +214,9 @@ push_value (text t) new u h g e = cc
 push_value (array ps) new u h g e = push_value_at ps (key_after (largest_key ps)) new u (record { distinct = (h.parts).0; pairs = (h.parts).1 }) (λ z. next_key ps z (h.parts).1) g e
 
 -- array literals
-item_value : (made : Plain) (key : Option Plain) (new u : Plain) → IsValue made → IsMaybeValue key → IsValue new → add_item made key new ≡ Ok u → IsValue u
-item_value made None new u h k g e = push_value made new u h g e
-item_value made (Some key) new u h k g e = by (key_of key) refl e
+pub item_value_is : (made : Plain) (key : Option Plain) (new u : Plain) → IsValue made → IsMaybeValue key → IsValue new → add_item made key new ≡ Ok u → IsValue u
+item_value_is made None new u h k g e = push_value made new u h g e
+item_value_is made (Some key) new u h k g e = by (key_of key) refl e
   where
     by : (r : Result PlainKey Fault) → key_of key ≡ r → go_on r (λ k. put made k new) ≡ Ok u → IsValue u
     by (Err f) i g' = cc
@@ -228,7 +228,7 @@ items_value (item ∷ items) made u h g e = by (λ next hn en. items_value items
   where
     by : ((next : Plain) → IsValue next → add_items items next ≡ Ok u → IsValue u) → (r : Result Plain Fault) → add_item made item.0 item.1 ≡ r → go_on r (add_items items) ≡ Ok u → IsValue u
     by rest (Err f) i g' = cc
-    by rest (Ok next) i g' = let is : IsItem item = All-head IsItem item items g in rest next (item_value made item.0 item.1 next h is.key is.value i) g'
+    by rest (Ok next) i g' = let is : IsItem item = All-head IsItem item items g in rest next (item_value_is made item.0 item.1 next h is.key is.value i) g'
 
 pub literal_value : (items : List (Option Plain × Plain)) (u : Plain) → All IsItem items → literal_of items ≡ Ok u → IsValue u
 literal_value items u g e = items_value items (array empty) u (record { parts = (refl, tt); shallow = omega arith }) g e
@@ -238,7 +238,7 @@ abbrev pub IsStep : Step → Type 0
 IsStep None = ⊤
 IsStep (Some k) = IsKey k
 
-step_is : (s : Option Plain) (t : Step) → IsMaybeValue s → step_of s ≡ Ok t → IsStep t
+pub step_is : (s : Option Plain) (t : Step) → IsMaybeValue s → step_of s ≡ Ok t → IsStep t
 step_is None t h e = let is : t ≡ None = cc in subst IsStep (sym is) tt
 step_is (Some v) t h e = by (key_of v) refl e
   where
@@ -258,7 +258,7 @@ path_steps (s ∷ ss) path h e = by (λ rest. path_steps ss rest (All-tail IsMay
     by more (Err f) i g = cc
     by more (Ok t) i g = by_rest more t (step_is s t (All-head IsMaybeValue s ss h) i) (path_of ss) refl g
 
-named_is : (ps : Pairs) (s : Step) (k : PlainKey) → IsStep s → PairsHaveValues ps → named_key s (key_after (largest_key ps)) ≡ Some k → IsKey k
+pub named_is : (ps : Pairs) (s : Step) (k : PlainKey) → IsStep s → PairsHaveValues ps → named_key s (key_after (largest_key ps)) ≡ Some k → IsKey k
 named_is ps (Some j) k h g e = let is : k ≡ j = cc in subst IsKey (sym is) h
 named_is ps None k h g e = by (key_after (largest_key ps)) refl e
   where

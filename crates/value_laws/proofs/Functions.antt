@@ -168,7 +168,7 @@ pieces_value (b ∷ sep) t v l e =
     let has = numbered_has 0 ts (omega (arith, count_pieces (b ∷ sep) t, l)) short in
     subst IsValue (sym is) (record { parts = (has.distinct, has.pairs); shallow = omega (arith, numbered_flat 0 ts) })
 
-exploded_value : (a b v : Plain) → HasValues b → exploded a b ≡ Ok v → IsValue v
+pub exploded_value : (a b v : Plain) → HasValues b → exploded a b ≡ Ok v → IsValue v
 exploded_value a b v h e =
     after (as_text a) (λ sep. go_on (as_text b) (pieces_at sep)) v (λ sep i g. after (as_text b) (pieces_at sep) v (λ t j k. pieces_value sep t v (as_text_short b t h j) k) g) e
 

@@ -1,0 +1,281 @@
+-- When sets cover a value: what is said of a value by its aspects holds of it.
+use Rattle.std.proofs.Common.{◌≡◌, ℕ, Bool, true, false, not, ◌&&◌, ◌||◌, if◌then◌else◌, List, [], ◌∷◌, Result, Ok, Err, refl, sym, ap, subst, ◌∙◌}
+use Rattle.std.specs.Prelude.{⊤}
+use Rattle.std.specs.List.{list_any}
+use Rattle.std.specs.Ordering.{int_cmp, nat_cmp, is_eq}
+use Rattle.std.specs.Cmp.Lexicographic.{slice_cmp}
+use Rattle.std.specs.declared.cmp.Ordering.{Ordering}
+use Rattle.std.specs.declared.cmp.Ordering.TheVariants.{Less, Equal, Greater}
+use Rattle.std.proofs.lemmas.Cmp.{nat_list_eq_equiv, int_eq_equiv}
+use Rattle.std.proofs.lemmas.Map.Lookups.{exact_signed, exact_bytes}
+use Rattle.std.proofs.lemmas.Map.Text.{is_eq-slice_cmp}
+use Rattle.plain_values.specs.Plain.{Plain, PlainKey, Pairs, int_key, text_key, null, flag, int, text, array, empty, pair, keys}
+use Rattle.plain_values.specs.Keys.{same_key, is_absent, are_distinct}
+use Rattle.plain_values.specs.Members.{member, put_pair}
+use Rattle.plain_values.specs.Text.{text_of}
+use Rattle.plain_values.specs.Walks.{value_of_key}
+use Rattle.loose_sets.specs.Keys.{is_among}
+use Rattle.loose_sets.specs.Names.{Half, text_half, array_half, Aspect, own, others, keys_of}
+use Rattle.loose_sets.specs.Names as aspect
+
+-- texts and a yes
+abbrev pub Texts : Type 1
+Texts = List ℕ → Type 0
+
+-- the value itself: its text where it is no array, and a yes where it is one
+abbrev pub OwnIn : Texts → Type 0 → Plain → Type 0
+OwnIn T A null = T []
+OwnIn T A (flag b) = T (text_of (flag b))
+OwnIn T A (int z) = T (text_of (int z))
+OwnIn T A (text t) = T t
+OwnIn T A (array ps) = A
+
+abbrev mutual
+  -- all members of a value, at any depth
+  pub InsideIn : Texts → Type 0 → Plain → Type 0
+  InsideIn T A null = ⊤
+  InsideIn T A (flag b) = ⊤
+  InsideIn T A (int z) = ⊤
+  InsideIn T A (text t) = ⊤
+  InsideIn T A (array ps) = AllIn T A ps
+
+  pub AllIn : Texts → Type 0 → Pairs → Type 0
+  AllIn T A empty = ⊤
+  AllIn T A (pair k v ps) = OwnIn T A v × InsideIn T A v × AllIn T A ps
+
+abbrev mutual
+  -- all keys of a value, at any depth
+  pub KeysIn : Texts → Plain → Type 0
+  KeysIn K null = ⊤
+  KeysIn K (flag b) = ⊤
+  KeysIn K (int z) = ⊤
+  KeysIn K (text t) = ⊤
+  KeysIn K (array ps) = KeysInAll K ps
+
+  pub KeysInAll : Texts → Pairs → Type 0
+  KeysInAll K empty = ⊤
+  KeysInAll K (pair k v ps) = K (text_of (value_of_key k)) × KeysIn K v × KeysInAll K ps
+
+-- sets of all aspects, as texts and as a yes
+abbrev pub Has : Type 1
+Has = Aspect → List ℕ → Type 0
+
+abbrev pub Yes : Type 1
+Yes = Aspect → Type 0
+
+-- the aspect of a member under a key
+abbrev pub place : List PlainKey → PlainKey → Half → Aspect
+place told k half = if is_among k told then aspect.member k half else others half
+
+abbrev pub MembersIn : List PlainKey → Has → Yes → Pairs → Type 0
+MembersIn told H Y empty = ⊤
+MembersIn told H Y (pair k v ps) = OwnIn (H (place told k text_half)) (Y (place told k array_half)) v × InsideIn (H (others text_half)) (Y (others array_half)) v × MembersIn told H Y ps
+
+abbrev pub Covers : List PlainKey → Has → Yes → Plain → Type 0
+Covers told H Y null = H (own text_half) []
+Covers told H Y (flag b) = H (own text_half) (text_of (flag b))
+Covers told H Y (int z) = H (own text_half) (text_of (int z))
+Covers told H Y (text t) = H (own text_half) t
+Covers told H Y (array ps) = Y (own array_half) × MembersIn told H Y ps × KeysInAll (H keys_of) ps
+
+-- wider sets
+pub own_wider : (T U : Texts) (A B : Type 0) → ((w : List ℕ) → T w → U w) → (A → B) → (v : Plain) → OwnIn T A v → OwnIn U B v
+own_wider T U A B t a null h = t [] h
+own_wider T U A B t a (flag b) h = t _ h
+own_wider T U A B t a (int z) h = t _ h
+own_wider T U A B t a (text w) h = t w h
+own_wider T U A B t a (array ps) h = a h
+
+mutual
+  pub inside_wider : (T U : Texts) (A B : Type 0) → ((w : List ℕ) → T w → U w) → (A → B) → (v : Plain) → InsideIn T A v → InsideIn U B v
+  inside_wider T U A B t a null h = tt
+  inside_wider T U A B t a (flag b) h = tt
+  inside_wider T U A B t a (int z) h = tt
+  inside_wider T U A B t a (text w) h = tt
+  inside_wider T U A B t a (array ps) h = all_wider T U A B t a ps h
+
+  pub all_wider : (T U : Texts) (A B : Type 0) → ((w : List ℕ) → T w → U w) → (A → B) → (ps : Pairs) → AllIn T A ps → AllIn U B ps
+  all_wider T U A B t a empty h = tt
+  all_wider T U A B t a (pair k v ps) h = (own_wider T U A B t a v h.0, inside_wider T U A B t a v h.1, all_wider T U A B t a ps h.2)
+
+mutual
+  pub keys_wider : (K L : Texts) → ((w : List ℕ) → K w → L w) → (v : Plain) → KeysIn K v → KeysIn L v
+  keys_wider K L t null h = tt
+  keys_wider K L t (flag b) h = tt
+  keys_wider K L t (int z) h = tt
+  keys_wider K L t (text w) h = tt
+  keys_wider K L t (array ps) h = all_keys_wider K L t ps h
+
+  pub all_keys_wider : (K L : Texts) → ((w : List ℕ) → K w → L w) → (ps : Pairs) → KeysInAll K ps → KeysInAll L ps
+  all_keys_wider K L t empty h = tt
+  all_keys_wider K L t (pair k v ps) h = (t _ h.0, keys_wider K L t v h.1, all_keys_wider K L t ps h.2)
+
+pub members_wider : (told : List PlainKey) (H G : Has) (Y Z : Yes) → ((a : Aspect) (w : List ℕ) → H a w → G a w) → ((a : Aspect) → Y a → Z a) → (ps : Pairs) → MembersIn told H Y ps → MembersIn told G Z ps
+members_wider told H G Y Z t a empty h = tt
+members_wider told H G Y Z t a (pair k v ps) h =
+    (own_wider _ _ _ _ (t (place told k text_half)) (a (place told k array_half)) v h.0, inside_wider _ _ _ _ (t (others text_half)) (a (others array_half)) v h.1, members_wider told H G Y Z t a ps h.2)
+
+pub covers_wider : (told : List PlainKey) (H G : Has) (Y Z : Yes) → ((a : Aspect) (w : List ℕ) → H a w → G a w) → ((a : Aspect) → Y a → Z a) → (v : Plain) → Covers told H Y v → Covers told G Z v
+covers_wider told H G Y Z t a null h = t (own text_half) [] h
+covers_wider told H G Y Z t a (flag b) h = t (own text_half) _ h
+covers_wider told H G Y Z t a (int z) h = t (own text_half) _ h
+covers_wider told H G Y Z t a (text w) h = t (own text_half) w h
+covers_wider told H G Y Z t a (array ps) h = (a (own array_half) h.0, members_wider told H G Y Z t a ps h.1, all_keys_wider _ _ (t keys_of) ps h.2)
+
+-- what covers a value says of it alone, of its members, and of its keys
+pub covers_own : (told : List PlainKey) (H : Has) (Y : Yes) (v : Plain) → Covers told H Y v → OwnIn (H (own text_half)) (Y (own array_half)) v
+covers_own told H Y null h = h
+covers_own told H Y (flag b) h = h
+covers_own told H Y (int z) h = h
+covers_own told H Y (text t) h = h
+covers_own told H Y (array ps) h = h.0
+
+pub covers_keys : (told : List PlainKey) (H : Has) (Y : Yes) (v : Plain) → Covers told H Y v → KeysIn (H keys_of) v
+covers_keys told H Y null h = tt
+covers_keys told H Y (flag b) h = tt
+covers_keys told H Y (int z) h = tt
+covers_keys told H Y (text t) h = tt
+covers_keys told H Y (array ps) h = h.2
+
+-- members as members at any depth
+pub members_all : (told : List PlainKey) (H : Has) (Y : Yes) (T : Texts) (A : Type 0)
+    → ((k : PlainKey) (w : List ℕ) → H (place told k text_half) w → T w) → ((k : PlainKey) → Y (place told k array_half) → A)
+    → ((w : List ℕ) → H (others text_half) w → T w) → (Y (others array_half) → A) → (ps : Pairs) → MembersIn told H Y ps → AllIn T A ps
+members_all told H Y T A t a u b empty h = tt
+members_all told H Y T A t a u b (pair k v ps) h = (own_wider _ _ _ _ (t k) (a k) v h.0, inside_wider _ _ _ _ u b v h.1, members_all told H Y T A t a u b ps h.2)
+
+-- and the reverse, where the texts of the members go under each key
+pub all_members : (told : List PlainKey) (H : Has) (Y : Yes) (T : Texts) (A : Type 0)
+    → ((k : PlainKey) (w : List ℕ) → T w → H (place told k text_half) w) → ((k : PlainKey) → A → Y (place told k array_half))
+    → ((w : List ℕ) → T w → H (others text_half) w) → (A → Y (others array_half)) → (ps : Pairs) → AllIn T A ps → MembersIn told H Y ps
+all_members told H Y T A t a u b empty h = tt
+all_members told H Y T A t a u b (pair k v ps) h = (own_wider _ _ _ _ (t k) (a k) v h.0, inside_wider _ _ _ _ u b v h.1, all_members told H Y T A t a u b ps h.2)
+
+-- a value whose own text is in a set and which has no member
+pub covers_text : (told : List PlainKey) (H : Has) (Y : Yes) (v : Plain) → OwnIn (H (own text_half)) ⊥ v → Covers told H Y v
+covers_text told H Y null h = h
+covers_text told H Y (flag b) h = h
+covers_text told H Y (int z) h = h
+covers_text told H Y (text t) h = h
+covers_text told H Y (array ps) h = absurd h
+
+-- a value by itself and by its members at any depth
+pub covers_deep : (told : List PlainKey) (H : Has) (Y : Yes) (T : Texts) (A : Type 0)
+    → ((k : PlainKey) (w : List ℕ) → T w → H (place told k text_half) w) → ((k : PlainKey) → A → Y (place told k array_half))
+    → ((w : List ℕ) → T w → H (others text_half) w) → (A → Y (others array_half)) → (v : Plain) → OwnIn (H (own text_half)) (Y (own array_half)) v → InsideIn T A v → KeysIn (H keys_of) v
+    → Covers told H Y v
+covers_deep told H Y T A t a u b null o i k = o
+covers_deep told H Y T A t a u b (flag x) o i k = o
+covers_deep told H Y T A t a u b (int z) o i k = o
+covers_deep told H Y T A t a u b (text w) o i k = o
+covers_deep told H Y T A t a u b (array ps) o i k = (o, all_members told H Y T A t a u b ps i, k)
+
+-- keys
+equal_if : (o : Ordering) → is_eq o ≡ true → o ≡ Equal
+equal_if Less e = cc
+equal_if Equal e = refl
+equal_if Greater e = cc
+
+pub same_is : (a b : PlainKey) → same_key a b ≡ true → a ≡ b
+same_is (int_key a) (int_key b) h = ap (λ z. int_key z) (exact_signed a b (equal_if (int_cmp a b) h))
+same_is (int_key a) (text_key t) h = cc
+same_is (text_key s) (int_key b) h = cc
+same_is (text_key s) (text_key t) h = ap (λ (u : List ℕ). text_key u) (exact_bytes s t (equal_if (slice_cmp nat_cmp s t) (is_eq-slice_cmp s t ∙ h)))
+
+pub same_itself : (a : PlainKey) → same_key a a ≡ true
+same_itself (int_key a) = int_eq_equiv.refl a
+same_itself (text_key s) = nat_list_eq_equiv.refl s
+
+pub same_back : (a b : PlainKey) → same_key a b ≡ same_key b a
+same_back (int_key a) (int_key b) = int_eq_equiv.symm a b
+same_back (int_key a) (text_key t) = refl
+same_back (text_key s) (int_key b) = refl
+same_back (text_key s) (text_key t) = nat_list_eq_equiv.symm s t
+
+-- the member of a key
+pub member_own : (told : List PlainKey) (H : Has) (Y : Yes) (T : Texts) (A : Type 0) (k : PlainKey) → T []
+    → ((w : List ℕ) → H (place told k text_half) w → T w) → (Y (place told k array_half) → A) → (ps : Pairs) → MembersIn told H Y ps → OwnIn T A (member ps k)
+member_own told H Y T A k n t a empty h = n
+member_own told H Y T A k n t a (pair j v ps) h = by (same_key j k) refl (member_own told H Y T A k n t a ps h.2)
+  where
+    by : (b : Bool) → same_key j k ≡ b → OwnIn T A (member ps k) → OwnIn T A (if b then v else member ps k)
+    by true e rest = own_wider _ _ _ _ t a v (subst (λ j. OwnIn (H (place told j text_half)) (Y (place told j array_half)) v) (same_is j k e) h.0)
+    by false e rest = rest
+
+pub member_inside : (told : List PlainKey) (H : Has) (Y : Yes) (k : PlainKey) (ps : Pairs) → MembersIn told H Y ps → InsideIn (H (others text_half)) (Y (others array_half)) (member ps k)
+member_inside told H Y k empty h = tt
+member_inside told H Y k (pair j v ps) h = by (same_key j k) (member_inside told H Y k ps h.2)
+  where
+    by : (b : Bool) → InsideIn (H (others text_half)) (Y (others array_half)) (member ps k) → InsideIn (H (others text_half)) (Y (others array_half)) (if b then v else member ps k)
+    by true rest = h.1
+    by false rest = rest
+
+pub member_inside_all : (T : Texts) (A : Type 0) (k : PlainKey) (ps : Pairs) → AllIn T A ps → InsideIn T A (member ps k)
+member_inside_all T A k empty h = tt
+member_inside_all T A k (pair j v ps) h = by (same_key j k) (member_inside_all T A k ps h.2)
+  where
+    by : (b : Bool) → InsideIn T A (member ps k) → InsideIn T A (if b then v else member ps k)
+    by true rest = h.1
+    by false rest = rest
+
+pub member_keys : (K : Texts) (k : PlainKey) (ps : Pairs) → KeysInAll K ps → KeysIn K (member ps k)
+member_keys K k empty h = tt
+member_keys K k (pair j v ps) h = by (same_key j k) (member_keys K k ps h.2)
+  where
+    by : (b : Bool) → KeysIn K (member ps k) → KeysIn K (if b then v else member ps k)
+    by true rest = h.1
+    by false rest = rest
+
+-- a put
+pub all_put : (T : Texts) (A : Type 0) (k : PlainKey) (v : Plain) (ps : Pairs) → OwnIn T A v → InsideIn T A v → AllIn T A ps → AllIn T A (put_pair ps k v)
+all_put T A k v empty o i h = (o, i, tt)
+all_put T A k v (pair j u ps) o i h = by (same_key j k) (all_put T A k v ps o i h.2)
+  where
+    by : (b : Bool) → AllIn T A (put_pair ps k v) → AllIn T A (if b then pair j v ps else pair j u (put_pair ps k v))
+    by true rest = (o, i, h.2)
+    by false rest = (h.0, h.1, rest)
+
+pub keys_put : (K : Texts) (k : PlainKey) (v : Plain) (ps : Pairs) → K (text_of (value_of_key k)) → KeysIn K v → KeysInAll K ps → KeysInAll K (put_pair ps k v)
+keys_put K k v empty t i h = (t, i, tt)
+keys_put K k v (pair j u ps) t i h = by (same_key j k) (keys_put K k v ps t i h.2)
+  where
+    by : (b : Bool) → KeysInAll K (put_pair ps k v) → KeysInAll K (if b then pair j v ps else pair j u (put_pair ps k v))
+    by true rest = (h.0, i, h.2)
+    by false rest = (h.0, h.1, rest)
+
+-- members but for that under a key
+abbrev pub ButFor : PlainKey → List PlainKey → Has → Yes → Pairs → Type 0
+ButFor k told H Y empty = ⊤
+ButFor k told H Y (pair j v ps) = (same_key j k ≡ false → OwnIn (H (place told j text_half)) (Y (place told j array_half)) v) × InsideIn (H (others text_half)) (Y (others array_half)) v × ButFor k told H Y ps
+
+pub but_for : (k : PlainKey) (told : List PlainKey) (H G : Has) (Y Z : Yes)
+    → ((j : PlainKey) → same_key j k ≡ false → (w : List ℕ) → H (place told j text_half) w → G (place told j text_half) w) → ((j : PlainKey) → same_key j k ≡ false → Y (place told j array_half) → Z (place told j array_half))
+    → ((w : List ℕ) → H (others text_half) w → G (others text_half) w) → (Y (others array_half) → Z (others array_half)) → (ps : Pairs) → MembersIn told H Y ps → ButFor k told G Z ps
+but_for k told H G Y Z t a u b empty h = tt
+but_for k told H G Y Z t a u b (pair j v ps) h =
+    ((λ e. own_wider _ _ _ _ (t j e) (a j e) v h.0), inside_wider _ _ _ _ u b v h.1, but_for k told H G Y Z t a u b ps h.2)
+
+or_parts : (a b : Bool) → not (a || b) ≡ true → (a ≡ false) × (not b ≡ true)
+or_parts true b e = cc
+or_parts false b e = (refl, e)
+
+absent_members : (k : PlainKey) (told : List PlainKey) (H : Has) (Y : Yes) (ps : Pairs) → is_absent (keys ps) k ≡ true → ButFor k told H Y ps → MembersIn told H Y ps
+absent_members k told H Y empty a h = tt
+absent_members k told H Y (pair j v ps) a h =
+    let parts = or_parts (same_key j k) (list_any (λ i. same_key i k) (keys ps)) a in
+    (h.0 parts.0, h.1, absent_members k told H Y ps parts.1 h.2)
+
+and_parts : (a b : Bool) → (a && b) ≡ true → (a ≡ true) × (b ≡ true)
+and_parts true b e = (refl, e)
+and_parts false b e = cc
+
+pub members_put : (told : List PlainKey) (H : Has) (Y : Yes) (k : PlainKey) (v : Plain) (ps : Pairs) → are_distinct (keys ps) ≡ true
+    → OwnIn (H (place told k text_half)) (Y (place told k array_half)) v → InsideIn (H (others text_half)) (Y (others array_half)) v → ButFor k told H Y ps → MembersIn told H Y (put_pair ps k v)
+members_put told H Y k v empty d o i h = (o, i, tt)
+members_put told H Y k v (pair j u ps) d o i h = let parts = and_parts (is_absent (keys ps) j) (are_distinct (keys ps)) d in by parts.0 (same_key j k) refl (members_put told H Y k v ps parts.1 o i h.2)
+  where
+    by : is_absent (keys ps) j ≡ true → (b : Bool) → same_key j k ≡ b → MembersIn told H Y (put_pair ps k v) → MembersIn told H Y (if b then pair j v ps else pair j u (put_pair ps k v))
+    by a true e rest =
+        let is : j ≡ k = same_is j k e in
+        (subst (λ k. OwnIn (H (place told k text_half)) (Y (place told k array_half)) v) (sym is) o, i, absent_members k told H Y ps (subst (λ k. is_absent (keys ps) k ≡ true) is a) h.2)
+    by a false e rest = (h.0 e, h.1, rest)

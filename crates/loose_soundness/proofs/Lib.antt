@@ -1,0 +1,12 @@
+pub mod Covers
+pub mod Decimals
+pub mod Lying
+pub mod Simple
+pub mod Keys
+pub mod Items
+pub mod Puts
+pub mod Texts
+pub mod Operations
+pub mod Places
+pub mod Steps
+pub mod Sound
