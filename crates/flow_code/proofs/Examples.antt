@@ -1,13 +1,13 @@
 -- The points of small programs, and runs of them.
-use Rattle.std.proofs.Common.{◌≡◌, ℕ, pos, true, false, List, [], ◌∷◌, None, Some, refl}
+use Rattle.std.proofs.Common.{◌≡◌, pos, true, false, List, [], ◌∷◌, None, Some, refl}
 use Rattle.std.specs.Prelude.{codes}
 use Rattle.php_syntax.specs.declared.tree.SuperName.TheVariants.{Get}
-use Rattle.php_syntax.specs.declared.tree.UpdateSign.TheVariants.{Join, Coalesce}
-use Rattle.php_syntax.specs.Trees.{PlainExpr, int_expr, text_expr, var_expr, super_expr, member_expr, and_expr, coalesce_expr, isset_expr, assign_expr, update_expr, step_expr, call_expr, no_expr, some_expr, PlainExprs, no_exprs, more_exprs, no_keys, more_keys, PlainStmt, inline_stmt, echo_stmt, run_stmt, while_stmt, for_stmt, each_stmt, break_stmt, quit_stmt, return_stmt, PlainStmts, no_stmts, more_stmts, PlainFunction}
-use Rattle.plain_values.specs.Plain.{null, text, int, empty, pair, text_key}
+use Rattle.php_syntax.specs.declared.tree.UpdateSign.TheVariants.{Coalesce}
+use Rattle.php_syntax.specs.Trees.{PlainExpr, int_expr, text_expr, var_expr, super_expr, member_expr, isset_expr, assign_expr, update_expr, step_expr, call_expr, no_expr, some_expr, PlainExprs, no_exprs, more_exprs, no_keys, more_keys, PlainStmt, echo_stmt, run_stmt, while_stmt, for_stmt, each_stmt, break_stmt, quit_stmt, return_stmt, PlainStmts, no_stmts, more_stmts, PlainFunction}
+use Rattle.plain_values.specs.Plain.{null, text, int}
 use Rattle.script_meaning.specs.Programs.{PlainProgram}
 use Rattle.flow_code.specs.declared.source.Work.TheVariants as work
-use Rattle.flow_code.specs.Points.{PlainPoint, set_point, call_point, print_point, echo_point, branch_point, jump_point, begin_point, next_point, key_point, value_point, return_point, quit_point, literal_source, copy_source, super_source, member_source, put_source, concat_source, number_source, truth_source, text_ref, read_ref, int_ref, points_in}
+use Rattle.flow_code.specs.Points.{PlainPoint, set_point, call_point, echo_point, branch_point, jump_point, begin_point, next_point, key_point, value_point, return_point, quit_point, literal_source, copy_source, super_source, member_source, put_source, number_source, truth_source, text_ref, points_in}
 use Rattle.flow_code.specs.Expressions.{code}
 use Rattle.flow_code.specs.Statements.{block}
 use Rattle.flow_code.specs.Flat.{flat}

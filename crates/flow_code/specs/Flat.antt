@@ -4,7 +4,7 @@ use Rattle.php_syntax.specs.Trees.{PlainParam, PlainFunction}
 use Rattle.plain_values.specs.Plain.{null}
 use Rattle.script_meaning.specs.Programs.{PlainProgram}
 use Rattle.flow_code.specs.Points.{literal_source, set_point, return_point, PlainFlowFunction, PlainFlow}
-use Rattle.flow_code.specs.Variables.{Name, name_of_param, variables_of, place_of}
+use Rattle.flow_code.specs.Variables.{variables_of}
 use Rattle.flow_code.specs.Code.{Block}
 use Rattle.flow_code.specs.Expressions.{Scope, variable}
 use Rattle.flow_code.specs.Statements.{block}

@@ -1,6 +1,6 @@
 -- What every program of points keeps, so that whoever takes one asks nothing more of it.
 use Rattle.std.specs.Prelude.{◌≡◌, ◌≢◌, ◌≤◌, ◌<◌, ◌+◌, ⊤, ℕ, ℤ, true, false, slice_get, List, [], ◌∷◌, ◌++◌, length, Option, Some, None, All, flat_map}
-use Rattle.plain_values.specs.Plain.{Plain, null, flag, int, text, array}
+use Rattle.plain_values.specs.Plain.{Plain, array}
 use Rattle.php_syntax.specs.declared.tree.ArithSign.{ArithSign}
 use Rattle.php_syntax.specs.declared.tree.CompareSign.{CompareSign}
 use Rattle.plain_values.specs.Numeric.{is_in_range}
@@ -181,18 +181,18 @@ SourceFits (apply_source operation from f args) = IsOperationOf operation from f
 SourceFits (number_source sign args) = GivesNumber sign args
 SourceFits (truth_source sign args) = GivesTruth sign args
 
--- a call hands in one value for each parameter of a function that there is
-abbrev pub CallFits : List PlainFlowFunction → PlainPoint → Type 0
-CallFits fs (call_point x n args next) = (g : PlainFlowFunction) × (slice_get fs n ≡ Some g) × (length args ≡ length g.params_of)
-CallFits fs (set_point x source next) = SourceFits source
-CallFits fs _ = ⊤
+-- the parts of a point are of its form; a call hands in one value for each parameter of a function that there is
+abbrev pub PartsFit : List PlainFlowFunction → PlainPoint → Type 0
+PartsFit fs (call_point x n args next) = (g : PlainFlowFunction) × (slice_get fs n ≡ Some g) × (length args ≡ length g.params_of)
+PartsFit fs (set_point x source next) = SourceFits source
+PartsFit fs _ = ⊤
 
 -- a point of a function reads and sets slots of the function alone, and goes on at points of the function alone
 pub record PointFits (fs : List PlainFlowFunction) (g : PlainFlowFunction) (i : PlainPoint) : Type 0 where
   pub reads_own : All (IsOwnSlot g) (reads i)
   pub sets_own : (x : ℕ) → sets i ≡ Some x → IsOwnSlot g x
   pub stays : All (IsOwnPoint g) (nexts i)
-  pub parts : CallFits fs i
+  pub parts : PartsFit fs i
 
 pub record FunctionFits (fs : List PlainFlowFunction) (g : PlainFlowFunction) : Type 0 where
   pub entry : IsOwnPoint g g.entry_of

@@ -1,5 +1,5 @@
 -- Points as plain data, in which slots, points and functions are numbers. Every other definition of this crate speaks of them.
-use Rattle.std.specs.Prelude.{ℕ, ℤ, List, [], ◌∷◌, ◌++◌, Option, Some, None, map, slice_get}
+use Rattle.std.specs.Prelude.{ℕ, ℤ, List, [], ◌∷◌, ◌++◌, Option, slice_get}
 use Rattle.php_syntax.specs.declared.tree.SuperName.{SuperName}
 use Rattle.plain_values.specs.Plain.{Plain}
 use Rattle.builtin_meaning.specs.declared.builtin.Builtin.{Builtin}

@@ -1,7 +1,7 @@
 -- What a run of points does: it follows the points with values in slots, and ends where the first function returns or at a `Quit`.
-use Rattle.std.specs.Prelude.{◌≡◌, ℕ, suc, pos, true, false, not, if◌then◌else◌, List, [], ◌∷◌, ◌++◌, Option, Some, None, map, nat_eq, Result, Ok, Err}
+use Rattle.std.specs.Prelude.{◌≡◌, ℕ, suc, true, false, not, if◌then◌else◌, List, [], ◌∷◌, ◌++◌, Option, Some, None, map, nat_eq, Result, Ok, Err}
 use Rattle.std.specs.List.{list_all}
-use Rattle.plain_values.specs.Plain.{Plain, PlainKey, Pairs, int_key, null, flag, int, text, array, empty, pair}
+use Rattle.plain_values.specs.Plain.{Plain, PlainKey, Pairs, null, flag, int, text, array, empty, pair}
 use Rattle.plain_values.specs.Text.{text_of, truth}
 use Rattle.plain_values.specs.Arithmetic.{negation_of}
 use Rattle.plain_values.specs.Joins.{join_of}
@@ -17,7 +17,7 @@ use Rattle.script_meaning.specs.Requests.{PlainRequest, request_array}
 use Rattle.script_meaning.specs.Expressions.{arithmetic, comparison, stepped, assigned}
 use Rattle.flow_code.specs.declared.source.Work.{Work}
 use Rattle.flow_code.specs.declared.source.Work.TheVariants as work
-use Rattle.flow_code.specs.Points.{PlainKeyRef, int_ref, text_ref, read_ref, PlainSource, literal_source, copy_source, super_source, member_source, array_source, put_source, concat_source, repeat_source, implode_source, explode_source, apply_source, number_source, truth_source, PlainPoint, set_point, call_point, print_point, echo_point, branch_point, jump_point, begin_point, next_point, key_point, value_point, return_point, quit_point, PlainFlowFunction, PlainFlow, point_at, function_at}
+use Rattle.flow_code.specs.Points.{PlainKeyRef, int_ref, text_ref, read_ref, PlainSource, literal_source, copy_source, super_source, member_source, array_source, put_source, concat_source, repeat_source, implode_source, explode_source, apply_source, number_source, truth_source, set_point, call_point, print_point, echo_point, branch_point, jump_point, begin_point, next_point, key_point, value_point, return_point, quit_point, PlainFlowFunction, PlainFlow, point_at, function_at}
 
 abbrev pub Slots : Type 0
 Slots = ℕ → Plain

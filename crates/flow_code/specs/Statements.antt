@@ -1,10 +1,10 @@
--- The points of statements. A point goes on to the one behind it, but for branches, and jumps back and out of loops.
+-- The points of statements. Each goes on to the one behind it, but for branches, jumps back to the head of a loop, and jumps out of it.
 use Rattle.std.specs.Prelude.{ℕ, ◌+◌, List, [], ◌∷◌, ◌++◌, Option, Some, None}
-use Rattle.php_syntax.specs.Trees.{PlainExpr, MaybeExpr, no_expr, some_expr, PlainExprs, no_exprs, more_exprs, PlainStmt, inline_stmt, echo_stmt, run_stmt, if_stmt, while_stmt, do_while_stmt, for_stmt, each_stmt, break_stmt, continue_stmt, return_stmt, include_stmt, quit_stmt, PlainStmts, no_stmts, more_stmts, PlainArms, no_arms, more_arms}
+use Rattle.php_syntax.specs.Trees.{MaybeExpr, no_expr, some_expr, PlainExprs, no_exprs, more_exprs, PlainStmt, inline_stmt, echo_stmt, run_stmt, if_stmt, while_stmt, do_while_stmt, for_stmt, each_stmt, break_stmt, continue_stmt, return_stmt, include_stmt, quit_stmt, PlainStmts, no_stmts, more_stmts, PlainArms, no_arms, more_arms}
 use Rattle.plain_values.specs.Plain.{null}
 use Rattle.flow_code.specs.Points.{PlainPoint, print_point, echo_point, branch_point, jump_point, begin_point, next_point, key_point, value_point, return_point, quit_point}
 use Rattle.flow_code.specs.Variables.{Name}
-use Rattle.flow_code.specs.Code.{Code, no_code, Targets, Block, no_block, ◌before◌, run_code, ending}
+use Rattle.flow_code.specs.Code.{Code, no_code, Block, no_block, ◌before◌, run_code, ending}
 use Rattle.flow_code.specs.Expressions.{Scope, variable, literal, code, codes}
 
 -- `echo`: each value is printed before the next one is evaluated

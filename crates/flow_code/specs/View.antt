@@ -1,5 +1,5 @@
 -- The plain form of the points of the code.
-use Rattle.std.specs.Prelude.{ℕ, List, [], ◌∷◌, Option, Some, None, map}
+use Rattle.std.specs.Prelude.{ℕ, Option, Some, None, map}
 use Rattle.text_base.specs.declared.numbers.Slot.{Slot}
 use Rattle.php_values.specs.View.{plain_of}
 use Rattle.flow_code.specs.declared.source.KeyRef.{KeyRef}

@@ -6,7 +6,7 @@ use Rattle.string_functions.specs.Breaks.{is_line_end}
 use Rattle.string_functions.specs.Url.{url_of_byte, raw_url_of_byte}
 use Rattle.string_functions.specs.Slashes.{slashes_of_byte}
 use Rattle.op_system.specs.declared.op.Op.{Op}
-use Rattle.op_system.specs.declared.op.Op.TheVariants.{Same, Any, Html, Replace, Cut, Factor, Lower, Upper, First, Trim, Breaks, Url, RawUrl, Slashes, Piece}
+use Rattle.op_system.specs.declared.op.Op.TheVariants.{Html, Replace, Lower, Upper, First, Breaks, Url, RawUrl, Slashes}
 
 -- the byte may stand in an output on any input
 unfoldable pub Adds : Op → ℕ → Type 0

@@ -13,7 +13,7 @@ pub data Form (N : Type 0) : Type 0 where
   before_form : List ℕ → N → Form N
   -- each text that the request may bring
   request_form : Form N
-  -- the decimal form of each integer
+  -- the decimal form of each integer of 64 bits, and of those others that have no more digits (specs/Integers.antt)
   integer_form : Form N
   -- each output of an operation on a text of another set
   apply_form : Op → N → Form N

@@ -1,5 +1,6 @@
--- The decimal forms of integers: `0`, or an optional `-`, a digit from 1 to 9 and at most 18 digits more.
-use Rattle.std.specs.Prelude.{◌≡◌, ◌≤◌, ◌⊎◌, ℕ, true, List, [], ◌∷◌, length}
+-- Integer texts: `0`, or an optional `-`, a digit from 1 to 9 and at most 18 digits more. The decimal forms of all integers of 64 bits are
+-- among them, and those of some more.
+use Rattle.std.specs.Prelude.{◌≡◌, ◌≤◌, ℕ, true, List, [], ◌∷◌, length}
 use Rattle.std.specs.Char.{is_ascii_digit}
 use Rattle.std.specs.List.{list_all}
 

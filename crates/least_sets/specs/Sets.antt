@@ -1,5 +1,5 @@
 -- The least sets of texts, and of bytes, that meet a table.
-use Rattle.std.specs.Prelude.{◌≡◌, ℕ, List, [], ◌∷◌, ◌++◌, Contains}
+use Rattle.std.specs.Prelude.{ℕ, List, ◌++◌, Contains}
 use Rattle.op_system.specs.declared.op.Op.{Op}
 use Rattle.op_system.specs.declared.op.Op.TheVariants.{Any}
 use Rattle.least_sets.specs.Forms.{Form, text_form, same_form, join_form, before_form, request_form, integer_form, apply_form, yes_form, where_form, names}
@@ -35,8 +35,9 @@ pub data Byte {N : Type 0} (R : N → Form N → Type 0) (request : List ℕ →
   added : (a c : N) (op : Op) (b : ℕ) → R a (apply_form op c) → Adds op b → Byte R request a b
   turned : (a c : N) (op : Op) (b e : ℕ) → R a (apply_form op c) → Byte R request c b → Turns op b e → Byte R request a e
 
--- the texts of a set. For an operation in a cycle its outputs are texts over its bytes, beside those that it has on its operand, which
--- are such texts too
+-- the texts of a set. An operation in a cycle has all texts over its bytes as outputs, beside those that it has on its operand; where operations
+-- are read as PHP has them, these are such texts too, so that the sets are those with its outputs replaced (Minamide, Static Approximation of
+-- Dynamically Generated Web Pages, WWW 2005)
 pub data In {N : Type 0} (R : N → Form N → Type 0) (outputs : Op → List ℕ → List ℕ → Type 0) (request : List ℕ → Type 0) (circular : (ℕ → Type 0) → List ℕ → Type 0) : N → List ℕ → Type 0 where
   text : (a : N) (w : List ℕ) → R a (text_form w) → In R outputs request circular a w
   same : (a c : N) (w : List ℕ) → R a (same_form c) → In R outputs request circular c w → In R outputs request circular a w

@@ -1,9 +1,9 @@
 -- The keys that are told apart: the first 64 that stand in the program as literals. Members under other keys are taken together.
-use Rattle.std.specs.Prelude.{ℕ, Bool, true, false, not, ◌||◌, if◌then◌else◌, List, [], ◌∷◌, ◌++◌, Option, Some, None, take, flat_map, map}
+use Rattle.std.specs.Prelude.{ℕ, Bool, true, false, not, if◌then◌else◌, List, [], ◌∷◌, Option, Some, None, take, flat_map}
 use Rattle.std.specs.List.{list_any}
 use Rattle.plain_values.specs.Plain.{PlainKey, int_key, text_key}
 use Rattle.plain_values.specs.Keys.{canonical_integer, canonical_key, same_key}
-use Rattle.flow_code.specs.Points.{PlainKeyRef, int_ref, text_ref, read_ref, PlainSource, literal_source, copy_source, super_source, member_source, array_source, put_source, concat_source, repeat_source, implode_source, explode_source, apply_source, number_source, truth_source, PlainPoint, set_point, PlainFlow, points_in}
+use Rattle.flow_code.specs.Points.{PlainKeyRef, int_ref, text_ref, read_ref, PlainSource, member_source, array_source, put_source, PlainPoint, set_point, PlainFlow, points_in}
 
 -- the key that a literal stands for
 unfoldable pub literal_key : PlainKeyRef → Option PlainKey

@@ -1,11 +1,11 @@
--- The loose pages of a program of points.
-use Rattle.std.specs.Prelude.{◌≡◌, ◌⊎◌, ℕ, List, Some, All}
+-- The loose pages of a program of points (Minamide, WWW 2005).
+use Rattle.std.specs.Prelude.{◌≡◌, ℕ, List, Some, All}
 use Rattle.xml_text.specs.Texts.{IsText}
 use Rattle.op_system.specs.declared.op.Op.{Op}
 use Rattle.op_system.specs.Rel.{Rel}
 use Rattle.flow_code.specs.Points.{PlainFlowFunction, PlainFlow, function_at}
 use Rattle.least_sets.specs.Sets.{In}
-use Rattle.loose_sets.specs.Names.{Leaving, by_return, by_exit, Name, out_of}
+use Rattle.loose_sets.specs.Names.{Leaving, Name, out_of}
 use Rattle.loose_sets.specs.Table.{Row}
 
 -- a text of a set, by this reading of operations, of the request, and of operations in a cycle

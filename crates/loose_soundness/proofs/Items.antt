@@ -1,35 +1,30 @@
 -- Array literals and writes.
-use Rattle.std.proofs.Common.{◌≡◌, ℕ, ℤ, Bool, true, false, if◌then◌else◌, nat_lt, nat_le, List, [], ◌∷◌, ◌++◌, Option, Some, None, Result, Ok, Err, refl, sym, ap, subst, ◌∙◌, arith}
-use Rattle.std.specs.Prelude.{⊤, All, Contains, map}
+use Rattle.std.proofs.Common.{◌≡◌, ℕ, ℤ, Bool, true, false, if◌then◌else◌, nat_lt, List, [], ◌∷◌, Option, Some, None, Result, Ok, Err, refl, sym, subst, arith}
+use Rattle.std.specs.Prelude.{All, Contains, map}
 use Rattle.std.proofs.lemmas.List.Elements.{All-head, All-tail}
 use Rattle.string_functions.proofs.Members.{Contains-head, Contains-later}
-use Rattle.plain_values.specs.Plain.{Plain, PlainKey, Pairs, int_key, text_key, null, flag, int, text, array, empty, pair, keys, deepest, depth}
-use Rattle.plain_values.specs.Keys.{key_of, same_key, are_distinct}
-use Rattle.plain_values.specs.Members.{put_pair, within_depth, put, push, push_at, key_after, largest_key}
-use Rattle.plain_values.specs.Members as members
-use Rattle.plain_values.specs.Numeric.{is_in_range}
+use Rattle.plain_values.specs.Plain.{Plain, PlainKey, Pairs, int_key, array, empty, deepest}
+use Rattle.plain_values.specs.Keys.{key_of}
+use Rattle.plain_values.specs.Members.{put_pair, within_depth, put, push_at, key_after, largest_key}
 use Rattle.plain_values.specs.Outcome.{go_on}
-use Rattle.plain_values.specs.Paths.{Step, step_of, path_of, container, named_key, put_back, change_member, change_in, put_in, no_deeper, write, add_item, add_items, literal_of}
-use Rattle.plain_values.specs.Text.{text_of}
-use Rattle.plain_values.specs.Walks.{value_of_key}
-use Rattle.plain_values.specs.Lawful.{IsKey, IsValue, HasValues, PairsHaveValues}
+use Rattle.plain_values.specs.Paths.{add_item, add_items, literal_of}
+use Rattle.plain_values.specs.Lawful.{IsValue, PairsHaveValues}
 use Rattle.plain_values.specs.declared.fault.Fault.{Fault}
 use Rattle.plain_values.specs.declared.fault.Fault.TheVariants.{Long}
-use Rattle.flow_code.specs.Points.{PlainFlow, PlainKeyRef, int_ref, text_ref, read_ref, PlainSource, array_source, put_source}
-use Rattle.flow_code.specs.Lawful.{IsMaybeKey, IsItemKey, IsKeyLiteral}
+use Rattle.flow_code.specs.Points.{PlainFlow, PlainKeyRef, int_ref, text_ref, read_ref, PlainSource, array_source}
+use Rattle.flow_code.specs.Lawful.{IsItemKey, IsKeyLiteral}
 use Rattle.flow_code.specs.Runs.{Slots, key_value, maybe_key_value, item_value}
-use Rattle.least_sets.specs.Forms.{Form, same_form, yes_form}
 use Rattle.loose_sets.specs.Reaching.{at_point}
-use Rattle.loose_sets.specs.Keys.{told_keys, is_among}
-use Rattle.loose_sets.specs.Names.{Half, text_half, array_half, Aspect, own, member, others, keys_of, Name, set_of, use_of, all_of}
-use Rattle.loose_sets.specs.Table.{Row, SourceRow, SetsTo, IsTold, KeyText}
-use Rattle.value_laws.specs.Parts.{IsMaybeValue, IsItem}
-use Rattle.value_laws.proofs.Arrays.{key_is, next_key, item_value_is}
+use Rattle.loose_sets.specs.Keys.{told_keys}
+use Rattle.loose_sets.specs.Names.{text_half, array_half, own, member, others, keys_of, use_of, all_of}
+use Rattle.loose_sets.specs.Table.{SourceRow, SetsTo}
+use Rattle.value_laws.specs.Parts.{IsItem}
+use Rattle.value_laws.proofs.Arrays.{next_key, item_value_is}
 use Rattle.value_laws.proofs.Texts.{text_value, number_value}
-use Rattle.loose_soundness.proofs.Covers.{Texts, OwnIn, InsideIn, AllIn, KeysIn, KeysInAll, MembersIn, ButFor, Covers, place, own_wider, inside_wider, all_wider, keys_wider, all_keys_wider, covers_own, covers_keys, members_put, but_for, keys_put, all_put, member_inside, member_keys}
-use Rattle.loose_soundness.proofs.Lying.{HasIn, SaysIn, Def, DefYes, Use, UseYes, Lies, UseLies, same_in, same_yes, by_place, by_place_told, all_inside, of_source}
+use Rattle.loose_soundness.proofs.Covers.{KeysInAll, MembersIn, place, own_wider, inside_wider, keys_wider, covers_own, covers_keys, members_put, but_for, keys_put}
+use Rattle.loose_soundness.proofs.Lying.{HasIn, SaysIn, Def, DefYes, Use, UseYes, Lies, UseLies, by_place_told, all_inside, of_source}
 use Rattle.loose_soundness.proofs.Simple.{yes_in, from_in, from_yes}
-use Rattle.loose_soundness.proofs.Keys.{Resolved, by_key, by_next, may_be_it, may_be_none, not_exactly, KeyLies, key_text}
+use Rattle.loose_soundness.proofs.Keys.{Resolved, by_key, by_next, may_be_it, may_be_none, KeyLies, key_text}
 
 -- a literal key is a value
 pub key_ref_value : (flow : PlainFlow) (p : ℕ) (f : Slots) (k : PlainKeyRef) → IsKeyLiteral k → KeyLies flow p f (Some k) → IsValue (key_value f k)

@@ -1,10 +1,10 @@
 -- The keys that written keys come to.
-use Rattle.std.proofs.Common.{◌≡◌, ℕ, ℤ, pos, negsuc, Bool, true, false, not, ◌&&◌, if◌then◌else◌, nat_eq, List, [], ◌∷◌, ◌++◌, Option, Some, None, Result, Ok, Err, refl, sym, ap, subst, ◌∙◌, arith}
-use Rattle.std.specs.Prelude.{⊤, All, Contains, codes}
+use Rattle.std.proofs.Common.{◌≡◌, ℕ, ℤ, pos, Bool, true, false, not, ◌&&◌, if◌then◌else◌, nat_eq, List, [], ◌∷◌, Option, Some, None, Result, Ok, refl, sym, ap, subst, ◌∙◌}
+use Rattle.std.specs.Prelude.{⊤}
 use Rattle.std.specs.Fmt.{signed_decimal}
 use Rattle.std.specs.Str.Parse.{signed_digits_value}
 use Rattle.std.specs.Cmp.Lexicographic.{pointwise}
-use Rattle.plain_values.specs.Plain.{Plain, PlainKey, Pairs, int_key, text_key, null, flag, int, text, array}
+use Rattle.plain_values.specs.Plain.{Plain, PlainKey, int_key, text_key, null, flag, int, text, array}
 use Rattle.plain_values.specs.Keys.{canonical_integer, canonical_key, key_of, same_key}
 use Rattle.plain_values.specs.Numeric.{is_in_range}
 use Rattle.plain_values.specs.Text.{text_of}
@@ -12,15 +12,15 @@ use Rattle.plain_values.specs.Walks.{value_of_key}
 use Rattle.plain_values.specs.declared.fault.Fault.{Fault}
 use Rattle.flow_code.specs.Points.{PlainFlow, PlainKeyRef, int_ref, text_ref, read_ref}
 use Rattle.flow_code.specs.Runs.{Slots, key_value}
-use Rattle.least_sets.specs.Forms.{Form, text_form, same_form, integer_form}
+use Rattle.least_sets.specs.Forms.{Form}
 use Rattle.least_sets.specs.Sets.{In}
 use Rattle.loose_sets.specs.Reaching.{at_point}
-use Rattle.loose_sets.specs.Keys.{literal_key, is_among, may_be, may_be_other, is_exactly, is_integer_key}
+use Rattle.loose_sets.specs.Keys.{literal_key, is_among, may_be, may_be_other, is_exactly}
 use Rattle.loose_sets.specs.Names.{text_half, own, keys_of, Name, set_of, use_of}
 use Rattle.loose_sets.specs.Table.{Row, KeyText, of_integer, of_text, of_value, of_false, of_next}
 use Rattle.loose_soundness.proofs.Covers.{same_is, same_itself, same_back}
 use Rattle.loose_soundness.proofs.Decimals.{integer_is, decimal_none, decimal_one}
-use Rattle.loose_soundness.proofs.Lying.{HasIn, Def, UseLies, same_in}
+use Rattle.loose_soundness.proofs.Lying.{Def, UseLies, same_in}
 
 -- a written key comes to a key: by its value, or as the key that comes next
 pub data Resolved (f : Slots) : Option PlainKeyRef → PlainKey → Type 0 where

@@ -1,22 +1,21 @@
 -- The values of slots lie in the sets of the definitions that reach a point.
-use Rattle.std.proofs.Common.{◌≡◌, ℕ, Bool, true, false, ◌||◌, if◌then◌else◌, List, [], ◌∷◌, ◌++◌, Option, Some, None, refl, sym, ap, subst, ◌∙◌, arith}
-use Rattle.std.specs.Prelude.{⊤, All, Contains}
+use Rattle.std.proofs.Common.{◌≡◌, ℕ, Bool, true, false, ◌||◌, if◌then◌else◌, List, [], ◌∷◌, refl, sym, subst}
+use Rattle.std.specs.Prelude.{All, Contains}
 use Rattle.std.specs.List.{list_any}
 use Rattle.string_functions.proofs.Members.{Contains-head, Contains-later}
 use Rattle.xml_text.specs.Texts.{IsText}
 use Rattle.plain_values.specs.Plain.{Plain, PlainKey, Pairs, null, flag, int, text, array}
 use Rattle.plain_values.specs.Keys.{same_key}
-use Rattle.plain_values.specs.Text.{text_of}
 use Rattle.plain_values.specs.Lawful.{IsValue}
 use Rattle.op_system.specs.Rel.{Rel}
 use Rattle.flow_code.specs.Points.{PlainFlow, PlainSource}
-use Rattle.least_sets.specs.Forms.{Form, text_form, same_form, join_form, before_form, request_form, integer_form, apply_form, yes_form, where_form}
+use Rattle.least_sets.specs.Forms.{Form, same_form}
 use Rattle.least_sets.specs.Sets.{In, Says}
-use Rattle.loose_sets.specs.Reaching.{Definition, at_point, at_entry, Reaches}
+use Rattle.loose_sets.specs.Reaching.{Definition, at_point, Reaches}
 use Rattle.loose_sets.specs.Keys.{told_keys, is_among}
-use Rattle.loose_sets.specs.Names.{Half, text_half, array_half, Aspect, own, member, others, keys_of, Name, set_of, use_of, all_of}
+use Rattle.loose_sets.specs.Names.{Half, text_half, array_half, Aspect, member, others, Name, set_of, use_of, all_of}
 use Rattle.loose_sets.specs.Table.{Row, SourceRow, SetsTo, IsTold}
-use Rattle.loose_soundness.proofs.Covers.{Texts, Has, Yes, OwnIn, InsideIn, AllIn, KeysIn, KeysInAll, MembersIn, Covers, place, covers_wider, covers_own, covers_keys, members_all, inside_wider, same_is}
+use Rattle.loose_soundness.proofs.Covers.{Has, Yes, InsideIn, AllIn, MembersIn, Covers, place, covers_wider, members_all, same_is}
 
 abbrev pub HasIn : PlainFlow → Name → List ℕ → Type 0
 HasIn flow name w = In (Row flow) Rel IsText (λ bytes text. All bytes text) name w

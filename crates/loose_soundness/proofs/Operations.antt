@@ -1,13 +1,13 @@
 -- Operations on texts: their outputs lie in their sets, and the bytes of a set's texts in its bytes.
-use Rattle.std.proofs.Common.{◌≡◌, ◌⊎◌, inl, inr, ℕ, zero, suc, ◌+◌, ℤ, pos, negsuc, Bool, true, false, not, if◌then◌else◌, List, [], ◌∷◌, ◌++◌, length, Option, Some, None, Result, Ok, Err, refl, sym, ap, subst, ◌∙◌, arith}
-use Rattle.std.specs.Prelude.{⊤, All, Contains, map, codes, IsUtf8}
+use Rattle.std.proofs.Common.{◌≡◌, ◌⊎◌, inl, inr, ℕ, ◌+◌, ℤ, pos, Bool, true, false, if◌then◌else◌, List, [], ◌∷◌, Option, Some, None, Result, Ok, Err, refl, sym, subst}
+use Rattle.std.specs.Prelude.{All, Contains, map}
 use Rattle.std.specs.Str.{is_utf8}
 use Rattle.std.proofs.lemmas.Str.{IsUtf8-from_is_utf8}
-use Rattle.std.proofs.lemmas.List.Elements.{All-head, All-tail, All-nil, All-cons, All-contains, Contains-append_cases}
+use Rattle.std.proofs.lemmas.List.Elements.{All-nil, All-cons, All-contains, Contains-append_cases}
 use Rattle.string_functions.proofs.Members.{Contains-head, Contains-later}
 use Rattle.string_functions.specs.Html.{html_of}
 use Rattle.string_functions.specs.Pieces.{pieces_of, replaced_text}
-use Rattle.string_functions.specs.Cut.{part_of, IsFactor}
+use Rattle.string_functions.specs.Cut.{part_of}
 use Rattle.string_functions.specs.Case.{lower_of, upper_of, first_upper_of}
 use Rattle.string_functions.specs.Trim.{trim_of}
 use Rattle.string_functions.specs.Breaks.{breaks_of}
@@ -16,17 +16,17 @@ use Rattle.string_functions.specs.Slashes.{slashes_of}
 use Rattle.string_functions.proofs.EndsLaws.{IsFactor-part_of}
 use Rattle.string_functions.proofs.JoinLaws.{IsFactor-pieces_of, Contains-replaced_text}
 use Rattle.xml_text.specs.Texts.{IsText}
-use Rattle.plain_values.specs.Plain.{Plain, PlainKey, Pairs, int_key, null, flag, int, text, array, empty, pair}
+use Rattle.plain_values.specs.Plain.{Plain, int_key, null, text, array}
 use Rattle.plain_values.specs.Members.{within_length}
 use Rattle.plain_values.specs.Outcome.{go_on}
 use Rattle.plain_values.specs.Arithmetic.{number_of}
-use Rattle.plain_values.specs.Lawful.{IsValue, HasValues, PairsHaveValues}
+use Rattle.plain_values.specs.Lawful.{IsValue, PairsHaveValues}
 use Rattle.plain_values.specs.declared.fault.Fault.{Fault}
-use Rattle.plain_values.specs.declared.fault.Fault.TheVariants.{WrongType, NotUtf8}
+use Rattle.plain_values.specs.declared.fault.Fault.TheVariants.{NotUtf8}
 use Rattle.builtin_meaning.specs.declared.builtin.Builtin.{Builtin}
 use Rattle.builtin_meaning.specs.declared.builtin.Builtin.TheVariants as builtin
 use Rattle.builtin_meaning.specs.Arguments.{as_text, as_optional_number}
-use Rattle.builtin_meaning.specs.Values.{of_text, escaped, replaced, cut, exploded, pieces_at, numbered_from, builtin_value}
+use Rattle.builtin_meaning.specs.Values.{escaped, replaced, cut, pieces_at, numbered_from, builtin_value}
 use Rattle.op_system.specs.declared.op.Op.{Op}
 use Rattle.op_system.specs.declared.op.Op.TheVariants as op
 use Rattle.op_system.specs.Rel.{Rel}
@@ -36,7 +36,7 @@ use Rattle.flow_code.specs.Points.{PlainFlow, PlainSource, apply_source, explode
 use Rattle.flow_code.specs.Lawful.{IsOperationOf, IsSplittingOf}
 use Rattle.flow_code.specs.Lawful as lawful
 use Rattle.flow_code.specs.Runs.{Slots, given}
-use Rattle.least_sets.specs.Forms.{Form, same_form, apply_form, integer_form, yes_form}
+use Rattle.least_sets.specs.Forms.{same_form, integer_form}
 use Rattle.least_sets.specs.Bytes.{Adds, Turns}
 use Rattle.least_sets.specs.Sets.{In, Byte, IsCircular}
 use Rattle.loose_sets.specs.Reaching.{at_point}
@@ -44,10 +44,9 @@ use Rattle.loose_sets.specs.Keys.{told_keys}
 use Rattle.loose_sets.specs.Names.{text_half, array_half, own, member, others, keys_of, Name, set_of, use_of, input_of, output_of}
 use Rattle.loose_sets.specs.Table.{Row, SourceRow, SetsTo, Reads}
 use Rattle.value_laws.proofs.Texts.{within, within_value}
-use Rattle.value_laws.proofs.Functions.{function_value}
-use Rattle.loose_soundness.proofs.Covers.{OwnIn, MembersIn, KeysInAll, Covers, place}
+use Rattle.loose_soundness.proofs.Covers.{MembersIn, KeysInAll, place}
 use Rattle.loose_soundness.proofs.Decimals.{integer_is}
-use Rattle.loose_soundness.proofs.Lying.{HasIn, SaysIn, Def, DefYes, Use, UseYes, Lies, UseLies, same_in, by_place, of_source}
+use Rattle.loose_soundness.proofs.Lying.{HasIn, Def, DefYes, Use, Lies, UseLies, same_in, by_place, of_source}
 use Rattle.loose_soundness.proofs.Simple.{yes_in, from_in}
 use Rattle.loose_soundness.proofs.Texts.{own_text_in, text_lies}
 

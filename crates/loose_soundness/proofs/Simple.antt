@@ -1,6 +1,6 @@
 -- Literals, copies, arrays of the request, and members.
-use Rattle.std.proofs.Common.{◌≡◌, ℕ, ℤ, Bool, true, false, if◌then◌else◌, List, [], ◌∷◌, ◌++◌, Option, Some, None, Result, Ok, Err, refl, sym, ap, subst, ◌∙◌, arith}
-use Rattle.std.specs.Prelude.{⊤, All, Contains}
+use Rattle.std.proofs.Common.{◌≡◌, ℕ, ℤ, Bool, true, false, if◌then◌else◌, List, [], Result, Ok, Err, refl, sym, subst}
+use Rattle.std.specs.Prelude.{⊤}
 use Rattle.xml_text.specs.Texts.{IsText}
 use Rattle.php_syntax.specs.declared.tree.SuperName.{SuperName}
 use Rattle.php_syntax.specs.declared.tree.SuperName.TheVariants.{Get, Post, Cookie, Request, Server}
@@ -10,25 +10,23 @@ use Rattle.plain_values.specs.Members.{get}
 use Rattle.plain_values.specs.Members as members
 use Rattle.plain_values.specs.Outcome.{go_on}
 use Rattle.plain_values.specs.Paths.{subscript_of}
-use Rattle.plain_values.specs.Text.{text_of}
-use Rattle.plain_values.specs.Walks.{value_of_key}
-use Rattle.plain_values.specs.Lawful.{IsKey, IsValue, HasValues, PairsHaveValues}
+use Rattle.plain_values.specs.Lawful.{IsValue, HasValues, PairsHaveValues}
 use Rattle.plain_values.specs.declared.fault.Fault.{Fault}
 use Rattle.script_meaning.specs.Requests.{PlainRequest, request_array, IsMember, AreMembers, IsAdmitted, Admitted}
 use Rattle.flow_code.specs.Points.{PlainFlow, PlainKeyRef, int_ref, text_ref, read_ref, PlainSource, literal_source, copy_source, super_source, member_source}
 use Rattle.flow_code.specs.Lawful.{IsLiteral}
 use Rattle.flow_code.specs.Runs.{Slots, key_value}
-use Rattle.least_sets.specs.Forms.{Form, text_form, same_form, request_form, yes_form}
+use Rattle.least_sets.specs.Forms.{text_form, same_form, request_form, yes_form}
 use Rattle.least_sets.specs.Sets.{In, Says}
 use Rattle.loose_sets.specs.Reaching.{at_point}
 use Rattle.loose_sets.specs.Keys.{literal_key, told_keys, is_among}
 use Rattle.loose_sets.specs.Names.{Half, text_half, array_half, Aspect, own, member, others, keys_of, Name, set_of, use_of, all_of}
-use Rattle.loose_sets.specs.Table.{Row, SourceRow, SetsTo, IsTold, member_at, deeper, request_member}
+use Rattle.loose_sets.specs.Table.{Row, SourceRow, SetsTo, member_at, deeper, request_member}
 use Rattle.value_laws.proofs.Arrays.{subscript_value}
 use Rattle.value_laws.proofs.Texts.{null_value}
 use Rattle.loose_soundness.proofs.Decimals.{integer_text}
-use Rattle.loose_soundness.proofs.Covers.{Texts, OwnIn, InsideIn, AllIn, KeysIn, KeysInAll, MembersIn, Covers, place, own_wider, covers_wider, covers_text, covers_deep, covers_keys, keys_wider, all_members, member_own, member_inside, member_inside_all, member_keys}
-use Rattle.loose_soundness.proofs.Lying.{HasIn, SaysIn, Def, DefYes, Use, UseYes, Lies, UseLies, same_in, same_yes, by_place, all_lies, of_source}
+use Rattle.loose_soundness.proofs.Covers.{OwnIn, InsideIn, AllIn, KeysIn, KeysInAll, place, covers_wider, covers_deep, keys_wider, all_members, member_own, member_inside, member_keys}
+use Rattle.loose_soundness.proofs.Lying.{HasIn, SaysIn, Def, DefYes, Use, UseYes, Lies, UseLies, same_in, same_yes, by_place, of_source}
 
 module _ (flow : PlainFlow) (p : ℕ) where
   -- a text that a source has by itself

@@ -1,24 +1,24 @@
 -- Whatever a run of points prints up to the end of a function lies in the set of what is printed from there.
-use Rattle.std.proofs.Common.{inl, inr, ◌≡◌, ◌≢◌, ◌≤◌, ◌<◌, ◌+◌, ℕ, zero, suc, Bool, true, false, if◌then◌else◌, nat_eq, List, [], ◌∷◌, ◌++◌, length, Option, Some, None, Result, Ok, Err, refl, sym, ap, subst, ◌∙◌, arith}
-use Rattle.std.specs.Prelude.{⊤, All, Contains, slice_get, map, flat_map, nat_le, nat_lt}
+use Rattle.std.proofs.Common.{inl, inr, ◌≡◌, ℕ, suc, Bool, true, false, if◌then◌else◌, nat_eq, List, [], ◌∷◌, length, Option, Some, None, Ok, refl, sym, subst, ◌∙◌, arith}
+use Rattle.std.specs.Prelude.{⊤, All, Contains, slice_get, map, flat_map}
 use Rattle.std.proofs.lemmas.Bool.{eqb-true, eq-eqb, false≢true}
 use Rattle.std.proofs.lemmas.List.Elements.{All-nil, All-head, All-tail, All-cons, All-contains, Contains-append_left, Contains-append_right}
 use Rattle.string_functions.proofs.Members.{Contains-nil, Contains-cons_cases, Contains-head, Contains-later}
-use Rattle.plain_values.specs.Plain.{Plain, PlainKey, Pairs, null, flag, int, text, array}
+use Rattle.plain_values.specs.Plain.{Plain, null, text, array}
 use Rattle.plain_values.specs.Text.{text_of, truth}
 use Rattle.plain_values.specs.Walks.{value_of_key, walked}
 use Rattle.plain_values.specs.Lawful.{IsValue}
 use Rattle.script_meaning.specs.Requests.{PlainRequest, Admitted}
 use Rattle.flow_code.specs.Points.{PlainKeyRef, int_ref, text_ref, read_ref, PlainSource, literal_source, copy_source, super_source, member_source, array_source, put_source, concat_source, repeat_source, implode_source, explode_source, apply_source, number_source, truth_source, PlainPoint, set_point, call_point, print_point, echo_point, branch_point, jump_point, begin_point, next_point, key_point, value_point, return_point, quit_point, PlainFlowFunction, PlainFlow, point_at, function_at}
-use Rattle.flow_code.specs.Lawful.{key_slots, maybe_key_slots, item_slots, source_reads, reads, sets, nexts, IsOwnSlot, IsOwnPoint, SourceFits, CallFits, PointFits, FunctionFits, IsFlow, IsItemKey, IsMaybeKey}
+use Rattle.flow_code.specs.Lawful.{key_slots, maybe_key_slots, item_slots, source_reads, reads, sets, nexts, IsOwnSlot, IsOwnPoint, SourceFits, PartsFit, PointFits, FunctionFits, IsFlow, IsItemKey, IsMaybeKey}
 use Rattle.flow_code.specs.Runs.{Slots, Walk, no_walk, Frame, set_slot, set_walk, source_value, arguments_in, fresh, FlowEnd, returned, exited, RunsFrom, FlatRun}
 use Rattle.flow_code.specs.Runs as runs
 use Rattle.least_sets.specs.Sets.{In}
-use Rattle.loose_sets.specs.Reaching.{Definition, at_point, at_entry, Reaches}
+use Rattle.loose_sets.specs.Reaching.{at_point, at_entry, Reaches}
 use Rattle.loose_sets.specs.Keys.{told_keys}
-use Rattle.loose_sets.specs.Names.{text_half, array_half, Aspect, own, Leaving, by_return, by_exit, Name, set_of, use_of, result_of, shown_at, out_of}
+use Rattle.loose_sets.specs.Names.{text_half, own, Leaving, by_return, by_exit, set_of, use_of, result_of, shown_at, out_of}
 use Rattle.loose_sets.specs.Table.{Row, SetsTo, IsArgument, PrintsNothing}
-use Rattle.loose_sets.specs.Loose.{LooseBy, Loose}
+use Rattle.loose_sets.specs.Loose.{Loose}
 use Rattle.value_laws.proofs.Functions.{exploded_value}
 use Rattle.builtin_meaning.specs.declared.builtin.Builtin.{Builtin}
 use Rattle.builtin_meaning.specs.declared.builtin.Builtin.TheVariants as builtin
@@ -29,15 +29,15 @@ use Rattle.flow_code.specs.Lawful as lawful
 use Rattle.flow_code.specs.Runs.{given}
 use Rattle.value_laws.proofs.Texts.{null_value}
 use Rattle.loose_soundness.proofs.Covers.{Covers, covers_wider}
-use Rattle.loose_soundness.proofs.Lying.{HasIn, SaysIn, Def, DefYes, Use, UseYes, Lies, UseLies, same_in, same_yes}
+use Rattle.loose_soundness.proofs.Lying.{HasIn, SaysIn, Lies, UseLies, same_in, same_yes}
 use Rattle.loose_soundness.proofs.Simple.{literal_lies, copy_lies, super_lies, member_lies}
 use Rattle.loose_soundness.proofs.Items as items
 use Rattle.loose_soundness.proofs.Keys.{KeyLies}
 use Rattle.loose_soundness.proofs.Puts.{put_lies}
-use Rattle.loose_soundness.proofs.Texts.{shown_in, own_text_in, concat_lies, repeat_lies, implode_lies, number_lies, truth_lies}
+use Rattle.loose_soundness.proofs.Texts.{shown_in, concat_lies, repeat_lies, implode_lies, number_lies, truth_lies}
 use Rattle.loose_soundness.proofs.Operations.{apply_lies, explode_lies}
-use Rattle.loose_soundness.proofs.Places.{get_contains, function_fits, point_fits}
-use Rattle.loose_soundness.proofs.Steps.{WalkLies, SlotHolds, FrameHolds, no_walk_lies, slot_lies, read_lies, same_frame, set_frame, walk_frame, moved_frame, begin_lies, rest_begins, key_lies, value_lies}
+use Rattle.loose_soundness.proofs.Places.{function_fits, point_fits}
+use Rattle.loose_soundness.proofs.Steps.{FrameHolds, no_walk_lies, read_lies, same_frame, set_frame, walk_frame, moved_frame, begin_lies, rest_begins, key_lies, value_lies}
 
 all_of : {X : Type 0} (P : X → Type 0) (xs : List X) → ((x : X) → Contains xs x → P x) → All P xs
 all_of P [] h = All-nil P

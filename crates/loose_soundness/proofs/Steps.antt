@@ -1,22 +1,21 @@
 -- What holds of a frame at a point holds at the next one.
-use Rattle.std.proofs.Common.{◌≡◌, ◌≢◌, ◌≤◌, ◌<◌, ◌+◌, ℕ, zero, suc, ℤ, Bool, true, false, if◌then◌else◌, nat_eq, List, [], ◌∷◌, ◌++◌, length, Option, Some, None, refl, sym, ap, subst, ◌∙◌, arith, Result, Ok, Err}
-use Rattle.std.specs.Prelude.{⊤, All, Contains, slice_get, map, flat_map}
+use Rattle.std.proofs.Common.{◌≡◌, ◌≢◌, ◌≤◌, ℕ, Bool, true, false, if◌then◌else◌, nat_eq, List, Option, Some, None, refl, sym, ap, subst, ◌∙◌, arith}
+use Rattle.std.specs.Prelude.{All, Contains}
 use Rattle.std.proofs.lemmas.Bool.{eqb-true, eq-eqb}
 use Rattle.std.proofs.lemmas.List.Elements.{All-contains}
-use Rattle.string_functions.proofs.Members.{Contains-head, Contains-later}
-use Rattle.plain_values.specs.Plain.{Plain, PlainKey, Pairs, int_key, text_key, null, flag, int, text, array, empty, pair, depth, deepest}
+use Rattle.plain_values.specs.Plain.{Plain, PlainKey, Pairs, int_key, text_key, null, flag, int, text, array, pair, deepest}
 use Rattle.plain_values.specs.Text.{text_of}
 use Rattle.plain_values.specs.Walks.{value_of_key, walked}
-use Rattle.plain_values.specs.Lawful.{IsKey, IsValue, HasValues, PairsHaveValues}
-use Rattle.flow_code.specs.Points.{PlainPoint, PlainFlowFunction, PlainFlow, set_point, begin_point, next_point, key_point, value_point, point_at, function_at}
-use Rattle.flow_code.specs.Lawful.{reads, sets, nexts, IsOwnSlot, IsOwnPoint}
+use Rattle.plain_values.specs.Lawful.{IsKey, IsValue, PairsHaveValues}
+use Rattle.flow_code.specs.Points.{PlainPoint, PlainFlowFunction, PlainFlow, begin_point, key_point, value_point, point_at}
+use Rattle.flow_code.specs.Lawful.{sets, nexts, IsOwnSlot}
 use Rattle.flow_code.specs.Runs.{Walk, no_walk, Frame, set_slot, set_walk}
-use Rattle.loose_sets.specs.Reaching.{Definition, at_point, at_entry, Reaches}
+use Rattle.loose_sets.specs.Reaching.{Definition, at_point, Reaches}
 use Rattle.loose_sets.specs.Keys.{told_keys}
-use Rattle.loose_sets.specs.Names.{text_half, array_half, Aspect, own, member, others, keys_of, Name, set_of, use_of, all_of}
+use Rattle.loose_sets.specs.Names.{text_half, array_half, Aspect, own, member, others, keys_of, set_of, use_of, all_of}
 use Rattle.loose_sets.specs.Table.{Row, deeper}
-use Rattle.loose_soundness.proofs.Covers.{OwnIn, InsideIn, AllIn, KeysIn, KeysInAll, MembersIn, Covers, place, own_wider, keys_wider, covers_wider, covers_deep, inside_wider}
-use Rattle.loose_soundness.proofs.Lying.{HasIn, SaysIn, Def, DefYes, Use, UseYes, Lies, UseLies, Holds, use_lies, same_in, same_yes, by_place}
+use Rattle.loose_soundness.proofs.Covers.{OwnIn, InsideIn, KeysIn, KeysInAll, MembersIn, Covers, place, own_wider, keys_wider, covers_wider, covers_deep, inside_wider}
+use Rattle.loose_soundness.proofs.Lying.{HasIn, SaysIn, Def, DefYes, Use, UseYes, Lies, UseLies, use_lies, same_in, same_yes, by_place}
 use Rattle.value_laws.proofs.Arrays.{key_value}
 
 -- pairs that are left of a walk

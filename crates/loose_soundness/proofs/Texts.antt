@@ -1,17 +1,14 @@
 -- Texts that are joined, numbers, and truth values.
-use Rattle.std.proofs.Common.{◌≡◌, ℕ, zero, suc, ◌+◌, ℤ, pos, negsuc, Bool, true, false, not, if◌then◌else◌, nat_lt, nat_le, List, [], ◌∷◌, ◌++◌, length, Option, Some, None, Result, Ok, Err, refl, sym, ap, subst, ◌∙◌, arith, append_assoc}
+use Rattle.std.proofs.Common.{◌≡◌, ℕ, zero, suc, ◌+◌, ℤ, pos, negsuc, Bool, true, false, not, List, [], ◌∷◌, ◌++◌, length, Result, Ok, Err, refl, sym, ap, subst, ◌∙◌, arith, append_assoc}
 use Rattle.std.proofs.lemmas.List.{append-nil}
-use Rattle.std.specs.Prelude.{⊤, All, Contains, map, flat_map, codes, slice_get}
+use Rattle.std.specs.Prelude.{All, map, flat_map, codes, slice_get}
 use Rattle.std.specs.List.{list_all}
 use Rattle.std.specs.Fmt.{signed_decimal}
 use Rattle.std.proofs.lemmas.List.Elements.{All-head, All-tail, All-nil, All-cons}
-use Rattle.string_functions.proofs.Members.{Contains-head, Contains-later}
 use Rattle.string_functions.specs.Pieces.{join_of}
 use Rattle.string_functions.specs.Copies.{copies_of}
-use Rattle.plain_values.specs.Plain.{Plain, PlainKey, Pairs, null, flag, int, text, array, empty, pair, keys}
-use Rattle.plain_values.specs.Joins as joins
+use Rattle.plain_values.specs.Plain.{Plain, Pairs, null, flag, int, text, array, empty, pair, keys}
 use Rattle.plain_values.specs.Members.{within_length}
-use Rattle.plain_values.specs.Numeric.{is_in_range}
 use Rattle.plain_values.specs.Outcome.{go_on}
 use Rattle.plain_values.specs.Text.{text_of, truth}
 use Rattle.plain_values.specs.Walks.{is_null, is_array, is_text, count_of}
@@ -25,26 +22,26 @@ use Rattle.plain_values.specs.declared.fault.Fault.{Fault}
 use Rattle.builtin_meaning.specs.declared.builtin.Builtin.{Builtin}
 use Rattle.builtin_meaning.specs.declared.builtin.Builtin.TheVariants as builtin
 use Rattle.builtin_meaning.specs.Arguments.{as_text, as_array}
-use Rattle.builtin_meaning.specs.Values.{member_texts, imploded, copies_at, repeated, length_of, builtin_value}
+use Rattle.builtin_meaning.specs.Values.{member_texts, copies_at, length_of, builtin_value}
 use Rattle.script_meaning.specs.Expressions.{arithmetic, comparison, stepped}
-use Rattle.flow_code.specs.Points.{PlainFlow, PlainSource, concat_source, repeat_source, implode_source, number_source, truth_source}
+use Rattle.flow_code.specs.Points.{PlainFlow, concat_source, repeat_source, implode_source, number_source, truth_source}
 use Rattle.flow_code.specs.Lawful.{GivesNumber, GivesTruth}
 use Rattle.flow_code.specs.Lawful as lawful
 use Rattle.flow_code.specs.Runs.{Slots, concatenated, worked}
 use Rattle.flow_code.specs.declared.source.Work.{Work}
 use Rattle.flow_code.specs.declared.source.Work.TheVariants as work
-use Rattle.least_sets.specs.Forms.{Form, same_form, join_form, text_form, where_form, integer_form}
-use Rattle.least_sets.specs.Sets.{In, Says}
+use Rattle.least_sets.specs.Forms.{join_form, integer_form}
+use Rattle.least_sets.specs.Sets.{In}
 use Rattle.loose_sets.specs.Reaching.{at_point}
 use Rattle.loose_sets.specs.Keys.{told_keys}
-use Rattle.loose_sets.specs.Names.{text_half, array_half, own, Name, set_of, use_of, all_of, shown_at, joined_from, piece_of, further_piece_of, further_pieces_of}
+use Rattle.loose_sets.specs.Names.{text_half, array_half, own, set_of, use_of, all_of, shown_at, joined_from, piece_of, further_piece_of, further_pieces_of}
 use Rattle.loose_sets.specs.Table.{Row, SourceRow, SetsTo}
-use Rattle.value_laws.proofs.Texts.{text_value, number_value, flag_value, text_short, within, within_value}
-use Rattle.value_laws.proofs.Functions.{function_value, after}
+use Rattle.value_laws.proofs.Texts.{text_value, flag_value, text_short, within, within_value}
+use Rattle.value_laws.proofs.Functions.{function_value}
 use Rattle.value_laws.proofs.Numbers.{sum_value, difference_value, product_value, remainder_value, negation_value, increment_value, decrement_value}
-use Rattle.loose_soundness.proofs.Covers.{OwnIn, InsideIn, AllIn, Covers, covers_own}
+use Rattle.loose_soundness.proofs.Covers.{OwnIn, AllIn, Covers}
 use Rattle.loose_soundness.proofs.Decimals.{integer_is}
-use Rattle.loose_soundness.proofs.Lying.{HasIn, SaysIn, Def, DefYes, Use, UseYes, Lies, UseLies, same_in, all_lies, of_source}
+use Rattle.loose_soundness.proofs.Lying.{HasIn, SaysIn, Def, DefYes, Use, Lies, UseLies, same_in, all_lies, of_source}
 use Rattle.loose_soundness.proofs.Simple.{text_in, from_in}
 
 -- what is shown of a value
