@@ -1,0 +1,5 @@
+-- Lists of paths, side by side.
+use Rattle.std.proofs.Common.{append_assoc}
+use Rattle.std.proofs.lemmas.List.{append-nil}
+
+pub ruleset ends = (append-nil, append_assoc)

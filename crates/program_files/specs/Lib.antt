@@ -1,0 +1,6 @@
+pub mod Order
+pub mod View
+pub mod Scripts
+pub mod Source
+pub mod Unread
+pub mod Causes

@@ -1,0 +1,22 @@
+-- Why a script has no tree. No public clause cites this.
+use Rattle.std.specs.Prelude.{ℕ, List, ⊤}
+use Rattle.php_lexer.specs.declared.refusal.LexRefusal.{LexRefusal}
+use Rattle.php_lexer.specs.declared.refusal.LexRefusal.TheVariants as lexed
+use Rattle.php_parser.specs.declared.refusal.ParseRefusal.{ParseRefusal}
+use Rattle.php_parser.specs.declared.refusal.ParseRefusal.TheVariants as parsed
+use Rattle.program_files.specs.declared.refusal.ScriptRefusal.TheVariants.{Lex, Parse}
+use Rattle.program_files.specs.declared.tree.Unread.{Unread}
+use Rattle.program_files.specs.declared.tree.Unread.TheVariants as unread
+use Rattle.program_files.specs.Scripts.{IsScriptFault}
+
+abbrev pub lexed_as : LexRefusal → Unread
+lexed_as lexed.Memory = unread.Memory
+lexed_as refusal = unread.Script (Lex refusal)
+
+abbrev pub parsed_as : ParseRefusal → Unread
+parsed_as parsed.Memory = unread.Memory
+parsed_as refusal = unread.Script (Parse refusal)
+
+abbrev pub IsUnread : List ℕ → Unread → Type 0
+IsUnread script (unread.Script fault) = IsScriptFault script fault
+IsUnread script unread.Memory = ⊤
