@@ -2,4 +2,4 @@
 //! stand flow_code and loose_sets, whose definitions it ties, and the laws on values and on PHP's functions.
 #![tactic(auto)]
 
-mod laws;
+pub mod laws;

@@ -3,4 +3,4 @@
 //! plain_values and builtin_meaning.
 #![tactic(auto)]
 
-mod laws;
+pub mod laws;
