@@ -1,3 +1,4 @@
 pub mod Useful
 pub mod Pairs
 pub mod Verdicts
+pub mod Closed

@@ -3,6 +3,8 @@
 //! tag_sums.
 #![tactic(auto)]
 
+mod laws;
 mod verdict;
 
+pub use laws::closed_pairs;
 pub use verdict::{TAG_LIMIT, Verdict};
