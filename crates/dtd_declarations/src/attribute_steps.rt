@@ -109,7 +109,8 @@ fn behind_token_step(name: Bytes, tokens: Vec<Bytes>, token: &Token<'_>) -> Resu
 
 // A place that white space leads to.
 fn behind_gap(next: Place, token: &Token<'_>) -> Result<Place, Fault>
-    ensures { (ds : List Declared) → Gives (at_place ds) result (if is_gap (token_of token.now) then leads (at_place ds next) else refused) }
+    ensures { (ds : List Declared) → Gives (at_place ds) result
+        (if is_gap (token_of token.now) then leads (at_place ds next) else refused) }
 {
     match token {
         Token::Gap => Ok(next),
@@ -124,7 +125,8 @@ fn with_attribute(
     kind: AttrKind,
     need: Need,
 ) -> Result<Reading, NoMemory>
-    ensures { IfOk result (λ r. reading_of r ≡ spec.with_attribute (map declared_of attributes.items) name (kind_of kind) (presence_of need)) }
+    ensures { IfOk result (λ r. reading_of r
+        ≡ spec.with_attribute (map declared_of attributes.items) name (kind_of kind) (presence_of need)) }
 {
     attributes.push(AttrRule { name, kind, need })?;
     Ok(Reading {

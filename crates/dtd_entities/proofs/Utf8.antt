@@ -1,13 +1,13 @@
--- A test that holds exactly for UTF-8 is the test of it.
-use Rattle.std.proofs.Common.{◌≡◌, ℕ, Bool, true, false, List, refl, sym}
-use Rattle.std.specs.Prelude.{◌↔◌}
+-- UTF-8 as a test.
+use Rattle.std.proofs.Common.{◌≡◌, ℕ, Bool, true, false, List, refl}
 use Rattle.std.specs.Str.{is_utf8, IsUtf8}
 use Rattle.std.proofs.lemmas.Str.{IsUtf8-from_is_utf8, is_utf8-from_IsUtf8}
 
-decided : (r b : Bool) → (r ≡ true → b ≡ true) → (b ≡ true → r ≡ true) → r ≡ b
-decided true b f g = sym (f refl)
-decided false true f g = g refl
-decided false false f g = refl
+pub is_text : (text : List ℕ) → IsUtf8 text → is_utf8 text ≡ true
+is_text text h = is_utf8-from_IsUtf8 text h
 
-pub utf8_decided : (r : Bool) (text : List ℕ) → ((r ≡ true) ↔ IsUtf8 text) → r ≡ is_utf8 text
-utf8_decided r text h = decided r (is_utf8 text) (λ e. is_utf8-from_IsUtf8 text (h.0 e)) (λ e. h.1 (IsUtf8-from_is_utf8 text e))
+pub is_no_text : (text : List ℕ) → ¬ (IsUtf8 text) → is_utf8 text ≡ false
+is_no_text text h = by (is_utf8 text) refl where
+  by : (b : Bool) → is_utf8 text ≡ b → is_utf8 text ≡ false
+  by true e = absurd (h (IsUtf8-from_is_utf8 text e))
+  by false e = e

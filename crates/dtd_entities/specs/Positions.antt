@@ -1,6 +1,7 @@
 -- Positions of the reading, with a stack of what is left of each open entity: the form in which the code reads.
 use Rattle.std.specs.Prelude.{◌≡◌, ℕ, ◌+◌, ◌<◌, ◌≤◌, if◌then◌else◌, List, [], ◌∷◌, take, drop, length, map, reverse, Option, Some, None}
 use Rattle.std.specs.Borrow.{Bor}
+use Rattle.std.specs.String.{string_bytes}
 use Rattle.dtd_texts.specs.Places.{Place, between, in_comment, behind_target, in_instruction, inside, in_literal, in_value, behind_value, Source, internal, external, Entity}
 use Rattle.dtd_texts.specs.Reading.{Parameter, Written, State, Content, Stands, start, Move, on, opens, omits, stuck, move, is_among, source_of, enter, leave}
 use Rattle.dtd_entities.specs.Entities.{entity_by}
@@ -27,7 +28,7 @@ place_of BehindValue text quote depth entity = behind_value entity text
 
 abbrev pub plain_source : CodeSource → Source
 plain_source (Internal value) = internal value
-plain_source (External name) = external name
+plain_source (External name) = external (string_bytes name)
 
 -- a source, where one is found
 abbrev pub plain_found : Option (Bor CodeSource) → Option Source

@@ -8,7 +8,7 @@ pub enum Ended {
     /// It is that of an element, of attributes or of a notation.
     Written,
     /// It declares the parameter entity of this name, whose text is the file of that name.
-    Outside(Bytes, Bytes),
+    Outside(Bytes, String),
     LeftOut,
     Refused,
 }

@@ -1,6 +1,6 @@
 //! The declarations of entities (XML 1.0, 4.2).
 
-ghost use Rattle.std.specs.Prelude.{◌≡◌, ◌↔◌, IfOk, IsTrue, IsUtf8};
+ghost use Rattle.std.specs.Prelude.{◌≡◌, IfOk, MatchOption, true, false};
 ghost use Rattle.std.specs.Str.{is_utf8};
 ghost use Rattle.std.specs.List.{list_all};
 ghost use Rattle.xml_text.specs.Names as names;
@@ -29,7 +29,7 @@ pub struct Named<'a, 'b> {
 #[derive(Clone, Copy, Debug)]
 pub enum Ending<'a> {
     /// It declares the parameter entity of this name, whose text is the file of that name.
-    Declares(&'a [u8], &'a [u8]),
+    Declares(&'a [u8], &'a str),
     LeavesOut,
     Refuses,
 }
@@ -103,16 +103,15 @@ pub fn valued<'a, 'b>(tokens: &'b [Token<'a>]) -> Option<Named<'a, 'b>>
     }
 }
 
-fn has_utf8(text: &[u8]) -> bool
-    ensures { IsTrue result ↔ IsUtf8 text.now }
+// The bytes as a text, where they are UTF-8.
+fn as_text(bytes: &[u8]) -> Option<&str>
+    ensures { MatchOption result (is_utf8 bytes.now ≡ false)
+        (λ text. (text.now ≡ bytes.now) × (is_utf8 bytes.now ≡ true)) }
 {
-    str::from_utf8(text).is_ok()
-}
-
-fn is_utf8_text(text: &[u8]) -> bool
-    ensures { result ≡ is_utf8 text.now }
-{
-    has_utf8(text)
+    match str::from_utf8(bytes) {
+        Ok(text) => Some(text),
+        Err(_) => None,
+    }
 }
 
 fn is_public_identifier(text: &[u8]) -> bool
@@ -126,10 +125,15 @@ fn outside_of<'a>(name: &'a [u8], system: Option<Found<'a, '_>>) -> Ending<'a>
 {
     match system {
         Some((system, rest)) => {
-            if is_utf8_text(system) && is_end(rest) {
-                Ending::Declares(name, system)
-            } else {
-                Ending::Refuses
+            match as_text(system) {
+                Some(system) => {
+                    if is_end(rest) {
+                        Ending::Declares(name, system)
+                    } else {
+                        Ending::Refuses
+                    }
+                }
+                None => Ending::Refuses,
             }
         }
         None => Ending::Refuses,

@@ -8,6 +8,7 @@ ghost use Rattle.dtd_entities.specs.Positions.{state_of, seen, IsWithin, plain_s
 ghost use Rattle.dtd_entities.specs.Entities.{entity_by, entity_found};
 ghost use Rattle.dtd_entities.specs.Endings.{ended_of};
 ghost use Rattle.std.specs.Char.{encode_utf8};
+ghost use Rattle.std.specs.String.{string_bytes};
 
 use crate::ended::Ended;
 use crate::entity::{Ending, external, is_entity, valued};
@@ -167,7 +168,8 @@ impl Reading {
     fn instruction(&mut self, bytes: &[u8]) -> Move
         requires small { self.old.length < 2 ^ 32 }
         requires place { self.old.mode ≡ Mode.Between }
-        ensures value { seen result (state_of self.new) bytes.now ≡ spec.moved (state_of self.old) (places.instruction_or_reference bytes.now) }
+        ensures value { seen result (state_of self.new) bytes.now
+            ≡ spec.moved (state_of self.old) (places.instruction_or_reference bytes.now) }
         ensures within { IsWithin result (state_of self.old) (state_of self.new) bytes.now }
     {
         if !begins(bytes, b"<?") {
@@ -187,7 +189,8 @@ impl Reading {
     fn in_literal(&mut self, bytes: &[u8]) -> Result<Move, NoMemory>
         requires small { self.old.length < 2 ^ 32 }
         requires place { self.old.mode ≡ Mode.InLiteral }
-        ensures value { IfOk result (λ m. seen m (state_of self.new) bytes.now ≡ spec.moved (state_of self.old) (places.literal_step self.old.text self.old.quote bytes.now)) }
+        ensures value { IfOk result (λ m. seen m (state_of self.new) bytes.now
+            ≡ spec.moved (state_of self.old) (places.literal_step self.old.text self.old.quote bytes.now)) }
         ensures within { IfOk result (λ m. IsWithin m (state_of self.old) (state_of self.new) bytes.now) }
     {
         let byte = match bytes {
@@ -206,7 +209,8 @@ impl Reading {
     fn literal(&mut self, bytes: &[u8], quote: u8) -> Result<Move, NoMemory>
         requires small { self.old.length < 2 ^ 32 }
         requires some { 0 < length bytes.now }
-        ensures value { IfOk result (λ m. seen m (state_of self.new) bytes.now ≡ spec.moved (state_of self.old) (places.goes 1 (places.in_literal (self.old.text ++ quote ∷ []) quote))) }
+        ensures value { IfOk result (λ m. seen m (state_of self.new) bytes.now
+            ≡ spec.moved (state_of self.old) (places.goes 1 (places.in_literal (self.old.text ++ quote ∷ []) quote))) }
         ensures within { IfOk result (λ m. IsWithin m (state_of self.old) (state_of self.new) bytes.now) }
     {
         self.text.push(quote)?;
@@ -227,7 +231,8 @@ impl Reading {
     ) -> Move
         requires small { self.old.length < 2 ^ 32 }
         requires some { 0 < length bytes.now }
-        ensures value { seen result (state_of self.new) bytes.now ≡ spec.moved (state_of self.old) (places.goes 1 (places.in_value (entity_by is_parameter name) quote [] 0)) }
+        ensures value { seen result (state_of self.new) bytes.now
+            ≡ spec.moved (state_of self.old) (places.goes 1 (places.in_value (entity_by is_parameter name) quote [] 0)) }
         ensures within { IsWithin result (state_of self.old) (state_of self.new) bytes.now }
     {
         self.text = Bytes::new(alloc);
@@ -252,7 +257,8 @@ impl Reading {
         requires small { self.old.length < 2 ^ 32 }
         requires some { 0 < length bytes.now }
         requires place { self.old.mode ≡ Mode.Inside quoted }
-        ensures value { IfOk result (λ m. seen m (state_of self.new) bytes.now ≡ spec.moved (state_of self.old) (places.quote_step self.old.text quoted quote)) }
+        ensures value { IfOk result (λ m. seen m (state_of self.new) bytes.now
+            ≡ spec.moved (state_of self.old) (places.quote_step self.old.text quoted quote)) }
         ensures within { IfOk result (λ m. IsWithin m (state_of self.old) (state_of self.new) bytes.now) }
     {
         if quoted {
@@ -282,7 +288,8 @@ impl Reading {
     ) -> Result<Move, NoMemory>
         requires small { self.old.length < 2 ^ 32 }
         requires some { 0 < length bytes.now }
-        ensures value { IfOk result (λ m. seen m (state_of self.new) bytes.now ≡ spec.moved (state_of self.old) (places.declares_parameter name (plain_source source))) }
+        ensures value { IfOk result (λ m. seen m (state_of self.new) bytes.now
+            ≡ spec.moved (state_of self.old) (places.declares_parameter name (plain_source source))) }
         ensures within { IfOk result (λ m. IsWithin m (state_of self.old) (state_of self.new) bytes.now) }
     {
         declare(&mut self.parameters, name, source)?;
@@ -294,7 +301,8 @@ impl Reading {
     fn declare_general(&mut self, bytes: &[u8], name: Bytes) -> Result<Move, NoMemory>
         requires small { self.old.length < 2 ^ 32 }
         requires some { 0 < length bytes.now }
-        ensures value { IfOk result (λ m. seen m (state_of self.new) bytes.now ≡ spec.moved (state_of self.old) (places.declares_general name)) }
+        ensures value { IfOk result (λ m. seen m (state_of self.new) bytes.now
+            ≡ spec.moved (state_of self.old) (places.declares_general name)) }
         ensures within { IfOk result (λ m. IsWithin m (state_of self.old) (state_of self.new) bytes.now) }
     {
         self.generals.insert(name)?;
@@ -306,7 +314,8 @@ impl Reading {
     fn declare_written(&mut self, alloc: Global, bytes: &[u8]) -> Result<Move, NoMemory>
         requires small { self.old.length < 2 ^ 32 }
         requires some { 0 < length bytes.now }
-        ensures value { IfOk result (λ m. seen m (state_of self.new) bytes.now ≡ spec.moved (state_of self.old) (places.declares self.old.text)) }
+        ensures value { IfOk result (λ m. seen m (state_of self.new) bytes.now
+            ≡ spec.moved (state_of self.old) (places.declares self.old.text)) }
         ensures within { IfOk result (λ m. IsWithin m (state_of self.old) (state_of self.new) bytes.now) }
     {
         let text = mem::replace(&mut self.text, Bytes::new(alloc));
@@ -434,7 +443,8 @@ impl Reading {
     fn end(&mut self, alloc: Global, bytes: &[u8]) -> Result<Move, NoMemory>
         requires small { self.old.length < 2 ^ 32 }
         requires some { 0 < length bytes.now }
-        ensures value { IfOk result (λ m. seen m (state_of self.new) bytes.now ≡ spec.moved (state_of self.old) (places.end_step self.old.text)) }
+        ensures value { IfOk result (λ m. seen m (state_of self.new) bytes.now
+            ≡ spec.moved (state_of self.old) (places.end_step self.old.text)) }
         ensures within { IfOk result (λ m. IsWithin m (state_of self.old) (state_of self.new) bytes.now) }
     {
         match ending(alloc, self.text.as_slice())? {
@@ -451,7 +461,8 @@ impl Reading {
     fn inside(&mut self, alloc: Global, quoted: bool, bytes: &[u8]) -> Result<Move, NoMemory>
         requires small { self.old.length < 2 ^ 32 }
         requires place { self.old.mode ≡ Mode.Inside quoted }
-        ensures value { IfOk result (λ m. seen m (state_of self.new) bytes.now ≡ spec.moved (state_of self.old) (places.inside_step self.old.text quoted bytes.now)) }
+        ensures value { IfOk result (λ m. seen m (state_of self.new) bytes.now
+            ≡ spec.moved (state_of self.old) (places.inside_step self.old.text quoted bytes.now)) }
         ensures within { IfOk result (λ m. IsWithin m (state_of self.old) (state_of self.new) bytes.now) }
     {
         let byte = match bytes {
@@ -564,6 +575,12 @@ fn entity_before(alloc: Global, text: &[u8]) -> Result<Option<(bool, Bytes)>, No
 }
 
 // What the end of a declaration comes to.
+fn text_copy(alloc: Global, text: &str) -> Result<String, NoMemory>
+    ensures { IfOk result (λ t. string_bytes t ≡ text.now) }
+{
+    Ok(String::from_str(alloc, text)?)
+}
+
 #[tactic(auto, unfolding(dtd_texts::specs::Places::end_step))]
 fn ending(alloc: Global, text: &[u8]) -> Result<Ended, NoMemory>
     ensures { IfOk result (λ ended. ended_of ended text.now ≡ places.end_step text.now) }
@@ -575,7 +592,7 @@ fn ending(alloc: Global, text: &[u8]) -> Result<Ended, NoMemory>
     match external(tokens.as_slice()) {
         Ending::Declares(name, system) => {
             let name = Bytes::from_slice(alloc, name)?;
-            let system = Bytes::from_slice(alloc, system)?;
+            let system = text_copy(alloc, system)?;
             Ok(Ended::Outside(name, system))
         }
         Ending::LeavesOut => Ok(Ended::LeftOut),

@@ -28,7 +28,7 @@ pub enum Mode {
 #[derive(Debug, Drop)]
 pub enum Source {
     Internal(Bytes),
-    External(Bytes),
+    External(String),
 }
 
 /// A declaration of an element, of attributes or of a notation.
