@@ -213,7 +213,7 @@ attributes_read (a ∷ xs) rest h none (suc n) l =
     ∙ ap (λ (z : List Attribute × List ℕ). let y : List Attribute × List ℕ = (a ∷ z.0, z.1) in y) more
 
 -- an attribute has a character
-longer : (a : Attribute) (rest : List ℕ) → length rest < length (attribute_then a rest)
+pub longer : (a : Attribute) (rest : List ℕ) → length rest < length (attribute_then a rest)
 longer a rest =
     let v = a.value ++ a.quote ∷ rest in
     let e = a.after_equals ++ a.quote ∷ v in
