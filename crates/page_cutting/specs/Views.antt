@@ -1,5 +1,5 @@
 -- The plain form of what the code reads.
-use Rattle.std.specs.Prelude.{ℕ, Bool, List, map, Option, Some, None}
+use Rattle.std.specs.Prelude.{ℕ, Bool, not, List, map, Option, Some, None}
 use Rattle.std.specs.Borrow.{Bor}
 use Rattle.xml_text.specs.Characters.{is_blank}
 use Rattle.xml_text.specs.Names.{in_name}
@@ -12,7 +12,7 @@ use Rattle.std.specs.declared.alloc.Global.{Global}
 use Rattle.std.specs.declared.vec.Vec.{Vec}
 use Rattle.page_reading.specs.Scan.{is_other}
 use Rattle.page_cutting.specs.declared.classes.Class.{Class}
-use Rattle.page_cutting.specs.declared.classes.Class.TheVariants.{Blank, InName, Other}
+use Rattle.page_cutting.specs.declared.classes.Class.TheVariants.{Blank, NotBlank, InName, Other}
 use Rattle.page_cutting.specs.declared.parts.Literal.{Literal}
 use Rattle.page_cutting.specs.declared.parts.Attribute.{Attribute}
 use Rattle.page_cutting.specs.declared.parts.Tag.{Tag}
@@ -29,6 +29,7 @@ use Rattle.page_cutting.specs.declared.parts.Place.TheVariants as the_place
 
 abbrev pub class_test : Class → ℕ → Bool
 class_test Blank c = is_blank c
+class_test NotBlank c = not (is_blank c)
 class_test InName c = in_name c
 class_test (Other end) c = is_other end c
 

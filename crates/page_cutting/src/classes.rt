@@ -11,6 +11,8 @@ ghost use Rattle.page_cutting.specs.Views.{class_test};
 pub enum Class {
     /// White space (XML 1.0, 2.3, S).
     Blank,
+    /// All but white space.
+    NotBlank,
     /// What a name may hold.
     InName,
     /// All but this one.
@@ -24,6 +26,7 @@ impl Class {
     {
         match self {
             Class::Blank => is_blank(c),
+            Class::NotBlank => !is_blank(c),
             Class::InName => in_name(c),
             Class::Other(end) => c != end,
         }

@@ -1,0 +1,4 @@
+pub mod Semicolons
+pub mod Words
+pub mod Once
+pub mod Rules

@@ -1,0 +1,168 @@
+//! References.
+
+ghost use Rattle.std.specs.Prelude.{◌≡◌, ◌≤◌, ◌<◌, ◌&&◌, bytes_eq};
+ghost use Rattle.std.specs.Char as chars;
+ghost use Rattle.std.specs.List.{list_all, list_any};
+ghost use Rattle.dtd_model.specs.TableOf.{table_of};
+ghost use Rattle.xml_text.specs.Characters as characters;
+ghost use Rattle.dtd_model.specs.References as spec;
+ghost use Rattle.page_model.specs.Parts as parts;
+ghost use Rattle.page_cutting.specs.Views as views;
+
+use crate::characters::{is_name, is_some, is_word};
+use dtd_model::Dtd;
+use page_cutting::{Class, Reference, reference_of, split};
+use text_base::Bytes;
+
+/// Whether the reference is one of XML (XML 1.0, 4.1): a number is that of a character.
+pub fn is_reference(reference: Reference<'_>) -> bool
+    ensures { result ≡ spec.is_reference (views.reference_of reference.entry) }
+{
+    match reference {
+        Reference::Decimal(digits) => {
+            is_some(digits) && are_digits(digits) && is_number(10, digits)
+        }
+        Reference::Hexadecimal(digits) => {
+            is_some(digits) && are_hexadecimal(digits) && is_number(16, digits)
+        }
+        Reference::Entity(name) => is_name(name),
+    }
+}
+
+fn are_digits(cs: &[char]) -> bool
+    ensures { result ≡ list_all chars.is_ascii_digit cs.now }
+{
+    cs.iter().all(|c| c.is_ascii_digit())
+}
+
+fn are_hexadecimal(cs: &[char]) -> bool
+    ensures { result ≡ list_all chars.is_ascii_hexdigit cs.now }
+{
+    cs.iter().all(|c| c.is_ascii_hexdigit())
+}
+
+// The value of a digit; 36 where it is none.
+fn digit_value(c: char) -> u32
+    ensures is { result ≡ chars.digit_value c }
+    ensures small { result ≤ 36 }
+{
+    let code = u32::from(c);
+    match c {
+        '0'..='9' => code - 48,
+        'A'..='Z' => code - 55,
+        'a'..='z' => code - 87,
+        _ => 36,
+    }
+}
+
+// Whether the digits are the number of a character of XML.
+fn is_number(base: u32, digits: &[char]) -> bool
+    requires some { 1 ≤ base }
+    requires small { base ≤ 16 }
+    ensures { result ≡ characters.is_character (spec.number_written base 0 digits.now) }
+{
+    let mut number = 0u32;
+    for c in digits {
+        number = number * base + digit_value(*c);
+        if number > 0x0010_FFFF {
+            return false;
+        }
+    }
+    is_character_code(number)
+}
+
+// Whether this is the number of a character of XML (XML 1.0, 2.2).
+fn is_character_code(code: u32) -> bool
+    ensures { result ≡ characters.is_character code }
+{
+    matches!(
+        code,
+        9 | 10 | 13 | 0x20..=0xD7FF | 0xE000..=0xFFFD | 0x10000..=0x10FFFF
+    )
+}
+
+/// Whether each `&` begins a reference of XML (XML 1.0, 2.3, AttValue).
+pub fn refers(cs: &[char]) -> bool
+    ensures { result ≡ parts.refers_by spec.is_reference cs.now }
+{
+    let mut left = cs;
+    while let Some((c, rest)) = left.split_first() {
+        if *c == '&' && !begins_reference(rest) {
+            return false;
+        }
+        left = rest;
+    }
+    true
+}
+
+// Whether a reference of XML stands behind `&`.
+fn begins_reference(cs: &[char]) -> bool
+    ensures { result ≡ (parts.has_semicolon cs.now && spec.is_reference (parts.reference_of (parts.up_to_semicolon cs.now))) }
+{
+    let (body, end) = split(cs, Class::Other(';'));
+    is_ended(body, end)
+}
+
+fn is_ended(body: &[char], end: &[char]) -> bool
+    ensures { result ≡ (spec.is_some end.now && spec.is_reference (parts.reference_of body.now)) }
+{
+    is_some(end) && is_reference(reference_of(body))
+}
+
+/// Whether each `&` begins a reference to a known entity, or to a character.
+pub fn refers_to_known(dtd: &Dtd, cs: &[char]) -> bool
+    ensures { result ≡ parts.refers_by (spec.is_known (table_of dtd.now).entities) cs.now }
+{
+    let mut left = cs;
+    while let Some((c, rest)) = left.split_first() {
+        if *c == '&' && !begins_known(dtd, rest) {
+            return false;
+        }
+        left = rest;
+    }
+    true
+}
+
+fn begins_known(dtd: &Dtd, cs: &[char]) -> bool
+    ensures { result ≡ (parts.has_semicolon cs.now && spec.is_known (table_of dtd.now).entities (parts.reference_of (parts.up_to_semicolon cs.now))) }
+{
+    let (body, end) = split(cs, Class::Other(';'));
+    is_ended_known(dtd, body, end)
+}
+
+fn is_ended_known(dtd: &Dtd, body: &[char], end: &[char]) -> bool
+    ensures { result ≡ (spec.is_some end.now && spec.is_known (table_of dtd.now).entities (parts.reference_of body.now)) }
+{
+    is_some(end) && is_known(dtd, reference_of(body))
+}
+
+/// Whether the reference is to a character, or to an entity that is declared or one of the five
+/// of XML (XML 1.0, 4.6).
+pub fn is_known(dtd: &Dtd, reference: Reference<'_>) -> bool
+    ensures { result ≡ spec.is_known (table_of dtd.now).entities (views.reference_of reference.entry) }
+{
+    match reference {
+        Reference::Decimal(_) | Reference::Hexadecimal(_) => true,
+        Reference::Entity(name) => is_predefined(name) || is_declared(&dtd.entities, name),
+    }
+}
+
+// One of the five entities that need no declaration (XML 1.0, 4.6).
+fn is_predefined(name: &[char]) -> bool
+    ensures { result ≡ list_any (bytes_eq name.now) spec.known_entities }
+{
+    is_word(name, b"amp")
+        || (is_word(name, b"lt")
+            || (is_word(name, b"gt") || (is_word(name, b"quot") || is_word(name, b"apos"))))
+}
+
+fn is_declared(entities: &Vec<Bytes>, name: &[char]) -> bool
+    ensures { result ≡ list_any (bytes_eq name.now) entities.now.items }
+{
+    for entity in entities {
+        if is_word(name, entity.as_slice()) {
+            return true;
+        }
+    }
+    false
+}
