@@ -39,32 +39,32 @@ holding_at d e = holding_of (slice_get d.elements e)
 
 -- behind a child: the state of the element that it stands in, and its own
 abbrev pub with_child : Stage → ℕ → ℕ → ℕ → List Open → Option ℕ → Option State
-with_child stage e first f open None = None
-with_child stage e first f open (Some next) = Some (stage, (e, first) ∷ (f, next) ∷ open)
+with_child stage e first f outer None = None
+with_child stage e first f outer (Some next) = Some (stage, (e, first) ∷ (f, next) ∷ outer)
 
 abbrev pub begun : Table → automata.Table → Stage → List Open → ℕ → Option State
 begun d t stage [] e = if may_begin d.doctype stage && e == place_of d.elements (codes "html") then Some (root_begun, (e, first_at t e) ∷ []) else None
-begun d t stage ((f, s) ∷ open) e = with_child stage e (first_at t e) f open (next_at t s e)
+begun d t stage ((f, s) ∷ outer) e = with_child stage e (first_at t e) f outer (next_at t s e)
 
 abbrev pub opened : Table → automata.Table → State → ℕ → Option State
 opened d t state e = if nat_lt e (length d.elements) then begun d t state.0 state.1 e else None
 
 abbrev pub popped : automata.Table → Stage → List Open → ℕ → Option State
 popped t stage [] e = None
-popped t stage ((f, s) ∷ open) e = if f == e && ends_at t s then Some (stage, open) else None
+popped t stage ((f, s) ∷ outer) e = if f == e && ends_at t s then Some (stage, outer) else None
 
 abbrev pub may_stand : Table → List Open → Sort → Bool
 may_stand d [] sort = is_between sort
-may_stand d ((f, s) ∷ open) sort = may_hold (holding_at d f) sort
+may_stand d ((f, s) ∷ outer) sort = may_hold (holding_at d f) sort
 
 abbrev pub single : Table → State → Sort → Option State
 single d state sort = if may_stand d state.1 sort then Some state else None
 
 abbrev pub typed : Stage → List Open → Option State
 typed before_type [] = Some (behind_type, [])
-typed before_type (o ∷ open) = None
-typed behind_type open = None
-typed root_begun open = None
+typed before_type (o ∷ outer) = None
+typed behind_type outer = None
+typed root_begun outer = None
 
 abbrev pub step : Table → automata.Table → State → PageToken → Option State
 step d t state token.Doctype = typed state.0 state.1
@@ -78,9 +78,9 @@ step d t state token.Bad = None
 -- all is closed behind the root
 abbrev pub is_done : Stage → List Open → Bool
 is_done root_begun [] = true
-is_done root_begun (o ∷ open) = false
-is_done before_type open = false
-is_done behind_type open = false
+is_done root_begun (o ∷ outer) = false
+is_done before_type outer = false
+is_done behind_type outer = false
 
 abbrev pub and_on : Option State → (State → Bool) → Bool
 and_on None next = false

@@ -1,0 +1,36 @@
+-- The plain form of what the code keeps.
+use Rattle.std.specs.Prelude.{◌≡◌, ℕ, Bool, true, false, ◌==◌, ◌&&◌, if◌then◌else◌, List, [], ◌∷◌, map, codes, Option, Some, None}
+use Rattle.dtd_model.specs.Table.{Table}
+use Rattle.page_model.specs.Valid as valid
+use Rattle.page_machine.specs.Machine as machine
+use Rattle.page_machine.specs.declared.stage.Stage.{Stage}
+use Rattle.page_machine.specs.declared.stage.Stage.TheVariants.{BeforeType, BehindType, RootBegun}
+use Rattle.page_machine.specs.declared.stage.Sort.{Sort}
+use Rattle.page_machine.specs.declared.stage.Sort.TheVariants.{Blank, Text, Remark}
+use Rattle.page_machine.specs.declared.stage.Open.{Open}
+use Rattle.page_machine.specs.declared.progress.Progress.{Progress}
+
+abbrev pub stage_of : Stage → machine.Stage
+stage_of BeforeType = machine.before_type
+stage_of BehindType = machine.behind_type
+stage_of RootBegun = machine.root_begun
+
+abbrev pub sort_of : Sort → valid.Sort
+sort_of Blank = valid.blank
+sort_of Text = valid.text
+sort_of Remark = valid.remark
+
+abbrev pub open_of : Open → machine.Open
+open_of o = (o.element.0, o.state)
+
+abbrev pub progress_of : Progress → machine.State
+progress_of p = (stage_of p.stage, map open_of p.«open»)
+
+-- a step came to the state, or there is none
+abbrev pub Goes : Option machine.State → machine.State → Bool → Type 0
+Goes o new true = o ≡ Some new
+Goes o new false = o ≡ None
+
+-- the root, with the state that it begins in
+abbrev pub root_at : Table → machine.Stage → ℕ → ℕ → Option machine.State
+root_at d stage e first = if machine.may_begin d.doctype stage && e == valid.place_of d.elements (codes "html") then Some (machine.root_begun, (e, first) ∷ []) else None
