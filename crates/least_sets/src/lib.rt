@@ -3,6 +3,7 @@
 //! and op_system.
 #![tactic(auto)]
 
+pub mod laws;
 mod reading;
 
 pub use reading::{Plain, Reading};

@@ -30,14 +30,13 @@ use Rattle.builtin_meaning.specs.Values.{escaped, replaced, cut, pieces_at, numb
 use Rattle.op_system.specs.declared.op.Op.{Op}
 use Rattle.op_system.specs.declared.op.Op.TheVariants as op
 use Rattle.op_system.specs.Rel.{Rel}
-use Rattle.op_system.specs.OpBytes.{OutputByte}
-use Rattle.op_system.proofs.OutputBytes.{OutputByte-Rel}
+use Rattle.least_sets.proofs.OutputBytes.{output_byte}
 use Rattle.flow_code.specs.Points.{PlainFlow, PlainSource, apply_source, explode_source}
 use Rattle.flow_code.specs.Lawful.{IsOperationOf, IsSplittingOf}
 use Rattle.flow_code.specs.Lawful as lawful
 use Rattle.flow_code.specs.Runs.{Slots, given}
 use Rattle.least_sets.specs.Forms.{same_form, integer_form}
-use Rattle.least_sets.specs.Bytes.{Adds, Turns}
+use Rattle.least_sets.specs.Bytes.{Turns}
 use Rattle.least_sets.specs.Sets.{In, Byte, IsCircular}
 use Rattle.loose_sets.specs.Reaching.{at_point}
 use Rattle.loose_sets.specs.Keys.{told_keys}
@@ -49,28 +48,6 @@ use Rattle.loose_soundness.proofs.Decimals.{integer_is}
 use Rattle.loose_soundness.proofs.Lying.{HasIn, Def, DefYes, Use, Lies, UseLies, same_in, by_place, of_source}
 use Rattle.loose_soundness.proofs.Simple.{yes_in, from_in}
 use Rattle.loose_soundness.proofs.Texts.{own_text_in, text_lies}
-
--- the byte of an output comes of a byte that is added, or of one of the input
-turned : (o : Op) (input : List ℕ) (c : ℕ) → OutputByte o (Contains input) c → Adds o c ⊎ ((b : ℕ) × Contains input b × Turns o b c)
-unfolding Adds Turns
-turned op.Same input c h = inr (c, h, refl)
-turned op.Any input c h = inr (c, h, refl)
-turned op.Html input c h = inr h
-turned (op.Replace search with) input c (inl h) = inr (c, h, refl)
-turned (op.Replace search with) input c (inr h) = inl h
-turned (op.Cut start len) input c h = inr (c, h, refl)
-turned op.Factor input c h = inr (c, h, refl)
-turned op.Lower input c h = inr h
-turned op.Upper input c h = inr h
-turned op.First input c (inl h) = inr (c, h, inl refl)
-turned op.First input c (inr h) = inr (h.0, h.1, inr h.2)
-turned (op.Trim left right) input c h = inr (c, h, refl)
-turned op.Breaks input c (inl h) = inr (c, h, inl refl)
-turned op.Breaks input c (inr h) = inr (h.1.0, h.1.1, inr (h.0, h.1.2))
-turned op.Url input c h = inr h
-turned op.RawUrl input c h = inr h
-turned op.Slashes input c h = inr h
-turned (op.Piece sep) input c h = inr (c, h, refl)
 
 -- the bytes of a set's texts
 pub bytes_in : (flow : PlainFlow) (a : Name) (w : List ℕ) → HasIn flow a w → (b : ℕ) → Contains w b → Byte (Row flow) IsText a b
@@ -90,7 +67,7 @@ bytes_in flow _ _ (In.asked a w row i) b h = Byte.asked a w b row i h
 bytes_in flow _ _ (In.integer a w row i) b h = Byte.integer a w b row i h
 bytes_in flow _ _ (In.where_yes a c w row i) b h = Byte.where_yes a c w b row i h
 bytes_in flow _ _ (In.apply a c o u w row i r) b h =
-    elim (turned o u b (OutputByte-Rel o u w r b h)) [
+    elim (output_byte o u w r b h) [
       | inl adds ↦ Byte.added a c o b row adds
       | inr comes ↦ Byte.turned a c o comes.0 b row (bytes_in flow c u i comes.0 comes.1) comes.2
     ]
