@@ -48,8 +48,30 @@ params_own : (g : PlainFlowFunction) (w : Scope) → Lies g w → (ps : List Pla
 params_own g w lies [] h = tt
 params_own g w lies (p ∷ ps) h = (own_variable w lies p.name_of h.0, params_own g w lies ps h.1)
 
-no_request : PlainRequest
+pub no_request : PlainRequest
 no_request = record { get_of = empty; post_of = empty; cookie_of = empty; request_of = empty; server_of = empty }
+
+pub function_long : (flow : PlainFlow) (table : List PlainFunction) → HaveDefaults table → CallsDo (world flow no_request zero) table → (f : PlainFunction) (point slot : ℕ) → length (flat_function table f point slot).points_of ≡ (block (scope_of table f slot) f.body_of).size + 2
+unfolding flat_function body_of_function scope_of
+function_long flow table defaults calls f point slot =
+    let w = scope_of table f slot in
+    let body = block w f.body_of in
+    let e = point + body.size in
+    let start = slot + length (variables_of f) in
+    let y = start + body.slots in
+    let to : Targets = record { stop = e; again = e } in
+    let d = block_does {m = world flow no_request zero} {w = w} calls defaults f.body_of (all_back w.names (map name_of_param f.params_of) (names_of f.body_of) (names_there table f slot)) in
+    omega (arith, length-append (body.points to point start) (set_point y (literal_source null) (e + 1) ∷ return_point y ∷ []), d.long to point start)
+
+pub program_calls : (program : PlainProgram) → HaveDefaults program.functions_of → CallsDo (world (flat program) no_request zero) program.functions_of
+unfolding flat main_function
+program_calls program defaults =
+    let main = main_function program in
+    let table = program.functions_of in
+    let flow = flat program in
+    let has = has_all flow in
+    let stands : (k : ℕ) (f : PlainFunction) → slice_get table k ≡ Some f → Stands flow table (suc k) f = λ k f is. (let pl = placed flow table (main ∷ table) 0 0 has (suc k) f is in record { point = pl.at_point; slot = pl.at_slot; is = pl.is; has = pl.has }) in
+    calls_do {flow = flow} {r = no_request} table defaults stands zero
 
 module _ (flow : PlainFlow) (table : List PlainFunction) (defaults : HaveDefaults table) (calls : CallsDo (world flow no_request zero) table) (fs : List PlainFlowFunction) (callees : Callees fs table) where
   function_fits : (f : PlainFunction) (point slot : ℕ) → StmtsFit f.body_of → FunctionFits fs (flat_function table f point slot)

@@ -1,21 +1,21 @@
-mod Ends
-mod Has
-mod Names
-mod Frames
-mod Codes
-mod Writes
-mod Literals
-mod BuiltinValues
-mod Calls
-mod Agreement
-mod Trees
-mod Blocks
-mod Loops
-mod Stmts
-mod Program
-mod FitCodes
-mod FitBuiltins
-mod FitWrites
-mod FitTrees
-mod FitBlocks
-mod FitProgram
+pub mod Ends
+pub mod Has
+pub mod Names
+pub mod Frames
+pub mod Codes
+pub mod Writes
+pub mod Literals
+pub mod BuiltinValues
+pub mod Calls
+pub mod Agreement
+pub mod Trees
+pub mod Blocks
+pub mod Loops
+pub mod Stmts
+pub mod Program
+pub mod FitCodes
+pub mod FitBuiltins
+pub mod FitWrites
+pub mod FitTrees
+pub mod FitBlocks
+pub mod FitProgram

@@ -23,11 +23,11 @@ use Rattle.flow_runs.specs.Defaults.{IsDefault, AreDefaults, HaveDefaults}
 use Rattle.flow_runs.specs.Fits.{CallFits, ExprFits, MaybeFits, ExprsFit, ItemsFit, PathFits, StmtFits, StmtsFit, ArmsFit, ParamsFit, FunctionsFit, ProgramFits}
 use Rattle.program_points.specs.Texts.{texts_in, maybe_texts, part_texts, item_texts, path_texts, texts_of, statement_texts, arm_texts, param_texts, function_texts, TextsFit}
 
-left : (a b : Bool) → (a && b) ≡ true → a ≡ true
+pub left : (a b : Bool) → (a && b) ≡ true → a ≡ true
 left true b e = refl
 left false b e = e
 
-right : (a b : Bool) → (a && b) ≡ true → b ≡ true
+pub right : (a b : Bool) → (a && b) ≡ true → b ≡ true
 right true b e = e
 right false b e = absurd cc
 
@@ -65,7 +65,7 @@ negated_fits (pos zero) h = refl
 negated_fits (pos (suc n)) h = let le = leb-true (suc n) largest h in small_int n (omega (arith, le))
 negated_fits (negsuc n) h = absurd cc
 
-same_number : (es : PlainExprs) → slots_asked es ≡ number_of es
+pub same_number : (es : PlainExprs) → slots_asked es ≡ number_of es
 unfolding slots_asked number_of
 same_number no_exprs = refl
 same_number (more_exprs e es) = ap suc (same_number es)

@@ -1,15 +1,20 @@
 //! Laws of the points of lawful programs.
 
-ghost use Rattle.std.specs.Prelude.{◌≡◌, ℕ, List};
+ghost use Rattle.std.specs.Prelude.{◌≡◌, ◌≤◌, ◌+◌, ◌*◌, ℕ, List, length};
+ghost use Rattle.php_syntax.specs.Height.{file_nodes};
 ghost use Rattle.script_meaning.specs.Requests.{PlainRequest};
 ghost use Rattle.script_meaning.specs.Runs.{Ended};
 ghost use Rattle.script_meaning.specs.Programs.{PlainProgram};
 ghost use Rattle.script_meaning.specs.Meaning.{meaning};
+ghost use Rattle.program_rules.specs.Limits.{as_file};
+ghost use Rattle.program_rules.specs.Calls.{calls_of_program};
 ghost use Rattle.php_program.specs.Lawful.{IsLawful};
+ghost use Rattle.flow_code.specs.Points.{points_in};
 ghost use Rattle.flow_code.specs.Flat.{flat};
 ghost use Rattle.flow_code.specs.Lawful.{IsFlow};
 ghost use Rattle.flow_code.specs.Runs.{FlatRun};
 ghost use Rattle.program_points.specs.Texts.{TextsFit};
+ghost use Rattle.program_points.specs.LeftOut.{left_out};
 
 use flow_runs::{ended_runs_are_runs_of_points, points_are_of_their_form};
 
@@ -27,3 +32,11 @@ pub fn lawful_points_are_of_their_form()
 {
     points_are_of_their_form();
 }
+
+/// A lawful program has at most 8 points for a node, 4 for a function, and two for each argument that a call leaves out.
+pub fn lawful_points_are_few()
+    ensures { (program : PlainProgram) → IsLawful program →
+        length (points_in (flat program).functions_of)
+        ≤ 8 * file_nodes (as_file program) + 4 * (1 + length program.functions_of)
+        + 2 * left_out program.functions_of (calls_of_program program) }
+{}
