@@ -1,0 +1,5 @@
+//! Tests of page_validator.
+#![tactic(auto)]
+
+#[cfg(test)]
+mod small;
