@@ -1,0 +1,4 @@
+pub mod Complete
+pub mod NoteLemmas
+pub mod WorkLemmas
+pub mod LargeLemmas
