@@ -4,9 +4,11 @@
 #![tactic(auto)]
 
 mod ask;
+mod ends;
 mod filling;
+mod imaging;
 mod refusal;
 mod work;
 
-pub use filling::fill;
+pub use imaging::image;
 pub use refusal::ImageRefusal;
