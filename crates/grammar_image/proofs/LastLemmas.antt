@@ -35,9 +35,9 @@ adds_more old mid new state outs rest left o so is pushed =
       ];
       has = λ x h. elim (so.has x h) [
         | inl r ↦ elim (Contains-push_cases left o x (subst (λ (xs : List (Vec Out Global)). Contains xs x) is r)) [
-            | inl k ↦ inl k
-            | inr e ↦ inr (one, subst (λ (xs : List Last). Contains xs one) (sym pushed) (Contains-push mid one), refl, e)
-          ]
+          | inl k ↦ inl k
+          | inr e ↦ inr (one, subst (λ (xs : List Last). Contains xs one) (sym pushed) (Contains-push mid one), refl, e)
+        ]
         | inr d ↦ inr (d.0, subst (λ (xs : List Last). Contains xs d.0) (sym pushed) (Contains-append_left mid (one ∷ []) d.0 d.1), d.2, d.3)
       ];
       part = λ x h. so.part x (subst (λ (xs : List (Vec Out Global)). Contains xs x) (sym is) (Contains-append_left left (o ∷ []) x h));

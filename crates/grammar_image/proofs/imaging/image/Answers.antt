@@ -20,5 +20,9 @@ fill-requires-clause-places g c =
     let some = subst (λ (ps : List Production). AreProductionsOf ps c.in_ok-places.places.items) (sym c.as_slice-productions.ensures.value) c.in_ok-places.ensures.places in
     subst (λ (ls : List (Vec _ _)). AreProductionsOf c.as_slice-productions.result.now ls) (sym c.as_slice.ensures.value) some
 
-pub returns-clause-sentences : goal.returns-clause-sentences
-returns-clause-sentences g c = ?
+pub returns-in-Ok-finish-clause-sentences : goal.returns-in-Ok-finish-clause-sentences
+returns-in-Ok-finish-clause-sentences g c =
+    let m = c.args.machine.now in
+    let P : List Production → nt.Nt → Type 0 = λ ps a. (w : List Letter) → Derives c.in-Ok-finish.grammar.productions.items (symbols.Symbol.Nt c.in-Ok-finish.grammar.start) w ↔ Outputs ps (symbols.Symbol.Nt a) (g.M.Machine.first m) (g.M.Machine.steps m) (g.M.Machine.ends m) w in
+    let whole : P c.as_slice-productions.result.now c.args.from = subst (λ (a : nt.Nt). P c.as_slice-productions.result.now a) (c.in-Ok.ensures.from ∙ c.in_ok-chart.ensures.from) c.in-Ok-finish.ensures in
+    subst (λ (ps : List Production). P ps c.args.from) c.as_slice-productions.ensures.value whole
