@@ -34,12 +34,12 @@ assembled ps from bs fs rs base ls none start first fr old one two three four em
       only = λ p h. elim (only p h) [
         | inr f ↦ of_front f
         | inl h3 ↦ elim (c.only p h3) [
-            | inr e ↦ of_end e.0 e.1 e.2
-            | inl h2 ↦ elim (b.only p h2) [
-                | inr r ↦ of_reading r.0 r.2.0 r.1 (read_lift_kept fs base first fr r.0 r.2.0 p c.grows r.2.1)
-                | inl h1 ↦ elim (a.only p h1) [ inr w ↦ whole w.0 w.1 w.2.0 w.2.1 | inl h0 ↦ absurd (none_in old p empty h0) ]
-              ]
+          | inr e ↦ of_end e.0 e.1 e.2
+          | inl h2 ↦ elim (b.only p h2) [
+            | inr r ↦ of_reading r.0 r.2.0 r.1 (read_lift_kept fs base first fr r.0 r.2.0 p c.grows r.2.1)
+            | inl h1 ↦ elim (a.only p h1) [ inr w ↦ whole w.0 w.1 w.2.0 w.2.1 | inl h0 ↦ absurd (none_in old p empty h0) ]
           ]
+        ]
       ];
       wholes = All-weaker (λ (x : Begun). WholeHas ps fs none x one) (λ (x : Begun). HasWhole ps fs x four)
           (λ x h. whole_has ps fs none none x one four (λ n y k. k) (λ p k. keeps p (c.keeps p (b.keeps p k))) h) bs a.has;

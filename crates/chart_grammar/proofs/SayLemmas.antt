@@ -141,6 +141,7 @@ module _ (ps : List Production) (from : nt.Nt) (bs : List Begun) (fs : List Pass
     where
       both : (a b : Bool) → IsTrue a → IsTrue b → IsTrue (a && b)
       both a b h k = rw h k
+
       by : (k : ℕ) → k < base + length fr → IsTrue (production_below (base + length fr) (record { left = record { 0 = base + m }; right = front_by k last }))
       by zero below =
           let count : ℕ = base + length fr in

@@ -29,7 +29,15 @@ pub fn grammar_of(
     write_wholes(productions, passages, &mut out, chart.begun.as_slice())?;
     let readings = chart.readings.as_slice();
     write_readings(alloc, passages, &mut fronts, base, &mut out, readings)?;
-    write_ends(alloc, passages, &mut fronts, base, &mut out, chart.from, lasts)?;
+    write_ends(
+        alloc,
+        passages,
+        &mut fronts,
+        base,
+        &mut out,
+        chart.from,
+        lasts,
+    )?;
     let total = base + count(&fronts) as u64;
     write_fronts(fronts.as_slice(), base, total, &mut out)?;
     match Grammar::new(Nt(0), total, out) {

@@ -103,10 +103,12 @@ fn limits(rt: HostRuntime) -> Result<(), Fail> {
         return Ok(());
     };
     let table = machine_of(alloc, &Op::Same)?;
-    assert!(rt; match image(alloc, &grammar, grammar.start, &table, 2) {
-        Err(ImageRefusal::Large { items }) => items > 2,
-        _ => false,
-    });
+    assert!(rt;
+        match image(alloc, &grammar, grammar.start, &table, 2) {
+            Err(ImageRefusal::Large { items }) => items > 2,
+            _ => false,
+        }
+    );
     assert!(rt; image(alloc, &grammar, grammar.start, &table, 100).is_ok());
     Ok(())
 }
