@@ -1,1 +1,4 @@
 pub mod CallLemmas
+pub mod Tests
+pub mod RuleLemmas
+pub mod FormLemmas

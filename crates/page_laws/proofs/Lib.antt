@@ -6,3 +6,4 @@ pub mod Whole
 pub mod Appended
 pub mod Once
 pub mod ByTokens
+pub mod Examples

@@ -41,7 +41,7 @@ one_cutting place (p ∷ ps) (q ∷ qs) h g e =
 abbrev pub Further : List ℕ → List ℕ → List ℕ → List ℕ → Type 0
 Further xs ys us vs = (cs : List ℕ) × (xs ≡ ys ++ cs) × (vs ≡ encode_utf8_all cs ++ us)
 
-further : (xs ys us vs : List ℕ) → encode_utf8_all xs ++ us ≡ encode_utf8_all ys ++ vs → Further xs ys us vs ⊎ Further ys xs vs us
+pub further : (xs ys us vs : List ℕ) → encode_utf8_all xs ++ us ≡ encode_utf8_all ys ++ vs → Further xs ys us vs ⊎ Further ys xs vs us
 further xs [] us vs e = inl (xs, refl, sym e)
 further [] (y ∷ ys) us vs e = inr (y ∷ ys, refl, e)
 further (x ∷ xs) (y ∷ ys) us vs e =

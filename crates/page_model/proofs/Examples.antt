@@ -2,6 +2,7 @@
 use Rattle.std.proofs.Common.{◌≡◌, ℕ, true, false, List, [], ◌∷◌, ◌++◌, refl, codes, None}
 use Rattle.std.specs.Str.{str_eq_ignore_ascii_case}
 use Rattle.std.specs.Char.{encode_utf8}
+use Rattle.text_base.specs.declared.page_token.PageToken.{PageToken}
 use Rattle.text_base.specs.declared.page_token.PageToken.TheVariants as token
 use Rattle.xml_text.specs.Names.{is_name}
 use Rattle.xml_text.specs.Texts.{holds}
@@ -274,11 +275,20 @@ paragraph = record {
 }
 
 -- its tokens, and that they are those of a tree
-pub paragraph_tokens : tokens_then mini_table (pieces_of (page_with (around (codes "p") (other (character 120) no_nodes)))) [] ≡ token.Start (record { 0 = 0 }) ∷ token.Start (record { 0 = 1 }) ∷ token.Start (record { 0 = 2 }) ∷ token.Text ∷ token.End (record { 0 = 2 }) ∷ token.End (record { 0 = 1 }) ∷ token.End (record { 0 = 0 }) ∷ []
+abbrev pub start : ℕ → PageToken
+start n = token.Start (record { 0 = n })
+
+abbrev pub end_of : ℕ → PageToken
+end_of n = token.End (record { 0 = n })
+
+abbrev pub its_tokens : List PageToken
+its_tokens = start 0 ∷ start 1 ∷ start 2 ∷ token.Text ∷ end_of 2 ∷ end_of 1 ∷ end_of 0 ∷ []
+
+pub paragraph_tokens : tokens_then mini_table (pieces_of (page_with (around (codes "p") (other (character 120) no_nodes)))) [] ≡ its_tokens
 unfolding mini_table
 paragraph_tokens = refl
 
-pub paragraph_tree : TokenTree mini_table (token.Start (record { 0 = 0 }) ∷ token.Start (record { 0 = 1 }) ∷ token.Start (record { 0 = 2 }) ∷ token.Text ∷ token.End (record { 0 = 2 }) ∷ token.End (record { 0 = 1 }) ∷ token.End (record { 0 = 0 }) ∷ [])
+pub paragraph_tree : TokenTree mini_table its_tokens
 unfolding mini_table may_be_empty after
 paragraph_tree = record {
   before = None;

@@ -33,7 +33,8 @@ abbrev pub are_words : (List ℕ → Bool) → List (List ℕ) → Bool
 are_words test [] = false
 are_words test (word ∷ words) = list_all test (word ∷ words)
 
--- A value of this type (XML 1.0, 3.3.1). Since names and name tokens have no `&`, only CDATA holds references (own).
+-- A value of this type (XML 1.0, 3.3.1). Since names and name tokens have no `&`, only CDATA holds references
+-- (own), where a choice is one of name tokens, as each lawful definition has it.
 abbrev pub has_kind : Kind → List ℕ → Bool
 has_kind cdata value = true
 has_kind id value = is_one_word is_name (words_of value)
@@ -43,7 +44,7 @@ has_kind nmtoken value = is_one_word is_name_token (words_of value)
 has_kind nmtokens value = are_words is_name_token (words_of value)
 has_kind (one_of tokens) value = is_one_word (λ word. list_any (bytes_eq word) tokens) (words_of value)
 
--- a fixed value is the declared one, byte for byte (XML 1.0, 3.3.2)
+-- a fixed value is the declared one (XML 1.0, 3.3.2), byte for byte and not normalised (own)
 abbrev pub has_fixed : Presence → List ℕ → Bool
 has_fixed implied value = true
 has_fixed required value = true

@@ -1,5 +1,5 @@
--- Pages that break before any matter of attributes: they can not be cut into pieces even where less is asked of a tag and
--- of a number.
+-- Pages that break whatever is declared of attributes: they can not be cut into pieces even where less is asked of a tag
+-- and of a number.
 use Rattle.std.specs.Prelude.{◌≡◌, ℕ, Bool, true, not, ◌==◌, ◌&&◌, ◌||◌, List, [], ◌∷◌, ◌++◌}
 use Rattle.std.specs.Char.{is_ascii_digit, is_ascii_hexdigit}
 use Rattle.std.specs.List.{list_all}

@@ -1,5 +1,6 @@
 -- What a page is made of besides its prolog: attributes, tags, and what stands in and between elements (XML 1.0, 2.4 to
--- 2.7, 3.1 and 4.1). All of it is lists of characters; the bytes of a page are their UTF-8 (specs/Valid.antt).
+-- 2.7, 3.1 and 4.1). All of it is lists of characters; the bytes of a page are their
+-- UTF-8 (specs/Nodes.antt, specs/PageTokens.antt).
 use Rattle.std.specs.Prelude.{◌≡◌, ◌≢◌, ℕ, Bool, true, false, not, ◌==◌, ◌&&◌, ◌||◌, if◌then◌else◌, List, [], ◌∷◌, ◌++◌, codes}
 use Rattle.std.specs.List.{list_all}
 use Rattle.std.specs.Str.{str_eq_ignore_ascii_case}

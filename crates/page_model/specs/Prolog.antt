@@ -1,4 +1,5 @@
--- What may stand before the root: the XML declaration and the document type declaration (XML 1.0, 2.8; XHTML 1.0, 3.1.1).
+-- What may stand before the root: the XML declaration and the document type declaration (XML 1.0, 2.8, 2.9 and 4.3.3;
+-- XHTML 1.0, 3.1.1).
 use Rattle.std.specs.Prelude.{◌≡◌, ◌≢◌, ℕ, Bool, true, false, not, ◌==◌, ◌&&◌, ◌||◌, List, [], ◌∷◌, ◌++◌, codes, bytes_eq}
 use Rattle.std.specs.List.{list_all}
 use Rattle.std.specs.Str.{str_eq_ignore_ascii_case}
@@ -39,7 +40,7 @@ pub record IsDeclaration (d : Declaration) : Type 0 where
   pub in_order : is_in_order d.attributes ≡ true
   pub blank_space : list_all is_blank d.space ≡ true
 
--- The document type declaration: `<!DOCTYPE`, white space, `html`, maybe an external identifier, and `>`.
+-- The document type declaration: `<!DOCTYPE`, white space, `html`, maybe an external identifier, maybe white space, `>`.
 
 -- a text in quotes
 pub record Literal : Type 0 where
@@ -89,7 +90,7 @@ pub record IsDoctype (d : Doctype) : Type 0 where
   pub identifier : IsIdentifier d.identifier
   pub blank_space : list_all is_blank d.end_space ≡ true
 
--- the public identifier of XHTML 1.0 Strict, byte for byte (XHTML 1.0, 3.1.1)
+-- the public identifier of XHTML 1.0 Strict (XHTML 1.0, 3.1.1), byte for byte and not normalised (own)
 abbrev pub is_strict : Identifier → Bool
 is_strict no_identifier = false
 is_strict (system s t l) = false

@@ -22,8 +22,9 @@ element_names (other l more) = element_names more
 element_names (element tag inside space more) = tag.name ∷ element_names more
 element_names (empty_element tag more) = tag.name ∷ element_names more
 
--- what matters of a leaf for where it may stand: white space, other text (also a reference or a section that gives white
--- space: own), or a comment or an instruction
+-- what matters of a leaf for where it may stand: white space, other text (a section and a reference to a character too,
+-- though they give white space: XML 1.0, 3, Element Valid; own for a reference to an entity with such a text), or a
+-- comment or an instruction
 pub data Sort : Type 0 where
   blank : Sort
   text : Sort

@@ -1,0 +1,26 @@
+use Rattle.std.proofs.Common.{◌≡◌, ◌∙◌, ◌+◌, ◌<◌, ◌≤◌, length, drop, take, ap, refl, sym, subst, arith}
+use Rattle.std.proofs.lemmas.List.{length-drop}
+use Rattle.dtd_entities.specs.Positions.{state_of, seen, IsWithin}
+use Rattle.dtd_texts.specs.Reading.{Move, move}
+use Rattle.dtd_reader.specs.Views.{position_of, frames_of, IsFound}
+use Rattle.dtd_reader.proofs.SoFar.{missed_to, asked_to, opened_to}
+use Rattle.dtd_reader.proofs.reader.Reader.open_entity.Goals as goal
+
+pub returns-in-Nowhere-clause-told : goal.returns-in-Nowhere-clause-told
+returns-in-Nowhere-clause-told g c = λ file so_far. missed_to (g.F.Files.content c.args.files.now) file (state_of c.args.self.now.reading) (2 + c.args.n) (drop c.args.self.now.at c.args.self.now.text) c.in_ok-name.name (take c.args.n (drop 1 (drop c.args.self.now.at c.args.self.now.text))) (frames_of c.args.self.now.frames) (omega (arith, length-drop c.args.self.now.at c.args.self.now.text, c.requires.some)) c.requires.opens
+    (c.in_ok-name.ensures ∙ c.front.ensures.value ∙ ap (take c.args.n) (c.behind-2.ensures.value ∙ ap (drop 1) (c.behind.ensures.value ∙ ap (drop c.args.self.now.at) c.as_slice.ensures)))
+    (subst (λ o. IsFound (g.F.Files.content c.args.files.now) (state_of c.args.self.now.reading) (frames_of c.args.self.now.frames) c.in_ok-name.name o) c.in-Nowhere.is c.in_ok-find.ensures.found) so_far
+
+pub returns-in-NotRead-clause-told : goal.returns-in-NotRead-clause-told
+returns-in-NotRead-clause-told g c = λ file so_far.
+    let there = (subst (λ o. IsFound (g.F.Files.content c.args.files.now) (state_of c.args.self.now.reading) (frames_of c.args.self.now.frames) c.in_ok-name.name o) c.in-NotRead.is c.in_ok-find.ensures.found) in
+    asked_to (g.F.Files.content c.args.files.now) file (state_of c.args.self.now.reading) (2 + c.args.n) (drop c.args.self.now.at c.args.self.now.text) c.in_ok-name.name (take c.args.n (drop 1 (drop c.args.self.now.at c.args.self.now.text))) c.in-NotRead.system (frames_of c.args.self.now.frames) (omega (arith, length-drop c.args.self.now.at c.args.self.now.text, c.requires.some)) c.requires.opens
+    (c.in_ok-name.ensures ∙ c.front.ensures.value ∙ ap (take c.args.n) (c.behind-2.ensures.value ∙ ap (drop 1) (c.behind.ensures.value ∙ ap (drop c.args.self.now.at) c.as_slice.ensures)))
+    there.0 there.1 so_far
+
+pub returns-in_ok-enter-in-Text-clause-told : goal.returns-in_ok-enter-in-Text-clause-told
+returns-in_ok-enter-in-Text-clause-told g c = λ file so_far.
+    let there = (subst (λ o. IsFound (g.F.Files.content c.args.files.now) (state_of c.args.self.now.reading) (frames_of c.args.self.now.frames) c.in_ok-name.name o) c.in-Text.is c.in_ok-find.ensures.found) in
+    opened_to (g.F.Files.content c.args.files.now) file (state_of c.args.self.now.reading) (2 + c.args.n) (drop c.args.self.now.at c.args.self.now.text) c.in_ok-name.name (take c.args.n (drop 1 (drop c.args.self.now.at c.args.self.now.text))) c.in-Text.text (frames_of c.args.self.now.frames) (position_of c.enter.new.self) (omega (arith, length-drop c.args.self.now.at c.args.self.now.text, c.requires.some)) c.requires.opens
+    (c.in_ok-name.ensures ∙ c.front.ensures.value ∙ ap (take c.args.n) (c.behind-2.ensures.value ∙ ap (drop 1) (c.behind.ensures.value ∙ ap (drop c.args.self.now.at) c.as_slice.ensures)))
+    there.0 there.1 c.in_ok-enter-in-Text.ensures so_far

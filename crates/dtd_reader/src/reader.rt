@@ -1,0 +1,174 @@
+//! The reading of a text, step by step.
+
+ghost use Rattle.std.specs.Prelude.{◌≡◌, ◌<◌, ◌≤◌, ◌+◌, ◌^◌, ℕ, List, length, drop, take, IfOk, false};
+ghost use Rattle.dtd_texts.specs.Reading.{Content, is_among, move, opens};
+ghost use Rattle.dtd_entities.specs.Positions.{state_of};
+ghost use Rattle.dtd_reader.specs.SoFar.{first, names, SoFar};
+ghost use Rattle.dtd_reader.specs.Views.{position_of, frames_of, Told, entered, IsFound, FoundReason, OutcomeReason, IsNearer};
+
+use crate::frames::{Frames, Rest};
+use crate::loading::load;
+use crate::outcome::{Found, Outcome};
+use dtd_entities::{Move, Reading, Source, source_of};
+use dtd_tokens::{behind, front};
+use io_edge::Files;
+use std::alloc::Global;
+use std::mem;
+use text_base::{Bytes, NoMemory};
+
+/// The reading, with what is left of the text, and the entities that are open.
+#[derive(Debug, Drop)]
+pub struct Reader {
+    pub reading: Reading,
+    pub text: Bytes,
+    pub at: usize,
+    pub frames: Frames,
+}
+
+impl Reader {
+    /// Before the text.
+    pub fn new(alloc: Global, text: Bytes) -> Reader
+        ensures { position_of result ≡ first text }
+    {
+        Reader {
+            reading: Reading::new(alloc),
+            text,
+            at: 0,
+            frames: Frames::new(alloc),
+        }
+    }
+
+    // The end of the text of an entity, or of the whole.
+    fn close(&mut self) -> Result<Outcome, NoMemory>
+        requires small { (self.old.reading.length ≤ 4194304) × (self.old.reading.references ≤ 4194304) }
+        requires at { length self.old.text ≤ self.old.at }
+        ensures nearer { IfOk result (λ o. IsNearer o (position_of self.old) (position_of self.new)) }
+        ensures reason { IfOk result (λ o. (content : Content) (faults misses : ℕ) → OutcomeReason content faults faults misses misses o) }
+        ensures told { (content : Content) (file : List ℕ) → SoFar content file (position_of self.old) →
+            IfOk result (λ o. Told content file o (position_of self.old) (position_of self.new)) }
+    {
+        match self.frames.close() {
+            None => Ok(Outcome::Ends),
+            Some(rest) => {
+                self.reading.leave()?;
+                self.text = rest.text;
+                self.at = rest.at;
+                Ok(Outcome::Goes)
+            }
+        }
+    }
+
+    // Into the text of an entity, whose reference has so many bytes.
+    fn enter(&mut self, name: Bytes, text: Bytes, n: usize) -> Result<(), NoMemory>
+        requires small { (self.old.reading.length < 2 ^ 32) × (self.old.reading.references < 2 ^ 32) }
+        requires fits { self.old.at + n ≤ length self.old.text }
+        requires shut { is_among (names (frames_of self.old.frames)) name ≡ false }
+        ensures { IfOk result (λ done. position_of self.new ≡ entered (position_of self.old) name text n) }
+    {
+        self.reading.enter()?;
+        let text = mem::replace(&mut self.text, text);
+        let at = self.at + n;
+        self.at = 0;
+        self.frames.open(name, Rest { text, at })?;
+        Ok(())
+    }
+
+    // The text of an entity that is declared so far and is not open.
+    fn find<F: Files>(&self, alloc: Global, files: &mut F, name: &Bytes) -> Result<Found, NoMemory>
+        ensures found { IfOk result (IsFound (F.content files.old) (state_of self.now.reading) (frames_of self.now.frames) name.now) }
+        ensures reason { IfOk result (FoundReason (F.content files.old) (F.faults files.old) (F.faults files.new)
+            (F.misses files.old) (F.misses files.new)) }
+        ensures same { F.content files.new ≡ F.content files.old }
+        ensures faults { F.faults files.old ≤ F.faults files.new }
+        ensures misses { F.misses files.old ≤ F.misses files.new }
+    {
+        if self.frames.is_open(name) {
+            return Ok(Found::Nowhere);
+        }
+        match source_of(&self.reading.parameters, name) {
+            None => Ok(Found::Nowhere),
+            Some(Source::Internal(text)) => Ok(Found::Text(text.copy(alloc)?)),
+            Some(Source::External(system)) => load(alloc, files, system.as_str()),
+        }
+    }
+
+    // A reference with a name of so many bytes.
+    fn open_entity<F: Files>(
+        &mut self,
+        alloc: Global,
+        files: &mut F,
+        n: usize,
+    ) -> Result<Outcome, NoMemory>
+        requires small { (self.old.reading.length ≤ 4194304) × (self.old.reading.references ≤ 4194304) }
+        requires some { self.old.at + (2 + n) ≤ length self.old.text }
+        requires opens { move (state_of self.old.reading) (drop self.old.at self.old.text)
+            ≡ opens (take n (drop 1 (drop self.old.at self.old.text))) (2 + n) }
+        ensures told { (file : List ℕ) → SoFar (F.content files.old) file (position_of self.old) →
+            IfOk result (λ o. Told (F.content files.old) file o (position_of self.old) (position_of self.new)) }
+        ensures nearer { IfOk result (λ o. IsNearer o (position_of self.old) (position_of self.new)) }
+        ensures reason { IfOk result (OutcomeReason (F.content files.old) (F.faults files.old) (F.faults files.new)
+            (F.misses files.old) (F.misses files.new)) }
+        ensures same { F.content files.new ≡ F.content files.old }
+        ensures faults { F.faults files.old ≤ F.faults files.new }
+        ensures misses { F.misses files.old ≤ F.misses files.new }
+    {
+        let name = Bytes::from_slice(
+            alloc,
+            front(behind(behind(self.text.as_slice(), self.at), 1), n),
+        )?;
+        match self.find(alloc, files, &name)? {
+            Found::Nowhere => Ok(Outcome::Misses(name)),
+            Found::NotRead(system, fault) => Ok(Outcome::Unread(system, fault)),
+            Found::Text(text) => {
+                self.enter(name, text, 2 + n)?;
+                Ok(Outcome::Goes)
+            }
+        }
+    }
+
+    // What stands at the head of the text.
+    fn take<F: Files>(&mut self, alloc: Global, files: &mut F) -> Result<Outcome, NoMemory>
+        requires small { (self.old.reading.length ≤ 4194304) × (self.old.reading.references ≤ 4194304) }
+        requires at { self.old.at < length self.old.text }
+        ensures told { (file : List ℕ) → SoFar (F.content files.old) file (position_of self.old) →
+            IfOk result (λ o. Told (F.content files.old) file o (position_of self.old) (position_of self.new)) }
+        ensures nearer { IfOk result (λ o. IsNearer o (position_of self.old) (position_of self.new)) }
+        ensures reason { IfOk result (OutcomeReason (F.content files.old) (F.faults files.old) (F.faults files.new)
+            (F.misses files.old) (F.misses files.new)) }
+        ensures same { F.content files.new ≡ F.content files.old }
+        ensures faults { F.faults files.old ≤ F.faults files.new }
+        ensures misses { F.misses files.old ≤ F.misses files.new }
+    {
+        match self
+            .reading
+            .step(alloc, behind(self.text.as_slice(), self.at))?
+        {
+            Move::On(n) => {
+                self.at += n;
+                Ok(Outcome::Goes)
+            }
+            Move::Opens(n) => self.open_entity(alloc, files, n),
+            Move::Omits => Ok(Outcome::Omits),
+            Move::Stuck => Ok(Outcome::Breaks),
+        }
+    }
+
+    /// One step of the reading.
+    pub fn advance<F: Files>(&mut self, alloc: Global, files: &mut F) -> Result<Outcome, NoMemory>
+        requires small { (self.old.reading.length ≤ 4194304) × (self.old.reading.references ≤ 4194304) }
+        ensures told { (file : List ℕ) → SoFar (F.content files.old) file (position_of self.old) →
+            IfOk result (λ o. Told (F.content files.old) file o (position_of self.old) (position_of self.new)) }
+        ensures nearer { IfOk result (λ o. IsNearer o (position_of self.old) (position_of self.new)) }
+        ensures reason { IfOk result (OutcomeReason (F.content files.old) (F.faults files.old) (F.faults files.new)
+            (F.misses files.old) (F.misses files.new)) }
+        ensures same { F.content files.new ≡ F.content files.old }
+        ensures faults { F.faults files.old ≤ F.faults files.new }
+        ensures misses { F.misses files.old ≤ F.misses files.new }
+    {
+        if self.at < self.text.len() {
+            self.take(alloc, files)
+        } else {
+            self.close()
+        }
+    }
+}

@@ -1,0 +1,10 @@
+pub mod Runs
+pub mod IdentityLemmas
+pub mod TreeLemmas
+pub mod VariableLemmas
+pub mod Opening
+pub mod BeginMoves
+pub mod GiveMoves
+pub mod RowMoves
+pub mod WriteMoves
+pub mod LoopMoves

@@ -1,0 +1,5 @@
+pub mod VariablesCode
+pub mod VariablesView
+pub mod Frames
+pub mod Cost
+pub mod Moves

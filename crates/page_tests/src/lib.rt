@@ -1,0 +1,7 @@
+//! Tests of page_validator.
+#![tactic(auto)]
+
+#[cfg(test)]
+mod long;
+#[cfg(test)]
+mod small;
