@@ -5,3 +5,4 @@ pub mod RightLemmas
 pub mod MonoLemmas
 pub mod OutputLemmas
 pub mod SayLemmas
+pub mod AssembleLemmas

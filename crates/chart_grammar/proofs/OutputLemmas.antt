@@ -18,8 +18,10 @@ use Rattle.chart_grammar.specs.declared.fronts.Front.{Front}
 use Rattle.chart_grammar.specs.declared.lifts.Last.{Last}
 use Rattle.chart_grammar.specs.Outs.{IsOutput}
 use Rattle.chart_grammar.specs.Fronts.{StandsFor}
-use Rattle.chart_grammar.specs.Lifts.{ReadLift, EndLift, FrontLift, HasFronts, front_right, front_by, end_by}
-use Rattle.chart_grammar.specs.Writing.{ReadMade, ReadHas, EndMade, EndHas, HasPart, HasByte, WritesSome}
+use Rattle.chart_grammar.specs.Lifts.{ReadLift, EndLift, FrontLift, HasFronts, front_production, front_right, front_by, end_by}
+use Rattle.cfg_grammar.specs.Below.{production_below}
+use Rattle.std.specs.Prelude.{IsTrue}
+use Rattle.chart_grammar.specs.Writing.{ReadMade, ReadHas, EndMade, EndHas, HasPart, HasByte, WritesSome, AddsFront}
 use Rattle.chart_grammar.specs.Written.{WritesOne}
 use Rattle.chart_grammar.proofs.MonoLemmas.{read_lift_kept}
 use Rattle.chart_grammar.proofs.WriteLemmas.{pushed_in}
@@ -107,34 +109,58 @@ bytes_more fs base r n w v u old mid new before some has =
 pub one_of_some : (fs : List Passage) (base : ℕ) (r : Reading) (w v : List Front) (old new : List Production) → WritesSome fs base r w v old new → ReadHas fs base v r new → WritesOne (ReadMade fs base) (ReadHas fs base) r w v old new
 one_of_some fs base r w v old new some has = record { grows = some.grows; keeps = some.keeps; only = some.only; has = has }
 
+-- the production of a front is pushed, or left out
+pub front_pushed : (base count n : ℕ) (f : Front) (p : Production) (old new : List Production) → p ≡ front_production base n f → IsTrue (production_below count p) → new ≡ old ++ p ∷ [] → AddsFront base count n f old new
+front_pushed base count n f p old new e fits is =
+    record {
+      keeps = λ q h. subst (λ (xs : List Production). Contains xs q) (sym is) (Contains-append_left old (p ∷ []) q h);
+      only = λ q h. elim (Contains-push_cases old p q (subst (λ (xs : List Production). Contains xs q) is h)) [
+        | inl o ↦ inl o
+        | inr same ↦ inr (sym same ∙ e, subst (λ (x : Production). IsTrue (production_below count x)) same fits)
+      ];
+      has = λ h. subst (λ (x : Production). Contains new x) e (pushed_in old new p is);
+    }
+
+pub front_left_out : (base count n : ℕ) (f : Front) (p : Production) (old : List Production) → p ≡ front_production base n f → (IsTrue (production_below count p) → ⊥) → AddsFront base count n f old old
+front_left_out base count n f p old e fits =
+    record {
+      keeps = λ q h. h;
+      only = λ q h. inl h;
+      has = λ h. absurd (fits (subst (λ (x : Production). IsTrue (production_below count x)) (sym e) h));
+    }
+
 -- the first fronts are written
-pub record FrontsWritten (fr : List Front) (base n : ℕ) (old new : List Production) : Type 0 where
+pub record FrontsWritten (fr : List Front) (base count n : ℕ) (old new : List Production) : Type 0 where
   pub keeps : (p : Production) → Contains old p → Contains new p
   pub only : (p : Production) → Contains new p → Contains old p ⊎ FrontLift fr base p
-  pub has : (i : ℕ) (f : Front) → i < n → slice_get fr i ≡ Some f → Contains new (record { left = record { 0 = base + i }; right = front_by f.before f.last })
+  pub has : (i : ℕ) (f : Front) → i < n → slice_get fr i ≡ Some f → IsTrue (production_below count (front_production base i f)) → Contains new (front_production base i f)
 
-pub fronts_none : (fr : List Front) (base : ℕ) (old : List Production) → FrontsWritten fr base 0 old old
-fronts_none fr base old = record { keeps = λ p h. h; only = λ p h. inl h; has = λ i f below. absurd (omega (arith, below)) }
+pub fronts_none : (fr : List Front) (base count : ℕ) (old : List Production) → FrontsWritten fr base count 0 old old
+fronts_none fr base count old = record { keeps = λ p h. h; only = λ p h. inl h; has = λ i f below. absurd (omega (arith, below)) }
 
-pub fronts_more : (fr : List Front) (base n : ℕ) (f : Front) (right : Right) (old mid new : List Production) → slice_get fr n ≡ Some f → right ≡ front_by f.before f.last → new ≡ mid ++ record { left = record { 0 = base + n }; right = right } ∷ [] → FrontsWritten fr base n old mid → FrontsWritten fr base (n + 1) old new
-fronts_more fr base n f right old mid new at e is before =
-    let p : Production = record { left = record { 0 = base + n }; right = right } in
+pub fronts_more : (fr : List Front) (base count n : ℕ) (f : Front) (old mid new : List Production) → count ≡ base + length fr → slice_get fr n ≡ Some f → AddsFront base count n f mid new → FrontsWritten fr base count n old mid → FrontsWritten fr base count (n + 1) old new
+fronts_more fr base count n f old mid new total at adds before =
     record {
-      keeps = λ q h. subst (λ (xs : List Production). Contains xs q) (sym is) (Contains-append_left mid (p ∷ []) q (before.keeps q h));
-      only = λ q h. elim (Contains-push_cases mid p q (subst (λ (xs : List Production). Contains xs q) is h)) [
+      keeps = λ q h. adds.keeps q (before.keeps q h);
+      only = λ q h. elim (adds.only q h) [
         | inl o ↦ before.only q o
-        | inr same ↦ inr (subst (λ (x : Production). FrontLift fr base x) same (record { number = n; front = f; at = at; left = refl; right = e }))
+        | inr same ↦ inr (record {
+          number = n;
+          front = f;
+          at = at;
+          left = ap (λ (x : Production). x.left) same.0;
+          right = ap (λ (x : Production). x.right) same.0;
+          fits = subst (λ (m : ℕ). IsTrue (production_below m q)) total same.1;
+        })
       ];
-      has = λ i g below found. elim (cases_eq i n) [
+      has = λ i g below found fits. elim (cases_eq i n) [
         | inl eq ↦
             let s : Some f ≡ Some g = sym at ∙ (ap (slice_get fr) (sym eq) ∙ found) in
             let same : f ≡ g = cc in
-            subst (λ (j : ℕ). Contains new (record { left = record { 0 = base + j }; right = front_by g.before g.last })) (sym eq)
-            (subst (λ (x : Front). Contains new (record { left = record { 0 = base + n }; right = front_by x.before x.last })) same
-            (subst (λ (x : Right). Contains new (record { left = record { 0 = base + n }; right = x })) e (pushed_in mid new p is)))
-        | inr other ↦
-            subst (λ (xs : List Production). Contains xs (record { left = record { 0 = base + i }; right = front_by g.before g.last })) (sym is)
-            (Contains-append_left mid (p ∷ []) _ (before.has i g (omega (arith, below, other)) found))
+            let e : front_production base i g ≡ front_production base n f =
+            ap (λ (j : ℕ). front_production base j g) eq ∙ ap (λ (x : Front). front_production base n x) (sym same) in
+            subst (λ (x : Production). Contains new x) (sym e) (adds.has (subst (λ (x : Production). IsTrue (production_below count x)) e fits))
+        | inr other ↦ adds.keeps (front_production base i g) (before.has i g (omega (arith, below, other)) found fits)
       ];
     }
 

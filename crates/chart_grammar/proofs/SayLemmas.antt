@@ -28,7 +28,10 @@ use Rattle.chart_grammar.specs.declared.fronts.Front.{Front}
 use Rattle.chart_grammar.specs.declared.lifts.Last.{Last}
 use Rattle.chart_grammar.specs.Outs.{Puts, IsOutput}
 use Rattle.chart_grammar.specs.Fronts.{StandsFor, nothing, longer}
-use Rattle.chart_grammar.specs.Lifts.{nt_of, RightLift, WholeLift, ReadLift, FrontLift, EndLift, front_right, front_by, end_by, IsLift, whole, of_reading, of_front, of_end, AreLifts}
+use Rattle.std.proofs.Common.{Bool, true, ◌&&◌, IsTrue, ltb}
+use Rattle.std.proofs.lemmas.Bool.{lt-ltb}
+use Rattle.cfg_grammar.specs.Below.{symbol_below, production_below}
+use Rattle.chart_grammar.specs.Lifts.{front_production, nt_of, RightLift, WholeLift, ReadLift, FrontLift, EndLift, front_right, front_by, end_by, IsLift, whole, of_reading, of_front, of_end, AreLifts}
 use Rattle.chart_grammar.proofs.OutLemmas.{zip_push, zip_pushed}
 
 pub puts_derives : (qs : List Production) (x : Symbol) (c : Letter) → Puts x c → Derives qs x (c ∷ [])
@@ -122,13 +125,41 @@ module _ (ps : List Production) (from : nt.Nt) (bs : List Begun) (fs : List Pass
           let e : w ≡ f.0 ++ t.0 ∷ [] = f.4 ∙ ap (λ (u : List Letter). f.0 ++ u) t.1 in
           subst (λ (u : List Letter). AllZip Puts (xs ++ last ∷ []) u) (sym e) (zip_pushed xs last f.0 t.0 front t.2)
 
+  terminal_below : (count : ℕ) (x : Symbol) (c : Letter) → Puts x c → IsTrue (symbol_below count x)
+  terminal_below count (Range range) c h = refl
+  terminal_below count (Token token) c h = refl
+  terminal_below count (Nt a) c h = absurd h
+
+  stands_below : (n : ℕ) (xs : List Symbol) → StandsFor base fr n xs → n < base + length fr
+  stands_below n xs nothing = omega (arith, based)
+  stands_below n xs (longer m before last ys at rest) = let w = slice_get_within fr m _ at in omega (arith, w)
+
+  -- the production of a front that stands for symbols has only nonterminals of fronts
+  front_fits : (m before : ℕ) (last : Symbol) (xs : List Symbol) (c : Letter) → slice_get fr m ≡ Some (record { before = before; last = last }) → StandsFor base fr before xs → Puts last c → IsTrue (production_below (base + length fr) (front_production base m (record { before = before; last = last })))
+  front_fits m before last xs c at rest puts =
+      by before (stands_below before xs rest)
+    where
+      both : (a b : Bool) → IsTrue a → IsTrue b → IsTrue (a && b)
+      both a b h k = rw h k
+
+      by : (k : ℕ) → k < base + length fr → IsTrue (production_below (base + length fr) (record { left = record { 0 = base + m }; right = front_by k last }))
+      by zero below =
+          let count : ℕ = base + length fr in
+          let w = slice_get_within fr m _ at in
+          both (ltb (base + m) count) (symbol_below count last && true) (lt-ltb (base + m) count (omega (arith, w))) (both (symbol_below count last) true (terminal_below count last c puts) refl)
+      by (suc k) below =
+          let count : ℕ = base + length fr in
+          let w = slice_get_within fr m _ at in
+          both (ltb (base + m) count) (ltb (suc k) count && (symbol_below count last && true)) (lt-ltb (base + m) count (omega (arith, w)))
+          (both (ltb (suc k) count) (symbol_below count last && true) (lt-ltb (suc k) count below) (both (symbol_below count last) true (terminal_below count last c puts) refl))
+
   -- and all that they put out
   pub derives_front : (n : ℕ) (symbols : List Symbol) (w : List Letter) → StandsFor base fr n symbols → AllZip Puts symbols w → FromRight qs (front_right n) w
   derives_front n symbols [] nothing z = refl
   derives_front n symbols (c ∷ w) nothing z = absurd z
   derives_front n symbols w (longer m before last xs at rest) z =
       let s = zip_push xs last w z in
-      let has = lifts.fronts m (record { before = before; last = last }) at in
+      let has = lifts.fronts m (record { before = before; last = last }) at (front_fits m before last xs s.1 at rest s.4) in
       let d : Derives qs (nt_of (base + m)) w = by before has (derives_front before xs s.0 rest s.3) in
       back (base + m) (positive m) d
     where

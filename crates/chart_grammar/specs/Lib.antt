@@ -4,3 +4,4 @@ pub mod Fronts
 pub mod Lifts
 pub mod Written
 pub mod Writing
+pub mod Images

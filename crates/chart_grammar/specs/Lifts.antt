@@ -1,5 +1,5 @@
 -- The productions of an image, by what they stand for.
-use Rattle.std.specs.Prelude.{◌≡◌, ◌≤◌, ◌+◌, ◌⊎◌, ℕ, zero, suc, List, length, map, Option, None, Some, slice_get, Contains, All}
+use Rattle.std.specs.Prelude.{◌≡◌, ◌≤◌, ◌+◌, ◌⊎◌, ℕ, zero, suc, List, length, map, Option, None, Some, slice_get, Contains, All, IsTrue}
 use Rattle.std.specs.List.{AllZip}
 use Rattle.text_base.specs.declared.byte_range.ByteRange.{ByteRange}
 use Rattle.text_base.specs.declared.numbers.Nt as nt
@@ -9,6 +9,7 @@ use Rattle.cfg_grammar.specs.declared.symbol.Symbol.TheVariants.{Range, Nt}
 use Rattle.cfg_grammar.specs.declared.production.Right.{Right}
 use Rattle.cfg_grammar.specs.declared.production.Right.TheVariants.{Empty, One, Two}
 use Rattle.cfg_grammar.specs.declared.production.Production.{Production}
+use Rattle.cfg_grammar.specs.Below.{production_below}
 use Rattle.grammar_chart.specs.declared.keys.Read.{Read}
 use Rattle.grammar_chart.specs.declared.keys.Read.TheVariants.{Nothing, First, Both}
 use Rattle.grammar_chart.specs.declared.keys.Begun.{Begun}
@@ -68,13 +69,14 @@ abbrev pub front_by : ℕ → Symbol → Right
 front_by zero last = One last
 front_by (suc n) last = Two (nt_of (suc n)) last
 
--- the production of a front
+-- the production of a front, whose nonterminals are those of passages and fronts
 pub record FrontLift (fr : List Front) (base : ℕ) (p : Production) : Type 0 where
   pub number : ℕ
   pub front : Front
   pub at : slice_get fr number ≡ Some front
   pub left : p.left ≡ record { 0 = base + number }
   pub right : p.right ≡ front_by front.before front.last
+  pub fits : IsTrue (production_below (base + length fr) p)
 
 -- what stands for a passage and then an output
 abbrev pub end_by : ℕ → ℕ → Right
@@ -108,8 +110,13 @@ HasWhole ps fs b qs = (q : Production) → awaited_of ps b ≡ None → slice_ge
 abbrev pub HasReading : List Passage → List Front → ℕ → Reading → List Production → Type 0
 HasReading fs fr base r qs = (byte : ℕ) → InRange r.range byte → Contains fs (record { symbol = Range r.asked; from = r.from; to = r.to }) → (part : ByteRange) × (p : Production) × InRange part byte × Contains qs p × ReadLift fs fr base r part p
 
+-- the production of the front n
+abbrev pub front_production : ℕ → ℕ → Front → Production
+front_production base n f = record { left = record { 0 = base + n }; right = front_by f.before f.last }
+
+-- each front has its production, if the nonterminals in it are those of passages and fronts
 abbrev pub HasFronts : List Front → ℕ → List Production → Type 0
-HasFronts fr base qs = (n : ℕ) (f : Front) → slice_get fr n ≡ Some f → Contains qs (record { left = record { 0 = base + n }; right = front_by f.before f.last })
+HasFronts fr base qs = (n : ℕ) (f : Front) → slice_get fr n ≡ Some f → IsTrue (production_below (base + length fr) (front_production base n f)) → Contains qs (front_production base n f)
 
 abbrev pub HasEnd : nt.Nt → List Passage → List Front → ℕ → Last → List Production → Type 0
 HasEnd from fs fr base l qs = Contains fs (record { symbol = Nt from; from = 0; to = l.state }) → (p : Production) × Contains qs p × EndLift from fs fr base l p

@@ -1,5 +1,5 @@
 -- What the writers write.
-use Rattle.std.specs.Prelude.{◌≡◌, ◌≤◌, ◌⊎◌, ℕ, List, Option, None, Some, Contains, Bool, true, IfOk}
+use Rattle.std.specs.Prelude.{◌≡◌, ◌≤◌, ◌⊎◌, ℕ, List, Option, None, Some, Contains, Bool, true, IfOk, IsTrue}
 use Rattle.text_base.specs.declared.byte_range.ByteRange.{ByteRange}
 use Rattle.text_base.specs.declared.numbers.Nt as nt
 use Rattle.text_base.specs.ByteRange.{InRange}
@@ -12,7 +12,8 @@ use Rattle.grammar_chart.specs.declared.keys.Reading.{Reading}
 use Rattle.grammar_chart.specs.Rules.{awaited_of}
 use Rattle.chart_grammar.specs.declared.fronts.Front.{Front}
 use Rattle.chart_grammar.specs.declared.lifts.Last.{Last}
-use Rattle.chart_grammar.specs.Lifts.{WholeLift, ReadLift, FrontLift, EndLift, HasWhole, HasReading, HasFronts, HasEnd}
+use Rattle.chart_grammar.specs.Lifts.{WholeLift, ReadLift, FrontLift, EndLift, HasWhole, HasReading, HasFronts, HasEnd, front_production}
+use Rattle.cfg_grammar.specs.Below.{production_below}
 use Rattle.chart_grammar.specs.Written.{WritesOne, WritesAll}
 
 abbrev pub WholeMade : List Production → List Passage → List Front → Begun → Production → Type 0
@@ -49,3 +50,9 @@ pub record WritesSome (fs : List Passage) (base : ℕ) (r : Reading) (w v : List
 -- some part with the byte has its production
 abbrev pub HasByte : List Passage → ℕ → Reading → List Front → ℕ → List Production → Type 0
 HasByte fs base r fr byte qs = Contains fs (record { symbol = Range r.asked; from = r.from; to = r.to }) → (part : ByteRange) × (p : Production) × InRange part byte × Contains qs p × ReadLift fs fr base r part p
+
+-- the production of a front is written, if its nonterminals are below the count
+pub record AddsFront (base count n : ℕ) (f : Front) (old new : List Production) : Type 0 where
+  pub keeps : (p : Production) → Contains old p → Contains new p
+  pub only : (p : Production) → Contains new p → Contains old p ⊎ ((p ≡ front_production base n f) × IsTrue (production_below count p))
+  pub has : IsTrue (production_below count (front_production base n f)) → Contains new (front_production base n f)

@@ -3,11 +3,13 @@
 //! beginning cost their ends alone. Below stand cfg_grammar, fst_core, numbered_sets, image_meaning and grammar_chart.
 #![tactic(auto)]
 
+mod assembly;
 mod fronts;
 mod lifts;
 mod outputs;
 mod symbols;
 
+pub use assembly::grammar_of;
 pub use fronts::{Front, front_of};
 pub use lifts::{Last, write_wholes};
 pub use outputs::{write_ends, write_fronts, write_readings};

@@ -1,11 +1,11 @@
 //! The productions of what is put out.
 
-ghost use Rattle.std.specs.Prelude.{◌≡◌, ◌<◌, ◌≤◌, ◌⊎◌, ℕ, List, Contains, IfOk, OnOk, true, length};
+ghost use Rattle.std.specs.Prelude.{◌≡◌, ◌<◌, ◌≤◌, ◌+◌, ◌⊎◌, ℕ, List, Contains, IfOk, OnOk, true, length};
 ghost use Rattle.text_base.specs.ByteRange.{InRange};
 ghost use Rattle.cfg_grammar.specs.declared.production.Production as plain;
 ghost use Rattle.chart_grammar.specs.Lifts.{HasFronts, FrontLift};
 ghost use Rattle.chart_grammar.specs.Written.{WritesOne, WritesAll};
-ghost use Rattle.chart_grammar.specs.Writing.{ReadMade, ReadHas, EndMade, EndHas, HasPart, HasByte, WritesSome};
+ghost use Rattle.chart_grammar.specs.Writing.{ReadMade, ReadHas, EndMade, EndHas, HasPart, HasByte, WritesSome, AddsFront};
 
 use crate::fronts::{Front, front_of};
 use crate::lifts::{Last, nonterminal_of, right_of, right_of_end, right_of_front};
@@ -192,19 +192,45 @@ pub fn write_ends(
     Ok(())
 }
 
-/// Writes the productions of the fronts.
-pub fn write_fronts(fronts: &[Front], base: u64, out: &mut Vec<Production>) -> Result<(), NoMemory>
+/// Writes the production of a front, if its nonterminals are below the count.
+fn write_front(
+    base: u64,
+    count: u64,
+    number: usize,
+    front: Front,
+    out: &mut Vec<Production>,
+) -> Result<(), NoMemory>
+    requires base { base ≤ 9223372036854775808 }
+    requires few { number < 9223372036854775808 }
+    ensures { OnOk result (AddsFront base count number front out.old.items out.new.items) }
+{
+    let production = Production {
+        left: Nt(base + number as u64),
+        right: right_of_front(front),
+    };
+    if !production.is_below(count) {
+        return Ok(());
+    }
+    out.push(production)?;
+    Ok(())
+}
+
+/// Writes the productions of the fronts. Those that no output has would have other nonterminals; they are left out.
+pub fn write_fronts(
+    fronts: &[Front],
+    base: u64,
+    count: u64,
+    out: &mut Vec<Production>,
+) -> Result<(), NoMemory>
     requires base { base ≤ 9223372036854775808 }
     requires few { length fronts.now < 9223372036854775808 }
+    requires count { count ≡ base + length fronts.now }
     ensures keeps { OnOk result ((p : plain.Production) → Contains out.old.items p → Contains out.new.items p) }
     ensures only { OnOk result ((p : plain.Production) → Contains out.new.items p → Contains out.old.items p ⊎ FrontLift fronts.now base p) }
     ensures has { OnOk result (HasFronts fronts.now base out.new.items) }
 {
     for (number, front) in fronts.iter().enumerate() {
-        out.push(Production {
-            left: Nt(base + number as u64),
-            right: right_of_front(*front),
-        })?;
+        write_front(base, count, number, *front, out)?;
     }
     Ok(())
 }

@@ -1,20 +1,22 @@
-use Rattle.std.proofs.Common.{◌≡◌, ◌<◌, ◌≤◌, Some, slice_get, length, arith, refl}
+use Rattle.std.proofs.Common.{◌≡◌, ◌<◌, ◌≤◌, ℕ, ◌+◌, Some, IsTrue, slice_get, length, arith, refl, sym, subst}
 use Rattle.std.proofs.lemmas.Option.{slice_get_read, slice_get_within}
+use Rattle.cfg_grammar.specs.Below.{production_below}
+use Rattle.chart_grammar.specs.Lifts.{front_production}
 use Rattle.chart_grammar.proofs.OutputLemmas.{fronts_none, fronts_more}
 use Rattle.chart_grammar.proofs.outputs.write_fronts.Goals as goal
 
 pub loop-number-init : goal.loop-number-init
-loop-number-init c = fronts_none _ _ _
+loop-number-init c = fronts_none _ _ _ _
 
 pub loop-number-preserved : goal.loop-number-preserved
 loop-number-preserved c =
     let fr = c.args.fronts.now in
     let one = c.index-fronts-number.result in
     let at : slice_get fr c.loop-number.number ≡ Some one = slice_get_read fr (length fr) c.loop-number.number one refl c.loop-number-test.true c.index-fronts-number.is in
-    fronts_more fr c.args.base c.loop-number.number one c.right_of_front.result c.args.out.now.items c.loop-number.out.items c.push.new.self.items at c.right_of_front.ensures c.in_ok-push.ensures.items c.loop-number.invariant
+    fronts_more fr c.args.base c.args.count c.loop-number.number one c.args.out.now.items c.loop-number.out.items c.write_front.new.out.items c.requires.count at c.in_ok-write_front.ensures c.loop-number.invariant
 
 pub returns-clause-has : goal.returns-clause-has
-returns-clause-has c = λ n f at.
+returns-clause-has c = λ n f at fits.
     let w = slice_get_within c.args.fronts.now n f at in
     let past : length c.args.fronts.now ≤ c.loop-number.number = c.loop-number-test.false in
-    c.loop-number.invariant.has n f (omega (arith, w, past)) at
+    c.loop-number.invariant.has n f (omega (arith, w, past)) at (subst (λ (m : ℕ). IsTrue (production_below m (front_production c.args.base n f))) (sym c.requires.count) fits)

@@ -2,4 +2,4 @@ use Rattle.chart_grammar.proofs.OutputLemmas.{FrontsWritten}
 use Rattle.chart_grammar.proofs.outputs.write_fronts.Given as goal
 
 abbrev pub invariant-loop-number : goal.invariant-loop-number
-invariant-loop-number l = FrontsWritten l.fronts l.base l.number l.fn.out.items l.out.items
+invariant-loop-number l = FrontsWritten l.fronts l.base l.count l.number l.fn.out.items l.out.items

@@ -1,0 +1,4 @@
+pub mod Answers
+pub mod Work
+pub mod Refusals
+pub mod Lasts

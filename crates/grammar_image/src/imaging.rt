@@ -1,0 +1,108 @@
+//! Images of grammars under machines.
+
+ghost use Rattle.std.specs.Prelude.{◌≡◌, ◌<◌, ◌↔◌, List, All, Some, map, slice_get, IfOk, IfErr, vec_len};
+ghost use Rattle.text_base.specs.declared.letter.Letter.{Letter};
+ghost use Rattle.cfg_grammar.specs.Derives.{Derives};
+ghost use Rattle.cfg_grammar.specs.declared.symbol.Symbol as symbols;
+ghost use Rattle.image_meaning.specs.Outputs.{Outputs};
+ghost use Rattle.grammar_chart.specs.Kept.{AreProductionsOf, IsDone};
+ghost use Rattle.grammar_image.specs.Work.{IsWorked};
+ghost use Rattle.grammar_image.specs.Refusals.{IsCause};
+
+use crate::ends::lasts_of;
+use crate::filling::fill;
+use crate::refusal::ImageRefusal;
+use cfg_grammar::{Grammar, Production};
+use chart_grammar::grammar_of;
+use fst_core::Machine;
+use grammar_chart::{Chart, begin};
+use indexmap::IndexSet;
+use numbered_sets::{count, number, places_by};
+use std::alloc::Global;
+use text_base::{NoMemory, Nt};
+
+/// The nonterminals on the left, in turn.
+fn lefts(alloc: Global, productions: &[Production]) -> Result<Vec<u64>, NoMemory>
+    ensures { IfOk result (λ v. v.items ≡ map (λ p. p.left.0) productions.now) }
+{
+    let lefts = productions.iter().map(|p| p.left.0).collect(alloc)?;
+    Ok(lefts)
+}
+
+/// For each nonterminal, the places of its productions.
+fn places_by_left(alloc: Global, g: &Grammar) -> Result<Vec<Vec<usize>>, NoMemory>
+    ensures len { IfOk result (λ v. vec_len v ≡ g.now.count) }
+    ensures places { IfOk result (λ v. AreProductionsOf g.now.productions.items v.items) }
+{
+    let lefts = lefts(alloc, g.productions.as_slice())?;
+    let places = places_by(alloc, g.count, lefts.as_slice())?;
+    Ok(places)
+}
+
+/// The states of a machine with only the first one numbered.
+fn first_state<M: Machine>(alloc: Global, machine: &M) -> Result<IndexSet<M::State>, NoMemory>
+    ensures first { IfOk result (λ states. slice_get states.keys 0 ≡ Some (M.first machine.now)) }
+    ensures given { IfOk result (λ states. All (M.gives machine.now) states.keys) }
+{
+    let mut states = IndexSet::new(alloc);
+    let first = machine.start(alloc)?;
+    let (_, _) = number(&mut states, first)?;
+    Ok(states)
+}
+
+/// The grammar of a chart that is filled.
+fn finish<M: Machine>(
+    alloc: Global,
+    productions: &[Production],
+    machine: &M,
+    states: &IndexSet<M::State>,
+    chart: &Chart,
+) -> Result<Grammar, NoMemory>
+    requires worked { IsWorked (M.steps machine.now) (M.gives machine.now) (M.first machine.now) productions.now states.now.keys chart.now }
+    requires done { IsDone chart.now }
+    ensures { IfOk result (λ image. (w : List Letter) → Derives image.productions.items (symbols.Symbol.Nt image.start) w
+        ↔ Outputs productions.now (symbols.Symbol.Nt chart.now.from) (M.first machine.now) (M.steps machine.now) (M.ends machine.now) w) }
+{
+    let _entries = count(&chart.entries);
+    let _passages = count(&chart.passages);
+    let lasts = lasts_of(alloc, machine, states)?;
+    let grammar = grammar_of(alloc, productions, chart, lasts.as_slice())?;
+    Ok(grammar)
+}
+
+/// A grammar whose sentences are exactly what the machine may put out over the texts of bytes that the nonterminal
+/// derives. `Large` comes only where there are more items than the limit, so many that it says. Time and memory are
+/// within the items that are made and what the machine answers.
+pub fn image<M: Machine>(
+    alloc: Global,
+    g: &Grammar,
+    from: Nt,
+    machine: &M,
+    limit: u64,
+) -> Result<Grammar, ImageRefusal>
+    requires { from.0 < g.now.count }
+    ensures sentences { IfOk result (λ image. (w : List Letter) → Derives image.productions.items (symbols.Symbol.Nt image.start) w
+        ↔ Outputs g.now.productions.items (symbols.Symbol.Nt from) (M.first machine.now) (M.steps machine.now) (M.ends machine.now) w) }
+    ensures cause { IfErr result (IsCause g.now.productions.items (M.steps machine.now) from (M.first machine.now) limit) }
+{
+    let productions = g.productions.as_slice();
+    let places = places_by_left(alloc, g)?;
+    let mut states = first_state(alloc, machine)?;
+    let mut chart = begin(alloc, from)?;
+    match fill(
+        alloc,
+        productions,
+        places.as_slice(),
+        machine,
+        &mut states,
+        &mut chart,
+        limit,
+    ) {
+        Ok(()) => {}
+        Err(refusal) => return Err(refusal),
+    }
+    match finish(alloc, productions, machine, &states, &chart) {
+        Ok(grammar) => Ok(grammar),
+        Err(_) => Err(ImageRefusal::Memory),
+    }
+}

@@ -1,0 +1,135 @@
+//! Images under the machines of string operations: which words they derive, with near misses.
+
+use crate::words::derives;
+use cfg_grammar::{Grammar, Production, Right, Symbol};
+use grammar_image::{ImageRefusal, image};
+use op_system::Op;
+use std::alloc::Global;
+use std::test::Fail;
+use string_ops::machine_of;
+use text_base::{ByteRange, Bytes, NoMemory, Nt};
+
+fn one(byte: u8) -> Symbol {
+    Symbol::Range(ByteRange { lo: byte, hi: byte })
+}
+
+/// Any number of bytes of this range, and then a `b`.
+fn many_and_b(alloc: Global, range: ByteRange) -> Result<Option<Grammar>, NoMemory> {
+    let mut productions = Vec::new(alloc);
+    productions.push(Production {
+        left: Nt(0),
+        right: Right::Two(Symbol::Range(range), Symbol::Nt(Nt(0))),
+    })?;
+    productions.push(Production {
+        left: Nt(0),
+        right: Right::One(one(b'b')),
+    })?;
+    Ok(Grammar::new(Nt(0), 1, productions))
+}
+
+/// As many `<` as `b` behind them.
+fn nested(alloc: Global) -> Result<Option<Grammar>, NoMemory> {
+    let mut productions = Vec::new(alloc);
+    productions.push(Production {
+        left: Nt(0),
+        right: Right::Two(one(b'<'), Symbol::Nt(Nt(1))),
+    })?;
+    productions.push(Production {
+        left: Nt(1),
+        right: Right::Two(Symbol::Nt(Nt(0)), one(b'b')),
+    })?;
+    productions.push(Production {
+        left: Nt(0),
+        right: Right::Empty,
+    })?;
+    Ok(Grammar::new(Nt(0), 2, productions))
+}
+
+#[test]
+fn replaced(rt: HostRuntime) -> Result<(), Fail> {
+    let alloc = rt.alloc();
+    let letters = ByteRange { lo: b'a', hi: b'c' };
+    let Some(grammar) = many_and_b(alloc, letters)? else {
+        assert!(rt; false);
+        return Ok(());
+    };
+    let search = Bytes::from_slice(alloc, "ab".as_bytes())?;
+    let with = Bytes::from_slice(alloc, "-".as_bytes())?;
+    let table = machine_of(alloc, &Op::Replace { search, with })?;
+    let made = image(alloc, &grammar, grammar.start, &table, 1000);
+    let Ok(image) = made else {
+        assert!(rt; false);
+        return Ok(());
+    };
+    assert!(rt; derives(alloc, &image, "b")?);
+    assert!(rt; derives(alloc, &image, "-")?);
+    assert!(rt; derives(alloc, &image, "aac-cb")?);
+    assert!(rt; derives(alloc, &image, "a-b")?);
+    assert!(rt; !derives(alloc, &image, "ab")?);
+    assert!(rt; !derives(alloc, &image, "cab")?);
+    assert!(rt; !derives(alloc, &image, "a")?);
+    assert!(rt; !derives(alloc, &image, "")?);
+    Ok(())
+}
+
+#[test]
+fn escaped(rt: HostRuntime) -> Result<(), Fail> {
+    let alloc = rt.alloc();
+    let Some(grammar) = nested(alloc)? else {
+        assert!(rt; false);
+        return Ok(());
+    };
+    let table = machine_of(alloc, &Op::Url)?;
+    let made = image(alloc, &grammar, grammar.start, &table, 1000);
+    let Ok(image) = made else {
+        assert!(rt; false);
+        return Ok(());
+    };
+    assert!(rt; derives(alloc, &image, "")?);
+    assert!(rt; derives(alloc, &image, "%3Cb")?);
+    assert!(rt; derives(alloc, &image, "%3C%3Cbb")?);
+    assert!(rt; !derives(alloc, &image, "%3C%3Cb")?);
+    assert!(rt; !derives(alloc, &image, "<b")?);
+    assert!(rt; !derives(alloc, &image, "%3C")?);
+    Ok(())
+}
+
+/// A limit below the items is told, and one that is met is no reason to refuse.
+#[test]
+fn limits(rt: HostRuntime) -> Result<(), Fail> {
+    let alloc = rt.alloc();
+    let Some(grammar) = nested(alloc)? else {
+        assert!(rt; false);
+        return Ok(());
+    };
+    let table = machine_of(alloc, &Op::Same)?;
+    assert!(rt;
+        match image(alloc, &grammar, grammar.start, &table, 2) {
+            Err(ImageRefusal::Large { items }) => items > 2,
+            _ => false,
+        }
+    );
+    assert!(rt; image(alloc, &grammar, grammar.start, &table, 100).is_ok());
+    Ok(())
+}
+
+/// A range that the machine treats as one is kept as one.
+#[test]
+fn whole_ranges(rt: HostRuntime) -> Result<(), Fail> {
+    let alloc = rt.alloc();
+    let all = ByteRange { lo: 0, hi: 255 };
+    let Some(grammar) = many_and_b(alloc, all)? else {
+        assert!(rt; false);
+        return Ok(());
+    };
+    let table = machine_of(alloc, &Op::Same)?;
+    let made = image(alloc, &grammar, grammar.start, &table, 1000);
+    let Ok(image) = made else {
+        assert!(rt; false);
+        return Ok(());
+    };
+    assert!(rt; image.productions.len() < 12);
+    assert!(rt; derives(alloc, &image, "xyzb")?);
+    assert!(rt; !derives(alloc, &image, "xyz")?);
+    Ok(())
+}
