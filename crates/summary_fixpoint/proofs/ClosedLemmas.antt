@@ -12,7 +12,7 @@ use Rattle.cfg_grammar.specs.declared.symbol.Symbol.TheVariants.{Range, Token, N
 use Rattle.cfg_grammar.specs.declared.production.Right.TheVariants.{One, Two}
 use Rattle.cfg_grammar.specs.declared.production.Production.{Production}
 use Rattle.cfg_grammar.specs.Derives.{Derives, DerivesIn}
-use Rattle.summary_fixpoint.specs.Useful.{IsUseful}
+use Rattle.useful_nonterminals.specs.Useful.{IsUseful}
 use Rattle.summary_fixpoint.specs.Pairs.{tokens_in}
 use Rattle.summary_fixpoint.specs.Closed.{Pair, HasSum, IsClosed, IsTaken, IsComplete}
 

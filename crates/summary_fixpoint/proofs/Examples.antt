@@ -7,7 +7,7 @@ use Rattle.cfg_grammar.specs.declared.symbol.Symbol.TheVariants.{Token, Nt}
 use Rattle.cfg_grammar.specs.declared.production.Right.TheVariants.{Empty, One, Two}
 use Rattle.cfg_grammar.specs.declared.production.Production.{Production}
 use Rattle.cfg_grammar.specs.Derives.{Derives, DerivesIn}
-use Rattle.summary_fixpoint.specs.Useful.{IsUseful}
+use Rattle.useful_nonterminals.specs.Useful.{IsUseful}
 use Rattle.summary_fixpoint.specs.Pairs.{tokens_in, IsPair}
 
 -- the tokens of a sentence

@@ -1,4 +1,3 @@
-pub mod Useful
 pub mod Pairs
 pub mod Verdicts
 pub mod Closed

@@ -8,7 +8,7 @@ use Rattle.text_base.specs.declared.numbers.Nt as nt
 use Rattle.cfg_grammar.specs.declared.symbol.Symbol.TheVariants.{Nt}
 use Rattle.cfg_grammar.specs.declared.production.Production.{Production}
 use Rattle.cfg_grammar.specs.Derives.{Derives, DerivesIn}
-use Rattle.summary_fixpoint.specs.Useful.{IsUseful}
+use Rattle.useful_nonterminals.specs.Useful.{IsUseful}
 
 -- the page tokens of a sentence; a byte is none
 abbrev pub tokens_in : List Letter → List PageToken

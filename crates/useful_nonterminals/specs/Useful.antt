@@ -1,4 +1,5 @@
--- Which nonterminals of a grammar stand in some derivation from its start (Hopcroft and Ullman, 4.4).
+-- Which nonterminals of a grammar stand in some derivation from its start (Hopcroft and Ullman, Introduction to Automata
+-- Theory, 4.4).
 use Rattle.std.specs.Prelude.{List, Contains}
 use Rattle.text_base.specs.declared.letter.Letter.{Letter}
 use Rattle.text_base.specs.declared.numbers.Nt as nt
@@ -7,6 +8,10 @@ use Rattle.cfg_grammar.specs.declared.symbol.Symbol.TheVariants.{Nt}
 use Rattle.cfg_grammar.specs.declared.production.Right.TheVariants.{One, Two}
 use Rattle.cfg_grammar.specs.declared.production.Production.{Production}
 use Rattle.cfg_grammar.specs.Derives.{Derives}
+
+-- some sentence is derived
+abbrev pub IsProductive : List Production → nt.Nt → Type 0
+IsProductive productions a = (w : List Letter) × Derives productions (Nt a) w
 
 -- the nonterminal derives something, and it is the start or stands in a production of a useful one whose other symbol
 -- derives something too

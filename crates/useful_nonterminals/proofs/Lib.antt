@@ -1,0 +1,4 @@
+pub mod DrawLemmas
+pub mod RuleLemmas
+pub mod ProductiveLemmas
+mod Examples

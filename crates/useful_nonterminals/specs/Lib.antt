@@ -1,0 +1,4 @@
+pub mod Follows
+pub mod Work
+pub mod Useful
+pub mod Rules
