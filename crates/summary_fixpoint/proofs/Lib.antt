@@ -1,2 +1,6 @@
-mod Examples
 pub mod ClosedLemmas
+mod Examples
+pub mod KnownLemmas
+pub mod MadeLemmas
+pub mod TableLemmas
+pub mod AddLemmas

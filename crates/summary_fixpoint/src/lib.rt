@@ -3,7 +3,12 @@
 //! tag_sums.
 #![tactic(auto)]
 
+mod adding;
+mod halt;
 mod laws;
+mod noting;
+mod question;
+mod table;
 mod verdict;
 
 pub use laws::closed_pairs;

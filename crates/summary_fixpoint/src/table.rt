@@ -1,0 +1,36 @@
+//! The pairs that are found, each with a node of a derivation.
+
+ghost use Rattle.std.proofs.Common.{rules};
+
+use derivations::Nodes;
+use indexmap::IndexSet;
+use std::hash::Hash;
+use text_base::Exact;
+
+/// A pair by the numbers of its nonterminal and its sum.
+#[derive(Clone, Copy, Debug, PartialEq, Eq, Hash)]
+pub(crate) struct Entry {
+    pub nonterminal: u64,
+    pub sum: u64,
+}
+
+impl Exact for Entry {
+    ghost exact = { Prim.search rules };
+}
+
+/// The pairs in the order in which they are found, which is that of the least heights of their
+/// derivations.
+#[derive(Drop)]
+pub(crate) struct Table<T: Exact + Hash + Drop> {
+    /// Each sum once.
+    pub sums: IndexSet<T>,
+    pub entries: IndexSet<Entry>,
+    /// The node at the place of each entry.
+    pub nodes: Nodes,
+    /// How many entries each nonterminal has.
+    pub counts: Vec<u64>,
+    /// The height of derivations up to which all pairs are found.
+    pub height: u64,
+    /// How many entries there are of at most that height.
+    pub bound: usize,
+}
