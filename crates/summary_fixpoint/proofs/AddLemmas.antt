@@ -1,11 +1,11 @@
 -- What adding a pair comes to.
-use Rattle.std.proofs.Common.{◌≡◌, ◌≢◌, ℕ, zero, suc, ◌+◌, ◌<◌, ◌≤◌, ◌⊎◌, ◌↔◌, inl, inr, Bool, true, false, ◌&&◌, List, [], ◌∷◌, ◌++◌, length, get_or, set, if◌then◌else◌, Contains, refl, sym, ◌∙◌, ap, subst, arith, Some, slice_get, true≢false, Result, Ok, Err, OnOk, IfErr, OnErr}
+use Rattle.std.proofs.Common.{◌≡◌, ℕ, zero, suc, ◌+◌, ◌<◌, ◌≤◌, ◌↔◌, Bool, true, false, List, [], ◌∷◌, ◌++◌, length, get_or, set, if◌then◌else◌, Contains, refl, sym, ◌∙◌, ap, subst, arith, Some, slice_get, true≢false, Result, Ok, Err, OnOk, IfErr}
 use Rattle.std.specs.Prelude.{IsTrue}
 use Rattle.std.specs.List.{list_all}
 use Rattle.std.specs.Cmp.{first_so, second_so}
 use Rattle.std.proofs.lemmas.Bool.{ltb-true}
 use Rattle.std.proofs.lemmas.List.{length-set}
-use Rattle.std.proofs.lemmas.Option.{same_Some, slice_get_within, slice_get-get_or, get_or_from_slice_get}
+use Rattle.std.proofs.lemmas.Option.{same_Some, slice_get-get_or, get_or_from_slice_get}
 use Rattle.text_base.specs.declared.page_token.PageToken.{PageToken}
 use Rattle.text_base.specs.declared.numbers.Nt as nt
 use Rattle.cfg_grammar.specs.declared.production.Production.{Production}
@@ -15,7 +15,7 @@ use Rattle.derivations.specs.Nodes.{parts_below}
 use Rattle.summary_fixpoint.specs.declared.table.Table.{Table}
 use Rattle.summary_fixpoint.specs.declared.halt.Halt.{Halt}
 use Rattle.summary_fixpoint.specs.declared.halt.Halt.TheVariants.{Memory, NotWhole, TooMany, TooLong}
-use Rattle.summary_fixpoint.specs.Pairs.{IsPair, AreWholeBelow}
+use Rattle.summary_fixpoint.specs.Pairs.{AreWholeBelow}
 use Rattle.summary_fixpoint.specs.Tables.{known, IsTable, MakesAt, Adds}
 use Rattle.summary_fixpoint.specs.Notes.{Notes}
 use Rattle.summary_fixpoint.specs.Halts.{Judges, Explains}

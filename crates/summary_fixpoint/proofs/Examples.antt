@@ -1,5 +1,5 @@
 -- Small grammars: which nonterminals are useful, and which pairs there are.
-use Rattle.std.proofs.Common.{◌≡◌, List, [], ◌∷◌, length, refl, arith}
+use Rattle.std.proofs.Common.{◌≡◌, ℕ, true, List, [], ◌∷◌, length, nat_eq, refl, arith}
 use Rattle.text_base.specs.declared.letter.Letter.TheVariants.{OfByte, OfToken}
 use Rattle.text_base.specs.declared.page_token.PageToken.{PageToken}
 use Rattle.text_base.specs.declared.page_token.PageToken.TheVariants.{Text, Blank}
@@ -8,7 +8,9 @@ use Rattle.cfg_grammar.specs.declared.production.Right.TheVariants.{Empty, One, 
 use Rattle.cfg_grammar.specs.declared.production.Production.{Production}
 use Rattle.cfg_grammar.specs.Derives.{Derives, DerivesIn}
 use Rattle.useful_nonterminals.specs.Useful.{IsUseful}
+use Rattle.summary_fixpoint.specs.declared.verdict.Verdict.TheVariants.{Yes, Pairs}
 use Rattle.summary_fixpoint.specs.Pairs.{tokens_in, IsPair}
+use Rattle.summary_fixpoint.specs.Verdicts.{IsVerdict}
 
 -- the tokens of a sentence
 some_tokens : tokens_in (OfToken Blank ∷ OfByte 65 ∷ OfToken Text ∷ []) ≡ Blank ∷ Text ∷ []
@@ -42,3 +44,14 @@ one_pair =
       derived = (1, omega arith, one_empty);
       same = refl;
     }
+
+-- where every sum is whole the answer is yes; where that of one token is not, it is not yes; a count within the limit is no
+-- answer
+is_yes : IsVerdict (λ (ts : List PageToken). length ts) (λ (n : ℕ). true) (λ (n : ℕ). n) small (record { 0 = 0 }) 3 Yes
+is_yes w d = refl
+
+is_not_yes : IsVerdict (λ (ts : List PageToken). length ts) (λ (n : ℕ). nat_eq n 0) (λ (n : ℕ). n) small (record { 0 = 0 }) 3 Yes → ⊥
+is_not_yes h = let e : nat_eq 1 0 ≡ true = h (OfToken Text ∷ []) start_derives in cc
+
+within_the_limit : IsVerdict (λ (ts : List PageToken). length ts) (λ (n : ℕ). true) (λ (n : ℕ). n) small (record { 0 = 0 }) 3 (Pairs 3 1) → ⊥
+within_the_limit v = absurd (omega (arith, v.0))

@@ -1,10 +1,9 @@
 -- The pairs that entries stand for.
-use Rattle.std.proofs.Common.{◌≡◌, ◌≢◌, ℕ, zero, suc, ◌+◌, ◌<◌, ◌≤◌, ◌⊎◌, inl, inr, Bool, true, false, if◌then◌else◌, List, [], ◌∷◌, ◌++◌, length, Contains, refl, sym, ◌∙◌, ap, subst, arith, Option, None, Some, slice_get, length-append, nat_eq}
-use Rattle.std.specs.List.{All, AllPairs}
-use Rattle.std.proofs.lemmas.List.Elements.{All-head, All-tail, All-append, All-weaker, All-nil, All-cons}
-use Rattle.std.proofs.lemmas.Option.{same_Some, slice_get_within}
+use Rattle.std.proofs.Common.{◌≡◌, ℕ, zero, suc, ◌<◌, ◌≤◌, ◌⊎◌, inl, inr, Bool, true, false, if◌then◌else◌, List, [], ◌∷◌, ◌++◌, length, Contains, refl, sym, ◌∙◌, ap, subst, arith, Option, None, Some, slice_get}
+use Rattle.std.proofs.lemmas.List.Elements.{All-contains, All-head, All-tail, All-append, All-weaker, All-nil, All-cons}
+use Rattle.std.proofs.lemmas.Option.{same_Some, slice_get_within, none-some}
 use Rattle.numbered_sets.specs.Numbers.{Keeps, AreDifferent}
-use Rattle.numbered_sets.proofs.NumberLemmas.{at_front, longer_if}
+use Rattle.numbered_sets.proofs.NumberLemmas.{at_front}
 use Rattle.summary_fixpoint.specs.declared.table.Entry.{Entry}
 use Rattle.summary_fixpoint.specs.Closed.{Pair}
 use Rattle.summary_fixpoint.specs.Tables.{with_sum, known_of, AreNumbered}
@@ -62,7 +61,7 @@ module _ {S : Type 0} where
         t.0,
         ap (λ (z : Entry). slice_get sums z.sum) (sym same) ∙ t.1,
         ap (λ (l : List (Pair S)). slice_get l 0) (with_some x.nonterminal (slice_get sums x.sum) t.0 (known_of sums xs) t.1)
-        ∙ ap (λ (z : Entry). let p : Pair S = (z.nonterminal, t.0) in Some p) same,
+            ∙ ap (λ (z : Entry). let p : Pair S = (z.nonterminal, t.0) in Some p) same,
       )
   known_at sums (x ∷ xs) (suc n) e h at =
       let t = is_there sums x.sum (All-head (λ (entry : Entry). entry.sum < length sums) x xs h) in
@@ -136,3 +135,17 @@ module _ {S : Type 0} where
       where
         same_entry : (a b : Entry) → a.nonterminal ≡ b.nonterminal → a.sum ≡ b.sum → a ≡ b
         same_entry a b i j = ap (λ (n : ℕ). let z : Entry = record { nonterminal = n; sum = a.sum } in z) i ∙ ap (λ (n : ℕ). let z : Entry = record { nonterminal = b.nonterminal; sum = n } in z) j
+
+pub not_absent : {X : Type 0} (xs : List X) (n : ℕ) → n < length xs → None ≡ slice_get xs n → ⊥
+not_absent {X} xs n l e = let t = is_there xs n l in let f : None ≡ Some t.0 = e ∙ t.1 in none-some t.0 f
+
+module _ {S : Type 0} (sums : List S) (entries : List Entry) (numbered : AreNumbered sums entries) where
+  pub sum_within : (n : ℕ) (e : Entry) → slice_get entries n ≡ Some e → e.sum < length sums
+  sum_within n e at = All-contains (λ (entry : Entry). entry.sum < length sums) entries e numbered (contained entries n e at)
+
+  pub pair_sum : (n : ℕ) (e : Entry) (t : S) → slice_get entries n ≡ Some e → slice_get sums e.sum ≡ Some t → (x : Pair S) → slice_get (known_of sums entries) n ≡ Some x → t ≡ x.1
+  pair_sum n e t at here x known =
+      let k = known_at sums entries n e numbered at in
+      let one : t ≡ k.0 = same_Some t k.0 (sym here ∙ k.1) in
+      let two : ◌≡◌ {A = Pair S} (e.nonterminal, k.0) x = same_Some (e.nonterminal, k.0) x (sym k.2 ∙ known) in
+      one ∙ ap (λ (p : Pair S). p.1) two

@@ -4,3 +4,4 @@ pub mod KnownLemmas
 pub mod MadeLemmas
 pub mod TableLemmas
 pub mod AddLemmas
+pub mod JointLemmas

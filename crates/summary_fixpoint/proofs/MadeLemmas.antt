@@ -1,6 +1,6 @@
 -- Derivations of pairs, as nodes are added.
-use Rattle.std.proofs.Common.{◌≡◌, ℕ, zero, suc, ◌+◌, ◌<◌, ◌≤◌, ◌⊎◌, inl, inr, Bool, true, false, ◌&&◌, List, [], ◌∷◌, ◌++◌, length, max, Contains, refl, sym, ◌∙◌, ap, subst, arith, Some, slice_get}
-use Rattle.std.specs.Prelude.{IsTrue, nat_lt}
+use Rattle.std.proofs.Common.{◌≡◌, ℕ, suc, ◌+◌, ◌≤◌, Bool, true, false, ◌&&◌, List, [], ◌∷◌, ◌++◌, length, max, refl, ◌∙◌, ap, arith, Some, slice_get}
+use Rattle.std.specs.Prelude.{nat_lt}
 use Rattle.std.proofs.lemmas.Option.{slice_get_within}
 use Rattle.std.proofs.lemmas.Bool.{lt-ltb}
 use Rattle.text_base.specs.declared.letter.Letter.{Letter}
@@ -13,7 +13,7 @@ use Rattle.cfg_grammar.specs.declared.production.Right.TheVariants as right
 use Rattle.cfg_grammar.specs.declared.production.Production.{Production}
 use Rattle.cfg_grammar.specs.Derives.{Derives, DerivesIn}
 use Rattle.derivations.specs.declared.node.Part.{Part}
-use Rattle.derivations.specs.declared.node.Part.TheVariants.{Byte, Token, Inner}
+use Rattle.derivations.specs.declared.node.Part.TheVariants.{Inner}
 use Rattle.derivations.specs.declared.node.Parts.{Parts}
 use Rattle.derivations.specs.declared.node.Parts.TheVariants as parts
 use Rattle.derivations.specs.declared.node.Node.{Node}
@@ -21,7 +21,6 @@ use Rattle.derivations.specs.Nodes.{part_below, parts_below}
 use Rattle.derivations.specs.Stands.{Stands}
 use Rattle.numbered_sets.specs.Numbers.{Keeps}
 use Rattle.numbered_sets.proofs.NumberLemmas.{at_front}
-use Rattle.useful_nonterminals.specs.Useful.{IsUseful}
 use Rattle.summary_fixpoint.specs.Pairs.{tokens_in, IsPair}
 use Rattle.summary_fixpoint.specs.Closed.{Pair}
 use Rattle.summary_fixpoint.specs.Tables.{Supports, IsMade, Makes}
@@ -132,8 +131,8 @@ module _ {S : Type 0} (sum_of : List PageToken → S) (composed : S → S → S)
             record {
               sentence = t.sentence ++ u.sentence;
               stands = Stands.by_two (length nodes) node left a b p q t.sentence u.sentence (at_end nodes node) at e
-              (stands_on ps nodes (nodes ++ node ∷ []) p a t.sentence keeps t.stands)
-              (stands_on ps nodes (nodes ++ node ∷ []) q b u.sentence keeps u.stands);
+                  (stands_on ps nodes (nodes ++ node ∷ []) p a t.sentence keeps t.stands)
+                  (stands_on ps nodes (nodes ++ node ∷ []) q b u.sentence keeps u.stands);
               height = suc (max t.height u.height);
               within = omega (arith, t.within, u.within);
               derived = DerivesIn.by_two left a b t.sentence u.sentence t.height u.height (contained ps node.production _ at) t.derived u.derived;

@@ -1,19 +1,18 @@
 -- What a table keeps as a pair is noted.
-use Rattle.std.proofs.Common.{◌≡◌, ◌≢◌, ℕ, zero, suc, ◌+◌, ◌-◌, ◌<◌, ◌≤◌, ◌⊎◌, inl, inr, Bool, true, false, ◌&&◌, if◌then◌else◌, nat_eq, List, [], ◌∷◌, ◌++◌, length, get_or, set, Contains, refl, sym, ◌∙◌, ap, subst, arith, Some, slice_get, true≢false, length-append}
-use Rattle.std.specs.Cmp.{unsigned_Decides, first_so, second_so}
+use Rattle.std.proofs.Common.{◌≡◌, ◌≢◌, ℕ, zero, suc, ◌+◌, ◌-◌, ◌<◌, ◌≤◌, inl, inr, Bool, true, false, if◌then◌else◌, nat_eq, List, [], ◌∷◌, ◌++◌, length, get_or, set, Contains, refl, sym, ◌∙◌, ap, subst, arith, Some, slice_get, length-append}
+use Rattle.std.specs.Cmp.{unsigned_Decides}
 use Rattle.std.specs.List.{AllPairs}
 use Rattle.std.proofs.lemmas.Bool.{cases_eq}
 use Rattle.std.proofs.lemmas.List.{length-set}
 use Rattle.std.proofs.lemmas.List.Elements.{Contains-append_cases, Contains-append_right, Contains-push_cases, Contains-get_or}
 use Rattle.std.proofs.lemmas.List.Quantifiers.{all_pairs_push}
-use Rattle.std.proofs.lemmas.Option.{same_Some, slice_get_within, slice_get-get_or, get_or_from_slice_get}
+use Rattle.std.proofs.lemmas.Option.{same_Some, slice_get-get_or}
 use Rattle.text_base.specs.declared.letter.Letter.{Letter}
 use Rattle.text_base.specs.declared.page_token.PageToken.{PageToken}
 use Rattle.text_base.specs.declared.numbers.Nt as nt
 use Rattle.cfg_grammar.specs.declared.symbol.Symbol.TheVariants as symbol
 use Rattle.cfg_grammar.specs.declared.production.Right.{Right}
 use Rattle.cfg_grammar.specs.declared.production.Production.{Production}
-use Rattle.cfg_grammar.specs.Derives.{DerivesIn}
 use Rattle.derivations.specs.declared.node.Part.TheVariants.{Inner}
 use Rattle.derivations.specs.declared.node.Parts.{Parts}
 use Rattle.derivations.specs.declared.node.Node.{Node}
@@ -25,12 +24,12 @@ use Rattle.numbered_sets.proofs.PlaceLemmas.{slice_get-set_other, slice_get-set_
 use Rattle.useful_nonterminals.specs.Useful.{IsUseful}
 use Rattle.summary_fixpoint.specs.declared.table.Table.{Table}
 use Rattle.summary_fixpoint.specs.Pairs.{tokens_in, HasPairs, AreWholeBelow}
-use Rattle.summary_fixpoint.specs.Closed.{Pair, HasSum, IsComplete}
+use Rattle.summary_fixpoint.specs.Closed.{Pair, HasSum}
 use Rattle.summary_fixpoint.specs.Tables.{known, sums_at, Supports, IsMade, Makes, IsTable, GoesOn}
 use Rattle.summary_fixpoint.specs.Notes.{Notes}
 use Rattle.summary_fixpoint.proofs.ClosedLemmas.{contained, placed}
-use Rattle.summary_fixpoint.proofs.KnownLemmas.{at_cases, at_end, at_before, keeps_longer}
-use Rattle.summary_fixpoint.proofs.MadeLemmas.{supports_on, made_on, made_pair, makes_below, node_supports, derives_of}
+use Rattle.summary_fixpoint.proofs.KnownLemmas.{at_cases, at_before}
+use Rattle.summary_fixpoint.proofs.MadeLemmas.{made_on, made_pair, node_supports, derives_of}
 
 only : {X : Type 0} (y x : X) → Contains (y ∷ []) x → y ≡ x
 only y x (zero, l, e) = e
@@ -214,8 +213,8 @@ module _ {S : Type 0} (sum_of : List PageToken → S) (composed : S → S → S)
         sym (counted_more (omega (arith, below, table.spread)) left.0 n (subst (λ (l : List ℕ). slice_get l left.0 ≡ Some n) notes.counts e) ∙ sym (ap (λ (l : List (Pair S)). length (sums_at left.0 l)) notes.pairs)),
         subst (λ (l : List (Pair S)). AllPairs (λ (x y : S). x ≢ y) (sums_at left.0 l)) (sym notes.pairs) (different_more left.0),
         λ t c.
-          let p = placed (known new) (left.0, t) (in_sums left.0 (known new) t c) in
-          made_pair sum_of composed whole ps start new.nodes.nodes.items (new.height + 1) p.0 (left.0, t) (new_made p.0 (left.0, t) p.2),
+            let p = placed (known new) (left.0, t) (in_sums left.0 (known new) t c) in
+            made_pair sum_of composed whole ps start new.nodes.nodes.items (new.height + 1) p.0 (left.0, t) (new_made p.0 (left.0, t) p.2),
       )
 
       -- the last node is a derivation of the pair
@@ -223,8 +222,8 @@ module _ {S : Type 0} (sum_of : List PageToken → S) (composed : S → S → S)
       last_derivation same = (
         last_supports.sentence,
         subst (λ (ns : List Node). IsDerivation ps ns start last_supports.sentence) (sym notes.nodes)
-        (subst (λ (n : ℕ). Stands ps (old.nodes.nodes.items ++ node ∷ []) (Inner n) (symbol.Nt start) last_supports.sentence) root
-        (subst (λ (n : ℕ). Stands ps (old.nodes.nodes.items ++ node ∷ []) (Inner (length old.nodes.nodes.items)) (symbol.Nt (record { 0 = n })) last_supports.sentence) same last_supports.stands)),
+            (subst (λ (n : ℕ). Stands ps (old.nodes.nodes.items ++ node ∷ []) (Inner n) (symbol.Nt start) last_supports.sentence) root
+            (subst (λ (n : ℕ). Stands ps (old.nodes.nodes.items ++ node ∷ []) (Inner (length old.nodes.nodes.items)) (symbol.Nt (record { 0 = n })) last_supports.sentence) same last_supports.stands)),
         last_supports.same,
       )
         where

@@ -4,3 +4,4 @@ pub mod Closed
 pub mod Tables
 pub mod Halts
 pub mod Notes
+pub mod Joints

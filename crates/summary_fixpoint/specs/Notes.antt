@@ -1,10 +1,8 @@
 -- What noting a pair comes to.
-use Rattle.std.specs.Prelude.{◌≡◌, ℕ, ◌+◌, ◌<◌, Bool, true, if◌then◌else◌, List, [], ◌∷◌, ◌++◌, length, get_or, set, Contains}
+use Rattle.std.specs.Prelude.{◌≡◌, ℕ, ◌+◌, Bool, true, if◌then◌else◌, [], ◌∷◌, ◌++◌, get_or, set, Contains}
 use Rattle.derivations.specs.declared.node.Parts.{Parts}
-use Rattle.derivations.specs.declared.node.Node.{Node}
 use Rattle.derivations.specs.Nodes.{parts_length}
 use Rattle.summary_fixpoint.specs.declared.table.Table.{Table}
-use Rattle.summary_fixpoint.specs.Closed.{Pair}
 use Rattle.summary_fixpoint.specs.Tables.{known, AreNumbered}
 
 -- a pair that is new is put behind the others, with its node, and counted; else all stays

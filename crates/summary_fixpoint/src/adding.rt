@@ -38,7 +38,7 @@ fn judge(is_wrong: bool, tags: u64, count: u64, limit: u64) -> Result<(), Halt>
 
 /// Adds the pair of the left side of a production and a sum that its parts make. Ends the work
 /// where the pair is of the start and not whole, or passes a limit.
-pub(crate) fn add<S: Summary>(
+pub fn add<S: Summary>(
     question: &Question<S>,
     table: &mut Table<S::Sum>,
     place: usize,

@@ -6,7 +6,7 @@ use text_base::NoMemory;
 
 /// Why the work stops.
 #[derive(Clone, Copy, Debug, PartialEq, Eq)]
-pub(crate) enum Halt {
+pub enum Halt {
     /// No memory is left.
     Memory,
     /// The last pair is of the start, and not whole.

@@ -12,7 +12,7 @@ use std::hash::Hash;
 use text_base::{Exact, NoMemory};
 
 /// Puts a pair with its node behind the others, where it is new, and says whether it is.
-pub(crate) fn note<T: Exact + Hash + Drop>(
+pub fn note<T: Exact + Hash + Drop>(
     table: &mut Table<T>,
     place: u64,
     parts: Parts,

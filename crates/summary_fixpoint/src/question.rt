@@ -6,7 +6,7 @@ use tag_sums::Summary;
 
 /// Whether each sentence of the grammar is whole by the summary, with at most so many sums a
 /// nonterminal.
-pub(crate) struct Question<'a, S: Summary> {
+pub struct Question<'a, S: Summary> {
     pub alloc: Global,
     pub summary: &'a S,
     pub grammar: &'a Grammar,

@@ -9,7 +9,7 @@ use text_base::Exact;
 
 /// A pair by the numbers of its nonterminal and its sum.
 #[derive(Clone, Copy, Debug, PartialEq, Eq, Hash)]
-pub(crate) struct Entry {
+pub struct Entry {
     pub nonterminal: u64,
     pub sum: u64,
 }
@@ -21,7 +21,7 @@ impl Exact for Entry {
 /// The pairs in the order in which they are found, which is that of the least heights of their
 /// derivations.
 #[derive(Drop)]
-pub(crate) struct Table<T: Exact + Hash + Drop> {
+pub struct Table<T: Exact + Hash + Drop> {
     /// Each sum once.
     pub sums: IndexSet<T>,
     pub entries: IndexSet<Entry>,
@@ -33,4 +33,11 @@ pub(crate) struct Table<T: Exact + Hash + Drop> {
     pub height: u64,
     /// How many entries there are of at most that height.
     pub bound: usize,
+}
+
+/// The pairs that are taken up: the first so many, by their nonterminals.
+#[derive(Drop)]
+pub struct Taken {
+    pub lists: Vec<Vec<usize>>,
+    pub count: usize,
 }

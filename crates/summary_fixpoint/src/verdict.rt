@@ -12,9 +12,12 @@ pub enum Verdict {
     Yes,
     /// The sentence of this derivation is not.
     No(Derivation),
-    /// Some nonterminal has `count` different sums of sentences with derivations of at most
-    /// `height`, which is over the limit.
+    /// Some useful nonterminal has at least `count` different sums of sentences with derivations of
+    /// at most `height`, and `count` is over the limit. Every sentence of the start with a
+    /// derivation of a smaller height is whole.
     Pairs { count: u64, height: u64 },
-    /// Some sentence with a derivation of at most `height` has `count` unmatched tags.
+    /// Some sentence of a useful nonterminal with a derivation of at most `height` has `count`
+    /// unmatched tags, and `count` is over `TAG_LIMIT`. Every sentence of the start with a
+    /// derivation of a smaller height is whole.
     Tags { count: u64, height: u64 },
 }

@@ -1,6 +1,6 @@
-use Rattle.std.proofs.Common.{◌≡◌, ◌+◌, ◌<◌, ◌≤◌, ℕ, Bool, List, ◌∙◌, Some, slice_get, get_or, length, refl, sym, ap, arith}
+use Rattle.std.proofs.Common.{length, refl, arith}
 use Rattle.std.proofs.lemmas.Option.{slice_get_read}
-use Rattle.summary_fixpoint.proofs.AddLemmas.{parts_are_below, left_below, left_within, count_within, added_old, added_result, explained, length_counts}
+use Rattle.summary_fixpoint.proofs.AddLemmas.{parts_are_below, left_within, count_within, added_old, added_result, explained, length_counts}
 use Rattle.summary_fixpoint.proofs.adding.add.Goals as goal
 
 pub note-requires-clause-below : goal.note-requires-clause-below

@@ -1,4 +1,4 @@
-use Rattle.std.proofs.Common.{◌≡◌, ◌+◌, ◌<◌, ◌≤◌, ℕ, Bool, true, false, if◌then◌else◌, List, [], ◌∷◌, ◌++◌, set, get_or, refl, sym, ◌∙◌, ap, subst, arith, length}
+use Rattle.std.proofs.Common.{◌≡◌, ◌+◌, ℕ, Bool, true, false, if◌then◌else◌, [], ◌∷◌, ◌++◌, set, get_or, refl, ap, subst, arith, length}
 use Rattle.std.proofs.lemmas.List.{get_or_read_under}
 use Rattle.summary_fixpoint.specs.declared.table.Entry.{Entry}
 use Rattle.summary_fixpoint.proofs.KnownLemmas.{noted_numbered, noted_pairs, noted_has, noted_fresh, keeps_longer}

@@ -1,0 +1,175 @@
+//! A pair that is taken up meets others at a production.
+
+ghost use Rattle.std.specs.Prelude.{◌≡◌, ℕ, ◌≤◌, ◌<◌, Some, slice_get, Contains, IfErr, IfOk, OnOk, length};
+ghost use Rattle.text_base.specs.declared.numbers.Nt as nt;
+ghost use Rattle.cfg_grammar.specs.declared.symbol.Symbol as symbols;
+ghost use Rattle.summary_fixpoint.specs.Tables.{known, IsTable, MakesAt, Adds, AreNumbered};
+ghost use Rattle.summary_fixpoint.specs.Halts.{Explains};
+ghost use Rattle.summary_fixpoint.specs.Joints.{composed_by, parts_by, IsBeside, ArePartners, AreTaken, MeetsPairs, MeetsSymbol};
+
+use crate::adding::add;
+use crate::halt::Halt;
+use crate::joint::{Joint, Side, parts};
+use crate::letters::letter;
+use crate::question::Question;
+use crate::table::{Table, Taken};
+use cfg_grammar::Symbol;
+use derivations::Part;
+use std::hash::Hash;
+use tag_sums::Summary;
+use text_base::{Exact, NoMemory, Nt};
+
+/// The sum of a pair.
+pub fn sum_of_pair<T: Exact + Hash + Drop>(table: &Table<T>, pair: usize) -> &T
+    requires numbered { AreNumbered table.now.sums.keys table.now.entries.keys }
+    requires within { pair < length (known table.now) }
+    ensures { (x : ℕ × T) → slice_get (known table.now) pair ≡ Some x → result.now ≡ x.1 }
+{
+    let Some(entry) = table.entries.get_index(pair) else {
+        unreachable!()
+    };
+    let Some(sum) = table.sums.get_index(entry.sum as usize) else {
+        unreachable!()
+    };
+    sum
+}
+
+/// The composition of two sums, of which the first named stands on the side.
+pub fn compose<S: Summary>(
+    question: &Question<S>,
+    side: Side,
+    own: &S::Sum,
+    other: &S::Sum,
+) -> Result<S::Sum, NoMemory>
+    ensures { IfOk result (λ s. s ≡ composed_by (S.composed question.now.summary.now) side own.now other.now) }
+{
+    match side {
+        Side::First => {
+            let sum = question.summary.compose(question.alloc, own, other)?;
+            Ok(sum)
+        }
+        Side::Second => {
+            let sum = question.summary.compose(question.alloc, other, own)?;
+            Ok(sum)
+        }
+    }
+}
+
+/// The pair meets pairs of the nonterminal on the other side.
+fn meet_pairs<S: Summary>(
+    question: &Question<S>,
+    table: &mut Table<S::Sum>,
+    joint: Joint,
+    sum: &S::Sum,
+    partner: Nt,
+    pairs: &[usize],
+) -> Result<(), Halt>
+    requires table { IsTable (S.sum_of question.now.summary.now) (S.composed question.now.summary.now)
+        (S.is_whole question.now.summary.now) question.now.grammar.now.productions.items
+        question.now.grammar.now.start question.now.grammar.now.count table.old }
+    requires beside { IsBeside (S.sum_of question.now.summary.now) (S.composed question.now.summary.now)
+        (S.is_whole question.now.summary.now) question.now.grammar.now.productions.items
+        question.now.grammar.now.start table.old joint sum.now (symbols.Symbol.Nt partner) }
+    requires partners { ArePartners (S.sum_of question.now.summary.now) (S.composed question.now.summary.now)
+        (S.is_whole question.now.summary.now) question.now.grammar.now.productions.items
+        question.now.grammar.now.start table.old partner.0 pairs.now }
+    ensures ok { OnOk result (MeetsPairs (S.sum_of question.now.summary.now) (S.composed question.now.summary.now)
+        (S.is_whole question.now.summary.now) question.now.grammar.now.productions.items
+        question.now.grammar.now.start question.now.grammar.now.count table.old table.new joint sum.now partner.0
+        (λ j. Contains pairs.now j)) }
+    ensures err { IfErr result (λ h. Explains (S.sum_of question.now.summary.now)
+        (S.is_whole question.now.summary.now) (S.tag_count question.now.summary.now)
+        question.now.grammar.now.productions.items question.now.grammar.now.start question.now.limit
+        table.new.nodes.nodes.items table.new.height h) }
+{
+    for pair in pairs {
+        let joined = compose(question, joint.side, sum, sum_of_pair(table, *pair))?;
+        let own = Part::Inner(joint.pair as u64);
+        let other = Part::Inner(*pair as u64);
+        add(
+            question,
+            table,
+            joint.place,
+            parts(joint.side, own, other),
+            joined,
+        )?;
+    }
+    Ok(())
+}
+
+/// The pair meets the letter on the other side.
+fn meet_letter<S: Summary>(
+    question: &Question<S>,
+    table: &mut Table<S::Sum>,
+    joint: Joint,
+    sum: &S::Sum,
+    symbol: Symbol,
+    n: usize,
+) -> Result<(), Halt>
+    requires table { IsTable (S.sum_of question.now.summary.now) (S.composed question.now.summary.now)
+        (S.is_whole question.now.summary.now) question.now.grammar.now.productions.items
+        question.now.grammar.now.start question.now.grammar.now.count table.old }
+    requires beside { IsBeside (S.sum_of question.now.summary.now) (S.composed question.now.summary.now)
+        (S.is_whole question.now.summary.now) question.now.grammar.now.productions.items
+        question.now.grammar.now.start table.old joint sum.now symbol }
+    requires letter { (a : nt.Nt) → symbol ≡ symbols.Symbol.Nt a → ⊥ }
+    ensures ok { OnOk result (MeetsSymbol (S.sum_of question.now.summary.now) (S.composed question.now.summary.now)
+        (S.is_whole question.now.summary.now) question.now.grammar.now.productions.items
+        question.now.grammar.now.start question.now.grammar.now.count table.old table.new joint sum.now n symbol) }
+    ensures err { IfErr result (λ h. Explains (S.sum_of question.now.summary.now)
+        (S.is_whole question.now.summary.now) (S.tag_count question.now.summary.now)
+        question.now.grammar.now.productions.items question.now.grammar.now.start question.now.limit
+        table.new.nodes.nodes.items table.new.height h) }
+{
+    let Some(piece) = letter(question, symbol)? else {
+        unreachable!()
+    };
+    let joined = compose(question, joint.side, sum, &piece.sum)?;
+    let own = Part::Inner(joint.pair as u64);
+    add(
+        question,
+        table,
+        joint.place,
+        parts(joint.side, own, piece.part),
+        joined,
+    )
+}
+
+/// The pair meets what is taken up of the symbol on the other side.
+pub fn meet<S: Summary>(
+    question: &Question<S>,
+    table: &mut Table<S::Sum>,
+    joint: Joint,
+    sum: &S::Sum,
+    symbol: Symbol,
+    taken: &Taken,
+) -> Result<(), Halt>
+    requires table { IsTable (S.sum_of question.now.summary.now) (S.composed question.now.summary.now)
+        (S.is_whole question.now.summary.now) question.now.grammar.now.productions.items
+        question.now.grammar.now.start question.now.grammar.now.count table.old }
+    requires beside { IsBeside (S.sum_of question.now.summary.now) (S.composed question.now.summary.now)
+        (S.is_whole question.now.summary.now) question.now.grammar.now.productions.items
+        question.now.grammar.now.start table.old joint sum.now symbol }
+    requires taken { AreTaken (known table.old) taken.now.count taken.now.lists.items }
+    requires spread { length taken.now.lists.items ≡ question.now.grammar.now.count }
+    requires within { taken.now.count ≤ table.old.bound }
+    ensures ok { OnOk result (MeetsSymbol (S.sum_of question.now.summary.now) (S.composed question.now.summary.now)
+        (S.is_whole question.now.summary.now) question.now.grammar.now.productions.items
+        question.now.grammar.now.start question.now.grammar.now.count table.old table.new joint sum.now taken.now.count symbol) }
+    ensures err { IfErr result (λ h. Explains (S.sum_of question.now.summary.now)
+        (S.is_whole question.now.summary.now) (S.tag_count question.now.summary.now)
+        question.now.grammar.now.productions.items question.now.grammar.now.start question.now.limit
+        table.new.nodes.nodes.items table.new.height h) }
+{
+    let Symbol::Nt(partner) = symbol else {
+        return meet_letter(question, table, joint, sum, symbol, taken.count);
+    };
+    meet_pairs(
+        question,
+        table,
+        joint,
+        sum,
+        partner,
+        taken.lists[partner.0 as usize].as_slice(),
+    )
+}
