@@ -1,10 +1,10 @@
 -- Reading in a loop with a stack: whatever the rest leads to, so does the text.
-use Rattle.std.proofs.Common.{◌≡◌, ◌∙◌, ℕ, zero, suc, ◌+◌, ◌<◌, ◌≤◌, Bool, true, false, ◌⊎◌, inl, inr, List, [], ◌∷◌, length, drop, refl, sym, ap, subst, arith, Option, Some, None}
+use Rattle.std.proofs.Common.{◌≡◌, ◌∙◌, ℕ, ◌+◌, ◌<◌, true, false, ◌⊎◌, inl, inr, List, [], ◌∷◌, length, drop, sym, ap, subst, arith, Some, None}
 use Rattle.std.proofs.lemmas.List.{drop-drop}
 use Rattle.dtd_texts.specs.Places.{external}
-use Rattle.dtd_texts.specs.Reading.{State, Content, Stands, start, Move, on, opens, omits, stuck, move, is_among, source_of, enter, leave, Reads, at_end, takes, replaces}
+use Rattle.dtd_texts.specs.Reading.{State, Content, Stands, start, on, opens, omits, stuck, move, is_among, source_of, enter, leave, Reads, at_end, takes, replaces}
 use Rattle.dtd_texts.specs.Causes.{Meets, here, later, within, behind, Breaks, unlawful, Omits, Refers, Misses, circular, undeclared, Asks, asks}
-use Rattle.dtd_reader.specs.SoFar.{Frame, names, Position, first, Through, RestReads, RestMeets, SoFar}
+use Rattle.dtd_reader.specs.SoFar.{Frame, names, Position, first, RestMeets, SoFar}
 
 pub none_so_far : (content : Content) (file : List ℕ) → SoFar content file (first file)
 none_so_far content file = record { reads = λ last r. r; meets = λ outer' s' text' m. m }

@@ -1,10 +1,9 @@
 -- The open entities as entries of a map, the last one first.
-use Rattle.std.proofs.Common.{◌≡◌, ◌∙◌, ℕ, Bool, true, false, ◌||◌, cond, List, [], ◌∷◌, ◌++◌, map, refl, sym, ap, arith, Option, Some, None}
+use Rattle.std.proofs.Common.{◌≡◌, ◌∙◌, ℕ, Bool, true, false, ◌||◌, cond, List, [], ◌∷◌, ◌++◌, map, refl, sym, ap, arith, Option, Some}
 use Rattle.std.specs.Prelude.{reverse, bytes_eq, is_some}
 use Rattle.std.specs.List.{list_any}
 use Rattle.std.specs.Map.{lookup}
 use Rattle.std.proofs.lemmas.List.{reverse-append, map-append}
-use Rattle.std.proofs.Math.Bool.{or_comm}
 use Rattle.indexmap.specs.IndexMap.{insert_entry}
 use Rattle.dtd_texts.specs.Reading.{is_among}
 use Rattle.dtd_reader.specs.SoFar.{Frame, names}

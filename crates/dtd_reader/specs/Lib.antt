@@ -1,2 +1,5 @@
 pub mod SoFar
+pub mod Source
 pub mod Views
+pub mod Causes
+pub mod Answers

@@ -1,11 +1,12 @@
 -- What the reader stands for.
-use Rattle.io_edge.specs.Reasons.{HasReason}
-use Rattle.std.specs.Prelude.{◌≡◌, ◌⊎◌, ◌<◌, ◌+◌, ◌*◌, ◌-◌, length, ℕ, List, [], ◌∷◌, map, reverse, drop, true, false, Option, Some, None}
+use Rattle.std.specs.Prelude.{◌≡◌, ◌⊎◌, ◌<◌, ◌+◌, ◌*◌, ◌-◌, length, ℕ, List, [], ◌∷◌, map, reverse, drop, true, false, Some, None}
 use Rattle.dtd_texts.specs.Places.{external}
 use Rattle.dtd_texts.specs.Reading.{State, Content, Holds, Stands, start, enter, is_among, source_of, Reads}
 use Rattle.dtd_texts.specs.Causes.{Breaks, Omits, Misses, Asks}
 use Rattle.dtd_entities.specs.Positions.{state_of}
 use Rattle.dtd_reader.specs.SoFar.{Frame, names, Position, SoFar}
+use Rattle.dtd_reader.specs.Source.{SourceCall, IsCalm, IsUnread}
+use Rattle.dtd_reader.specs.declared.limits.TheConstants.{REPLACED_LIMIT}
 use Rattle.dtd_reader.specs.declared.frames.Rest.{Rest}
 use Rattle.dtd_reader.specs.declared.frames.Frames.{Frames}
 use Rattle.dtd_reader.specs.declared.reader.Reader.{Reader}
@@ -45,7 +46,7 @@ entered p name text n = record { state = enter p.state; text = text; frames = re
 
 -- how much may still be read: bytes, references, and entities that are open
 abbrev pub work_left : Position → ℕ
-work_left p = (4194305 - p.state.length) + 2 * (4194305 - p.state.references) + length p.frames
+work_left p = (REPLACED_LIMIT + 1 - p.state.length) + 2 * (REPLACED_LIMIT + 1 - p.state.references) + length p.frames
 
 -- where the reading goes on, less is left
 abbrev pub IsNearer : Outcome → Position → Position → Type 0
@@ -62,16 +63,16 @@ IsLoaded content system Nowhere = ⊥
 IsLoaded content system (NotRead name fault) = name ≡ system
 IsLoaded content system (Text text) = Holds content system text
 
--- a file that was not read has its reason, in the counts of faults and misses before and after
-abbrev pub FoundReason : Content → ℕ → ℕ → ℕ → ℕ → Found → Type 0
-FoundReason content faults faults' misses misses' Nowhere = Unit {0}
-FoundReason content faults faults' misses misses' (NotRead name fault) = HasReason (content name) faults faults' misses misses' fault
-FoundReason content faults faults' misses misses' (Text text) = Unit {0}
+-- the counts behind a call: none rose, but where a file was not read
+abbrev pub FoundCounts : SourceCall → Found → Type 0
+FoundCounts call Nowhere = IsCalm call
+FoundCounts call (NotRead name fault) = IsUnread call name fault
+FoundCounts call (Text text) = IsCalm call
 
-abbrev pub OutcomeReason : Content → ℕ → ℕ → ℕ → ℕ → Outcome → Type 0
-OutcomeReason content faults faults' misses misses' Goes = Unit {0}
-OutcomeReason content faults faults' misses misses' Ends = Unit {0}
-OutcomeReason content faults faults' misses misses' DoesBreak = Unit {0}
-OutcomeReason content faults faults' misses misses' DoesOmit = Unit {0}
-OutcomeReason content faults faults' misses misses' (DoesMiss name) = Unit {0}
-OutcomeReason content faults faults' misses misses' (Unread name fault) = HasReason (content name) faults faults' misses misses' fault
+abbrev pub OutcomeCounts : SourceCall → Outcome → Type 0
+OutcomeCounts call Goes = IsCalm call
+OutcomeCounts call Ends = IsCalm call
+OutcomeCounts call DoesBreak = IsCalm call
+OutcomeCounts call DoesOmit = IsCalm call
+OutcomeCounts call (DoesMiss name) = IsCalm call
+OutcomeCounts call (Unread name fault) = IsUnread call name fault

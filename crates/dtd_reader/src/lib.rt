@@ -4,11 +4,12 @@
 #![tactic(auto)]
 
 mod frames;
+pub mod limits;
 mod loading;
 mod outcome;
 mod reader;
+mod reading;
+mod refusal;
 
-pub use frames::{Frames, Rest};
-pub use loading::load;
-pub use outcome::{Found, Outcome};
-pub use reader::Reader;
+pub use reading::read_text;
+pub use refusal::DtdRefusal;

@@ -1,8 +1,9 @@
 //! The texts of entities outside.
 
-ghost use Rattle.std.specs.Prelude.{◌≡◌, ◌≤◌, IfOk};
+ghost use Rattle.std.specs.Prelude.{◌≡◌, IfOk};
 ghost use Rattle.dtd_texts.specs.Tokens as spec;
-ghost use Rattle.dtd_reader.specs.Views.{IsLoaded, FoundReason};
+ghost use Rattle.dtd_reader.specs.Source.{source_call, Counted};
+ghost use Rattle.dtd_reader.specs.Views.{IsLoaded, FoundCounts};
 
 use crate::outcome::Found;
 use dtd_tokens::behind_declaration;
@@ -20,21 +21,19 @@ fn text_behind(alloc: Global, whole: &[u8]) -> Result<Bytes, NoMemory>
 /// The text of this file behind its text declaration, or why it was not read.
 pub fn load<F: Files>(alloc: Global, files: &mut F, system: &str) -> Result<Found, NoMemory>
     ensures loaded { IfOk result (IsLoaded (F.content files.old) system.now) }
-    ensures reason { IfOk result (FoundReason (F.content files.old) (F.faults files.old) (F.faults files.new)
-        (F.misses files.old) (F.misses files.new)) }
+    ensures counted { Counted FoundCounts (source_call (F.content files.old) (F.faults files.old) (F.faults files.new)
+        (F.misses files.old) (F.misses files.new)) result }
     ensures same { F.content files.new ≡ F.content files.old }
-    ensures faults { F.faults files.old ≤ F.faults files.new }
-    ensures misses { F.misses files.old ≤ F.misses files.new }
 {
+    let name = Bytes::from_slice(alloc, system.as_bytes())?;
     match files.read(alloc, system) {
         Ok(whole) => {
             let text = text_behind(alloc, whole.as_slice())?;
             Ok(Found::Text(text))
         }
+        Err(FileFault::Missing) => Ok(Found::NotRead(name, FileFault::Missing)),
+        Err(FileFault::Failed) => Ok(Found::NotRead(name, FileFault::Failed)),
+        Err(FileFault::TooLong { len }) => Ok(Found::NotRead(name, FileFault::TooLong { len })),
         Err(FileFault::Memory) => Err(NoMemory),
-        Err(fault) => {
-            let name = Bytes::from_slice(alloc, system.as_bytes())?;
-            Ok(Found::NotRead(name, fault))
-        }
     }
 }

@@ -4,9 +4,11 @@ ghost use Rattle.std.specs.Prelude.{◌≡◌, ◌<◌, ◌≤◌, ◌+◌, ◌^
 ghost use Rattle.dtd_texts.specs.Reading.{Content, is_among, move, opens};
 ghost use Rattle.dtd_entities.specs.Positions.{state_of};
 ghost use Rattle.dtd_reader.specs.SoFar.{first, names, SoFar};
-ghost use Rattle.dtd_reader.specs.Views.{position_of, frames_of, Told, entered, IsFound, FoundReason, OutcomeReason, IsNearer};
+ghost use Rattle.dtd_reader.specs.Source.{SourceCall, source_call, IsCalm, Counted};
+ghost use Rattle.dtd_reader.specs.Views.{position_of, frames_of, Told, entered, IsFound, FoundCounts, OutcomeCounts, IsNearer};
 
 use crate::frames::{Frames, Rest};
+use crate::limits::REPLACED_LIMIT;
 use crate::loading::load;
 use crate::outcome::{Found, Outcome};
 use dtd_entities::{Move, Reading, Source, source_of};
@@ -40,10 +42,10 @@ impl Reader {
 
     // The end of the text of an entity, or of the whole.
     fn close(&mut self) -> Result<Outcome, NoMemory>
-        requires small { (self.old.reading.length ≤ 4194304) × (self.old.reading.references ≤ 4194304) }
+        requires small { (self.old.reading.length ≤ REPLACED_LIMIT) × (self.old.reading.references ≤ REPLACED_LIMIT) }
         requires at { length self.old.text ≤ self.old.at }
         ensures nearer { IfOk result (λ o. IsNearer o (position_of self.old) (position_of self.new)) }
-        ensures reason { IfOk result (λ o. (content : Content) (faults misses : ℕ) → OutcomeReason content faults faults misses misses o) }
+        ensures counted { (call : SourceCall) → IsCalm call → Counted OutcomeCounts call result }
         ensures told { (content : Content) (file : List ℕ) → SoFar content file (position_of self.old) →
             IfOk result (λ o. Told content file o (position_of self.old) (position_of self.new)) }
     {
@@ -76,11 +78,9 @@ impl Reader {
     // The text of an entity that is declared so far and is not open.
     fn find<F: Files>(&self, alloc: Global, files: &mut F, name: &Bytes) -> Result<Found, NoMemory>
         ensures found { IfOk result (IsFound (F.content files.old) (state_of self.now.reading) (frames_of self.now.frames) name.now) }
-        ensures reason { IfOk result (FoundReason (F.content files.old) (F.faults files.old) (F.faults files.new)
-            (F.misses files.old) (F.misses files.new)) }
+        ensures counted { Counted FoundCounts (source_call (F.content files.old) (F.faults files.old) (F.faults files.new)
+            (F.misses files.old) (F.misses files.new)) result }
         ensures same { F.content files.new ≡ F.content files.old }
-        ensures faults { F.faults files.old ≤ F.faults files.new }
-        ensures misses { F.misses files.old ≤ F.misses files.new }
     {
         if self.frames.is_open(name) {
             return Ok(Found::Nowhere);
@@ -99,18 +99,16 @@ impl Reader {
         files: &mut F,
         n: usize,
     ) -> Result<Outcome, NoMemory>
-        requires small { (self.old.reading.length ≤ 4194304) × (self.old.reading.references ≤ 4194304) }
+        requires small { (self.old.reading.length ≤ REPLACED_LIMIT) × (self.old.reading.references ≤ REPLACED_LIMIT) }
         requires some { self.old.at + (2 + n) ≤ length self.old.text }
         requires opens { move (state_of self.old.reading) (drop self.old.at self.old.text)
             ≡ opens (take n (drop 1 (drop self.old.at self.old.text))) (2 + n) }
         ensures told { (file : List ℕ) → SoFar (F.content files.old) file (position_of self.old) →
             IfOk result (λ o. Told (F.content files.old) file o (position_of self.old) (position_of self.new)) }
         ensures nearer { IfOk result (λ o. IsNearer o (position_of self.old) (position_of self.new)) }
-        ensures reason { IfOk result (OutcomeReason (F.content files.old) (F.faults files.old) (F.faults files.new)
-            (F.misses files.old) (F.misses files.new)) }
+        ensures counted { Counted OutcomeCounts (source_call (F.content files.old) (F.faults files.old) (F.faults files.new)
+            (F.misses files.old) (F.misses files.new)) result }
         ensures same { F.content files.new ≡ F.content files.old }
-        ensures faults { F.faults files.old ≤ F.faults files.new }
-        ensures misses { F.misses files.old ≤ F.misses files.new }
     {
         let name = Bytes::from_slice(
             alloc,
@@ -128,16 +126,14 @@ impl Reader {
 
     // What stands at the head of the text.
     fn take<F: Files>(&mut self, alloc: Global, files: &mut F) -> Result<Outcome, NoMemory>
-        requires small { (self.old.reading.length ≤ 4194304) × (self.old.reading.references ≤ 4194304) }
+        requires small { (self.old.reading.length ≤ REPLACED_LIMIT) × (self.old.reading.references ≤ REPLACED_LIMIT) }
         requires at { self.old.at < length self.old.text }
         ensures told { (file : List ℕ) → SoFar (F.content files.old) file (position_of self.old) →
             IfOk result (λ o. Told (F.content files.old) file o (position_of self.old) (position_of self.new)) }
         ensures nearer { IfOk result (λ o. IsNearer o (position_of self.old) (position_of self.new)) }
-        ensures reason { IfOk result (OutcomeReason (F.content files.old) (F.faults files.old) (F.faults files.new)
-            (F.misses files.old) (F.misses files.new)) }
+        ensures counted { Counted OutcomeCounts (source_call (F.content files.old) (F.faults files.old) (F.faults files.new)
+            (F.misses files.old) (F.misses files.new)) result }
         ensures same { F.content files.new ≡ F.content files.old }
-        ensures faults { F.faults files.old ≤ F.faults files.new }
-        ensures misses { F.misses files.old ≤ F.misses files.new }
     {
         match self
             .reading
@@ -155,15 +151,13 @@ impl Reader {
 
     /// One step of the reading.
     pub fn advance<F: Files>(&mut self, alloc: Global, files: &mut F) -> Result<Outcome, NoMemory>
-        requires small { (self.old.reading.length ≤ 4194304) × (self.old.reading.references ≤ 4194304) }
+        requires small { (self.old.reading.length ≤ REPLACED_LIMIT) × (self.old.reading.references ≤ REPLACED_LIMIT) }
         ensures told { (file : List ℕ) → SoFar (F.content files.old) file (position_of self.old) →
             IfOk result (λ o. Told (F.content files.old) file o (position_of self.old) (position_of self.new)) }
         ensures nearer { IfOk result (λ o. IsNearer o (position_of self.old) (position_of self.new)) }
-        ensures reason { IfOk result (OutcomeReason (F.content files.old) (F.faults files.old) (F.faults files.new)
-            (F.misses files.old) (F.misses files.new)) }
+        ensures counted { Counted OutcomeCounts (source_call (F.content files.old) (F.faults files.old) (F.faults files.new)
+            (F.misses files.old) (F.misses files.new)) result }
         ensures same { F.content files.new ≡ F.content files.old }
-        ensures faults { F.faults files.old ≤ F.faults files.new }
-        ensures misses { F.misses files.old ≤ F.misses files.new }
     {
         if self.at < self.text.len() {
             self.take(alloc, files)

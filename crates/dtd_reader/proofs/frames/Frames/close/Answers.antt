@@ -1,4 +1,4 @@
-use Rattle.std.proofs.Common.{◌≡◌, ◌∙◌, ap, refl}
+use Rattle.std.proofs.Common.{◌∙◌, ap, refl}
 use Rattle.dtd_reader.specs.Views.{frame_of}
 use Rattle.dtd_reader.proofs.Stack.{stack_of, more_frames}
 use Rattle.dtd_reader.proofs.frames.Frames.close.Goals as goal

@@ -1,4 +1,4 @@
-use Rattle.std.proofs.Common.{◌≡◌, ◌∙◌, sym}
+use Rattle.std.proofs.Common.{◌∙◌, sym}
 use Rattle.dtd_reader.proofs.Stack.{open_is}
 use Rattle.dtd_reader.proofs.frames.Frames.is_open.Goals as goal
 

@@ -1,4 +1,4 @@
-use Rattle.std.proofs.Common.{◌≡◌, refl, subst}
+use Rattle.std.proofs.Common.{refl, subst}
 use Rattle.std.proofs.Math.ListN.{drop_of_length-le}
 use Rattle.dtd_entities.specs.Positions.{state_of}
 use Rattle.dtd_reader.specs.SoFar.{SoFar}

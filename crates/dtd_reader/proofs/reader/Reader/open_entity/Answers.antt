@@ -1,7 +1,6 @@
-use Rattle.std.proofs.Common.{◌≡◌, ◌∙◌, ◌+◌, ◌<◌, ◌≤◌, length, drop, take, ap, refl, sym, subst, arith}
+use Rattle.std.proofs.Common.{◌∙◌, ◌+◌, drop, take, ap, subst, arith}
 use Rattle.std.proofs.lemmas.List.{length-drop}
-use Rattle.dtd_entities.specs.Positions.{state_of, seen, IsWithin}
-use Rattle.dtd_texts.specs.Reading.{Move, move}
+use Rattle.dtd_entities.specs.Positions.{state_of}
 use Rattle.dtd_reader.specs.Views.{position_of, frames_of, IsFound}
 use Rattle.dtd_reader.proofs.SoFar.{missed_to, asked_to, opened_to}
 use Rattle.dtd_reader.proofs.reader.Reader.open_entity.Goals as goal

@@ -1,8 +1,8 @@
-use Rattle.std.proofs.Common.{◌≡◌, ◌∙◌, ◌+◌, ◌<◌, ◌≤◌, length, drop, take, ap, refl, sym, subst, arith}
+use Rattle.std.proofs.Common.{◌≡◌, ◌∙◌, length, drop, ap, subst, arith}
 use Rattle.std.proofs.lemmas.List.{length-drop}
 use Rattle.dtd_entities.specs.Positions.{state_of, seen, IsWithin}
-use Rattle.dtd_texts.specs.Reading.{Move, move}
-use Rattle.dtd_reader.specs.Views.{position_of, frames_of, IsFound}
+use Rattle.dtd_texts.specs.Reading.{move}
+use Rattle.dtd_reader.specs.Views.{frames_of}
 use Rattle.dtd_reader.proofs.SoFar.{took_by, broken_by, omitted_by}
 use Rattle.dtd_reader.proofs.reader.Reader.take.Goals as goal
 

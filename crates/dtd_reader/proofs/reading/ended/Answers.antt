@@ -1,0 +1,7 @@
+use Rattle.std.proofs.Common.{refl}
+use Rattle.dtd_texts.specs.Causes.{unended}
+use Rattle.dtd_entities.specs.Positions.{state_of}
+use Rattle.dtd_reader.proofs.reading.ended.Goals as goal
+
+pub returns-else-is_between : goal.returns-else-is_between
+returns-else-is_between c = λ call file reads limits calm. (unended (state_of c.args.reading) reads (c.is_between.ensures.within c.if-is_between.false) refl, calm)

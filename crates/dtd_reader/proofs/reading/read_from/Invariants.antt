@@ -1,0 +1,15 @@
+use Rattle.std.proofs.Common.{◌≡◌}
+use Rattle.dtd_reader.specs.SoFar.{SoFar}
+use Rattle.dtd_reader.specs.Views.{position_of, work_left}
+use Rattle.dtd_reader.proofs.reading.read_from.Given as goal
+
+-- whatever the rest leads to, so does the text, and no count rose
+abbrev pub invariant-steps : goal.invariant-steps
+invariant-steps g l =
+    SoFar (g.F.Files.content l.initial.files) l.fn.text (position_of l.reader)
+    × (g.F.Files.content l.files ≡ g.F.Files.content l.initial.files)
+    × (g.F.Files.faults l.files ≡ g.F.Files.faults l.initial.files)
+    × (g.F.Files.misses l.files ≡ g.F.Files.misses l.initial.files)
+
+abbrev pub decreases-steps : goal.decreases-steps
+decreases-steps g l = work_left (position_of l.reader)

@@ -1,0 +1,5 @@
+//! The limit of what is read.
+
+/// The most bytes of a text in which all references are replaced, and the most references that are
+/// replaced in it.
+pub const REPLACED_LIMIT: u64 = 4_194_304;

@@ -1,0 +1,127 @@
+//! The reading of a whole text.
+
+ghost use Rattle.std.specs.Prelude.{◌≡◌, ◌≢◌, ◌<◌, ◌≤◌, ◌⊎◌, List, ℕ, [], true, false};
+ghost use Rattle.dtd_texts.specs.Places as places;
+ghost use Rattle.dtd_texts.specs.Reading.{Reads, start};
+ghost use Rattle.dtd_texts.specs.Causes.{Asks};
+ghost use Rattle.dtd_entities.specs.Positions.{state_of};
+ghost use Rattle.dtd_reader.specs.Source.{SourceCall, source_call, IsCalm, IsUnread};
+ghost use Rattle.dtd_reader.specs.Causes.{IsWithinLimits, IsReadCause, IsTextCause};
+ghost use Rattle.dtd_reader.specs.Answers.{IsAnswer, IsTextAnswer};
+
+use crate::limits::REPLACED_LIMIT;
+use crate::loading::load;
+use crate::outcome::{Found, Outcome};
+use crate::reader::Reader;
+use crate::refusal::DtdRefusal;
+use dtd_entities::{Mode, Reading};
+use io_edge::{FileFault, Files};
+use std::alloc::Global;
+use text_base::Bytes;
+
+// The refusal of a file that was not read.
+fn unread(name: Bytes, fault: FileFault) -> DtdRefusal
+    ensures first { (call : SourceCall) → IsUnread call name fault → IsReadCause call name result }
+    ensures asked { (call : SourceCall) (file : List ℕ) → Asks call.content file name → IsUnread call name fault →
+        IsTextCause call file result }
+{
+    match fault {
+        FileFault::Missing => DtdRefusal::Missing { name },
+        FileFault::Failed => DtdRefusal::ReadFault { name },
+        FileFault::TooLong { len } => DtdRefusal::TooLong { name, len },
+        FileFault::Memory => DtdRefusal::Memory,
+    }
+}
+
+// Whether the text may end here.
+fn is_between(reading: &Reading) -> bool
+    ensures between { result ≡ true → (state_of reading.now).place ≡ places.between }
+    ensures within { result ≡ false → (state_of reading.now).place ≢ places.between }
+{
+    matches!(reading.mode, Mode::Between)
+}
+
+// Whether the text so far is within the limits.
+fn is_within_limits(reading: &Reading) -> bool
+    ensures within { result ≡ true → (reading.now.length ≤ REPLACED_LIMIT) × (reading.now.references ≤ REPLACED_LIMIT) }
+    ensures over { result ≡ false → (REPLACED_LIMIT < reading.now.length) ⊎ (REPLACED_LIMIT < reading.now.references) }
+{
+    if reading.length > REPLACED_LIMIT {
+        return false;
+    }
+    reading.references <= REPLACED_LIMIT
+}
+
+// How many bytes or references there are, where there are too many.
+fn most(reading: &Reading) -> u64
+    ensures { (REPLACED_LIMIT < reading.now.length) ⊎ (REPLACED_LIMIT < reading.now.references) →
+        (REPLACED_LIMIT < result) × ((result ≤ reading.now.length) ⊎ (result ≤ reading.now.references)) }
+{
+    if reading.length < reading.references {
+        reading.references
+    } else {
+        reading.length
+    }
+}
+
+// The end of the text, which is to stand between declarations.
+fn ended(reading: Reading) -> Result<Reading, DtdRefusal>
+    ensures { (call : SourceCall) (file : List ℕ) → Reads call.content [] start file (state_of reading) →
+        IsWithinLimits (state_of reading) → IsCalm call → IsTextAnswer call file result }
+{
+    if is_between(&reading) {
+        Ok(reading)
+    } else {
+        Err(DtdRefusal::NotDtd { at: reading.begun })
+    }
+}
+
+// Reads a text to its end.
+fn read_from<F: Files>(alloc: Global, files: &mut F, text: Bytes) -> Result<Reading, DtdRefusal>
+    ensures answer { IsTextAnswer (source_call (F.content files.old) (F.faults files.old) (F.faults files.new)
+        (F.misses files.old) (F.misses files.new)) text result }
+    ensures same { F.content files.new ≡ F.content files.old }
+{
+    let mut reader = Reader::new(alloc, text);
+    'steps: while is_within_limits(&reader.reading) {
+        match reader.advance(alloc, files)? {
+            Outcome::Goes => continue 'steps,
+            Outcome::Ends => return ended(reader.reading),
+            Outcome::Breaks => {
+                return Err(DtdRefusal::NotDtd {
+                    at: reader.reading.begun,
+                });
+            }
+            Outcome::Omits => {
+                return Err(DtdRefusal::LeftOut {
+                    at: reader.reading.begun,
+                });
+            }
+            Outcome::Misses(name) => return Err(DtdRefusal::Entity { name }),
+            Outcome::Unread(name, fault) => return Err(unread(name, fault)),
+        }
+    }
+    Err(DtdRefusal::Limit {
+        count: most(&reader.reading),
+    })
+}
+
+/// Reads the text of a document type definition from the file of this name, with its parameter
+/// entities replaced (XML 1.0, 2.8 and 4.4), in time linear in the replaced text.
+///
+/// # Errors
+///
+/// `Missing`, `ReadFault` and `TooLong` for a file that was not read, `NotDtd`, `Entity` and
+/// `LeftOut` for what the text breaks, `Limit` where the replaced text has over 4,194,304 bytes or
+/// as many references were replaced, and `Memory`.
+pub fn read_text<F: Files>(alloc: Global, files: &mut F, name: &str) -> Result<Reading, DtdRefusal>
+    ensures answer { IsAnswer (source_call (F.content files.old) (F.faults files.old) (F.faults files.new)
+        (F.misses files.old) (F.misses files.new)) name.now result }
+    ensures same { F.content files.new ≡ F.content files.old }
+{
+    match load(alloc, files, name)? {
+        Found::Text(text) => read_from(alloc, files, text),
+        Found::NotRead(path, fault) => Err(unread(path, fault)),
+        Found::Nowhere => unreachable!(),
+    }
+}
