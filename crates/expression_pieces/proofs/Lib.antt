@@ -1,0 +1,4 @@
+pub mod RowLemmas
+pub mod FormLemmas
+pub mod ChoiceLemmas
+pub mod WriteLemmas
