@@ -1,0 +1,3 @@
+pub mod PlaceLemmas
+pub mod EdgeLemmas
+pub mod OrderLemmas
