@@ -1,0 +1,4 @@
+pub mod OpenValues
+pub mod OpenTags
+pub mod OpenDoctypes
+pub mod Fronts
