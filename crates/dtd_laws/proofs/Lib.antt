@@ -1,0 +1,4 @@
+pub mod Entities
+pub mod Holdings
+pub mod Attributes
+pub mod Declarations

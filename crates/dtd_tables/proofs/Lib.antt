@@ -1,0 +1,9 @@
+pub mod Lists
+pub mod AttributeLemmas
+pub mod NameLemmas
+pub mod Updates
+pub mod Lawful
+pub mod PartLemmas
+pub mod Crowds
+pub mod ElementLemmas
+pub mod TableLemmas

@@ -1,0 +1,47 @@
+-- Why declarations make no table.
+use Rattle.std.specs.Prelude.{◌≡◌, ◌<◌, ◌≤◌, ◌⊎◌, ◌+◌, ℕ, true, List, [], ◌∷◌, ◌++◌, length, Contains}
+use Rattle.dtd_model.specs.Lawful.{is_distinct, element_limit, attribute_limit}
+use Rattle.dtd_texts.specs.Reading.{Written, is_among}
+use Rattle.dtd_texts.specs.Went.{Went, refused, left_out, too_deep, undeclared}
+use Rattle.dtd_texts.specs.ContentModels.{bracket_limit}
+use Rattle.dtd_texts.specs.Tables.{Said, said, element_names, attributes_for, with_others}
+use Rattle.dtd_texts.specs.Spells.{Says}
+use Rattle.dtd_tables.specs.declared.refusal.TableRefusal.{TableRefusal}
+use Rattle.dtd_tables.specs.declared.refusal.TableRefusal.TheVariants.{Twice, Undeclared, Refused, LeftOut, Limit, Memory}
+
+-- the name stands twice among these
+pub record StandsTwice (names : List (List ℕ)) (name : List ℕ) : Type 0 where
+  pub before : List (List ℕ)
+  pub behind : List (List ℕ)
+  pub is : names ≡ before ++ name ∷ behind
+  pub among : is_among before name ≡ true
+
+-- a declaration at this place comes to this, where all elements differ
+pub record GoesWrong (written : List Written) (at : ℕ) (how : Went Said) : Type 0 where
+  pub one : Written
+  pub among : Contains written one
+  pub once : is_distinct (element_names written) ≡ true
+  pub says : said (element_names written) one.text ≡ how
+  pub there : one.at ≡ at
+
+-- an element has so many attributes
+pub record HasAttributes (written : List Written) (count : ℕ) : Type 0 where
+  pub says : List Said
+  pub said : Says written says
+  pub name : List ℕ
+  pub many : count ≤ length (with_others [] (attributes_for name says))
+
+-- there are so many elements, open brackets, or attributes of an element, or more, and these are too many
+abbrev pub IsTooMany : List Written → ℕ → Type 0
+IsTooMany written count =
+    ((element_limit < count) × (count ≤ length (element_names written)))
+    ⊎ (((count ≡ bracket_limit + 1) × ((at : ℕ) × GoesWrong written at too_deep))
+    ⊎ ((attribute_limit < count) × HasAttributes written count))
+
+abbrev pub IsTableCause : List Written → TableRefusal → Type 0
+IsTableCause written (Twice name) = StandsTwice (element_names written) name
+IsTableCause written (Undeclared name) = (at : ℕ) × GoesWrong written at (undeclared name)
+IsTableCause written (Refused at) = GoesWrong written at refused
+IsTableCause written (LeftOut at) = GoesWrong written at left_out
+IsTableCause written (Limit count) = IsTooMany written count
+IsTableCause written Memory = Unit {0}

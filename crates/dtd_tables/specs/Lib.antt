@@ -1,0 +1,4 @@
+pub mod Causes
+pub mod Spelled
+pub mod Updates
+pub mod Views
