@@ -1,0 +1,5 @@
+pub mod SizeLemmas
+pub mod LoopLemmas
+pub mod CappedLemmas
+pub mod BodyLemmas
+pub mod TableLemmas
