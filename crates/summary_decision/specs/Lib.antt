@@ -1,0 +1,4 @@
+pub mod Using
+pub mod Beginning
+pub mod Taking
+pub mod Running
