@@ -1,3 +1,4 @@
 pub mod SoFar
 pub mod Stack
 pub mod Steps
+pub mod Definitions

@@ -3,3 +3,4 @@ pub mod Source
 pub mod Views
 pub mod Causes
 pub mod Answers
+pub mod Refusals

@@ -3,6 +3,7 @@
 //! io_edge and dtd_entities.
 #![tactic(auto)]
 
+mod definition;
 mod frames;
 pub mod limits;
 mod loading;
@@ -11,5 +12,6 @@ mod reader;
 mod reading;
 mod refusal;
 
+pub use definition::read_dtd;
 pub use reading::read_text;
 pub use refusal::DtdRefusal;
