@@ -1,0 +1,4 @@
+pub mod Followed
+pub mod Measures
+pub mod ArmLemmas
+pub mod FileLemmas
