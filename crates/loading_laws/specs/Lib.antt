@@ -1,0 +1,2 @@
+pub mod FileRules
+pub mod Loaded

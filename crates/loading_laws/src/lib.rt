@@ -1,0 +1,60 @@
+//! What files say of the program that they stand for: it is lawful, and it is the program of the name. Each function stands for the law that
+//! its contract states.
+#![tactic(auto)]
+
+ghost use Rattle.std.specs.Prelude.{ℕ, List, []};
+ghost use Rattle.script_meaning.specs.Programs.{PlainProgram};
+ghost use Rattle.program_rules.specs.Files.{Held, HasTree, HasOneTree};
+ghost use Rattle.program_rules.specs.Programs.{ReadFile, IsProgram};
+ghost use Rattle.php_program.specs.Lawful.{IsLawful};
+ghost use Rattle.program_files.specs.Order.{Reached};
+ghost use Rattle.file_order.specs.FileOrder.{AreWhole};
+ghost use Rattle.expansion_laws.specs.Within.{AreHeld};
+ghost use Rattle.loading_laws.specs.Loaded.{AreScripts, MakeProgram};
+
+use expansion_keeps::{calls_are_in_files, forms_are_kept, rules_are_kept};
+use expansion_laws::{
+    no_include_is_left, none_includes_itself, statements_have_places, statements_stand_for,
+};
+use lexical_grammar::laws::one_token_list;
+use php_parser::laws::one_tree;
+use reading_laws::files_of_the_program;
+
+/// Each file has one tree at most.
+pub fn each_has_one_tree()
+    ensures { (held : Held) → HasOneTree held }
+{
+    one_token_list();
+    one_tree();
+}
+
+/// Files that were read, with no name left to be looked at, are under names of their own with all that they include, and hold their trees.
+pub fn read_files_are_whole()
+    ensures whole { (held : Held) (name : List ℕ) (files : List ReadFile) → HasOneTree held → Reached (HasTree held) name files [] → AreWhole files }
+    ensures held { (held : Held) (name : List ℕ) (files : List ReadFile) → HasOneTree held → Reached (HasTree held) name files [] → AreHeld held files }
+{
+    files_of_the_program();
+}
+
+/// What files make is lawful.
+pub fn made_programs_are_lawful()
+    ensures { (files : List ReadFile) (order : List (List ℕ)) (name : List ℕ) (program : PlainProgram) →
+        AreScripts files → MakeProgram files order name program → IsLawful program }
+{
+    calls_are_in_files();
+    rules_are_kept();
+    forms_are_kept();
+    no_include_is_left();
+}
+
+/// And it is the program of the name.
+pub fn made_programs_are_programs()
+    ensures { (held : Held) (files : List ReadFile) (order : List (List ℕ)) (name : List ℕ) (program : PlainProgram) →
+        HasOneTree held → Reached (HasTree held) name files [] → MakeProgram files order name program → IsProgram held name program }
+{
+    files_of_the_program();
+    statements_stand_for();
+    statements_have_places();
+    none_includes_itself();
+    calls_are_in_files();
+}
