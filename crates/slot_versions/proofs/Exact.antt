@@ -1,10 +1,10 @@
 -- The definitions behind a version that stands for a slot at a point are those that reach it.
 use Rattle.std.proofs.Common.{◌≡◌, ℕ, ◌↔◌, Some, refl, sym, subst, ◌∙◌}
 use Rattle.std.specs.Prelude.{Contains}
-use Rattle.flow_code.specs.Points.{PlainPoint, PlainFlowFunction, PlainFlow, point_at, function_at}
+use Rattle.flow_code.specs.Points.{PlainFlowFunction, PlainFlow, function_at}
 use Rattle.flow_code.specs.Lawful.{sets, nexts, IsOwnSlot}
 use Rattle.loose_sets.specs.Reaching.{Definition, at_point, at_entry, Reaches}
-use Rattle.slot_versions.specs.Versions.{PlainVersion, of_definition, join_at, Edge, Sets, Leaves, Stands, Link, Linked, AreLinks, Behind}
+use Rattle.slot_versions.specs.Versions.{PlainVersion, of_definition, join_at, Edge, Sets, Leaves, Stands, Link, Asked, Linked, IsKept, AreLinks, Behind}
 
 some_same : {A : Type 0} {a b : A} → Some a ≡ Some b → a ≡ b
 some_same k = cc
@@ -18,7 +18,7 @@ leaves_on flow d x q p r s e = Reaches.onward d x q p s.point r s.there s.not_it
 sets_on : (flow : PlainFlow) (x q p : ℕ) → Sets flow q x → Edge flow q p → Reaches flow (at_point q) x p
 sets_on flow x q p w e = Reaches.behind q x p w.point w.there w.it (subst (λ z. Contains (nexts z) p) (some_same (sym e.there ∙ w.there)) e.leads)
 
-module _ (flow : PlainFlow) (linked : Linked) (are : AreLinks flow linked) where
+module _ (flow : PlainFlow) (asked : Asked) (linked : Linked) (are : AreLinks flow asked linked) where
   -- what comes to the place where the version is made
   Comes : ℕ → PlainVersion → Definition → Type 0
   Comes x (of_definition d) e = d ≡ e
@@ -53,26 +53,28 @@ module _ (flow : PlainFlow) (linked : Linked) (are : AreLinks flow linked) where
       let same : x ≡ y = slot_of p x q y s in
       walk p x (join_at q y) e s (linked_reaches u e b (sound u e b) q x (subst (λ z. Link flow q z u) (sym same) (are.each q y u k)))
 
-  at_set : (p x : ℕ) (v : PlainVersion) → Stands flow p x v → (q : ℕ) → Edge flow q p → Sets flow q x → Behind linked v (at_point q)
-  at_set p x v (Stands.here o z) q e w = Behind.joined o z (of_definition (at_point q)) (at_point q) (are.set o q z e w) (Behind.itself (at_point q))
-  at_set p x v (Stands.set_before o n z only u) q e w = subst (λ k. Behind linked (of_definition (at_point n)) (at_point k)) (sym (only.alone q e)) (Behind.itself (at_point n))
-  at_set p x v (Stands.left_before o n z u only t s) q e w = absurd (not_both flow n z (subst (λ k. Sets flow k z) (only.alone q e) w) t)
+  at_set : (p x : ℕ) (v : PlainVersion) → Stands flow p x v → IsKept asked v → (q : ℕ) → Edge flow q p → Sets flow q x → Behind linked v (at_point q)
+  at_set p x v (Stands.here o z) kept q e w = Behind.joined o z (of_definition (at_point q)) (at_point q) (are.set o q z kept e w) (Behind.itself (at_point q))
+  at_set p x v (Stands.set_before o n z only u) kept q e w = subst (λ k. Behind linked (of_definition (at_point n)) (at_point k)) (sym (only.alone q e)) (Behind.itself (at_point n))
+  at_set p x v (Stands.left_before o n z u only t s) kept q e w = absurd (not_both flow n z (subst (λ k. Sets flow k z) (only.alone q e) w) t)
 
-  at_the_entry : (f : ℕ) (g : PlainFlowFunction) → function_at flow f ≡ Some g → (p x : ℕ) (v : PlainVersion) → Stands flow p x v → p ≡ g.entry_of → IsOwnSlot g x → Behind linked v (at_entry f x)
-  at_the_entry f g ef p x v (Stands.here o z) e own =
-      Behind.joined o z (of_definition (at_entry f z)) (at_entry f z) (subst (λ k. linked k z (of_definition (at_entry f z))) (sym e) (are.entry f z g ef own)) (Behind.itself (at_entry f z))
-  at_the_entry f g ef p x v (Stands.set_before o n z only u) e own = absurd (only.inside f g ef e)
-  at_the_entry f g ef p x v (Stands.left_before o n z u only t s) e own = absurd (only.inside f g ef e)
+  at_the_entry : (f : ℕ) (g : PlainFlowFunction) → function_at flow f ≡ Some g → (p x : ℕ) (v : PlainVersion) → Stands flow p x v → IsKept asked v → p ≡ g.entry_of → IsOwnSlot g x → Behind linked v (at_entry f x)
+  at_the_entry f g ef p x v (Stands.here o z) kept e own =
+      Behind.joined o z (of_definition (at_entry f z)) (at_entry f z)
+      (subst (λ k. linked k z (of_definition (at_entry f z))) (sym e) (are.entry f z g ef own (subst (λ k. asked k z) e kept))) (Behind.itself (at_entry f z))
+  at_the_entry f g ef p x v (Stands.set_before o n z only u) kept e own = absurd (only.inside f g ef e)
+  at_the_entry f g ef p x v (Stands.left_before o n z u only t s) kept e own = absurd (only.inside f g ef e)
 
-  at_left : (d : Definition) (q p x : ℕ) (v : PlainVersion) → Stands flow p x v → ((u : PlainVersion) → Stands flow q x u → Behind linked u d) → Edge flow q p → Leaves flow q x → Behind linked v d
-  at_left d q p x v (Stands.here o z) h e w = let k = are.left o q z e w in Behind.joined o z k.0 d k.1 (h k.0 k.2)
-  at_left d q p x v (Stands.set_before o n z only u) h e w = absurd (not_both flow n z u (subst (λ k. Leaves flow k z) (only.alone q e) w))
-  at_left d q p x v (Stands.left_before o n z u only t s) h e w = h u (subst (λ k. Stands flow k z u) (sym (only.alone q e)) s)
+  at_left : (d : Definition) (q p x : ℕ) (v : PlainVersion) → Stands flow p x v → IsKept asked v → ((u : PlainVersion) → Stands flow q x u → IsKept asked u → Behind linked u d) → Edge flow q p → Leaves flow q x → Behind linked v d
+  at_left d q p x v (Stands.here o z) kept h e w = let k = are.left o q z kept e w in Behind.joined o z k.0 d k.1 (h k.0 k.2 (are.closed o z k.0 k.1))
+  at_left d q p x v (Stands.set_before o n z only u) kept h e w = absurd (not_both flow n z u (subst (λ k. Leaves flow k z) (only.alone q e) w))
+  at_left d q p x v (Stands.left_before o n z u only t s) kept h e w = h u (subst (λ k. Stands flow k z u) (sym (only.alone q e)) s) kept
 
-  complete : (d : Definition) (x p : ℕ) → Reaches flow d x p → (v : PlainVersion) → Stands flow p x v → Behind linked v d
-  complete d x p (Reaches.behind q y r i e w c) v s = at_set r y v s q (record { point = i; there = e; leads = c }) (record { point = i; there = e; it = w })
-  complete d x p (Reaches.entered f y g ef own) v s = at_the_entry f g ef g.entry_of y v s refl own
-  complete d x p (Reaches.onward c y q r i reach e w k) v s = at_left c q r y v s (complete c y q reach) (record { point = i; there = e; leads = k }) (record { point = i; there = e; not_it = w })
+  complete : (d : Definition) (x p : ℕ) → Reaches flow d x p → (v : PlainVersion) → Stands flow p x v → IsKept asked v → Behind linked v d
+  complete d x p (Reaches.behind q y r i e w c) v s kept = at_set r y v s kept q (record { point = i; there = e; leads = c }) (record { point = i; there = e; it = w })
+  complete d x p (Reaches.entered f y g ef own) v s kept = at_the_entry f g ef g.entry_of y v s kept refl own
+  complete d x p (Reaches.onward c y q r i reach e w k) v s kept =
+      at_left c q r y v s kept (complete c y q reach) (record { point = i; there = e; leads = k }) (record { point = i; there = e; not_it = w })
 
-pub exact : (flow : PlainFlow) (linked : Linked) → AreLinks flow linked → (p x : ℕ) (v : PlainVersion) → Stands flow p x v → (d : Definition) → Behind linked v d ↔ Reaches flow d x p
-exact flow linked are p x v s d = (λ b. sound flow linked are v d b p x s, λ r. complete flow linked are d x p r v s)
+pub exact : (flow : PlainFlow) (asked : Asked) (linked : Linked) → AreLinks flow asked linked → (p x : ℕ) (v : PlainVersion) → Stands flow p x v → IsKept asked v → (d : Definition) → Behind linked v d ↔ Reaches flow d x p
+exact flow asked linked are p x v s kept d = (λ b. sound flow asked linked are v d b p x s, λ r. complete flow asked linked are d x p r v s kept)

@@ -1,6 +1,6 @@
 -- Versions of a slot at a point, and the definitions behind them (static single assignment: Cytron and others, 1991, but with a join at each
 -- point into which several edges lead, so that no dominators are needed).
-use Rattle.std.specs.Prelude.{◌≡◌, ◌≢◌, ℕ, List, Some, Contains}
+use Rattle.std.specs.Prelude.{◌≡◌, ◌≢◌, ⊤, ℕ, List, Some, Contains}
 use Rattle.flow_code.specs.Points.{PlainPoint, PlainFlowFunction, PlainFlow, point_at, function_at}
 use Rattle.flow_code.specs.Lawful.{sets, nexts, IsOwnSlot}
 use Rattle.loose_sets.specs.Reaching.{Definition, at_point, at_entry}
@@ -46,28 +46,41 @@ pub data Link (flow : PlainFlow) : ℕ → ℕ → PlainVersion → Type 0 where
   from_left : (p q x : ℕ) (v : PlainVersion) → Edge flow q p → Leaves flow q x → Stands flow q x v → Link flow p x v
   from_entry : (f x : ℕ) (g : PlainFlowFunction) → function_at flow f ≡ Some g → IsOwnSlot g x → Link flow g.entry_of x (of_definition (at_entry f x))
 
+-- the joins that are asked for: of a slot at a point
+abbrev pub Asked : Type 1
+Asked = ℕ → ℕ → Type 0
+
 -- the links that are kept: of a join of a slot at a point, to a version
 abbrev pub Linked : Type 1
 Linked = ℕ → ℕ → PlainVersion → Type 0
 
--- each is a link, and each edge has one
-pub record AreLinks (flow : PlainFlow) (linked : Linked) : Type 0 where
+-- a definition, or a join that is asked for
+abbrev pub IsKept : Asked → PlainVersion → Type 0
+IsKept asked (of_definition d) = ⊤
+IsKept asked (join_at p x) = asked p x
+
+-- each kept link is one, to a version that is kept; and a join that is asked for has one for each edge into its point, and for the entry
+pub record AreLinks (flow : PlainFlow) (asked : Asked) (linked : Linked) : Type 0 where
   pub each : (p x : ℕ) (v : PlainVersion) → linked p x v → Link flow p x v
-  pub set : (p q x : ℕ) → Edge flow q p → Sets flow q x → linked p x (of_definition (at_point q))
-  pub left : (p q x : ℕ) → Edge flow q p → Leaves flow q x → (v : PlainVersion) × linked p x v × Stands flow q x v
-  pub entry : (f x : ℕ) (g : PlainFlowFunction) → function_at flow f ≡ Some g → IsOwnSlot g x → linked g.entry_of x (of_definition (at_entry f x))
+  pub closed : (p x : ℕ) (v : PlainVersion) → linked p x v → IsKept asked v
+  pub set : (p q x : ℕ) → asked p x → Edge flow q p → Sets flow q x → linked p x (of_definition (at_point q))
+  pub left : (p q x : ℕ) → asked p x → Edge flow q p → Leaves flow q x → (v : PlainVersion) × linked p x v × Stands flow q x v
+  pub entry : (f x : ℕ) (g : PlainFlowFunction) → function_at flow f ≡ Some g → IsOwnSlot g x → asked g.entry_of x → linked g.entry_of x (of_definition (at_entry f x))
 
 -- the definitions behind a version
 pub data Behind (linked : Linked) : PlainVersion → Definition → Type 0 where
   itself : (d : Definition) → Behind linked (of_definition d) d
   joined : (p x : ℕ) (v : PlainVersion) (d : Definition) → linked p x v → Behind linked v d → Behind linked (join_at p x) d
 
--- a link of a join of a slot at a point
-pub record KeptLink : Type 0 where
+-- a join of a slot at a point, with the versions that it joins
+pub record PlainJoin : Type 0 where
   pub point : ℕ
   pub slot : ℕ
-  pub version : PlainVersion
+  pub versions : List PlainVersion
 
--- the links of a list
-abbrev pub are_kept : List KeptLink → Linked
-are_kept links p x v = Contains links (record { point = p; slot = x; version = v })
+-- the joins of a list, and their links
+abbrev pub asked_in : List PlainJoin → Asked
+asked_in joins p x = (vs : List PlainVersion) × Contains joins (record { point = p; slot = x; versions = vs })
+
+abbrev pub linked_in : List PlainJoin → Linked
+linked_in joins p x v = (vs : List PlainVersion) × Contains joins (record { point = p; slot = x; versions = vs }) × Contains vs v

@@ -3,11 +3,14 @@
 ghost use Rattle.std.specs.Prelude.{ℕ, List, ◌↔◌};
 ghost use Rattle.flow_code.specs.Points.{PlainFlow};
 ghost use Rattle.loose_sets.specs.Reaching.{Definition, Reaches};
-ghost use Rattle.slot_versions.specs.Versions.{PlainVersion, KeptLink, are_kept, AreLinks, Stands, Behind};
+ghost use Rattle.slot_versions.specs.Versions.{PlainVersion, PlainJoin, asked_in, linked_in, IsKept, AreLinks, Stands, Behind};
 
-/// Whatever links are kept for joins, one for each edge and for the entry: the definitions behind a
-/// version that stands for a slot at a point are exactly those that reach it.
+/// Whatever joins are kept, those that are asked for, each with a link for each edge and for the
+/// entry: the definitions behind a kept version that stands for a slot at a point are exactly those
+/// that reach it.
 pub fn versions_are_exact()
-    ensures { (flow : PlainFlow) (links : List KeptLink) → AreLinks flow (are_kept links) → (p x : ℕ) (v : PlainVersion) → Stands flow p x v
-        → (d : Definition) → Behind (are_kept links) v d ↔ Reaches flow d x p }
+    ensures { (flow : PlainFlow) (joins : List PlainJoin)
+        → AreLinks flow (asked_in joins) (linked_in joins)
+        → (p x : ℕ) (v : PlainVersion) → Stands flow p x v → IsKept (asked_in joins) v
+        → (d : Definition) → Behind (linked_in joins) v d ↔ Reaches flow d x p }
 {}

@@ -1,0 +1,4 @@
+pub mod ArrivalLemmas
+pub mod HeadLemmas
+pub mod NumberLemmas
+pub mod StepLemmas

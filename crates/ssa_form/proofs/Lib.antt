@@ -1,0 +1,7 @@
+pub mod EdgeLemmas
+pub mod ExactLemmas
+pub mod HeadLemmas
+pub mod JoinLemmas
+pub mod MarkLemmas
+pub mod ReadLemmas
+pub mod RowLemmas

@@ -1,0 +1,5 @@
+pub mod Joins
+pub mod Marks
+pub mod Rows
+pub mod Versions
+pub mod Views

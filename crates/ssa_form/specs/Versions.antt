@@ -1,0 +1,34 @@
+-- The versions of a program of points, seen as data, and what they are.
+use Rattle.std.specs.Prelude.{◌≡◌, ◌≢◌, ◌↔◌, ℕ, List, [], ◌∷◌, Option, None, Some, Contains}
+use Rattle.std.specs.Option.{option_map}
+use Rattle.std.specs.declared.vec.Vec.{Vec}
+use Rattle.std.specs.declared.alloc.Global.{Global}
+use Rattle.flow_code.specs.Points.{PlainPoint, PlainFlow, point_at}
+use Rattle.flow_code.specs.Lawful.{reads}
+use Rattle.loose_sets.specs.Reaching.{Definition, Reaches}
+use Rattle.slot_versions.specs.Versions.{PlainVersion, of_definition, join_at, PlainJoin, linked_in, Behind}
+use Rattle.ssa_form.specs.declared.version.Version.{Version}
+use Rattle.ssa_form.specs.declared.versions.Versions.{Versions}
+use Rattle.ssa_form.specs.Views.{version_seen, versions_seen, held}
+
+-- joins with what each joins
+abbrev pub joins_in : List (ℕ × ℕ) → List (Vec Version Global) → List PlainJoin
+joins_in (k ∷ ks) (r ∷ rs) = record { point = k.0; slot = k.1; versions = versions_seen r.items } ∷ joins_in ks rs
+joins_in ks rs = []
+
+abbrev pub joins_of : Versions → List PlainJoin
+joins_of versions = joins_in versions.asks.keys versions.rows.items
+
+-- a version is one of those that a join joins
+abbrev pub IsLinked : List PlainJoin → PlainVersion → PlainVersion → Type 0
+IsLinked joins (of_definition d) v = ⊥
+IsLinked joins (join_at p x) v = linked_in joins p x v
+
+-- the version of a slot where a point reads it
+abbrev pub version_of : Versions → ℕ → ℕ → Option PlainVersion
+version_of versions p x = option_map version_seen (held versions.versions p x)
+
+-- there is a version for each slot that a point reads, and the definitions behind it are exactly those that reach the point
+pub record IsExact (flow : PlainFlow) (versions : Versions) : Type 0 where
+  pub all : (p x : ℕ) (i : PlainPoint) → point_at flow p ≡ Some i → Contains (reads i) x → version_of versions p x ≢ None
+  pub behind : (p x : ℕ) (v : PlainVersion) → version_of versions p x ≡ Some v → (d : Definition) → Behind (linked_in (joins_of versions)) v d ↔ Reaches flow d x p

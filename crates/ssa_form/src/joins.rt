@@ -1,0 +1,85 @@
+//! The joins that are asked for, each with what it joins.
+
+ghost use Rattle.std.specs.Prelude.{◌≡◌, ◌<◌, ◌+◌, ℕ, map, length, vec_len, Some, Contains, slice_get, IfOk, OnOk};
+ghost use Rattle.flow_code.specs.View.{plain_flow_function};
+ghost use Rattle.numbered_sets.specs.Numbers.{Keeps};
+ghost use Rattle.numbered_sets.specs.Places.{ArePlaces};
+ghost use Rattle.flow_graph.specs.Arrivals.{target};
+ghost use Rattle.ssa_form.specs.Views.{versions_seen};
+ghost use Rattle.ssa_form.specs.Joins.{AsksFor, AreFirst, AreRows};
+
+use crate::marks::ask;
+use crate::rows::{Found, row_of};
+use crate::version::Version;
+use indexmap::IndexSet;
+use numbered_sets::count;
+use std::alloc::Global;
+use text_base::NoMemory;
+
+// Asks for the versions of a row.
+fn ask_all(asks: &mut IndexSet<(u64, u64)>, row: &[Version]) -> Result<(), NoMemory>
+    ensures { OnOk result (AsksFor asks.old.keys asks.new.keys (versions_seen row.now)) }
+{
+    for version in row {
+        ask(asks, *version)?;
+    }
+    Ok(())
+}
+
+// The join of a number.
+fn join_of(asks: &IndexSet<(u64, u64)>, number: usize) -> (u64, u64)
+    requires { number < length asks.now.keys }
+    ensures { slice_get asks.now.keys number ≡ Some result }
+{
+    match asks.get_index(number) {
+        Some(join) => *join,
+        None => (0, 0),
+    }
+}
+
+// The next join, with what it joins.
+fn next_row(
+    alloc: Global,
+    found_out: Found<'_>,
+    asks: &mut IndexSet<(u64, u64)>,
+    rows: &mut Vec<Vec<Version>>,
+) -> Result<(), NoMemory>
+    requires places { ArePlaces (map target found_out.arrivals.now.all.items) found_out.arrivals.now.at.items }
+    requires heads { length found_out.heads.now ≡ vec_len found_out.arrivals.now.at }
+    requires next { vec_len rows.old < length asks.old.keys }
+    ensures keeps { OnOk result (Keeps asks.old.keys asks.new.keys) }
+    ensures more { OnOk result (vec_len rows.new ≡ vec_len rows.old + 1) }
+    ensures rows { OnOk result (AreFirst found_out.entry.heads.now
+        → AreRows (map plain_flow_function found_out.entry.functions.now) found_out.entry.heads.now found_out.entry.last.now
+        found_out.entry.arrivals.now.all.items asks.old.keys rows.old.items
+        → AreRows (map plain_flow_function found_out.entry.functions.now) found_out.entry.heads.now found_out.entry.last.now
+        found_out.entry.arrivals.now.all.items asks.new.keys rows.new.items) }
+{
+    let (point, slot) = join_of(asks, rows.len());
+    let row = row_of(alloc, found_out, point, slot)?;
+    ask_all(asks, &row)?;
+    rows.push(row)?;
+    Ok(())
+}
+
+/// What each join joins that is asked for, and then each that another one asks for: each is taken up once.
+pub fn rows_of(
+    alloc: Global,
+    found_out: Found<'_>,
+    asks: &mut IndexSet<(u64, u64)>,
+) -> Result<Vec<Vec<Version>>, NoMemory>
+    requires places { ArePlaces (map target found_out.arrivals.now.all.items) found_out.arrivals.now.at.items }
+    requires heads { length found_out.heads.now ≡ vec_len found_out.arrivals.now.at }
+    ensures keeps { OnOk result (Keeps asks.old.keys asks.new.keys) }
+    ensures len { IfOk result (λ rows. vec_len rows ≡ length asks.new.keys) }
+    ensures rows { IfOk result (λ rows. AreFirst found_out.entry.heads.now
+        → ((h x : ℕ) → Contains asks.old.keys (h, x) → slice_get found_out.entry.heads.now h ≡ Some h)
+        → AreRows (map plain_flow_function found_out.entry.functions.now) found_out.entry.heads.now found_out.entry.last.now
+        found_out.entry.arrivals.now.all.items asks.new.keys rows.items) }
+{
+    let mut rows = Vec::new(alloc);
+    while rows.len() < count(asks) {
+        next_row(alloc, found_out, asks, &mut rows)?;
+    }
+    Ok(rows)
+}

@@ -1,0 +1,105 @@
+//! The versions of a program of points.
+
+ghost use Rattle.std.specs.Prelude.{◌≡◌, ◌↔◌, length, map, vec_len, Contains, IfOk};
+ghost use Rattle.std.specs.Option.{option_map};
+ghost use Rattle.flow_code.specs.Points.{PlainFlow};
+ghost use Rattle.flow_code.specs.View.{plain_flow_function, plain_flow};
+ghost use Rattle.numbered_sets.specs.Places.{ArePlaces};
+ghost use Rattle.flow_graph.specs.Steps.{steps_seen};
+ghost use Rattle.flow_graph.specs.Arrivals.{target};
+ghost use Rattle.slot_versions.specs.Versions.{PlainVersion, linked_in};
+ghost use Rattle.ssa_form.specs.Views.{version_seen, versions_seen};
+ghost use Rattle.ssa_form.specs.Marks.{IsGraph};
+ghost use Rattle.ssa_form.specs.Versions.{joins_of, version_of, IsLinked, IsExact};
+
+use crate::joins::rows_of;
+use crate::marks::marks_of;
+use crate::rows::Found;
+use crate::version::Version;
+use flow_code::{FlowFunction, FlowProgram};
+use flow_graph::{Arrivals, Step, arrivals_of, heads_of, steps_of};
+use indexmap::{IndexMap, IndexSet};
+use numbered_sets::{count, number_of};
+use std::alloc::Global;
+use text_base::{NoMemory, Point, Slot};
+
+/// The versions of the slots that the points of a program read.
+#[derive(Debug, Drop)]
+pub struct Versions {
+    versions: IndexMap<(u64, u64), Version>,
+    asks: IndexSet<(u64, u64)>,
+    rows: Vec<Vec<Version>>,
+}
+
+impl Versions {
+    /// The version of a slot where a point reads it; None where the point does not read it. In constant time.
+    pub fn version_at(&self, point: Point, slot: Slot) -> Option<Version>
+        ensures { option_map version_seen result ≡ version_of self.now point.0 slot.0 }
+    {
+        self.versions.get(&(point.0, slot.0)).copied()
+    }
+
+    /// The versions that a join joins; none where the version is a definition. In constant time.
+    pub fn links(&self, version: Version) -> &[Version]
+        ensures { (v : PlainVersion) → Contains (versions_seen result.now) v ↔ IsLinked (joins_of self.now) (version_seen version) v }
+    {
+        let Version::Join { point, slot } = version else {
+            return &[];
+        };
+        self.joined(point, slot)
+    }
+
+    // The versions that the join of a slot at a point joins.
+    fn joined(&self, point: Point, slot: Slot) -> &[Version]
+        ensures { (v : PlainVersion) → Contains (versions_seen result.now) v ↔ linked_in (joins_of self.now) point.0 slot.0 v }
+    {
+        let _count = count(&self.asks);
+        let Some(number) = number_of(&self.asks, &(point.0, slot.0)) else {
+            return &[];
+        };
+        match self.rows.get(number) {
+            Some(row) => row,
+            None => &[],
+        }
+    }
+}
+
+// The versions, where the graph of the points is known.
+fn versions_of(
+    alloc: Global,
+    functions: &[FlowFunction],
+    steps: &[Step],
+    arrivals: &Arrivals,
+    heads: &[u64],
+) -> Result<Versions, NoMemory>
+    requires places { ArePlaces (map target arrivals.now.all.items) arrivals.now.at.items }
+    requires heads { length heads.now ≡ length steps.now }
+    requires at { length heads.now ≡ vec_len arrivals.now.at }
+    ensures { IfOk result (λ versions. (flow : PlainFlow) → map plain_flow_function functions.now ≡ flow.functions_of
+        → IsGraph flow (steps_seen steps.now) arrivals.now.all.items heads.now → IsExact flow versions) }
+{
+    let mut marks = marks_of(alloc, steps, heads)?;
+    let found_out = Found {
+        functions,
+        arrivals,
+        heads,
+        last: &marks.last,
+    };
+    let rows = rows_of(alloc, found_out, &mut marks.asks)?;
+    Ok(Versions {
+        versions: marks.versions,
+        asks: marks.asks,
+        rows,
+    })
+}
+
+/// The versions of a program of points: one for each slot that a point reads, and the definitions behind it are exactly those that
+/// reach the point. Its time is linear in the points, in what they read, and for each join in the edges into its point.
+pub fn ssa(alloc: Global, flow: &FlowProgram) -> Result<Versions, NoMemory>
+    ensures exact { IfOk result (IsExact (plain_flow flow.now)) }
+{
+    let steps = steps_of(alloc, flow)?;
+    let arrivals = arrivals_of(alloc, &flow.functions, &steps)?;
+    let heads = heads_of(alloc, &steps, &arrivals)?;
+    versions_of(alloc, &flow.functions, &steps, &arrivals, &heads)
+}
