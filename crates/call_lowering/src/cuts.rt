@@ -1,0 +1,99 @@
+//! Integer literals, and the operations of `substr`.
+
+ghost use Rattle.std.specs.Prelude.{◌≡◌, true, false, neg_ℤ, MatchOption, Some};
+ghost use Rattle.php_syntax.specs.Trees.{plain_expr};
+ghost use Rattle.flow_code.specs.Builtins.{literal_integer, is_small, cutting_from, cutting_out};
+ghost use Rattle.call_lowering.specs.Small.{IsNotSmall, IsSmall};
+
+use expression_pieces::values::literal_number;
+use op_system::Op;
+use php_syntax::tree::Expr;
+
+// Whether a machine is made for cuts by the number.
+fn is_small_number(number: i64) -> bool
+    ensures { result ≡ is_small number }
+{
+    number.unsigned_abs() <= 1024
+}
+
+// The number, where a machine is made for it.
+fn kept(number: i64) -> Option<i64>
+    ensures { MatchOption result (is_small number ≡ false) (λ z. (z ≡ number) × (is_small number ≡ true)) }
+{
+    if is_small_number(number) {
+        Some(number)
+    } else {
+        None
+    }
+}
+
+// The number with its sign turned, where a machine is made for it.
+fn kept_turned(number: i64) -> Option<i64>
+    ensures { MatchOption result (is_small (neg_ℤ number) ≡ false) (λ z. (z ≡ neg_ℤ number) × (is_small (neg_ℤ number) ≡ true)) }
+{
+    match number.checked_neg() {
+        Some(turned) => kept(turned),
+        None => None,
+    }
+}
+
+// An integer literal, or `-` and one, that a machine is made for.
+#[tactic(auto, using(php_syntax::proofs::Views::views), unfolding(flow_code::specs::Builtins::literal_integer))]
+fn small_integer(expr: &Expr) -> Option<i64>
+    ensures { MatchOption result (IsNotSmall (literal_integer (plain_expr expr.now))) (λ z. IsSmall (literal_integer (plain_expr expr.now)) z) }
+{
+    match expr {
+        Expr::Int(number) => kept(*number),
+        Expr::Neg(operand) => match literal_number(operand) {
+            Some(number) => kept_turned(number),
+            None => None,
+        },
+        Expr::Null
+        | Expr::Flag(_)
+        | Expr::Text(_)
+        | Expr::Var(_)
+        | Expr::Super(_)
+        | Expr::Member(_, _)
+        | Expr::ArrayOf(_)
+        | Expr::Join(_)
+        | Expr::Not(_)
+        | Expr::Arith(_, _, _)
+        | Expr::Compare(_, _, _)
+        | Expr::And(_, _)
+        | Expr::Or(_, _)
+        | Expr::Coalesce(_, _)
+        | Expr::Choice(_, _, _)
+        | Expr::Isset(_)
+        | Expr::Empty(_)
+        | Expr::Assign(_, _)
+        | Expr::Update(_, _, _)
+        | Expr::Step { .. }
+        | Expr::Call(_, _) => None,
+    }
+}
+
+/// The operation of `substr` from a start on.
+pub(crate) fn cut_from(start: &Expr) -> Op
+    ensures { result ≡ cutting_from (literal_integer (plain_expr start.now)) }
+{
+    match small_integer(start) {
+        Some(start) => Op::Cut { start, len: None },
+        None => Op::Factor,
+    }
+}
+
+/// The operation of `substr` from a start on, of a length.
+pub(crate) fn cut_out(start: &Expr, len: &Expr) -> Op
+    ensures { result ≡ cutting_out (literal_integer (plain_expr start.now)) (literal_integer (plain_expr len.now)) }
+{
+    let Some(start) = small_integer(start) else {
+        return Op::Factor;
+    };
+    match small_integer(len) {
+        Some(len) => Op::Cut {
+            start,
+            len: Some(len),
+        },
+        None => Op::Factor,
+    }
+}

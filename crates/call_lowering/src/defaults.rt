@@ -1,0 +1,164 @@
+//! Defaults of parameters.
+
+ghost use Rattle.std.specs.Prelude.{◌≡◌, map, MatchOption, IfOk};
+ghost use Rattle.php_syntax.specs.Trees.{plain_expr, maybe_of, some_expr, neg_expr, int_expr, params_of_list};
+ghost use Rattle.plain_values.specs.Plain.{Plain};
+ghost use Rattle.php_values.specs.View.{plain_of};
+ghost use Rattle.script_meaning.specs.Programs.{literal_value};
+ghost use Rattle.flow_code.specs.View.{slot_number};
+ghost use Rattle.flow_code.specs.Expressions.{default_code, default_codes};
+ghost use Rattle.flow_lowering.specs.View.{progress};
+ghost use Rattle.flow_lowering.specs.Emits.{Emits};
+ghost use Rattle.call_lowering.specs.Small.{IsNoNegative};
+
+use crate::error::LoweringError;
+use expression_pieces::values::{literal_number, lower_value, number_of_one, text_value};
+use flow_code::Work;
+use flow_lowering::PointBuilder;
+use php_syntax::tree::{Expr, Param};
+use php_values::Value;
+use std::alloc::Global;
+use text_base::limits::TEXT_LIMIT;
+use text_base::{Bytes, Slot};
+
+// A text literal as a value.
+fn checked_text(alloc: Global, text: &Bytes) -> Result<Value, LoweringError>
+    ensures { IfOk result (λ value. plain_of value ≡ Plain.text text.now) }
+{
+    if text.as_slice().len() > TEXT_LIMIT {
+        return Err(LoweringError::LongText);
+    }
+    let value = text_value(alloc, text)?;
+    Ok(value)
+}
+
+// The integer behind a `-`, where the expression is such.
+#[tactic(auto, using(php_syntax::proofs::Views::views))]
+fn literal_negative(expr: &Expr) -> Option<i64>
+    ensures { MatchOption result (IsNoNegative (plain_expr expr.now)) (λ number. plain_expr expr.now ≡ neg_expr (int_expr number)) }
+{
+    match expr {
+        Expr::Neg(operand) => literal_number(operand),
+        Expr::Null
+        | Expr::Flag(_)
+        | Expr::Int(_)
+        | Expr::Text(_)
+        | Expr::Var(_)
+        | Expr::Super(_)
+        | Expr::Member(_, _)
+        | Expr::ArrayOf(_)
+        | Expr::Join(_)
+        | Expr::Not(_)
+        | Expr::Arith(_, _, _)
+        | Expr::Compare(_, _, _)
+        | Expr::And(_, _)
+        | Expr::Or(_, _)
+        | Expr::Coalesce(_, _)
+        | Expr::Choice(_, _, _)
+        | Expr::Isset(_)
+        | Expr::Empty(_)
+        | Expr::Assign(_, _)
+        | Expr::Update(_, _, _)
+        | Expr::Step { .. }
+        | Expr::Call(_, _) => None,
+    }
+}
+
+// The value of a literal that has no sign before it.
+#[tactic(auto, using(php_syntax::proofs::Views::views), unfolding(script_meaning::specs::Programs::literal_value))]
+fn literal_of(alloc: Global, expr: &Expr) -> Result<Value, LoweringError>
+    requires { IsNoNegative (plain_expr expr.now) }
+    ensures { IfOk result (λ value. plain_of value ≡ literal_value (plain_expr expr.now)) }
+{
+    match expr {
+        Expr::Flag(truth) => Ok(Value::Flag(*truth)),
+        Expr::Int(number) => Ok(Value::Int(*number)),
+        Expr::Text(text) => checked_text(alloc, text),
+        Expr::Neg(_)
+        | Expr::Null
+        | Expr::Var(_)
+        | Expr::Super(_)
+        | Expr::Member(_, _)
+        | Expr::ArrayOf(_)
+        | Expr::Join(_)
+        | Expr::Not(_)
+        | Expr::Arith(_, _, _)
+        | Expr::Compare(_, _, _)
+        | Expr::And(_, _)
+        | Expr::Or(_, _)
+        | Expr::Coalesce(_, _)
+        | Expr::Choice(_, _, _)
+        | Expr::Isset(_)
+        | Expr::Empty(_)
+        | Expr::Assign(_, _)
+        | Expr::Update(_, _, _)
+        | Expr::Step { .. }
+        | Expr::Call(_, _) => Ok(Value::Null),
+    }
+}
+
+// `-` and an integer, as a default.
+#[tactic(auto, using(flow_lowering::proofs::EmitLemmas::emits_computed), unfolding(flow_code::specs::Expressions::default_code))]
+fn lower_negative(
+    alloc: Global,
+    number: i64,
+    points: &mut PointBuilder,
+) -> Result<Slot, LoweringError>
+    ensures { IfOk result (λ slot. Emits (progress points.old) (progress points.new) (default_code (some_expr (neg_expr (int_expr number)))) slot.0) }
+{
+    let operand = lower_value(Value::Int(number), points)?;
+    let slot = number_of_one(alloc, Work::Neg, operand, points)?;
+    Ok(slot)
+}
+
+// A default, which is a literal.
+#[tactic(auto, unfolding(flow_code::specs::Expressions::default_code))]
+fn lower_default(
+    alloc: Global,
+    default: &Option<Expr>,
+    points: &mut PointBuilder,
+) -> Result<Slot, LoweringError>
+    ensures { IfOk result (λ slot. Emits (progress points.old) (progress points.new) (default_code (maybe_of default.now)) slot.0) }
+{
+    match default {
+        None => {
+            let slot = lower_value(Value::Null, points)?;
+            Ok(slot)
+        }
+        Some(expr) => lower_constant(alloc, expr, points),
+    }
+}
+
+// A literal as a default.
+fn lower_constant(
+    alloc: Global,
+    expr: &Expr,
+    points: &mut PointBuilder,
+) -> Result<Slot, LoweringError>
+    ensures { IfOk result (λ slot. Emits (progress points.old) (progress points.new) (default_code (some_expr (plain_expr expr.now))) slot.0) }
+{
+    match literal_negative(expr) {
+        Some(number) => lower_negative(alloc, number, points),
+        None => {
+            let value = literal_of(alloc, expr)?;
+            let slot = lower_value(value, points)?;
+            Ok(slot)
+        }
+    }
+}
+
+/// The defaults of parameters.
+pub fn lower_defaults(
+    alloc: Global,
+    params: &[Param],
+    points: &mut PointBuilder,
+) -> Result<Vec<Slot>, LoweringError>
+    ensures { IfOk result (λ slots. Emits (progress points.old) (progress points.new) (default_codes (params_of_list params.now)) (map slot_number slots.items)) }
+{
+    let mut slots = Vec::new(alloc);
+    for param in params {
+        let slot = lower_default(alloc, &param.default, points)?;
+        slots.push(slot)?;
+    }
+    Ok(slots)
+}
