@@ -1,0 +1,86 @@
+//! Small texts: a text, and what reading it comes to, by XML 1.0. `[a]` stands for `Elem(a)` there.
+
+use crate::outcome::text_outcome;
+use std::alloc::{AllocError, Global};
+use std::test::Fail;
+
+// Whether the text in the row comes to what the row says.
+fn row_is_so(alloc: Global, row: &str) -> Result<bool, AllocError> {
+    match row.split_once(" => ") {
+        None => Ok(false),
+        Some((text, expected)) => {
+            let found = text_outcome(alloc, text.as_bytes())?;
+            Ok(found.as_str() == expected)
+        }
+    }
+}
+
+#[test]
+fn tables(rt: HostRuntime) -> Result<(), Fail> {
+    let rows = r#" => Ok
+<!ELEMENT a EMPTY> => Ok a Empty
+<!ELEMENT a ANY><!-- x --><?b c?> => Ok a Any
+<!ELEMENT a (#PCDATA)> => Ok a Mixed([])
+<!ELEMENT a ( #PCDATA | b | a )*><!ELEMENT b EMPTY> => Ok a Mixed([Elem(1), Elem(0)]) b Empty
+<!ELEMENT a (b)><!ELEMENT b EMPTY> => Ok a Children(Seq([One(Elem(1))])) b Empty
+<!ELEMENT a (b)?><!ELEMENT b EMPTY> => Ok a Children(Opt(Seq([One(Elem(1))]))) b Empty
+<!ELEMENT a (b|a)><!ELEMENT b EMPTY> => Ok a Children(Alt([One(Elem(1)), One(Elem(0))])) b Empty
+<!ELEMENT a (b|a)*><!ELEMENT b EMPTY> => Ok a Children(Star(Alt([One(Elem(1)), One(Elem(0))]))) b Empty
+<!ELEMENT a ( b+ , (a? | b) )><!ELEMENT b EMPTY> => Ok a Children(Seq([Plus(One(Elem(1))), Alt([Opt(One(Elem(0))), One(Elem(1))])])) b Empty
+<!ENTITY % m "a|b"><!ELEMENT a (%m;)*><!ELEMENT b EMPTY> => Ok a Children(Star(Alt([One(Elem(0)), One(Elem(1))]))) b Empty
+<!ENTITY % x "b"><!ENTITY % m "a|%x;"><!ELEMENT a (%m;)><!ELEMENT b EMPTY> => Ok a Children(Alt([One(Elem(0)), One(Elem(1))])) b Empty
+<!ENTITY % x "EMPTY"><!ENTITY % x "ANY"><!ELEMENT a %x;> => Ok a Empty
+<!ENTITY % d "<!ELEMENT a EMPTY>">%d; => Ok a Empty
+<!ENTITY % d '&#60;!ELEMENT a EMPTY>'>%d; => Ok a Empty
+<!ENTITY % e SYSTEM "e">%e; => Ok e Empty
+<!ENTITY % e PUBLIC "-//a//b" 'e' > %e; => Ok e Empty
+<!ELEMENT a EMPTY><!ATTLIST a x CDATA #IMPLIED> => Ok a Empty @x Cdata Implied
+<!ATTLIST a x ID #REQUIRED y IDREFS 'q'><!ELEMENT a EMPTY> => Ok a Empty @x Id Required @y Idrefs Default
+<!ELEMENT a EMPTY><!ATTLIST a x IDREF #IMPLIED><!ATTLIST a x CDATA #REQUIRED y NMTOKENS #IMPLIED> => Ok a Empty @x Idref Implied @y Nmtokens Implied
+<!ELEMENT a EMPTY><!ATTLIST a x CDATA #IMPLIED x ID #IMPLIED><!ATTLIST b y CDATA #IMPLIED> => Ok a Empty @x Cdata Implied
+<!ENTITY nbsp "&#160;"><!ENTITY a '&#38;#38;'> => Ok &nbsp &a
+<!ENTITY a 'b'><!ENTITY a 'c'><!ENTITY b ""> => Ok &a &b
+<!ENTITY % q "'"><!ENTITY a '%q;'> => Ok &a
+<!ENTITY a '&#60;'> => LeftOut 0"#;
+    for row in rows.lines() {
+        assert!(rt; row_is_so(rt.alloc(), row)?, "{row}");
+    }
+    Ok(())
+}
+
+#[test]
+fn refusals(rt: HostRuntime) -> Result<(), Fail> {
+    let rows = r#"<!ELEMENT html => NotDtd 0
+x => NotDtd 0
+ <!ELEMENT a> => NotDtd 1
+<!ELEMENT a (#PCDATA|b)><!ELEMENT b EMPTY> => NotDtd 0
+<!ELEMENT a EMPTY><!ELEMENT b (a,a|a)> => NotDtd 18
+<!ELEMENT a ()> => NotDtd 0
+<!ELEMENT a EMPTY><!ATTLIST a x CDATA> => NotDtd 18
+<!ATTLIST a x CDATA '<'> => NotDtd 0
+<!ATTLIST a x CDATA '&b'> => NotDtd 0
+<!-- a -- b --> => NotDtd 0
+<?xml a?> => NotDtd 0
+<!ENTITY a '& b'> => NotDtd 0
+<!ENTITY % a SYSTEM> => NotDtd 0
+<!FOO a> => NotDtd 0
+%a; => Entity a
+<!ENTITY % a '&#37;b; &#37;b;'><!ENTITY % b '&#37;a;'>%a; => Entity a
+<!ENTITY % a "%a;">%a; => Entity a
+<!ENTITY % a "&#37;b;"><!ENTITY % b "&#37;a;">%a; => Entity a
+<!ENTITY % b "%a;"><!ENTITY % a ""> => Entity a
+<!ELEMENT a EMPTY><!ELEMENT b EMPTY><!ELEMENT a ANY> => Twice a
+<!ELEMENT a (b)> => Undeclared b
+<!ELEMENT a (#PCDATA|c)*> => Undeclared c
+<!ELEMENT a EMPTY><![INCLUDE[]]> => LeftOut 18
+<!NOTATION a SYSTEM 'b'> => LeftOut 0
+<!ATTLIST a x ENTITY #IMPLIED> => LeftOut 0
+<!ATTLIST a x NOTATION (b) #IMPLIED> => LeftOut 0
+<!ENTITY a SYSTEM 'e'> => LeftOut 0
+<!ENTITY a '&b;'> => LeftOut 0
+<!ENTITY % f SYSTEM "f">%f; => Missing f"#;
+    for row in rows.lines() {
+        assert!(rt; row_is_so(rt.alloc(), row)?, "{row}");
+    }
+    Ok(())
+}
