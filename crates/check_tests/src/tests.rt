@@ -22,6 +22,8 @@ const NO_OPEN: &str = "no\npage 30\n<html><body><p>b</body></html>\n";
 
 const CHECK: [&str; 4] = ["check", "t.php", "--dtd", "mini"];
 
+const PAGE: [&str; 4] = ["page", "t.php", "--dtd", "mini"];
+
 /// The room of the two outputs, and whether the first call of the files fails.
 #[derive(Clone, Copy)]
 struct Outside {
@@ -114,11 +116,92 @@ fn answers_for_scripts(rt: HostRuntime) -> Result<(), Fail> {
             Exit::No,
             "no\npage 12\n<html><body>\n",
         ),
+        ("a&b", Exit::No, "no\npage 3\na&b\n"),
+        (
+            "<!-- é --><html><body><?php echo '<p>a &amp; b &#xe9;</p>' ?></body></html>",
+            Exit::Done,
+            "yes\n",
+        ),
+        (
+            "<html><body><p><?php echo '&nbsp;' ?></p></body></html>",
+            Exit::No,
+            "no\npage 39\n<html><body><p>&nbsp;</p></body></html>\n",
+        ),
+        (
+            "<html><body><p<?php if (isset($_GET['a'])) { echo ' id=\"a\"'; } ?>>t</p></body></html>",
+            Exit::No,
+            "no\npage 41\n<html><body><p id=\"a\">t</p></body></html>\n",
+        ),
     ] {
         let ending = run(rt.alloc(), &CHECK, script, QUIET)?;
         assert_eq!(rt; ending.exit, exit, "{script}");
         assert_eq!(rt; ending.out.written(), out.as_bytes(), "{script}");
         assert_eq!(rt; ending.err.written(), b"".as_slice(), "{script}");
+    }
+    Ok(())
+}
+
+/// The page with a paragraph, behind what may stand before it.
+const WHOLE: &str = "<?xml version=\"1.0\"?><!DOCTYPE html><html><body><p>x</p></body></html>";
+
+#[test]
+fn judges_pages(rt: HostRuntime) -> Result<(), Fail> {
+    for (page, exit, out) in [
+        (WHOLE, Exit::Done, "valid\n"),
+        ("<html><body/></html>", Exit::Done, "valid\n"),
+        (
+            "<html><body><p>a &lt; b<![CDATA[<p>]]></p><!-- c --></body></html>",
+            Exit::Done,
+            "valid\n",
+        ),
+        (
+            "<html><body><p>é &#233;</p></body></html>\n",
+            Exit::Done,
+            "valid\n",
+        ),
+        ("", Exit::No, "invalid\n"),
+        ("<p", Exit::No, "invalid\n"),
+        ("<html><body>x</body></html>", Exit::No, "invalid\n"),
+        (
+            "<html><body><p>&foo;</p></body></html>",
+            Exit::No,
+            "invalid\n",
+        ),
+        (
+            "<html><body><p id=\"a\">a</p></body></html>",
+            Exit::No,
+            "invalid\n",
+        ),
+        (
+            "<html><body><p>]]></p></body></html>",
+            Exit::No,
+            "invalid\n",
+        ),
+        ("<html><body></p></body></html>", Exit::No, "invalid\n"),
+        (
+            "<html><body><?php echo '<p>a</p>'; ?></body></html>",
+            Exit::Done,
+            "valid\n",
+        ),
+        ("<?php echo '<p>a</p>';", Exit::No, "invalid\n"),
+    ] {
+        let ending = run(rt.alloc(), &PAGE, page, QUIET)?;
+        assert_eq!(rt; ending.exit, exit, "{page}");
+        assert_eq!(rt; ending.out.written(), out.as_bytes(), "{page}");
+        assert_eq!(rt; ending.err.written(), b"".as_slice(), "{page}");
+    }
+    Ok(())
+}
+
+#[test]
+fn a_page_cut_short(rt: HostRuntime) -> Result<(), Fail> {
+    let whole = WHOLE.as_bytes();
+    for len in 0..whole.len() {
+        let front = whole.get(..len).ok_or("no such front")?;
+        let page = Bytes::from_slice(rt.alloc(), front)?;
+        let ending = run_over(rt.alloc(), &PAGE, page, QUIET)?;
+        assert_eq!(rt; ending.exit, Exit::No, "{len}");
+        assert_eq!(rt; ending.out.written(), b"invalid\n".as_slice(), "{len}");
     }
     Ok(())
 }
@@ -129,8 +212,9 @@ fn refuses_with_a_text(rt: HostRuntime) -> Result<(), Fail> {
         fails: true,
         ..QUIET
     };
-    for (script, file, outside, exit, err) in [
+    for (command, script, file, outside, exit, err) in [
         (
+            "check",
             "<?= 1 ?>",
             "t.php",
             QUIET,
@@ -138,6 +222,7 @@ fn refuses_with_a_text(rt: HostRuntime) -> Result<(), Fail> {
             "phpsa: NotBuilt t.php\n",
         ),
         (
+            "check",
             "<?php echo 1;",
             "t.php",
             QUIET,
@@ -145,13 +230,7 @@ fn refuses_with_a_text(rt: HostRuntime) -> Result<(), Fail> {
             "phpsa: NotBuilt t.php\n",
         ),
         (
-            "a&b",
-            "t.php",
-            QUIET,
-            Exit::NotBuilt,
-            "phpsa: NotBuilt t.php\n",
-        ),
-        (
+            "check",
             OPEN,
             "a.php",
             QUIET,
@@ -159,18 +238,35 @@ fn refuses_with_a_text(rt: HostRuntime) -> Result<(), Fail> {
             "phpsa: Missing a.php\n",
         ),
         (
+            "check",
             OPEN,
             "t.php",
             failing,
             Exit::ReadFault,
             "phpsa: ReadFault t.php\n",
         ),
+        (
+            "page",
+            WHOLE,
+            "a.xhtml",
+            QUIET,
+            Exit::Missing,
+            "phpsa: Missing a.xhtml\n",
+        ),
+        (
+            "page",
+            WHOLE,
+            "t.php",
+            failing,
+            Exit::ReadFault,
+            "phpsa: ReadFault t.php\n",
+        ),
     ] {
-        let words = ["check", file, "--dtd", "mini"];
+        let words = [command, file, "--dtd", "mini"];
         let ending = run(rt.alloc(), &words, script, outside)?;
-        assert_eq!(rt; ending.exit, exit, "{script}");
-        assert_eq!(rt; ending.out.written(), b"".as_slice(), "{script}");
-        assert_eq!(rt; ending.err.written(), err.as_bytes(), "{script}");
+        assert_eq!(rt; ending.exit, exit, "{command} {script}");
+        assert_eq!(rt; ending.out.written(), b"".as_slice(), "{command} {script}");
+        assert_eq!(rt; ending.err.written(), err.as_bytes(), "{command} {script}");
     }
     Ok(())
 }
@@ -242,7 +338,7 @@ fn refuses_a_long_file(rt: HostRuntime) -> Result<(), Fail> {
 
 #[test]
 fn other_words_are_no_use(rt: HostRuntime) -> Result<(), Fail> {
-    let lists: [&[&str]; 11] = [
+    let lists: [&[&str]; 14] = [
         &[],
         &["check"],
         &["check", "t.php"],
@@ -253,6 +349,9 @@ fn other_words_are_no_use(rt: HostRuntime) -> Result<(), Fail> {
         &["check", "t.php", "--dtd=", "mini"],
         &["check", "t.php", "--dtd", "strict"],
         &["check", "t.php", "--dtd", "mini", "mini"],
+        &["page", "t.php"],
+        &["page", "-", "--dtd", "mini"],
+        &["pages", "t.php", "--dtd", "mini"],
         &["--dtd", "mini", "check", "t.php"],
     ];
     for words in lists {
@@ -331,6 +430,7 @@ fn statuses(rt: HostRuntime) {
         (Exit::ReadFault, 7),
         (Exit::WriteFault, 8),
         (Exit::Usage, 9),
+        (Exit::Dtd, 10),
         (Exit::Input, 11),
         (Exit::Memory, 12),
     ] {

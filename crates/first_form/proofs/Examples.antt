@@ -4,22 +4,12 @@ use Rattle.std.specs.Prelude.{codes, pos}
 use Rattle.std.specs.List.{list_all}
 use Rattle.php_syntax.specs.Trees.{PlainExpr, PlainStmt, PlainStmts, PlainFile, text_expr, no_exprs, more_exprs, inline_stmt, echo_stmt, if_stmt, no_stmts, more_stmts, no_arms, more_arms}
 use Rattle.std.specs.Char.{is_ascii_alphabetic}
-use Rattle.first_form.specs.Characters.{is_plain}
 use Rattle.first_form.specs.Requests.{Request, Members, text_key, int_key, text_member, array_member, no_members, more_members, has_name}
 use Rattle.first_form.specs.Meaning.{Meaning, Ended, Spent, statement_run, texts_of, outcome_of}
 use Rattle.first_form.specs.Loose.{Loose, LooseStatement}
 use Rattle.first_form.specs.FirstTree.{is_set, IsSetTest, IsStraightStatement, IsBranch, IsFirstBody, IsFirstTree}
 
--- bytes of texts
-markup_is_plain : list_all is_plain (codes "<p class='x'>a</p>") ≡ true
-markup_is_plain = refl
-
-ampersand_is_not : list_all is_plain (codes "a&amp;b") ≡ false
-ampersand_is_not = refl
-
-comment_is_not : list_all is_plain (codes "<!-- -->") ≡ false
-comment_is_not = refl
-
+-- letters
 digits_are_no_letters : list_all is_ascii_alphabetic (codes "q1") ≡ false
 digits_are_no_letters = refl
 
@@ -86,14 +76,14 @@ name_is_tested = (codes "name", λ e. absurd cc, refl, refl)
 
 choice_is_first : IsFirstTree choice
 unfolding choice IsFirstBody
-choice_is_first = (inl (refl, inr ((name_is_tested, (refl, tt), (refl, tt)), tt)), refl)
+choice_is_first = (inl (tt, inr ((name_is_tested, (tt, tt), (tt, tt)), tt)), refl)
 
 -- the empty script is of the first form
 empty_is_first : IsFirstTree (record { body_of = no_stmts; functions_of = [] })
 unfolding IsFirstBody
 empty_is_first = (tt, refl)
 
--- no trees of the first form: two ifs, an if with two conditions, an echo of two texts, a text with an ampersand, an if within an arm
+-- no trees of the first form: two ifs, an if with two conditions, an echo of two texts, an if within an arm
 two_ifs : IsFirstBody (more_stmts (choice_on (codes "a")) (one_stmt (choice_on (codes "b")))) → ⊥
 unfolding IsFirstBody
 two_ifs (inl h) = h.0
@@ -108,9 +98,10 @@ two_texts : IsStraightStatement (echo_stmt (more_exprs (text_expr (codes "a")) (
 unfolding IsStraightStatement
 two_texts h = h
 
-ampersand_in_a_text : IsStraightStatement (inline_stmt (codes "a & b")) → ⊥
+-- a text of any bytes is
+any_bytes : (text : List ℕ) → IsStraightStatement (inline_stmt text)
 unfolding IsStraightStatement
-ampersand_in_a_text h = cc
+any_bytes text = tt
 
 if_in_an_arm : (condition : PlainExpr) (otherwise : PlainStmts) → IsBranch (if_stmt (more_arms condition (one_stmt (choice_on (codes "b"))) no_arms) otherwise) → ⊥
 unfolding IsBranch

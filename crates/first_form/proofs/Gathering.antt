@@ -5,12 +5,11 @@ use Rattle.std.specs.Prelude.{Result, Ok, Err, IfOk, IfNone, ◌⊎◌, ◌≢�
 use Rattle.std.proofs.lemmas.Option.{same_Some}
 use Rattle.php_syntax.specs.Trees.{PlainStmt, PlainStmts, PlainFile, functions_of_list, no_stmts, more_stmts}
 use Rattle.first_form.specs.declared.pages.Pages.{Pages}
-use Rattle.first_form.specs.Characters.{Each, is_plain}
 use Rattle.first_form.specs.Loose.{LooseStatement, LooseStatements, Loose}
 use Rattle.first_form.specs.FirstTree.{IsStraightStatement, IsStraight, IsBranch, IsFirstBody, IsFirstTree, ArePages}
 use Rattle.first_form.specs.Steps.Paging.{◌>>=◌, printed_of, printed_by, arms_at, Gathered, gathered, maybe_gathered, with_text, forked, with_branch, text_or_branch, with_statement, with_body}
 use Rattle.first_form.proofs.Binding.{bind_ok}
-use Rattle.first_form.proofs.Straight.{PrintsOnly, printed_some, printed_none_straight, AllPrint, each_append, printed_by_some, printed_by_none, Arms, arms_some, branch_at}
+use Rattle.first_form.proofs.Straight.{PrintsOnly, printed_some, printed_none_straight, AllPrint, printed_by_some, printed_by_none, Arms, arms_some, branch_at}
 
 -- one of the gathered pages
 abbrev pub Among : Gathered → List ℕ → Type 0
@@ -145,27 +144,6 @@ body_back (more_stmts s ss) g next e front text h k =
     let later = body_back ss one.0 next one.2 (front ++ k.0) k.1 first k.3 in
     subst (Among next) (append_assoc front k.0 k.1 ∙ ap (λ xs. front ++ xs) (sym k.4)) later
 
--- the bytes of the pages are plain
-abbrev pub AllPlain : Gathered → Type 0
-AllPlain g = Each is_plain g.0 × ((page : List ℕ) → g.1 ≡ Some page → Each is_plain page)
-
-text_plain : (g : Gathered) (w : List ℕ) → AllPlain g → Each is_plain w → AllPlain (with_text g w)
-unfolding with_text
-text_plain (first, None) w h p = (each_append is_plain first w h.0 p, λ page e. absurd cc)
-text_plain (first, Some second) w h p = (each_append is_plain first w h.0 p, λ page e. subst (Each is_plain) (same_Some (second ++ w) page e) (each_append is_plain second w (h.1 second refl) p))
-
-goes_plain : (g next : Gathered) (s : PlainStmt) → Goes g next s → AllPlain g → AllPlain next
-goes_plain g next s (goes_on w p e) h = subst AllPlain (sym e) (text_plain g w h p.plain)
-goes_plain g next s (goes_apart body otherwise arms f) h =
-    subst AllPlain (sym f.is) (each_append is_plain g.0 f.first_text h.0 f.first_prints.plain, λ page e. subst (Each is_plain) (same_Some (g.0 ++ f.second_text) page e) (each_append is_plain g.0 f.second_text h.0 f.second_prints.plain))
-
-pub body_plain : (ss : PlainStmts) (g next : Gathered) → with_body g ss ≡ Some next → AllPlain g → AllPlain next
-unfolding with_body
-body_plain no_stmts g next e h = subst AllPlain (same_Some g next e) h
-body_plain (more_stmts s ss) g next e h =
-    let one = bind_ok (with_statement g s) (λ n. with_body n ss) next e in
-    body_plain ss one.0 next one.2 (goes_plain g one.0 s (statement_goes g one.0 s one.1) h)
-
 -- a body whose pages are gathered is of the first form: straight where there were two pages already
 arms_branch : (s : PlainStmt) (body otherwise : PlainStmts) → Arms s body otherwise → IsStraight body → IsStraight otherwise → IsBranch s
 unfolding IsBranch
@@ -237,23 +215,13 @@ none_empty pages e = sym (same_Some ([], None) pages e)
 
 pub tree_pages : (pages : Pages) (program : PlainFile) → Some (gathered pages) ≡ with_body ([], None) program.body_of → ArePages pages program
 unfolding Loose
-tree_pages pages program e =
+tree_pages pages program e page =
     let body = program.body_of in
     let whole = sym e in
-    let start : Gathered = ([], None) in
-    let plain = body_plain body start (gathered pages) whole (refl, λ page q. absurd cc) in
-    record {
-      exact = λ page. (
-        λ h. body_back body start (gathered pages) whole [] page (inl refl) h,
-        λ h. let b = body_forth body start (gathered pages) whole page h in subst (LooseStatements body) (sym (b.4 ∙ ap (λ xs. xs ++ b.1) (only_first start b.0 refl b.2))) b.3,
-      );
-      first_plain = plain.0;
-      second_plain = second_is (gathered pages).1 plain.1;
-    }
-  where
-    second_is : (o : Option (List ℕ)) → ((page : List ℕ) → o ≡ Some page → Each is_plain page) → IfSome o (λ page. Each is_plain page)
-    second_is None h = tt
-    second_is (Some page) h = h page refl
+    let start : Gathered = ([], None) in (
+      λ h. body_back body start (gathered pages) whole [] page (inl refl) h,
+      λ h. let b = body_forth body start (gathered pages) whole page h in subst (LooseStatements body) (sym (b.4 ∙ ap (λ xs. xs ++ b.1) (only_first start b.0 refl b.2))) b.3,
+    )
 
 pub tree_first : (pages : Pages) (program : PlainFile) → Some (gathered pages) ≡ with_body ([], None) program.body_of → IsFirstBody program.body_of
 tree_first pages program e = body_first program.body_of ([], None) (gathered pages) (sym e) refl

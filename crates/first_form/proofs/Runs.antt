@@ -4,11 +4,10 @@ use Rattle.std.specs.Prelude.{◌⊎◌}
 use Rattle.std.proofs.lemmas.Option.{some_pair_parts}
 use Rattle.php_syntax.specs.Trees.{PlainStmt, PlainStmts, PlainArms, PlainFile, text_expr, no_exprs, more_exprs, inline_stmt, echo_stmt, run_stmt, if_stmt, while_stmt, do_while_stmt, for_stmt, each_stmt, break_stmt, continue_stmt, return_stmt, include_stmt, quit_stmt, no_stmts, more_stmts, no_arms, more_arms}
 use Rattle.std.specs.Char.{is_ascii_alphabetic}
-use Rattle.first_form.specs.Characters.{Each}
 use Rattle.first_form.specs.Requests.{Request, has_name}
 use Rattle.first_form.specs.Meaning.{Run, going, spent, unwritten, with_unit, ◌then_do◌, texts_of, print_texts, condition_of, choose, statement_run, statements_run, arms_run, outcome_of, Meaning, Ended, Spent}
 use Rattle.first_form.specs.Loose.{LooseStatement, LooseStatements, LooseArms, Loose}
-use Rattle.first_form.specs.FirstTree.{is_set, IsStraightStatement, IsStraight, IsBranch, IsFirstBody, IsFirstTree}
+use Rattle.first_form.specs.FirstTree.{Each, is_set, IsStraightStatement, IsStraight, IsBranch, IsFirstBody, IsFirstTree}
 
 -- what goes on after a run that goes on
 then_going : (run : Run) (go : ℕ → List ℕ → Run) (m : ℕ) (out : List ℕ) → (run then_do go) ≡ going m out → (k : ℕ) × (mid : List ℕ) × (run ≡ going k mid) × (go k mid ≡ going m out)

@@ -7,45 +7,33 @@ use Rattle.std.proofs.lemmas.Option.{same_Some}
 use Rattle.php_syntax.specs.declared.tree.SuperName.TheVariants.{Get, Post, Cookie, Request, Server}
 use Rattle.php_syntax.specs.Trees.{PlainExpr, PlainExprs, PlainStmt, PlainStmts, PlainArms, text_expr, super_expr, member_expr, isset_expr, no_exprs, more_exprs, inline_stmt, echo_stmt, if_stmt, no_stmts, more_stmts, no_arms, more_arms}
 use Rattle.std.specs.Char.{is_ascii_alphabetic}
-use Rattle.first_form.specs.Characters.{Each, is_plain}
 use Rattle.first_form.specs.Meaning.{texts_of}
 use Rattle.first_form.specs.Loose.{LooseStatement, LooseStatements}
-use Rattle.first_form.specs.FirstTree.{IsSetTest, IsStraightStatement, IsStraight, IsBranch}
-use Rattle.first_form.specs.Steps.Paging.{◌>>=◌, plain_text, literal_of, one_text, printed_of, printed_by, is_key, is_get_name, is_get, is_get_member, is_set_one, is_set_test, arm_body, arms_at}
+use Rattle.first_form.specs.FirstTree.{Each, IsSetTest, IsStraightStatement, IsStraight, IsBranch}
+use Rattle.first_form.specs.Steps.Paging.{◌>>=◌, literal_of, one_text, printed_of, printed_by, is_key, is_get_name, is_get, is_get_member, is_set_one, is_set_test, arm_body, arms_at}
 use Rattle.first_form.proofs.Binding.{bind_ok, guard_ok}
-
--- plain texts
-plain_some : (text w : List ℕ) → plain_text text ≡ Some w → (text ≡ w) × Each is_plain text
-unfolding plain_text
-plain_some text w e = let ok = guard_ok (list_all is_plain text) (Some text) w e in (same_Some text w ok.1, ok.0)
-
-plain_none : (text : List ℕ) → plain_text text ≡ None → Each is_plain text → ⊥
-unfolding plain_text
-plain_none text e p = let some : Some text ≡ None = rw p at e in cc
 
 -- what a statement prints
 pub record PrintsOnly (s : PlainStmt) (w : List ℕ) : Type 0 where
   pub straight : IsStraightStatement s
   pub exact : (page : List ℕ) → LooseStatement s page ↔ (page ≡ w)
-  pub plain : Each is_plain w
 
-inline_prints : (text w : List ℕ) → plain_text text ≡ Some w → PrintsOnly (inline_stmt text) w
+inline_prints : (text w : List ℕ) → Some text ≡ Some w → PrintsOnly (inline_stmt text) w
 unfolding IsStraightStatement LooseStatement
 inline_prints text w e =
-    let p = plain_some text w e in
-    record { straight = p.1; exact = λ page. (λ h. h ∙ p.0, λ h. h ∙ sym p.0); plain = subst (Each is_plain) p.0 p.1 }
+    let same = same_Some text w e in
+    record { straight = tt; exact = λ page. (λ h. h ∙ same, λ h. h ∙ sym same) }
 
-echo_prints : (text w : List ℕ) → plain_text text ≡ Some w → PrintsOnly (echo_stmt (more_exprs (text_expr text) no_exprs)) w
+echo_prints : (text w : List ℕ) → Some text ≡ Some w → PrintsOnly (echo_stmt (more_exprs (text_expr text) no_exprs)) w
 unfolding IsStraightStatement LooseStatement texts_of
 echo_prints text w e =
-    let p = plain_some text w e in
+    let same = same_Some text w e in
     record {
-      straight = p.1;
-      exact = λ page. (λ h. sym (same_Some (text ++ []) page h) ∙ append-nil text ∙ p.0, λ h. ap Some (append-nil text ∙ p.0 ∙ sym h));
-      plain = subst (Each is_plain) p.0 p.1;
+      straight = tt;
+      exact = λ page. (λ h. sym (same_Some (text ++ []) page h) ∙ append-nil text ∙ same, λ h. ap Some (append-nil text ∙ same ∙ sym h));
     }
 
-one_prints : (es : PlainExprs) (w : List ℕ) → (one_text es >>= plain_text) ≡ Some w → PrintsOnly (echo_stmt es) w
+one_prints : (es : PlainExprs) (w : List ℕ) → one_text es ≡ Some w → PrintsOnly (echo_stmt es) w
 unfolding one_text literal_of
 one_prints no_exprs w e = absurd cc
 one_prints (more_exprs (text_expr text) no_exprs) w e = echo_prints text w e
@@ -58,10 +46,10 @@ printed_some (inline_stmt text) w e = inline_prints text w e
 printed_some (echo_stmt es) w e = one_prints es w e
 printed_some _ w e = absurd cc
 
-one_none : (es : PlainExprs) → (one_text es >>= plain_text) ≡ None → IsStraightStatement (echo_stmt es) → ⊥
+one_none : (es : PlainExprs) → one_text es ≡ None → IsStraightStatement (echo_stmt es) → ⊥
 unfolding one_text literal_of IsStraightStatement
 one_none no_exprs e h = h
-one_none (more_exprs (text_expr text) no_exprs) e h = plain_none text e h
+one_none (more_exprs (text_expr text) no_exprs) e h = cc
 one_none (more_exprs _ no_exprs) e h = h
 one_none (more_exprs x (more_exprs y es)) e h = many_texts x h
   where
@@ -71,7 +59,7 @@ one_none (more_exprs x (more_exprs y es)) e h = many_texts x h
 
 pub printed_none_straight : (s : PlainStmt) → printed_of s ≡ None → IsStraightStatement s → ⊥
 unfolding printed_of IsStraightStatement
-printed_none_straight (inline_stmt text) e h = plain_none text e h
+printed_none_straight (inline_stmt text) e h = cc
 printed_none_straight (echo_stmt es) e h = one_none es e h
 printed_none_straight _ e h = h
 
@@ -79,17 +67,12 @@ printed_none_straight _ e h = h
 pub record AllPrint (ss : PlainStmts) (w : List ℕ) : Type 0 where
   pub straight : IsStraight ss
   pub exact : (page : List ℕ) → LooseStatements ss page ↔ (page ≡ w)
-  pub plain : Each is_plain w
-
-pub each_append : (test : ℕ → Bool) (xs ys : List ℕ) → Each test xs → Each test ys → Each test (xs ++ ys)
-each_append test [] ys p q = q
-each_append test (x ∷ xs) ys p q = let both = and_parts (test x) (list_all test xs) p in and_from (test x) (list_all test (xs ++ ys)) both.0 (each_append test xs ys both.1 q)
 
 pub printed_by_some : (ss : PlainStmts) (w : List ℕ) → printed_by ss ≡ Some w → AllPrint ss w
 unfolding printed_by IsStraight LooseStatement
 printed_by_some no_stmts w e =
     let none : [] ≡ w = same_Some [] w e in
-    record { straight = tt; exact = λ page. (λ h. h ∙ none, λ h. h ∙ sym none); plain = subst (Each is_plain) none refl }
+    record { straight = tt; exact = λ page. (λ h. h ∙ none, λ h. h ∙ sym none) }
 printed_by_some (more_stmts s ss) w e =
     let one = bind_ok (printed_of s) _ w e in
     let all = bind_ok (printed_by ss) (λ more. Some (one.0 ++ more)) w one.2 in
@@ -102,7 +85,6 @@ printed_by_some (more_stmts s ss) w e =
         λ h. h.4 ∙ ap (λ xs. xs ++ h.1) ((first.exact h.0).0 h.2) ∙ ap (λ xs. one.0 ++ xs) ((later.exact h.1).0 h.3) ∙ whole,
         λ h. (one.0, all.0, (first.exact one.0).1 refl, (later.exact all.0).1 refl, h ∙ sym whole),
       );
-      plain = subst (Each is_plain) whole (each_append is_plain one.0 all.0 first.plain later.plain);
     }
 
 pub printed_by_none : (ss : PlainStmts) → printed_by ss ≡ None → IsStraight ss → ⊥

@@ -1,11 +1,15 @@
 -- The first form as a condition on a tree, and the pages of such a tree.
-use Rattle.std.specs.Prelude.{◌≡◌, ◌≢◌, ◌⊎◌, ◌↔◌, ℕ, List, [], Some, ⊤, IfSome}
+use Rattle.std.specs.Prelude.{◌≡◌, ◌≢◌, ◌⊎◌, ◌↔◌, ℕ, Bool, List, [], Some, ⊤, IsTrue}
+use Rattle.std.specs.List.{list_all}
 use Rattle.php_syntax.specs.declared.tree.SuperName.TheVariants.{Get}
 use Rattle.php_syntax.specs.Trees.{PlainExpr, PlainStmt, PlainStmts, PlainFile, text_expr, super_expr, member_expr, isset_expr, no_exprs, more_exprs, inline_stmt, echo_stmt, if_stmt, no_stmts, more_stmts, no_arms, more_arms}
 use Rattle.first_form.specs.declared.pages.Pages.{Pages}
 use Rattle.std.specs.Char.{is_ascii_alphabetic}
-use Rattle.first_form.specs.Characters.{Each, is_plain}
 use Rattle.first_form.specs.Loose.{Loose}
+
+-- each byte passes the test
+abbrev pub Each : (ℕ → Bool) → List ℕ → Type 0
+Each test bytes = IsTrue (list_all test bytes)
 
 -- isset($_GET['KEY'])
 abbrev pub is_set : List ℕ → PlainExpr
@@ -15,10 +19,10 @@ is_set key = isset_expr (more_exprs (member_expr (super_expr Get) (text_expr key
 abbrev pub IsSetTest : PlainExpr → Type 0
 IsSetTest condition = (key : List ℕ) × (key ≢ []) × Each is_ascii_alphabetic key × (condition ≡ is_set key)
 
--- inline text, or an echo of one text, of plain bytes
+-- inline text, or an echo of one text
 unfoldable pub IsStraightStatement : PlainStmt → Type 0
-IsStraightStatement (inline_stmt text) = Each is_plain text
-IsStraightStatement (echo_stmt (more_exprs (text_expr text) no_exprs)) = Each is_plain text
+IsStraightStatement (inline_stmt text) = ⊤
+IsStraightStatement (echo_stmt (more_exprs (text_expr text) no_exprs)) = ⊤
 IsStraightStatement _ = ⊥
 
 unfoldable pub IsStraight : PlainStmts → Type 0
@@ -46,8 +50,6 @@ IsFirstTree tree = IsFirstBody tree.body_of × (tree.functions_of ≡ [])
 abbrev pub IsPage : Pages → List ℕ → Type 0
 IsPage pages page = (page ≡ pages.first) ⊎ (pages.second ≡ Some page)
 
--- the pages are exactly the loose pages of the program, and their bytes are plain
-pub record ArePages (pages : Pages) (program : PlainFile) : Type 0 where
-  pub exact : (page : List ℕ) → Loose program page ↔ IsPage pages page
-  pub first_plain : Each is_plain pages.first
-  pub second_plain : IfSome pages.second (λ page. Each is_plain page)
+-- the pages are exactly the loose pages of the program
+abbrev pub ArePages : Pages → PlainFile → Type 0
+ArePages pages program = (page : List ℕ) → Loose program page ↔ IsPage pages page

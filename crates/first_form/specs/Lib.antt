@@ -1,4 +1,3 @@
-pub mod Characters
 pub mod Requests
 pub mod Meaning
 pub mod Loose

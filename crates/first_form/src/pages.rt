@@ -2,11 +2,11 @@
 
 ghost use Rattle.std.specs.Prelude.{◌≡◌, [], None, IfOk, IfSome, IfNone};
 ghost use Rattle.php_syntax.specs.Trees.{arms_of as plain_arms_of, plain_expr, plain_stmt, plain_file, exprs_of, stmts_of};
-ghost use Rattle.first_form.specs.Steps.Paging.{forked, plain_text, literal_of, one_text, printed_of, printed_by, is_key, is_get, is_get_member, is_set_one, is_set_test, arm_body, arms_at, gathered, maybe_gathered, with_text, with_statement, with_body};
+ghost use Rattle.first_form.specs.Steps.Paging.{forked, literal_of, one_text, printed_of, printed_by, is_key, is_get, is_get_member, is_set_one, is_set_test, arm_body, arms_at, gathered, maybe_gathered, with_text, with_statement, with_body};
 ghost use Rattle.first_form.specs.FirstTree.{IsFirstTree, ArePages};
 ghost use Rattle.first_form.specs.Steps.Seen.{seen, seen_body, seen_arms};
 
-use crate::characters::{Class, all_of};
+use crate::characters::are_letters;
 use php_syntax::tree::{Expr, FileTree, Stmt, SuperName};
 use std::alloc::Global;
 use text_base::{Bytes, NoMemory};
@@ -43,31 +43,19 @@ fn only_text(operands: &[Expr]) -> Option<&[u8]>
     }
 }
 
-/// The text, where its bytes are plain.
-#[tactic(auto, unfolding(crate::specs::Steps::Paging::plain_text))]
-fn plain(text: &[u8]) -> Option<&[u8]>
-    ensures { seen result ≡ plain_text text.now }
-{
-    if all_of(Class::Plain, text) {
-        Some(text)
-    } else {
-        None
-    }
-}
-
-/// What inline text or an echo of one text prints, where its bytes are plain.
+/// What inline text or an echo of one text prints.
 #[tactic(auto, using(php_syntax::proofs::Views::views), unfolding(crate::specs::Steps::Paging::printed_of))]
 fn printed(statement: &Stmt) -> Option<&[u8]>
     ensures { seen result ≡ printed_of (plain_stmt statement.now) }
 {
     match statement {
-        Stmt::Inline(text) => plain(text.as_slice()),
-        Stmt::Echo(operands) => plain(only_text(operands.as_slice())?),
+        Stmt::Inline(text) => Some(text.as_slice()),
+        Stmt::Echo(operands) => only_text(operands.as_slice()),
         _ => None,
     }
 }
 
-/// What these statements print, where each is inline text or an echo of one text, of plain bytes.
+/// What these statements print, where each is inline text or an echo of one text.
 fn printed_all(alloc: Global, statements: &[Stmt]) -> Result<Option<Bytes>, NoMemory>
     ensures { IfOk result (λ o. o ≡ printed_by (stmts_of statements.now)) }
 {
@@ -87,9 +75,7 @@ fn is_letters(expression: &Expr) -> bool
     ensures { result ≡ is_key (plain_expr expression.now) }
 {
     match expression {
-        Expr::Text(text) => {
-            !text.as_slice().is_empty() && all_of(Class::Letter, text.as_slice())
-        }
+        Expr::Text(text) => { !text.as_slice().is_empty() && are_letters(text.as_slice()) }
         _ => false,
     }
 }

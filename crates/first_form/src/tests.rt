@@ -85,17 +85,15 @@ fn a_page_for_each_arm(rt: HostRuntime) -> Result<(), Fail> {
 fn other_trees(rt: HostRuntime) -> Result<(), Fail> {
     let alloc = rt.alloc();
     let rows = [
-        (SuperName::Get, "q1", "a"),
-        (SuperName::Get, "", "a"),
-        (SuperName::Post, "q", "a"),
-        (SuperName::Get, "q", "a & b"),
-        (SuperName::Get, "q", "<!-- -->"),
+        (SuperName::Get, "q1"),
+        (SuperName::Get, ""),
+        (SuperName::Post, "q"),
     ];
-    for (array, key, written) in rows {
+    for (array, key) in rows {
         let asked = choice(alloc, array, key.as_bytes())?;
-        let behind = echo(alloc, written.as_bytes())?;
+        let behind = echo(alloc, b"a")?;
         let pages = pages_of(alloc, inline(alloc, b"p")?, asked, behind)?;
-        assert!(rt; pages.is_none(), "{key} {written}");
+        assert!(rt; pages.is_none(), "{key}");
     }
     Ok(())
 }

@@ -1,165 +1,85 @@
 -- How a call ends says how it is answered.
-use Rattle.std.proofs.Common.{◌≡◌, ◌≤◌, inl, inr, ℕ, List, [], ◌∷◌, length, Some, None, Contains, refl, subst, lit<, arith}
-use Rattle.io_edge.specs.Told.{Tells, HasAtLeast}
-use Rattle.phpsa_main.specs.declared.exit.Exit.{Exit}
-use Rattle.phpsa_main.specs.declared.exit.Exit.TheVariants.{Done, No, NotBuilt, Script, Missing, ReadFault, WriteFault, Usage, Input, Memory}
-use Rattle.text_base.specs.declared.limits.TheConstants.{FILE_LIMIT}
+use Rattle.std.proofs.Common.{◌≡◌, ◌∙◌, ℕ, List, [], ◌∷◌, Contains, Some, None, refl, sym, ap, subst, inl, inr, lit<}
+use Rattle.std.specs.Prelude.{◌⊎◌}
 use Rattle.dtd_model.specs.Table.{Table}
-use Rattle.phpsa_main.specs.Words.{AsksNothing}
-use Rattle.php_syntax.specs.Trees.{PlainFile}
-use Rattle.phpsa_main.specs.declared.verdict.Refusal.TheVariants as refusal
-use Rattle.phpsa_main.specs.Scripts.{IsScript, IsScriptFault}
-use Rattle.phpsa_main.specs.Decision.{IsDecided, IsUndecided, IsLoosePage, EachIsValid, IsCounterexample}
-use Rattle.phpsa_main.proofs.Asked.{one_file, one_table}
-use Rattle.phpsa_main.proofs.OneProgram.{Laws, undecided_only, no_script}
+use Rattle.phpsa_main.specs.declared.refusal.Refusal.{Refusal}
+use Rattle.phpsa_main.specs.declared.exit.Exit.{Exit}
+use Rattle.phpsa_main.specs.declared.exit.Exit.TheVariants.{WriteFault, Usage, Memory}
+use Rattle.phpsa_main.specs.Words.{Asked, Asks, asked_of, AsksNothing}
+use Rattle.phpsa_main.specs.DocumentTypes.{HasTable}
+use Rattle.phpsa_main.specs.Texts.{refusal_status}
 use Rattle.phpsa_main.specs.Call.{Call}
-use Rattle.phpsa_main.specs.Endings.{AsksScript, EndsRefused, Ends}
-use Rattle.phpsa_main.specs.Answered.{IsUndisturbed, IsAnswered}
+use Rattle.phpsa_main.specs.Replies.{IsReplyBy, IsReply}
+use Rattle.phpsa_main.specs.Causes.{IsCauseIn, HasCause, asked_for, nothing_asked, wants_memory}
+use Rattle.phpsa_main.specs.Endings.{EndsReplied, EndsRefused, Ends, replied, refused, by_out, by_err, no_memory}
+use Rattle.phpsa_main.specs.Answered.{IsUndisturbed, IsVerdict, IsAnswered}
+use Rattle.phpsa_main.proofs.OneProgram.{Laws}
+use Rattle.phpsa_main.proofs.Held.{same_asked, same_table}
+use Rattle.phpsa_main.proofs.Verdicts.{one_verdict, reply_verdict, refusal_verdict}
 
--- what is told of the file is what it holds
-one_script : (call : Call) (file : List ℕ) (table : Table) (script other_file : List ℕ) (other_table : Table) (other : List ℕ)
-    → IsUndisturbed call file table script → AsksScript call other_file other_table other → other ≡ script
-one_script call file table script other_file other_table other u asked =
-    let same : other_file ≡ file = one_file call.words other_file file other_table table asked.asked u.asked in
-    let told : Tells (call.files.content file) (Some other) = subst (λ name. Tells (call.files.content name) (Some other)) same asked.told in
-    let held : Tells (Some (Some script)) (Some other) = subst (λ content. Tells content (Some other)) u.held told in
-    cc
+replied_verdict : (call : Call) (status : Exit) → EndsReplied call status → (asked : Asked) (table : Table) (bytes : List ℕ) → IsUndisturbed call asked table bytes
+    → IsVerdict asked.command call.files asked.file table status
+replied_verdict call status w asked table bytes u =
+    let same : w.owed.asked ≡ asked = same_asked (asked_of call.words) w.owed.asked asked w.owed.asks u.asks in
+    let (other, has, by_other) : IsReply call.files asked w.reply = subst (λ a. IsReply call.files a w.reply) same w.owed.is_reply in
+    let by : IsReplyBy asked.command call.files asked.file table w.reply =
+    subst (λ t. IsReplyBy asked.command call.files asked.file t w.reply) (same_table asked.document_type other table has u.table_is) by_other in
+    subst (IsVerdict asked.command call.files asked.file table) (sym w.status_is) (reply_verdict asked.command call.files asked.file table w.reply by)
 
--- an undisturbed call finds its file, reads it whole, and writes
-not_missing : (call : Call) (file : List ℕ) (table : Table) (script : List ℕ) → IsUndisturbed call file table script → EndsRefused call refusal.Missing → ⊥
-not_missing call file table script u w =
-    let (asked, rises, none) = w.has_cause in
-    let same : w.file ≡ file = one_file call.words w.file file asked.0 table asked.1 u.asked in
-    let told : Tells (call.files.content file) None = subst (λ name. Tells (call.files.content name) None) same none in
-    let held : Tells (Some (Some script)) None = subst (λ content. Tells content None) u.held told in
-    cc
+none_asked : (call : Call) (asked : Asked) → AsksNothing call.words → Asks call.words asked → ⊥
+none_asked call asked none asks = let same : None ≡ Some asked = sym none ∙ asks in cc
 
-not_read_fault : (call : Call) (file : List ℕ) (table : Table) (script : List ℕ) → IsUndisturbed call file table script → EndsRefused call refusal.ReadFault → ⊥
-not_read_fault call file table script u w = u.files w.has_cause.1
+status_verdict : (call : Call) (status other : Exit) (asked : Asked) (table : Table) → status ≡ other
+    → IsVerdict asked.command call.files asked.file table other ⊎ (other ≡ Memory) → IsVerdict asked.command call.files asked.file table status ⊎ (status ≡ Memory)
+status_verdict call status other asked table is (inl v) = inl (subst (IsVerdict asked.command call.files asked.file table) (sym is) v)
+status_verdict call status other asked table is (inr e) = inr (is ∙ e)
 
-not_usage : (call : Call) (file : List ℕ) (table : Table) (script : List ℕ) → IsUndisturbed call file table script → EndsRefused call refusal.Usage → ⊥
-not_usage call file table script u w = w.has_cause file table u.asked
+cause_verdict : Laws → (call : Call) (refusal : Refusal) (file : List ℕ) (asked : Asked) (table : Table) (bytes : List ℕ) → IsUndisturbed call asked table bytes → HasCause call refusal file
+    → IsVerdict asked.command call.files asked.file table (refusal_status refusal) ⊎ (refusal_status refusal ≡ Memory)
+cause_verdict laws call refusal file asked table bytes u (asked_for other asks file_is cause) =
+    refusal_verdict laws call asked table bytes refusal u (subst (λ a. IsCauseIn call.files a refusal) (same_asked (asked_of call.words) other asked asks u.asks) cause)
+cause_verdict laws call refusal file asked table bytes u (nothing_asked none e) = absurd (none_asked call asked none u.asks)
+cause_verdict laws call refusal file asked table bytes u (wants_memory e) = inr (ap refusal_status e)
 
-not_input : (call : Call) (file : List ℕ) (table : Table) (script : List ℕ) (len : ℕ) → IsUndisturbed call file table script → EndsRefused call (refusal.TooLong len) → ⊥
-not_input call file table script len u w =
-    let (asked, over, least) = w.has_cause in
-    let same : w.file ≡ file = one_file call.words w.file file asked.0 table asked.1 u.asked in
-    let told : HasAtLeast (call.files.content file) len = subst (λ name. HasAtLeast (call.files.content name) len) same least in
-    let held : HasAtLeast (Some (Some script)) len = subst (λ content. HasAtLeast content len) u.held told in
-    let short : length script ≤ FILE_LIMIT = u.short in
-    omega (arith, held, over, short)
+answered : Laws → (call : Call) (status : Exit) → Ends call status → (asked : Asked) (table : Table) (bytes : List ℕ) → IsUndisturbed call asked table bytes
+    → IsVerdict asked.command call.files asked.file table status ⊎ (status ≡ Memory)
+answered laws call status (replied w) asked table bytes u = inl (replied_verdict call status w asked table bytes u)
+answered laws call status (refused w) asked table bytes u =
+    status_verdict call status (refusal_status w.refusal) asked table w.status_is (cause_verdict laws call w.refusal w.file asked table bytes u w.cause)
+answered laws call status (by_out is w) asked table bytes u = absurd (u.out w.failed)
+answered laws call status (by_err is w) asked table bytes u = absurd (u.err w.failed)
+answered laws call status (no_memory is w) asked table bytes u = inr is
 
-not_write_fault : (call : Call) (file : List ℕ) (table : Table) (script : List ℕ) → IsUndisturbed call file table script → Ends call WriteFault → ⊥
-not_write_fault call file table script u (inl w) = u.out w.failed
-not_write_fault call file table script u (inr w) = u.err w.failed
+first_of_two : (a b status : Exit) → status ≡ a → Contains (a ∷ b ∷ []) status
+first_of_two a b status e = subst (Contains (a ∷ b ∷ [])) (sym e) (0, lit< tt, refl)
 
--- a script with a loose page is decided
-decided_by : (script page : List ℕ) → IsLoosePage script page → IsDecided script
-decided_by script page loose = record { program = loose.program; reading = loose.reading; first = loose.first }
+second_of_two : (a b status : Exit) → status ≡ b → Contains (a ∷ b ∷ []) status
+second_of_two a b status e = subst (Contains (a ∷ b ∷ [])) (sym e) (1, lit< tt, refl)
 
--- what is valid is no counterexample
-not_both : (table : Table) (script page : List ℕ) → EachIsValid table script → IsCounterexample table script page → ⊥
-not_both table script page each counter = counter.invalid (each.valid page counter.loose)
+exact_from : Laws → (call : Call) (status : Exit) (asked : Asked) (table : Table) (bytes : List ℕ) (verdict : Exit) → IsUndisturbed call asked table bytes
+    → IsVerdict asked.command call.files asked.file table verdict → IsVerdict asked.command call.files asked.file table status ⊎ (status ≡ Memory) → Contains (verdict ∷ Memory ∷ []) status
+exact_from laws call status asked table bytes verdict u v (inl is) =
+    first_of_two verdict Memory status (one_verdict laws asked.command call.files asked.file table bytes u.held status verdict is v)
+exact_from laws call status asked table bytes verdict u v (inr e) = second_of_two verdict Memory status e
 
--- a refusal as not decided is one of this script, and one of a script that is none too
-undecided_here : (call : Call) (file : List ℕ) (table : Table) (script : List ℕ) → IsUndisturbed call file table script → EndsRefused call refusal.NotBuilt → IsUndecided script
-undecided_here call file table script u w =
-    let (held_table, held, asked, undecided) = w.has_cause in
-    subst IsUndecided (one_script call file table script w.file held_table held u asked) undecided
+usage_status : (call : Call) (status : Exit) (refusal : Refusal) (file : List ℕ) → AsksNothing call.words → status ≡ refusal_status refusal → HasCause call refusal file
+    → Contains (Usage ∷ WriteFault ∷ Memory ∷ []) status
+usage_status call status refusal file none is (asked_for asked asks file_is cause) = absurd (none_asked call asked none asks)
+usage_status call status refusal file none is (nothing_asked nothing e) =
+    subst (Contains (Usage ∷ WriteFault ∷ Memory ∷ [])) (sym (is ∙ ap refusal_status e)) (0, lit< tt, refl)
+usage_status call status refusal file none is (wants_memory e) =
+    subst (Contains (Usage ∷ WriteFault ∷ Memory ∷ [])) (sym (is ∙ ap refusal_status e)) (2, lit< tt, refl)
 
-fault_here : (call : Call) (file : List ℕ) (table : Table) (script : List ℕ) → IsUndisturbed call file table script → (w : Ends call Script) → IsScriptFault script w.0
-fault_here call file table script u (kind, w) =
-    let (held_table, held, asked, fault) = w.has_cause in
-    subst (λ bytes. IsScriptFault bytes kind) (one_script call file table script w.file held_table held u asked) fault
-
-valid_here : (call : Call) (file : List ℕ) (table : Table) (script : List ℕ) → IsUndisturbed call file table script → Ends call Done → EachIsValid table script
-valid_here call file table script u w =
-    let table_is : w.table ≡ table = one_table call.words w.file file w.table table w.asked.asked u.asked in
-    subst (λ t. EachIsValid t script) table_is (subst (EachIsValid w.table) (one_script call file table script w.file w.table w.script u w.asked) w.valid)
-
-counter_here : (call : Call) (file : List ℕ) (table : Table) (script : List ℕ) → IsUndisturbed call file table script → (w : Ends call No) → IsCounterexample table script w.page
-counter_here call file table script u w =
-    let table_is : w.table ≡ table = one_table call.words w.file file w.table table w.asked.asked u.asked in
-    subst (λ t. IsCounterexample t script w.page) table_is (subst (λ held. IsCounterexample w.table held w.page) (one_script call file table script w.file w.table w.script u w.asked) w.invalid)
-
-is_answered : (call : Call) (status : Exit) → Ends call status → (file : List ℕ) (table : Table) (script : List ℕ) → IsUndisturbed call file table script → Contains (Done ∷ No ∷ NotBuilt ∷ Script ∷ Memory ∷ []) status
-is_answered call Done w file table script u = (0, lit< tt, refl)
-is_answered call No w file table script u = (1, lit< tt, refl)
-is_answered call NotBuilt w file table script u = (2, lit< tt, refl)
-is_answered call Script w file table script u = (3, lit< tt, refl)
-is_answered call Missing w file table script u = absurd (not_missing call file table script u w)
-is_answered call ReadFault w file table script u = absurd (not_read_fault call file table script u w)
-is_answered call WriteFault w file table script u = absurd (not_write_fault call file table script u w)
-is_answered call Usage w file table script u = absurd (not_usage call file table script u w)
-is_answered call Input w file table script u = absurd (not_input call file table script w.0 u w.1)
-is_answered call Memory w file table script u = (4, lit< tt, refl)
-
-is_done : Laws → (call : Call) (status : Exit) → Ends call status → (file : List ℕ) (table : Table) (script : List ℕ) → IsUndisturbed call file table script → EachIsValid table script → Contains (Done ∷ Memory ∷ []) status
-is_done laws call Done w file table script u each = (0, lit< tt, refl)
-is_done laws call No w file table script u each = absurd (not_both table script w.page each (counter_here call file table script u w))
-is_done laws call NotBuilt w file table script u each = absurd (undecided_only laws script (undecided_here call file table script u w) each.decided)
-is_done laws call Script w file table script u each = absurd (no_script laws script w.0 (fault_here call file table script u w) each.decided.program each.decided.reading)
-is_done laws call Missing w file table script u each = absurd (not_missing call file table script u w)
-is_done laws call ReadFault w file table script u each = absurd (not_read_fault call file table script u w)
-is_done laws call WriteFault w file table script u each = absurd (not_write_fault call file table script u w)
-is_done laws call Usage w file table script u each = absurd (not_usage call file table script u w)
-is_done laws call Input w file table script u each = absurd (not_input call file table script w.0 u w.1)
-is_done laws call Memory w file table script u each = (1, lit< tt, refl)
-
-is_no : Laws → (call : Call) (status : Exit) → Ends call status → (file : List ℕ) (table : Table) (script page : List ℕ) → IsUndisturbed call file table script → IsCounterexample table script page → Contains (No ∷ Memory ∷ []) status
-is_no laws call Done w file table script page u counter = absurd (not_both table script page (valid_here call file table script u w) counter)
-is_no laws call No w file table script page u counter = (0, lit< tt, refl)
-is_no laws call NotBuilt w file table script page u counter = absurd (undecided_only laws script (undecided_here call file table script u w) (decided_by script page counter.loose))
-is_no laws call Script w file table script page u counter = absurd (no_script laws script w.0 (fault_here call file table script u w) counter.loose.program counter.loose.reading)
-is_no laws call Missing w file table script page u counter = absurd (not_missing call file table script u w)
-is_no laws call ReadFault w file table script page u counter = absurd (not_read_fault call file table script u w)
-is_no laws call WriteFault w file table script page u counter = absurd (not_write_fault call file table script u w)
-is_no laws call Usage w file table script page u counter = absurd (not_usage call file table script u w)
-is_no laws call Input w file table script page u counter = absurd (not_input call file table script w.0 u w.1)
-is_no laws call Memory w file table script page u counter = (1, lit< tt, refl)
-
-is_not_built : Laws → (call : Call) (status : Exit) → Ends call status → (file : List ℕ) (table : Table) (script : List ℕ) → IsUndisturbed call file table script → IsUndecided script → Contains (NotBuilt ∷ Memory ∷ []) status
-is_not_built laws call Done w file table script u undecided = absurd (undecided_only laws script undecided (valid_here call file table script u w).decided)
-is_not_built laws call No w file table script u undecided = absurd (undecided_only laws script undecided (decided_by script w.page (counter_here call file table script u w).loose))
-is_not_built laws call NotBuilt w file table script u undecided = (0, lit< tt, refl)
-is_not_built laws call Script w file table script u undecided = absurd (no_script laws script w.0 (fault_here call file table script u w) undecided.program undecided.reading)
-is_not_built laws call Missing w file table script u undecided = absurd (not_missing call file table script u w)
-is_not_built laws call ReadFault w file table script u undecided = absurd (not_read_fault call file table script u w)
-is_not_built laws call WriteFault w file table script u undecided = absurd (not_write_fault call file table script u w)
-is_not_built laws call Usage w file table script u undecided = absurd (not_usage call file table script u w)
-is_not_built laws call Input w file table script u undecided = absurd (not_input call file table script w.0 u w.1)
-is_not_built laws call Memory w file table script u undecided = (1, lit< tt, refl)
-
-is_no_script : (call : Call) (status : Exit) → Ends call status → (file : List ℕ) (table : Table) (script : List ℕ) → IsUndisturbed call file table script → ((program : PlainFile) → IsScript script program → ⊥) → Contains (Script ∷ Memory ∷ []) status
-is_no_script call Done w file table script u none = absurd (none (valid_here call file table script u w).decided.program (valid_here call file table script u w).decided.reading)
-is_no_script call No w file table script u none = absurd (none (counter_here call file table script u w).loose.program (counter_here call file table script u w).loose.reading)
-is_no_script call NotBuilt w file table script u none = absurd (none (undecided_here call file table script u w).program (undecided_here call file table script u w).reading)
-is_no_script call Script w file table script u none = (0, lit< tt, refl)
-is_no_script call Missing w file table script u none = absurd (not_missing call file table script u w)
-is_no_script call ReadFault w file table script u none = absurd (not_read_fault call file table script u w)
-is_no_script call WriteFault w file table script u none = absurd (not_write_fault call file table script u w)
-is_no_script call Usage w file table script u none = absurd (not_usage call file table script u w)
-is_no_script call Input w file table script u none = absurd (not_input call file table script w.0 u w.1)
-is_no_script call Memory w file table script u none = (1, lit< tt, refl)
-
-is_refused : (call : Call) (status : Exit) → Ends call status → AsksNothing call.words → Contains (Usage ∷ WriteFault ∷ Memory ∷ []) status
-is_refused call Done w none = absurd (none w.file w.table w.asked.asked)
-is_refused call No w none = absurd (none w.file w.table w.asked.asked)
-is_refused call NotBuilt w none = absurd (none w.file w.has_cause.0 w.has_cause.2.asked)
-is_refused call Script w none = absurd (none w.1.file w.1.has_cause.0 w.1.has_cause.2.asked)
-is_refused call Missing w none = absurd (none w.file w.has_cause.0.0 w.has_cause.0.1)
-is_refused call ReadFault w none = absurd (none w.file w.has_cause.0.0 w.has_cause.0.1)
-is_refused call WriteFault w none = (1, lit< tt, refl)
-is_refused call Usage w none = (0, lit< tt, refl)
-is_refused call Input w none = absurd (none w.1.file w.1.has_cause.0.0 w.1.has_cause.0.1)
-is_refused call Memory w none = (2, lit< tt, refl)
+unasked : (call : Call) (status : Exit) → Ends call status → AsksNothing call.words → Contains (Usage ∷ WriteFault ∷ Memory ∷ []) status
+unasked call status (replied w) none = absurd (none_asked call w.owed.asked none w.owed.asks)
+unasked call status (refused w) none = usage_status call status w.refusal w.file none w.status_is w.cause
+unasked call status (by_out is w) none = subst (Contains (Usage ∷ WriteFault ∷ Memory ∷ [])) (sym is) (1, lit< tt, refl)
+unasked call status (by_err is w) none = subst (Contains (Usage ∷ WriteFault ∷ Memory ∷ [])) (sym is) (1, lit< tt, refl)
+unasked call status (no_memory is w) none = subst (Contains (Usage ∷ WriteFault ∷ Memory ∷ [])) (sym is) (2, lit< tt, refl)
 
 pub answers : Laws → (call : Call) (status : Exit) → Ends call status → IsAnswered call status
 answers laws call status w = record {
-  answered = is_answered call status w;
-  done = is_done laws call status w;
-  no = is_no laws call status w;
-  not_built = is_not_built laws call status w;
-  no_script = is_no_script call status w;
-  refused = is_refused call status w;
+  answered = answered laws call status w;
+  exact = λ asked table bytes verdict u v. exact_from laws call status asked table bytes verdict u v (answered laws call status w asked table bytes u);
+  refused = unasked call status w;
 }

@@ -1,20 +1,21 @@
 -- What the parts say of the counts makes what the call says of them.
-use Rattle.std.proofs.Common.{◌≡◌, ◌≢◌, ◌⊎◌, inl, inr, ℕ, List, [], ◌∷◌, Some, None, Contains, lit<}
+use Rattle.std.proofs.Common.{◌≡◌, ◌≢◌, ◌⊎◌, ◌∙◌, inl, inr, ℕ, List, [], ◌∷◌, Some, None, Contains, sym, lit<}
 use Rattle.io_edge.specs.Counts.{one_more}
 use Rattle.phpsa_main.specs.declared.exit.Exit.{Exit}
 use Rattle.phpsa_main.specs.declared.exit.Exit.TheVariants.{ReadFault, WriteFault, Memory}
-use Rattle.phpsa_main.specs.declared.verdict.Refusal.{Refusal}
-use Rattle.phpsa_main.specs.DocumentTypes.{table_for}
-use Rattle.phpsa_main.specs.Words.{asked_of}
+use Rattle.phpsa_main.specs.declared.refusal.Refusal.{Refusal}
+use Rattle.phpsa_main.specs.Words.{Asked, asked_of}
 use Rattle.phpsa_main.specs.Call.{Call, Output, IsUnfailed}
 use Rattle.phpsa_main.specs.Counted.{IsCounted}
 use Rattle.phpsa_main.specs.Steps.{TellsFault, ReportsRefusal}
-use Rattle.phpsa_main.proofs.Asked.{Asked, asks, asks_none}
+
+apart : (words : List (List ℕ)) (asked : Asked) → asked_of words ≡ None → asked_of words ≡ Some asked → ⊥
+apart words asked none some = let same : None ≡ Some asked = sym none ∙ some in cc
 
 pub unasked_counts : (call : Call) (status : Exit) → asked_of call.words ≡ None → call.files.reads' ≡ call.files.reads
     → call.files.faults' ≡ call.files.faults → IsUnfailed call.out → TellsFault call.err status → IsCounted call status
 unasked_counts call status none reads faults out err = record {
-  read = λ file asked. absurd (asks_none call.words none file asked.0 asked.1);
+  read = λ asked asks. absurd (apart call.words asked none asks);
   unread = λ nothing. reads;
   out = inr out;
   err = err;
@@ -24,9 +25,9 @@ unasked_counts call status none reads faults out err = record {
 pub asked_counts : (call : Call) (asked : Asked) (status : Exit) → asked_of call.words ≡ Some asked
     → call.files.reads' ≡ one_more call.files.reads → TellsFault call.out status → TellsFault call.err status
     → Contains (ReadFault ∷ WriteFault ∷ Memory ∷ []) status ⊎ (call.files.faults' ≡ call.files.faults) → IsCounted call status
-asked_counts call asked status is reads out err files = record {
-  read = λ file asks_file. reads;
-  unread = λ nothing. absurd (nothing asked.0 (table_for asked.1) (asks call.words asked is));
+asked_counts call asked status asks reads out err files = record {
+  read = λ other other_asks. reads;
+  unread = λ nothing. absurd (apart call.words asked nothing asks);
   out = out;
   err = err;
   files = files;
@@ -49,5 +50,6 @@ fault_told file (Refusal.Script fault) err status kept reports = inr (kept (λ e
 fault_told file Refusal.Missing err status kept reports = inr (kept (λ e. cc (e)))
 fault_told file Refusal.ReadFault err status kept reports = inl (told_by file err status reports)
 fault_told file Refusal.Usage err status kept reports = inr (kept (λ e. cc (e)))
+fault_told file (Refusal.Limit count) err status kept reports = inr (kept (λ e. cc (e)))
 fault_told file (Refusal.TooLong len) err status kept reports = inr (kept (λ e. cc (e)))
 fault_told file Refusal.Memory err status kept reports = inr (kept (λ e. cc (e)))

@@ -1,40 +1,45 @@
 -- The definitions of `specs/` on worked examples and on near misses.
-use Rattle.std.proofs.Common.{◌≡◌, ◌++◌, [], ◌∷◌, None, Some, codes, refl, lit≤}
+use Rattle.std.proofs.Common.{◌≡◌, ◌++◌, ℕ, List, [], ◌∷◌, true, false, None, Some, codes, refl, lit≤}
 use Rattle.std.specs.Fmt.{digits}
-use Rattle.phpsa_main.specs.declared.exit.Exit.TheVariants.{Usage}
-use Rattle.dtd_model.specs.Mini.{mini_table}
+use Rattle.dtd_model.specs.Table.{Table}
+use Rattle.page_model.specs.Valid.{Valid}
+use Rattle.phpsa_main.specs.declared.exit.Exit.TheVariants.{Done, No, NotBuilt, Usage}
 use Rattle.php_parser.specs.declared.refusal.ParseRefusal.TheVariants as parsed
+use Rattle.phpsa_main.specs.declared.command.Command.{Command}
 use Rattle.phpsa_main.specs.declared.document_type.DocumentType.TheVariants.{Mini}
-use Rattle.phpsa_main.specs.declared.verdict.ScriptRefusal.TheVariants.{Parse}
-use Rattle.phpsa_main.specs.declared.verdict.Refusal.TheVariants as refusal
-use Rattle.phpsa_main.specs.Words.{Asks, asked_of}
-use Rattle.phpsa_main.specs.Texts.{yes_text, no_text, error_text, write_fault_text, status_of}
-use Rattle.phpsa_main.specs.Call.{output_of, Gains, GainsPrefix, GainsNothing, Fails}
+use Rattle.phpsa_main.specs.declared.reply.Reply.{Reply}
+use Rattle.phpsa_main.specs.declared.refusal.ScriptRefusal.TheVariants.{Parse}
+use Rattle.phpsa_main.specs.declared.refusal.Refusal.TheVariants as refusal
+use Rattle.phpsa_main.specs.Words.{AsksNothing, asked_as, asked_of}
+use Rattle.phpsa_main.specs.Texts.{yes_text, no_text, reply_text, error_text, write_fault_text, status_of, reply_status}
+use Rattle.phpsa_main.specs.Call.{Source, output_of, Gains, GainsPrefix, GainsNothing, Fails}
+use Rattle.phpsa_main.specs.Replies.{Holds}
+use Rattle.phpsa_main.specs.Answered.{IsVerdict}
 
--- the words that ask for a file
-asks : Asks (codes "check" ∷ codes "t.php" ∷ codes "--dtd" ∷ codes "mini" ∷ []) (codes "t.php") mini_table
-asks = record { word = codes "mini"; document_type = Mini; written = refl; file_is = refl; type_is = refl; table_is = refl }
+-- the words that ask for a script to be checked, and for a page
+checks : asked_of (codes "check" ∷ codes "t.php" ∷ codes "--dtd" ∷ codes "mini" ∷ []) ≡ Some (asked_as Command.Check (codes "t.php") Mini)
+checks = refl
 
-finds : asked_of (codes "check" ∷ codes "t.php" ∷ codes "--dtd" ∷ codes "mini" ∷ []) ≡ Some (codes "t.php", Mini)
-finds = refl
+judges : asked_of (codes "page" ∷ codes "p.xhtml" ∷ codes "--dtd" ∷ codes "mini" ∷ []) ≡ Some (asked_as Command.Page (codes "p.xhtml") Mini)
+judges = refl
 
--- one word less, one more, another command, another definition, an empty file, and an option for a file ask for none
-too_few : asked_of (codes "check" ∷ codes "t.php" ∷ codes "--dtd" ∷ []) ≡ None
+-- one word less, one more, another command, another definition, an empty file, and an option for a file ask for nothing
+too_few : AsksNothing (codes "check" ∷ codes "t.php" ∷ codes "--dtd" ∷ [])
 too_few = refl
 
-too_many : asked_of (codes "check" ∷ codes "t.php" ∷ codes "--dtd" ∷ codes "mini" ∷ codes "mini" ∷ []) ≡ None
+too_many : AsksNothing (codes "check" ∷ codes "t.php" ∷ codes "--dtd" ∷ codes "mini" ∷ codes "mini" ∷ [])
 too_many = refl
 
-another_command : asked_of (codes "run" ∷ codes "t.php" ∷ codes "--dtd" ∷ codes "mini" ∷ []) ≡ None
+another_command : AsksNothing (codes "run" ∷ codes "t.php" ∷ codes "--dtd" ∷ codes "mini" ∷ [])
 another_command = refl
 
-another_definition : asked_of (codes "check" ∷ codes "t.php" ∷ codes "--dtd" ∷ codes "strict" ∷ []) ≡ None
+another_definition : AsksNothing (codes "check" ∷ codes "t.php" ∷ codes "--dtd" ∷ codes "strict" ∷ [])
 another_definition = refl
 
-no_file : asked_of (codes "check" ∷ [] ∷ codes "--dtd" ∷ codes "mini" ∷ []) ≡ None
+no_file : AsksNothing (codes "page" ∷ [] ∷ codes "--dtd" ∷ codes "mini" ∷ [])
 no_file = refl
 
-an_option : asked_of (codes "check" ∷ codes "-t" ∷ codes "--dtd" ∷ codes "mini" ∷ []) ≡ None
+an_option : AsksNothing (codes "check" ∷ codes "-t" ∷ codes "--dtd" ∷ codes "mini" ∷ [])
 an_option = refl
 
 -- the texts
@@ -49,6 +54,13 @@ a_long_file : error_text (refusal.TooLong 1048577) (codes "t.php") ≡ codes "ph
 unfolding digits
 a_long_file = refl
 
+many_states : error_text (refusal.Limit 4097) (codes "t.php") ≡ codes "phpsa: Dtd Limit 4097" ++ 10 ∷ []
+unfolding digits
+many_states = refl
+
+an_invalid_page : reply_text (Reply.Page false) ≡ codes "invalid" ++ 10 ∷ []
+an_invalid_page = refl
+
 a_form : error_text refusal.NotBuilt (codes "t.php") ≡ codes "phpsa: NotBuilt t.php" ++ 10 ∷ []
 a_form = refl
 
@@ -61,6 +73,16 @@ a_fault = refl
 
 a_status : status_of Usage ≡ 9
 a_status = refl
+
+valid_pages : reply_status (Reply.Page true) ≡ Done
+valid_pages = refl
+
+-- a page that is not valid has the verdict No, and no other
+invalid_verdict : (files : Source) (file page : List ℕ) (table : Table) → Holds files file page → (Valid table page → ⊥) → IsVerdict Command.Page files file table No
+invalid_verdict files file page table holds invalid = (page, holds, invalid)
+
+no_page_is_undecided : (files : Source) (file : List ℕ) (table : Table) → IsVerdict Command.Page files file table NotBuilt → ⊥
+no_page_is_undecided files file table verdict = verdict
 
 -- an output gains a text, a prefix of it, or nothing
 gains : Gains (output_of (Some []) (Some (codes "yes")) 0 0) (codes "yes")

@@ -1,9 +1,12 @@
-pub mod Asked
-pub mod Counting
-pub mod Ended
+pub mod OneProgram
+pub mod Held
+pub mod Verdicts
 pub mod Answers
 pub mod Soundness
-pub mod Loosely
+pub mod Ended
+pub mod Counting
+pub mod Decided
+pub mod Reading
 mod Examples
+mod SmallDefinition
 mod SmallScript
-pub mod OneProgram

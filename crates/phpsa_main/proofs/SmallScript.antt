@@ -1,5 +1,5 @@
 -- The headline's own definitions on a script of inline text alone.
-use Rattle.std.proofs.Common.{◌≡◌, ◌++◌, ◌∙◌, ap, inl, ℕ, List, [], ◌∷◌, Some, codes, refl, subst, sym}
+use Rattle.std.proofs.Common.{◌≡◌, ◌++◌, ◌∙◌, ap, inl, ℕ, List, [], ◌∷◌, true, Option, Some, codes, refl, subst, sym}
 use Rattle.php_syntax.specs.Tokens.{PlainToken, inline}
 use Rattle.php_syntax.specs.Trees.{PlainFile, inline_stmt, no_stmts, more_stmts}
 use Rattle.lexical_grammar.specs.Cuts.{Cuts, at_end, after_token, step, opener_step}
@@ -10,19 +10,21 @@ use Rattle.first_form.specs.Requests.{Request, no_members, AreXmlMembers, Admitt
 use Rattle.first_form.specs.Meaning.{Meaning, Ended, statement_run, outcome_of}
 use Rattle.first_form.specs.Loose.{Loose, LooseStatement}
 use Rattle.first_form.specs.FirstTree.{IsFirstBody, IsFirstTree}
-use Rattle.dtd_model.specs.Valid.{Valid}
+use Rattle.page_model.specs.Valid.{Valid}
 use Rattle.dtd_model.specs.Mini.{mini_table}
-use Rattle.dtd_model.proofs.Examples.{paragraph}
-use Rattle.phpsa_main.specs.declared.exit.Exit.TheVariants.{Done}
+use Rattle.page_model.proofs.Examples.{paragraph}
+use Rattle.phpsa_main.specs.declared.command.Command.{Command}
+use Rattle.phpsa_main.specs.declared.decision.Answer.{Answer}
 use Rattle.phpsa_main.specs.declared.document_type.DocumentType.TheVariants.{Mini}
-use Rattle.phpsa_main.specs.Words.{Asks}
+use Rattle.phpsa_main.specs.declared.exit.Exit.TheVariants.{Done}
+use Rattle.phpsa_main.specs.declared.reply.Reply.{Reply}
+use Rattle.phpsa_main.specs.Words.{Asked, asked_as}
 use Rattle.phpsa_main.specs.Scripts.{IsScript}
 use Rattle.phpsa_main.specs.Decision.{EachIsValid}
-use Rattle.phpsa_main.specs.Texts.{yes_text}
-use Rattle.phpsa_main.specs.Call.{Call, source_of, output_of, call_of}
-use Rattle.phpsa_main.specs.Endings.{EndsDone}
+use Rattle.phpsa_main.specs.Texts.{yes_text, reply_text}
+use Rattle.phpsa_main.specs.Call.{Call, source_of, output_of, call_of, Gains}
+use Rattle.phpsa_main.specs.Endings.{Owes, EndsReplied}
 use Rattle.phpsa_main.specs.Sound.{IsSound}
-use Rattle.phpsa_main.proofs.OneProgram.{Laws, one_program}
 
 abbrev script : List ℕ
 script = codes "<html><body><p>x</p></body></html>"
@@ -53,7 +55,7 @@ runs request = refl
 
 is_first : IsFirstTree program
 unfolding IsFirstBody
-is_first = (inl (refl, tt), refl)
+is_first = (inl (tt, tt), refl)
 
 is_loose : Loose program script
 unfolding Loose LooseStatement
@@ -66,12 +68,8 @@ loose_alone page (first, more, is_text, is_nothing, whole) =
     whole ∙ ap (λ (rest : List ℕ). first ++ rest) is_nothing ∙ ap (λ (text : List ℕ). text ++ []) is_text
 
 -- each loose page of it is valid
-each_valid : Laws → (IsTooDeep tokens → ⊥) → EachIsValid mini_table script
-each_valid laws within = record {
-  decided = record { program = program; reading = is_script within; first = is_first };
-  valid = λ page loose. subst (Valid mini_table) (sym (loose_alone page
-      (subst (λ (p : PlainFile). Loose p page) (one_program laws script loose.program program loose.reading (is_script within)) loose.loose))) paragraph;
-}
+each_valid : EachIsValid mini_table program
+each_valid = record { first = is_first; valid = λ page loose. subst (Valid mini_table) (sym (loose_alone page loose)) paragraph }
 
 -- a call that is asked for it, reads it once and writes `yes`
 abbrev words : List (List ℕ)
@@ -80,23 +78,18 @@ words = codes "check" ∷ codes "t.php" ∷ codes "--dtd" ∷ codes "mini" ∷ [
 abbrev call_with : List ℕ → Call
 call_with written = call_of words (source_of (λ name. Some (Some script)) 0 0 0 0 0 1) (output_of (Some []) (Some written) 0 0) (output_of (Some []) (Some []) 0 0)
 
-asked : Asks words (codes "t.php") mini_table
-asked = record { word = codes "mini"; document_type = Mini; written = refl; file_is = refl; type_is = refl; table_is = refl }
+abbrev asked : Asked
+asked = asked_as Command.Check (codes "t.php") Mini
 
-ends : Laws → (IsTooDeep tokens → ⊥) → EndsDone (call_with yes_text)
-ends laws within = record {
-  file = codes "t.php";
-  table = mini_table;
-  script = script;
-  asked = record { asked = asked; told = refl };
-  valid = each_valid laws within;
-  out = refl;
-  err = refl;
-}
+owed : (IsTooDeep tokens → ⊥) → Owes (call_with yes_text) (Reply.Script Answer.Yes)
+owed within = record { asked = asked; asks = refl; is_reply = (mini_table, refl, (program, (script, refl, is_script within), each_valid)) }
+
+ends : (IsTooDeep tokens → ⊥) → EndsReplied (call_with yes_text) Done
+ends within = record { reply = Reply.Script Answer.Yes; owed = owed within; status_is = refl; out = refl; err = refl }
 
 -- one that writes nothing does not end so
-silent : EndsDone (call_with []) → ⊥
-silent w = let e = w.out in cc
+silent : (w : EndsReplied (call_with []) Done) → w.reply ≡ Reply.Script Answer.Yes → ⊥
+silent w is = let e : ◌≡◌ {A = List ℕ} [] yes_text = subst (λ reply. Gains (output_of (Some []) (Some []) 0 0) (reply_text reply)) is w.out in cc
 
 -- what the headline says of it: what the run prints is valid
 abbrev request : Request
@@ -107,4 +100,18 @@ unfolding AreXmlMembers
 admitted = record { get = tt; post = tt; cookie = tt; request = tt; server = tt }
 
 says : (IsTooDeep tokens → ⊥) → IsSound (call_with yes_text) Done → Valid mini_table script
-says within sound = sound refl (codes "t.php") mini_table script asked refl program request 1 script (is_script within) admitted (runs request)
+says within sound = sound refl asked mini_table script refl refl refl program (is_script within) request 1 script admitted (runs request)
+
+-- the same bytes as a page
+abbrev page_call : Call
+page_call = call_of (codes "page" ∷ codes "p" ∷ codes "--dtd" ∷ codes "mini" ∷ []) (source_of (λ name. Some (Some script)) 0 0 0 0 0 1)
+    (output_of (Some []) (Some (codes "valid" ++ 10 ∷ [])) 0 0) (output_of (Some []) (Some []) 0 0)
+
+judged : EndsReplied page_call Done
+judged = record {
+  reply = Reply.Page true;
+  owed = record { asked = asked_as Command.Page (codes "p") Mini; asks = refl; is_reply = (mini_table, refl, (script, refl, paragraph)) };
+  status_is = refl;
+  out = refl;
+  err = refl;
+}

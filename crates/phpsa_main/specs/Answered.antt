@@ -1,36 +1,47 @@
 -- When a call is answered, and how.
-use Rattle.std.specs.Prelude.{◌≡◌, ◌≤◌, ℕ, List, [], ◌∷◌, length, Some, Contains}
+use Rattle.std.specs.Prelude.{◌≡◌, ◌≤◌, ◌⊎◌, ℕ, List, [], ◌∷◌, length, Some, Contains}
 use Rattle.php_syntax.specs.Trees.{PlainFile}
 use Rattle.text_base.specs.declared.limits.TheConstants.{FILE_LIMIT}
+use Rattle.first_form.specs.FirstTree.{IsFirstTree}
 use Rattle.dtd_model.specs.Table.{Table}
+use Rattle.page_model.specs.Valid.{Valid}
 use Rattle.io_edge.specs.Counts.{Rises}
+use Rattle.phpsa_main.specs.declared.command.Command.{Command}
 use Rattle.phpsa_main.specs.declared.exit.Exit.{Exit}
 use Rattle.phpsa_main.specs.declared.exit.Exit.TheVariants.{Done, No, NotBuilt, Script, WriteFault, Usage, Memory}
-use Rattle.phpsa_main.specs.Words.{Asks, AsksNothing}
-use Rattle.phpsa_main.specs.Scripts.{IsScript}
-use Rattle.phpsa_main.specs.Decision.{IsUndecided, EachIsValid, IsCounterexample}
-use Rattle.phpsa_main.specs.Call.{Call, Fails}
+use Rattle.phpsa_main.specs.DocumentTypes.{HasTable}
+use Rattle.phpsa_main.specs.Words.{Asked, Asks, AsksNothing}
+use Rattle.phpsa_main.specs.Decision.{HasManyStates, EachIsValid, IsCounterexample}
+use Rattle.phpsa_main.specs.Replies.{Holds, HoldsProgram}
+use Rattle.phpsa_main.specs.Call.{Call, Source, Fails}
 
--- the words ask for this file by this document type, it is told and within the limit, and no count of faults rises in the call
-pub record IsUndisturbed (call : Call) (file : List ℕ) (table : Table) (script : List ℕ) : Type 0 where
-  pub asked : Asks call.words file table
-  pub held : call.files.content file ≡ Some (Some script)
-  pub short : length script ≤ FILE_LIMIT
+-- the words ask for this; the file is told and within the limit, the content models of the definition are within theirs, and no
+-- count of faults rises in the call
+pub record IsUndisturbed (call : Call) (asked : Asked) (table : Table) (bytes : List ℕ) : Type 0 where
+  pub asks : Asks call.words asked
+  pub table_is : HasTable asked.document_type table
+  pub few : (count : ℕ) → HasManyStates table count → ⊥
+  pub held : call.files.content asked.file ≡ Some (Some bytes)
+  pub short : length bytes ≤ FILE_LIMIT
   pub files : Rises call.files.faults call.files.faults' → ⊥
   pub out : Fails call.out → ⊥
   pub err : Fails call.err → ⊥
 
--- Words that ask for a file are answered, want of memory aside, and exactly by what is so of the script and its loose pages; all other words are
--- refused.
+-- the status that a command has for a file, by a definition with this table
+abbrev pub IsVerdict : Command → Source → List ℕ → Table → Exit → Type 0
+IsVerdict Command.Check files file table Done = (program : PlainFile) × HoldsProgram files file program × EachIsValid table program
+IsVerdict Command.Check files file table No =
+    (program : PlainFile) × HoldsProgram files file program × ((page : List ℕ) × IsCounterexample table program page)
+IsVerdict Command.Check files file table NotBuilt = (program : PlainFile) × HoldsProgram files file program × (IsFirstTree program → ⊥)
+IsVerdict Command.Check files file table Script = (program : PlainFile) → HoldsProgram files file program → ⊥
+IsVerdict Command.Page files file table Done = (page : List ℕ) × Holds files file page × Valid table page
+IsVerdict Command.Page files file table No = (page : List ℕ) × Holds files file page × (Valid table page → ⊥)
+IsVerdict command files file table status = ⊥
+
+-- Words that ask for something are answered, want of memory aside, and exactly by what is so of the file; all other words are refused.
 pub record IsAnswered (call : Call) (status : Exit) : Type 0 where
-  pub answered : (file : List ℕ) (table : Table) (script : List ℕ) → IsUndisturbed call file table script
-      → Contains (Done ∷ No ∷ NotBuilt ∷ Script ∷ Memory ∷ []) status
-  pub done : (file : List ℕ) (table : Table) (script : List ℕ) → IsUndisturbed call file table script
-      → EachIsValid table script → Contains (Done ∷ Memory ∷ []) status
-  pub no : (file : List ℕ) (table : Table) (script page : List ℕ) → IsUndisturbed call file table script
-      → IsCounterexample table script page → Contains (No ∷ Memory ∷ []) status
-  pub not_built : (file : List ℕ) (table : Table) (script : List ℕ) → IsUndisturbed call file table script
-      → IsUndecided script → Contains (NotBuilt ∷ Memory ∷ []) status
-  pub no_script : (file : List ℕ) (table : Table) (script : List ℕ) → IsUndisturbed call file table script
-      → ((program : PlainFile) → IsScript script program → ⊥) → Contains (Script ∷ Memory ∷ []) status
+  pub answered : (asked : Asked) (table : Table) (bytes : List ℕ) → IsUndisturbed call asked table bytes
+      → IsVerdict asked.command call.files asked.file table status ⊎ (status ≡ Memory)
+  pub exact : (asked : Asked) (table : Table) (bytes : List ℕ) (verdict : Exit) → IsUndisturbed call asked table bytes
+      → IsVerdict asked.command call.files asked.file table verdict → Contains (verdict ∷ Memory ∷ []) status
   pub refused : AsksNothing call.words → Contains (Usage ∷ WriteFault ∷ Memory ∷ []) status

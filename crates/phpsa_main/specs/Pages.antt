@@ -1,15 +1,12 @@
--- The loose pages of a script, as the reader gives them, and what a test of them says.
-use Rattle.std.specs.Prelude.{◌≡◌, ℕ, List, true}
-use Rattle.std.specs.List.{list_all}
+-- The loose pages of a program, as the reader gives them, and what a test of them says. No public clause cites these.
+use Rattle.std.specs.Prelude.{ℕ, List, ⊤}
 use Rattle.first_form.specs.declared.pages.Pages.{Pages}
 use Rattle.first_form.specs.FirstTree.{IsPage}
-use Rattle.page_check.specs.PageBytes.{is_page_byte}
-use Rattle.dtd_model.specs.Valid.{Valid}
+use Rattle.page_model.specs.Valid.{Valid}
 use Rattle.dtd_model.specs.Table.{Table}
-
--- each of the pages has only bytes that a page may have so far
-abbrev pub ArePlain : Pages → Type 0
-ArePlain pages = (page : List ℕ) → IsPage pages page → list_all is_page_byte page ≡ true
+use Rattle.phpsa_main.specs.declared.decision.CheckRefusal.{CheckRefusal}
+use Rattle.phpsa_main.specs.declared.decision.CheckRefusal.TheVariants as refusal
+use Rattle.phpsa_main.specs.Decision.{HasManyStates}
 
 -- each of the pages is valid
 abbrev pub AreValid : Table → Pages → Type 0
@@ -18,3 +15,9 @@ AreValid table pages = (page : List ℕ) → IsPage pages page → Valid table p
 -- this one of the pages is not valid
 abbrev pub IsInvalidAmong : Table → Pages → List ℕ → Type 0
 IsInvalidAmong table pages page = IsPage pages page × (Valid table page → ⊥)
+
+-- why a page is not judged
+abbrev pub IsPageRefusal : Table → CheckRefusal → Type 0
+IsPageRefusal table refusal.NotBuilt = ⊥
+IsPageRefusal table (refusal.Limit count) = HasManyStates table count
+IsPageRefusal table refusal.Memory = ⊤

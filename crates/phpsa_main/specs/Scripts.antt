@@ -1,5 +1,6 @@
 -- Which tree a script is, and why a script that is none is refused.
-use Rattle.std.specs.Prelude.{◌≡◌, ℕ, List}
+use Rattle.std.specs.Prelude.{◌≡◌, ◌<◌, ℕ, List, length, ⊤}
+use Rattle.text_base.specs.declared.limits.TheConstants.{FILE_LIMIT}
 use Rattle.php_syntax.specs.Tokens.{PlainToken}
 use Rattle.php_syntax.specs.Trees.{PlainFile}
 use Rattle.lexical_grammar.specs.declared.fault.LexicalFault.{LexicalFault}
@@ -9,8 +10,9 @@ use Rattle.php_lexer.specs.declared.refusal.LexRefusal.{LexRefusal}
 use Rattle.php_lexer.specs.declared.refusal.LexRefusal.TheVariants as lexed
 use Rattle.php_lexer.specs.Refusals.{IsShort}
 use Rattle.php_parser.specs.declared.refusal.ParseRefusal.TheVariants as parsed
-use Rattle.phpsa_main.specs.declared.verdict.ScriptRefusal.{ScriptRefusal}
-use Rattle.phpsa_main.specs.declared.verdict.ScriptRefusal.TheVariants.{Lex, Parse}
+use Rattle.phpsa_main.specs.declared.refusal.Refusal.{Refusal}
+use Rattle.phpsa_main.specs.declared.refusal.ScriptRefusal.{ScriptRefusal}
+use Rattle.phpsa_main.specs.declared.refusal.ScriptRefusal.TheVariants.{Lex, Parse}
 
 -- the script is cut into tokens that spell this program and are not too deep
 pub record IsScript (script : List ℕ) (program : PlainFile) : Type 0 where
@@ -46,3 +48,10 @@ IsScriptFault script (Lex refusal) = BreaksScript script refusal
 IsScriptFault script (Parse (parsed.NotInSubset at)) = SpellsNothing script
 IsScriptFault script (Parse (parsed.TooDeep at)) = IsDeepScript script
 IsScriptFault script (Parse parsed.Memory) = ⊥
+
+-- the script is not read, for this reason; want of memory says nothing
+abbrev pub IsScriptRefusal : List ℕ → Refusal → Type 0
+IsScriptRefusal script (Refusal.Script fault) = IsScriptFault script fault
+IsScriptRefusal script (Refusal.TooLong len) = (FILE_LIMIT < len) × (len ≡ length script)
+IsScriptRefusal script Refusal.Memory = ⊤
+IsScriptRefusal script refusal = ⊥

@@ -1,29 +1,24 @@
--- What an answer says of the runs of the script.
-use Rattle.std.specs.Prelude.{◌≡◌, ℕ, List, Some, ⊤}
+-- What status 0 means, where the source tells of the file: the headline.
+use Rattle.std.specs.Prelude.{◌≡◌, ℕ, List, Some}
 use Rattle.php_syntax.specs.Trees.{PlainFile}
-use Rattle.first_form.specs.Requests.{Request, Admitted}
-use Rattle.first_form.specs.Meaning.{Meaning, Ended}
-use Rattle.dtd_model.specs.Valid.{Valid}
 use Rattle.dtd_model.specs.Table.{Table}
-use Rattle.phpsa_main.specs.declared.verdict.Answer.{Answer}
+use Rattle.page_model.specs.Valid.{Valid}
+use Rattle.phpsa_main.specs.declared.command.Command.{Command}
 use Rattle.phpsa_main.specs.declared.exit.Exit.{Exit}
 use Rattle.phpsa_main.specs.declared.exit.Exit.TheVariants.{Done}
-use Rattle.phpsa_main.specs.Words.{Asks}
+use Rattle.phpsa_main.specs.DocumentTypes.{HasTable}
+use Rattle.phpsa_main.specs.Words.{Asked, Asks}
 use Rattle.phpsa_main.specs.Scripts.{IsScript}
+use Rattle.phpsa_main.specs.Decision.{RunsAreValid}
 use Rattle.phpsa_main.specs.Call.{Call}
 
--- every run of the script, by its program, for every admitted request and every number of units, that ends prints a page that is
--- valid by the document type
-abbrev pub RunsAreValid : Table → List ℕ → Type 0
-RunsAreValid table script = (program : PlainFile) (request : Request) (units : ℕ) (printed : List ℕ)
-    → IsScript script program → Admitted request → Meaning program request units printed Ended → Valid table printed
+-- of a script, that its runs are valid; of a page, that it is
+abbrev pub Means : Command → Table → List ℕ → Type 0
+Means Command.Check table script = (program : PlainFile) → IsScript script program → RunsAreValid table program
+Means Command.Page table page = Valid table page
 
--- After a yes, so are the runs of the script that the source holds under the name, by the document type that the words name.
+-- After status 0 so it is of the file that the words ask for, by the document type that they name.
 abbrev pub IsSound : Call → Exit → Type 0
-IsSound call status = status ≡ Done → (file : List ℕ) (table : Table) (script : List ℕ)
-    → Asks call.words file table → call.files.content file ≡ Some (Some script) → RunsAreValid table script
-
--- what an answer for a script says of its runs: a yes, that they are valid
-abbrev pub SaysOfRuns : Table → List ℕ → Answer → Type 0
-SaysOfRuns table script Answer.Yes = RunsAreValid table script
-SaysOfRuns table script (Answer.No page) = ⊤
+IsSound call status = status ≡ Done → (asked : Asked) (table : Table) (bytes : List ℕ)
+    → Asks call.words asked → HasTable asked.document_type table → call.files.content asked.file ≡ Some (Some bytes)
+    → Means asked.command table bytes

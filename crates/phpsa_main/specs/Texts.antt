@@ -1,17 +1,19 @@
--- The texts that the program writes, each ended by one LF (10).
-use Rattle.std.specs.Prelude.{ℕ, List, [], ◌∷◌, ◌++◌, take, length, codes}
+-- The statuses, and the texts that the program writes, each ended by one LF (10).
+use Rattle.std.specs.Prelude.{ℕ, true, false, List, [], ◌∷◌, ◌++◌, take, length, codes}
 use Rattle.std.specs.Fmt.{decimal}
 use Rattle.phpsa_main.specs.declared.exit.Exit.{Exit}
-use Rattle.phpsa_main.specs.declared.exit.Exit.TheVariants.{Done, No, NotBuilt, Script, Missing, ReadFault, WriteFault, Usage, Input, Memory}
+use Rattle.phpsa_main.specs.declared.exit.Exit.TheVariants.{Done, No, NotBuilt, Script, Missing, ReadFault, WriteFault, Usage, Dtd, Input, Memory}
 use Rattle.lexical_grammar.specs.declared.fault.LexicalFault.{LexicalFault}
 use Rattle.lexical_grammar.specs.declared.fault.LexicalFault.TheVariants.{BadByte, Unclosed, Float, BigInt, Escape}
 use Rattle.php_lexer.specs.declared.refusal.LexRefusal.TheVariants as lexed
 use Rattle.php_parser.specs.declared.refusal.ParseRefusal.TheVariants as parsed
 use Rattle.phpsa_main.specs.declared.texts.TheConstants.{PAGE_LIMIT}
-use Rattle.phpsa_main.specs.declared.verdict.ScriptRefusal.{ScriptRefusal}
-use Rattle.phpsa_main.specs.declared.verdict.ScriptRefusal.TheVariants.{Lex, Parse}
-use Rattle.phpsa_main.specs.declared.verdict.Refusal.{Refusal}
-use Rattle.phpsa_main.specs.declared.verdict.Refusal.TheVariants as refusal
+use Rattle.phpsa_main.specs.declared.decision.Answer.{Answer}
+use Rattle.phpsa_main.specs.declared.reply.Reply.{Reply}
+use Rattle.phpsa_main.specs.declared.refusal.ScriptRefusal.{ScriptRefusal}
+use Rattle.phpsa_main.specs.declared.refusal.ScriptRefusal.TheVariants.{Lex, Parse}
+use Rattle.phpsa_main.specs.declared.refusal.Refusal.{Refusal}
+use Rattle.phpsa_main.specs.declared.refusal.Refusal.TheVariants as refusal
 
 -- the status of the process
 abbrev pub status_of : Exit → ℕ
@@ -23,8 +25,26 @@ status_of Missing = 6
 status_of ReadFault = 7
 status_of WriteFault = 8
 status_of Usage = 9
+status_of Dtd = 10
 status_of Input = 11
 status_of Memory = 12
+
+-- how a call ends that has replied, and one that has refused
+abbrev pub reply_status : Reply → Exit
+reply_status (Reply.Script Answer.Yes) = Done
+reply_status (Reply.Script (Answer.No page)) = No
+reply_status (Reply.Page true) = Done
+reply_status (Reply.Page false) = No
+
+abbrev pub refusal_status : Refusal → Exit
+refusal_status refusal.NotBuilt = NotBuilt
+refusal_status (refusal.Script fault) = Script
+refusal_status refusal.Missing = Missing
+refusal_status refusal.ReadFault = ReadFault
+refusal_status (refusal.TooLong len) = Input
+refusal_status (refusal.Limit count) = Dtd
+refusal_status refusal.Usage = Usage
+refusal_status refusal.Memory = Memory
 
 -- on `out`, where every loose page is valid
 abbrev pub yes_text : List ℕ
@@ -33,6 +53,13 @@ yes_text = codes "yes" ++ 10 ∷ []
 -- on `out`, where this loose page is not valid: its length and its first 1,048,576 bytes
 abbrev pub no_text : List ℕ → List ℕ
 no_text page = codes "no" ++ 10 ∷ (codes "page " ++ decimal (length page) ++ 10 ∷ (take PAGE_LIMIT page ++ 10 ∷ []))
+
+-- on `out`, for a reply
+abbrev pub reply_text : Reply → List ℕ
+reply_text (Reply.Script Answer.Yes) = yes_text
+reply_text (Reply.Script (Answer.No page)) = no_text page
+reply_text (Reply.Page true) = codes "valid" ++ 10 ∷ []
+reply_text (Reply.Page false) = codes "invalid" ++ 10 ∷ []
 
 -- the name of a way to break the lexical grammar
 abbrev pub fault_name : LexicalFault → List ℕ
@@ -63,6 +90,7 @@ error_text refusal.Missing file = codes "phpsa: Missing " ++ file ++ 10 ∷ []
 error_text refusal.ReadFault file = codes "phpsa: ReadFault " ++ file ++ 10 ∷ []
 error_text refusal.Usage file = codes "phpsa: Usage" ++ 10 ∷ []
 error_text (refusal.TooLong len) file = counted_text (codes "TooLong") file len
+error_text (refusal.Limit count) file = codes "phpsa: Dtd Limit " ++ decimal count ++ 10 ∷ []
 error_text refusal.Memory file = codes "phpsa: Memory" ++ 10 ∷ []
 
 -- on `err`, where `out` failed

@@ -1,34 +1,43 @@
 -- The words of the command line, after the program's name.
-use Rattle.std.specs.Prelude.{◌≡◌, ◌&&◌, ◌==◌, ℕ, List, [], ◌∷◌, Bool, true, false, not, Option, None, Some, if◌then◌else◌, bytes_eq, codes, option_map}
-use Rattle.dtd_model.specs.Table.{Table}
+use Rattle.std.specs.Prelude.{◌≡◌, ◌&&◌, ◌==◌, ℕ, List, [], ◌∷◌, Bool, true, false, not, Option, None, Some, if◌then◌else◌, bytes_eq, codes}
+use Rattle.phpsa_main.specs.declared.command.Command.{Command}
+use Rattle.phpsa_main.specs.declared.command.Command.TheVariants.{Check, Page}
 use Rattle.phpsa_main.specs.declared.document_type.DocumentType.{DocumentType}
-use Rattle.phpsa_main.specs.DocumentTypes.{named_type, table_for}
+use Rattle.phpsa_main.specs.DocumentTypes.{named_type}
+
+-- what words ask for: a command on a file by a document type
+pub record Asked : Type 0 where
+  pub command : Command
+  pub file : List ℕ
+  pub document_type : DocumentType
+
+abbrev pub asked_as : Command → List ℕ → DocumentType → Asked
+asked_as command file document_type = record { command = command; file = file; document_type = document_type }
+
+-- the command that the word names
+abbrev pub named_command : List ℕ → Option Command
+named_command word = if bytes_eq word (codes "check") then Some Check else (if bytes_eq word (codes "page") then Some Page else None)
 
 -- a FILE on the command line: it is not empty and does not begin with `-`
 abbrev pub is_file_word : List ℕ → Bool
 is_file_word [] = false
 is_file_word (byte ∷ bytes) = not (byte == 45)
 
--- the words are `check FILE --dtd TYPE`, and TYPE names a document type with this table
-pub record Asks (words : List (List ℕ)) (file : List ℕ) (table : Table) : Type 0 where
-  pub word : List ℕ
-  pub document_type : DocumentType
-  pub written : words ≡ codes "check" ∷ file ∷ codes "--dtd" ∷ word ∷ []
-  pub file_is : is_file_word file ≡ true
-  pub type_is : named_type word ≡ Some document_type
-  pub table_is : table_for document_type ≡ table
+-- where there is a command and a document type
+abbrev pub asked_with : List ℕ → Option Command → Option DocumentType → Option Asked
+asked_with file None document_type = None
+asked_with file (Some command) None = None
+asked_with file (Some command) (Some document_type) = Some (asked_as command file document_type)
 
--- the words ask for this file, by some document type
-abbrev pub AsksFile : List (List ℕ) → List ℕ → Type 0
-AsksFile words file = (table : Table) × Asks words file table
-
--- the words ask for no file
-abbrev pub AsksNothing : List (List ℕ) → Type 0
-AsksNothing words = (file : List ℕ) (table : Table) → Asks words file table → ⊥
-
--- the FILE and the document type of the words, if they are such
-abbrev pub asked_of : List (List ℕ) → Option (List ℕ × DocumentType)
+-- what the words ask for, where they are `COMMAND FILE --dtd TYPE`
+abbrev pub asked_of : List (List ℕ) → Option Asked
 asked_of (command ∷ file ∷ option ∷ word ∷ []) =
-    if bytes_eq command (codes "check") && bytes_eq option (codes "--dtd") && is_file_word file
-    then option_map (λ document_type. (file, document_type)) (named_type word) else None
+    if bytes_eq option (codes "--dtd") && is_file_word file then asked_with file (named_command command) (named_type word) else None
 asked_of words = None
+
+abbrev pub Asks : List (List ℕ) → Asked → Type 0
+Asks words asked = asked_of words ≡ Some asked
+
+-- the words are none that the program takes
+abbrev pub AsksNothing : List (List ℕ) → Type 0
+AsksNothing words = asked_of words ≡ None

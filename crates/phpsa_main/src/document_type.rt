@@ -1,7 +1,7 @@
 // The document types that the words may name: this module alone knows their tables.
 ghost use Rattle.std.specs.Prelude.{◌≡◌, IfOk};
 ghost use Rattle.dtd_model.specs.TableOf.{table_of};
-ghost use Rattle.phpsa_main.specs.DocumentTypes.{named_type, table_for};
+ghost use Rattle.phpsa_main.specs.DocumentTypes.{HasTable, named_type};
 
 use dtd_model::{Dtd, mini};
 use std::alloc::Global;
@@ -28,7 +28,7 @@ impl DocumentType {
 
     /// Its definition.
     pub(crate) fn definition(self, alloc: Global) -> Result<Dtd, NoMemory>
-        ensures { IfOk result (λ dtd. table_of dtd ≡ table_for self) }
+        ensures { IfOk result (λ dtd. HasTable self (table_of dtd)) }
     {
         match self {
             DocumentType::Mini => mini(alloc),

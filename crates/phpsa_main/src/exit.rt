@@ -5,9 +5,9 @@ ghost use Rattle.phpsa_main.specs.Texts.{status_of};
 /// How a call ended: a variant for each status, and two for the status 3.
 #[derive(Clone, Copy, Debug, PartialEq, Eq)]
 pub enum Exit {
-    /// 0: every loose page is valid.
+    /// 0: every loose page is valid, or the page is.
     Done,
-    /// 1: a loose page is not valid.
+    /// 1: a loose page is not valid, or the page is not.
     No,
     /// 3: the script is of a form that is not decided yet.
     NotBuilt,
@@ -21,6 +21,8 @@ pub enum Exit {
     WriteFault,
     /// 9: the words are not those of a command.
     Usage,
+    /// 10: the definition is over a limit.
+    Dtd,
     /// 11: the file is over the limit of 1,048,576 bytes.
     Input,
     /// 12: no memory was left.
@@ -41,6 +43,7 @@ impl Exit {
             Exit::ReadFault => 7,
             Exit::WriteFault => 8,
             Exit::Usage => 9,
+            Exit::Dtd => 10,
             Exit::Input => 11,
             Exit::Memory => 12,
         }

@@ -1,12 +1,13 @@
-// What is written of an answer or a refusal, and the status that the call ends with.
+// What is written of a reply or a refusal, and the status that the call ends with.
 ghost use Rattle.std.specs.Prelude.{◌≡◌};
 ghost use Rattle.io_edge.specs.Taken.{AppendsPrefix};
 ghost use Rattle.phpsa_main.specs.Steps.{Puts, Reports, ReportsRefusal, TellsFault};
 ghost use Rattle.phpsa_main.specs.Call.{output_of};
 
 use crate::Exit;
-use crate::texts::{NO_MEMORY, WRITE_FAULT, answer_text, refusal_text};
-use crate::verdict::{Answer, Refusal};
+use crate::refusal::Refusal;
+use crate::reply::Reply;
+use crate::texts::{NO_MEMORY, WRITE_FAULT, refusal_text, reply_text};
 use io_edge::{Sink, SinkFault};
 use std::alloc::Global;
 use text_base::NoMemory;
@@ -48,14 +49,14 @@ pub(crate) fn refuse<E: Sink>(alloc: Global, file: &[u8], refusal: Refusal, err:
     }
 }
 
-/// Writes an answer.
+/// Writes a reply.
 pub(crate) fn report<O: Sink, E: Sink>(
     alloc: Global,
-    answer: &Answer,
+    reply: &Reply,
     out: &mut O,
     err: &mut E,
 ) -> Exit
-    ensures reports { Reports answer.now
+    ensures reports { Reports reply.now
         (output_of (O.written out.old) (O.written out.new) (O.faults out.old) (O.faults out.new))
         (output_of (E.written err.old) (E.written err.new) (E.faults err.old) (E.faults err.new)) result }
     ensures told_out { TellsFault (output_of (O.written out.old) (O.written out.new) (O.faults out.old) (O.faults out.new))
@@ -63,12 +64,12 @@ pub(crate) fn report<O: Sink, E: Sink>(
     ensures told_err { TellsFault (output_of (E.written err.old) (E.written err.new) (E.faults err.old) (E.faults err.new))
         result }
 {
-    let text = match answer_text(alloc, answer) {
+    let text = match reply_text(alloc, reply) {
         Ok(text) => text,
         Err(NoMemory) => return put(err, NO_MEMORY, Exit::Memory),
     };
     match out.put(text.as_slice()) {
-        Ok(()) => answer.status(),
+        Ok(()) => reply.status(),
         Err(SinkFault::Failed) => {
             try_put(err, WRITE_FAULT);
             Exit::WriteFault

@@ -1,11 +1,12 @@
 // The texts that are written.
 ghost use Rattle.std.specs.Prelude.{◌≡◌, ◌++◌, [], ◌∷◌, take, OnOk, OnErr, IfOk};
 ghost use Rattle.std.specs.Fmt.{decimal};
-ghost use Rattle.phpsa_main.specs.Texts.{yes_text, no_text, error_text, counted_text, fault_name, said_of};
-ghost use Rattle.phpsa_main.specs.declared.verdict.Refusal.TheVariants as refusals;
-ghost use Rattle.phpsa_main.specs.Steps.{answer_text};
+ghost use Rattle.phpsa_main.specs.Texts.{no_text, error_text, counted_text, fault_name, reply_text, said_of};
+ghost use Rattle.phpsa_main.specs.declared.refusal.Refusal.TheVariants as refusals;
 
-use crate::verdict::{Answer, Refusal, ScriptRefusal};
+use crate::decision::Answer;
+use crate::refusal::{Refusal, ScriptRefusal};
+use crate::reply::Reply;
 use lexical_grammar::fault::LexicalFault;
 use php_lexer::LexRefusal;
 use php_parser::ParseRefusal;
@@ -21,13 +22,15 @@ pub(crate) const WRITE_FAULT: &[u8] = b"phpsa: WriteFault\n";
 /// The text of a want of memory.
 pub(crate) const NO_MEMORY: &[u8] = b"phpsa: Memory\n";
 
-/// The text of an answer.
-pub(crate) fn answer_text(alloc: Global, answer: &Answer) -> Result<Bytes, NoMemory>
-    ensures { IfOk result (λ text. text ≡ answer_text answer.now) }
+/// The text of a reply.
+pub(crate) fn reply_text(alloc: Global, reply: &Reply) -> Result<Bytes, NoMemory>
+    ensures { IfOk result (λ text. text ≡ reply_text reply.now) }
 {
-    match answer {
-        Answer::Yes => Bytes::from_slice(alloc, b"yes\n"),
-        Answer::No(page) => no_text(alloc, page.as_slice()),
+    match reply {
+        Reply::Script(Answer::Yes) => Bytes::from_slice(alloc, b"yes\n"),
+        Reply::Script(Answer::No(page)) => no_text(alloc, page.as_slice()),
+        Reply::Page(true) => Bytes::from_slice(alloc, b"valid\n"),
+        Reply::Page(false) => Bytes::from_slice(alloc, b"invalid\n"),
     }
 }
 
@@ -112,6 +115,7 @@ pub(crate) fn refusal_text(alloc: Global, file: &[u8], refusal: Refusal) -> Resu
         Refusal::Missing => named_text(alloc, b"phpsa: Missing ", file),
         Refusal::ReadFault => named_text(alloc, b"phpsa: ReadFault ", file),
         Refusal::TooLong { len } => counted_text(alloc, b"TooLong", file, len),
+        Refusal::Limit { count } => limit_text(alloc, count),
         Refusal::Usage => Bytes::from_slice(alloc, b"phpsa: Usage\n"),
         Refusal::Memory => Bytes::from_slice(alloc, NO_MEMORY),
     }
@@ -122,6 +126,15 @@ fn named_text(alloc: Global, front: &[u8], file: &[u8]) -> Result<Bytes, NoMemor
 {
     let mut text = Bytes::from_slice(alloc, front)?;
     text.append(file)?;
+    text.append(b"\n")?;
+    Ok(text)
+}
+
+fn limit_text(alloc: Global, count: u64) -> Result<Bytes, NoMemory>
+    ensures { IfOk result (λ text. text ≡ error_text (refusals.Limit count) []) }
+{
+    let mut text = Bytes::from_slice(alloc, b"phpsa: Dtd Limit ")?;
+    append_number(alloc, &mut text, count)?;
     text.append(b"\n")?;
     Ok(text)
 }

@@ -6,17 +6,12 @@ use Rattle.php_syntax.specs.declared.tree.SuperName.TheVariants.{Get}
 use Rattle.php_syntax.specs.Trees.{PlainExpr, PlainExprs, PlainStmt, PlainStmts, PlainArms, text_expr, super_expr, member_expr, isset_expr, no_exprs, more_exprs, inline_stmt, echo_stmt, if_stmt, no_stmts, more_stmts, no_arms, more_arms}
 use Rattle.first_form.specs.declared.pages.Pages.{Pages}
 use Rattle.std.specs.Char.{is_ascii_alphabetic}
-use Rattle.first_form.specs.Characters.{is_plain}
 
 -- goes on with what there is
 infixl 10 ◌>>=◌
 abbrev pub ◌>>=◌ : {A B : Type 0} → Option A → (A → Option B) → Option B
 None >>= f = None
 (Some x) >>= f = f x
-
--- a text of plain bytes
-unfoldable pub plain_text : List ℕ → Option (List ℕ)
-plain_text text = if list_all is_plain text then Some text else None
 
 -- the text of one text literal
 unfoldable pub literal_of : PlainExpr → Option (List ℕ)
@@ -28,10 +23,10 @@ one_text no_exprs = None
 one_text (more_exprs e no_exprs) = literal_of e
 one_text (more_exprs e (more_exprs f es)) = None
 
--- what inline text or an echo of one text prints, where its bytes are plain
+-- what inline text or an echo of one text prints
 unfoldable pub printed_of : PlainStmt → Option (List ℕ)
-printed_of (inline_stmt text) = plain_text text
-printed_of (echo_stmt es) = one_text es >>= plain_text
+printed_of (inline_stmt text) = Some text
+printed_of (echo_stmt es) = one_text es
 printed_of _ = None
 
 unfoldable pub printed_by : PlainStmts → Option (List ℕ)

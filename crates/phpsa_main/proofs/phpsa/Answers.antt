@@ -3,12 +3,12 @@ use Rattle.phpsa_main.proofs.Soundness.{sound}
 use Rattle.phpsa_main.proofs.OneProgram.{Laws}
 use Rattle.phpsa_main.proofs.phpsa.Goals as goal
 
-pub returns-clause-answered : goal.returns-clause-answered
-returns-clause-answered g c =
+pub returns : goal.returns
+returns g c =
     let laws : Laws = record { one_tokens = c.one_token_list.ensures; never = c.never_both.ensures; one_tree = c.one_tree.ensures } in
-    answers laws _ _ c.run.ensures.ends
-
-pub returns-clause-sound : goal.returns-clause-sound
-returns-clause-sound g c =
-    let laws : Laws = record { one_tokens = c.one_token_list.ensures; never = c.never_both.ensures; one_tree = c.one_tree.ensures } in
-    sound laws _ _ c.ended_runs_print_loose_pages.ensures c.run.ensures.ends
+    record {
+      ends = c.run.ensures.ends;
+      answered = answers laws _ _ c.run.ensures.ends;
+      sound = sound laws c.ended_runs_print_loose_pages.ensures _ _ c.run.ensures.ends;
+      counted = c.run.ensures.counted;
+    }

@@ -1,9 +1,0 @@
-pub mod Tests
-pub mod PieceLemmas
-pub mod Goes
-pub mod Moves
-pub mod Models
-pub mod Levels
-pub mod StateLemmas
-pub mod Steps
-pub mod Left

@@ -1,4 +1,0 @@
-pub mod Faults
-pub mod PageBytes
-pub mod Pieces
-pub mod States
