@@ -1,4 +1,3 @@
 pub mod Examples
 mod MiniLemmas
-pub mod Encoded
 pub mod Views

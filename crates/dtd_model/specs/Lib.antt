@@ -1,10 +1,6 @@
-pub mod Attributes
 pub mod Lawful
 pub mod Matches
 pub mod Mini
-pub mod PageTree
-pub mod Prolog
 pub mod References
 pub mod Table
 pub mod TableOf
-pub mod Valid

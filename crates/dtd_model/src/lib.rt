@@ -1,7 +1,7 @@
-//! Document type definitions, and when a page is valid by one. The types here say what elements
-//! and attributes are declared; the files of specs/ say what a page tree is, which bytes spell
-//! it, and when it is valid, which the contracts of the checkers above cite as `Valid`.
-//! A [`Dtd`] keeps that it is lawful (specs/Lawful.antt). Below stand text_base and xml_text.
+//! Document type definitions: the types say what elements and attributes are declared, and the
+//! files of specs/ which children an element may have, which references are known, and what a
+//! [`Dtd`] keeps (specs/Lawful.antt). When a page is valid by one stands in page_model. Below
+//! stand text_base and xml_text.
 #![tactic(auto)]
 
 mod definition;

@@ -21,6 +21,6 @@ pub use bytes::Bytes;
 pub use exact::Exact;
 pub use letter::Letter;
 pub use memory::NoMemory;
-pub use numbers::{Elem, Nt, Point, Slot, Version};
+pub use numbers::{Elem, Nt, Point, Slot};
 pub use page_token::PageToken;
 pub use sets::ByteSet;
