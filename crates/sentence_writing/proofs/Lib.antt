@@ -1,0 +1,4 @@
+pub mod ForkLemmas
+pub mod PieceLemmas
+pub mod StackLemmas
+pub mod WriteLemmas

@@ -1,0 +1,5 @@
+pub mod Bytes
+pub mod Forks
+pub mod Pieces
+pub mod Stacked
+pub mod Walks
