@@ -1,0 +1,3 @@
+pub mod NamingLemmas
+pub mod ProductionLemmas
+pub mod TrimLemmas
