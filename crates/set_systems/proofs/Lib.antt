@@ -1,0 +1,4 @@
+pub mod Simulating
+pub mod Parts
+pub mod Texts
+pub mod Same

@@ -1,0 +1,4 @@
+pub mod Systems
+pub mod Parts
+pub mod Written
+pub mod Closed
