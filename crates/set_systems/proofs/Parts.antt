@@ -130,7 +130,11 @@ module _ (cells : Numbered) (says : ℕ → Type 0) (says_is : (j : ℕ) → say
   byte_first : (p q r : Part) (b : ℕ) → P p (join_form q r) → MeansByte q b → MeansByte p b
   byte_first _ _ _ b (PartRow.join k i j cell) h = Byte.first k i j b cell h
   byte_first _ _ _ b (PartRow.before k c j w cell) h = Byte.prefix k j (c ∷ w) b cell h
-  byte_first _ _ _ b (PartRow.first c d w r lo hi) h = subst (λ z. Contains (z ∷ d ∷ w) b) (omega (arith, lo, hi, h)) (Contains-head b (d ∷ w))
+  byte_first _ _ _ b (PartRow.first c d w) h =
+      elim (Contains-cons_cases c [] b h) [
+        | inl e ↦ subst (λ z. Contains (c ∷ d ∷ w) z) e (Contains-head c (d ∷ w))
+        | inr none ↦ Contains-nil b none
+      ]
   byte_first _ _ _ b (PartRow.closed_two left s t has) h =
       let k = of_symbol s b h in
       let l = live_second left s t has in
@@ -139,7 +143,7 @@ module _ (cells : Numbered) (says : ℕ → Type 0) (says_is : (j : ℕ) → say
   byte_second : (p q r : Part) (b : ℕ) → P p (join_form q r) → MeansByte r b → MeansByte p b
   byte_second _ _ _ b (PartRow.join k i j cell) h = Byte.second k i j b cell h
   byte_second _ _ _ b (PartRow.before k c j w cell) h = Byte.behind k j (c ∷ w) b cell h
-  byte_second _ _ _ b (PartRow.first c d w r lo hi) h = Contains-later c (d ∷ w) b h
+  byte_second _ _ _ b (PartRow.first c d w) h = Contains-later c (d ∷ w) b h
   byte_second _ _ _ b (PartRow.closed_two left s t has) h =
       let k = of_symbol t b h in
       let l = live_first left s t has in
@@ -233,7 +237,7 @@ module _ (cells : Numbered) (says : ℕ → Type 0) (says_is : (j : ℕ) → say
   inner_row _ q _ i (PartRow.where_nothing k j c s) h = Contains-nil q h
   inner_row _ q _ i (PartRow.where_yes k b j w c s) h = inner_one (end_part (b ∷ w)) q (IsInner.an_end (b ∷ w)) h
   inner_row _ q _ i (PartRow.last b) h = Contains-nil q h
-  inner_row _ q _ i (PartRow.first b c w r lo hi) h = inner_two (range_part r) (end_part (c ∷ w)) q (IsInner.a_range r) (IsInner.an_end (c ∷ w)) h
+  inner_row _ q _ i (PartRow.first b c w) h = inner_two (end_part (b ∷ [])) (end_part (c ∷ w)) q (IsInner.an_end (b ∷ [])) (IsInner.an_end (c ∷ w)) h
   inner_row _ q _ i (PartRow.range r b within) h = Contains-nil q h
   inner_row _ q _ i (PartRow.closed_empty left has) h = Contains-nil q h
   inner_row _ q _ i (PartRow.closed_one left a has) h = inner_one (symbol_part a) q (of_symbols a) h

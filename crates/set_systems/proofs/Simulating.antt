@@ -68,7 +68,7 @@ module _ (cells : Numbered) (says : ℕ → Type 0) (closed : Closed) (parts : L
   other_listed _ _ n at (PartRow.where_nothing k j c says) not_same = empty_listed (set_part k) n at (PartRow.where_nothing k j c says)
   other_listed _ _ n at (PartRow.where_yes k b j w c says) not_same = cc
   other_listed _ _ n at (PartRow.last b) not_same = absurd (written.no_byte b n.0 at)
-  other_listed _ _ n at (PartRow.first b c w r lo hi) not_same = two_listed (end_part (b ∷ c ∷ w)) (range_part r) (end_part (c ∷ w)) n at (PartRow.first b c w r lo hi)
+  other_listed _ _ n at (PartRow.first b c w) not_same = two_listed (end_part (b ∷ c ∷ w)) (end_part (b ∷ [])) (end_part (c ∷ w)) n at (PartRow.first b c w)
   other_listed _ _ n at (PartRow.range r b within) not_same = absurd (written.no_range r n.0 at)
   other_listed _ _ n at (PartRow.closed_empty left has) not_same = empty_listed (closed_part left.0) n at (PartRow.closed_empty left has)
   other_listed _ _ n at (PartRow.closed_one left a has) not_same = cc

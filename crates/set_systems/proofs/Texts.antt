@@ -1,9 +1,8 @@
 -- The texts of parts are those of the cells.
-use Rattle.std.proofs.Common.{◌≡◌, inl, inr, ◌↔◌, ℕ, List, [], ◌∷◌, ◌++◌, map, refl, sym, subst, ap, arith}
+use Rattle.std.proofs.Common.{◌≡◌, inl, inr, ◌↔◌, ℕ, List, [], ◌∷◌, ◌++◌, map, refl, sym, subst}
 use Rattle.std.specs.Prelude.{Contains}
 use Rattle.std.proofs.lemmas.List.Elements.{Contains-append_cases}
 use Rattle.string_functions.proofs.Members.{Contains-nil, Contains-cons_cases, Contains-head}
-use Rattle.text_base.specs.declared.byte_range.ByteRange.{ByteRange}
 use Rattle.text_base.specs.declared.letter.Letter.{Letter}
 use Rattle.text_base.specs.declared.letter.Letter.TheVariants.{OfByte}
 use Rattle.text_base.specs.ByteRange.{InRange}
@@ -67,9 +66,7 @@ module _ (cells : Numbered) (says : ℕ → Type 0) (says_is : (j : ℕ) → say
   m_join : (p q r : Part) (u v : List ℕ) → P p (join_form q r) → Means q u → Means r v → Means p (u ++ v)
   m_join _ _ _ u v (PartRow.join k i j c) h g = In.join k i j u v c h g
   m_join _ _ _ u v (PartRow.before k b j w c) h g = subst (λ z. C k (z ++ v)) (sym h) (In.before k j (b ∷ w) v c g)
-  m_join _ _ _ u v (PartRow.first b c w r lo hi) h g =
-      let e : h.0 ≡ b = omega (arith, h.1, lo, hi) in
-      subst (λ z. u ++ z ≡ b ∷ c ∷ w) (sym g) (subst (λ z. z ++ c ∷ w ≡ b ∷ c ∷ w) (sym h.2) (ap (λ z. z ∷ c ∷ w) e))
+  m_join _ _ _ u v (PartRow.first b c w) h g = subst (λ z. u ++ z ≡ b ∷ c ∷ w) (sym g) (subst (λ z. z ++ c ∷ w ≡ b ∷ c ∷ w) (sym h) refl)
   m_join _ _ _ u v (PartRow.closed_two left s t has) h g = parts.both cells says says_is closed request is left s t u v has (of_symbol s u h) (of_symbol t v g)
 
   m_apply : (p q : Part) (op : Op) (u w : List ℕ) → P p (apply_form op q) → Means q u → outputs op u w → Means p w
@@ -98,18 +95,15 @@ module _ (cells : Numbered) (says : ℕ → Type 0) (says_is : (j : ℕ) → say
   at_end : (b : ℕ) (w : List ℕ) → Q (end_part (b ∷ w)) (b ∷ w)
   at_end b [] = In.text (end_part (b ∷ [])) (b ∷ []) (PartRow.last b)
   at_end b (c ∷ w) =
-      let r : ByteRange = record { lo = b; hi = b; ordered = omega arith } in
-      In.join (end_part (b ∷ c ∷ w)) (range_part r) (end_part (c ∷ w)) (b ∷ []) (c ∷ w) (PartRow.first b c w r refl refl)
-      (In.text (range_part r) (b ∷ []) (PartRow.range r b (omega arith, omega arith))) (at_end c w)
+      In.join (end_part (b ∷ c ∷ w)) (end_part (b ∷ [])) (end_part (c ∷ w)) (b ∷ []) (c ∷ w) (PartRow.first b c w) (In.text (end_part (b ∷ [])) (b ∷ []) (PartRow.last b)) (at_end c w)
 
   byte_at_end : (b : ℕ) (w : List ℕ) (x : ℕ) → Contains (b ∷ w) x → Byte P others (end_part (b ∷ w)) x
   byte_at_end b [] x h = Byte.text (end_part (b ∷ [])) (b ∷ []) x (PartRow.last b) h
   byte_at_end b (c ∷ w) x h =
-      let r : ByteRange = record { lo = b; hi = b; ordered = omega arith } in
       elim (Contains-cons_cases b (c ∷ w) x h) [
-        | inl e ↦ Byte.first (end_part (b ∷ c ∷ w)) (range_part r) (end_part (c ∷ w)) x (PartRow.first b c w r refl refl)
-            (Byte.text (range_part r) (b ∷ []) x (PartRow.range r b (omega arith, omega arith)) (subst (λ z. Contains (b ∷ []) z) e (Contains-head b [])))
-        | inr there ↦ Byte.second (end_part (b ∷ c ∷ w)) (range_part r) (end_part (c ∷ w)) x (PartRow.first b c w r refl refl) (byte_at_end c w x there)
+        | inl e ↦ Byte.first (end_part (b ∷ c ∷ w)) (end_part (b ∷ [])) (end_part (c ∷ w)) x (PartRow.first b c w)
+            (Byte.text (end_part (b ∷ [])) (b ∷ []) x (PartRow.last b) (subst (λ z. Contains (b ∷ []) z) e (Contains-head b [])))
+        | inr there ↦ Byte.second (end_part (b ∷ c ∷ w)) (end_part (b ∷ [])) (end_part (c ∷ w)) x (PartRow.first b c w) (byte_at_end c w x there)
       ]
 
   closed_text : (s : Symbol) (v : List Letter) → Derives G s v → (w : List ℕ) → v ≡ map OfByte w → Q (symbol_part s) w

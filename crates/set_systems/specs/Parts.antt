@@ -1,6 +1,6 @@
 -- The table of a list of cells over parts: each set, each end of a text that stands in a cell, and each nonterminal of a closed grammar for the
 -- texts of the request and of integers.
-use Rattle.std.specs.Prelude.{◌≡◌, ℕ, List, [], ◌∷◌, Contains}
+use Rattle.std.specs.Prelude.{ℕ, List, [], ◌∷◌, Contains}
 use Rattle.text_base.specs.declared.byte_range.ByteRange.{ByteRange}
 use Rattle.text_base.specs.declared.numbers.Nt as nt
 use Rattle.text_base.specs.ByteRange.{InRange}
@@ -50,7 +50,7 @@ pub data PartRow (cells : Numbered) (says : ℕ → Type 0) (closed : Closed) : 
   where_yes : (k b j : ℕ) (w : List ℕ) → cells k (where_form (b ∷ w) j) → says j → PartRow cells says closed (set_part k) (same_form (end_part (b ∷ w)))
   -- a text is its first byte and what is behind it
   last : (b : ℕ) → PartRow cells says closed (end_part (b ∷ [])) (text_form (b ∷ []))
-  first : (b c : ℕ) (w : List ℕ) (r : ByteRange) → r.lo ≡ b → r.hi ≡ b → PartRow cells says closed (end_part (b ∷ c ∷ w)) (join_form (range_part r) (end_part (c ∷ w)))
+  first : (b c : ℕ) (w : List ℕ) → PartRow cells says closed (end_part (b ∷ c ∷ w)) (join_form (end_part (b ∷ [])) (end_part (c ∷ w)))
   range : (r : ByteRange) (b : ℕ) → InRange r b → PartRow cells says closed (range_part r) (text_form (b ∷ []))
   -- the closed grammar as it is
   closed_empty : (left : nt.Nt) → Contains closed.productions (record { left = left; right = Empty }) → PartRow cells says closed (closed_part left.0) (text_form [])
