@@ -1,0 +1,4 @@
+pub mod ReplaceLemmas
+pub mod FillLemmas
+pub mod BlockLemmas
+pub mod LoopLemmas
