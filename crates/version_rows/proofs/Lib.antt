@@ -1,0 +1,3 @@
+pub mod Reading
+pub mod ByVersions
+pub mod OfVersions

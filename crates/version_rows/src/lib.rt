@@ -1,0 +1,2 @@
+//! The table of the sets by versions.
+#![tactic(auto)]
