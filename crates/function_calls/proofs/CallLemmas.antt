@@ -8,16 +8,16 @@ use Rattle.program_rules.specs.Calls.{PlainCall, statement_calls, function_calls
 use Rattle.program_rules.specs.Programs.{ReadFile}
 use Rattle.expansion_keeps.specs.FileCalls.{calls_of_file, calls_in_files}
 
-tree_of : (o : Option ReadFile) (tree : PlainFile) → Some tree ≡ option_map (λ (file : ReadFile). file.tree) o → (file : ReadFile) × (o ≡ Some file) × (tree ≡ file.tree)
+pub tree_of : (o : Option ReadFile) (tree : PlainFile) → Some tree ≡ option_map (λ (file : ReadFile). file.tree) o → (file : ReadFile) × (o ≡ Some file) × (tree ≡ file.tree)
 tree_of None tree e = absurd (cc)
 tree_of (Some file) tree e = (file, refl, same_Some tree file.tree e)
 
-drop_file : (files : List ReadFile) (k : ℕ) (file : ReadFile) → slice_get files k ≡ Some file → drop k files ≡ file ∷ drop (suc k) files
+pub drop_file : (files : List ReadFile) (k : ℕ) (file : ReadFile) → slice_get files k ≡ Some file → drop k files ≡ file ∷ drop (suc k) files
 drop_file [] k file e = absurd (cc)
 drop_file (f ∷ fs) zero file e = ap (λ (g : ReadFile). g ∷ fs) (same_Some f file e)
 drop_file (f ∷ fs) (suc k) file e = drop_file fs k file e
 
-drop_past : {X : Type 0} (xs : List X) (i : ℕ) → length xs ≤ i → drop i xs ≡ []
+pub drop_past : {X : Type 0} (xs : List X) (i : ℕ) → length xs ≤ i → drop i xs ≡ []
 drop_past [] zero le = refl
 drop_past [] (suc i) le = refl
 drop_past (y ∷ ys) zero le = absurd (omega arith)

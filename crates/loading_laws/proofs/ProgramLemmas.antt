@@ -11,17 +11,18 @@ use Rattle.script_meaning.specs.Programs.{PlainProgram}
 use Rattle.program_rules.specs.Files.{Held, HasTree, HasOneTree}
 use Rattle.program_rules.specs.Includes.{includes_in, includes_in_functions, includes_of_file, Reads, itself, included, LeadsTo}
 use Rattle.program_rules.specs.Expansion.{with_bodies, StandsFor}
-use Rattle.program_rules.specs.Limits.{one_each, HasPlaces, HavePlaces}
+use Rattle.program_rules.specs.Limits.{one_each, HasPlaces, HavePlaces, IsWithin}
 use Rattle.program_rules.specs.Limits as limits
-use Rattle.program_rules.specs.Programs.{ReadFile, AreRead, functions_in, TableStandsFor, IsProgram}
+use Rattle.program_rules.specs.Programs.{ReadFile, AreRead, functions_in, TableStandsFor, HasNoCycle, IsProgram}
 use Rattle.program_rules.specs.Programs as programs
 use Rattle.program_files.specs.Order.{is_read, Reached}
 use Rattle.expansion_laws.specs.Within.{tree_named, bodies_within, places_within, with_body, program_within, IsIncludeOrder, AreHeld}
 use Rattle.file_order.specs.FileOrder.{AreWhole}
 use Rattle.file_order.proofs.PlaceLemmas.{place_there, file_there, tree_there, read_here}
-use Rattle.program_sizes.specs.Limits.{function_places}
+use Rattle.php_writer.proofs.BackFiles.{spelled_is_spellable}
+use Rattle.program_sizes.specs.Limits.{function_places, program_places}
 use Rattle.program_sizes.proofs.TableLemmas.{function_includes, all_first}
-use Rattle.loading_laws.specs.Loaded.{MakeProgram}
+use Rattle.loading_laws.specs.Loaded.{AreScripts, MakeProgram, StandsForProgram}
 use Rattle.loading_laws.proofs.LawfulLemmas.{CallsAreInFiles, rules_kept}
 
 abbrev pub OneTokenList : Type 0
@@ -104,36 +105,66 @@ in_body : (tree : PlainFile) (path : List ℕ) → Contains (includes_in tree.bo
 unfolding includes_of_file
 in_body tree path c = Contains-append_left (includes_in tree.body_of) (includes_in_functions tree.functions_of) path c
 
-made_is_program : TheyStandFor → TheyHavePlaces → NoneIncludesItself → CallsAreInFiles → (held : Held) (files : List ReadFile) (order : List (List ℕ)) (name : List ℕ) → HasOneTree held → AreRead held name files
-    → MakeProgram files order name (program_within files (length order) (tree_named files name)) → IsProgram held name (program_within files (length order) (tree_named files name))
-made_is_program stand places circles calls held files order name one read made =
+abbrev pub ReadsTheProgram : Type 0
+ReadsTheProgram = (held : Held) (name : List ℕ) (files : List ReadFile) → HasOneTree held → Reached (HasTree held) name files [] → AreRead held name files
+
+-- no file includes itself
+pub is_acyclic : NoneIncludesItself → (held : Held) (files : List ReadFile) (order : List (List ℕ)) (name : List ℕ) → HasOneTree held → AreRead held name files → IsIncludeOrder files order → HasNoCycle held name
+is_acyclic circles held files order name one read sorted path reads circle =
+    circles held files order path one sorted (are_held held name files read) (sorted.all path (path_read held name files read path reads)) circle
+
+-- the file of the name stands for the program that they make
+pub stands_for_program : TheyStandFor → TheyHavePlaces → (held : Held) (files : List ReadFile) (order : List (List ℕ)) (name : List ℕ) → AreRead held name files → IsIncludeOrder files order
+    → StandsForProgram held name files (program_places files (length order) (tree_named files name)) (program_within files (length order) (tree_named files name))
+stands_for_program stand places held files order name read sorted =
     let n = length order in
     let has = are_held held name files read in
-    let whole = are_whole held name files read in
     let tree = tree_named files name in
     let spelled = has name (path_read held name files read name itself) in
-    let in_order : (path : List ℕ) → Reads held name path → Contains (take n order) path = λ path reads. all_first order path (made.sorted.all path (path_read held name files read path reads)) in
+    let in_order : (path : List ℕ) → Reads held name path → Contains (take n order) path = λ path reads. all_first order path (sorted.all path (path_read held name files read path reads)) in
     let own_body : (path : List ℕ) → Contains (includes_in tree.body_of) path → Contains (take n order) path = λ path c. in_order path (included name path tree itself spelled (in_body tree path c)) in
     let in_functions : (path : List ℕ) → Contains (includes_in_functions (functions_in files)) path → Contains (take n order) path =
     λ path c. (let f = function_includes files path c in let own = read.each f.0 f.1 in in_order path (included f.0.name path f.0.tree own.0 own.1 f.2)) in
     record {
-      files = files;
-      read = read;
-      acyclic = λ path reads circle. circles held files order path one made.sorted has (made.sorted.all path (path_read held name files read path reads)) circle;
       tree = tree;
       spelled = spelled;
-      main = stand held files order n tree.body_of made.sorted has own_body;
-      functions = functions_stand stand held files order n made.sorted has (functions_in files) in_functions;
-      rules = rules_kept calls files n name made.rules;
+      main = stand held files order n tree.body_of sorted has own_body;
+      functions = functions_stand stand held files order n sorted has (functions_in files) in_functions;
       own_places = one_each (places_within files n) (includes_in tree.body_of);
-      has_places = places held files order n tree.body_of made.sorted has own_body;
+      has_places = places held files order n tree.body_of sorted has own_body;
       function_places = function_places files n (functions_in files);
-      have_places = functions_places places held files order n made.sorted has (functions_in files) in_functions;
-      within = made.within;
+      have_places = functions_places places held files order n sorted has (functions_in files) in_functions;
+      all_places = refl;
     }
 
-pub is_program : TheyStandFor → TheyHavePlaces → NoneIncludesItself → CallsAreInFiles → ((held : Held) (name : List ℕ) (files : List ReadFile) → HasOneTree held → Reached (HasTree held) name files [] → AreRead held name files)
+made_is_program : TheyStandFor → TheyHavePlaces → NoneIncludesItself → CallsAreInFiles → (held : Held) (files : List ReadFile) (order : List (List ℕ)) (name : List ℕ) → HasOneTree held → AreRead held name files
+    → MakeProgram files order name (program_within files (length order) (tree_named files name)) → IsProgram held name (program_within files (length order) (tree_named files name))
+made_is_program stand places circles calls held files order name one read made =
+    let stands = stands_for_program stand places held files order name read made.sorted in
+    let W : ℕ → Type 0 = λ places. IsWithin places (program_within files (length order) (tree_named files name)) in
+    record {
+      files = files;
+      read = read;
+      acyclic = is_acyclic circles held files order name one read made.sorted;
+      tree = stands.tree;
+      spelled = stands.spelled;
+      main = stands.main;
+      functions = stands.functions;
+      rules = rules_kept calls files (length order) name made.rules;
+      own_places = stands.own_places;
+      has_places = stands.has_places;
+      function_places = stands.function_places;
+      have_places = stands.have_places;
+      within = subst W stands.all_places made.within;
+    }
+
+pub is_program : TheyStandFor → TheyHavePlaces → NoneIncludesItself → CallsAreInFiles → ReadsTheProgram
     → (held : Held) (files : List ReadFile) (order : List (List ℕ)) (name : List ℕ) (program : PlainProgram) → HasOneTree held → Reached (HasTree held) name files [] → MakeProgram files order name program → IsProgram held name program
 is_program stand places circles calls reading held files order name program one reached made =
     let P : PlainProgram → Type 0 = λ p. MakeProgram files order name p in
     subst (IsProgram held name) (sym made.program_is) (made_is_program stand places circles calls held files order name one (reading held name files one reached) (subst P made.program_is made))
+
+-- each file is a script
+pub are_scripts : (held : Held) (name : List ℕ) (files : List ReadFile) → AreRead held name files → AreScripts files
+are_scripts held name files read file c =
+    let has = (read.each file c).1 in (spelled_is_spellable has.bytes has.tokens file.tree has.cut has.spelled, has.spelled.fits)

@@ -2,15 +2,16 @@
 //! its contract states.
 #![tactic(auto)]
 
-ghost use Rattle.std.specs.Prelude.{ℕ, List, []};
+ghost use Rattle.std.specs.Prelude.{◌≡◌, ℕ, List, [], true, length};
 ghost use Rattle.script_meaning.specs.Programs.{PlainProgram};
 ghost use Rattle.program_rules.specs.Files.{Held, HasTree, HasOneTree};
-ghost use Rattle.program_rules.specs.Programs.{ReadFile, IsProgram};
+ghost use Rattle.program_rules.specs.Programs.{ReadFile, IsProgram, HasNoCycle};
 ghost use Rattle.php_program.specs.Lawful.{IsLawful};
-ghost use Rattle.program_files.specs.Order.{Reached};
+ghost use Rattle.program_files.specs.Order.{is_read, Reached};
 ghost use Rattle.file_order.specs.FileOrder.{AreWhole};
-ghost use Rattle.expansion_laws.specs.Within.{AreHeld};
-ghost use Rattle.loading_laws.specs.Loaded.{AreScripts, MakeProgram};
+ghost use Rattle.expansion_laws.specs.Within.{tree_named, program_within, IsIncludeOrder, AreHeld};
+ghost use Rattle.program_sizes.specs.Limits.{program_places};
+ghost use Rattle.loading_laws.specs.Loaded.{AreScripts, MakeProgram, StandsForProgram};
 
 use expansion_keeps::{calls_are_in_files, forms_are_kept, rules_are_kept};
 use expansion_laws::{
@@ -28,12 +29,30 @@ pub fn each_has_one_tree()
     one_tree();
 }
 
-/// Files that were read, with no name left to be looked at, are under names of their own with all that they include, and hold their trees.
+/// Files that were read, with no name left to be looked at, are under names of their own with all that they include, and hold their trees;
+/// each is a script, and that of the name is among them.
 pub fn read_files_are_whole()
     ensures whole { (held : Held) (name : List ℕ) (files : List ReadFile) → HasOneTree held → Reached (HasTree held) name files [] → AreWhole files }
     ensures held { (held : Held) (name : List ℕ) (files : List ReadFile) → HasOneTree held → Reached (HasTree held) name files [] → AreHeld held files }
+    ensures scripts { (held : Held) (name : List ℕ) (files : List ReadFile) → HasOneTree held → Reached (HasTree held) name files [] → AreScripts files }
+    ensures named { (held : Held) (name : List ℕ) (files : List ReadFile) → HasOneTree held → Reached (HasTree held) name files [] → is_read files name ≡ true }
 {
     files_of_the_program();
+}
+
+/// Where they have an order of their includes, none includes itself, and the file of the name stands for a program, however large.
+pub fn ordered_files_stand_for_a_program()
+    ensures acyclic { (held : Held) (name : List ℕ) (files : List ReadFile) (order : List (List ℕ)) →
+        HasOneTree held → Reached (HasTree held) name files [] → IsIncludeOrder files order → HasNoCycle held name }
+    ensures program { (held : Held) (name : List ℕ) (files : List ReadFile) (order : List (List ℕ)) →
+        HasOneTree held → Reached (HasTree held) name files [] → IsIncludeOrder files order →
+        StandsForProgram held name files (program_places files (length order) (tree_named files name))
+        (program_within files (length order) (tree_named files name)) }
+{
+    files_of_the_program();
+    statements_stand_for();
+    statements_have_places();
+    none_includes_itself();
 }
 
 /// What files make is lawful.

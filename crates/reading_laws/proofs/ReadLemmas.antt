@@ -19,7 +19,7 @@ no_member : {X : Type 0} (x : X) → Contains [] x → ⊥
 no_member x c = let h = c.1 in omega arith
 
 -- each name that is looked at is one that the program reads
-paths_read : (held : Held) (name : List ℕ) (files : List ReadFile) (paths : List (List ℕ)) → Reached (HasTree held) name files paths → (path : List ℕ) → Contains paths path → Reads held name path
+pub paths_read : (held : Held) (name : List ℕ) (files : List ReadFile) (paths : List (List ℕ)) → Reached (HasTree held) name files paths → (path : List ℕ) → Contains paths path → Reads held name path
 paths_read held name files paths begun path c = elim (first_or_later name path [] c) [ inl same ↦ subst (Reads held name) same itself | inr none ↦ absurd (no_member path none) ]
 paths_read held name files paths (again _ x _ r read) path c = paths_read held name files (x ∷ paths) r path (contains_later x path paths c)
 paths_read held name files paths (next fs x ps tree r unread has) path c = elim (Contains-append_cases (includes_of_file tree) ps path c) [

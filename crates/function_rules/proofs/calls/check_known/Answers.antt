@@ -1,0 +1,14 @@
+use Rattle.std.proofs.Common.{◌≡◌, ◌<◌, false, length, arith}
+use Rattle.program_rules.specs.Rules.{is_known}
+use Rattle.program_calls.specs.Seen.{plain_call, calls_seen}
+use Rattle.function_rules.specs.Causes.{is_unknown}
+use Rattle.function_rules.proofs.CallLemmas.{stops, first_named, not_known}
+use Rattle.function_rules.proofs.calls.check_known.Goals as goal
+
+pub returns-then-not-knows-clause-err : goal.returns-then-not-knows-clause-err
+returns-then-not-knows-clause-err c functions table =
+    let call = c.call-item.result in
+    let fails : false ≡ is_known functions (plain_call call) = (let h = c.if-not-knows.true in let k = c.knows.ensures functions table in cc) in
+    let lt : c.loop-call.call-index < length c.args.calls.now = (let h = c.loop-call-test.true in omega arith) in
+    first_named (is_unknown functions) (calls_seen c.args.calls.now) call c.in_ok-name.name
+    (stops (is_unknown functions) c.args.calls.now c.loop-call.call-index call (calls_seen c.args.calls.now) lt c.call-item.is (not_known (is_known functions (plain_call call)) fails) (c.loop-call.invariant functions table)) c.in_ok-name.ensures
