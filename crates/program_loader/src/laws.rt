@@ -1,0 +1,34 @@
+//! From files that were read to the program of a name, or to the cause of a refusal.
+
+ghost use Rattle.std.specs.Prelude.{ℕ, List};
+ghost use Rattle.script_meaning.specs.Programs.{PlainProgram};
+ghost use Rattle.program_rules.specs.Programs.{ReadFile};
+ghost use Rattle.program_files.specs.declared.refusal.LoadRefusal.{LoadRefusal};
+ghost use Rattle.program_files.specs.Source.{SourceCall};
+ghost use Rattle.program_files.specs.Causes.{ReadsAll, IsReadCause};
+ghost use Rattle.program_loader.specs.Causes.{Loads, IsLoadCause};
+ghost use Rattle.program_loader.specs.Making.{AreReady, Make, IsMakeCause};
+
+use loading_laws::{
+    each_has_one_tree, made_programs_are_programs, ordered_files_stand_for_a_program,
+    read_files_are_whole,
+};
+use reading_laws::{files_of_the_program, names_looked_at, what_was_held};
+
+/// What is read and made is loaded, and why reading or making stops is why loading does.
+pub fn what_is_made_is_loaded()
+    ensures ready { (call : SourceCall) (name : List ℕ) (files : List ReadFile) → ReadsAll call name files → AreReady files name }
+    ensures ok { (call : SourceCall) (name : List ℕ) (files : List ReadFile) (program : PlainProgram) →
+        ReadsAll call name files → Make files name program → Loads call name program }
+    ensures err { (call : SourceCall) (name : List ℕ) (files : List ReadFile) (refusal : LoadRefusal) →
+        ReadsAll call name files → IsMakeCause files name refusal → IsLoadCause call name refusal }
+    ensures unread { (call : SourceCall) (name : List ℕ) (refusal : LoadRefusal) → IsReadCause call name refusal → IsLoadCause call name refusal }
+{
+    each_has_one_tree();
+    what_was_held();
+    files_of_the_program();
+    names_looked_at();
+    read_files_are_whole();
+    ordered_files_stand_for_a_program();
+    made_programs_are_programs();
+}
