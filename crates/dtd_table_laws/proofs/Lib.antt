@@ -1,2 +1,4 @@
-pub mod OneTable
 pub mod NothingWrong
+pub mod Told
+pub mod OneTable
+pub mod NotRefused

@@ -1,26 +1,26 @@
 -- A file spells one table.
-use Rattle.std.proofs.Common.{◌≡◌, ◌∙◌, ℕ, List, [], ◌∷◌, map, Option, Some, None, refl, sym, ap, subst, arith}
-use Rattle.io_edge.specs.Told.{Tells}
+use Rattle.std.proofs.Common.{◌≡◌, ◌∙◌, ℕ, List, [], ◌∷◌, map, refl, sym, ap, subst, inl, inr, arith}
 use Rattle.dtd_model.specs.Table.{Table, Rule}
 use Rattle.dtd_model.specs.declared.dtd.DoctypeRule.{DoctypeRule}
-use Rattle.dtd_texts.specs.Tokens.{behind_declaration}
-use Rattle.dtd_texts.specs.Reading.{State, Content, IsTold, Holds, Written}
+use Rattle.dtd_texts.specs.Reading.{State, Content, Holds, start}
+use Rattle.dtd_texts.specs.Causes.{asks}
 use Rattle.dtd_texts.specs.Spells.{ReadsAll, Says, DtdSpells}
-use Rattle.dtd_texts.specs.Tables.{Said, said, element_names, rules_of}
-use Rattle.dtd_texts.specs.Went.{Went, leads}
-use Rattle.dtd_texts.proofs.Once.{reads_once}
+use Rattle.dtd_texts.specs.Tables.{Said, rules_of}
+use Rattle.dtd_texts.specs.Went.{leads}
 use Rattle.dtd_table_laws.proofs.NothingWrong.{cons_first, cons_rest}
+use Rattle.dtd_table_laws.specs.Certain.{IsToldOf, AreTold}
+use Rattle.dtd_table_laws.proofs.Told.{AsksFrom, asks_there, TellsFrom, holds_one, reads_one}
 
-some_same : {X : Type 0} {x y : X} → Some x ≡ Some y → x ≡ y
-some_same e = cc
+asked_for : {content : Content} {name file system : List ℕ} → AreTold content name → Holds content name file → AsksFrom content [] start file system → IsToldOf content system
+asked_for told held (asks_there outer s b n bytes entity meets is shut outside) =
+    told _ (inr (record { file = _; held = held; so = asks entity outer s (record { b = b; n = n; bytes = bytes; meets = meets; is = is }) shut outside }))
 
-told_same : (t : Option (Option (List ℕ))) (file : Option (List ℕ)) (x y : List ℕ) → t ≡ Some file → Tells t (Some x) → Tells t (Some y) → x ≡ y
-told_same None file x y e a b = absurd (grind arith)
-told_same (Some t) file x y e a b = some_same (sym a ∙ b)
+pub tells : {content : Content} {name file : List ℕ} → AreTold content name → Holds content name file → TellsFrom content [] start file
+tells told held = record { told = λ system asked. asked_for told held asked }
 
-one_file : (content : Content) (name a b : List ℕ) → IsTold content → Holds content name a → Holds content name b → a ≡ b
-one_file content name a b told h k =
-    let t = told name in sym h.is ∙ ap behind_declaration (told_same (content name) t.0 h.whole k.whole t.1 h.told k.told) ∙ k.is
+-- the file holds one text
+pub one_file : {content : Content} {name a b : List ℕ} → AreTold content name → Holds content name a → Holds content name b → a ≡ b
+one_file {content = content} {name = name} {a = a} {b = b} told h k = holds_one content name a b (told name (inl refl)) h k
 
 leads_same : {S : Type 0} {a b : S} → leads a ≡ leads b → a ≡ b
 leads_same e = cc
@@ -31,7 +31,7 @@ map_leads [] (y ∷ ys) e = absurd (grind arith)
 map_leads (x ∷ xs) [] e = absurd (grind arith)
 map_leads (x ∷ xs) (y ∷ ys) e = ap (λ (z : Said). z ∷ xs) (leads_same (cons_first e)) ∙ ap (λ (zs : List Said). y ∷ zs) (map_leads xs ys (cons_rest e))
 
-same_table : (t u : Table) → t.elements ≡ u.elements → t.entities ≡ u.entities → t.doctype ≡ u.doctype → t ≡ u
+pub same_table : (t u : Table) → t.elements ≡ u.elements → t.entities ≡ u.entities → t.doctype ≡ u.doctype → t ≡ u
 same_table t u e f g =
     ap (λ (rs : List Rule). let x : Table = record { elements = rs; entities = t.entities; doctype = t.doctype } in x) e
     ∙ ap (λ (ns : List (List ℕ)). let x : Table = record { elements = u.elements; entities = ns; doctype = t.doctype } in x) f
@@ -44,8 +44,7 @@ same_last t u a b xs ys e p q te ue tn un d =
     let same : xs ≡ ys = map_leads xs ys (sym all.each ∙ q.each) in
     same_table t u (te ∙ ap (λ (zs : List Said). rules_of zs zs) same ∙ sym ue) (tn ∙ ap (λ (s : State). s.generals) e ∙ sym un) d
 
-pub one_table : (content : Content) (name : List ℕ) (t u : Table) → IsTold content → DtdSpells content name t → DtdSpells content name u → t ≡ u
+pub one_table : (content : Content) (name : List ℕ) (t u : Table) → AreTold content name → DtdSpells content name t → DtdSpells content name u → t ≡ u
 one_table content name t u told p q =
-    let file = one_file content name p.file q.file told p.held q.held in
-    let other = subst (λ f. ReadsAll content f p.last) file p.read in
-    same_last t u p.last q.last p.says q.says (reads_once told other.reads q.read.reads) p.said q.said p.elements q.elements p.entities q.entities (p.doctype ∙ sym q.doctype)
+    let other : ReadsAll content q.file p.last = subst (λ f. ReadsAll content f p.last) (one_file told p.held q.held) p.read in
+    same_last t u p.last q.last p.says q.says (reads_one (tells told q.held) other.reads q.read.reads) p.said q.said p.elements q.elements p.entities q.entities (p.doctype ∙ sym q.doctype)

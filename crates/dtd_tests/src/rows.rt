@@ -84,3 +84,28 @@ x => NotDtd 0
     }
     Ok(())
 }
+
+// The examples of XML 1.0 (3.2, 3.2.1, 3.2.2, 3.3, 4.2, 4.4.5, 4.5 and appendix D), where they declare what they name.
+#[test]
+fn examples_of_xml(rt: HostRuntime) -> Result<(), Fail> {
+    let rows = r#"<!ELEMENT br EMPTY> => Ok br Empty
+<!ELEMENT p (#PCDATA|emph)* ><!ELEMENT emph EMPTY> => Ok p Mixed([Elem(1)]) emph Empty
+<!ENTITY % name.para "para"><!ENTITY % content.para "(#PCDATA)"><!ELEMENT %name.para; %content.para; > => Ok para Mixed([])
+<!ELEMENT container ANY> => Ok container Any
+<!ELEMENT spec (front, body, back?)><!ELEMENT front ANY><!ELEMENT body ANY><!ELEMENT back ANY> => Ok spec Children(Seq([One(Elem(1)), One(Elem(2)), Opt(One(Elem(3)))])) front Any body Any back Any
+<!ELEMENT div1 (head, (p | list)*, div1*)><!ELEMENT head ANY><!ELEMENT p ANY><!ELEMENT list ANY> => Ok div1 Children(Seq([One(Elem(1)), Star(Alt([One(Elem(2)), One(Elem(3))])), Star(One(Elem(0)))])) head Any p Any list Any
+<!ENTITY % div.mix "a"><!ENTITY % dict.mix "b"><!ELEMENT body (%div.mix; | %dict.mix;)*><!ELEMENT a ANY><!ELEMENT b ANY> => Ok body Children(Star(Alt([One(Elem(1)), One(Elem(2))]))) a Any b Any
+<!ELEMENT termdef ANY><!ATTLIST termdef id ID #REQUIRED name CDATA #IMPLIED> => Ok termdef Any @id Id Required @name Cdata Implied
+<!ENTITY Pub-Status "This is a pre-release of the specification."> => Ok &Pub-Status
+<!ENTITY open-hatch SYSTEM "http://www.textuality.com/boilerplate/OpenHatch.xml"> => LeftOut 0
+<!ENTITY hatch-pic SYSTEM "../grafix/OpenHatch.gif" NDATA gif > => LeftOut 0
+<!ENTITY % YN '"Yes"' ><!ENTITY WhatHeSaid "He said %YN;" > => Ok &WhatHeSaid
+<!ENTITY % pub "&#xc9;ditions Gallimard" ><!ENTITY rights "All rights reserved" > => Ok &rights
+<!ENTITY book "La Peste: Albert Camus, &#xA9; 1947. &rights;" > => LeftOut 0
+<!ENTITY example "<p>An ampersand (&#38;#38;) may be escaped.</p>" > => LeftOut 0
+<!ELEMENT test (#PCDATA) ><!ENTITY % xx '&#37;zz;'><!ENTITY % zz '&#60;!ENTITY tricky "error-prone" >' >%xx; => Ok test Mixed([]) &tricky"#;
+    for row in rows.lines() {
+        assert!(rt; row_is_so(rt.alloc(), row)?, "{row}");
+    }
+    Ok(())
+}

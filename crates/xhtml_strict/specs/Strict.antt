@@ -1,20 +1,32 @@
 -- The document type definition of XHTML 1.0 Strict.
-use Rattle.std.specs.Prelude.{◌≡◌, ℕ, List, [], ◌∷◌, codes, Some, Result, Ok, Err}
-use Rattle.io_edge.specs.Planned.{file_named}
+use Rattle.std.specs.Prelude.{◌≡◌, ℕ, List, ◌++◌, Some, None, if◌then◌else◌, bytes_eq, codes}
 use Rattle.dtd_model.specs.Table.{Table}
 use Rattle.dtd_model.specs.declared.dtd.DoctypeRule.TheVariants.{Strict, Free}
 use Rattle.dtd_texts.specs.Reading.{Content}
 use Rattle.dtd_texts.specs.Spells.{DtdSpells}
+use Rattle.dtd_reader.specs.Source.{source_call}
+use Rattle.dtd_reader.specs.Refusals.{IsCause}
+use Rattle.dtd_reader.specs.declared.refusal.DtdRefusal.{DtdRefusal}
+use Rattle.xhtml_strict.specs.declared.declarations.TheConstants.{DECLARATIONS}
+use Rattle.xhtml_strict.specs.declared.entities.TheConstants.{ENTITIES}
 
--- the name of the built-in text
+-- the built-in text: the declarations of elements and attributes, and those of entities
+unfoldable pub strict_bytes : List ℕ
+strict_bytes = DECLARATIONS.now ++ ENTITIES.now
+
+-- the name of a text
 abbrev pub file_name : List ℕ
 file_name = codes "xhtml1-strict.dtd"
 
 -- there is this text of that name, and no other file
 abbrev pub only_file : List ℕ → Content
-only_file text name = Some (file_named name ((file_name, text) ∷ []))
+only_file text name = Some (if bytes_eq name file_name then Some text else None)
 
 -- the table that the text spells, for pages that declare XHTML 1.0 Strict (XHTML 1.0, 3.1.1)
 pub record IsStrict (text : List ℕ) (table : Table) : Type 0 where
   pub spelled : DtdSpells (only_file text) file_name (record table { doctype = Free })
   pub doctype : table.doctype ≡ Strict
+
+-- why a text has none, where the source of the one file has not failed
+abbrev pub IsRefused : List ℕ → DtdRefusal → Type 0
+IsRefused text refusal = (misses : ℕ) × IsCause (source_call (only_file text) 0 0 0 misses) file_name refusal

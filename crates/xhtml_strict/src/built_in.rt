@@ -1,33 +1,15 @@
 //! The document type definition of XHTML 1.0 Strict.
 
-ghost use Rattle.std.specs.Prelude.{◌≡◌, ℕ, List, [], ◌∷◌, IfOk, IfErr, OnOk};
-ghost use Rattle.io_edge.specs.MemFiles.{held_files, planned_faults, calls_made, fault_count, miss_count};
+ghost use Rattle.std.specs.Prelude.{IfOk, IfErr};
 ghost use Rattle.dtd_model.specs.TableOf.{table_of};
-ghost use Rattle.dtd_texts.specs.Spells.{DtdSpells};
-ghost use Rattle.dtd_reader.specs.Source.{source_call};
-ghost use Rattle.dtd_reader.specs.Refusals.{IsCause};
-ghost use Rattle.xhtml_strict.specs.Strict.{file_name, only_file, IsStrict};
+ghost use Rattle.xhtml_strict.specs.Strict.{strict_bytes, IsStrict, IsRefused};
 
+use crate::one_file::{FILE_NAME, OneFile};
 use crate::text::strict_text;
 use dtd_model::{DoctypeRule, Dtd};
 use dtd_reader::{DtdRefusal, read_dtd};
-use io_edge::MemFiles;
 use std::alloc::Global;
-use text_base::{Bytes, NoMemory};
-
-const FILE_NAME: &str = "xhtml1-strict.dtd";
-
-// A file of this text alone.
-fn only_file_of(alloc: Global, text: Bytes) -> Result<MemFiles, NoMemory>
-    ensures files { IfOk result (λ files. held_files files ≡ (file_name, text) ∷ []) }
-    ensures faults { IfOk result (λ files. fault_count files ≡ 0) }
-    ensures misses { IfOk result (λ files. miss_count files ≡ 0) }
-{
-    let name = Bytes::from_slice(alloc, FILE_NAME.as_bytes())?;
-    let mut files = Vec::new(alloc);
-    files.push((name, text))?;
-    Ok(MemFiles::new(files, Vec::new(alloc)))
-}
+use text_base::Bytes;
 
 /// The document type definition that a text spells, for pages that have to declare XHTML 1.0 Strict
 /// (XHTML 1.0, 3.1.1).
@@ -37,9 +19,13 @@ fn only_file_of(alloc: Global, text: Bytes) -> Result<MemFiles, NoMemory>
 /// As `read_dtd`, for a source that holds this text under one name and no other file.
 pub fn read_strict(alloc: Global, text: Bytes) -> Result<Dtd, DtdRefusal>
     ensures strict { IfOk result (λ dtd. IsStrict text (table_of dtd)) }
-    ensures refused { IfErr result (λ refusal. (faults misses : ℕ) × IsCause (source_call (only_file text) 0 faults 0 misses) file_name refusal) }
+    ensures refused { IfErr result (IsRefused text) }
 {
-    let mut files = only_file_of(alloc, text)?;
+    let mut files = OneFile {
+        text,
+        misses: 0,
+        reads: 0,
+    };
     let dtd = read_dtd(alloc, &mut files, FILE_NAME)?;
     Ok(Dtd {
         elements: dtd.elements,
@@ -48,13 +34,14 @@ pub fn read_strict(alloc: Global, text: Bytes) -> Result<Dtd, DtdRefusal>
     })
 }
 
-/// The document type definition of XHTML 1.0 Strict, that of [`strict_text`].
+/// The document type definition of XHTML 1.0 Strict, which its built-in text spells.
 ///
 /// # Errors
 ///
-/// Want of memory; others as `read_dtd` on its text, of which a test shows that it refuses nothing.
+/// Want of memory; others as `read_dtd` on the text, of which a test shows that it refuses nothing.
 pub fn strict(alloc: Global) -> Result<Dtd, DtdRefusal>
-    ensures strict { IfOk result (λ dtd. (text : List ℕ) × IsStrict text (table_of dtd)) }
+    ensures strict { IfOk result (λ dtd. IsStrict strict_bytes (table_of dtd)) }
+    ensures refused { IfErr result (IsRefused strict_bytes) }
 {
     let text = strict_text(alloc)?;
     read_strict(alloc, text)

@@ -1,8 +1,7 @@
 //! The elements and attributes of XHTML 1.0 Strict, written after the W3C's document type
 //! definition.
 
-/// Lines of declarations. One that begins with names in braces stands for one line a name, with the
-/// name in place of `NAME`.
+/// Their declarations.
 pub const DECLARATIONS: &str = r#"<!ENTITY % I "CDATA #IMPLIED">
 <!ENTITY % R "CDATA #REQUIRED">
 <!ENTITY % id "id ID #IMPLIED">
@@ -43,14 +42,45 @@ pub const DECLARATIONS: &str = r#"<!ENTITY % I "CDATA #IMPLIED">
 <!ELEMENT script (#PCDATA)><!ATTLIST script %id; charset %I; type %R; src %I; defer (defer) #IMPLIED %keep;>
 <!ELEMENT noscript %Block;><!ATTLIST noscript %attrs;>
 <!ELEMENT body %Block;><!ATTLIST body %attrs; onload %I; onunload %I;>
-{div li dd}<!ELEMENT NAME %Flow;><!ATTLIST NAME %attrs;>
-{p h1 h2 h3 h4 h5 h6 dt address span caption tt i b big small em strong dfn code samp kbd var cite abbr acronym sub sup}<!ELEMENT NAME %Inline;><!ATTLIST NAME %attrs;>
-{ul ol}<!ELEMENT NAME (li)+><!ATTLIST NAME %attrs;>
+<!ELEMENT div %Flow;><!ATTLIST div %attrs;>
+<!ELEMENT li %Flow;><!ATTLIST li %attrs;>
+<!ELEMENT dd %Flow;><!ATTLIST dd %attrs;>
+<!ELEMENT p %Inline;><!ATTLIST p %attrs;>
+<!ELEMENT h1 %Inline;><!ATTLIST h1 %attrs;>
+<!ELEMENT h2 %Inline;><!ATTLIST h2 %attrs;>
+<!ELEMENT h3 %Inline;><!ATTLIST h3 %attrs;>
+<!ELEMENT h4 %Inline;><!ATTLIST h4 %attrs;>
+<!ELEMENT h5 %Inline;><!ATTLIST h5 %attrs;>
+<!ELEMENT h6 %Inline;><!ATTLIST h6 %attrs;>
+<!ELEMENT dt %Inline;><!ATTLIST dt %attrs;>
+<!ELEMENT address %Inline;><!ATTLIST address %attrs;>
+<!ELEMENT span %Inline;><!ATTLIST span %attrs;>
+<!ELEMENT caption %Inline;><!ATTLIST caption %attrs;>
+<!ELEMENT tt %Inline;><!ATTLIST tt %attrs;>
+<!ELEMENT i %Inline;><!ATTLIST i %attrs;>
+<!ELEMENT b %Inline;><!ATTLIST b %attrs;>
+<!ELEMENT big %Inline;><!ATTLIST big %attrs;>
+<!ELEMENT small %Inline;><!ATTLIST small %attrs;>
+<!ELEMENT em %Inline;><!ATTLIST em %attrs;>
+<!ELEMENT strong %Inline;><!ATTLIST strong %attrs;>
+<!ELEMENT dfn %Inline;><!ATTLIST dfn %attrs;>
+<!ELEMENT code %Inline;><!ATTLIST code %attrs;>
+<!ELEMENT samp %Inline;><!ATTLIST samp %attrs;>
+<!ELEMENT kbd %Inline;><!ATTLIST kbd %attrs;>
+<!ELEMENT var %Inline;><!ATTLIST var %attrs;>
+<!ELEMENT cite %Inline;><!ATTLIST cite %attrs;>
+<!ELEMENT abbr %Inline;><!ATTLIST abbr %attrs;>
+<!ELEMENT acronym %Inline;><!ATTLIST acronym %attrs;>
+<!ELEMENT sub %Inline;><!ATTLIST sub %attrs;>
+<!ELEMENT sup %Inline;><!ATTLIST sup %attrs;>
+<!ELEMENT ul (li)+><!ATTLIST ul %attrs;>
+<!ELEMENT ol (li)+><!ATTLIST ol %attrs;>
 <!ELEMENT dl (dt|dd)+><!ATTLIST dl %attrs;>
 <!ELEMENT hr EMPTY><!ATTLIST hr %attrs;>
 <!ELEMENT pre (#PCDATA|a|%font;|%phrase;|%sp;|%mi;|%forms;)*><!ATTLIST pre %attrs; %keep;>
 <!ELEMENT blockquote %Block;><!ATTLIST blockquote %attrs; cite %I;>
-{ins del}<!ELEMENT NAME %Flow;><!ATTLIST NAME %attrs; cite %I; datetime %I;>
+<!ELEMENT ins %Flow;><!ATTLIST ins %attrs; cite %I; datetime %I;>
+<!ELEMENT del %Flow;><!ATTLIST del %attrs; cite %I; datetime %I;>
 <!ELEMENT a (#PCDATA|%special;|%font;|%phrase;|%forms;|%mi;)*>
 <!ATTLIST a %attrs; %focus; charset %I; type %I; name NMTOKEN #IMPLIED href %I; hreflang NMTOKEN #IMPLIED rel %I; rev %I; %shape;>
 <!ELEMENT bdo %Inline;><!ATTLIST bdo %core; %events; lang NMTOKEN #IMPLIED xml:lang NMTOKEN #IMPLIED dir (ltr|rtl) #REQUIRED>
@@ -78,8 +108,12 @@ pub const DECLARATIONS: &str = r#"<!ENTITY % I "CDATA #IMPLIED">
 <!ATTLIST button %attrs; %focus; name %I; value %I; type (button|submit|reset) 'submit' disabled (disabled) #IMPLIED>
 <!ELEMENT table (caption?,(col*|colgroup*),thead?,tfoot?,(tbody+|tr+))>
 <!ATTLIST table %attrs; summary %I; width %I; border %I; frame (void|above|below|hsides|lhs|rhs|vsides|box|border) #IMPLIED rules (none|groups|rows|cols|all) #IMPLIED cellspacing %I; cellpadding %I;>
-{thead tfoot tbody}<!ELEMENT NAME (tr)+><!ATTLIST NAME %attrs; %cell;>
+<!ELEMENT thead (tr)+><!ATTLIST thead %attrs; %cell;>
+<!ELEMENT tfoot (tr)+><!ATTLIST tfoot %attrs; %cell;>
+<!ELEMENT tbody (tr)+><!ATTLIST tbody %attrs; %cell;>
 <!ELEMENT colgroup (col)*><!ATTLIST colgroup %attrs; span CDATA '1' width %I; %cell;>
 <!ELEMENT col EMPTY><!ATTLIST col %attrs; span CDATA '1' width %I; %cell;>
 <!ELEMENT tr (th|td)+><!ATTLIST tr %attrs; %cell;>
-{th td}<!ELEMENT NAME %Flow;><!ATTLIST NAME %attrs; abbr %I; axis %I; headers IDREFS #IMPLIED scope (row|col|rowgroup|colgroup) #IMPLIED rowspan CDATA '1' colspan CDATA '1' %cell;>"#;
+<!ELEMENT th %Flow;><!ATTLIST th %attrs; abbr %I; axis %I; headers IDREFS #IMPLIED scope (row|col|rowgroup|colgroup) #IMPLIED rowspan CDATA '1' colspan CDATA '1' %cell;>
+<!ELEMENT td %Flow;><!ATTLIST td %attrs; abbr %I; axis %I; headers IDREFS #IMPLIED scope (row|col|rowgroup|colgroup) #IMPLIED rowspan CDATA '1' colspan CDATA '1' %cell;>
+"#;

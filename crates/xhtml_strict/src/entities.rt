@@ -1,28 +1,258 @@
-//! The names of the entities of XHTML 1.0.
+//! The entities of XHTML 1.0: the characters of Latin-1 from 160 on, special characters, and symbols.
 
-/// The names of the characters of Latin-1, from 160 on.
-pub const LATIN_NAMES: &str = "\
-    nbsp iexcl cent pound curren yen brvbar sect uml copy ordf laquo not shy reg macr deg \
-    plusmn sup2 sup3 acute micro para middot cedil sup1 ordm raquo frac14 frac12 frac34 \
-    iquest Agrave Aacute Acirc Atilde Auml Aring AElig Ccedil Egrave Eacute Ecirc Euml \
-    Igrave Iacute Icirc Iuml ETH Ntilde Ograve Oacute Ocirc Otilde Ouml times Oslash \
-    Ugrave Uacute Ucirc Uuml Yacute THORN szlig agrave aacute acirc atilde auml aring \
-    aelig ccedil egrave eacute ecirc euml igrave iacute icirc iuml eth ntilde ograve \
-    oacute ocirc otilde ouml divide oslash ugrave uacute ucirc uuml yacute thorn yuml";
-
-/// The names of special characters.
-pub const SPECIAL_NAMES: &str = "\
-    quot amp lt gt apos OElig oelig Scaron scaron Yuml circ tilde ensp emsp thinsp zwnj \
-    zwj lrm rlm ndash mdash lsquo rsquo sbquo ldquo rdquo bdquo dagger Dagger permil \
-    lsaquo rsaquo euro";
-
-/// The names of symbols and Greek letters.
-pub const SYMBOL_NAMES: &str = "\
-    fnof Alpha Beta Gamma Delta Epsilon Zeta Eta Theta Iota Kappa Lambda Mu Nu Xi Omicron \
-    Pi Rho Sigma Tau Upsilon Phi Chi Psi Omega alpha beta gamma delta epsilon zeta eta \
-    theta iota kappa lambda mu nu xi omicron pi rho sigmaf sigma tau upsilon phi chi psi \
-    omega thetasym upsih piv bull hellip prime Prime oline frasl weierp image real trade \
-    alefsym larr uarr rarr darr harr crarr lArr uArr rArr dArr hArr forall part exist \
-    empty nabla isin notin ni prod sum minus lowast radic prop infin ang and or cap cup \
-    int there4 sim cong asymp ne equiv le ge sub sup nsub sube supe oplus otimes perp \
-    sdot lceil rceil lfloor rfloor lang rang loz spades clubs hearts diams";
+/// Their declarations. Only the names of entities matter to whether a page is valid, so those that are not of
+/// Latin-1 have the value `?`.
+pub const ENTITIES: &str = r#"<!ENTITY nbsp "&#160;">
+<!ENTITY iexcl "&#161;">
+<!ENTITY cent "&#162;">
+<!ENTITY pound "&#163;">
+<!ENTITY curren "&#164;">
+<!ENTITY yen "&#165;">
+<!ENTITY brvbar "&#166;">
+<!ENTITY sect "&#167;">
+<!ENTITY uml "&#168;">
+<!ENTITY copy "&#169;">
+<!ENTITY ordf "&#170;">
+<!ENTITY laquo "&#171;">
+<!ENTITY not "&#172;">
+<!ENTITY shy "&#173;">
+<!ENTITY reg "&#174;">
+<!ENTITY macr "&#175;">
+<!ENTITY deg "&#176;">
+<!ENTITY plusmn "&#177;">
+<!ENTITY sup2 "&#178;">
+<!ENTITY sup3 "&#179;">
+<!ENTITY acute "&#180;">
+<!ENTITY micro "&#181;">
+<!ENTITY para "&#182;">
+<!ENTITY middot "&#183;">
+<!ENTITY cedil "&#184;">
+<!ENTITY sup1 "&#185;">
+<!ENTITY ordm "&#186;">
+<!ENTITY raquo "&#187;">
+<!ENTITY frac14 "&#188;">
+<!ENTITY frac12 "&#189;">
+<!ENTITY frac34 "&#190;">
+<!ENTITY iquest "&#191;">
+<!ENTITY Agrave "&#192;">
+<!ENTITY Aacute "&#193;">
+<!ENTITY Acirc "&#194;">
+<!ENTITY Atilde "&#195;">
+<!ENTITY Auml "&#196;">
+<!ENTITY Aring "&#197;">
+<!ENTITY AElig "&#198;">
+<!ENTITY Ccedil "&#199;">
+<!ENTITY Egrave "&#200;">
+<!ENTITY Eacute "&#201;">
+<!ENTITY Ecirc "&#202;">
+<!ENTITY Euml "&#203;">
+<!ENTITY Igrave "&#204;">
+<!ENTITY Iacute "&#205;">
+<!ENTITY Icirc "&#206;">
+<!ENTITY Iuml "&#207;">
+<!ENTITY ETH "&#208;">
+<!ENTITY Ntilde "&#209;">
+<!ENTITY Ograve "&#210;">
+<!ENTITY Oacute "&#211;">
+<!ENTITY Ocirc "&#212;">
+<!ENTITY Otilde "&#213;">
+<!ENTITY Ouml "&#214;">
+<!ENTITY times "&#215;">
+<!ENTITY Oslash "&#216;">
+<!ENTITY Ugrave "&#217;">
+<!ENTITY Uacute "&#218;">
+<!ENTITY Ucirc "&#219;">
+<!ENTITY Uuml "&#220;">
+<!ENTITY Yacute "&#221;">
+<!ENTITY THORN "&#222;">
+<!ENTITY szlig "&#223;">
+<!ENTITY agrave "&#224;">
+<!ENTITY aacute "&#225;">
+<!ENTITY acirc "&#226;">
+<!ENTITY atilde "&#227;">
+<!ENTITY auml "&#228;">
+<!ENTITY aring "&#229;">
+<!ENTITY aelig "&#230;">
+<!ENTITY ccedil "&#231;">
+<!ENTITY egrave "&#232;">
+<!ENTITY eacute "&#233;">
+<!ENTITY ecirc "&#234;">
+<!ENTITY euml "&#235;">
+<!ENTITY igrave "&#236;">
+<!ENTITY iacute "&#237;">
+<!ENTITY icirc "&#238;">
+<!ENTITY iuml "&#239;">
+<!ENTITY eth "&#240;">
+<!ENTITY ntilde "&#241;">
+<!ENTITY ograve "&#242;">
+<!ENTITY oacute "&#243;">
+<!ENTITY ocirc "&#244;">
+<!ENTITY otilde "&#245;">
+<!ENTITY ouml "&#246;">
+<!ENTITY divide "&#247;">
+<!ENTITY oslash "&#248;">
+<!ENTITY ugrave "&#249;">
+<!ENTITY uacute "&#250;">
+<!ENTITY ucirc "&#251;">
+<!ENTITY uuml "&#252;">
+<!ENTITY yacute "&#253;">
+<!ENTITY thorn "&#254;">
+<!ENTITY yuml "&#255;">
+<!ENTITY quot "?">
+<!ENTITY amp "?">
+<!ENTITY lt "?">
+<!ENTITY gt "?">
+<!ENTITY apos "?">
+<!ENTITY OElig "?">
+<!ENTITY oelig "?">
+<!ENTITY Scaron "?">
+<!ENTITY scaron "?">
+<!ENTITY Yuml "?">
+<!ENTITY circ "?">
+<!ENTITY tilde "?">
+<!ENTITY ensp "?">
+<!ENTITY emsp "?">
+<!ENTITY thinsp "?">
+<!ENTITY zwnj "?">
+<!ENTITY zwj "?">
+<!ENTITY lrm "?">
+<!ENTITY rlm "?">
+<!ENTITY ndash "?">
+<!ENTITY mdash "?">
+<!ENTITY lsquo "?">
+<!ENTITY rsquo "?">
+<!ENTITY sbquo "?">
+<!ENTITY ldquo "?">
+<!ENTITY rdquo "?">
+<!ENTITY bdquo "?">
+<!ENTITY dagger "?">
+<!ENTITY Dagger "?">
+<!ENTITY permil "?">
+<!ENTITY lsaquo "?">
+<!ENTITY rsaquo "?">
+<!ENTITY euro "?">
+<!ENTITY fnof "?">
+<!ENTITY Alpha "?">
+<!ENTITY Beta "?">
+<!ENTITY Gamma "?">
+<!ENTITY Delta "?">
+<!ENTITY Epsilon "?">
+<!ENTITY Zeta "?">
+<!ENTITY Eta "?">
+<!ENTITY Theta "?">
+<!ENTITY Iota "?">
+<!ENTITY Kappa "?">
+<!ENTITY Lambda "?">
+<!ENTITY Mu "?">
+<!ENTITY Nu "?">
+<!ENTITY Xi "?">
+<!ENTITY Omicron "?">
+<!ENTITY Pi "?">
+<!ENTITY Rho "?">
+<!ENTITY Sigma "?">
+<!ENTITY Tau "?">
+<!ENTITY Upsilon "?">
+<!ENTITY Phi "?">
+<!ENTITY Chi "?">
+<!ENTITY Psi "?">
+<!ENTITY Omega "?">
+<!ENTITY alpha "?">
+<!ENTITY beta "?">
+<!ENTITY gamma "?">
+<!ENTITY delta "?">
+<!ENTITY epsilon "?">
+<!ENTITY zeta "?">
+<!ENTITY eta "?">
+<!ENTITY theta "?">
+<!ENTITY iota "?">
+<!ENTITY kappa "?">
+<!ENTITY lambda "?">
+<!ENTITY mu "?">
+<!ENTITY nu "?">
+<!ENTITY xi "?">
+<!ENTITY omicron "?">
+<!ENTITY pi "?">
+<!ENTITY rho "?">
+<!ENTITY sigmaf "?">
+<!ENTITY sigma "?">
+<!ENTITY tau "?">
+<!ENTITY upsilon "?">
+<!ENTITY phi "?">
+<!ENTITY chi "?">
+<!ENTITY psi "?">
+<!ENTITY omega "?">
+<!ENTITY thetasym "?">
+<!ENTITY upsih "?">
+<!ENTITY piv "?">
+<!ENTITY bull "?">
+<!ENTITY hellip "?">
+<!ENTITY prime "?">
+<!ENTITY Prime "?">
+<!ENTITY oline "?">
+<!ENTITY frasl "?">
+<!ENTITY weierp "?">
+<!ENTITY image "?">
+<!ENTITY real "?">
+<!ENTITY trade "?">
+<!ENTITY alefsym "?">
+<!ENTITY larr "?">
+<!ENTITY uarr "?">
+<!ENTITY rarr "?">
+<!ENTITY darr "?">
+<!ENTITY harr "?">
+<!ENTITY crarr "?">
+<!ENTITY lArr "?">
+<!ENTITY uArr "?">
+<!ENTITY rArr "?">
+<!ENTITY dArr "?">
+<!ENTITY hArr "?">
+<!ENTITY forall "?">
+<!ENTITY part "?">
+<!ENTITY exist "?">
+<!ENTITY empty "?">
+<!ENTITY nabla "?">
+<!ENTITY isin "?">
+<!ENTITY notin "?">
+<!ENTITY ni "?">
+<!ENTITY prod "?">
+<!ENTITY sum "?">
+<!ENTITY minus "?">
+<!ENTITY lowast "?">
+<!ENTITY radic "?">
+<!ENTITY prop "?">
+<!ENTITY infin "?">
+<!ENTITY ang "?">
+<!ENTITY and "?">
+<!ENTITY or "?">
+<!ENTITY cap "?">
+<!ENTITY cup "?">
+<!ENTITY int "?">
+<!ENTITY there4 "?">
+<!ENTITY sim "?">
+<!ENTITY cong "?">
+<!ENTITY asymp "?">
+<!ENTITY ne "?">
+<!ENTITY equiv "?">
+<!ENTITY le "?">
+<!ENTITY ge "?">
+<!ENTITY sub "?">
+<!ENTITY sup "?">
+<!ENTITY nsub "?">
+<!ENTITY sube "?">
+<!ENTITY supe "?">
+<!ENTITY oplus "?">
+<!ENTITY otimes "?">
+<!ENTITY perp "?">
+<!ENTITY sdot "?">
+<!ENTITY lceil "?">
+<!ENTITY rceil "?">
+<!ENTITY lfloor "?">
+<!ENTITY rfloor "?">
+<!ENTITY lang "?">
+<!ENTITY rang "?">
+<!ENTITY loz "?">
+<!ENTITY spades "?">
+<!ENTITY clubs "?">
+<!ENTITY hearts "?">
+<!ENTITY diams "?">
+"#;

@@ -5,6 +5,7 @@
 mod built_in;
 mod declarations;
 mod entities;
+mod one_file;
 mod text;
 
 pub use built_in::{read_strict, strict};

@@ -1,0 +1,32 @@
+-- What makes it certain what the file of a document type definition declares.
+use Rattle.std.specs.Prelude.{◌≡◌, ◌≤◌, ◌⊎◌, ℕ, List, length, Option, Some, ⊤}
+use Rattle.text_base.specs.declared.limits.TheConstants.{FILE_LIMIT}
+use Rattle.dtd_texts.specs.Reading.{Content}
+use Rattle.dtd_tables.specs.Causes.{IsTooMany}
+use Rattle.dtd_reader.specs.Causes.{InFile, IsOver, IsAskedFor}
+use Rattle.dtd_reader.specs.Refusals.{InDeclarations}
+use Rattle.dtd_reader.specs.declared.refusal.DtdRefusal.{DtdRefusal}
+use Rattle.dtd_reader.specs.declared.refusal.DtdRefusal.TheVariants.{Limit, Memory}
+
+-- the source tells what this name holds
+abbrev pub IsToldOf : Content → List ℕ → Type 0
+IsToldOf content path = (file : Option (List ℕ)) × (content path ≡ Some file)
+
+-- the names that the file asks for, its own among them, are told of
+abbrev pub AreTold : Content → List ℕ → Type 0
+AreTold content name = (path : List ℕ) → IsAskedFor content name path → IsToldOf content path
+
+-- what they hold is within the limit of a file
+abbrev pub AreShort : Content → List ℕ → Type 0
+AreShort content name = (path bytes : List ℕ) → IsAskedFor content name path → content path ≡ Some (Some bytes) → length bytes ≤ FILE_LIMIT
+
+-- there are so many bytes or references in the text, or elements, attributes of an element or open brackets in its declarations,
+-- and these are too many
+abbrev pub PassesLimit : Content → List ℕ → ℕ → Type 0
+PassesLimit content name count = InFile content name (λ file. IsOver content file count) ⊎ InDeclarations content name (λ written. IsTooMany written count)
+
+-- the refusal is for such a limit, or for want of memory
+abbrev pub IsForLimit : Content → List ℕ → DtdRefusal → Type 0
+IsForLimit content name (Limit count) = PassesLimit content name count
+IsForLimit content name Memory = ⊤
+IsForLimit content name refusal = ⊥
