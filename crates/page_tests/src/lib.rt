@@ -4,4 +4,6 @@
 #[cfg(test)]
 mod long;
 #[cfg(test)]
+mod rules;
+#[cfg(test)]
 mod small;
