@@ -1,5 +1,12 @@
-//! Tests of `phpsa_main` on files and outputs in memory: answers, refusals and their texts, and outputs of every room.
+//! Tests of `phpsa_main` on files and outputs in memory: answers by each document type, refusals and their texts, and
+//! outputs of every room.
 #![tactic(auto)]
 
+#[cfg(test)]
+mod definitions;
+#[cfg(test)]
+mod ending;
+#[cfg(test)]
+mod strict;
 #[cfg(test)]
 mod tests;

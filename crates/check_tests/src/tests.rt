@@ -1,6 +1,6 @@
-// The program on files and outputs in memory.
-use io_edge::{MemFiles, MemSink};
-use phpsa_main::{Exit, phpsa};
+// Scripts and pages by the smallest document type, refusals, and outputs that take only so many bytes.
+use crate::ending::{Ending, Outside, QUIET, run};
+use phpsa_main::Exit;
 use std::alloc::Global;
 use std::test::Fail;
 use text_base::Bytes;
@@ -23,61 +23,6 @@ const NO_OPEN: &str = "no\npage 30\n<html><body><p>b</body></html>\n";
 const CHECK: [&str; 4] = ["check", "t.php", "--dtd", "mini"];
 
 const PAGE: [&str; 4] = ["page", "t.php", "--dtd", "mini"];
-
-/// The room of the two outputs, and whether the first call of the files fails.
-#[derive(Clone, Copy)]
-struct Outside {
-    out: Option<u64>,
-    err: Option<u64>,
-    fails: bool,
-}
-
-const QUIET: Outside = Outside {
-    out: None,
-    err: None,
-    fails: false,
-};
-
-/// How a call ended, and what it wrote.
-#[derive(Drop)]
-struct Ending {
-    exit: Exit,
-    out: MemSink,
-    err: MemSink,
-}
-
-/// Runs the words where the one file `t.php` has these bytes.
-fn run_over(
-    alloc: Global,
-    words: &[&str],
-    script: Bytes,
-    outside: Outside,
-) -> Result<Ending, Fail> {
-    let mut all = Vec::new(alloc);
-    for word in words {
-        all.push(String::from_str(alloc, word)?)?;
-    }
-    let mut held = Vec::new(alloc);
-    held.push((Bytes::from_slice(alloc, b"t.php")?, script))?;
-    let mut fail = Vec::new(alloc);
-    if outside.fails {
-        fail.push(0)?;
-    }
-    let mut files = MemFiles::new(held, fail);
-    let mut out = MemSink::new(alloc, outside.out);
-    let mut err = MemSink::new(alloc, outside.err);
-    let exit = phpsa(alloc, &all, &mut files, &mut out, &mut err);
-    Ok(Ending { exit, out, err })
-}
-
-fn run(alloc: Global, words: &[&str], script: &str, outside: Outside) -> Result<Ending, Fail> {
-    run_over(
-        alloc,
-        words,
-        Bytes::from_slice(alloc, script.as_bytes())?,
-        outside,
-    )
-}
 
 #[test]
 fn answers_for_scripts(rt: HostRuntime) -> Result<(), Fail> {
@@ -133,7 +78,7 @@ fn answers_for_scripts(rt: HostRuntime) -> Result<(), Fail> {
             "no\npage 41\n<html><body><p id=\"a\">t</p></body></html>\n",
         ),
     ] {
-        let ending = run(rt.alloc(), &CHECK, script, QUIET)?;
+        let ending = run(rt.alloc(), &CHECK, script.as_bytes(), QUIET)?;
         assert_eq!(rt; ending.exit, exit, "{script}");
         assert_eq!(rt; ending.out.written(), out.as_bytes(), "{script}");
         assert_eq!(rt; ending.err.written(), b"".as_slice(), "{script}");
@@ -185,7 +130,7 @@ fn judges_pages(rt: HostRuntime) -> Result<(), Fail> {
         ),
         ("<?php echo '<p>a</p>';", Exit::No, "invalid\n"),
     ] {
-        let ending = run(rt.alloc(), &PAGE, page, QUIET)?;
+        let ending = run(rt.alloc(), &PAGE, page.as_bytes(), QUIET)?;
         assert_eq!(rt; ending.exit, exit, "{page}");
         assert_eq!(rt; ending.out.written(), out.as_bytes(), "{page}");
         assert_eq!(rt; ending.err.written(), b"".as_slice(), "{page}");
@@ -198,8 +143,7 @@ fn a_page_cut_short(rt: HostRuntime) -> Result<(), Fail> {
     let whole = WHOLE.as_bytes();
     for len in 0..whole.len() {
         let front = whole.get(..len).ok_or("no such front")?;
-        let page = Bytes::from_slice(rt.alloc(), front)?;
-        let ending = run_over(rt.alloc(), &PAGE, page, QUIET)?;
+        let ending = run(rt.alloc(), &PAGE, front, QUIET)?;
         assert_eq!(rt; ending.exit, Exit::No, "{len}");
         assert_eq!(rt; ending.out.written(), b"invalid\n".as_slice(), "{len}");
     }
@@ -209,7 +153,7 @@ fn a_page_cut_short(rt: HostRuntime) -> Result<(), Fail> {
 #[test]
 fn refuses_with_a_text(rt: HostRuntime) -> Result<(), Fail> {
     let failing = Outside {
-        fails: true,
+        fails: Some(0),
         ..QUIET
     };
     for (command, script, file, outside, exit, err) in [
@@ -263,7 +207,7 @@ fn refuses_with_a_text(rt: HostRuntime) -> Result<(), Fail> {
         ),
     ] {
         let words = [command, file, "--dtd", "mini"];
-        let ending = run(rt.alloc(), &words, script, outside)?;
+        let ending = run(rt.alloc(), &words, script.as_bytes(), outside)?;
         assert_eq!(rt; ending.exit, exit, "{command} {script}");
         assert_eq!(rt; ending.out.written(), b"".as_slice(), "{command} {script}");
         assert_eq!(rt; ending.err.written(), err.as_bytes(), "{command} {script}");
@@ -292,7 +236,7 @@ fn at_most_200_brackets(rt: HostRuntime) -> Result<(), Fail> {
         (201, Exit::Script, "phpsa: TooDeep t.php 211\n"),
     ] {
         let script = bracketed(rt.alloc(), count)?;
-        let ending = run_over(rt.alloc(), &CHECK, script, QUIET)?;
+        let ending = run(rt.alloc(), &CHECK, script.as_slice(), QUIET)?;
         assert_eq!(rt; ending.exit, exit, "{count}");
         assert_eq!(rt; ending.out.written(), b"".as_slice(), "{count}");
         assert_eq!(rt; ending.err.written(), err.as_bytes(), "{count}");
@@ -314,7 +258,7 @@ fn refuses_what_is_no_script(rt: HostRuntime) -> Result<(), Fail> {
         ("<?php $a = 1\n$b = 2;", "phpsa: NotInSubset t.php 13\n"),
         ("<?php echo 1", "phpsa: NotInSubset t.php 11\n"),
     ] {
-        let ending = run(rt.alloc(), &CHECK, script, QUIET)?;
+        let ending = run(rt.alloc(), &CHECK, script.as_bytes(), QUIET)?;
         assert_eq!(rt; ending.exit, Exit::Script, "{script}");
         assert_eq!(rt; ending.out.written(), b"".as_slice(), "{script}");
         assert_eq!(rt; ending.err.written(), err.as_bytes(), "{script}");
@@ -322,40 +266,46 @@ fn refuses_what_is_no_script(rt: HostRuntime) -> Result<(), Fail> {
     Ok(())
 }
 
+// Whether the call says that the file is too long.
+fn says_too_long(ending: &Ending) -> bool {
+    ending.exit == Exit::Input
+        && ending.out.written().is_empty()
+        && ending.err.written() == b"phpsa: TooLong t.php 1048577\n".as_slice()
+}
+
 #[test]
 fn refuses_a_long_file(rt: HostRuntime) -> Result<(), Fail> {
     let alloc = rt.alloc();
-    let script = Bytes::from_vec(vec![in alloc; b'a'; FILE_LIMIT + 1]?);
-    let ending = run_over(alloc, &CHECK, script, QUIET)?;
-    assert_eq!(rt; ending.exit, Exit::Input);
-    assert_eq!(rt; ending.out.written(), b"".as_slice());
-    assert_eq!(rt;
-        ending.err.written(),
-        b"phpsa: TooLong t.php 1048577\n".as_slice()
-    );
+    let long = vec![in alloc; b'a'; FILE_LIMIT + 1]?;
+    let checked = run(alloc, &CHECK, long.as_slice(), QUIET)?;
+    assert!(rt; says_too_long(&checked));
+    let judged = run(alloc, &PAGE, long.as_slice(), QUIET)?;
+    assert!(rt; says_too_long(&judged));
     Ok(())
 }
 
 #[test]
 fn other_words_are_no_use(rt: HostRuntime) -> Result<(), Fail> {
-    let lists: [&[&str]; 14] = [
+    let lists: [&[&str]; 16] = [
         &[],
         &["check"],
-        &["check", "t.php"],
+        &["t.php"],
+        &["run", "t.php"],
         &["check", "t.php", "--dtd"],
         &["Check", "t.php", "--dtd", "mini"],
         &["check", "", "--dtd", "mini"],
         &["check", "-t.php", "--dtd", "mini"],
         &["check", "t.php", "--dtd=", "mini"],
-        &["check", "t.php", "--dtd", "strict"],
+        &["check", "t.php", "--dtd", ""],
+        &["check", "t.php", "--dtd", "-d.dtd"],
         &["check", "t.php", "--dtd", "mini", "mini"],
-        &["page", "t.php"],
+        &["page", "-t.php"],
         &["page", "-", "--dtd", "mini"],
         &["pages", "t.php", "--dtd", "mini"],
         &["--dtd", "mini", "check", "t.php"],
     ];
     for words in lists {
-        let ending = run(rt.alloc(), words, CLOSED, QUIET)?;
+        let ending = run(rt.alloc(), words, CLOSED.as_bytes(), QUIET)?;
         assert_eq!(rt; ending.exit, Exit::Usage);
         assert_eq!(rt; ending.out.written(), b"".as_slice());
         assert_eq!(rt; ending.err.written(), b"phpsa: Usage\n".as_slice());
@@ -371,7 +321,7 @@ fn every_room_of_out(rt: HostRuntime) -> Result<(), Fail> {
             out: Some(room as u64),
             ..QUIET
         };
-        let ending = run(rt.alloc(), &CHECK, OPEN, narrow)?;
+        let ending = run(rt.alloc(), &CHECK, OPEN.as_bytes(), narrow)?;
         let (exit, err) = if room < text.len() {
             (Exit::WriteFault, "phpsa: WriteFault\n")
         } else {
@@ -392,7 +342,7 @@ fn every_room_of_err(rt: HostRuntime) -> Result<(), Fail> {
             err: Some(room as u64),
             ..QUIET
         };
-        let ending = run(rt.alloc(), &CHECK, "<?= 1 ?>", narrow)?;
+        let ending = run(rt.alloc(), &CHECK, b"<?= 1 ?>", narrow)?;
         let exit = if room < text.len() {
             Exit::WriteFault
         } else {
@@ -410,9 +360,9 @@ fn both_outputs_fail(rt: HostRuntime) -> Result<(), Fail> {
     let narrow = Outside {
         out: Some(5),
         err: Some(3),
-        fails: false,
+        fails: None,
     };
-    let ending = run(rt.alloc(), &CHECK, OPEN, narrow)?;
+    let ending = run(rt.alloc(), &CHECK, OPEN.as_bytes(), narrow)?;
     assert_eq!(rt; ending.exit, Exit::WriteFault);
     assert_eq!(rt; ending.out.written(), b"no\npa".as_slice());
     assert_eq!(rt; ending.err.written(), b"php".as_slice());

@@ -6,7 +6,6 @@ use Rattle.phpsa_main.specs.declared.refusal.Refusal.{Refusal}
 use Rattle.phpsa_main.specs.declared.exit.Exit.{Exit}
 use Rattle.phpsa_main.specs.declared.exit.Exit.TheVariants.{WriteFault, Usage, Memory}
 use Rattle.phpsa_main.specs.Words.{Asked, Asks, asked_of, AsksNothing}
-use Rattle.phpsa_main.specs.DocumentTypes.{HasTable}
 use Rattle.phpsa_main.specs.Texts.{refusal_status}
 use Rattle.phpsa_main.specs.Call.{Call}
 use Rattle.phpsa_main.specs.Replies.{IsReplyBy, IsReply}
@@ -23,7 +22,7 @@ replied_verdict call status w asked table bytes u =
     let same : w.owed.asked ≡ asked = same_asked (asked_of call.words) w.owed.asked asked w.owed.asks u.asks in
     let (other, has, by_other) : IsReply call.files asked w.reply = subst (λ a. IsReply call.files a w.reply) same w.owed.is_reply in
     let by : IsReplyBy asked.command call.files asked.file table w.reply =
-    subst (λ t. IsReplyBy asked.command call.files asked.file t w.reply) (same_table asked.document_type other table has u.table_is) by_other in
+    subst (λ t. IsReplyBy asked.command call.files asked.file t w.reply) (same_table call.files.content asked.document_type other table u.names has u.table_is) by_other in
     subst (IsVerdict asked.command call.files asked.file table) (sym w.status_is) (reply_verdict asked.command call.files asked.file table w.reply by)
 
 none_asked : (call : Call) (asked : Asked) → AsksNothing call.words → Asks call.words asked → ⊥

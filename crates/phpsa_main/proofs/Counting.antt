@@ -1,5 +1,5 @@
 -- What the parts say of the counts makes what the call says of them.
-use Rattle.std.proofs.Common.{◌≡◌, ◌≢◌, ◌⊎◌, ◌∙◌, inl, inr, ℕ, List, [], ◌∷◌, Some, None, Contains, sym, lit<}
+use Rattle.std.proofs.Common.{◌≡◌, ◌⊎◌, ◌∙◌, inl, inr, ℕ, List, [], ◌∷◌, Some, None, Contains, refl, sym, subst, ap, lit<}
 use Rattle.io_edge.specs.Counts.{one_more}
 use Rattle.phpsa_main.specs.declared.exit.Exit.{Exit}
 use Rattle.phpsa_main.specs.declared.exit.Exit.TheVariants.{ReadFault, WriteFault, Memory}
@@ -7,7 +7,10 @@ use Rattle.phpsa_main.specs.declared.refusal.Refusal.{Refusal}
 use Rattle.phpsa_main.specs.Words.{Asked, asked_of}
 use Rattle.phpsa_main.specs.Call.{Call, Output, IsUnfailed}
 use Rattle.phpsa_main.specs.Counted.{IsCounted}
-use Rattle.phpsa_main.specs.Steps.{TellsFault, ReportsRefusal}
+use Rattle.phpsa_main.proofs.Held.{same_asked}
+use Rattle.phpsa_main.specs.DocumentTypes.{IsBuiltIn}
+use Rattle.phpsa_main.specs.Texts.{refusal_status}
+use Rattle.phpsa_main.specs.Steps.{Puts, TellsFault, ReportsRefusal}
 
 apart : (words : List (List ℕ)) (asked : Asked) → asked_of words ≡ None → asked_of words ≡ Some asked → ⊥
 apart words asked none some = let same : None ≡ Some asked = sym none ∙ some in cc
@@ -15,7 +18,7 @@ apart words asked none some = let same : None ≡ Some asked = sym none ∙ some
 pub unasked_counts : (call : Call) (status : Exit) → asked_of call.words ≡ None → call.files.reads' ≡ call.files.reads
     → call.files.faults' ≡ call.files.faults → IsUnfailed call.out → TellsFault call.err status → IsCounted call status
 unasked_counts call status none reads faults out err = record {
-  read = λ asked asks. absurd (apart call.words asked none asks);
+  read = λ asked asks built_in. absurd (apart call.words asked none asks);
   unread = λ nothing. reads;
   out = inr out;
   err = err;
@@ -23,10 +26,10 @@ unasked_counts call status none reads faults out err = record {
 }
 
 pub asked_counts : (call : Call) (asked : Asked) (status : Exit) → asked_of call.words ≡ Some asked
-    → call.files.reads' ≡ one_more call.files.reads → TellsFault call.out status → TellsFault call.err status
+    → (IsBuiltIn asked.document_type → call.files.reads' ≡ one_more call.files.reads) → TellsFault call.out status → TellsFault call.err status
     → Contains (ReadFault ∷ WriteFault ∷ Memory ∷ []) status ⊎ (call.files.faults' ≡ call.files.faults) → IsCounted call status
 asked_counts call asked status asks reads out err files = record {
-  read = λ other other_asks. reads;
+  read = λ other other_asks built_in. reads (subst (λ (a : Asked). IsBuiltIn a.document_type) (same_asked (asked_of call.words) other asked other_asks asks) built_in);
   unread = λ nothing. absurd (apart call.words asked nothing asks);
   out = out;
   err = err;
@@ -34,22 +37,18 @@ asked_counts call asked status asks reads out err files = record {
 }
 
 -- a fault of the source is told by one of these statuses
-told_by : (file : List ℕ) (err : Output) (status : Exit) → ReportsRefusal file Refusal.ReadFault err status
+put_by : (text : List ℕ) (err : Output) (wanted status : Exit) → Contains (ReadFault ∷ WriteFault ∷ Memory ∷ []) wanted → Puts err text wanted status
     → Contains (ReadFault ∷ WriteFault ∷ Memory ∷ []) status
-told_by file err status (inl (inl p)) = (0, lit< tt, cc (p.0))
-told_by file err status (inl (inr (inl p))) = (1, lit< tt, cc (p.0))
-told_by file err status (inl (inr (inr p))) = (2, lit< tt, cc (p.0))
-told_by file err status (inr (inl p)) = (2, lit< tt, cc (p.0))
-told_by file err status (inr (inr (inl p))) = (1, lit< tt, cc (p.0))
-told_by file err status (inr (inr (inr p))) = (2, lit< tt, cc (p.0))
+put_by text err wanted status among (inl p) = subst (Contains (ReadFault ∷ WriteFault ∷ Memory ∷ [])) (sym p.0) among
+put_by text err wanted status among (inr (inl p)) = (1, lit< tt, sym p.0)
+put_by text err wanted status among (inr (inr p)) = (2, lit< tt, sym p.0)
 
-pub fault_told : {X : Type 0} (file : List ℕ) (refusal : Refusal) (err : Output) (status : Exit) → (refusal ≢ Refusal.ReadFault → X)
+told_by : (file : List ℕ) (refusal : Refusal) (err : Output) (status : Exit) → refusal_status refusal ≡ ReadFault → ReportsRefusal file refusal err status
+    → Contains (ReadFault ∷ WriteFault ∷ Memory ∷ []) status
+told_by file refusal err status is (inl p) = put_by _ err (refusal_status refusal) status (0, lit< tt, sym is) p
+told_by file refusal err status is (inr p) = put_by _ err Memory status (2, lit< tt, refl) p
+
+pub fault_told : {X : Type 0} (file : List ℕ) (refusal : Refusal) (err : Output) (status : Exit) → (refusal_status refusal ≡ ReadFault) ⊎ X
     → ReportsRefusal file refusal err status → Contains (ReadFault ∷ WriteFault ∷ Memory ∷ []) status ⊎ X
-fault_told file Refusal.NotBuilt err status kept reports = inr (kept (λ e. cc (e)))
-fault_told file (Refusal.Script fault) err status kept reports = inr (kept (λ e. cc (e)))
-fault_told file Refusal.Missing err status kept reports = inr (kept (λ e. cc (e)))
-fault_told file Refusal.ReadFault err status kept reports = inl (told_by file err status reports)
-fault_told file Refusal.Usage err status kept reports = inr (kept (λ e. cc (e)))
-fault_told file (Refusal.Limit count) err status kept reports = inr (kept (λ e. cc (e)))
-fault_told file (Refusal.TooLong len) err status kept reports = inr (kept (λ e. cc (e)))
-fault_told file Refusal.Memory err status kept reports = inr (kept (λ e. cc (e)))
+fault_told file refusal err status (inl is) reports = inl (told_by file refusal err status is reports)
+fault_told file refusal err status (inr kept) reports = inr kept

@@ -5,7 +5,7 @@ use Rattle.std.proofs.Math.Seq.{take-length}
 use Rattle.std.specs.Io.KnownBytes.{Appends}
 use Rattle.io_edge.specs.Taken.{AppendsPrefix}
 use Rattle.phpsa_main.specs.declared.command.Command.{Command}
-use Rattle.phpsa_main.specs.declared.document_type.DocumentType.{DocumentType}
+use Rattle.phpsa_main.specs.DocumentTypes.{NamedType}
 use Rattle.phpsa_main.specs.declared.exit.Exit.{Exit}
 use Rattle.phpsa_main.specs.declared.exit.Exit.TheVariants.{WriteFault, Memory}
 use Rattle.phpsa_main.specs.declared.reply.Reply.{Reply}
@@ -65,7 +65,7 @@ pub unasked_ends : (call : Call) (status : Exit) → asked_of call.words ≡ Non
 unasked_ends call status none out puts = refusal_as call Refusal.Usage [] status (nothing_asked none refl) out puts
 
 -- what they ask for is refused: `read` is the name that the file is read under, and `shown` the one that is written
-pub refused_ends : (call : Call) (command : Command) (file : List ℕ) (document_type : DocumentType) (read shown : List ℕ) (refusal : Refusal) (status : Exit)
+pub refused_ends : (call : Call) (command : Command) (file : List ℕ) (document_type : NamedType) (read shown : List ℕ) (refusal : Refusal) (status : Exit)
     → asked_of call.words ≡ Some (asked_as command file document_type) → read ≡ file → shown ≡ file
     → IsCauseIn call.files (asked_as command read document_type) refusal
     → GainsNothing call.out → ReportsRefusal shown refusal call.err status → Ends call status
@@ -89,7 +89,7 @@ reported_ends call reply status owed (inr (inl w)) = by_out w.status_is (record 
 })
 reported_ends call reply status owed (inr (inr w)) = memory_as call status (keeps_out call reply owed w.out_gains) w.err_puts
 
-pub replied_ends : (call : Call) (command : Command) (file : List ℕ) (document_type : DocumentType) (read : List ℕ) (reply : Reply) (status : Exit)
+pub replied_ends : (call : Call) (command : Command) (file : List ℕ) (document_type : NamedType) (read : List ℕ) (reply : Reply) (status : Exit)
     → asked_of call.words ≡ Some (asked_as command file document_type) → read ≡ file
     → IsReply call.files (asked_as command read document_type) reply → Reports reply call.out call.err status → Ends call status
 replied_ends call command file document_type read reply status asks read_is is_reply reports =

@@ -3,27 +3,39 @@ use Rattle.std.proofs.Common.{◌≡◌, ◌++◌, ℕ, List, [], ◌∷◌, tru
 use Rattle.std.specs.Fmt.{digits}
 use Rattle.dtd_model.specs.Table.{Table}
 use Rattle.page_model.specs.Valid.{Valid}
-use Rattle.phpsa_main.specs.declared.exit.Exit.TheVariants.{Done, No, NotBuilt, Usage}
+use Rattle.phpsa_main.specs.declared.exit.Exit.TheVariants.{Done, No, NotBuilt, Missing, Usage, Dtd}
 use Rattle.php_parser.specs.declared.refusal.ParseRefusal.TheVariants as parsed
 use Rattle.phpsa_main.specs.declared.command.Command.{Command}
-use Rattle.phpsa_main.specs.declared.document_type.DocumentType.TheVariants.{Mini}
+use Rattle.dtd_reader.specs.declared.refusal.DtdRefusal.TheVariants as dtd
+use Rattle.phpsa_main.specs.DocumentTypes.{strict_type, mini_type, file_type}
 use Rattle.phpsa_main.specs.declared.reply.Reply.{Reply}
 use Rattle.phpsa_main.specs.declared.refusal.ScriptRefusal.TheVariants.{Parse}
 use Rattle.phpsa_main.specs.declared.refusal.Refusal.TheVariants as refusal
 use Rattle.phpsa_main.specs.Words.{AsksNothing, asked_as, asked_of}
-use Rattle.phpsa_main.specs.Texts.{yes_text, no_text, reply_text, error_text, write_fault_text, status_of, reply_status}
+use Rattle.phpsa_main.specs.Texts.{yes_text, no_text, reply_text, error_text, write_fault_text, status_of, reply_status, refusal_status}
 use Rattle.phpsa_main.specs.Call.{Source, output_of, Gains, GainsPrefix, GainsNothing, Fails}
 use Rattle.phpsa_main.specs.Replies.{Holds}
 use Rattle.phpsa_main.specs.Answered.{IsVerdict}
 
 -- the words that ask for a script to be checked, and for a page
-checks : asked_of (codes "check" ∷ codes "t.php" ∷ codes "--dtd" ∷ codes "mini" ∷ []) ≡ Some (asked_as Command.Check (codes "t.php") Mini)
+checks : asked_of (codes "check" ∷ codes "t.php" ∷ codes "--dtd" ∷ codes "mini" ∷ []) ≡ Some (asked_as Command.Check (codes "t.php") mini_type)
 checks = refl
 
-judges : asked_of (codes "page" ∷ codes "p.xhtml" ∷ codes "--dtd" ∷ codes "mini" ∷ []) ≡ Some (asked_as Command.Page (codes "p.xhtml") Mini)
+judges : asked_of (codes "page" ∷ codes "p.xhtml" ∷ codes "--dtd" ∷ codes "mini" ∷ []) ≡ Some (asked_as Command.Page (codes "p.xhtml") mini_type)
 judges = refl
 
--- one word less, one more, another command, another definition, an empty file, and an option for a file ask for nothing
+-- where no definition is named it is the strict one, which may be named too; another word names a file
+checks_strictly : asked_of (codes "check" ∷ codes "t.php" ∷ []) ≡ Some (asked_as Command.Check (codes "t.php") strict_type)
+checks_strictly = refl
+
+judges_strictly : asked_of (codes "page" ∷ codes "p.xhtml" ∷ codes "--dtd" ∷ codes "strict" ∷ []) ≡ Some (asked_as Command.Page (codes "p.xhtml") strict_type)
+judges_strictly = refl
+
+by_a_file : asked_of (codes "check" ∷ codes "t.php" ∷ codes "--dtd" ∷ codes "d.dtd" ∷ []) ≡ Some (asked_as Command.Check (codes "t.php") (file_type (codes "d.dtd")))
+by_a_file = refl
+
+-- one word less, one more, another command, an option for a definition, no name of one, an empty file, and an option for a file
+-- ask for nothing
 too_few : AsksNothing (codes "check" ∷ codes "t.php" ∷ codes "--dtd" ∷ [])
 too_few = refl
 
@@ -33,8 +45,11 @@ too_many = refl
 another_command : AsksNothing (codes "run" ∷ codes "t.php" ∷ codes "--dtd" ∷ codes "mini" ∷ [])
 another_command = refl
 
-another_definition : AsksNothing (codes "check" ∷ codes "t.php" ∷ codes "--dtd" ∷ codes "strict" ∷ [])
-another_definition = refl
+an_option_for_a_definition : AsksNothing (codes "check" ∷ codes "t.php" ∷ codes "--dtd" ∷ codes "-d" ∷ [])
+an_option_for_a_definition = refl
+
+no_definition : AsksNothing (codes "check" ∷ codes "t.php" ∷ codes "--dtd" ∷ [] ∷ [])
+no_definition = refl
 
 no_file : AsksNothing (codes "page" ∷ [] ∷ codes "--dtd" ∷ codes "mini" ∷ [])
 no_file = refl
@@ -57,6 +72,22 @@ a_long_file = refl
 many_states : error_text (refusal.Limit 4097) (codes "t.php") ≡ codes "phpsa: Dtd Limit 4097" ++ 10 ∷ []
 unfolding digits
 many_states = refl
+
+no_definition_text : error_text (refusal.Dtd (dtd.NotDtd 0)) (codes "t.php") ≡ codes "phpsa: Dtd NotDtd 0" ++ 10 ∷ []
+unfolding digits
+no_definition_text = refl
+
+no_entity : error_text (refusal.Dtd (dtd.Entity (codes "a"))) (codes "t.php") ≡ codes "phpsa: Dtd Entity a" ++ 10 ∷ []
+no_entity = refl
+
+no_definition_file : error_text (refusal.Dtd (dtd.Missing (codes "d.dtd"))) (codes "t.php") ≡ codes "phpsa: Missing d.dtd" ++ 10 ∷ []
+no_definition_file = refl
+
+its_status : refusal_status (refusal.Dtd (dtd.Missing (codes "d.dtd"))) ≡ Missing
+its_status = refl
+
+a_definition_status : refusal_status (refusal.Dtd (dtd.Twice (codes "a"))) ≡ Dtd
+a_definition_status = refl
 
 an_invalid_page : reply_text (Reply.Page false) ≡ codes "invalid" ++ 10 ∷ []
 an_invalid_page = refl

@@ -1,4 +1,5 @@
 pub mod OneProgram
+pub mod BuiltInText
 pub mod Held
 pub mod Verdicts
 pub mod Answers
@@ -7,6 +8,7 @@ pub mod Ended
 pub mod Counting
 pub mod Decided
 pub mod Reading
+pub mod Definition
 mod Examples
 mod SmallDefinition
 mod SmallScript

@@ -15,7 +15,7 @@ use Rattle.dtd_model.specs.Mini.{mini_table}
 use Rattle.page_model.proofs.Examples.{paragraph}
 use Rattle.phpsa_main.specs.declared.command.Command.{Command}
 use Rattle.phpsa_main.specs.declared.decision.Answer.{Answer}
-use Rattle.phpsa_main.specs.declared.document_type.DocumentType.TheVariants.{Mini}
+use Rattle.phpsa_main.specs.DocumentTypes.{mini_type}
 use Rattle.phpsa_main.specs.declared.exit.Exit.TheVariants.{Done}
 use Rattle.phpsa_main.specs.declared.reply.Reply.{Reply}
 use Rattle.phpsa_main.specs.Words.{Asked, asked_as}
@@ -79,7 +79,7 @@ abbrev call_with : List ℕ → Call
 call_with written = call_of words (source_of (λ name. Some (Some script)) 0 0 0 0 0 1) (output_of (Some []) (Some written) 0 0) (output_of (Some []) (Some []) 0 0)
 
 abbrev asked : Asked
-asked = asked_as Command.Check (codes "t.php") Mini
+asked = asked_as Command.Check (codes "t.php") mini_type
 
 owed : (IsTooDeep tokens → ⊥) → Owes (call_with yes_text) (Reply.Script Answer.Yes)
 owed within = record { asked = asked; asks = refl; is_reply = (mini_table, refl, (program, (script, refl, is_script within), each_valid)) }
@@ -100,7 +100,7 @@ unfolding AreXmlMembers
 admitted = record { get = tt; post = tt; cookie = tt; request = tt; server = tt }
 
 says : (IsTooDeep tokens → ⊥) → IsSound (call_with yes_text) Done → Valid mini_table script
-says within sound = sound refl asked mini_table script refl refl refl program (is_script within) request 1 script admitted (runs request)
+says within sound = sound refl asked mini_table script refl tt refl refl program (is_script within) request 1 script admitted (runs request)
 
 -- the same bytes as a page
 abbrev page_call : Call
@@ -110,7 +110,7 @@ page_call = call_of (codes "page" ∷ codes "p" ∷ codes "--dtd" ∷ codes "min
 judged : EndsReplied page_call Done
 judged = record {
   reply = Reply.Page true;
-  owed = record { asked = asked_as Command.Page (codes "p") Mini; asks = refl; is_reply = (mini_table, refl, (script, refl, paragraph)) };
+  owed = record { asked = asked_as Command.Page (codes "p") mini_type; asks = refl; is_reply = (mini_table, refl, (script, refl, paragraph)) };
   status_is = refl;
   out = refl;
   err = refl;

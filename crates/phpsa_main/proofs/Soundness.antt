@@ -10,13 +10,15 @@ use Rattle.page_model.specs.Valid.{Valid}
 use Rattle.phpsa_main.specs.declared.command.Command.{Command}
 use Rattle.phpsa_main.specs.declared.decision.Answer.{Answer}
 use Rattle.phpsa_main.specs.declared.decision.CheckRefusal.{CheckRefusal}
+use Rattle.dtd_reader.specs.declared.refusal.DtdRefusal.{DtdRefusal}
+use Rattle.dtd_reader.specs.declared.refusal.DtdRefusal.TheVariants as dtd
 use Rattle.phpsa_main.specs.declared.reply.Reply.{Reply}
 use Rattle.phpsa_main.specs.declared.refusal.Refusal.{Refusal}
 use Rattle.phpsa_main.specs.declared.exit.Exit.{Exit}
 use Rattle.phpsa_main.specs.declared.exit.Exit.TheVariants.{Done}
-use Rattle.phpsa_main.specs.DocumentTypes.{HasTable}
+use Rattle.phpsa_main.specs.DocumentTypes.{HasTable, NamesAreTold}
 use Rattle.phpsa_main.specs.Words.{Asked, Asks, asked_of}
-use Rattle.phpsa_main.specs.Texts.{reply_status, refusal_status}
+use Rattle.phpsa_main.specs.Texts.{reply_status, dtd_status, built_in_status, refusal_status}
 use Rattle.phpsa_main.specs.Decision.{EachIsValid, RunsAreValid, IsAnswerOf, SaysOfRuns}
 use Rattle.phpsa_main.specs.Call.{Call, Source}
 use Rattle.phpsa_main.specs.Replies.{IsReplyBy, IsReply}
@@ -54,15 +56,31 @@ reply_means laws law Command.Page files file table bytes held (Reply.Page true) 
 reply_means laws law Command.Page files file table bytes held (Reply.Page false) e h = absurd cc
 
 replied_means : Laws → PrintsLoose → (call : Call) → EndsReplied call Done → (asked : Asked) (table : Table) (bytes : List ℕ)
-    → Asks call.words asked → HasTable asked.document_type table → call.files.content asked.file ≡ Some (Some bytes) → Means asked.command table bytes
-replied_means laws law call w asked table bytes asks table_is held =
+    → Asks call.words asked → NamesAreTold call.files.content asked.document_type → HasTable call.files.content asked.document_type table → call.files.content asked.file ≡ Some (Some bytes) → Means asked.command table bytes
+replied_means laws law call w asked table bytes asks told table_is held =
     let same : w.owed.asked ≡ asked = same_asked (asked_of call.words) w.owed.asked asked w.owed.asks asks in
     let (other, has, by_other) : IsReply call.files asked w.reply = subst (λ a. IsReply call.files a w.reply) same w.owed.is_reply in
     let by : IsReplyBy asked.command call.files asked.file table w.reply =
-    subst (λ t. IsReplyBy asked.command call.files asked.file t w.reply) (same_table asked.document_type other table has table_is) by_other in
+    subst (λ t. IsReplyBy asked.command call.files asked.file t w.reply) (same_table call.files.content asked.document_type other table told has table_is) by_other in
     reply_means laws law asked.command call.files asked.file table bytes held w.reply (sym w.status_is) by
 
 -- no refusal has status 0
+never_dtd : (refusal : DtdRefusal) → Done ≡ dtd_status refusal → ⊥
+never_dtd (dtd.Missing name) e = cc
+never_dtd (dtd.ReadFault name) e = cc
+never_dtd (dtd.TooLong name len) e = cc
+never_dtd dtd.Memory e = cc
+never_dtd (dtd.NotDtd at) e = cc
+never_dtd (dtd.Entity name) e = cc
+never_dtd (dtd.Twice name) e = cc
+never_dtd (dtd.Undeclared name) e = cc
+never_dtd (dtd.LeftOut at) e = cc
+never_dtd (dtd.Limit count) e = cc
+
+never_built_in : (refusal : DtdRefusal) → Done ≡ built_in_status refusal → ⊥
+never_built_in dtd.Memory e = cc
+never_built_in _ e = cc
+
 never_done : (refusal : Refusal) → Done ≡ refusal_status refusal → ⊥
 never_done Refusal.NotBuilt e = cc
 never_done (Refusal.Script fault) e = cc
@@ -70,16 +88,18 @@ never_done Refusal.Missing e = cc
 never_done Refusal.ReadFault e = cc
 never_done (Refusal.TooLong len) e = cc
 never_done (Refusal.Limit count) e = cc
+never_done (Refusal.Dtd fault) e = never_dtd fault e
+never_done (Refusal.BuiltIn fault) e = never_built_in fault e
 never_done Refusal.Usage e = cc
 never_done Refusal.Memory e = cc
 
 done_means : Laws → PrintsLoose → (call : Call) → Ends call Done → (asked : Asked) (table : Table) (bytes : List ℕ)
-    → Asks call.words asked → HasTable asked.document_type table → call.files.content asked.file ≡ Some (Some bytes) → Means asked.command table bytes
-done_means laws law call (replied w) asked table bytes asks table_is held = replied_means laws law call w asked table bytes asks table_is held
-done_means laws law call (refused w) asked table bytes asks table_is held = absurd (never_done w.refusal w.status_is)
-done_means laws law call (by_out is w) asked table bytes asks table_is held = absurd cc
-done_means laws law call (by_err is w) asked table bytes asks table_is held = absurd cc
-done_means laws law call (no_memory is w) asked table bytes asks table_is held = absurd cc
+    → Asks call.words asked → NamesAreTold call.files.content asked.document_type → HasTable call.files.content asked.document_type table → call.files.content asked.file ≡ Some (Some bytes) → Means asked.command table bytes
+done_means laws law call (replied w) asked table bytes asks told table_is held = replied_means laws law call w asked table bytes asks told table_is held
+done_means laws law call (refused w) asked table bytes asks told table_is held = absurd (never_done w.refusal w.status_is)
+done_means laws law call (by_out is w) asked table bytes asks told table_is held = absurd cc
+done_means laws law call (by_err is w) asked table bytes asks told table_is held = absurd cc
+done_means laws law call (no_memory is w) asked table bytes asks told table_is held = absurd cc
 
 pub sound : Laws → PrintsLoose → (call : Call) (status : Exit) → Ends call status → IsSound call status
 sound laws law call status ends is = done_means laws law call (subst (Ends call) is ends)

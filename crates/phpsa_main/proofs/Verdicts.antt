@@ -1,5 +1,5 @@
 -- A file has one verdict, and a reply and a refusal say which.
-use Rattle.std.proofs.Common.{◌≡◌, ◌≤◌, ◌<◌, ℕ, List, true, false, Some, None, length, refl, sym, subst, inl, inr, arith}
+use Rattle.std.proofs.Common.{◌≡◌, ◌≤◌, ◌<◌, ℕ, List, true, false, Some, None, length, refl, sym, ap, subst, inl, inr, arith}
 use Rattle.std.specs.Prelude.{◌⊎◌}
 use Rattle.text_base.specs.declared.limits.TheConstants.{FILE_LIMIT}
 use Rattle.php_syntax.specs.Trees.{PlainFile}
@@ -7,15 +7,25 @@ use Rattle.first_form.specs.FirstTree.{IsFirstTree}
 use Rattle.first_form.specs.Loose.{Loose}
 use Rattle.dtd_model.specs.Table.{Table}
 use Rattle.page_model.specs.Valid.{Valid}
+use Rattle.io_edge.specs.Counts.{Rises}
 use Rattle.io_edge.specs.Told.{Tells, HasAtLeast}
+use Rattle.dtd_texts.specs.Reading.{Content}
+use Rattle.dtd_reader.specs.Source.{source_call}
+use Rattle.dtd_reader.specs.Refusals.{IsCause}
+use Rattle.dtd_reader.specs.declared.refusal.DtdRefusal.{DtdRefusal}
+use Rattle.dtd_reader.specs.declared.refusal.DtdRefusal.TheVariants as dtd
+use Rattle.dtd_table_laws.specs.Certain.{PassesLimit, IsForLimit}
+use Rattle.dtd_table_laws.proofs.NotRefused.{for_limits}
+use Rattle.xhtml_strict.specs.Strict.{file_name, only_file, strict_bytes, IsStrict, IsRefused}
 use Rattle.phpsa_main.specs.declared.command.Command.{Command}
 use Rattle.phpsa_main.specs.declared.decision.Answer.{Answer}
 use Rattle.phpsa_main.specs.declared.reply.Reply.{Reply}
 use Rattle.phpsa_main.specs.declared.refusal.Refusal.{Refusal}
 use Rattle.phpsa_main.specs.declared.exit.Exit.{Exit}
 use Rattle.phpsa_main.specs.declared.exit.Exit.TheVariants.{Done, No, NotBuilt, Script, Memory}
+use Rattle.phpsa_main.specs.DocumentTypes.{strict_type, file_type, HasTable, NamesAreTold, NamesAreShort, IsTooLarge}
 use Rattle.phpsa_main.specs.Words.{Asked}
-use Rattle.phpsa_main.specs.Texts.{reply_status, refusal_status}
+use Rattle.phpsa_main.specs.Texts.{reply_status, dtd_status, built_in_status, refusal_status}
 use Rattle.phpsa_main.specs.Scripts.{IsScript}
 use Rattle.phpsa_main.specs.Decision.{EachIsValid, IsCounterexample, HasManyStates}
 use Rattle.phpsa_main.specs.Call.{Call, Source}
@@ -23,6 +33,7 @@ use Rattle.phpsa_main.specs.Replies.{Holds, HoldsProgram, IsReplyBy}
 use Rattle.phpsa_main.specs.Causes.{IsCauseIn}
 use Rattle.phpsa_main.specs.Answered.{IsUndisturbed, IsVerdict}
 use Rattle.phpsa_main.proofs.OneProgram.{Laws, no_script}
+use Rattle.phpsa_main.proofs.BuiltInText.{only_told, only_short}
 use Rattle.phpsa_main.proofs.Held.{one_content, same_program, same_table}
 
 -- a program whose loose pages are valid has no counterexample
@@ -99,6 +110,30 @@ not_long files file bytes len held short over least =
     let at : HasAtLeast (Some (Some bytes)) len = subst (λ content. HasAtLeast content len) held least in
     omega (arith, at, over, short)
 
+-- an undisturbed call finds its definition, but for want of memory
+memory_alone : (content : Content) (name : List ℕ) (fault : DtdRefusal) → ((count : ℕ) → PassesLimit content name count → ⊥) → IsForLimit content name fault → fault ≡ dtd.Memory
+memory_alone content name dtd.Memory small why = refl
+memory_alone content name (dtd.Limit count) small why = absurd (small count why)
+memory_alone content name _ small why = absurd why
+
+file_memory : (call : Call) (asked : Asked) (table : Table) (bytes name : List ℕ) (fault : DtdRefusal) → IsUndisturbed call asked table bytes → asked.document_type ≡ file_type name
+    → IsCause (source_call call.files.content call.files.faults call.files.faults' call.files.misses call.files.misses') name fault → dtd_status fault ≡ Memory
+file_memory call asked table bytes name fault u is cause =
+    ap dtd_status (memory_alone call.files.content name fault (subst (λ d. (count : ℕ) → IsTooLarge call.files.content d count → ⊥) is u.small)
+    (for_limits _ name table fault (subst (NamesAreTold call.files.content) is u.names) (subst (NamesAreShort call.files.content) is u.short_names)
+    (subst (λ d. HasTable call.files.content d table) is u.table_is) u.files cause))
+
+none_rises : Rises 0 0 → ⊥
+none_rises rises = let one : 1 ≤ 0 = rises in omega (arith, one)
+
+built_in_memory : (call : Call) (asked : Asked) (table : Table) (bytes : List ℕ) (fault : DtdRefusal) → IsUndisturbed call asked table bytes → asked.document_type ≡ strict_type
+    → IsRefused strict_bytes fault → built_in_status fault ≡ Memory
+built_in_memory call asked table bytes fault u is (misses, cause) =
+    let small : (count : ℕ) → IsTooLarge call.files.content strict_type count → ⊥ = subst (λ d. (count : ℕ) → IsTooLarge call.files.content d count → ⊥) is u.small in
+    let spelled : IsStrict strict_bytes table = subst (λ d. HasTable call.files.content d table) is u.table_is in
+    ap built_in_status (memory_alone (only_file strict_bytes) file_name fault small
+    (for_limits (source_call (only_file strict_bytes) 0 0 0 misses) file_name _ fault (only_told strict_bytes) only_short spelled.spelled none_rises cause))
+
 -- what it is refused for is its verdict, or want of memory
 pub refusal_verdict : Laws → (call : Call) (asked : Asked) (table : Table) (bytes : List ℕ) (refusal : Refusal) → IsUndisturbed call asked table bytes → IsCauseIn call.files asked refusal
     → IsVerdict asked.command call.files asked.file table (refusal_status refusal) ⊎ (refusal_status refusal ≡ Memory)
@@ -111,6 +146,8 @@ refusal_verdict laws call asked table bytes Refusal.Missing u (rises, none) = ab
 refusal_verdict laws call asked table bytes Refusal.ReadFault u rises = absurd (u.files rises)
 refusal_verdict laws call asked table bytes (Refusal.TooLong len) u (over, least) = absurd (not_long call.files asked.file bytes len u.held u.short over least)
 refusal_verdict laws call asked table bytes (Refusal.Limit count) u (other, has, many) =
-    absurd (u.few count (subst (λ t. HasManyStates t count) (same_table asked.document_type other table has u.table_is) many))
+    absurd (u.few count (subst (λ t. HasManyStates t count) (same_table call.files.content asked.document_type other table u.names has u.table_is) many))
+refusal_verdict laws call asked table bytes (Refusal.Dtd fault) u (name, of_file, cause) = inr (file_memory call asked table bytes name fault u of_file cause)
+refusal_verdict laws call asked table bytes (Refusal.BuiltIn fault) u (of_strict, cause) = inr (built_in_memory call asked table bytes fault u of_strict cause)
 refusal_verdict laws call asked table bytes Refusal.Usage u none = absurd none
 refusal_verdict laws call asked table bytes Refusal.Memory u free = inr refl

@@ -9,18 +9,21 @@ use Rattle.io_edge.specs.Counts.{Rises}
 use Rattle.phpsa_main.specs.declared.command.Command.{Command}
 use Rattle.phpsa_main.specs.declared.exit.Exit.{Exit}
 use Rattle.phpsa_main.specs.declared.exit.Exit.TheVariants.{Done, No, NotBuilt, Script, WriteFault, Usage, Memory}
-use Rattle.phpsa_main.specs.DocumentTypes.{HasTable}
+use Rattle.phpsa_main.specs.DocumentTypes.{HasTable, NamesAreTold, NamesAreShort, IsTooLarge}
 use Rattle.phpsa_main.specs.Words.{Asked, Asks, AsksNothing}
 use Rattle.phpsa_main.specs.Decision.{HasManyStates, EachIsValid, IsCounterexample}
 use Rattle.phpsa_main.specs.Replies.{Holds, HoldsProgram}
 use Rattle.phpsa_main.specs.Call.{Call, Source, Fails}
 
--- the words ask for this; the file is told and within the limit, the content models of the definition are within theirs, and no
--- count of faults rises in the call
+-- the words ask for this; the file and the names that the definition asks for are told of and within the limit of a file, the
+-- definition and its content models are within theirs, and no count of faults rises in the call
 pub record IsUndisturbed (call : Call) (asked : Asked) (table : Table) (bytes : List ℕ) : Type 0 where
   pub asks : Asks call.words asked
-  pub table_is : HasTable asked.document_type table
+  pub table_is : HasTable call.files.content asked.document_type table
+  pub names : NamesAreTold call.files.content asked.document_type
+  pub short_names : NamesAreShort call.files.content asked.document_type
   pub few : (count : ℕ) → HasManyStates table count → ⊥
+  pub small : (count : ℕ) → IsTooLarge call.files.content asked.document_type count → ⊥
   pub held : call.files.content asked.file ≡ Some (Some bytes)
   pub short : length bytes ≤ FILE_LIMIT
   pub files : Rises call.files.faults call.files.faults' → ⊥

@@ -9,7 +9,8 @@ use Rattle.io_edge.specs.Told.{Tells, HasAtLeast}
 use Rattle.phpsa_main.specs.declared.command.Command.TheVariants.{Check}
 use Rattle.phpsa_main.specs.declared.refusal.Refusal.{Refusal}
 use Rattle.phpsa_main.specs.declared.refusal.Refusal.TheVariants as refusal
-use Rattle.phpsa_main.specs.DocumentTypes.{HasTable}
+use Rattle.dtd_reader.specs.Source.{source_call}
+use Rattle.phpsa_main.specs.DocumentTypes.{HasTable, IsFileCause, IsBuiltInCause}
 use Rattle.phpsa_main.specs.Words.{Asked, Asks, AsksNothing}
 use Rattle.phpsa_main.specs.Call.{Call, Source}
 use Rattle.phpsa_main.specs.Scripts.{IsScriptFault}
@@ -23,7 +24,10 @@ IsCauseIn files asked (refusal.Script fault) = (asked.command ≡ Check) × ((sc
 IsCauseIn files asked refusal.Missing = Rises files.misses files.misses' × Tells (files.content asked.file) None
 IsCauseIn files asked refusal.ReadFault = Rises files.faults files.faults'
 IsCauseIn files asked (refusal.TooLong len) = (FILE_LIMIT < len) × HasAtLeast (files.content asked.file) len
-IsCauseIn files asked (refusal.Limit count) = (table : Table) × HasTable asked.document_type table × HasManyStates table count
+IsCauseIn files asked (refusal.Limit count) = (table : Table) × HasTable files.content asked.document_type table × HasManyStates table count
+IsCauseIn files asked (refusal.Dtd fault) =
+    IsFileCause (source_call files.content files.faults files.faults' files.misses files.misses') asked.document_type fault
+IsCauseIn files asked (refusal.BuiltIn fault) = IsBuiltInCause asked.document_type fault
 IsCauseIn files asked refusal.Usage = ⊥
 IsCauseIn files asked refusal.Memory = ⊤
 

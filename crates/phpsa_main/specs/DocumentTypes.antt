@@ -1,14 +1,61 @@
--- Which document type a word of the command line names, and the table that it has.
-use Rattle.std.specs.Prelude.{◌≡◌, ℕ, List, Option, None, Some, if◌then◌else◌, bytes_eq, codes}
+-- The document types that words may name, the table that each has, and why there is none.
+use Rattle.std.specs.Prelude.{◌≡◌, ℕ, List, ⊤}
 use Rattle.dtd_model.specs.Table.{Table}
 use Rattle.dtd_model.specs.Mini.{mini_table}
+use Rattle.dtd_texts.specs.Reading.{Content}
+use Rattle.dtd_texts.specs.Spells.{DtdSpells}
+use Rattle.dtd_reader.specs.Source.{SourceCall}
+use Rattle.dtd_reader.specs.Refusals.{IsCause}
+use Rattle.dtd_reader.specs.declared.refusal.DtdRefusal.{DtdRefusal}
+use Rattle.dtd_table_laws.specs.Certain.{AreTold, AreShort, PassesLimit}
+use Rattle.xhtml_strict.specs.Strict.{file_name, only_file, strict_bytes, IsStrict, IsRefused}
 use Rattle.phpsa_main.specs.declared.document_type.DocumentType.{DocumentType}
-use Rattle.phpsa_main.specs.declared.document_type.DocumentType.TheVariants.{Mini}
+use Rattle.phpsa_main.specs.declared.document_type.DocumentType.TheVariants.{Strict, Mini, File}
 
--- the document type that the word names: `mini` the smallest one
-abbrev pub named_type : List ℕ → Option DocumentType
-named_type word = if bytes_eq word (codes "mini") then Some Mini else None
+-- XHTML 1.0 Strict, the smallest document type, or the one that the file of a name defines
+pub data NamedType : Type 0 where
+  strict_type : NamedType
+  mini_type : NamedType
+  file_type : List ℕ → NamedType
 
--- the document type has this table
-abbrev pub HasTable : DocumentType → Table → Type 0
-HasTable Mini table = table ≡ mini_table
+abbrev pub type_of : DocumentType → NamedType
+type_of Strict = strict_type
+type_of Mini = mini_type
+type_of (File name) = file_type name.now
+
+-- the document type has this table, where the source of files tells this
+abbrev pub HasTable : Content → NamedType → Table → Type 0
+HasTable content strict_type table = IsStrict strict_bytes table
+HasTable content mini_type table = table ≡ mini_table
+HasTable content (file_type name) table = DtdSpells content name table
+
+-- it stands in the program
+abbrev pub IsBuiltIn : NamedType → Type 0
+IsBuiltIn strict_type = ⊤
+IsBuiltIn mini_type = ⊤
+IsBuiltIn (file_type name) = ⊥
+
+-- the names that its text asks for, that of its file among them, are told of
+abbrev pub NamesAreTold : Content → NamedType → Type 0
+NamesAreTold content strict_type = ⊤
+NamesAreTold content mini_type = ⊤
+NamesAreTold content (file_type name) = AreTold content name
+
+-- and what they hold is within the limit of a file
+abbrev pub NamesAreShort : Content → NamedType → Type 0
+NamesAreShort content strict_type = ⊤
+NamesAreShort content mini_type = ⊤
+NamesAreShort content (file_type name) = AreShort content name
+
+-- a limit on its text or its declarations is passed, by this count
+abbrev pub IsTooLarge : Content → NamedType → ℕ → Type 0
+IsTooLarge content strict_type count = PassesLimit (only_file strict_bytes) file_name count
+IsTooLarge content mini_type count = ⊥
+IsTooLarge content (file_type name) count = PassesLimit content name count
+
+-- why the file of a definition has none, and why the built-in text has none
+abbrev pub IsFileCause : SourceCall → NamedType → DtdRefusal → Type 0
+IsFileCause call named refusal = (name : List ℕ) × (named ≡ file_type name) × IsCause call name refusal
+
+abbrev pub IsBuiltInCause : NamedType → DtdRefusal → Type 0
+IsBuiltInCause named refusal = (named ≡ strict_type) × IsRefused strict_bytes refusal

@@ -33,4 +33,4 @@ IsReplyBy Command.Page files file table (Reply.Script answer) = ⊥
 IsReplyBy Command.Page files file table (Reply.Page valid) = (page : List ℕ) × Holds files file page × IsJudged table page valid
 
 abbrev pub IsReply : Source → Asked → Reply → Type 0
-IsReply files asked reply = (table : Table) × HasTable asked.document_type table × IsReplyBy asked.command files asked.file table reply
+IsReply files asked reply = (table : Table) × HasTable files.content asked.document_type table × IsReplyBy asked.command files asked.file table reply

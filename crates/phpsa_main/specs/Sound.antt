@@ -6,7 +6,7 @@ use Rattle.page_model.specs.Valid.{Valid}
 use Rattle.phpsa_main.specs.declared.command.Command.{Command}
 use Rattle.phpsa_main.specs.declared.exit.Exit.{Exit}
 use Rattle.phpsa_main.specs.declared.exit.Exit.TheVariants.{Done}
-use Rattle.phpsa_main.specs.DocumentTypes.{HasTable}
+use Rattle.phpsa_main.specs.DocumentTypes.{HasTable, NamesAreTold}
 use Rattle.phpsa_main.specs.Words.{Asked, Asks}
 use Rattle.phpsa_main.specs.Scripts.{IsScript}
 use Rattle.phpsa_main.specs.Decision.{RunsAreValid}
@@ -17,8 +17,10 @@ abbrev pub Means : Command → Table → List ℕ → Type 0
 Means Command.Check table script = (program : PlainFile) → IsScript script program → RunsAreValid table program
 Means Command.Page table page = Valid table page
 
--- After status 0 so it is of the file that the words ask for, by the document type that they name.
+-- After status 0 so it is of the file that the words ask for, by the document type that they name, where the names that its
+-- definition asks for are told of.
 abbrev pub IsSound : Call → Exit → Type 0
 IsSound call status = status ≡ Done → (asked : Asked) (table : Table) (bytes : List ℕ)
-    → Asks call.words asked → HasTable asked.document_type table → call.files.content asked.file ≡ Some (Some bytes)
+    → Asks call.words asked → NamesAreTold call.files.content asked.document_type → HasTable call.files.content asked.document_type table
+    → call.files.content asked.file ≡ Some (Some bytes)
     → Means asked.command table bytes

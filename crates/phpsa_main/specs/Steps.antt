@@ -1,7 +1,7 @@
 -- What the parts of a call come to, before and while it is written. No public clause cites these.
-use Rattle.std.specs.Prelude.{◌≡◌, ◌⊎◌, ℕ, List, []}
+use Rattle.std.specs.Prelude.{◌≡◌, ◌⊎◌, ℕ, List, [], Result, Ok, Err, ⊤}
 use Rattle.phpsa_main.specs.declared.exit.Exit.{Exit}
-use Rattle.phpsa_main.specs.declared.exit.Exit.TheVariants.{WriteFault, Memory}
+use Rattle.phpsa_main.specs.declared.exit.Exit.TheVariants.{ReadFault, WriteFault, Memory}
 use Rattle.phpsa_main.specs.declared.reply.Reply.{Reply}
 use Rattle.phpsa_main.specs.declared.decision.CheckRefusal.{CheckRefusal}
 use Rattle.phpsa_main.specs.declared.decision.CheckRefusal.TheVariants as checked
@@ -13,6 +13,8 @@ use Rattle.php_parser.specs.declared.refusal.ParseRefusal.{ParseRefusal}
 use Rattle.php_parser.specs.declared.refusal.ParseRefusal.TheVariants as parsed
 use Rattle.io_edge.specs.declared.files.FileFault.{FileFault}
 use Rattle.io_edge.specs.declared.files.FileFault.TheVariants as Fault
+use Rattle.dtd_reader.specs.Source.{SourceCall}
+use Rattle.phpsa_main.specs.DocumentTypes.{NamedType, IsFileCause, IsBuiltInCause}
 use Rattle.phpsa_main.specs.Texts.{reply_status, reply_text, refusal_status, error_text, write_fault_text}
 use Rattle.phpsa_main.specs.Call.{Output, Gains, GainsPrefix, GainsNothing, Fails, IsUnfailed}
 
@@ -38,6 +40,18 @@ abbrev pub checked_as : CheckRefusal → Refusal
 checked_as checked.NotBuilt = Refusal.NotBuilt
 checked_as (checked.Limit count) = Refusal.Limit count
 checked_as checked.Memory = Refusal.Memory
+
+-- a count of faults stays but where its fault is told
+abbrev pub KeepsFaults : {X : Type 0} → ℕ → ℕ → Result X Refusal → Type 0
+KeepsFaults faults faults' (Ok x) = faults' ≡ faults
+KeepsFaults faults faults' (Err refusal) = (refusal_status refusal ≡ ReadFault) ⊎ (faults' ≡ faults)
+
+-- a document type has no definition, for this reason; want of memory says nothing
+abbrev pub IsDefinitionRefusal : SourceCall → NamedType → Refusal → Type 0
+IsDefinitionRefusal call named (Refusal.Dtd fault) = IsFileCause call named fault
+IsDefinitionRefusal call named (Refusal.BuiltIn fault) = IsBuiltInCause named fault
+IsDefinitionRefusal call named Refusal.Memory = ⊤
+IsDefinitionRefusal call named refusal = ⊥
 
 -- a text was put on an output, and the call ends with this status: the wanted one, or that of a fault
 abbrev pub Puts : Output → List ℕ → Exit → Exit → Type 0

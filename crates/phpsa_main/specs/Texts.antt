@@ -12,6 +12,8 @@ use Rattle.phpsa_main.specs.declared.decision.Answer.{Answer}
 use Rattle.phpsa_main.specs.declared.reply.Reply.{Reply}
 use Rattle.phpsa_main.specs.declared.refusal.ScriptRefusal.{ScriptRefusal}
 use Rattle.phpsa_main.specs.declared.refusal.ScriptRefusal.TheVariants.{Lex, Parse}
+use Rattle.dtd_reader.specs.declared.refusal.DtdRefusal.{DtdRefusal}
+use Rattle.dtd_reader.specs.declared.refusal.DtdRefusal.TheVariants as dtd
 use Rattle.phpsa_main.specs.declared.refusal.Refusal.{Refusal}
 use Rattle.phpsa_main.specs.declared.refusal.Refusal.TheVariants as refusal
 
@@ -36,6 +38,17 @@ reply_status (Reply.Script (Answer.No page)) = No
 reply_status (Reply.Page true) = Done
 reply_status (Reply.Page false) = No
 
+abbrev pub dtd_status : DtdRefusal → Exit
+dtd_status (dtd.Missing name) = Missing
+dtd_status (dtd.ReadFault name) = ReadFault
+dtd_status (dtd.TooLong name len) = Input
+dtd_status dtd.Memory = Memory
+dtd_status other = Dtd
+
+abbrev pub built_in_status : DtdRefusal → Exit
+built_in_status dtd.Memory = Memory
+built_in_status other = Dtd
+
 abbrev pub refusal_status : Refusal → Exit
 refusal_status refusal.NotBuilt = NotBuilt
 refusal_status (refusal.Script fault) = Script
@@ -43,6 +56,8 @@ refusal_status refusal.Missing = Missing
 refusal_status refusal.ReadFault = ReadFault
 refusal_status (refusal.TooLong len) = Input
 refusal_status (refusal.Limit count) = Dtd
+refusal_status (refusal.Dtd fault) = dtd_status fault
+refusal_status (refusal.BuiltIn fault) = built_in_status fault
 refusal_status refusal.Usage = Usage
 refusal_status refusal.Memory = Memory
 
@@ -82,16 +97,48 @@ said_of (Parse parsed.Memory) = (codes "Memory", 0)
 abbrev pub counted_text : List ℕ → List ℕ → ℕ → List ℕ
 counted_text name file number = codes "phpsa: " ++ name ++ codes " " ++ file ++ codes " " ++ decimal number ++ 10 ∷ []
 
+-- `phpsa: NAME FILE`
+abbrev pub named_text : List ℕ → List ℕ → List ℕ
+named_text name file = codes "phpsa: " ++ name ++ codes " " ++ file ++ 10 ∷ []
+
+-- on `err`, where no memory was left
+abbrev pub memory_text : List ℕ
+memory_text = codes "phpsa: Memory" ++ 10 ∷ []
+
+-- `phpsa: Dtd KIND VALUE`
+abbrev pub dtd_text : List ℕ → List ℕ → List ℕ
+dtd_text kind value = codes "phpsa: Dtd " ++ kind ++ codes " " ++ value ++ 10 ∷ []
+
+-- on `err`, for a definition in files: with the name of the file where one is not read
+abbrev pub definition_text : DtdRefusal → List ℕ
+definition_text (dtd.Missing name) = named_text (codes "Missing") name
+definition_text (dtd.ReadFault name) = named_text (codes "ReadFault") name
+definition_text (dtd.TooLong name len) = counted_text (codes "TooLong") name len
+definition_text (dtd.NotDtd at) = dtd_text (codes "NotDtd") (decimal at)
+definition_text (dtd.Entity name) = dtd_text (codes "Entity") name
+definition_text (dtd.Twice name) = dtd_text (codes "Twice") name
+definition_text (dtd.Undeclared name) = dtd_text (codes "Undeclared") name
+definition_text (dtd.LeftOut at) = dtd_text (codes "LeftOut") (decimal at)
+definition_text (dtd.Limit count) = dtd_text (codes "Limit") (decimal count)
+definition_text dtd.Memory = memory_text
+
+-- on `err`, for the built-in text
+abbrev pub built_in_text : DtdRefusal → List ℕ
+built_in_text dtd.Memory = memory_text
+built_in_text other = codes "phpsa: Dtd strict" ++ 10 ∷ []
+
 -- on `err`, for a refusal of this file
 abbrev pub error_text : Refusal → List ℕ → List ℕ
-error_text refusal.NotBuilt file = codes "phpsa: NotBuilt " ++ file ++ 10 ∷ []
+error_text refusal.NotBuilt file = named_text (codes "NotBuilt") file
 error_text (refusal.Script fault) file = counted_text (said_of fault).0 file (said_of fault).1
-error_text refusal.Missing file = codes "phpsa: Missing " ++ file ++ 10 ∷ []
-error_text refusal.ReadFault file = codes "phpsa: ReadFault " ++ file ++ 10 ∷ []
+error_text refusal.Missing file = named_text (codes "Missing") file
+error_text refusal.ReadFault file = named_text (codes "ReadFault") file
 error_text refusal.Usage file = codes "phpsa: Usage" ++ 10 ∷ []
 error_text (refusal.TooLong len) file = counted_text (codes "TooLong") file len
-error_text (refusal.Limit count) file = codes "phpsa: Dtd Limit " ++ decimal count ++ 10 ∷ []
-error_text refusal.Memory file = codes "phpsa: Memory" ++ 10 ∷ []
+error_text (refusal.Limit count) file = dtd_text (codes "Limit") (decimal count)
+error_text (refusal.Dtd fault) file = definition_text fault
+error_text (refusal.BuiltIn fault) file = built_in_text fault
+error_text refusal.Memory file = memory_text
 
 -- on `err`, where `out` failed
 abbrev pub write_fault_text : List ℕ

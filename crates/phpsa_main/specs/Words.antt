@@ -2,35 +2,41 @@
 use Rattle.std.specs.Prelude.{◌≡◌, ◌&&◌, ◌==◌, ℕ, List, [], ◌∷◌, Bool, true, false, not, Option, None, Some, if◌then◌else◌, bytes_eq, codes}
 use Rattle.phpsa_main.specs.declared.command.Command.{Command}
 use Rattle.phpsa_main.specs.declared.command.Command.TheVariants.{Check, Page}
-use Rattle.phpsa_main.specs.declared.document_type.DocumentType.{DocumentType}
-use Rattle.phpsa_main.specs.DocumentTypes.{named_type}
+use Rattle.phpsa_main.specs.DocumentTypes.{NamedType, strict_type, mini_type, file_type}
 
 -- what words ask for: a command on a file by a document type
 pub record Asked : Type 0 where
   pub command : Command
   pub file : List ℕ
-  pub document_type : DocumentType
+  pub document_type : NamedType
 
-abbrev pub asked_as : Command → List ℕ → DocumentType → Asked
+abbrev pub asked_as : Command → List ℕ → NamedType → Asked
 asked_as command file document_type = record { command = command; file = file; document_type = document_type }
 
 -- the command that the word names
 abbrev pub named_command : List ℕ → Option Command
 named_command word = if bytes_eq word (codes "check") then Some Check else (if bytes_eq word (codes "page") then Some Page else None)
 
--- a FILE on the command line: it is not empty and does not begin with `-`
+-- the name of a file on the command line: it is not empty and does not begin with `-`
 abbrev pub is_file_word : List ℕ → Bool
 is_file_word [] = false
 is_file_word (byte ∷ bytes) = not (byte == 45)
 
+-- the document type that the word names: `strict`, `mini`, or the file whose name it is
+abbrev pub named_type : List ℕ → Option NamedType
+named_type word =
+    if bytes_eq word (codes "strict") then Some strict_type
+    else (if bytes_eq word (codes "mini") then Some mini_type else (if is_file_word word then Some (file_type word) else None))
+
 -- where there is a command and a document type
-abbrev pub asked_with : List ℕ → Option Command → Option DocumentType → Option Asked
+abbrev pub asked_with : List ℕ → Option Command → Option NamedType → Option Asked
 asked_with file None document_type = None
 asked_with file (Some command) None = None
 asked_with file (Some command) (Some document_type) = Some (asked_as command file document_type)
 
--- what the words ask for, where they are `COMMAND FILE --dtd TYPE`
+-- what the words ask for, where they are `COMMAND FILE`, by the strict type, or `COMMAND FILE --dtd TYPE`
 abbrev pub asked_of : List (List ℕ) → Option Asked
+asked_of (command ∷ file ∷ []) = if is_file_word file then asked_with file (named_command command) (Some strict_type) else None
 asked_of (command ∷ file ∷ option ∷ word ∷ []) =
     if bytes_eq option (codes "--dtd") && is_file_word file then asked_with file (named_command command) (named_type word) else None
 asked_of words = None

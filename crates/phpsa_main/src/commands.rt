@@ -1,11 +1,12 @@
 // What each command does with its file.
-ghost use Rattle.std.specs.Prelude.{◌≡◌, ◌≢◌, Err, IfOk, IfErr};
+ghost use Rattle.std.specs.Prelude.{◌≡◌, IfOk, IfErr};
 ghost use Rattle.io_edge.specs.Counts.{one_more};
-ghost use Rattle.phpsa_main.specs.declared.refusal.Refusal.TheVariants.{ReadFault};
+ghost use Rattle.phpsa_main.specs.DocumentTypes.{IsBuiltIn, type_of};
 ghost use Rattle.phpsa_main.specs.Words.{asked_as};
 ghost use Rattle.phpsa_main.specs.Call.{source_of};
 ghost use Rattle.phpsa_main.specs.Replies.{IsReply};
 ghost use Rattle.phpsa_main.specs.Causes.{IsCauseIn};
+ghost use Rattle.phpsa_main.specs.Steps.{KeepsFaults};
 
 use crate::command::Command;
 use crate::decision::{check, is_valid};
@@ -16,7 +17,7 @@ use crate::scripts::read_script;
 use io_edge::Files;
 use std::alloc::Global;
 
-/// Does what is asked for, and reads the file once.
+/// Does what is asked for. The file is read first, and then what its document type asks for.
 pub(crate) fn reply<F: Files>(
     alloc: Global,
     command: Command,
@@ -27,13 +28,13 @@ pub(crate) fn reply<F: Files>(
     ensures ok { IfOk result (λ reply. IsReply
         (source_of (F.content files.old) (F.faults files.old) (F.faults files.new) (F.misses files.old) (F.misses files.new)
         (F.reads files.old) (F.reads files.new))
-        (asked_as command file.now document_type) reply) }
+        (asked_as command file.now (type_of document_type.entry)) reply) }
     ensures err { IfErr result (λ refusal. IsCauseIn
         (source_of (F.content files.old) (F.faults files.old) (F.faults files.new) (F.misses files.old) (F.misses files.new)
         (F.reads files.old) (F.reads files.new))
-        (asked_as command file.now document_type) refusal) }
-    ensures reads { F.reads files.new ≡ one_more (F.reads files.old) }
-    ensures unfailed { result ≢ Err ReadFault → F.faults files.new ≡ F.faults files.old }
+        (asked_as command file.now (type_of document_type.entry)) refusal) }
+    ensures reads { IsBuiltIn (type_of document_type.entry) → F.reads files.new ≡ one_more (F.reads files.old) }
+    ensures unfailed { KeepsFaults (F.faults files.old) (F.faults files.new) result }
 {
     match command {
         Command::Check => check_file(alloc, file, document_type, files),
@@ -51,17 +52,17 @@ fn check_file<F: Files>(
     ensures ok { IfOk result (λ reply. IsReply
         (source_of (F.content files.old) (F.faults files.old) (F.faults files.new) (F.misses files.old) (F.misses files.new)
         (F.reads files.old) (F.reads files.new))
-        (asked_as Command.Check file.now document_type) reply) }
+        (asked_as Command.Check file.now (type_of document_type.entry)) reply) }
     ensures err { IfErr result (λ refusal. IsCauseIn
         (source_of (F.content files.old) (F.faults files.old) (F.faults files.new) (F.misses files.old) (F.misses files.new)
         (F.reads files.old) (F.reads files.new))
-        (asked_as Command.Check file.now document_type) refusal) }
-    ensures reads { F.reads files.new ≡ one_more (F.reads files.old) }
-    ensures unfailed { result ≢ Err ReadFault → F.faults files.new ≡ F.faults files.old }
+        (asked_as Command.Check file.now (type_of document_type.entry)) refusal) }
+    ensures reads { IsBuiltIn (type_of document_type.entry) → F.reads files.new ≡ one_more (F.reads files.old) }
+    ensures unfailed { KeepsFaults (F.faults files.old) (F.faults files.new) result }
 {
     let script = files.read(alloc, file)?;
     let program = read_script(alloc, script.as_slice())?;
-    let dtd = document_type.definition(alloc)?;
+    let dtd = document_type.definition(alloc, files)?;
     let answer = check(alloc, &program, &dtd)?;
     Ok(Reply::Script(answer))
 }
@@ -76,16 +77,16 @@ fn judge_file<F: Files>(
     ensures ok { IfOk result (λ reply. IsReply
         (source_of (F.content files.old) (F.faults files.old) (F.faults files.new) (F.misses files.old) (F.misses files.new)
         (F.reads files.old) (F.reads files.new))
-        (asked_as Command.Page file.now document_type) reply) }
+        (asked_as Command.Page file.now (type_of document_type.entry)) reply) }
     ensures err { IfErr result (λ refusal. IsCauseIn
         (source_of (F.content files.old) (F.faults files.old) (F.faults files.new) (F.misses files.old) (F.misses files.new)
         (F.reads files.old) (F.reads files.new))
-        (asked_as Command.Page file.now document_type) refusal) }
-    ensures reads { F.reads files.new ≡ one_more (F.reads files.old) }
-    ensures unfailed { result ≢ Err ReadFault → F.faults files.new ≡ F.faults files.old }
+        (asked_as Command.Page file.now (type_of document_type.entry)) refusal) }
+    ensures reads { IsBuiltIn (type_of document_type.entry) → F.reads files.new ≡ one_more (F.reads files.old) }
+    ensures unfailed { KeepsFaults (F.faults files.old) (F.faults files.new) result }
 {
     let page = files.read(alloc, file)?;
-    let dtd = document_type.definition(alloc)?;
+    let dtd = document_type.definition(alloc, files)?;
     let valid = is_valid(alloc, &dtd, page.as_slice())?;
     Ok(Reply::Page(valid))
 }

@@ -1,37 +1,77 @@
-// The document types that the words may name: this module alone knows their tables.
-ghost use Rattle.std.specs.Prelude.{◌≡◌, IfOk};
+// The document types that the words may name: this module alone knows their definitions.
+ghost use Rattle.std.specs.Prelude.{◌≡◌, IfOk, IfErr, option_map};
 ghost use Rattle.dtd_model.specs.TableOf.{table_of};
-ghost use Rattle.phpsa_main.specs.DocumentTypes.{HasTable, named_type};
+ghost use Rattle.dtd_reader.specs.Source.{source_call};
+ghost use Rattle.phpsa_main.specs.DocumentTypes.{HasTable, IsBuiltIn, type_of};
+ghost use Rattle.phpsa_main.specs.Words.{is_file_word, named_type};
+ghost use Rattle.phpsa_main.specs.Steps.{IsDefinitionRefusal, KeepsFaults};
 
+use crate::refusal::Refusal;
 use dtd_model::{Dtd, mini};
+use dtd_reader::read_dtd;
+use io_edge::Files;
 use std::alloc::Global;
-use text_base::NoMemory;
+use xhtml_strict::strict;
 
 /// A document type that a word names.
-#[derive(Clone, Copy, Debug, PartialEq, Eq)]
-pub enum DocumentType {
+#[derive(Clone, Copy, Debug)]
+pub enum DocumentType<'a> {
+    /// `strict`: XHTML 1.0 Strict, where no word names another.
+    Strict,
     /// `mini`: `html` holds one `body`, `body` any number of `p`, and `p` text.
     Mini,
+    /// The one that the file of this name defines.
+    File(&'a str),
 }
 
-impl DocumentType {
+/// Whether the word may be the name of a file.
+pub(crate) fn is_file(word: &[u8]) -> bool
+    ensures { result ≡ is_file_word word.now }
+{
+    match word {
+        [] => false,
+        [first, ..] => *first != b'-',
+    }
+}
+
+impl<'a> DocumentType<'a> {
     /// The document type that the word names.
-    pub(crate) fn named(word: &[u8]) -> Option<DocumentType>
-        ensures { result ≡ named_type word.now }
+    pub(crate) fn named(word: &'a str) -> Option<DocumentType<'a>>
+        ensures { option_map type_of result ≡ named_type word.now }
     {
-        if word == b"mini".as_slice() {
+        if word == "strict" {
+            Some(DocumentType::Strict)
+        } else if word == "mini" {
             Some(DocumentType::Mini)
+        } else if is_file(word.as_bytes()) {
+            Some(DocumentType::File(word))
         } else {
             None
         }
     }
 
     /// Its definition.
-    pub(crate) fn definition(self, alloc: Global) -> Result<Dtd, NoMemory>
-        ensures { IfOk result (λ dtd. HasTable self (table_of dtd)) }
+    pub(crate) fn definition<F: Files>(self, alloc: Global, files: &mut F) -> Result<Dtd, Refusal>
+        ensures ok { IfOk result (λ dtd. HasTable (F.content files.old) (type_of self.entry) (table_of dtd)) }
+        ensures err { IfErr result (IsDefinitionRefusal (source_call (F.content files.old) (F.faults files.old)
+            (F.faults files.new) (F.misses files.old) (F.misses files.new)) (type_of self.entry)) }
+        ensures reads { IsBuiltIn (type_of self.entry) → F.reads files.new ≡ F.reads files.old }
+        ensures unfailed { KeepsFaults (F.faults files.old) (F.faults files.new) result }
+        ensures same { F.content files.new ≡ F.content files.old }
     {
         match self {
-            DocumentType::Mini => mini(alloc),
+            DocumentType::Strict => match strict(alloc) {
+                Ok(dtd) => Ok(dtd),
+                Err(refusal) => Err(Refusal::BuiltIn(refusal)),
+            },
+            DocumentType::Mini => {
+                let dtd = mini(alloc)?;
+                Ok(dtd)
+            }
+            DocumentType::File(name) => match read_dtd(alloc, files, name) {
+                Ok(dtd) => Ok(dtd),
+                Err(refusal) => Err(Refusal::Dtd(refusal)),
+            },
         }
     }
 }

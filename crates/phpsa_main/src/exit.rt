@@ -13,7 +13,7 @@ pub enum Exit {
     NotBuilt,
     /// 3: the file is no script of the language, or too deep.
     Script,
-    /// 6: there is no file of this name.
+    /// 6: there is no file of this name, or none of a name of the definition.
     Missing,
     /// 7: the source of the files failed.
     ReadFault,
@@ -21,9 +21,9 @@ pub enum Exit {
     WriteFault,
     /// 9: the words are not those of a command.
     Usage,
-    /// 10: the definition is over a limit.
+    /// 10: there is no document type definition, or it is over a limit.
     Dtd,
-    /// 11: the file is over the limit of 1,048,576 bytes.
+    /// 11: a file is over the limit of 1,048,576 bytes.
     Input,
     /// 12: no memory was left.
     Memory,

@@ -46,10 +46,11 @@ use words::asked;
 
 /// Does what the words after the program's name ask for, and gives the status that the program ends with.
 ///
-/// The only words are `check FILE --dtd mini` and `page FILE --dtd mini`, where FILE is not empty and does not begin with
-/// `-`. The file is read once. A reply is written on `out`: of `check` it is `yes`, or `no`, the length of a loose page
+/// The words are `check FILE` or `page FILE`, and then `--dtd TYPE` or nothing. TYPE is `strict`, which it is where it is
+/// left out, `mini`, or the name of a file with a document type definition. No name of a file is empty or begins with
+/// `-`. The file is read first, and then those of the definition. A reply is written on `out`: of `check` it is `yes`, or `no`, the length of a loose page
 /// that is not valid, and its first 1,048,576 bytes; of `page` it is `valid` or `invalid`. Every other ending is written
-/// on `err`, as `phpsa: KIND` with the file's name where there is one.
+/// on `err`, as `phpsa: KIND` with a file's name where there is one.
 pub fn phpsa<F: Files, O: Sink, E: Sink>(
     alloc: Global,
     words: &Vec<String>,
@@ -90,11 +91,11 @@ fn run<F: Files, O: Sink, E: Sink>(
         (output_of (E.written err.old) (E.written err.new) (E.faults err.old) (E.faults err.new))) result }
 {
     match asked(words) {
-        None => refuse(alloc, b"", Refusal::Usage, err),
+        None => refuse(alloc, b"", &Refusal::Usage, err),
         Some((command, file, document_type)) => {
             match reply(alloc, command, file.as_str(), document_type, files) {
                 Ok(reply) => report(alloc, &reply, out, err),
-                Err(refusal) => refuse(alloc, file.as_bytes(), refusal, err),
+                Err(refusal) => refuse(alloc, file.as_bytes(), &refusal, err),
             }
         }
     }

@@ -1,11 +1,12 @@
 // Why a call gives no reply.
 ghost use Rattle.std.specs.Prelude.{◌≡◌};
-ghost use Rattle.phpsa_main.specs.Texts.{refusal_status};
+ghost use Rattle.phpsa_main.specs.Texts.{dtd_status, built_in_status, refusal_status};
 ghost use Rattle.phpsa_main.specs.Steps.{refusal_of, lexed_as, parsed_as, checked_as};
 ghost use Rattle.phpsa_main.specs.declared.refusal.Refusal.TheVariants.{Memory};
 
 use crate::Exit;
 use crate::decision::CheckRefusal;
+use dtd_reader::DtdRefusal;
 use io_edge::FileFault;
 use php_lexer::LexRefusal;
 use php_parser::ParseRefusal;
@@ -21,7 +22,7 @@ pub enum ScriptRefusal {
 }
 
 /// Why there is no reply, which is written on `err`.
-#[derive(Clone, Copy, Debug, PartialEq, Eq)]
+#[derive(Debug, PartialEq, Eq, Drop)]
 pub enum Refusal {
     /// The script is of a form that is not decided yet.
     NotBuilt,
@@ -35,15 +36,46 @@ pub enum Refusal {
     TooLong { len: u64 },
     /// The content models of the definition have at least `count` states, over the limit.
     Limit { count: u64 },
+    /// The files of the definition spell none, or are not read.
+    Dtd(DtdRefusal),
+    /// The built-in definition is refused.
+    BuiltIn(DtdRefusal),
     /// The words are not those of a command.
     Usage,
     /// No memory was left.
     Memory,
 }
 
+fn dtd_status(refusal: &DtdRefusal) -> Exit
+    ensures { result ≡ dtd_status refusal.now }
+{
+    match refusal {
+        DtdRefusal::Missing { .. } => Exit::Missing,
+        DtdRefusal::ReadFault { .. } => Exit::ReadFault,
+        DtdRefusal::TooLong { .. } => Exit::Input,
+        DtdRefusal::Memory => Exit::Memory,
+        DtdRefusal::NotDtd { .. } | DtdRefusal::LeftOut { .. } => Exit::Dtd,
+        DtdRefusal::Entity { .. } | DtdRefusal::Twice { .. } => Exit::Dtd,
+        DtdRefusal::Undeclared { .. } | DtdRefusal::Limit { .. } => Exit::Dtd,
+    }
+}
+
+fn built_in_status(refusal: &DtdRefusal) -> Exit
+    ensures { result ≡ built_in_status refusal.now }
+{
+    match refusal {
+        DtdRefusal::Memory => Exit::Memory,
+        DtdRefusal::Missing { .. } | DtdRefusal::ReadFault { .. } => Exit::Dtd,
+        DtdRefusal::TooLong { .. } | DtdRefusal::Limit { .. } => Exit::Dtd,
+        DtdRefusal::NotDtd { .. } | DtdRefusal::LeftOut { .. } => Exit::Dtd,
+        DtdRefusal::Entity { .. } | DtdRefusal::Twice { .. } => Exit::Dtd,
+        DtdRefusal::Undeclared { .. } => Exit::Dtd,
+    }
+}
+
 impl Refusal {
-    pub(crate) fn status(self) -> Exit
-        ensures { result ≡ refusal_status self }
+    pub(crate) fn status(&self) -> Exit
+        ensures { result ≡ refusal_status self.now }
     {
         match self {
             Refusal::NotBuilt => Exit::NotBuilt,
@@ -52,6 +84,8 @@ impl Refusal {
             Refusal::ReadFault => Exit::ReadFault,
             Refusal::TooLong { .. } => Exit::Input,
             Refusal::Limit { .. } => Exit::Dtd,
+            Refusal::Dtd(refusal) => dtd_status(refusal),
+            Refusal::BuiltIn(refusal) => built_in_status(refusal),
             Refusal::Usage => Exit::Usage,
             Refusal::Memory => Exit::Memory,
         }

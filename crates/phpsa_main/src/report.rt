@@ -37,8 +37,8 @@ fn try_put<S: Sink>(sink: &mut S, text: &[u8])
 }
 
 /// Writes a refusal of this file.
-pub(crate) fn refuse<E: Sink>(alloc: Global, file: &[u8], refusal: Refusal, err: &mut E) -> Exit
-    ensures reports { ReportsRefusal file.now refusal
+pub(crate) fn refuse<E: Sink>(alloc: Global, file: &[u8], refusal: &Refusal, err: &mut E) -> Exit
+    ensures reports { ReportsRefusal file.now refusal.now
         (output_of (E.written err.old) (E.written err.new) (E.faults err.old) (E.faults err.new)) result }
     ensures told { TellsFault (output_of (E.written err.old) (E.written err.new) (E.faults err.old) (E.faults err.new))
         result }

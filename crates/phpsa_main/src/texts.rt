@@ -1,12 +1,13 @@
 // The texts that are written.
 ghost use Rattle.std.specs.Prelude.{◌≡◌, ◌++◌, [], ◌∷◌, take, OnOk, OnErr, IfOk};
 ghost use Rattle.std.specs.Fmt.{decimal};
-ghost use Rattle.phpsa_main.specs.Texts.{no_text, error_text, counted_text, fault_name, reply_text, said_of};
+ghost use Rattle.phpsa_main.specs.Texts.{no_text, error_text, counted_text, named_text, dtd_text, definition_text, built_in_text, fault_name, reply_text, said_of};
 ghost use Rattle.phpsa_main.specs.declared.refusal.Refusal.TheVariants as refusals;
 
 use crate::decision::Answer;
 use crate::refusal::{Refusal, ScriptRefusal};
 use crate::reply::Reply;
+use dtd_reader::DtdRefusal;
 use lexical_grammar::fault::LexicalFault;
 use php_lexer::LexRefusal;
 use php_parser::ParseRefusal;
@@ -21,6 +22,9 @@ pub(crate) const WRITE_FAULT: &[u8] = b"phpsa: WriteFault\n";
 
 /// The text of a want of memory.
 pub(crate) const NO_MEMORY: &[u8] = b"phpsa: Memory\n";
+
+/// The text of a refusal of the built-in definition.
+const BUILT_IN_REFUSED: &[u8] = b"phpsa: Dtd strict\n";
 
 /// The text of a reply.
 pub(crate) fn reply_text(alloc: Global, reply: &Reply) -> Result<Bytes, NoMemory>
@@ -106,37 +110,54 @@ fn parsed(refusal: ParseRefusal) -> (&'static [u8], u64)
 }
 
 /// The text of a refusal of this file.
-pub(crate) fn refusal_text(alloc: Global, file: &[u8], refusal: Refusal) -> Result<Bytes, NoMemory>
-    ensures { IfOk result (λ text. text ≡ error_text refusal file.now) }
+pub(crate) fn refusal_text(alloc: Global, file: &[u8], refusal: &Refusal) -> Result<Bytes, NoMemory>
+    ensures { IfOk result (λ text. text ≡ error_text refusal.now file.now) }
 {
     match refusal {
-        Refusal::NotBuilt => named_text(alloc, b"phpsa: NotBuilt ", file),
-        Refusal::Script(refusal) => script_text(alloc, file, refusal),
-        Refusal::Missing => named_text(alloc, b"phpsa: Missing ", file),
-        Refusal::ReadFault => named_text(alloc, b"phpsa: ReadFault ", file),
-        Refusal::TooLong { len } => counted_text(alloc, b"TooLong", file, len),
-        Refusal::Limit { count } => limit_text(alloc, count),
+        Refusal::NotBuilt => named_text(alloc, b"NotBuilt", file),
+        Refusal::Script(refusal) => script_text(alloc, file, *refusal),
+        Refusal::Missing => named_text(alloc, b"Missing", file),
+        Refusal::ReadFault => named_text(alloc, b"ReadFault", file),
+        Refusal::TooLong { len } => counted_text(alloc, b"TooLong", file, *len),
+        Refusal::Limit { count } => numbered_text(alloc, b"Limit", *count),
+        Refusal::Dtd(refusal) => definition_text(alloc, refusal),
+        Refusal::BuiltIn(refusal) => built_in_text(alloc, refusal),
         Refusal::Usage => Bytes::from_slice(alloc, b"phpsa: Usage\n"),
         Refusal::Memory => Bytes::from_slice(alloc, NO_MEMORY),
     }
 }
 
-fn named_text(alloc: Global, front: &[u8], file: &[u8]) -> Result<Bytes, NoMemory>
-    ensures { IfOk result (λ text. text ≡ front.now ++ file.now ++ 10 ∷ []) }
+fn definition_text(alloc: Global, refusal: &DtdRefusal) -> Result<Bytes, NoMemory>
+    ensures { IfOk result (λ text. text ≡ definition_text refusal.now) }
 {
-    let mut text = Bytes::from_slice(alloc, front)?;
-    text.append(file)?;
-    text.append(b"\n")?;
-    Ok(text)
+    match refusal {
+        DtdRefusal::Missing { name } => named_text(alloc, b"Missing", name.as_slice()),
+        DtdRefusal::ReadFault { name } => named_text(alloc, b"ReadFault", name.as_slice()),
+        DtdRefusal::TooLong { name, len } => {
+            counted_text(alloc, b"TooLong", name.as_slice(), *len)
+        }
+        DtdRefusal::NotDtd { at } => numbered_text(alloc, b"NotDtd", *at),
+        DtdRefusal::Entity { name } => dtd_text(alloc, b"Entity", name.as_slice()),
+        DtdRefusal::Twice { name } => dtd_text(alloc, b"Twice", name.as_slice()),
+        DtdRefusal::Undeclared { name } => dtd_text(alloc, b"Undeclared", name.as_slice()),
+        DtdRefusal::LeftOut { at } => numbered_text(alloc, b"LeftOut", *at),
+        DtdRefusal::Limit { count } => numbered_text(alloc, b"Limit", *count),
+        DtdRefusal::Memory => Bytes::from_slice(alloc, NO_MEMORY),
+    }
 }
 
-fn limit_text(alloc: Global, count: u64) -> Result<Bytes, NoMemory>
-    ensures { IfOk result (λ text. text ≡ error_text (refusals.Limit count) []) }
+fn built_in_text(alloc: Global, refusal: &DtdRefusal) -> Result<Bytes, NoMemory>
+    ensures { IfOk result (λ text. text ≡ built_in_text refusal.now) }
 {
-    let mut text = Bytes::from_slice(alloc, b"phpsa: Dtd Limit ")?;
-    append_number(alloc, &mut text, count)?;
-    text.append(b"\n")?;
-    Ok(text)
+    let text = match refusal {
+        DtdRefusal::Memory => NO_MEMORY,
+        DtdRefusal::Missing { .. } | DtdRefusal::ReadFault { .. } => BUILT_IN_REFUSED,
+        DtdRefusal::TooLong { .. } | DtdRefusal::Limit { .. } => BUILT_IN_REFUSED,
+        DtdRefusal::NotDtd { .. } | DtdRefusal::LeftOut { .. } => BUILT_IN_REFUSED,
+        DtdRefusal::Entity { .. } | DtdRefusal::Twice { .. } => BUILT_IN_REFUSED,
+        DtdRefusal::Undeclared { .. } => BUILT_IN_REFUSED,
+    };
+    Bytes::from_slice(alloc, text)
 }
 
 fn script_text(alloc: Global, file: &[u8], refusal: ScriptRefusal) -> Result<Bytes, NoMemory>
@@ -144,6 +165,18 @@ fn script_text(alloc: Global, file: &[u8], refusal: ScriptRefusal) -> Result<Byt
 {
     let (name, number) = said_of(refusal);
     counted_text(alloc, name, file, number)
+}
+
+/// `phpsa: NAME FILE`.
+fn named_text(alloc: Global, name: &[u8], file: &[u8]) -> Result<Bytes, NoMemory>
+    ensures { IfOk result (λ text. text ≡ named_text name.now file.now) }
+{
+    let mut text = Bytes::from_slice(alloc, b"phpsa: ")?;
+    text.append(name)?;
+    text.append(b" ")?;
+    text.append(file)?;
+    text.append(b"\n")?;
+    Ok(text)
 }
 
 /// `phpsa: NAME FILE NUMBER`.
@@ -158,4 +191,24 @@ fn counted_text(alloc: Global, name: &[u8], file: &[u8], number: u64) -> Result<
     append_number(alloc, &mut text, number)?;
     text.append(b"\n")?;
     Ok(text)
+}
+
+/// `phpsa: Dtd KIND VALUE`.
+fn dtd_text(alloc: Global, kind: &[u8], value: &[u8]) -> Result<Bytes, NoMemory>
+    ensures { IfOk result (λ text. text ≡ dtd_text kind.now value.now) }
+{
+    let mut text = Bytes::from_slice(alloc, b"phpsa: Dtd ")?;
+    text.append(kind)?;
+    text.append(b" ")?;
+    text.append(value)?;
+    text.append(b"\n")?;
+    Ok(text)
+}
+
+/// `phpsa: Dtd KIND NUMBER`.
+fn numbered_text(alloc: Global, kind: &[u8], number: u64) -> Result<Bytes, NoMemory>
+    ensures { IfOk result (λ text. text ≡ dtd_text kind.now (decimal number)) }
+{
+    let digits = number.to_string(alloc)?;
+    dtd_text(alloc, kind, digits.as_bytes())
 }

@@ -1,4 +1,5 @@
 use Rattle.std.proofs.Common.{◌≡◌, Some, None, map, string_bytes, refl, inr}
+use Rattle.phpsa_main.specs.DocumentTypes.{type_of}
 use Rattle.phpsa_main.specs.Words.{asked_as, asked_of}
 use Rattle.phpsa_main.proofs.Ended.{unasked_ends, refused_ends, replied_ends}
 use Rattle.phpsa_main.proofs.Counting.{unasked_counts, asked_counts, fault_told}
@@ -16,21 +17,21 @@ returns-in-None-clause-counted g c =
 
 pub returns-in-Ok-clause-ends : goal.returns-in-Ok-clause-ends
 returns-in-Ok-clause-ends g c =
-    let asked : asked_of (map (λ word. string_bytes word) c.args.words.now.items) ≡ Some (asked_as c.in-Some.command (string_bytes c.in-Some.file.now) c.in-Some.document_type) = cc (c.in-Some.ensures, c.deref.ensures.value) in
-    replied_ends _ c.in-Some.command (string_bytes c.in-Some.file.now) c.in-Some.document_type c.as_str.result.now c.in-Ok.reply c.report.result asked c.as_str.ensures.value c.in-Ok.ensures.ok c.report.ensures.reports
+    let asked : asked_of (map (λ word. string_bytes word) c.args.words.now.items) ≡ Some (asked_as c.in-Some.command (string_bytes c.in-Some.file.now) (type_of c.in-Some.document_type)) = cc (c.in-Some.ensures, c.deref.ensures.value) in
+    replied_ends _ c.in-Some.command (string_bytes c.in-Some.file.now) (type_of c.in-Some.document_type) c.as_str.result.now c.in-Ok.reply c.report.result asked c.as_str.ensures.value c.in-Ok.ensures.ok c.report.ensures.reports
 
 pub returns-in-Ok-clause-counted : goal.returns-in-Ok-clause-counted
 returns-in-Ok-clause-counted g c =
-    let asked : asked_of (map (λ word. string_bytes word) c.args.words.now.items) ≡ Some (asked_as c.in-Some.command (string_bytes c.in-Some.file.now) c.in-Some.document_type) = cc (c.in-Some.ensures, c.deref.ensures.value) in
-    asked_counts _ (asked_as c.in-Some.command (string_bytes c.in-Some.file.now) c.in-Some.document_type) c.report.result asked c.in-Ok.ensures.reads c.report.ensures.told_out c.report.ensures.told_err (inr (c.in-Ok.ensures.unfailed (λ e. cc (e))))
+    let asked : asked_of (map (λ word. string_bytes word) c.args.words.now.items) ≡ Some (asked_as c.in-Some.command (string_bytes c.in-Some.file.now) (type_of c.in-Some.document_type)) = cc (c.in-Some.ensures, c.deref.ensures.value) in
+    asked_counts _ (asked_as c.in-Some.command (string_bytes c.in-Some.file.now) (type_of c.in-Some.document_type)) c.report.result asked c.in-Ok.ensures.reads c.report.ensures.told_out c.report.ensures.told_err (inr c.in-Ok.ensures.unfailed)
 
 pub returns-in-Err-clause-ends : goal.returns-in-Err-clause-ends
 returns-in-Err-clause-ends g c =
-    let asked : asked_of (map (λ word. string_bytes word) c.args.words.now.items) ≡ Some (asked_as c.in-Some.command (string_bytes c.in-Some.file.now) c.in-Some.document_type) = cc (c.in-Some.ensures, c.deref.ensures.value) in
-    refused_ends _ c.in-Some.command (string_bytes c.in-Some.file.now) c.in-Some.document_type c.as_str.result.now c.as_bytes.result.now c.in-Err.refusal c.refuse-in-Err.result asked c.as_str.ensures.value c.as_bytes.ensures.value c.in-Err.ensures.err refl c.refuse-in-Err.ensures.reports
+    let asked : asked_of (map (λ word. string_bytes word) c.args.words.now.items) ≡ Some (asked_as c.in-Some.command (string_bytes c.in-Some.file.now) (type_of c.in-Some.document_type)) = cc (c.in-Some.ensures, c.deref.ensures.value) in
+    refused_ends _ c.in-Some.command (string_bytes c.in-Some.file.now) (type_of c.in-Some.document_type) c.as_str.result.now c.as_bytes.result.now c.in-Err.refusal c.refuse-in-Err.result asked c.as_str.ensures.value c.as_bytes.ensures.value c.in-Err.ensures.err refl c.refuse-in-Err.ensures.reports
 
 pub returns-in-Err-clause-counted : goal.returns-in-Err-clause-counted
 returns-in-Err-clause-counted g c =
-    let asked : asked_of (map (λ word. string_bytes word) c.args.words.now.items) ≡ Some (asked_as c.in-Some.command (string_bytes c.in-Some.file.now) c.in-Some.document_type) = cc (c.in-Some.ensures, c.deref.ensures.value) in
-    asked_counts _ (asked_as c.in-Some.command (string_bytes c.in-Some.file.now) c.in-Some.document_type) c.refuse-in-Err.result asked c.in-Err.ensures.reads (inr refl) c.refuse-in-Err.ensures.told
-    (fault_told _ c.in-Err.refusal _ c.refuse-in-Err.result (λ ne. c.in-Err.ensures.unfailed (λ e. ne (cc (e)))) c.refuse-in-Err.ensures.reports)
+    let asked : asked_of (map (λ word. string_bytes word) c.args.words.now.items) ≡ Some (asked_as c.in-Some.command (string_bytes c.in-Some.file.now) (type_of c.in-Some.document_type)) = cc (c.in-Some.ensures, c.deref.ensures.value) in
+    asked_counts _ (asked_as c.in-Some.command (string_bytes c.in-Some.file.now) (type_of c.in-Some.document_type)) c.refuse-in-Err.result asked c.in-Err.ensures.reads (inr refl) c.refuse-in-Err.ensures.told
+    (fault_told _ c.in-Err.refusal _ c.refuse-in-Err.result c.in-Err.ensures.unfailed c.refuse-in-Err.ensures.reports)
