@@ -1,26 +1,30 @@
 -- Worked pages and near misses.
-use Rattle.std.proofs.Common.{◌≡◌, ℕ, true, false, List, [], ◌∷◌, ◌++◌, refl, codes, None}
+use Rattle.std.proofs.Common.{◌≡◌, ℕ, Bool, true, false, List, [], ◌∷◌, ◌++◌, refl, sym, ap, ◌∙◌, append_assoc, codes, Option, None, Some}
+use Rattle.std.specs.Prelude.{◌==◌, ◌&&◌}
+use Rattle.std.specs.List.{list_all}
 use Rattle.std.specs.Str.{str_eq_ignore_ascii_case}
 use Rattle.std.specs.Char.{encode_utf8}
+use Rattle.std.proofs.lemmas.Bool.{and_parts}
+use Rattle.std.proofs.lemmas.Str.{encode_same}
 use Rattle.text_base.specs.declared.page_token.PageToken.{PageToken}
 use Rattle.text_base.specs.declared.page_token.PageToken.TheVariants as token
-use Rattle.xml_text.specs.Names.{is_name}
+use Rattle.xml_text.specs.Names.{begins_name, in_name, is_name}
 use Rattle.xml_text.specs.Texts.{holds}
 use Rattle.dtd_model.specs.declared.dtd.DoctypeRule.TheVariants.{Strict}
 use Rattle.dtd_model.specs.Matches.{may_be_empty, after}
 use Rattle.dtd_model.specs.Mini.{mini_table, plain_rule}
 use Rattle.dtd_model.specs.References.{decimal, hexadecimal, entity, is_reference}
-use Rattle.dtd_model.specs.Table.{cdata, id, idrefs, nmtoken, one_of, implied, fixed, nothing, children, one, Declared}
-use Rattle.page_model.specs.Attributes.{words_of, has_kind, has_fixed, attributes_fit, find_rule, leaf_fits, doctype_fits}
-use Rattle.page_model.specs.Broken.{is_loose_reference}
+use Rattle.dtd_model.specs.Table.{cdata, id, idrefs, nmtoken, one_of, implied, fixed, nothing, children, one, Declared, Table}
+use Rattle.page_model.specs.Attributes.{words_of, has_kind, has_fixed, attributes_fit, find_rule, is_some_rule, leaf_fits, doctype_fits}
+use Rattle.page_model.specs.Broken.{is_loose_reference, loose_then, Broken}
 use Rattle.page_model.specs.Nodes.{Nodes, no_nodes, other, element, no_doctype, Page, pieces_of}
 use Rattle.page_model.specs.PageTokens.{piece_bytes, piece_tokens, tokens_then}
 use Rattle.page_model.specs.Parts.{Attribute, Tag, IsTag, character, reference, section, comment, instruction, is_plain, refers_by, may_be_quoted, begins_blank}
-use Rattle.page_model.specs.Pieces.{mark, doctype, empty_tag, leaf, piece_then, pieces_then, may_follow, after as place_after, IsPiece}
+use Rattle.page_model.specs.Pieces.{mark, declaration, doctype, start_tag, empty_tag, end_tag, leaf, piece_then, pieces_then, may_follow, after as place_after, IsPiece}
 use Rattle.page_model.specs.Places.{at_beginning, behind_mark, behind}
 use Rattle.page_model.specs.Prolog.{Doctype, public, no_identifier, is_in_order}
-use Rattle.page_model.specs.TokenTree.{no_trees, single, tree, TokenTree}
-use Rattle.page_model.specs.Valid.{Valid, place_of, sort_of, text, is_between, may_hold, PrologFits}
+use Rattle.page_model.specs.TokenTree.{Trees, no_trees, single, tree, TokenTree, prolog_then, trees_then, PrologFits as TreePrologFits}
+use Rattle.page_model.specs.Valid.{Valid, place_of, sort_of, blank, text, remark, is_between, may_hold, PrologFits}
 
 -- References (XML 1.0, 4.1 and 4.6).
 
@@ -315,3 +319,172 @@ two_tokens = refl
 
 pub no_token : piece_tokens mini_table mark ≡ []
 no_token = refl
+
+-- Under the strict document type the declaration stands before the root, with white space and remarks round it.
+
+abbrev strict_mini : Table
+strict_mini = record { elements = mini_table.elements; entities = []; doctype = Strict }
+
+abbrev empty_body : Trees
+empty_body = tree 0 (tree 1 no_trees no_trees) no_trees
+
+abbrev its_root : List PageToken
+its_root = start 0 ∷ start 1 ∷ end_of 1 ∷ end_of 0 ∷ []
+
+pub behind_its_type : TokenTree strict_mini (token.Misc ∷ token.Doctype ∷ its_root)
+unfolding mini_table may_be_empty after
+behind_its_type = record {
+  before = Some (single remark no_trees);
+  trees = empty_body;
+  flat = refl;
+  prolog = (refl, refl);
+  root = refl;
+  around = refl;
+  fits = (
+    record { rule = plain_rule _ _; declared = refl; held = refl; elements = refl },
+    (record { rule = plain_rule _ _; declared = refl; held = refl; elements = refl }, tt, tt),
+    tt,
+  );
+}
+
+abbrev is_type : List PageToken → Bool
+is_type [] = false
+is_type (token.Doctype ∷ tokens) = true
+is_type (token.Start e ∷ tokens) = false
+is_type (token.End e ∷ tokens) = false
+is_type (token.Blank ∷ tokens) = false
+is_type (token.Text ∷ tokens) = false
+is_type (token.Misc ∷ tokens) = false
+is_type (token.Bad ∷ tokens) = false
+
+abbrev is_start : List PageToken → Bool
+is_start [] = false
+is_start (token.Start e ∷ tokens) = true
+is_start (token.Doctype ∷ tokens) = false
+is_start (token.End e ∷ tokens) = false
+is_start (token.Blank ∷ tokens) = false
+is_start (token.Text ∷ tokens) = false
+is_start (token.Misc ∷ tokens) = false
+is_start (token.Bad ∷ tokens) = false
+
+pub without_its_type : TokenTree strict_mini its_root → ⊥
+without_its_type t = at t.before t.trees t.flat t.prolog
+  where
+    at : (before : Option Trees) (trees : Trees) → prolog_then before (trees_then trees []) ≡ its_root → TreePrologFits Strict before → ⊥
+    at None trees e fits = fits
+    at (Some no_trees) trees e fits = let f : true ≡ false = ap is_type e in cc
+    at (Some (single blank more)) trees e fits = let f : false ≡ true = ap is_start e in cc
+    at (Some (single text more)) trees e fits = let f : false ≡ true = ap is_start e in cc
+    at (Some (single remark more)) trees e fits = let f : false ≡ true = ap is_start e in cc
+    at (Some (tree n inside more)) trees e fits = cc
+
+-- Pages that break whatever is declared of attributes, and such as do not.
+
+-- the first of the bytes is this one, and there is a second
+abbrev first_is : ℕ → List ℕ → Bool
+first_is c [] = false
+first_is c (a ∷ xs) = a == c
+
+abbrev has_second : List ℕ → Bool
+has_second [] = false
+has_second (a ∷ []) = false
+has_second (a ∷ b ∷ xs) = true
+
+not_less : (c : ℕ) → is_plain c ≡ true → c ≡ 60 → ⊥
+not_less c h is = let f : true ≡ false = sym h ∙ ap is_plain is in cc
+
+-- a name stands behind the `<` of a tag
+named_more : (name x y : List ℕ) → is_name name ≡ true → 60 ∷ ((name ++ x) ++ y) ≡ codes "<" → ⊥
+named_more [] x y named e = cc
+named_more (c ∷ cs) x y named e = let f : true ≡ false = ap has_second e in cc
+
+-- `<` alone
+pub less_breaks : Broken mini_table (codes "<")
+unfolding encode_utf8
+less_breaks [] l e = let f : false ≡ true = ap (first_is 60) e in cc
+less_breaks (mark ∷ ps) l e = let f : false ≡ true = ap (first_is 60) e in cc
+less_breaks (declaration d ∷ ps) l e = let f : true ≡ false = ap has_second e in cc
+less_breaks (doctype d ∷ ps) l e = let f : true ≡ false = ap has_second e in cc
+less_breaks (start_tag tag ∷ ps) l e = named_more tag.name _ _ l.0.named e
+less_breaks (empty_tag tag ∷ ps) l e = named_more tag.name _ _ l.0.named e
+less_breaks (end_tag name space ∷ ps) l e = let f : true ≡ false = ap has_second e in cc
+less_breaks (leaf (character c) ∷ ps) l e = absurd (not_less c l.0.is.1 ((encode_same c 60 (loose_then ps) [] (sym (append_assoc (encode_utf8 c) [] (loose_then ps)) ∙ e)).0))
+less_breaks (leaf (reference (decimal digits)) ∷ ps) l e = let f : false ≡ true = ap (first_is 60) e in cc
+less_breaks (leaf (reference (hexadecimal digits)) ∷ ps) l e = let f : false ≡ true = ap (first_is 60) e in cc
+less_breaks (leaf (reference (entity name)) ∷ ps) l e = let f : false ≡ true = ap (first_is 60) e in cc
+less_breaks (leaf (section chars) ∷ ps) l e = let f : true ≡ false = ap has_second e in cc
+less_breaks (leaf (comment chars) ∷ ps) l e = let f : true ≡ false = ap has_second e in cc
+less_breaks (leaf (instruction target chars) ∷ ps) l e = let f : true ≡ false = ap has_second e in cc
+
+-- the tag of an element that is not declared
+abbrev at_second : List ℕ → ℕ
+at_second [] = 0
+at_second (a ∷ []) = 0
+at_second (a ∷ b ∷ xs) = b
+
+abbrev at_third : List ℕ → ℕ
+at_third [] = 0
+at_third (a ∷ xs) = at_second xs
+
+undeclared_name : (name x y : List ℕ) → is_name name ≡ true → is_some_rule (find_rule mini_table.elements name) ≡ true → 60 ∷ ((name ++ x) ++ y) ≡ codes "<x>" → ⊥
+unfolding mini_table
+undeclared_name [] x y named declared e = cc
+undeclared_name (c ∷ []) x y named declared e =
+    let f : false ≡ true = ap (λ (n : ℕ). is_some_rule (find_rule mini_table.elements (n ∷ []))) (sym (ap at_second e)) ∙ declared in
+    cc
+undeclared_name (c ∷ d ∷ ds) x y named declared e =
+    let f : false ≡ true = ap (λ (n : ℕ). in_name n && list_all in_name ds) (sym (ap at_third e)) ∙ (and_parts (begins_name c) (in_name d && list_all in_name ds) named).1 in
+    cc
+
+pub undeclared_breaks : Broken mini_table (codes "<x>")
+unfolding encode_utf8
+undeclared_breaks [] l e = let f : false ≡ true = ap (first_is 60) e in cc
+undeclared_breaks (mark ∷ ps) l e = let f : false ≡ true = ap (first_is 60) e in cc
+undeclared_breaks (declaration d ∷ ps) l e = let f : false ≡ true = ap (λ (xs : List ℕ). at_second xs == 120) e in cc
+undeclared_breaks (doctype d ∷ ps) l e = let f : false ≡ true = ap (λ (xs : List ℕ). at_second xs == 120) e in cc
+undeclared_breaks (start_tag tag ∷ ps) l e = undeclared_name tag.name _ _ l.0.named l.0.declared e
+undeclared_breaks (empty_tag tag ∷ ps) l e = undeclared_name tag.name _ _ l.0.named l.0.declared e
+undeclared_breaks (end_tag name space ∷ ps) l e = let f : false ≡ true = ap (λ (xs : List ℕ). at_second xs == 120) e in cc
+undeclared_breaks (leaf (character c) ∷ ps) l e = absurd (not_less c l.0.is.1 ((encode_same c 60 (loose_then ps) (codes "x>") (sym (append_assoc (encode_utf8 c) [] (loose_then ps)) ∙ e)).0))
+undeclared_breaks (leaf (reference (decimal digits)) ∷ ps) l e = let f : false ≡ true = ap (first_is 60) e in cc
+undeclared_breaks (leaf (reference (hexadecimal digits)) ∷ ps) l e = let f : false ≡ true = ap (first_is 60) e in cc
+undeclared_breaks (leaf (reference (entity name)) ∷ ps) l e = let f : false ≡ true = ap (first_is 60) e in cc
+undeclared_breaks (leaf (section chars) ∷ ps) l e = let f : false ≡ true = ap (λ (xs : List ℕ). at_second xs == 120) e in cc
+undeclared_breaks (leaf (comment chars) ∷ ps) l e = let f : false ≡ true = ap (λ (xs : List ℕ). at_second xs == 120) e in cc
+undeclared_breaks (leaf (instruction target chars) ∷ ps) l e = let f : false ≡ true = ap (λ (xs : List ℕ). at_second xs == 120) e in cc
+
+-- no attribute is declared, and a value may hold what is no UTF-8, and `&`
+pub any_attribute : Broken mini_table (codes "<p a='&" ++ 0xFF ∷ codes "'>") → ⊥
+unfolding mini_table
+any_attribute breaks =
+    breaks
+    (start_tag (record { name = codes "p"; attributes = record { space = codes " "; name = codes "a"; before_equals = []; after_equals = []; quote = 39; value = 38 ∷ 0xFF ∷ [] } ∷ []; space = [] }) ∷ []) (
+      record {
+        named = refl;
+        declared = refl;
+        attributes = (
+          record {
+            some_space = λ e. cc;
+            blank_space = refl;
+            named = refl;
+            blank_before = refl;
+            blank_after = refl;
+            quoted = refl;
+            value = refl;
+          },
+          tt,
+        );
+        blank_space = refl;
+      },
+      tt,
+    )
+    refl
+
+-- a number that is no character's
+pub any_number_written : Broken mini_table (codes "&#1114112;") → ⊥
+unfolding encode_utf8
+any_number_written breaks = breaks (leaf (reference (decimal (codes "1114112"))) ∷ []) (refl, tt) refl
+
+-- nothing is open
+pub nothing_breaks_not : Broken mini_table [] → ⊥
+nothing_breaks_not breaks = breaks [] tt refl

@@ -13,7 +13,8 @@ ghost use Rattle.page_rules.specs.Tests.{at_most_one, has_value, once_by};
 use crate::characters::{is_named, is_word};
 use crate::references::refers_to_known;
 use crate::values::{has_fixed, has_kind};
-use dtd_model::{AttrRule, Dtd, Need};
+use dtd_index::IndexedDtd;
+use dtd_model::{AttrRule, Need};
 use page_cutting::Attribute as Read;
 use std::alloc::Global;
 use text_base::{Bytes, NoMemory};
@@ -22,14 +23,14 @@ use text_base::{Bytes, NoMemory};
 /// Time is linear in them, times the declared ones, of which there are at most 64.
 pub fn attributes_fit(
     alloc: Global,
-    dtd: &Dtd,
+    indexed: &IndexedDtd<'_>,
     name: &[char],
     rules: &Vec<AttrRule>,
     attributes: &[Read<'_>],
 ) -> Result<bool, NoMemory>
-    ensures { IfOk result (λ fit. fit ≡ spec.attributes_fit (table_of dtd.now).entities name.now (map declared_of rules.now.items) (map attribute_of attributes.now)) }
+    ensures { IfOk result (λ fit. fit ≡ spec.attributes_fit (table_of indexed.now.dtd.now).entities name.now (map declared_of rules.now.items) (map attribute_of attributes.now)) }
 {
-    let known = all_known(dtd, attributes);
+    let known = all_known(indexed, attributes);
     let declared = all_declared(alloc, rules, attributes)?;
     let stand = all_stand(name, rules, attributes);
     Ok(all_three(known, declared, stand))
@@ -48,11 +49,11 @@ fn all_stand(name: &[char], rules: &Vec<AttrRule>, attributes: &[Read<'_>]) -> b
     all_once(rules, attributes) && all_there(name, rules, attributes)
 }
 
-fn all_known(dtd: &Dtd, attributes: &[Read<'_>]) -> bool
-    ensures { result ≡ list_all (λ (a : Attribute). refers_by (is_known (table_of dtd.now).entities) a.value) (map attribute_of attributes.now) }
+fn all_known(indexed: &IndexedDtd<'_>, attributes: &[Read<'_>]) -> bool
+    ensures { result ≡ list_all (λ (a : Attribute). refers_by (is_known (table_of indexed.now.dtd.now).entities) a.value) (map attribute_of attributes.now) }
 {
     for attribute in attributes {
-        if !refers_to_known(dtd, attribute.value.text) {
+        if !refers_to_known(indexed, attribute.value.text) {
             return false;
         }
     }

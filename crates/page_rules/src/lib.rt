@@ -1,6 +1,6 @@
 //! What XML and a document type definition ask of a piece of a page, as code: `is_right` and
-//! `tokens`. Their contracts cite page_reading and page_model. Below stand text_base, xml_text,
-//! dtd_model, page_model, page_reading and page_cutting.
+//! `tokens_of`. Their contracts cite page_reading and page_model. Below stand text_base, xml_text,
+//! dtd_model, dtd_index, page_model, page_reading and page_cutting.
 #![tactic(auto)]
 
 mod attributes;

@@ -13,7 +13,8 @@ use crate::attributes::attributes_fit;
 use crate::characters::is_word;
 use crate::elements::element;
 use crate::references::is_known;
-use dtd_model::{DoctypeRule, Dtd};
+use dtd_index::IndexedDtd;
+use dtd_model::DoctypeRule;
 use page_cutting::{Doctype, Identifier, Piece, Reference, Tag, is_blank};
 use std::alloc::Global;
 use text_base::{Elem, NoMemory};
@@ -40,26 +41,30 @@ pub enum Taken {
 }
 
 /// What the piece is for the tree of the page; none where the definition does not allow it.
-pub fn tokens_of(alloc: Global, dtd: &Dtd, piece: &Piece<'_>) -> Result<Option<Taken>, NoMemory>
-    ensures { IfOk result (λ found. Takes (table_of dtd.now) (piece_of piece.now) found) }
+pub fn tokens_of(
+    alloc: Global,
+    indexed: &IndexedDtd<'_>,
+    piece: &Piece<'_>,
+) -> Result<Option<Taken>, NoMemory>
+    ensures { IfOk result (λ found. Takes (table_of indexed.now.dtd.now) (piece_of piece.now) found) }
 {
     match piece {
         Piece::Mark | Piece::Declaration(_) => Ok(Some(Taken::Nothing)),
-        Piece::Doctype(doctype) => Ok(doctype_taken(dtd, *doctype)),
-        Piece::Start(tag) => start_taken(alloc, dtd, tag),
-        Piece::Empty(tag) => empty_taken(alloc, dtd, tag),
-        Piece::End(name, _) => Ok(end_taken(dtd, name)),
+        Piece::Doctype(doctype) => Ok(doctype_taken(indexed, *doctype)),
+        Piece::Start(tag) => start_taken(alloc, indexed, tag),
+        Piece::Empty(tag) => empty_taken(alloc, indexed, tag),
+        Piece::End(name, _) => Ok(end_taken(indexed, name)),
         Piece::Character(c) => Ok(character_taken(*c)),
-        Piece::Reference(reference) => Ok(reference_taken(dtd, *reference)),
+        Piece::Reference(reference) => Ok(reference_taken(indexed, *reference)),
         Piece::Section(_) => Ok(Some(Taken::Text)),
         Piece::Comment(_) | Piece::Instruction(_, _) => Ok(Some(Taken::Remark)),
     }
 }
 
-fn doctype_taken(dtd: &Dtd, doctype: Doctype<'_>) -> Option<Taken>
-    ensures { Takes (table_of dtd.now) (pieces.doctype (doctype_of doctype.entry)) result }
+fn doctype_taken(indexed: &IndexedDtd<'_>, doctype: Doctype<'_>) -> Option<Taken>
+    ensures { Takes (table_of indexed.now.dtd.now) (pieces.doctype (doctype_of doctype.entry)) result }
 {
-    if doctype_fits(dtd.doctype, doctype.identifier) {
+    if doctype_fits(indexed.dtd.doctype, doctype.identifier) {
         Some(Taken::Doctype)
     } else {
         None
@@ -87,43 +92,55 @@ fn is_strict(identifier: Identifier<'_>) -> bool
     }
 }
 
-fn start_taken(alloc: Global, dtd: &Dtd, tag: &Tag<'_>) -> Result<Option<Taken>, NoMemory>
-    ensures { IfOk result (λ found. Takes (table_of dtd.now) (pieces.start_tag (tag_of tag.now)) found) }
+fn start_taken(
+    alloc: Global,
+    indexed: &IndexedDtd<'_>,
+    tag: &Tag<'_>,
+) -> Result<Option<Taken>, NoMemory>
+    ensures { IfOk result (λ found. Takes (table_of indexed.now.dtd.now) (pieces.start_tag (tag_of tag.now)) found) }
 {
-    match tag_taken(alloc, dtd, tag)? {
+    match tag_taken(alloc, indexed, tag)? {
         Some(element) => Ok(Some(Taken::Start(element))),
         None => Ok(None),
     }
 }
 
-fn empty_taken(alloc: Global, dtd: &Dtd, tag: &Tag<'_>) -> Result<Option<Taken>, NoMemory>
-    ensures { IfOk result (λ found. Takes (table_of dtd.now) (pieces.empty_tag (tag_of tag.now)) found) }
+fn empty_taken(
+    alloc: Global,
+    indexed: &IndexedDtd<'_>,
+    tag: &Tag<'_>,
+) -> Result<Option<Taken>, NoMemory>
+    ensures { IfOk result (λ found. Takes (table_of indexed.now.dtd.now) (pieces.empty_tag (tag_of tag.now)) found) }
 {
-    match tag_taken(alloc, dtd, tag)? {
+    match tag_taken(alloc, indexed, tag)? {
         Some(element) => Ok(Some(Taken::Empty(element))),
         None => Ok(None),
     }
 }
 
 // The element of the tag; none where the tag is not as declared.
-fn tag_taken(alloc: Global, dtd: &Dtd, tag: &Tag<'_>) -> Result<Option<Elem>, NoMemory>
-    ensures { IfOk result (λ found. TakesTag (table_of dtd.now) (tag_of tag.now) found) }
+fn tag_taken(
+    alloc: Global,
+    indexed: &IndexedDtd<'_>,
+    tag: &Tag<'_>,
+) -> Result<Option<Elem>, NoMemory>
+    ensures { IfOk result (λ found. TakesTag (table_of indexed.now.dtd.now) (tag_of tag.now) found) }
 {
-    let Some(element) = element(dtd, tag.name) else {
+    let Some(element) = element(indexed, tag.name) else {
         return Ok(None);
     };
-    let rules = &dtd.elements[usize::from(element.0)].attributes;
-    if attributes_fit(alloc, dtd, tag.name, rules, tag.attributes.as_slice())? {
+    let rules = &indexed.dtd.elements[usize::from(element.0)].attributes;
+    if attributes_fit(alloc, indexed, tag.name, rules, tag.attributes.as_slice())? {
         Ok(Some(element))
     } else {
         Ok(None)
     }
 }
 
-fn end_taken(dtd: &Dtd, name: &[char]) -> Option<Taken>
-    ensures { (space : List ℕ) → Takes (table_of dtd.now) (pieces.end_tag name.now space) result }
+fn end_taken(indexed: &IndexedDtd<'_>, name: &[char]) -> Option<Taken>
+    ensures { (space : List ℕ) → Takes (table_of indexed.now.dtd.now) (pieces.end_tag name.now space) result }
 {
-    match element(dtd, name) {
+    match element(indexed, name) {
         Some(element) => Some(Taken::End(element)),
         None => None,
     }
@@ -139,10 +156,10 @@ fn character_taken(c: char) -> Option<Taken>
     }
 }
 
-fn reference_taken(dtd: &Dtd, reference: Reference<'_>) -> Option<Taken>
-    ensures { Takes (table_of dtd.now) (pieces.leaf (parts.reference (reference_of reference.entry))) result }
+fn reference_taken(indexed: &IndexedDtd<'_>, reference: Reference<'_>) -> Option<Taken>
+    ensures { Takes (table_of indexed.now.dtd.now) (pieces.leaf (parts.reference (reference_of reference.entry))) result }
 {
-    if is_known(dtd, reference) {
+    if is_known(indexed, reference) {
         Some(Taken::Text)
     } else {
         None

@@ -10,9 +10,8 @@ ghost use Rattle.page_model.specs.Parts as parts;
 ghost use Rattle.page_cutting.specs.Views as views;
 
 use crate::characters::{is_name, is_some, is_word};
-use dtd_model::Dtd;
+use dtd_index::IndexedDtd;
 use page_cutting::{Class, Reference, reference_of, split};
-use text_base::Bytes;
 
 /// Whether the reference is one of XML (XML 1.0, 4.1): a number is that of a character.
 pub fn is_reference(reference: Reference<'_>) -> bool
@@ -110,12 +109,12 @@ fn is_ended(body: &[char], end: &[char]) -> bool
 }
 
 /// Whether each `&` begins a reference to a known entity, or to a character.
-pub fn refers_to_known(dtd: &Dtd, cs: &[char]) -> bool
-    ensures { result ≡ parts.refers_by (spec.is_known (table_of dtd.now).entities) cs.now }
+pub fn refers_to_known(indexed: &IndexedDtd<'_>, cs: &[char]) -> bool
+    ensures { result ≡ parts.refers_by (spec.is_known (table_of indexed.now.dtd.now).entities) cs.now }
 {
     let mut left = cs;
     while let Some((c, rest)) = left.split_first() {
-        if *c == '&' && !begins_known(dtd, rest) {
+        if *c == '&' && !begins_known(indexed, rest) {
             return false;
         }
         left = rest;
@@ -123,27 +122,27 @@ pub fn refers_to_known(dtd: &Dtd, cs: &[char]) -> bool
     true
 }
 
-fn begins_known(dtd: &Dtd, cs: &[char]) -> bool
-    ensures { result ≡ (parts.has_semicolon cs.now && spec.is_known (table_of dtd.now).entities (parts.reference_of (parts.up_to_semicolon cs.now))) }
+fn begins_known(indexed: &IndexedDtd<'_>, cs: &[char]) -> bool
+    ensures { result ≡ (parts.has_semicolon cs.now && spec.is_known (table_of indexed.now.dtd.now).entities (parts.reference_of (parts.up_to_semicolon cs.now))) }
 {
     let (body, end) = split(cs, Class::Other(';'));
-    is_ended_known(dtd, body, end)
+    is_ended_known(indexed, body, end)
 }
 
-fn is_ended_known(dtd: &Dtd, body: &[char], end: &[char]) -> bool
-    ensures { result ≡ (spec.is_some end.now && spec.is_known (table_of dtd.now).entities (parts.reference_of body.now)) }
+fn is_ended_known(indexed: &IndexedDtd<'_>, body: &[char], end: &[char]) -> bool
+    ensures { result ≡ (spec.is_some end.now && spec.is_known (table_of indexed.now.dtd.now).entities (parts.reference_of body.now)) }
 {
-    is_some(end) && is_known(dtd, reference_of(body))
+    is_some(end) && is_known(indexed, reference_of(body))
 }
 
 /// Whether the reference is to a character, or to an entity that is declared or one of the five
 /// of XML (XML 1.0, 4.6).
-pub fn is_known(dtd: &Dtd, reference: Reference<'_>) -> bool
-    ensures { result ≡ spec.is_known (table_of dtd.now).entities (views.reference_of reference.entry) }
+pub fn is_known(indexed: &IndexedDtd<'_>, reference: Reference<'_>) -> bool
+    ensures { result ≡ spec.is_known (table_of indexed.now.dtd.now).entities (views.reference_of reference.entry) }
 {
     match reference {
         Reference::Decimal(_) | Reference::Hexadecimal(_) => true,
-        Reference::Entity(name) => is_predefined(name) || is_declared(&dtd.entities, name),
+        Reference::Entity(name) => is_predefined(name) || indexed.has_entity(name),
     }
 }
 
@@ -154,15 +153,4 @@ fn is_predefined(name: &[char]) -> bool
     is_word(name, b"amp")
         || (is_word(name, b"lt")
             || (is_word(name, b"gt") || (is_word(name, b"quot") || is_word(name, b"apos"))))
-}
-
-fn is_declared(entities: &Vec<Bytes>, name: &[char]) -> bool
-    ensures { result ≡ list_any (bytes_eq name.now) entities.now.items }
-{
-    for entity in entities {
-        if is_word(name, entity.as_slice()) {
-            return true;
-        }
-    }
-    false
 }

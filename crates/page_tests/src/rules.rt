@@ -1,10 +1,6 @@
-//! Near misses for each rule on attributes, elements and the document type declaration, beside pages that keep it.
+//! Near misses for each rule on pages, beside pages that keep it.
 
-use dtd_model::Dtd;
-use dtd_reader::read_dtd;
-use io_edge::MemFiles;
-use page_validator::{PageRefusal, check_page};
-use std::alloc::Global;
+use crate::judging::{definition, is_valid, only_whole, row_is_so};
 use std::test::Fail;
 use text_base::Bytes;
 use xhtml_strict::strict;
@@ -21,38 +17,14 @@ const DEFINITION: &[u8] = br#"<!ENTITY nbsp "&#160;">
 <!ELEMENT a ANY>
 <!ATTLIST a t CDATA #REQUIRED>"#;
 
-fn definition(alloc: Global) -> Result<Dtd, Fail> {
-    let mut held = Vec::new(alloc);
-    held.push((
-        Bytes::from_slice(alloc, b"d")?,
-        Bytes::from_slice(alloc, DEFINITION)?,
-    ))?;
-    let mut files = MemFiles::new(held, Vec::new(alloc));
-    Ok(read_dtd(alloc, &mut files, "d")?)
-}
+/// What stands before and behind the content of the root.
+const BEFORE: &[u8] = b"<html xmlns='http://www.w3.org/1999/xhtml'>";
 
-// Whether the page is found valid.
-fn is_valid(alloc: Global, dtd: &Dtd, page: &[u8]) -> Result<bool, PageRefusal> {
-    match check_page(alloc, dtd, page) {
-        Ok(()) => Ok(true),
-        Err(PageRefusal::PageFault { .. }) => Ok(false),
-        Err(other) => Err(other),
-    }
-}
-
-// Whether a page with this content is valid, as the row says: `+` before one that is, `-` before one that is not.
-fn row_is_so(alloc: Global, dtd: &Dtd, row: &str) -> Result<bool, Fail> {
-    let (sign, content) = row.split_once(' ').ok_or("a sign")?;
-    let mut page = Bytes::from_slice(alloc, b"<html xmlns='http://www.w3.org/1999/xhtml'>")?;
-    page.append(content.as_bytes())?;
-    page.append(b"</html>")?;
-    let valid = is_valid(alloc, dtd, page.as_slice())?;
-    Ok(valid == (sign == "+"))
-}
+const BEHIND: &[u8] = b"</html>";
 
 #[test]
 fn contents(rt: HostRuntime) -> Result<(), Fail> {
-    let dtd = definition(rt.alloc())?;
+    let dtd = definition(rt.alloc(), DEFINITION)?;
     let rows = r#"+ <e/><c><m/></c><m/><a t=''/>
 + <e></e>
 - <e> </e>
@@ -83,14 +55,14 @@ fn contents(rt: HostRuntime) -> Result<(), Fail> {
 - <m>
 - </m>"#;
     for row in rows.lines() {
-        assert!(rt; row_is_so(rt.alloc(), &dtd, row)?, "{row}");
+        assert!(rt; row_is_so(rt.alloc(), &dtd, BEFORE, row, BEHIND)?, "{row}");
     }
     Ok(())
 }
 
 #[test]
 fn attributes(rt: HostRuntime) -> Result<(), Fail> {
-    let dtd = definition(rt.alloc())?;
+    let dtd = definition(rt.alloc(), DEFINITION)?;
     let rows = r#"+ <m t = 'a "b" &lt; &#60; &nbsp; >' i="x"/>
 - <m t="a"t='b'/>
 - <m t='a' t='a'/>
@@ -131,7 +103,7 @@ fn attributes(rt: HostRuntime) -> Result<(), Fail> {
 + <a t=''/>
 - <a/>"#;
     for row in rows.lines() {
-        assert!(rt; row_is_so(rt.alloc(), &dtd, row)?, "{row}");
+        assert!(rt; row_is_so(rt.alloc(), &dtd, BEFORE, row, BEHIND)?, "{row}");
     }
     for (page, valid) in [
         (
@@ -181,5 +153,174 @@ fn document_types(rt: HostRuntime) -> Result<(), Fail> {
             "{row}"
         );
     }
+    Ok(())
+}
+
+// References, sections, comments, instructions and text in a root that holds anything.
+#[test]
+fn pieces(rt: HostRuntime) -> Result<(), Fail> {
+    let dtd = definition(rt.alloc(), b"<!ELEMENT html ANY>")?;
+    let rows = "+ &#9;&#10;&#13;&#32;&#xD7FF;&#xE000;&#xFFFD;&#x10000;&#x10FFFF;
+- &#8;
+- &#11;
+- &#xD800;
+- &#xDFFF;
+- &#xFFFE;
+- &#xFFFF;
+- &#;
+- &#x;
+- &;
+- &#-1;
+- &#1 ;
+- &# 1;
+- &#xg;
+- &#a;
+- & amp;
+- &amp ;
+- &AMP;
+- &amp
+- &1;
++ &amp;&lt;&gt;&quot;&apos;
++ ]]&gt; ]] > ] ]> >
+- ]]>
+- ]]]>
++ ]]<!-- a -->>
++ <![CDATA[]]><![CDATA[<html>&foo;<!-- -- -->]]><![CDATA[]]]]><![CDATA[>]]>
+- <![CDATA[a]]>]]>
+- <![CDATA[a]]
+- <![CDATA[a]] >
+- <![cdata[a]]>
+- <! [CDATA[a]]>
+- <![ CDATA[a]]>
++ <!----><!-- - - --><!-- <html> & ]]> ? -->
+- <!-->
+- <!--->
+- <!-- -- -->
+- <!-- --->
+- <!-- a -- >
+- <!-- a ->
+- < !-- a -->
+- <! -- a -->
++ <?p?><?p ?><?p  a?b>?><?p ??><?xml-a?><?_:.-1?>
+- <?p??>
+- <?p
+- <?p>
+- <?p ? >
+- <?p(a)?>
+- <?1?>
+- <? p?>
+- <??>
+- <?xml?>
+- <?XML a?>
+- <?xMl version='1.0'?>
++ a\u{E9}\u{A0}\u{FEFF}\u{1F600}\u{85}\u{2028}
+- \u{C}
+- \u{0}
+- \u{1B}
+- \u{FFFE}
+- \u{FFFF}
+- <
+- <>
+- </>
+- <html
+- <html>
+- <html/ >
+- < html/>
+- <html / >
+- </html><html>
+- </ html>
+- <html></html a>
+- <html></ html>
+- <html><html/></html
++ <html/><html /><html\t></html\t>
+- <html\u{A0}/>
+- &\u{E9};";
+    for row in rows.lines() {
+        assert!(rt;
+            row_is_so(rt.alloc(), &dtd, b"<html>", row, BEHIND)?,
+            "{row}"
+        );
+    }
+    Ok(())
+}
+
+// What may stand before a root.
+#[test]
+fn prologs(rt: HostRuntime) -> Result<(), Fail> {
+    let dtd = definition(rt.alloc(), b"<!ELEMENT html EMPTY>")?;
+    let rows = "+ <?xml version=\"1.0\"?>
++ <?xml version = '1.0' encoding = \"utf-8\" standalone='yes' ?>
++ <?xml\tversion='1.0'\tencoding='Utf-8'?>
++ <?xml version='1.0' standalone='no'?>
+- <?xml?>
+- <?xml ?>
+- <?xml version='1.0'>
+- <?xml version='1.0' ? >
+- <?xml version=1.0?>
+- <?xml version='1.1'?>
+- <?xml version='1.0 '?>
+- <?xml version=''?>
+- <?xmlversion='1.0'?>
+- <?xml version='1.0'encoding='UTF-8'?>
+- <?xml version='1.0' encoding='ISO-8859-1'?>
+- <?xml version='1.0' encoding='UTF8'?>
+- <?xml version='1.0' standalone='maybe'?>
+- <?xml version='1.0' standalone='YES'?>
+- <?xml version='1.0' standalone='yes' encoding='UTF-8'?>
+- <?xml encoding='UTF-8' version='1.0'?>
+- <?xml version='1.0' version='1.0'?>
+- <?xml version='1.0' other='a'?>
+- <?xml version='1.0'?><?xml version='1.0'?>
+- <!-- a --><?xml version='1.0'?>
+-  <?xml version='1.0'?>
++ \u{FEFF}<?xml version='1.0'?>
++ \u{FEFF}<!-- a --><?p a?>\r\t
+- \u{FEFF}\u{FEFF}
+- \u{FEFF} <?xml version='1.0'?>
+-  \u{FEFF}
+- a
+- &#32;
+- <![CDATA[]]>
+- \u{A0}
+- \u{C}
++ <!DOCTYPE html>
++ <!DOCTYPE\thtml\t>
++ <!DOCTYPE html SYSTEM \"\">
++ <!DOCTYPE html SYSTEM 'a\"b'>
++ <!DOCTYPE html PUBLIC \"-//a b'c//EN\" 'd'>
+- <!DOCTYPEhtml>
+- <!DOCTYPE>
+- <!DOCTYPE html5>
+- <!DOCTYPE p>
+- <!DOCTYPE html SYSTEM>
+- <!DOCTYPE html SYSTEM a>
+- <!DOCTYPE html SYSTEM 'a\">
+- <!DOCTYPE html SYSTEM'a'>
+- <!DOCTYPE htmlSYSTEM 'a'>
+- <!DOCTYPE html PUBLIC 'a'>
+- <!DOCTYPE html PUBLIC 'a''b'>
+- <!DOCTYPE html PUBLIC'a' 'b'>
+- <!DOCTYPE html PUBLIC 'a{' 'b'>
+- <!DOCTYPE html PUBLIC 'a' 'b' 'c'>
+- <!DOCTYPE html []>
+- <!DOCTYPE html SYSTEM 'a' []>
+- <!DOCTYPE html><!DOCTYPE html>
+- <!ELEMENT html EMPTY>
+- <html/>";
+    for row in rows.lines() {
+        assert!(rt; row_is_so(rt.alloc(), &dtd, b"", row, b"<html/>")?, "{row}");
+    }
+    Ok(())
+}
+
+// A page with every kind of piece and of attribute, of which no front is valid.
+#[test]
+fn a_page_cut_at_each_byte(rt: HostRuntime) -> Result<(), Fail> {
+    let dtd = definition(rt.alloc(), DEFINITION)?;
+    let page = "\u{FEFF}<?xml version='1.0' encoding='UTF-8'?>
+<!-- a --><!DOCTYPE html PUBLIC \"a\" 'b'><?p q?><html xmlns='http://www.w3.org/1999/xhtml' lang=\"en\">
+<e/><c><m t='a &lt; b' i='x' r='y' rs='y z' n='1' ns='1 2' o='two' f='a b'>a &nbsp;&#233;&#xE9;\u{E9}\u{20AC}\u{1F600}\
+<e></e><![CDATA[<m>]]><!-- - --><?p?></m ></c><a t=''>]] ></a></html >";
+    assert!(rt; only_whole(rt.alloc(), &dtd, page.as_bytes())?);
     Ok(())
 }

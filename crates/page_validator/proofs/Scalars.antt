@@ -1,5 +1,5 @@
 -- The characters of lawful pieces are characters of Unicode, so that their UTF-8 is UTF-8.
-use Rattle.std.proofs.Common.{◌≡◌, ℕ, ◌<◌, ◌≤◌, Bool, true, false, ◌&&◌, List, [], ◌∷◌, ◌++◌, refl, sym, ◌∙◌, ap, codes, arith}
+use Rattle.std.proofs.Common.{◌≡◌, ℕ, ◌<◌, Bool, true, ◌&&◌, List, [], ◌∷◌, ◌++◌, refl, codes, arith}
 use Rattle.std.specs.List.{list_all}
 use Rattle.std.specs.Char.{is_ascii_digit, is_ascii_hexdigit}
 use Rattle.std.specs.Str.{all_scalars, IsUtf8, encode_utf8_all}
@@ -9,7 +9,6 @@ use lib.Utf8.{scalar, low_scalar}
 use Rattle.xml_text.specs.Characters.{is_blank, is_character}
 use Rattle.xml_text.specs.Names.{begins_name, in_name, is_name, in_public_identifier}
 use Rattle.dtd_model.specs.References.{Reference, decimal, hexadecimal, entity, is_reference, is_some, number_written}
-use Rattle.dtd_model.specs.Table.{Table}
 use Rattle.page_model.specs.Parts.{Attribute, attributes_then, AreAttributes, Tag, IsTag, Leaf, character, reference, section, comment, instruction, leaf_then, IsLeaf, is_quote, may_be_quoted}
 use Rattle.page_model.specs.Pieces.{Piece, mark, declaration, doctype, start_tag, empty_tag, end_tag, leaf, piece_then, pieces_then, IsPiece, ArePieces, after}
 use Rattle.page_model.specs.Places.{Place}

@@ -1,5 +1,5 @@
 -- A valid page goes on piece by piece.
-use Rattle.std.proofs.Common.{◌≡◌, ◌↔◌, ℕ, Bool, true, false, ◌&&◌, List, [], ◌∷◌, ◌++◌, Option, Some, None, refl, sym, ◌∙◌, ap, subst, length, arith, ◌<◌, length-append}
+use Rattle.std.proofs.Common.{◌≡◌, ℕ, Bool, true, false, List, [], ◌∷◌, ◌++◌, Option, Some, None, refl, sym, ◌∙◌, ap, subst, length, arith, ◌<◌, length-append}
 use Rattle.text_base.specs.declared.page_token.PageToken.{PageToken}
 use Rattle.dtd_model.specs.Table.{Table}
 use Rattle.content_automata.specs.Decides.{Decides}
@@ -15,7 +15,7 @@ use Rattle.page_validator.proofs.Scalars.{pieces_utf8}
 use Rattle.page_machine.specs.Machine.{State, step, and_on, accepts, start, is_done}
 use Rattle.page_machine.proofs.Accepting.{accepting}
 use Rattle.page_machine.proofs.Rooted.{whole}
-use Rattle.page_model.specs.PageTokens.{IsLawful, AreLawful, piece_tokens, tokens_then}
+use Rattle.page_model.specs.PageTokens.{AreLawful, piece_tokens, tokens_then}
 use Rattle.page_model.specs.Pieces.{Piece, piece_then, pieces_then, after}
 use Rattle.page_model.specs.Places.{Place, at_beginning}
 use Rattle.page_model.specs.Attributes.{is_allowed}
@@ -28,7 +28,7 @@ use Rattle.page_machine.specs.Views.{Goes}
 use Rattle.page_rules.specs.declared.piece_tokens.Taken.{Taken}
 use Rattle.page_rules.specs.Takes.{Takes, taken_tokens}
 use Rattle.page_reading.specs.Scan.{then_some}
-use Rattle.page_reading.proofs.CutLemmas.{cut_is, IsCut, cut_read}
+use Rattle.page_reading.proofs.CutLemmas.{cut_is, cut_read}
 use Rattle.page_validator.specs.Walks.{moved, Ahead, Reads, Follows, IsStuck, no_piece, no_move}
 
 -- the tokens of a piece, and then those behind it

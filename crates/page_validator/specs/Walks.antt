@@ -1,6 +1,6 @@
 -- What the private functions promise of the pass over a page. Nobody has to believe it: the contract of `check_page`
 -- does not speak of it.
-use Rattle.std.specs.Prelude.{◌≡◌, ◌<◌, ◌⊎◌, ℕ, Bool, true, List, [], ◌∷◌, length, Option, Some, None}
+use Rattle.std.specs.Prelude.{◌≡◌, ℕ, true, List, [], ◌∷◌, Option, Some, None}
 use Rattle.std.specs.Borrow.{Bor}
 use Rattle.std.specs.Str.{IsUtf8, encode_utf8_all}
 use Rattle.std.specs.declared.alloc.Global.{Global}

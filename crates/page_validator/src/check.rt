@@ -10,6 +10,7 @@ use crate::decode::{byte_len, decoded, first_fault};
 use crate::refusal::PageRefusal;
 use crate::walk::walk;
 use content_automata::{ContentRefusal, Contents, build};
+use dtd_index::IndexedDtd;
 use dtd_model::Dtd;
 use std::alloc::Global;
 
@@ -41,7 +42,8 @@ fn check_by(alloc: Global, dtd: &Dtd, contents: &Contents, page: &[u8]) -> Resul
         });
     };
     let characters = characters.as_slice();
-    match walk(alloc, dtd, contents, characters)? {
+    let indexed = IndexedDtd::new(alloc, dtd)?;
+    match walk(alloc, &indexed, contents, characters)? {
         None => Ok(()),
         Some(left) => Err(PageRefusal::PageFault {
             at: byte_len(&characters[..characters.len() - left], page.len()) as u64,

@@ -11,6 +11,7 @@ ghost use Rattle.page_validator.specs.Walks.{IsNext, IsWalk, moved};
 ghost use Rattle.content_automata.specs.Decides.{Decides};
 
 use content_automata::Contents;
+use dtd_index::IndexedDtd;
 use dtd_model::Dtd;
 use page_cutting::{Piece, Place, piece_at};
 use page_machine::{Progress, Sort};
@@ -22,20 +23,20 @@ use text_base::NoMemory;
 /// from the beginning of the piece on that no valid page goes on with.
 pub fn walk(
     alloc: Global,
-    dtd: &Dtd,
+    indexed: &IndexedDtd<'_>,
     contents: &Contents,
     cs: &[char],
 ) -> Result<Option<usize>, NoMemory>
-    requires decides { Decides (table_of dtd.now) contents.now }
-    requires elements { length contents.now.0 ≡ length (table_of dtd.now).elements }
-    ensures walk { IfOk result (IsWalk (table_of dtd.now) cs.now) }
+    requires decides { Decides (table_of indexed.now.dtd.now) contents.now }
+    requires elements { length contents.now.0 ≡ length (table_of indexed.now.dtd.now).elements }
+    ensures walk { IfOk result (IsWalk (table_of indexed.now.dtd.now) cs.now) }
     ensures within { IfOk result (λ found. IfSome found (λ left. left ≤ length cs.now)) }
 {
     let mut place = Place::Beginning;
     let mut progress = Progress::new(alloc);
     let mut rest = cs;
     while !rest.is_empty() {
-        match next(alloc, dtd, contents, place, &mut progress, rest)? {
+        match next(alloc, indexed, contents, place, &mut progress, rest)? {
             None => return Ok(Some(rest.len())),
             Some((place_behind, behind)) => {
                 place = place_behind;
@@ -54,14 +55,14 @@ pub fn walk(
 // so.
 fn next<'c>(
     alloc: Global,
-    dtd: &Dtd,
+    indexed: &IndexedDtd<'_>,
     contents: &Contents,
     place: Place,
     progress: &mut Progress,
     cs: &'c [char],
 ) -> Result<Option<(Place, &'c [char])>, NoMemory>
-    requires { length contents.now.0 ≡ length (table_of dtd.now).elements }
-    ensures { IfOk result (IsNext (table_of dtd.now) contents.now (place_of place) (progress_of progress.old) cs.now (progress_of progress.new)) }
+    requires { length contents.now.0 ≡ length (table_of indexed.now.dtd.now).elements }
+    ensures { IfOk result (IsNext (table_of indexed.now.dtd.now) contents.now (place_of place) (progress_of progress.old) cs.now (progress_of progress.new)) }
 {
     let Some((piece, behind)) = piece_at(alloc, place, cs)? else {
         return Ok(None);
@@ -69,10 +70,10 @@ fn next<'c>(
     if !is_right(place, &piece) {
         return Ok(None);
     }
-    let Some(taken) = tokens_of(alloc, dtd, &piece)? else {
+    let Some(taken) = tokens_of(alloc, indexed, &piece)? else {
         return Ok(None);
     };
-    if take(progress, dtd, contents, taken)? {
+    if take(progress, indexed.dtd, contents, taken)? {
         Ok(Some((after(place, &piece), behind)))
     } else {
         Ok(None)

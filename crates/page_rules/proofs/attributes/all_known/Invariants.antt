@@ -7,4 +7,4 @@ use Rattle.page_cutting.specs.Views.{attribute_of}
 use Rattle.page_rules.proofs.attributes.all_known.Given as goal
 
 abbrev pub invariant-loop-attribute : goal.invariant-loop-attribute
-invariant-loop-attribute l = list_all (λ (a : Attribute). refers_by (is_known (table_of l.fn.dtd).entities) a.value) (map attribute_of (drop l.attribute-index l.attributes)) ≡ list_all (λ (a : Attribute). refers_by (is_known (table_of l.fn.dtd).entities) a.value) (map attribute_of l.attributes)
+invariant-loop-attribute l = list_all (λ (a : Attribute). refers_by (is_known (table_of l.fn.indexed.dtd.now).entities) a.value) (map attribute_of (drop l.attribute-index l.attributes)) ≡ list_all (λ (a : Attribute). refers_by (is_known (table_of l.fn.indexed.dtd.now).entities) a.value) (map attribute_of l.attributes)

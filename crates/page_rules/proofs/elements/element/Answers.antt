@@ -1,19 +1,19 @@
-use Rattle.std.proofs.Common.{◌≡◌, ◌<◌, ℕ, List, map, arith, sym, ◌∙◌, ap, length, get_or, subst}
-use Rattle.dtd_model.specs.declared.dtd.ElementRule.{ElementRule}
-use Rattle.page_rules.proofs.Rules.{fits, found_here}
+use Rattle.std.proofs.Common.{◌<◌, sym, ◌∙◌, map, arith}
+use Rattle.dtd_model.specs.Table.{rule_of}
+use Rattle.page_rules.proofs.Rules.{fits, element_found, element_absent}
 use Rattle.page_rules.proofs.elements.element.Goals as goal
+
+pub returns-in-Some : goal.returns-in-Some
+returns-in-Some c =
+    let d = c.args.indexed.now.dtd.now in
+    element_found (map rule_of d.elements.items) c.args.name.now c.in-Some.place (sym c.in-Some.is ∙ c.element.ensures)
+
+pub returns-in-None : goal.returns-in-None
+returns-in-None c = element_absent (map rule_of c.args.indexed.now.dtd.now.elements.items) c.args.name.now (sym c.in-None.is ∙ c.element.ensures)
 
 pub overflow_cast-result : goal.overflow_cast-result
 overflow_cast-result c =
-    let d = c.args.dtd.now in
-    let lt : c.loop-i.i < length d.elements.items = subst (λ (xs : List ElementRule). c.loop-i.i < length xs) c.as_slice-rule-items.ensures.value c.loop-i-test.true in
-    let f : c.loop-i.i < 1024 = fits d.elements.items d.entities.items c.loop-i.i d.lawful lt in
+    let d = c.args.indexed.now.dtd.now in
+    let found = element_found (map rule_of d.elements.items) c.args.name.now c.in-Some.place (sym c.in-Some.is ∙ c.element.ensures) in
+    let f : c.in-Some.place < 1024 = fits d.elements.items d.entities.items c.in-Some.place d.lawful found.1 in
     omega (arith, f)
-
-pub returns-then-is_named : goal.returns-then-is_named
-returns-then-is_named c =
-    let d = c.args.dtd.now in
-    let lt : c.loop-i.i < length d.elements.items = subst (λ (xs : List ElementRule). c.loop-i.i < length xs) c.as_slice-rule-items.ensures.value c.loop-i-test.true in
-    found_here d.elements.items c.loop-i.i c.rule-item.result c.args.name.now lt
-    (c.rule-item.is ∙ ap (λ (xs : List ElementRule). get_or xs c.loop-i.i c.rule-item.result) c.as_slice-rule-items.ensures.value)
-    (sym c.is_named.ensures ∙ c.if-is_named.true) c.loop-i.invariant.0 c.loop-i.invariant.1

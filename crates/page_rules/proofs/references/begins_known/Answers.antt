@@ -6,4 +6,4 @@ use Rattle.page_rules.proofs.Semicolons.{begins_is}
 use Rattle.page_rules.proofs.references.begins_known.Goals as goal
 
 pub returns : goal.returns
-returns c = c.is_ended_known.ensures ∙ begins_is (λ (b : List ℕ). is_known (table_of c.args.dtd.now).entities (reference_of b)) c.args.cs.now _ _ c.split.ensures.front c.split.ensures.rest
+returns c = c.is_ended_known.ensures ∙ begins_is (λ (b : List ℕ). is_known (table_of c.args.indexed.now.dtd.now).entities (reference_of b)) c.args.cs.now _ _ c.split.ensures.front c.split.ensures.rest

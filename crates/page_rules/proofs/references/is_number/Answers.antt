@@ -1,4 +1,4 @@
-use Rattle.std.proofs.Common.{◌≡◌, ◌+◌, ◌*◌, drop, sym, ◌∙◌, ap, arith}
+use Rattle.std.proofs.Common.{◌+◌, ◌*◌, drop, sym, ◌∙◌, ap, arith}
 use Rattle.xml_text.specs.Characters.{is_character}
 use Rattle.page_rules.proofs.Semicolons.{one_digit, no_digit, no_character}
 use Rattle.page_rules.proofs.references.is_number.Goals as goal

@@ -1,4 +1,4 @@
-use Rattle.std.proofs.Common.{sym, ◌∙◌, ap}
+use Rattle.std.proofs.Common.{◌∙◌, ap}
 use Rattle.std.specs.Str.{encode_utf8_all, chars}
 use Rattle.std.proofs.lemmas.Str.{encodes-chars}
 use Rattle.page_validator.proofs.decode.decoded.Goals as goal

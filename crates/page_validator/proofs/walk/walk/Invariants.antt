@@ -1,5 +1,4 @@
 use Rattle.std.proofs.Common.{◌↔◌, ◌≤◌, length}
-use Rattle.content_automata.specs.Decides.{Decides}
 use Rattle.dtd_model.specs.TableOf.{table_of}
 use Rattle.page_cutting.specs.Views.{place_of}
 use Rattle.page_laws.specs.Laws.{GoodPieces}
@@ -9,7 +8,7 @@ use Rattle.page_validator.proofs.walk.walk.Given as goal
 
 abbrev pub invariant-loop-rest : goal.invariant-loop-rest
 invariant-loop-rest l = record {
-  same : GoodPieces (table_of l.dtd) l.cs ↔ Ahead (table_of l.dtd) l.contents (place_of l.place) (progress_of l.progress) l.rest;
+  same : GoodPieces (table_of l.indexed.dtd.now) l.cs ↔ Ahead (table_of l.indexed.dtd.now) l.contents (place_of l.place) (progress_of l.progress) l.rest;
   short : length l.rest ≤ length l.cs;
 }
 
