@@ -1,25 +1,30 @@
 -- What is built decides.
-use Rattle.std.proofs.Common.{◌≡◌, ℕ, zero, suc, ◌+◌, ◌<◌, ◌≤◌, inl, inr, Bool, false, List, [], ◌∷◌, ◌++◌, take, length, refl, sym, ◌∙◌, ap, subst, arith, Option, Some, None, slice_get, map}
-use Rattle.std.specs.Prelude.{slice_index_or}
+use Rattle.std.proofs.Common.{◌≡◌, ℕ, zero, suc, ◌+◌, ◌<◌, ◌≤◌, inl, inr, Bool, true, false, ◌&&◌, List, [], ◌∷◌, ◌++◌, take, length, refl, sym, ◌∙◌, ap, subst, arith, Option, Some, None, slice_get, map}
+use Rattle.std.specs.Prelude.{slice_index_or, nat_le}
 use Rattle.std.specs.List.{IsDistinct}
 use Rattle.dtd_model.specs.Table.{Rule, rule_of, holding_of}
 use Rattle.dtd_model.specs.declared.dtd.ElementRule.{ElementRule}
 use Rattle.content_automata.specs.declared.refusal.ContentRefusal.{ContentRefusal}
 use Rattle.content_automata.specs.declared.refusal.ContentRefusal.TheVariants.{Limit, Memory}
-use Rattle.content_automata.specs.Shapes.{Shape, shape, first_state, state_behind, states_walk, IsSized}
+use Rattle.content_automata.specs.Shapes.{Shape, shape, first_state, state_behind, states_walk, then_some, IsSized}
 use Rattle.content_automata.specs.Tables.{Table, IsTable, Row, Key, key_eq, Keeps, CellFits, RowsFit, FirstsFit, AreElements, AllReached, AreSized, run, ends, first_at, next_at, row_at, owner_at}
 use Rattle.content_automata.specs.Refusals.{IsOver, IsCause}
 use Rattle.dtd_model.specs.Table.{Table as Definition}
 use Rattle.dtd_model.specs.Matches.{matches}
+use Rattle.dtd_model.specs.Lawful.{is_lawful, is_lawful_rule, is_lawful_holding, are_lawful_attributes, are_names, element_limit}
+use Rattle.std.specs.Cmp.{first_so, second_so}
+use Rattle.std.specs.List.{list_all}
 use Rattle.std.proofs.lemmas.Bool.{cases_lt}
 use Rattle.std.proofs.lemmas.Option.{slice_get_within, get_or_from_slice_get}
 use Rattle.std.proofs.lemmas.List.{take_more, map-append}
-use Rattle.content_automata.specs.Decides.{shapes_in, Decides, TellsApart, HasOwners, set_behind}
+use Rattle.content_automata.specs.Decides.{shapes_in, Decides, TellsApart, HasOwners, GoesOn, ReachesAll, set_behind}
 use Rattle.content_automata.specs.declared.model.Model.{Model}
 use Rattle.content_automata.specs.Views.{shapes_of}
-use Rattle.content_automata.proofs.ExploreLemmas.{shapes_length}
-use Rattle.content_automata.proofs.ReachLemmas.{first_sized}
-use Rattle.content_automata.proofs.RunLemmas.{fits_from, decides, one_number}
+use Rattle.content_automata.proofs.ExploreLemmas.{shapes_length, contains_at}
+use Rattle.content_automata.proofs.GoingLemmas.{goes_on}
+use Rattle.content_automata.proofs.PassLemmas.{both_below}
+use Rattle.content_automata.proofs.ReachLemmas.{first_sized, led_reached}
+use Rattle.content_automata.proofs.RunLemmas.{fits_from, decides, one_number, run_append}
 
 pub shapes_are : (rules : List ElementRule) → map (λ (r : ElementRule). shape (holding_of r.content)) rules ≡ map (λ (r : Rule). shape r.holding) (map rule_of rules)
 shapes_are [] = refl
@@ -43,7 +48,7 @@ pub firsts_kept : (shapes : List Shape) (old new : List Key) (firsts : List ℕ)
 firsts_kept shapes old new firsts count keeps f = record { long = f.long; fit = λ e s h at. keeps (slice_index_or firsts e 0) (e, first_state s) (f.fit e s h at) }
 
 pub cause : (shapes : List Shape) (keys : List Key) (r : ContentRefusal) → AllReached shapes keys → IsOver keys r → IsCause shapes r
-cause shapes keys (Limit count) all over = (over.0, (keys, over.1, over.2, all))
+cause shapes keys (Limit count) all over = (over.0, (keys, over.1, over.2, λ k has. led_reached shapes k (all k has)))
 cause shapes keys Memory all over = tt
 
 pub table_decides : (d : Definition) (t : Table) → IsTable (shapes_in d) t → Decides d t
@@ -82,9 +87,69 @@ table_apart d t i e f r q es fs m n at_e at_f below_es below_fs run_e run_f =
         one_number keys m n (f, y) apart (at_m ∙ ap (λ (k : ℕ). Some (k, x)) same_e ∙ ap (λ (z : List Bool). Some (f, z)) flags) at_n
 
 -- from what was put down
-pub table_is : (models : List Model) (old new : List Key) (firsts : List ℕ) (rows : List Row) (owners : List ℕ) → owners ≡ map (λ (k : Key). k.0) new → IsDistinct key_eq new → Keeps old new → FirstsFit (shapes_of models) old firsts (length models) → RowsFit (shapes_of models) new rows (length new) → IsTable (shapes_of models) (firsts, rows, owners)
-table_is models old new firsts rows owners own apart keeps f r =
-    record { keys = new; apart = apart; firsts = subst (FirstsFit (shapes_of models) new firsts) (sym (shapes_length models)) (firsts_kept (shapes_of models) old new firsts (length models) keeps f); rows = r; owners = own }
+pub table_is : (models : List Model) (old new : List Key) (firsts : List ℕ) (rows : List Row) (owners : List ℕ) → owners ≡ map (λ (k : Key). k.0) new → IsDistinct key_eq new → AllReached (shapes_of models) new → Keeps old new → FirstsFit (shapes_of models) old firsts (length models) → RowsFit (shapes_of models) new rows (length new) → IsTable (shapes_of models) (firsts, rows, owners)
+table_is models old new firsts rows owners own apart all keeps f r =
+    record { keys = new; apart = apart; reached = all; firsts = subst (FirstsFit (shapes_of models) new firsts) (sym (shapes_length models)) (firsts_kept (shapes_of models) old new firsts (length models) keeps f); rows = r; owners = own }
+
+-- the state at a number, and its row
+at_some : {X : Type 0} (xs : List X) (n : ℕ) → n < length xs → (x : X) × (slice_get xs n ≡ Some x)
+at_some [] n h = absurd (omega (arith, h))
+at_some (x ∷ xs) zero h = (x, refl)
+at_some (x ∷ xs) (suc n) h = at_some xs n (omega (arith, h))
+
+-- each state is reached
+pub table_reaches : (d : Definition) (t : Table) → IsTable (shapes_in d) t → ReachesAll (length d.elements) t
+table_reaches d t i s h =
+    let k = at_some i.keys s (subst (λ (m : ℕ). s < m) i.rows.long h) in
+    let led = i.reached k.0 (contains_at i.keys s k.0 k.1) in
+    let long = rules_length d.elements in
+    let fits = fits_from (shapes_in d) t i k.0.0 led.0 led.1 led.2 led.3 in (
+      k.0.0,
+      subst (λ (n : ℕ). k.0.0 < n) long (slice_get_within (shapes_in d) k.0.0 led.0 led.1),
+      led.2,
+      subst (λ (n : ℕ). AreElements n led.2) long led.3,
+      run_is i.keys k.0 s (run t (first_at t k.0.0) led.2) (states_walk (length (shapes_in d)) led.0 (first_state led.0) led.2) i.apart k.1 led.4 fits,
+    )
+  where
+    run_is : (keys : List Key) (k : Key) (s : ℕ) (cell : Option ℕ) (found : Option (List Bool)) → IsDistinct key_eq keys → slice_get keys s ≡ Some k → found ≡ Some k.1 → CellFits keys k.0 cell found → cell ≡ Some s
+    run_is keys k s None found apart at walk fits = absurd (let no : ⊥ = cc in no)
+    run_is keys k s (Some n) found apart at walk fits =
+        let one : Some fits.0 ≡ Some k.1 = sym fits.1 ∙ walk in
+        let flags : fits.0 ≡ k.1 = cc in
+        ap (λ (m : ℕ). Some m) (one_number keys n s k apart (fits.2 ∙ ap (λ (f : List Bool). Some (k.0, f)) flags) at)
+
+-- children lead on exactly where some match begins with them
+pub table_goes : (d : Definition) (t : Table) → IsTable (shapes_in d) t → ((e : ℕ) (r : Rule) → slice_get d.elements e ≡ Some r → is_lawful_holding (length d.elements) r.holding ≡ true) → GoesOn d t
+table_goes d t i lawful e r at es below =
+    let long = rules_length d.elements in (
+      (λ led.
+          let found = some_of e i.keys (run t (first_at t e) es) led.0 (states_walk (length (shapes_in d)) (shape r.holding) (first_state (shape r.holding)) es) (fits_from (shapes_in d) t i e (shape r.holding) (shape_at d.elements e r at) es (subst (λ (k : ℕ). AreElements k es) (sym long) below)) led.1 in
+          let walk : states_walk (length d.elements) (shape r.holding) (first_state (shape r.holding)) es ≡ Some found.0 = subst (λ (k : ℕ). states_walk k (shape r.holding) (first_state (shape r.holding)) es ≡ Some found.0) long found.1 in
+          let more = goes_on (length d.elements) r.holding es found.0 (lawful e r at) walk in
+          (more.list, more.below, more.passes)),
+      (λ more.
+          let ended = table_decides d t i e r at (es ++ more.0) (both_below (length d.elements) es more.0 below more.1) ∙ more.2 in
+          some_state t (run t (first_at t e) es) more.0 (sym (ap (ends t) (run_append t (first_at t e) es more.0)) ∙ ended)),
+    )
+  where
+    some_state : (t : Table) (x : Option ℕ) (fs : List ℕ) → ends t (then_some x (λ (s : ℕ). run t s fs)) ≡ true → (s : ℕ) × (x ≡ Some s)
+    some_state t None fs h = absurd (let no : ⊥ = cc in no)
+    some_state t (Some s) fs h = (s, refl)
+
+-- what each element holds is lawful
+pub rule_lawful : (count : ℕ) (rules : List Rule) (e : ℕ) (r : Rule) → list_all (is_lawful_rule count) rules ≡ true → slice_get rules e ≡ Some r → is_lawful_holding count r.holding ≡ true
+rule_lawful count [] e r h at = cc
+rule_lawful count (x ∷ rules) zero r h at =
+    let same : x ≡ r = cc in
+    subst (λ (y : Rule). is_lawful_holding count y.holding ≡ true) same (first_so (is_lawful_holding count x.holding) (are_lawful_attributes x.attributes) (first_so (is_lawful_rule count x) (list_all (is_lawful_rule count) rules) h))
+rule_lawful count (x ∷ rules) (suc e) r h at = rule_lawful count rules e r (second_so (is_lawful_rule count x) (list_all (is_lawful_rule count) rules) h) at
+
+pub rules_lawful : (rules : List Rule) (entities : List (List ℕ)) → is_lawful rules entities ≡ true → (e : ℕ) (r : Rule) → slice_get rules e ≡ Some r → is_lawful_holding (length rules) r.holding ≡ true
+unfolding is_lawful
+rules_lawful rules entities h e r at =
+    rule_lawful (length rules) rules e r
+    (second_so (nat_le (length rules) element_limit && are_names (map (λ (q : Rule). q.name) rules)) (list_all (is_lawful_rule (length rules)) rules)
+    (first_so ((nat_le (length rules) element_limit && are_names (map (λ (q : Rule). q.name) rules)) && list_all (is_lawful_rule (length rules)) rules) (are_names entities) h)) at
 
 -- the models are those of the declared elements
 pub shapes_same : (models slice : List Model) (elements es : List ElementRule) → slice ≡ models → shapes_of models ≡ map (λ (r : ElementRule). shape (holding_of r.content)) es → es ≡ elements → shapes_of slice ≡ map (λ (r : Rule). shape r.holding) (map rule_of elements)
@@ -99,12 +164,6 @@ all_begin d t i = i.firsts.long ∙ rules_length d.elements
 
 pub table_as : (shapes : List Shape) (d : Definition) (t : Table) → shapes ≡ shapes_in d → IsTable shapes t → IsTable (shapes_in d) t
 table_as shapes d t e i = subst (λ (ss : List Shape). IsTable ss t) e i
-
--- the state at a number, and its row
-at_some : {X : Type 0} (xs : List X) (n : ℕ) → n < length xs → (x : X) × (slice_get xs n ≡ Some x)
-at_some [] n h = absurd (omega (arith, h))
-at_some (x ∷ xs) zero h = (x, refl)
-at_some (x ∷ xs) (suc n) h = at_some xs n (omega (arith, h))
 
 owner_of : (keys : List Key) (n : ℕ) (k : Key) → slice_get keys n ≡ Some k → slice_index_or (map (λ (x : Key). x.0) keys) n 0 ≡ k.0
 owner_of [] n k h = cc

@@ -10,7 +10,7 @@ use Rattle.content_automata.specs.declared.model.Model.{Model}
 use Rattle.content_automata.specs.declared.explore.State.{State}
 use Rattle.content_positions.specs.Sets.{has_end}
 use Rattle.std.proofs.lemmas.List.Elements.{Contains-append_right}
-use Rattle.content_automata.proofs.ReachLemmas.{reached_sized, all_reached}
+use Rattle.content_automata.proofs.ReachLemmas.{led_sized, all_reached}
 use Rattle.content_automata.proofs.TableLemmas.{cell_kept}
 
 abbrev pub no_row : Row
@@ -148,11 +148,11 @@ key_within models keys n k all h =
     omega (arith, l, w)
 
 pub key_sized : (models : List Model) (keys : List Key) (n : ℕ) (k : Key) (s : Shape) → AreSized (shapes_of models) → AllReached (shapes_of models) keys → slice_get keys n ≡ Some k → slice_get (shapes_of models) k.0 ≡ Some s → IsSized s k.1
-key_sized models keys n k s sized all h at = reached_sized (shapes_of models) k s sized (all k (contains_at keys n k h)) at
+key_sized models keys n k s sized all h at = led_sized (shapes_of models) k s sized (all k (contains_at keys n k h)) at
 
-pub state_reached : (models : List Model) (old new : List Key) (n : ℕ) (k : Key) (s : Shape) → AllReached (shapes_of models) old → slice_get old n ≡ Some k → slice_get (shapes_of models) k.0 ≡ Some s → Adds old new k.0 (state_behind (length models) s k.1) → AllReached (shapes_of models) new
+pub state_reached : (models : List Model) (old new : List Key) (n : ℕ) (k : Key) (s : Shape) → AllReached (shapes_of models) old → slice_get old n ≡ Some k → slice_get (shapes_of models) k.0 ≡ Some s → Adds old new k.0 (length models) (state_behind (length models) s k.1) → AllReached (shapes_of models) new
 state_reached models old new n k s all h at adds =
-    all_reached (shapes_of models) old new k s all (contains_at old n k h) at (subst (λ (c : ℕ). Adds old new k.0 (state_behind c s k.1)) (sym (shapes_length models)) adds)
+    all_reached (shapes_of models) old new k s all (contains_at old n k h) at (subst (λ (c : ℕ). Adds old new k.0 c (state_behind c s k.1)) (sym (shapes_length models)) adds)
 
 pub state_row : (models : List Model) (new : List Key) (k : Key) (s : Shape) (row : Row) → slice_get (shapes_of models) k.0 ≡ Some s → row.0 ≡ has_end k.1 → CellsFit new k.0 (state_behind (length models) s k.1) row.1 (length models) → RowFits (shapes_of models) new k row
 state_row models new k s row at end fits =

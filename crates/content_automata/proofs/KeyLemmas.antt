@@ -6,7 +6,7 @@ use Rattle.std.specs.Cmp.Lexicographic.{pointwise}
 use Rattle.std.proofs.lemmas.List.Elements.{Contains-push_cases}
 use Rattle.text_base.specs.Exactness.{exact_pair}
 use Rattle.position_sets.specs.Flags.{exact_flags}
-use Rattle.content_automata.specs.Tables.{Key, key_eq, Keeps, Adds}
+use Rattle.content_automata.specs.Tables.{Key, key_eq, Keeps, AddsFound}
 
 pub exact_key : (p q : Key) → key_eq p q ≡ true → p ≡ q
 exact_key p q h = exact_pair {eq = pointwise beq} exact_flags p q h
@@ -30,9 +30,12 @@ insert_keeps b old new k e = subst (λ (ks : List Key). Keeps old ks) (sym e) (k
 pub insert_only : (b : Bool) (old new : List Key) (k : Key) → new ≡ (if b then old else old ++ k ∷ []) → (x : Key) → Contains new x → Contains old x ⊎ (x ≡ k)
 insert_only b old new k e x h = only_if b old k x (subst (λ (ks : List Key). Contains ks x) e h)
 
--- the state of a child is the one that is added
-pub adds_one : (old new : List Key) (element : ℕ) (behind : ℕ → Option (List Bool)) (child : ℕ) (flags : List Bool) → behind child ≡ Some flags → ((x : Key) → Contains new x → Contains old x ⊎ (x ≡ (element, flags))) → Adds old new element behind
-adds_one old new element behind child flags is only = λ x h. elim (only x h) [
+-- the state that is found is the one that is added
+pub adds_one : (old new : List Key) (element : ℕ) (found : Option (List Bool)) (flags : List Bool) → found ≡ Some flags → ((x : Key) → Contains new x → Contains old x ⊎ (x ≡ (element, flags))) → AddsFound old new element found
+adds_one old new element found flags is only = λ x h. elim (only x h) [
   | inl a ↦ inl a
-  | inr a ↦ inr (child, ap (λ (k : Key). k.0) a, is ∙ ap (λ (k : Key). Some k.1) (sym a))
+  | inr a ↦ inr (ap (λ (k : Key). k.0) a, is ∙ sym (ap (λ (k : Key). Some k.1) a))
 ]
+
+pub adds_copy : (old new : List Key) (element : ℕ) (found : Option (List Bool)) (flags copy : List Bool) → found ≡ Some flags → copy ≡ flags → ((x : Key) → Contains new x → Contains old x ⊎ (x ≡ (element, copy))) → AddsFound old new element found
+adds_copy old new element found flags copy is same only = adds_one old new element found copy (is ∙ ap (λ (f : List Bool). Some f) (sym same)) only

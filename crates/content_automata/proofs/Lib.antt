@@ -1,6 +1,10 @@
 pub mod BuildLemmas
 pub mod ExploreLemmas
+pub mod GoingLemmas
 pub mod KeyLemmas
+pub mod LiveLemmas
+pub mod ModelLemmas
+pub mod PassLemmas
 pub mod ReachLemmas
 pub mod RunLemmas
 pub mod ShapeLemmas

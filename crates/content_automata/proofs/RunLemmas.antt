@@ -1,5 +1,5 @@
 -- What a table decides.
-use Rattle.std.proofs.Common.{◌≡◌, ℕ, zero, suc, ◌<◌, inl, inr, Bool, true, false, ◌&&◌, List, [], ◌∷◌, length, Contains, refl, sym, ◌∙◌, ap, subst, arith, Option, Some, None, slice_get, get_or, nat_eq, eq-eqb}
+use Rattle.std.proofs.Common.{◌≡◌, ℕ, zero, suc, ◌<◌, inl, inr, Bool, true, false, ◌&&◌, List, [], ◌∷◌, ◌++◌, length, Contains, refl, sym, ◌∙◌, ap, subst, arith, Option, Some, None, slice_get, get_or, nat_eq, eq-eqb}
 use Rattle.std.specs.Bool.{beq}
 use Rattle.std.specs.Cmp.Lexicographic.{pointwise}
 use Rattle.std.specs.List.{IsDistinct}
@@ -13,6 +13,15 @@ use Rattle.content_positions.specs.Sets.{is_whole}
 use Rattle.content_automata.specs.Shapes.{Shape, shape, first_state, state_behind, states_walk, then_some}
 use Rattle.content_automata.specs.Tables.{Table, IsTable, Key, key_eq, CellFits, AreElements, run, ends, next_at, first_at}
 use Rattle.content_automata.proofs.ShapeLemmas.{states_decide}
+
+-- some children and then others
+pub run_append : (t : Table) (s : ℕ) (es fs : List ℕ) → run t s (es ++ fs) ≡ then_some (run t s es) (λ (n : ℕ). run t n fs)
+run_append t s [] fs = refl
+run_append t s (e ∷ es) fs = each (next_at t s e) (λ n. run_append t n es fs)
+  where
+    each : (x : Option ℕ) → ((n : ℕ) → run t n (es ++ fs) ≡ then_some (run t n es) (λ (m : ℕ). run t m fs)) → then_some x (λ (n : ℕ). run t n (es ++ fs)) ≡ then_some (then_some x (λ (n : ℕ). run t n es)) (λ (m : ℕ). run t m fs)
+    each None h = refl
+    each (Some n) h = h n
 
 one_more : (t : Table) (keys : List Key) (element : ℕ) (cell : Option ℕ) (found : Option (List Bool)) (f : ℕ → Option ℕ) (g : List Bool → Option (List Bool)) → CellFits keys element cell found → ((n : ℕ) (flags : List Bool) → slice_get keys n ≡ Some (element, flags) → CellFits keys element (f n) (g flags)) → CellFits keys element (then_some cell f) (then_some found g)
 one_more t keys element None found f g fits later = ap (λ (x : Option (List Bool)). then_some x g) fits

@@ -14,7 +14,7 @@ chosen true flags f g e = e
 chosen false flags f g e = refl
 
 -- of a model the states are the sets of positions
-model_walk : (count : ℕ) (first : List Bool) (places : List Position) (flags : List Bool) (es : List ℕ) → states_walk count (model first places) flags es ≡ set_walk places flags es
+pub model_walk : (count : ℕ) (first : List Bool) (places : List Position) (flags : List Bool) (es : List ℕ) → states_walk count (model first places) flags es ≡ set_walk places flags es
 model_walk count first places flags [] = refl
 model_walk count first places flags (e ∷ es) =
     chosen (names places flags e) (set_step places flags e) (λ (f : List Bool). states_walk count (model first places) f es) (λ (f : List Bool). set_walk places f es) (model_walk count first places (set_step places flags e) es)
@@ -43,17 +43,23 @@ joined : (x : Option (List Bool)) (f g : List Bool → Option (List Bool)) → (
 joined None f g e = refl
 joined (Some flags) f g e = e flags
 
+-- some children and then others
+pub walk_append : (count : ℕ) (s : Shape) (flags : List Bool) (es fs : List ℕ) → states_walk count s flags (es ++ fs) ≡ then_some (states_walk count s flags es) (λ (f : List Bool). states_walk count s f fs)
+walk_append count s flags [] fs = refl
+walk_append count s flags (d ∷ es) fs =
+    joined (state_behind count s flags d) (λ (f : List Bool). states_walk count s f (es ++ fs)) (λ (f : List Bool). then_some (states_walk count s f es) (λ (g : List Bool). states_walk count s g fs)) (λ (f : List Bool). walk_append count s f es fs)
+    ∙ two (state_behind count s flags d)
+  where
+    two : (x : Option (List Bool)) → then_some x (λ (f : List Bool). then_some (states_walk count s f es) (λ (g : List Bool). states_walk count s g fs)) ≡ then_some (then_some x (λ (f : List Bool). states_walk count s f es)) (λ (g : List Bool). states_walk count s g fs)
+    two None = refl
+    two (Some f) = refl
+
 -- one child more
 pub walk_more : (count : ℕ) (s : Shape) (flags : List Bool) (es : List ℕ) (e : ℕ) → states_walk count s flags (es ++ e ∷ []) ≡ then_some (states_walk count s flags es) (λ (f : List Bool). state_behind count s f e)
-walk_more count s flags [] e = last (state_behind count s flags e)
+walk_more count s flags es e =
+    walk_append count s flags es (e ∷ [])
+    ∙ joined (states_walk count s flags es) (λ (f : List Bool). states_walk count s f (e ∷ [])) (λ (f : List Bool). state_behind count s f e) (λ (f : List Bool). last (state_behind count s f e))
   where
     last : (x : Option (List Bool)) → then_some x (λ (f : List Bool). Some f) ≡ x
     last None = refl
     last (Some f) = refl
-walk_more count s flags (d ∷ es) e =
-    joined (state_behind count s flags d) (λ (f : List Bool). states_walk count s f (es ++ e ∷ [])) (λ (f : List Bool). then_some (states_walk count s f es) (λ (g : List Bool). state_behind count s g e)) (λ (f : List Bool). walk_more count s f es e)
-    ∙ two (state_behind count s flags d)
-  where
-    two : (x : Option (List Bool)) → then_some x (λ (f : List Bool). then_some (states_walk count s f es) (λ (g : List Bool). state_behind count s g e)) ≡ then_some (then_some x (λ (f : List Bool). states_walk count s f es)) (λ (g : List Bool). state_behind count s g e)
-    two None = refl
-    two (Some f) = refl

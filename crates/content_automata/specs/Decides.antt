@@ -1,5 +1,5 @@
 -- What a table of states decides of a document type definition.
-use Rattle.std.specs.Prelude.{◌≡◌, ℕ, ◌<◌, ◌↔◌, Bool, List, map, length, Option, Some, slice_get}
+use Rattle.std.specs.Prelude.{◌≡◌, ℕ, ◌<◌, ◌↔◌, Bool, true, List, ◌++◌, map, length, Option, Some, slice_get}
 use Rattle.dtd_model.specs.Table.{Rule, Table as Definition}
 use Rattle.dtd_model.specs.Matches.{matches}
 use Rattle.content_automata.specs.Shapes.{Shape, shape, first_state, states_walk}
@@ -13,6 +13,16 @@ shapes_in d = map (λ (r : Rule). shape r.holding) d.elements
 -- element may hold them
 abbrev pub Decides : Definition → Table → Type 0
 Decides d t = (e : ℕ) (r : Rule) → slice_get d.elements e ≡ Some r → (es : List ℕ) → AreElements (length d.elements) es → ends t (run t (first_at t e) es) ≡ matches (length d.elements) r.holding es
+
+-- children lead to a state exactly where some list of children that begins with them is one that the element may hold:
+-- so where a step gives none, no list that goes on so is
+abbrev pub GoesOn : Definition → Table → Type 0
+GoesOn d t = (e : ℕ) (r : Rule) → slice_get d.elements e ≡ Some r → (es : List ℕ) → AreElements (length d.elements) es
+    → ((s : ℕ) × (run t (first_at t e) es ≡ Some s)) ↔ ((fs : List ℕ) × AreElements (length d.elements) fs × (matches (length d.elements) r.holding (es ++ fs) ≡ true))
+
+-- each state is that behind some children, from the state that one of so many elements begins in
+abbrev pub ReachesAll : ℕ → Table → Type 0
+ReachesAll count t = (s : ℕ) → s < length t.1 → (e : ℕ) × (e < count) × (es : List ℕ) × AreElements count es × (run t (first_at t e) es ≡ Some s)
 
 -- the set of positions behind children, of a declared element
 abbrev pub set_behind : Definition → Rule → List ℕ → Option (List Bool)

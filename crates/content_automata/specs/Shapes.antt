@@ -31,6 +31,10 @@ first_state any = one_state
 first_state (text es) = one_state
 first_state (model first places) = first
 
+-- the state, where it stays
+abbrev pub kept : List Bool → Bool → Option (List Bool)
+kept flags stays = if stays then Some flags else None
+
 -- the state behind a child, where so many elements are declared; none where no match goes on so
 abbrev pub state_behind : ℕ → Shape → List Bool → ℕ → Option (List Bool)
 state_behind count empty flags e = None

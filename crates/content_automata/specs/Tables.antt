@@ -72,13 +72,21 @@ pub record CellsFit (keys : List Key) (element : ℕ) (behind : ℕ → Option (
   pub long : length cells ≡ count
   pub fit : (e : ℕ) → e < count → CellFits keys element (slice_index_or cells e None) (behind e)
 
--- each state is one of the old ones, or one behind a child
-abbrev pub Adds : List Key → List Key → ℕ → (ℕ → Option (List Bool)) → Type 0
-Adds old new element behind = (k : Key) → Contains new k → Contains old k ⊎ ((e : ℕ) × (k.0 ≡ element) × (behind e ≡ Some k.1))
+-- each state is one of the old ones, or the one that was found
+abbrev pub AddsFound : List Key → List Key → ℕ → Option (List Bool) → Type 0
+AddsFound old new element found = (k : Key) → Contains new k → Contains old k ⊎ ((k.0 ≡ element) × (found ≡ Some k.1))
 
--- some children lead to each state
+-- each state is one of the old ones, or one behind one of so many children
+abbrev pub Adds : List Key → List Key → ℕ → ℕ → (ℕ → Option (List Bool)) → Type 0
+Adds old new element count behind = (k : Key) → Contains new k → Contains old k ⊎ ((e : ℕ) × (e < count) × (k.0 ≡ element) × (behind e ≡ Some k.1))
+
+-- some children that are declared lead to the state
+abbrev pub IsLedTo : List Shape → Key → Type 0
+IsLedTo shapes k = (s : Shape) × (slice_get shapes k.0 ≡ Some s) × (es : List ℕ) × AreElements (length shapes) es × (states_walk (length shapes) s (first_state s) es ≡ Some k.1)
+
+-- and so to each state
 abbrev pub AllReached : List Shape → List Key → Type 0
-AllReached shapes keys = (k : Key) → Contains keys k → IsReached shapes k
+AllReached shapes keys = (k : Key) → Contains keys k → IsLedTo shapes k
 
 -- the row is that of the state
 pub record RowFits (shapes : List Shape) (keys : List Key) (k : Key) (row : Row) : Type 0 where
@@ -108,3 +116,4 @@ pub record IsTable (shapes : List Shape) (t : Table) : Type 0 where
   pub firsts : FirstsFit shapes keys t.0 (length shapes)
   pub rows : RowsFit shapes keys t.1 (length keys)
   pub owners : t.2 ≡ map (λ (k : Key). k.0) keys
+  pub reached : AllReached shapes keys

@@ -8,7 +8,7 @@ ghost use Rattle.dtd_model.specs.TableOf.{table_of};
 ghost use Rattle.content_automata.specs.Tables as spec;
 ghost use Rattle.content_automata.specs.Tables.{AreSized, IsTable, Key};
 ghost use Rattle.content_automata.specs.Refusals.{IsCause};
-ghost use Rattle.content_automata.specs.Decides.{shapes_in, Decides, TellsApart, HasOwners};
+ghost use Rattle.content_automata.specs.Decides.{shapes_in, Decides, TellsApart, HasOwners, GoesOn, ReachesAll};
 ghost use Rattle.content_automata.specs.Views.{shapes_of};
 
 use crate::explore::{State, begin, explore};
@@ -93,6 +93,8 @@ pub fn build(alloc: Global, dtd: &Dtd) -> Result<Contents, ContentRefusal>
     ensures decides { IfOk result (λ c. Decides (table_of dtd.now) c) }
     ensures apart { IfOk result (λ c. TellsApart (table_of dtd.now) c) }
     ensures owners { IfOk result (λ c. HasOwners (length (table_of dtd.now).elements) c) }
+    ensures goes_on { IfOk result (λ c. GoesOn (table_of dtd.now) c) }
+    ensures reached { IfOk result (λ c. ReachesAll (length (table_of dtd.now).elements) c) }
     ensures few { IfOk result (λ c. length c.1 ≤ 4096) }
     ensures elements { IfOk result (λ c. length c.0 ≡ length (table_of dtd.now).elements) }
     ensures limit { IfErr result (IsCause (shapes_in (table_of dtd.now))) }

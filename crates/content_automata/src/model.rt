@@ -1,13 +1,14 @@
 //! What an element may hold, ready to be walked.
 
-ghost use Rattle.std.specs.Prelude.{◌≡◌, map, nat_eq, Some, None, if◌then◌else◌, IfOk};
-ghost use Rattle.std.specs.List.{list_any};
+ghost use Rattle.std.specs.Prelude.{◌≡◌, map, replicate, false, IfOk};
+ghost use Rattle.std.specs.List.{range_with_len};
+ghost use Rattle.content_positions.specs.Sets.{raised};
 ghost use Rattle.dtd_model.specs.Table as table;
 ghost use Rattle.content_automata.specs.Shapes as spec;
 ghost use Rattle.content_automata.specs.Views.{shape_of};
 
 use dtd_model::{Content, Particle};
-use position_sets::{Flags, Place, first_of, places_of, set_of, step};
+use position_sets::{Flags, Place, first_of, places_of, set_of, steps};
 use std::alloc::Global;
 use text_base::{Elem, NoMemory};
 
@@ -56,56 +57,88 @@ pub fn model_of_content(alloc: Global, content: &Content) -> Result<Model, NoMem
     }
 }
 
-fn only_state(alloc: Global) -> Result<Flags, NoMemory>
-    ensures { IfOk result (λ f. f ≡ spec.one_state) }
-{
-    let mut flags = Vec::new(alloc);
-    flags.push(true)?;
-    Ok(Flags::from_vec(flags))
-}
-
 /// The state that an element begins in.
 pub fn first_state(alloc: Global, model: &Model) -> Result<Flags, NoMemory>
     ensures { IfOk result (λ f. f ≡ spec.first_state (shape_of model.now)) }
 {
     match model {
-        Model::Nothing => only_state(alloc),
-        Model::Anything => only_state(alloc),
-        Model::Text(_) => only_state(alloc),
+        Model::Nothing => Ok(Flags::end_alone(alloc)),
+        Model::Anything => Ok(Flags::end_alone(alloc)),
+        Model::Text(_) => Ok(Flags::end_alone(alloc)),
         Model::Children(first, _) => first.copy(alloc),
     }
 }
 
-fn holds(elements: &[usize], element: usize) -> bool
-    ensures { result ≡ list_any (nat_eq element) elements.now }
+// Which of so many numbers are listed.
+fn listed(alloc: Global, count: usize, numbers: &[usize]) -> Result<Vec<bool>, NoMemory>
+    ensures { IfOk result (λ v. v.items ≡ raised (replicate count false) numbers.now) }
 {
-    elements.iter().any(|one| element == *one)
-}
-
-fn kept(alloc: Global, flags: &Flags, goes_on: bool) -> Result<Option<Flags>, NoMemory>
-    ensures { IfOk result (λ f. f ≡ (if goes_on then Some flags.now else None)) }
-{
-    if goes_on {
-        return Ok(Some(flags.copy(alloc)?));
+    let mut flags = Vec::from_elem(alloc, false, count)?;
+    for number in numbers {
+        if *number < flags.len() {
+            flags[*number] = true;
+        }
     }
-    Ok(None)
+    Ok(flags)
 }
 
-/// The state behind a child, where so many elements are declared; none where no match goes on so.
-pub fn state_behind(
+// The state where it is said, and none elsewhere.
+fn kept(alloc: Global, flags: &Flags, stays: &[bool]) -> Result<Vec<Option<Flags>>, NoMemory>
+    ensures { IfOk result (λ v. v.items ≡ map (spec.kept flags.now) stays.now) }
+{
+    let mut states = Vec::new(alloc);
+    for stay in stays {
+        if *stay {
+            states.push(Some(flags.copy(alloc)?))?;
+            continue;
+        }
+        states.push(None)?;
+    }
+    Ok(states)
+}
+
+// The state for each of so many children, or none for each.
+fn kept_for_all(
+    alloc: Global,
+    flags: &Flags,
+    stays: bool,
+    count: usize,
+) -> Result<Vec<Option<Flags>>, NoMemory>
+    ensures { IfOk result (λ v. v.items ≡ map (spec.kept flags.now) (replicate count stays)) }
+{
+    let all = Vec::from_elem(alloc, stays, count)?;
+    kept(alloc, flags, all.as_slice())
+}
+
+// The state for each child that is listed, of so many.
+fn kept_for(
+    alloc: Global,
+    flags: &Flags,
+    children: &[usize],
+    count: usize,
+) -> Result<Vec<Option<Flags>>, NoMemory>
+    ensures { IfOk result (λ v. v.items ≡ map (spec.kept flags.now) (raised (replicate count false) children.now)) }
+{
+    let stays = listed(alloc, count, children)?;
+    kept(alloc, flags, stays.as_slice())
+}
+
+/// The state behind each child, where so many elements are declared; none where no match goes on
+/// so. Looks at the positions in the state, at those that may come behind them, and once at each
+/// declared element.
+pub fn states_behind(
     alloc: Global,
     count: usize,
     model: &Model,
     flags: &Flags,
-    child: usize,
-) -> Result<Option<Flags>, NoMemory>
+) -> Result<Vec<Option<Flags>>, NoMemory>
     requires { spec.IsSized (shape_of model.now) flags.now }
-    ensures { IfOk result (λ f. f ≡ spec.state_behind count (shape_of model.now) flags.now child) }
+    ensures { IfOk result (λ v. v.items ≡ map (spec.state_behind count (shape_of model.now) flags.now) (range_with_len 0 count)) }
 {
     match model {
-        Model::Nothing => Ok(None),
-        Model::Anything => kept(alloc, flags, child < count),
-        Model::Text(elements) => kept(alloc, flags, holds(elements.as_slice(), child)),
-        Model::Children(_, places) => step(alloc, places.as_slice(), flags, child),
+        Model::Nothing => kept_for_all(alloc, flags, false, count),
+        Model::Anything => kept_for_all(alloc, flags, true, count),
+        Model::Text(elements) => kept_for(alloc, flags, elements.as_slice(), count),
+        Model::Children(_, places) => steps(alloc, count, places.as_slice(), flags),
     }
 }

@@ -3,11 +3,11 @@
 ghost use Rattle.std.specs.Prelude.{◌≡◌, ◌≤◌, ◌<◌, ◌⊎◌, ℕ, Bool, List, length, Contains, Some, slice_get, IfOk, IfErr, OnOk};
 ghost use Rattle.content_automata.specs.Shapes.{IsSized};
 ghost use Rattle.content_automata.specs.Shapes as shapes;
-ghost use Rattle.content_automata.specs.Tables.{Key, Keeps, CellFits, CellsFit, Adds};
+ghost use Rattle.content_automata.specs.Tables.{Key, Keeps, CellFits, CellsFit, Adds, AddsFound};
 ghost use Rattle.content_automata.specs.Refusals.{IsOver};
 ghost use Rattle.content_automata.specs.Views.{shape_of};
 
-use crate::model::{Model, state_behind};
+use crate::model::{Model, states_behind};
 use crate::refusal::ContentRefusal;
 use indexmap::IndexSet;
 use position_sets::Flags;
@@ -48,24 +48,20 @@ pub fn number(keys: &mut IndexSet<(u64, Flags)>, key: (u64, Flags)) -> Result<u1
 // The number of the state behind a child, where there is one.
 fn cell(
     alloc: Global,
-    count: usize,
-    model: &Model,
     element: u64,
-    flags: &Flags,
-    child: usize,
+    behind: &Option<Flags>,
     keys: &mut IndexSet<(u64, Flags)>,
 ) -> Result<Option<u16>, ContentRefusal>
-    requires { IsSized (shape_of model.now) flags.now }
-    ensures cell { IfOk result (λ cell. CellFits keys.new.keys element cell
-        (shapes.state_behind count (shape_of model.now) flags.now child)) }
+    ensures cell { IfOk result (λ cell. CellFits keys.new.keys element cell behind.now) }
     ensures few { OnOk result (length keys.old.keys ≤ 4096 → length keys.new.keys ≤ 4096) }
     ensures keeps { Keeps keys.old.keys keys.new.keys }
-    ensures adds { Adds keys.old.keys keys.new.keys element (shapes.state_behind count (shape_of model.now) flags.now) }
+    ensures adds { AddsFound keys.old.keys keys.new.keys element behind.now }
     ensures limit { IfErr result (IsOver keys.new.keys) }
 {
-    match state_behind(alloc, count, model, flags, child)? {
+    match behind {
         None => Ok(None),
         Some(behind) => {
+            let behind = behind.copy(alloc)?;
             let number = number(keys, (element, behind))?;
             Ok(Some(number))
         }
@@ -86,12 +82,14 @@ pub fn cells(
         (shapes.state_behind count (shape_of model.now) flags.now) v.items count) }
     ensures few { OnOk result (length keys.old.keys ≤ 4096 → length keys.new.keys ≤ 4096) }
     ensures keeps { Keeps keys.old.keys keys.new.keys }
-    ensures adds { Adds keys.old.keys keys.new.keys element (shapes.state_behind count (shape_of model.now) flags.now) }
+    ensures adds { Adds keys.old.keys keys.new.keys element count
+        (shapes.state_behind count (shape_of model.now) flags.now) }
     ensures limit { IfErr result (IsOver keys.new.keys) }
 {
+    let row = states_behind(alloc, count, model, flags)?;
     let mut cells = Vec::new(alloc);
-    for child in 0..count {
-        let one = cell(alloc, count, model, element, flags, child, keys)?;
+    for behind in &row {
+        let one = cell(alloc, element, behind, keys)?;
         match cells.push(one) {
             Ok(()) => {}
             Err(_) => return Err(ContentRefusal::Memory),

@@ -1,5 +1,8 @@
-//! Tests of content_automata by the smallest document type.
+//! Tests of content_automata, by the smallest document type and by content models that are read.
 #![tactic(auto)]
+
+#[cfg(test)]
+mod models;
 
 #[cfg(test)]
 mod tests {

@@ -1,2 +1,4 @@
+pub mod AscendingLemmas
 pub mod PartLemmas
+pub mod RangeLemmas
 pub mod SetLemmas

@@ -1,126 +1,158 @@
--- The members of a set, one position after another.
-use Rattle.std.proofs.Common.{◌≡◌, ℕ, zero, suc, ◌+◌, ◌<◌, ◌≤◌, Bool, true, false, ◌||◌, List, [], ◌∷◌, ◌++◌, length, drop, get_or, refl, ap, sym, ◌∙◌, arith, subst, drop-cons, append_assoc}
-use Rattle.std.specs.Prelude.{if◌then◌else◌, ◌==◌, set}
-use Rattle.std.specs.List.{list_any}
+-- What may come next behind each element, one position after another.
+use Rattle.std.proofs.Common.{◌≡◌, ℕ, zero, suc, ◌+◌, ◌<◌, ◌≤◌, Bool, true, false, ◌||◌, List, [], ◌∷◌, ◌++◌, length, map, take, refl, ap, sym, ◌∙◌, arith, append_assoc, Option, Some, None}
+use Rattle.std.specs.Prelude.{if◌then◌else◌, ◌==◌, set, slice_index_or}
+use Rattle.std.specs.List.{range_with_len, list_any}
+use Rattle.std.proofs.lemmas.Bool.{eqb-true}
+use Rattle.std.proofs.lemmas.List.{append-nil, map-set, set_past, length-map, take_more}
+use Rattle.std.proofs.lemmas.List.Folds.{list_any-append}
 use Rattle.content_positions.specs.Positions.{Next, Position}
 use Rattle.content_positions.specs.Walks.{place_at, joined}
-use Rattle.content_positions.specs.Sets.{raised_from, members, names, raised}
+use Rattle.content_positions.specs.Sets.{members, names, set_step}
+use Rattle.position_sets.specs.declared.places.Behind.{Behind}
 use Rattle.position_sets.specs.declared.places.Place.{Place}
-use Rattle.position_sets.specs.Views.{position_of, positions_of}
+use Rattle.position_sets.specs.Views.{next_of, position_of, positions_of, slot_of, either, joined_to, put_behind, behind_of, slot_set, step_of}
+use Rattle.position_sets.proofs.RangeLemmas.{same_range, set_range, at_range, map_range}
 
-pub members_all : (flags : List Bool) → members flags ≡ raised_from 0 (drop 1 flags)
-members_all [] = refl
-members_all (b ∷ bs) = refl
+or_false : (b : Bool) → (b || false) ≡ b
+or_false true = refl
+or_false false = refl
 
-raised_step : (n : ℕ) (b : Bool) (bs : List Bool) → raised_from n (b ∷ bs) ≡ (if b then n ∷ raised_from (suc n) bs else raised_from (suc n) bs)
-raised_step n true bs = refl
-raised_step n false bs = refl
+or_assoc : (a b c : Bool) → (a || (b || c)) ≡ ((a || b) || c)
+or_assoc true b c = refl
+or_assoc false b c = refl
 
--- the flag of the next position
-flag_step : (flags : List Bool) (i : ℕ) (b : Bool) → i + 1 < length flags → get_or flags (i + 1) false ≡ b → raised_from i (drop (i + 1) flags) ≡ (if b then i ∷ raised_from (suc i) (drop (suc (i + 1)) flags) else raised_from (suc i) (drop (suc (i + 1)) flags))
-flag_step flags i b h e =
-    ap (raised_from i) (drop-cons flags (i + 1) false h)
-    ∙ raised_step i (get_or flags (i + 1) false) (drop (suc (i + 1)) flags)
-    ∙ ap (λ (x : Bool). if x then i ∷ raised_from (suc i) (drop (suc (i + 1)) flags) else raised_from (suc i) (drop (suc (i + 1)) flags)) e
+next_same : (ps qs : List ℕ) (w v : Bool) → ps ≡ qs → w ≡ v → ◌≡◌ {A = Next} (record { positions = ps; whole = w }) (record { positions = qs; whole = v })
+next_same ps qs w v e f = ap (λ (xs : List ℕ). let n : Next = record { positions = xs; whole = w } in n) e ∙ ap (λ (x : Bool). let n : Next = record { positions = qs; whole = x } in n) f
 
--- past a position that is in the set, and past one that is not
-pub flag_in : (flags : List Bool) (i : ℕ) → i + 1 < length flags → get_or flags (i + 1) false ≡ true → raised_from i (drop (i + 1) flags) ≡ i ∷ raised_from (i + 1) (drop (i + 1 + 1) flags)
-flag_in flags i h e = subst (λ (k : ℕ). raised_from i (drop (i + 1) flags) ≡ i ∷ raised_from k (drop (i + 1 + 1) flags)) (let s : suc i ≡ i + 1 = omega arith in s) (subst (λ (k : ℕ). raised_from i (drop (i + 1) flags) ≡ i ∷ raised_from (suc i) (drop k flags)) (let s : suc (i + 1) ≡ i + 1 + 1 = omega arith in s) (flag_step flags i true h e))
-
-pub flag_out : (flags : List Bool) (i : ℕ) → i + 1 < length flags → get_or flags (i + 1) false ≡ false → raised_from i (drop (i + 1) flags) ≡ raised_from (i + 1) (drop (i + 1 + 1) flags)
-flag_out flags i h e = subst (λ (k : ℕ). raised_from i (drop (i + 1) flags) ≡ raised_from k (drop (i + 1 + 1) flags)) (let s : suc i ≡ i + 1 = omega arith in s) (subst (λ (k : ℕ). raised_from i (drop (i + 1) flags) ≡ raised_from (suc i) (drop k flags)) (let s : suc (i + 1) ≡ i + 1 + 1 = omega arith in s) (flag_step flags i false h e))
-
-pub past_end : (flags : List Bool) (i : ℕ) → length flags ≤ i + 1 → raised_from i (drop (i + 1) flags) ≡ []
-past_end flags i h = ap (raised_from i) (all_dropped flags (i + 1) h)
+-- one position more
+joined_last : (at : ℕ → Position) (e m : ℕ) (xs : List ℕ) → joined at e (xs ++ m ∷ []) ≡ (if e == (at m).element then either (joined at e xs) (at m).behind else joined at e xs)
+joined_last at e m [] = go (e == (at m).element) refl
   where
-    all_dropped : (xs : List Bool) (n : ℕ) → length xs ≤ n → drop n xs ≡ []
-    all_dropped [] zero h = refl
-    all_dropped [] (suc n) h = refl
-    all_dropped (x ∷ xs) zero h = absurd (omega (arith, h))
-    all_dropped (x ∷ xs) (suc n) h = all_dropped xs n (omega (arith, h))
+    go : (x : Bool) → (e == (at m).element) ≡ x → joined at e (m ∷ []) ≡ (if e == (at m).element then either (joined at e []) (at m).behind else joined at e [])
+    go true h = rw h (next_same ((at m).behind.positions ++ []) (at m).behind.positions ((at m).behind.whole || false) (at m).behind.whole (append-nil (at m).behind.positions) (or_false (at m).behind.whole))
+    go false h = rw h refl
+joined_last at e m (y ∷ xs) = go (e == (at y).element) refl (e == (at m).element) refl (joined_last at e m xs)
+  where
+    go : (x : Bool) → (e == (at y).element) ≡ x → (z : Bool) → (e == (at m).element) ≡ z → joined at e (xs ++ m ∷ []) ≡ (if e == (at m).element then either (joined at e xs) (at m).behind else joined at e xs)
+        → joined at e (y ∷ (xs ++ m ∷ [])) ≡ (if e == (at m).element then either (joined at e (y ∷ xs)) (at m).behind else joined at e (y ∷ xs))
+    go true h true g later =
+        let rest : joined at e (xs ++ m ∷ []) ≡ either (joined at e xs) (at m).behind = rw g at later in
+        rw (h, g) (ap (λ (n : Next). either (at y).behind n) rest
+        ∙ next_same _ _ _ _ (sym (append_assoc (at y).behind.positions (joined at e xs).positions (at m).behind.positions)) (or_assoc (at y).behind.whole (joined at e xs).whole (at m).behind.whole))
+    go true h false g later = let rest : joined at e (xs ++ m ∷ []) ≡ joined at e xs = rw g at later in rw (h, g) (ap (λ (n : Next). either (at y).behind n) rest)
+    go false h true g later = let rest : joined at e (xs ++ m ∷ []) ≡ either (joined at e xs) (at m).behind = rw g at later in rw (h, g) rest
+    go false h false g later = let rest : joined at e (xs ++ m ∷ []) ≡ joined at e xs = rw g at later in rw (h, g) rest
 
--- the plain form of the place at an index
-pub place_is : (places : List Place) (i : ℕ) (place : Place) → i < length places → place ≡ get_or places i place → place_at (positions_of places) i ≡ position_of place
+-- no position names the element
+none_joined : (at : ℕ → Position) (e : ℕ) (xs : List ℕ) → list_any (λ p. e == (at p).element) xs ≡ false → joined at e xs ≡ record { positions = []; whole = false }
+none_joined at e [] h = refl
+none_joined at e (y ∷ xs) h = go (e == (at y).element) refl h (none_joined at e xs)
+  where
+    go : (x : Bool) → (e == (at y).element) ≡ x → list_any (λ p. e == (at p).element) (y ∷ xs) ≡ false → (list_any (λ p. e == (at p).element) xs ≡ false → joined at e xs ≡ record { positions = []; whole = false }) → joined at e (y ∷ xs) ≡ record { positions = []; whole = false }
+    go true g h later = let both : true ≡ false = rw g at h in cc
+    go false g h later = rw g (later (rw g at h))
+
+any_last : (f : ℕ → Bool) (xs : List ℕ) (m : ℕ) → list_any f (xs ++ m ∷ []) ≡ (list_any f xs || f m)
+any_last f xs m = list_any-append f xs (m ∷ []) ∙ ap (λ (b : Bool). list_any f xs || b) (or_false (f m))
+
+behind_step : (places : List Position) (xs : List ℕ) (m e : ℕ) → behind_of places (xs ++ m ∷ []) e ≡ (if e == (place_at places m).element then Some (joined_to (behind_of places xs e) (place_at places m).behind) else behind_of places xs e)
+behind_step places xs m e =
+    ap (λ (b : Bool). if b then Some (joined (place_at places) e (xs ++ m ∷ [])) else None) (any_last (λ p. e == (place_at places p).element) xs m)
+    ∙ ap (λ (n : Next). if (list_any (λ p. e == (place_at places p).element) xs || (e == (place_at places m).element)) then Some n else None) (joined_last (place_at places) e m xs)
+    ∙ go (list_any (λ p. e == (place_at places p).element) xs) refl (e == (place_at places m).element)
+  where
+    here : Next
+    here = (place_at places m).behind
+
+    go : (a : Bool) → list_any (λ p. e == (place_at places p).element) xs ≡ a → (x : Bool)
+        → (if (a || x) then Some (if x then either (joined (place_at places) e xs) here else joined (place_at places) e xs) else None)
+        ≡ (if x then Some (joined_to (if a then Some (joined (place_at places) e xs) else None) here) else (if a then Some (joined (place_at places) e xs) else None))
+    go true h true = refl
+    go true h false = refl
+    go false h true = ap (λ (n : Next). Some (either n here)) (none_joined (place_at places) e xs h)
+    go false h false = refl
+
+-- one position more, for each element
+pub put_more : (places : List Position) (xs : List ℕ) (m n : ℕ) → put_behind (map (behind_of places xs) (range_with_len 0 n)) (place_at places m) ≡ map (behind_of places (xs ++ m ∷ [])) (range_with_len 0 n)
+put_more places xs m n =
+    let q = (place_at places m).element in
+    let here = (place_at places m).behind in
+    let new = Some (joined_to (slice_index_or (map (behind_of places xs) (range_with_len 0 n)) q None) here) in
+    set_range (behind_of places xs) 0 n q new
+    ∙ same_range (λ i. if i == 0 + q then new else behind_of places xs i) (behind_of places (xs ++ m ∷ [])) 0 n
+    (λ i low high. ap (λ (k : ℕ). if i == k then new else behind_of places xs i) (let z : 0 + q ≡ q = omega arith in z) ∙ at_one i (omega (arith, high)) (i == q) refl ∙ sym (behind_step places xs m i))
+  where
+    at_one : (i : ℕ) → i < n → (x : Bool) → (i == (place_at places m).element) ≡ x
+        → (if i == (place_at places m).element then Some (joined_to (slice_index_or (map (behind_of places xs) (range_with_len 0 n)) (place_at places m).element None) (place_at places m).behind) else behind_of places xs i)
+        ≡ (if i == (place_at places m).element then Some (joined_to (behind_of places xs i) (place_at places m).behind) else behind_of places xs i)
+    at_one i h true g =
+        let same : i ≡ (place_at places m).element = eqb-true i (place_at places m).element g in
+        rw g (ap (λ (o : Option Next). Some (joined_to o (place_at places m).behind))
+        (ap (λ (k : ℕ). slice_index_or (map (behind_of places xs) (range_with_len 0 n)) k None) (sym same) ∙ at_range (behind_of places xs) 0 n i None h ∙ ap (behind_of places xs) (let z : 0 + i ≡ i = omega arith in z)))
+    at_one i h false g = rw g refl
+
+-- the sets of what may come behind the positions in a set
+pub steps_are : (places : List Position) (flags : List Bool) (n : ℕ) → map (slot_set (length places)) (map (behind_of places (members flags)) (range_with_len 0 n)) ≡ map (step_of places flags) (range_with_len 0 n)
+steps_are places flags n =
+    map_range (slot_set (length places)) (behind_of places (members flags)) 0 n
+    ∙ same_range (λ i. slot_set (length places) (behind_of places (members flags) i)) (step_of places flags) 0 n (λ i low high. go i (names places flags i))
+  where
+    go : (e : ℕ) (x : Bool) → slot_set (length places) (if x then Some (joined (place_at places) e (members flags)) else None) ≡ (if x then Some (set_step places flags e) else None)
+    go e true = refl
+    go e false = refl
+
+-- as the code puts it
+pub put_there : (slots : List (Option Behind)) (place : Place) (old slot left : Option Behind) (b : Behind) → old ≡ slice_index_or slots place.element old → slot ≡ old → next_of b ≡ joined_to (slot_of slot) (next_of place.behind) → place.element < length slots
+    → map slot_of (set (set slots place.element left) place.element (Some b)) ≡ put_behind (map slot_of slots) (position_of place)
+put_there slots place old slot left b at is made within =
+    map-set slot_of (set slots place.element left) place.element (Some b)
+    ∙ ap (λ (xs : List (Option Next)). set xs place.element (Some (next_of b))) (map-set slot_of slots place.element left)
+    ∙ twice (map slot_of slots) place.element (slot_of left) (Some (next_of b))
+    ∙ ap (λ (n : Next). set (map slot_of slots) place.element (Some n)) (made ∙ ap (λ (o : Option Behind). joined_to (slot_of o) (next_of place.behind)) is)
+    ∙ ap (λ (o : Option Next). set (map slot_of slots) place.element (Some (joined_to o (next_of place.behind)))) (sym (seen slots place.element old at within))
+  where
+    twice : (xs : List (Option Next)) (i : ℕ) (x y : Option Next) → set (set xs i x) i y ≡ set xs i y
+    twice [] i x y = refl
+    twice (z ∷ xs) zero x y = refl
+    twice (z ∷ xs) (suc i) x y = ap (λ (ys : List (Option Next)). z ∷ ys) (twice xs i x y)
+
+    seen : (xs : List (Option Behind)) (i : ℕ) (o : Option Behind) → o ≡ slice_index_or xs i o → i < length xs → slice_index_or (map slot_of xs) i None ≡ slot_of o
+    seen [] i o e h = absurd (omega (arith, h))
+    seen (x ∷ xs) zero o e h = ap slot_of (sym e)
+    seen (x ∷ xs) (suc i) o e h = seen xs i o e (omega (arith, h))
+
+-- an element that is not asked for
+pub put_nowhere : (slots : List (Option Behind)) (place : Place) → length slots ≤ place.element → map slot_of slots ≡ put_behind (map slot_of slots) (position_of place)
+put_nowhere slots place h = sym (set_past (map slot_of slots) place.element _ (let l = length-map slots slot_of in omega (arith, l, h)))
+
+-- the plain form of the place at a number
+pub place_is : (places : List Place) (i : ℕ) (place : Place) → i < length places → place ≡ slice_index_or places i place → position_of place ≡ place_at (map position_of places) i
 place_is [] i place h e = absurd (omega (arith, h))
-place_is (p ∷ ps) zero place h e = ap position_of (sym e)
+place_is (p ∷ ps) zero place h e = ap position_of e
 place_is (p ∷ ps) (suc i) place h e = place_is ps i place (omega (arith, h)) e
 
-pub set_past : (xs : List Bool) (i : ℕ) → length xs ≤ i → set xs i true ≡ xs
-set_past [] i h = refl
-set_past (x ∷ xs) zero h = absurd (omega (arith, h))
-set_past (x ∷ xs) (suc i) h = ap (λ (ys : List Bool). x ∷ ys) (set_past xs i (omega (arith, h)))
+-- one member more
+pub gathered_more : (ps : List Position) (ms : List ℕ) (i n : ℕ) (old new : List (Option Next)) (p : Position) → old ≡ map (behind_of ps (take i ms)) (range_with_len 0 n) → p ≡ place_at ps (slice_index_or ms i 0) → new ≡ put_behind old p → i < length ms
+    → new ≡ map (behind_of ps (take (i + 1) ms)) (range_with_len 0 n)
+gathered_more ps ms i n old new p was is put h =
+    put
+    ∙ ap (λ (xs : List (Option Next)). put_behind xs p) was
+    ∙ ap (λ (q : Position). put_behind (map (behind_of ps (take i ms)) (range_with_len 0 n)) q) is
+    ∙ put_more ps (take i ms) (slice_index_or ms i 0) n
+    ∙ ap (λ (xs : List ℕ). map (behind_of ps xs) (range_with_len 0 n)) (sym (take_more ms i 0 h))
 
--- some position from this number on names the element
-abbrev pub named_from : List Position → List Bool → ℕ → ℕ → Bool
-named_from ps flags e i = list_any (λ p. e == (place_at ps p).element) (raised_from i (drop (i + 1) flags))
-
--- what may come behind the element at positions from this number on
-abbrev pub joined_from : List Position → List Bool → ℕ → ℕ → Next
-joined_from ps flags e i = joined (place_at ps) e (raised_from i (drop (i + 1) flags))
-
--- what was found and what is left are all
-pub record Adds (positions : List ℕ) (whole : Bool) (left all : Next) : Type 0 where
-  pub positions_are : positions ++ left.positions ≡ all.positions
-  pub whole_is : (whole || left.whole) ≡ all.whole
-
--- the flags of the positions are raised once these are raised
-pub record Raises (flags : List Bool) (end : Bool) (left : List ℕ) (all : List Bool) : Type 0 where
-  pub others : List Bool
-  pub is : flags ≡ end ∷ others
-  pub raises : raised others left ≡ all
-
-pub named_start : (ps : List Position) (flags : List Bool) (e : ℕ) → named_from ps flags e 0 ≡ names ps flags e
-named_start ps flags e = ap (list_any (λ p. e == (place_at ps p).element)) (sym (members_all flags))
-
-pub named_out : (ps : List Position) (flags : List Bool) (e i : ℕ) (all : Bool) → i + 1 < length flags → get_or flags (i + 1) false ≡ false → named_from ps flags e i ≡ all → named_from ps flags e (i + 1) ≡ all
-named_out ps flags e i all h out was = sym (ap (list_any (λ p. e == (place_at ps p).element)) (flag_out flags i h out)) ∙ was
-
-named_in : (ps : List Position) (flags : List Bool) (e i : ℕ) → i + 1 < length flags → get_or flags (i + 1) false ≡ true → named_from ps flags e i ≡ ((e == (place_at ps i).element) || named_from ps flags e (i + 1))
-named_in ps flags e i h in_set = ap (list_any (λ p. e == (place_at ps p).element)) (flag_in flags i h in_set)
-
-pub named_other : (ps : List Position) (flags : List Bool) (e i : ℕ) (all : Bool) → i + 1 < length flags → get_or flags (i + 1) false ≡ true → (e == (place_at ps i).element) ≡ false → named_from ps flags e i ≡ all → named_from ps flags e (i + 1) ≡ all
-named_other ps flags e i all h in_set other was = sym (named_in ps flags e i h in_set ∙ ap (λ (b : Bool). b || named_from ps flags e (i + 1)) other) ∙ was
-
-pub named_found : (ps : List Position) (flags : List Bool) (e i : ℕ) (all : Bool) → i + 1 < length flags → get_or flags (i + 1) false ≡ true → (e == (place_at ps i).element) ≡ true → named_from ps flags e i ≡ all → true ≡ all
-named_found ps flags e i all h in_set same was = sym (named_in ps flags e i h in_set ∙ ap (λ (b : Bool). b || named_from ps flags e (i + 1)) same) ∙ was
-
-pub named_end : (ps : List Position) (flags : List Bool) (e i : ℕ) (all : Bool) → length flags ≤ i + 1 → named_from ps flags e i ≡ all → false ≡ all
-named_end ps flags e i all h was = sym (ap (list_any (λ p. e == (place_at ps p).element)) (past_end flags i h)) ∙ was
-
-pub joined_start : (ps : List Position) (flags : List Bool) (e : ℕ) → Adds [] false (joined_from ps flags e 0) (joined (place_at ps) e (members flags))
-joined_start ps flags e =
-    let is : joined (place_at ps) e (raised_from 0 (drop 1 flags)) ≡ joined (place_at ps) e (members flags) = ap (joined (place_at ps) e) (sym (members_all flags)) in
-    record { positions_are = ap (λ (n : Next). n.positions) is; whole_is = ap (λ (n : Next). n.whole) is }
-
-pub joined_out : (ps : List Position) (flags : List Bool) (e i : ℕ) (positions : List ℕ) (whole : Bool) (all : Next) → i + 1 < length flags → get_or flags (i + 1) false ≡ false → Adds positions whole (joined_from ps flags e i) all → Adds positions whole (joined_from ps flags e (i + 1)) all
-joined_out ps flags e i positions whole all h out was =
-    subst (λ (qs : List ℕ). Adds positions whole (joined (place_at ps) e qs) all) (flag_out flags i h out) was
-
-pub joined_other : (ps : List Position) (flags : List Bool) (e i : ℕ) (positions : List ℕ) (whole : Bool) (all : Next) → i + 1 < length flags → get_or flags (i + 1) false ≡ true → (e == (place_at ps i).element) ≡ false → Adds positions whole (joined_from ps flags e i) all → Adds positions whole (joined_from ps flags e (i + 1)) all
-joined_other ps flags e i positions whole all h in_set other was =
-    let now : Adds positions whole (joined (place_at ps) e (i ∷ raised_from (i + 1) (drop (i + 1 + 1) flags))) all = subst (λ (qs : List ℕ). Adds positions whole (joined (place_at ps) e qs) all) (flag_in flags i h in_set) was in
-    rw other at now
-
-pub joined_found : (ps : List Position) (flags : List Bool) (e i : ℕ) (positions : List ℕ) (whole : Bool) (all here : Next) → i + 1 < length flags → get_or flags (i + 1) false ≡ true → (e == (place_at ps i).element) ≡ true → (place_at ps i).behind ≡ here → Adds positions whole (joined_from ps flags e i) all → Adds (positions ++ here.positions) (whole || here.whole) (joined_from ps flags e (i + 1)) all
-joined_found ps flags e i positions whole all here h in_set same is was =
-    let now : Adds positions whole (joined (place_at ps) e (i ∷ raised_from (i + 1) (drop (i + 1 + 1) flags))) all = subst (λ (qs : List ℕ). Adds positions whole (joined (place_at ps) e qs) all) (flag_in flags i h in_set) was in
-    let then_here = rw (same, is) at now in
-    let left = joined_from ps flags e (i + 1) in
-    record { positions_are = append_assoc positions here.positions left.positions ∙ then_here.positions_are; whole_is = or_assoc whole here.whole left.whole ∙ then_here.whole_is }
+pub steps_made : (places : List Place) (flags : List Bool) (listed : List ℕ) (n : ℕ) (slots items : List (Option Behind)) (i : ℕ) (sets : List (Option (List Bool))) → sets ≡ map (slot_set (length places)) (map slot_of (take i items)) → length items ≤ i → items ≡ slots
+    → map slot_of slots ≡ map (behind_of (positions_of places) listed) (range_with_len 0 n) → listed ≡ members flags → sets ≡ map (step_of (positions_of places) flags) (range_with_len 0 n)
+steps_made places flags listed n slots items i sets made past same gathered is =
+    made
+    ∙ ap (λ (xs : List (Option Behind)). map (slot_set (length places)) (map slot_of xs)) (take_all i items past ∙ same)
+    ∙ ap (λ (xs : List (Option Next)). map (slot_set (length places)) xs) gathered
+    ∙ ap (λ (xs : List ℕ). map (slot_set (length places)) (map (behind_of (positions_of places) xs) (range_with_len 0 n))) is
+    ∙ ap (λ (k : ℕ). map (slot_set k) (map (behind_of (positions_of places) (members flags)) (range_with_len 0 n))) (sym (length-map places position_of))
+    ∙ steps_are (positions_of places) flags n
   where
-    or_assoc : (a b c : Bool) → ((a || b) || c) ≡ (a || (b || c))
-    or_assoc true b c = refl
-    or_assoc false b c = refl
-
-no_more : (xs : List ℕ) → xs ++ [] ≡ xs
-no_more [] = refl
-no_more (x ∷ xs) = ap (λ (ys : List ℕ). x ∷ ys) (no_more xs)
-
-no_false : (b : Bool) → (b || false) ≡ b
-no_false true = refl
-no_false false = refl
-
-pub joined_end : (ps : List Position) (flags : List Bool) (e i : ℕ) (positions : List ℕ) (whole : Bool) (all : Next) → length flags ≤ i + 1 → Adds positions whole (joined_from ps flags e i) all → (positions ≡ all.positions) × (whole ≡ all.whole)
-joined_end ps flags e i positions whole all h was =
-    let now : Adds positions whole (joined (place_at ps) e []) all = subst (λ (qs : List ℕ). Adds positions whole (joined (place_at ps) e qs) all) (past_end flags i h) was in
-    (sym (no_more positions) ∙ now.positions_are, sym (no_false whole) ∙ now.whole_is)
+    take_all : (k : ℕ) (xs : List (Option Behind)) → length xs ≤ k → take k xs ≡ xs
+    take_all zero [] h = refl
+    take_all (suc k) [] h = refl
+    take_all zero (x ∷ xs) h = absurd (omega (arith, h))
+    take_all (suc k) (x ∷ xs) h = ap (λ (ys : List (Option Behind)). x ∷ ys) (take_all k xs (omega (arith, h)))

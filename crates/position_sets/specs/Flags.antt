@@ -1,9 +1,15 @@
 -- Equality of flags is exact.
 use Rattle.std.specs.Prelude.{◌≡◌, Bool, true, List, [], ◌∷◌, refl}
+use Rattle.std.specs.Hash.{HashWrites, slice, usize}
 use Rattle.std.specs.Bool.{beq}
 use Rattle.std.specs.Cmp.{first_so, second_so}
 use Rattle.std.specs.Cmp.Lexicographic.{pointwise}
 use Rattle.std.proofs.Common.{ap, ◌∙◌, false}
+use Rattle.content_positions.specs.Sets.{members}
+
+-- what is fed to a hasher: the positions in the set
+abbrev pub fed_members : List Bool → HashWrites
+fed_members flags = slice usize (members flags)
 
 exact_flag : (x y : Bool) → beq x y ≡ true → x ≡ y
 exact_flag true true h = refl

@@ -1,32 +1,44 @@
 //! A set of positions.
 
-ghost use Rattle.std.specs.Prelude.{◌≡◌, IfOk};
+ghost use Rattle.std.specs.Prelude.{◌≡◌, ◌&&◌, ◌+◌, ◌∷◌, [], ℕ, true, length, IfOk};
 ghost use Rattle.std.proofs.Common.{rules};
-ghost use Rattle.std.specs.Hash as fed;
 ghost use Rattle.std.specs.Bool.{beq};
 ghost use Rattle.std.specs.Cmp.Rules.{comparing};
 ghost use Rattle.std.specs.Cmp.Lexicographic.{pointwise};
-ghost use Rattle.content_positions.specs.Sets.{has_end};
-ghost use Rattle.position_sets.specs.Flags.{exact_flags, alike};
+ghost use Rattle.content_positions.specs.Sets.{has_end, members, set_of};
+ghost use Rattle.position_sets.specs.Ascending.{Ascends};
+ghost use Rattle.position_sets.specs.Flags.{exact_flags, alike, fed_members};
 
 use std::alloc::Global;
 use std::hash::{Hash, Hasher};
 use std::marker::Model;
 use text_base::{Exact, NoMemory};
 
-/// A set of positions of a content model: a flag for its end, and then one for each position.
-/// Contracts see it as the list of its flags.
+/// A set of positions of a content model. Contracts see it as a list of flags: one for the end
+/// of the model, and then one for each position. It takes memory for its members alone.
 #[derive(Debug, Drop)]
 pub struct Flags {
-    flags: Vec<bool>,
+    end: bool,
+    count: usize,
+    members: Vec<usize>,
 }
 
 impl Model for Flags {
     ghost use Rattle.std.specs.Prelude.{Bool, List};
+    ghost use Rattle.content_positions.specs.Sets.{set_of};
+    ghost use Rattle.position_sets.specs.Ascending.{Ascends};
 
     ghost Value = { List Bool };
 
-    ghost view = { λ f. f.flags.items };
+    ghost view = { λ f. set_of f.count (record { positions = f.members.items; whole = f.end }) };
+
+    ghost invariant = { λ f. Ascends 0 f.count f.members.items };
+}
+
+fn all_three(a: bool, b: bool, c: bool) -> bool
+    ensures { result ≡ ((a && b) && c) }
+{
+    a && b && c
 }
 
 impl PartialEq for Flags {
@@ -35,7 +47,10 @@ impl PartialEq for Flags {
     ghost laws = { Prim.search (comparing, rules) };
 
     fn eq(&self, other: &Flags) -> bool {
-        self.flags.as_slice() == other.flags.as_slice()
+        let same_end = self.end == other.end;
+        let same_count = self.count == other.count;
+        let same_members = self.members.as_slice() == other.members.as_slice();
+        all_three(same_end, same_count, same_members)
     }
 }
 
@@ -44,12 +59,12 @@ impl Eq for Flags {
 }
 
 impl Hash for Flags {
-    ghost hash_input = { fed.slice fed.bool };
+    ghost hash_input = { fed_members };
 
-    ghost respects_eq = { alike (fed.slice fed.bool) };
+    ghost respects_eq = { alike fed_members };
 
     fn hash<H: Hasher>(&self, state: &mut H) {
-        self.flags.hash(state);
+        self.members.as_slice().hash(state);
     }
 }
 
@@ -58,11 +73,27 @@ impl Exact for Flags {
 }
 
 impl Flags {
-    /// The set with these flags.
-    pub fn from_vec(flags: Vec<bool>) -> Flags
-        ensures { result ≡ flags.items }
+    /// The set of these positions of so many, and of the end where it is said.
+    pub(crate) fn new(whole: bool, count: usize, members: Vec<usize>) -> Flags
+        requires { Ascends 0 count members.items }
+        ensures { result ≡ set_of count (record { positions = members.items; whole = whole }) }
     {
-        Flags { flags }
+        Flags {
+            end: whole,
+            count,
+            members,
+        }
+    }
+
+    /// The set of the end alone, of no positions. Takes no memory.
+    pub fn end_alone(alloc: Global) -> Flags
+        ensures { result ≡ true ∷ [] }
+    {
+        Flags {
+            end: true,
+            count: 0,
+            members: Vec::new(alloc),
+        }
     }
 
     /// A second one.
@@ -70,7 +101,9 @@ impl Flags {
         ensures { IfOk result (λ f. f ≡ self.now) }
     {
         Ok(Flags {
-            flags: Vec::from_slice(alloc, self.flags.as_slice())?,
+            end: self.end,
+            count: self.count,
+            members: Vec::from_slice(alloc, self.members.as_slice())?,
         })
     }
 
@@ -78,16 +111,14 @@ impl Flags {
     pub fn has_end(&self) -> bool
         ensures { result ≡ has_end self.now }
     {
-        match self.flags.as_slice() {
-            [] => false,
-            [end, ..] => *end,
-        }
+        self.end
     }
 
-    /// The flags.
-    pub fn as_slice(&self) -> &[bool]
-        ensures { result.now ≡ self.now }
+    /// The positions in the set, ascending.
+    pub fn members(&self) -> &[usize]
+        ensures members { result.now ≡ members self.now }
+        ensures ascends { (n : ℕ) → length self.now ≡ n + 1 → Ascends 0 n result.now }
     {
-        self.flags.as_slice()
+        self.members.as_slice()
     }
 }

@@ -158,7 +158,7 @@ fn push_firsts_of_each(
 }
 
 // A second one.
-fn copied(alloc: Global, next: &Behind) -> Result<Behind, NoMemory>
+pub(crate) fn copied(alloc: Global, next: &Behind) -> Result<Behind, NoMemory>
     ensures { IfOk result (λ b. next_of b ≡ next_of next.now) }
 {
     Ok(Behind {

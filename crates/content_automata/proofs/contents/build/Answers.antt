@@ -1,7 +1,7 @@
 use Rattle.std.proofs.Common.{subst}
 use Rattle.dtd_model.specs.TableOf.{table_of}
 use Rattle.content_automata.specs.Refusals.{IsCause}
-use Rattle.content_automata.proofs.BuildLemmas.{shapes_same, sized_as, table_as, table_decides, table_apart, table_owners, all_begin}
+use Rattle.content_automata.proofs.BuildLemmas.{shapes_same, sized_as, table_as, table_decides, table_apart, table_owners, table_goes, table_reaches, rules_lawful, all_begin}
 use Rattle.content_automata.proofs.contents.build.Goals as goal
 
 pub tabled-requires : goal.tabled-requires
@@ -26,3 +26,11 @@ returns-in-Ok-clause-elements c =
 pub returns-clause-limit : goal.returns-clause-limit
 returns-clause-limit c =
     subst (λ ss. IsCause ss c.in-Err.refusal) (shapes_same _ _ _ _ c.as_slice-2.ensures.value c.in_ok-models.ensures c.as_slice.ensures.value) c.in-Err.ensures.limit
+
+pub returns-in-Ok-clause-goes_on : goal.returns-in-Ok-clause-goes_on
+returns-in-Ok-clause-goes_on c =
+    table_goes (table_of c.args.dtd.now) _ (table_as _ (table_of c.args.dtd.now) _ (shapes_same _ _ _ _ c.as_slice-2.ensures.value c.in_ok-models.ensures c.as_slice.ensures.value) c.in-Ok.ensures.table) (rules_lawful (table_of c.args.dtd.now).elements (table_of c.args.dtd.now).entities c.args.dtd.now.lawful)
+
+pub returns-in-Ok-clause-reached : goal.returns-in-Ok-clause-reached
+returns-in-Ok-clause-reached c =
+    table_reaches (table_of c.args.dtd.now) _ (table_as _ (table_of c.args.dtd.now) _ (shapes_same _ _ _ _ c.as_slice-2.ensures.value c.in_ok-models.ensures c.as_slice.ensures.value) c.in-Ok.ensures.table)
