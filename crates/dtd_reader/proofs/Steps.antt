@@ -1,11 +1,14 @@
 -- From a step of the reading to the answer of the whole.
-use Rattle.std.proofs.Common.{◌≡◌, ◌<◌, ◌≤◌, ◌⊎◌, ℕ, List, sym, ap, subst, inr}
-use Rattle.dtd_texts.specs.Reading.{State, Content, Holds}
-use Rattle.std.specs.Prelude.{Result, Ok, Err}
+use Rattle.std.proofs.Common.{◌≡◌, ◌<◌, ◌≤◌, ◌⊎◌, ℕ, List, [], refl, sym, ap, subst, inl, inr}
+use Rattle.dtd_texts.specs.Reading.{State, Content, Holds, start, Reads, at_end, takes, replaces}
+use Rattle.dtd_texts.specs.Causes.{Meets, here, later, behind, Breaks, Comes}
+use Rattle.dtd_tables.specs.Causes.{FirstRefused, NoneRefused}
+use Rattle.std.specs.Prelude.{Result, Ok, Err, Option, Some, None, MatchOption}
+use Rattle.std.specs.Option.{unwrap_or}
 use Rattle.dtd_entities.specs.declared.state.Reading.{Reading}
 use Rattle.dtd_reader.specs.SoFar.{Position, SoFar}
 use Rattle.dtd_reader.specs.Source.{SourceCall, source_call, IsCalm}
-use Rattle.dtd_reader.specs.Causes.{IsOver, IsReadCause, IsTextCause}
+use Rattle.dtd_reader.specs.Causes.{IsOver, BreaksFirst, IsReadCause, IsTextCause}
 use Rattle.dtd_reader.specs.Answers.{IsAnswer, IsTextAnswer}
 use Rattle.dtd_reader.specs.Views.{Told}
 use Rattle.dtd_reader.specs.declared.limits.TheConstants.{REPLACED_LIMIT}
@@ -19,8 +22,27 @@ pub same_call : (P : SourceCall → Type 0) (k k' : Content) (f f' f'' m m' m'' 
 same_call P k k' f f' f'' m m' m'' a b e p =
     subst (λ x. P (source_call x f f'' m m'')) a (subst (λ x. P (source_call k' x f'' m m'')) b (subst (λ x. P (source_call k' f' f'' x m'')) e p))
 
-pub broke : (call : SourceCall) (file : List ℕ) (old now : Position) → Told call.content file DoesBreak old now → IsCalm call → IsTextCause call file (NotDtd now.state.begun)
-broke call file old now told calm = (told.0 now.state.begun (ap (λ (s : State). s.begun) (sym told.1)), calm)
+-- what is read is come to
+reads_meets : (content : Content) (outer : List (List ℕ)) (s last : State) (text : List ℕ) → Reads content outer s text last → Meets content outer s text outer last []
+reads_meets content outer s _ _ at_end = here
+reads_meets content outer s last _ (takes is rest) = later is (reads_meets content outer _ last _ rest)
+reads_meets content outer s last _ (replaces is shut stands inner rest) = behind is shut stands inner (reads_meets content outer _ last _ rest)
+
+pub read_comes : (content : Content) (file : List ℕ) (last : State) → Reads content [] start file last → Comes content file last
+read_comes content file last reads = record { outer = []; rest = []; meets = reads_meets content [] start last file reads }
+
+comes_to : (content : Content) (file : List ℕ) (p : Position) → SoFar content file p → Comes content file p.state
+comes_to content file p so_far = record { outer = _; rest = p.text; meets = here_met content file p.state p.text p.frames so_far }
+
+-- where the text breaks
+pub broke : (call : SourceCall) (file : List ℕ) (old now : Position) → SoFar call.content file old → Told call.content file DoesBreak old now → Comes call.content file now.state × Breaks call.content file now.state.begun
+broke call file old now so_far told =
+    (subst (λ (s : State). Comes call.content file s) (sym told.1) (comes_to call.content file old so_far), told.0 now.state.begun (ap (λ (s : State). s.begun) (sym told.1)))
+
+-- the first fault
+pub first_is : (content : Content) (file : List ℕ) (s : State) (first : Option ℕ) → Comes content file s → Breaks content file s.begun → MatchOption first (NoneRefused s.written) (FirstRefused s.written) → BreaksFirst content file (unwrap_or first s.begun)
+first_is content file s None comes breaks none = record { state = s; comes = comes; breaks = breaks; first = inr (none, refl) }
+first_is content file s (Some at) comes breaks found = record { state = s; comes = comes; breaks = breaks; first = inl found }
 
 pub omitted : (call : SourceCall) (file : List ℕ) (old now : Position) → Told call.content file DoesOmit old now → IsCalm call → IsTextCause call file (LeftOut now.state.begun)
 omitted call file old now told calm = (told.0 now.state.begun (ap (λ (s : State). s.begun) (sym told.1)), calm)
@@ -28,7 +50,7 @@ omitted call file old now told calm = (told.0 now.state.begun (ap (λ (s : State
 pub over : (content : Content) (file : List ℕ) (p : Position) (count : ℕ) → SoFar content file p → REPLACED_LIMIT < count → (count ≤ p.state.length) ⊎ (count ≤ p.state.references) → IsOver content file count
 over content file p count so_far h many = record {
   state = p.state;
-  comes = record { outer = _; rest = p.text; meets = here_met content file p.state p.text p.frames so_far };
+  comes = comes_to content file p so_far;
   over = h;
   many = many;
 }

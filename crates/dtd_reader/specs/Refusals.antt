@@ -2,14 +2,14 @@
 use Rattle.std.specs.Prelude.{◌≡◌, ◌⊎◌, ℕ, List}
 use Rattle.io_edge.specs.declared.files.FileFault.TheVariants as fault
 use Rattle.dtd_texts.specs.Reading.{State, Content, Written}
-use Rattle.dtd_texts.specs.Causes.{Breaks, Omits, Misses}
+use Rattle.dtd_texts.specs.Causes.{Omits, Misses}
 use Rattle.dtd_texts.specs.Tables.{element_names}
 use Rattle.dtd_texts.specs.Went.{refused, left_out, undeclared}
 use Rattle.dtd_tables.specs.Causes.{StandsTwice, GoesWrong, IsTooMany}
 use Rattle.dtd_tables.specs.declared.refusal.TableRefusal.{TableRefusal}
 use Rattle.dtd_tables.specs.declared.refusal.TableRefusal.TheVariants as table
 use Rattle.dtd_reader.specs.Source.{SourceCall, IsCalm, IsUnread}
-use Rattle.dtd_reader.specs.Causes.{InFile, IsRead, IsOver, IsAskedFor}
+use Rattle.dtd_reader.specs.Causes.{InFile, IsRead, IsOver, IsAskedFor, BreaksFirst}
 use Rattle.dtd_reader.specs.declared.refusal.DtdRefusal.{DtdRefusal}
 use Rattle.dtd_reader.specs.declared.refusal.DtdRefusal.TheVariants.{Missing, ReadFault, TooLong, NotDtd, Entity, Twice, Undeclared, LeftOut, Limit, Memory}
 
@@ -25,7 +25,7 @@ IsCause call name (Missing path) = IsAskedFor call.content name path × IsUnread
 IsCause call name (ReadFault path) = IsAskedFor call.content name path × IsUnread call path fault.Failed
 IsCause call name (TooLong path len) = IsAskedFor call.content name path × IsUnread call path (fault.TooLong len)
 IsCause call name (NotDtd at) =
-    (InFile call.content name (λ file. Breaks call.content file at) ⊎ InDeclarations call.content name (λ written. GoesWrong written at refused)) × IsCalm call
+    (InFile call.content name (λ file. BreaksFirst call.content file at) ⊎ InDeclarations call.content name (λ written. GoesWrong written at refused)) × IsCalm call
 IsCause call name (Entity entity) = InFile call.content name (λ file. Misses call.content file entity) × IsCalm call
 IsCause call name (Twice element) = InDeclarations call.content name (λ written. StandsTwice (element_names written) element) × IsCalm call
 IsCause call name (Undeclared element) = InDeclarations call.content name (λ written. (at : ℕ) × GoesWrong written at (undeclared element)) × IsCalm call

@@ -3,7 +3,7 @@
 ghost use Rattle.std.specs.Prelude.{◌≡◌, ◌≢◌, ◌<◌, ◌≤◌, ◌⊎◌, List, ℕ, [], true, false};
 ghost use Rattle.dtd_texts.specs.Places as places;
 ghost use Rattle.dtd_texts.specs.Reading.{Reads, start};
-ghost use Rattle.dtd_texts.specs.Causes.{Asks};
+ghost use Rattle.dtd_texts.specs.Causes.{Asks, Breaks, Comes};
 ghost use Rattle.dtd_entities.specs.Positions.{state_of};
 ghost use Rattle.dtd_reader.specs.Source.{SourceCall, source_call, IsCalm, IsUnread};
 ghost use Rattle.dtd_reader.specs.Causes.{IsWithinLimits, IsReadCause, IsTextCause};
@@ -15,6 +15,7 @@ use crate::outcome::{Found, Outcome};
 use crate::reader::Reader;
 use crate::refusal::DtdRefusal;
 use dtd_entities::{Mode, Reading};
+use dtd_tables::first_refused;
 use io_edge::{FileFault, Files};
 use std::alloc::Global;
 use text_base::Bytes;
@@ -64,15 +65,28 @@ fn most(reading: &Reading) -> u64
     }
 }
 
+// The first fault of a text that breaks behind these declarations.
+fn first_fault(alloc: Global, reading: &Reading) -> DtdRefusal
+    ensures { (call : SourceCall) (file : List ℕ) → Comes call.content file (state_of reading.now) →
+        Breaks call.content file (state_of reading.now).begun → IsCalm call → IsTextCause call file result }
+{
+    match first_refused(alloc, reading.written.as_slice()) {
+        Ok(first) => DtdRefusal::NotDtd {
+            at: first.unwrap_or(reading.begun),
+        },
+        Err(_) => DtdRefusal::Memory,
+    }
+}
+
 // The end of the text, which is to stand between declarations.
-fn ended(reading: Reading) -> Result<Reading, DtdRefusal>
+fn ended(alloc: Global, reading: Reading) -> Result<Reading, DtdRefusal>
     ensures { (call : SourceCall) (file : List ℕ) → Reads call.content [] start file (state_of reading) →
         IsWithinLimits (state_of reading) → IsCalm call → IsTextAnswer call file result }
 {
     if is_between(&reading) {
         Ok(reading)
     } else {
-        Err(DtdRefusal::NotDtd { at: reading.begun })
+        Err(first_fault(alloc, &reading))
     }
 }
 
@@ -86,12 +100,8 @@ fn read_from<F: Files>(alloc: Global, files: &mut F, text: Bytes) -> Result<Read
     'steps: while is_within_limits(&reader.reading) {
         match reader.advance(alloc, files)? {
             Outcome::Goes => continue 'steps,
-            Outcome::Ends => return ended(reader.reading),
-            Outcome::Breaks => {
-                return Err(DtdRefusal::NotDtd {
-                    at: reader.reading.begun,
-                });
-            }
+            Outcome::Ends => return ended(alloc, reader.reading),
+            Outcome::Breaks => return Err(first_fault(alloc, &reader.reading)),
             Outcome::Omits => {
                 return Err(DtdRefusal::LeftOut {
                     at: reader.reading.begun,
@@ -111,7 +121,8 @@ fn read_from<F: Files>(alloc: Global, files: &mut F, text: Bytes) -> Result<Read
 ///
 /// # Errors
 ///
-/// `Missing`, `ReadFault` and `TooLong` for a file that was not read, `NotDtd`, `Entity` and
+/// `Missing`, `ReadFault` and `TooLong` for a file that was not read, `NotDtd` with the first place
+/// of a fault where the text breaks, `Entity` and
 /// `LeftOut` for what the text breaks, `Limit` where the replaced text has over 4,194,304 bytes or
 /// as many references were replaced, and `Memory`.
 pub fn read_text<F: Files>(alloc: Global, files: &mut F, name: &str) -> Result<Reading, DtdRefusal>

@@ -16,7 +16,8 @@ pub enum DtdRefusal {
     /// The file has over 1,048,576 bytes, at least `len`.
     #[error("a file of the document type definition has {len} bytes or more")]
     TooLong { name: Bytes, len: u64 },
-    /// What begins at this place is no declaration, comment or instruction (XML 1.0, 2.8).
+    /// What begins at this place is no declaration, comment or instruction (XML 1.0, 2.8): the first
+    /// place of which this holds.
     #[error("no document type definition stands at {at}")]
     NotDtd { at: u64 },
     /// A parameter entity of this name is referred to, which is not declared so far, or which is open

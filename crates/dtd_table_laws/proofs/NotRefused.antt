@@ -14,7 +14,7 @@ use Rattle.dtd_texts.proofs.Once.{Replaced, ReadsBy, reads_at}
 use Rattle.dtd_tables.specs.Causes.{StandsTwice, GoesWrong}
 use Rattle.dtd_table_laws.proofs.NothingWrong.{each_says, never_twice}
 use Rattle.dtd_reader.specs.Source.{SourceCall}
-use Rattle.dtd_reader.specs.Causes.{InFile, IsAskedFor}
+use Rattle.dtd_reader.specs.Causes.{InFile, IsAskedFor, BreaksFirst}
 use Rattle.dtd_reader.specs.Refusals.{InDeclarations, IsCause}
 use Rattle.dtd_reader.specs.declared.refusal.DtdRefusal.{DtdRefusal}
 use Rattle.dtd_reader.specs.declared.refusal.DtdRefusal.TheVariants.{Missing, ReadFault, TooLong, NotDtd, Entity, Twice, Undeclared, LeftOut, Limit, Memory}
@@ -96,7 +96,7 @@ for_limits call name table (ReadFault path) told short p calm (asked, why) = cal
 for_limits call name table (TooLong path len) told short p calm (asked, why) =
     let (whole, is) = content_is told p asked in not_long (call.content path) whole len is (short path whole asked is) why.0 why.1
 for_limits call name table (NotDtd at) told short p calm (inl f, free) =
-    no_break (tells told p.held) p.read (in_file {Holding = λ file. Breaks call.content file at} told p f)
+    no_break (tells told p.held) p.read (in_file {Holding = λ file. BreaksFirst call.content file at} told p f).breaks
 for_limits call name table (NotDtd at) told short p calm (inr d, free) =
     not_wrong p.said (in_declarations {Holding = λ written. GoesWrong written at went.refused} told p d) (λ s e. cc)
 for_limits call name table (Entity entity) told short p calm (f, free) =

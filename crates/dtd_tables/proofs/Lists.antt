@@ -61,3 +61,8 @@ take_item xs i x less is = take_more xs i x less ∙ ap (λ y. take i xs ++ y �
 pub length_map : {X Y : Type 0} (f : X → Y) (xs : List X) → length (map f xs) ≡ length xs
 length_map f [] = refl
 length_map f (x ∷ xs) = let h = length_map f xs in omega (arith, h)
+
+pub split_item : {X : Type 0} (xs : List X) (i : ℕ) (x : X) → i < length xs → x ≡ get_or xs i x → xs ≡ take i xs ++ x ∷ drop (i + 1) xs
+split_item [] i x h is = absurd (omega (arith, h))
+split_item (y ∷ ys) zero x h is = ap (λ z. z ∷ ys) (sym is)
+split_item (y ∷ ys) (suc i) x h is = rw add-one (ap (λ (zs : List _). y ∷ zs) (rw add-one at (split_item ys i x (omega (arith, h)) is)))

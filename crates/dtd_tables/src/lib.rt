@@ -10,5 +10,6 @@ mod parts;
 mod refusal;
 mod table;
 
+pub use parts::first_refused;
 pub use refusal::TableRefusal;
 pub use table::table_of;

@@ -95,6 +95,20 @@ fn doubling(alloc: Global, times: u64) -> Result<String, AllocError> {
     Ok(text)
 }
 
+// The same, of which each only names the one before it, by a reference to the character `%`, and
+// then an entity whose value holds the last. No byte is added.
+fn doubling_unseen(alloc: Global, times: u64) -> Result<String, AllocError> {
+    let mut text = String::from_str(alloc, "<!ENTITY % a0 \"\">\n")?;
+    for number in 1..=times {
+        let before = number - 1;
+        text.push_str(format!(in alloc;
+            "<!ENTITY % a{number} \"&#37;a{before};&#37;a{before};\">\n"
+        )?.as_str())?;
+    }
+    text.push_str(format!(in alloc; "<!ENTITY x \"%a{times};\">\n")?.as_str())?;
+    Ok(text)
+}
+
 // The count of the limit that is passed, if one is.
 fn count_of(alloc: Global, text: &str) -> Result<Option<u64>, AllocError> {
     let found = text_outcome(alloc, text.as_bytes())?;
@@ -112,6 +126,62 @@ fn entities_that_double(rt: HostRuntime) -> Result<(), Fail> {
     let many = doubling(rt.alloc(), 23)?;
     let count = count_of(rt.alloc(), many.as_str())?.ok_or("a limit")?;
     assert!(rt; count > 4_194_304);
+    Ok(())
+}
+
+// 8,191 references are replaced, none of which adds a byte.
+#[test]
+fn entities_that_double_unseen(rt: HostRuntime) -> Result<(), Fail> {
+    let text = doubling_unseen(rt.alloc(), 12)?;
+    assert!(rt; comes_to(rt.alloc(), text.as_str(), "Ok &x")?);
+    Ok(())
+}
+
+// So many elements, and so many attribute lists that declare nothing (XML 1.0, 3.3).
+#[test]
+fn many_declarations(rt: HostRuntime) -> Result<(), Fail> {
+    let mut text = elements(rt.alloc(), 1024)?;
+    for _ in 0..60_000 {
+        text.push_str("<!ATTLIST e7>")?;
+    }
+    assert!(rt; comes_to(rt.alloc(), text.as_str(), "Ok")?);
+    Ok(())
+}
+
+// Whether the text, cut behind each number of bytes from the first to the last in the row, comes to
+// what the row says.
+fn cuts_are_so(alloc: Global, text: &str, row: &str) -> Result<bool, AllocError> {
+    let Some((first, more)) = row.split_once(" ") else {
+        return Ok(false);
+    };
+    let Some((last, expected)) = more.split_once(" ") else {
+        return Ok(false);
+    };
+    let (Ok(first), Ok(last)) = (first.parse::<usize>(), last.parse::<usize>()) else {
+        return Ok(false);
+    };
+    for length in first..=last {
+        match text.get(..length) {
+            None => return Ok(false),
+            Some(front) => {
+                if !comes_to(alloc, front, expected)? {
+                    return Ok(false);
+                }
+            }
+        }
+    }
+    Ok(true)
+}
+
+// The declarations begin at 0, 18 and 37 and end at 17, 36 and 61, the comment at 62 and 72.
+#[test]
+fn a_small_text_cut_at_each_byte(rt: HostRuntime) -> Result<(), Fail> {
+    let text = "<!ELEMENT a (b)*>\n<!ELEMENT b EMPTY>\n<!ATTLIST b x CDATA 'y'>\n<!-- c -->\n";
+    let rows =
+        "0 0 Ok\n1 16 NotDtd 0\n17 18 Undeclared b\n19 35 NotDtd 18\n36 37 Ok\n38 60 NotDtd 37\n61 62 Ok\n63 71 NotDtd 62\n72 73 Ok";
+    for row in rows.lines() {
+        assert!(rt; cuts_are_so(rt.alloc(), text, row)?, "{row}");
+    }
     Ok(())
 }
 

@@ -5,7 +5,7 @@ use Rattle.dtd_reader.specs.Source.{SourceCall, source_call}
 use Rattle.dtd_reader.specs.Causes.{IsWithinLimits, IsTextCause}
 use Rattle.dtd_reader.specs.Answers.{IsTextAnswer}
 use Rattle.dtd_reader.specs.Views.{position_of, Told, OutcomeCounts}
-use Rattle.dtd_reader.specs.declared.refusal.DtdRefusal.TheVariants.{NotDtd, LeftOut, Entity}
+use Rattle.dtd_reader.specs.declared.refusal.DtdRefusal.TheVariants.{LeftOut, Entity}
 use Rattle.dtd_reader.proofs.Steps.{same_call, broke, omitted, over}
 use Rattle.dtd_reader.proofs.reading.read_from.Goals as goal
 
@@ -29,8 +29,9 @@ returns-in-Breaks-clause-answer g c =
     let so_far = subst (λ k. SoFar k c.args.text (position_of at.reader)) (sym at.invariant.1) at.invariant.0 in
     let told = subst (λ o. Told call.content c.args.text o (position_of at.reader) (position_of c.advance.new.self)) c.in-Breaks.is (c.in_ok-advance.ensures.told c.args.text so_far) in
     let counts = subst (λ o. OutcomeCounts call o) c.in-Breaks.is c.in_ok-advance.ensures.counted in
-    same_call (λ x. IsTextCause x c.args.text (NotDtd c.advance.new.self.reading.begun)) _ _ _ _ _ _ _ _ at.invariant.1 at.invariant.2 at.invariant.3
-    (broke call c.args.text (position_of at.reader) (position_of c.advance.new.self) told counts)
+    let broken = broke call c.args.text (position_of at.reader) (position_of c.advance.new.self) so_far told in
+    same_call (λ x. IsTextCause x c.args.text c.first_fault.result) _ _ _ _ _ _ _ _ at.invariant.1 at.invariant.2 at.invariant.3
+    (c.first_fault.ensures call c.args.text broken.0 broken.1 counts)
 
 pub returns-in-Omits-clause-answer : goal.returns-in-Omits-clause-answer
 returns-in-Omits-clause-answer g c =

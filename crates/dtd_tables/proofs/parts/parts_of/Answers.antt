@@ -12,5 +12,5 @@ loop-one-preserved c =
 
 pub returns-in-Err-clause-refused : goal.returns-in-Err-clause-refused
 returns-in-Err-clause-refused c =
-    wrong_at c.args.names.now c.args.written.now c.loop-one.one-index c.one-item.result c.in-Err.fault c.refusal_of.result c.loop-one-test.true c.one-item.is c.requires.names c.requires.once
+    wrong_at c.args.names.now c.args.written.now c.loop-one.one-index c.one-item.result c.in-Err.fault c.refusal_of.result c.loop-one.parts c.loop-one-test.true c.one-item.is c.requires.names c.requires.once c.loop-one.invariant
     (subst (λ t. WentWrong c.in-Err.fault (said c.args.names.now t)) c.as_slice.ensures c.in-Err.ensures) c.refusal_of.ensures
