@@ -1,0 +1,3 @@
+mod Begun
+pub mod Encoding
+mod Examples

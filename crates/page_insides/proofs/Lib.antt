@@ -1,0 +1,4 @@
+pub mod Settled
+pub mod Stepping
+pub mod Leaves
+pub mod References

@@ -1,0 +1,4 @@
+mod Bodies
+mod Forward
+mod Backward
+pub mod All

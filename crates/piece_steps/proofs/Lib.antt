@@ -1,0 +1,5 @@
+pub mod Outcomes
+pub mod Whole
+pub mod States
+pub mod Narrowed
+pub mod Within

@@ -1,0 +1,4 @@
+pub mod Languages
+pub mod Readers
+pub mod Reads
+pub mod Insides

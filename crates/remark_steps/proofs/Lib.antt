@@ -1,0 +1,4 @@
+mod Tests
+pub mod Comments
+pub mod Sections
+pub mod Instructions

@@ -1,0 +1,2 @@
+pub mod EndTags
+pub mod StartTags

@@ -1,0 +1,2 @@
+mod Reserved
+pub mod Targets
