@@ -1,0 +1,80 @@
+//! Scripts, with the kinds of their points.
+
+use crate::points::put_functions;
+use flow_code::FlowProgram;
+use io_edge::MemFiles;
+use php_program::Program;
+use program_loader::load;
+use program_lowering::lower;
+use std::alloc::{AllocError, Global};
+use std::test::Fail;
+use text_base::{Bytes, NoMemory};
+
+// A source of `t.php` with this text.
+fn script(alloc: Global, text: &str) -> Result<MemFiles, NoMemory> {
+    let mut held = Vec::new(alloc);
+    let name = Bytes::from_slice(alloc, b"t.php")?;
+    let text = Bytes::from_slice(alloc, text.as_bytes())?;
+    held.push((name, text))?;
+    Ok(MemFiles::new(held, Vec::new(alloc)))
+}
+
+// The program of a source.
+fn loaded(alloc: Global, source: &mut MemFiles) -> Option<Program> {
+    load(alloc, source, "t.php").ok()
+}
+
+// The points of a program.
+fn lowered(alloc: Global, program: &Program) -> Option<FlowProgram> {
+    lower(alloc, program).ok()
+}
+
+// The points of the script of a source.
+fn points_of(alloc: Global, source: &mut MemFiles) -> Option<FlowProgram> {
+    let program = loaded(alloc, source)?;
+    lowered(alloc, &program)
+}
+
+// The kinds of points of a program.
+fn kinds_of(alloc: Global, flow: &FlowProgram) -> Result<String, AllocError> {
+    let mut out = String::new(alloc);
+    put_functions(&mut out, flow.functions.as_slice())?;
+    Ok(out)
+}
+
+// Whether the points of a script are of these kinds.
+fn has_kinds(alloc: Global, text: &str, kinds: &str) -> Result<bool, NoMemory> {
+    let mut source = script(alloc, text)?;
+    match points_of(alloc, &mut source) {
+        None => Ok(false),
+        Some(flow) => {
+            let found = kinds_of(alloc, &flow)?;
+            Ok(found.as_str() == kinds)
+        }
+    }
+}
+
+#[test]
+fn statements(rt: HostRuntime) -> Result<(), Fail> {
+    for (text, kinds) in [
+        ("<?php echo 'a';", "sesr "),
+        ("a<?php echo 1, 'b';", "psesesr "),
+        ("<?php while (isset($_GET['a'])) {}", "sssbjsr "),
+        (
+            "<?php for ($i = 0; $i < 3; $i++) { echo $i; }",
+            "sssssbsessjsr ",
+        ),
+        ("<?php echo $x ?? 2;", "ssbsssesr "),
+        ("<?php foreach ($a as $k=>$v) {}", "swnkvjsr "),
+        (
+            "<?php while ($x) { while ($y) { break; } continue; }",
+            "sbsbjjjjsr ",
+        ),
+        ("<?php function f($a, $b = 'c') {} f(5);", "sscsr sr "),
+        ("<?php function f() { exit('a'); } echo f();", "cesr sqsr "),
+        ("<?php function f($a) { echo $a; }", "sr sesr "),
+    ] {
+        assert!(rt; has_kinds(rt.alloc(), text, kinds)?, "{text}");
+    }
+    Ok(())
+}
