@@ -1,0 +1,11 @@
+pub mod KeyLemmas
+pub mod ListLemmas
+pub mod Meetings
+pub mod SourceLaws
+pub mod MemberLaws
+pub mod ArrayLaws
+pub mod PutLaws
+pub mod ValueLaws
+pub mod WorkLaws
+pub mod PrintLaws
+mod Examples

@@ -1,0 +1,63 @@
+-- What stands for a slot at a point.
+use Rattle.std.specs.Prelude.{ℕ, suc, Bool, true, false, if◌then◌else◌, List, [], ◌∷◌, Option, Some, None, slice_get}
+use Rattle.plain_values.specs.Plain.{PlainKey}
+use Rattle.plain_values.specs.Keys.{same_key}
+use Rattle.flow_code.specs.Points.{PlainKeyRef}
+use Rattle.least_sets.specs.Forms.{Form, same_form}
+use Rattle.loose_sets.specs.Keys.{literal_key, may_be}
+use Rattle.slot_versions.specs.Versions.{PlainVersion}
+use Rattle.set_names.specs.declared.name.SetVersion.{SetVersion}
+use Rattle.set_names.specs.Versions.{version_seen}
+use Rattle.set_names.specs.declared.name.Half.{Half}
+use Rattle.set_names.specs.declared.name.Aspect.{Aspect}
+use Rattle.set_names.specs.declared.name.Aspect.TheVariants.{Member, Others}
+use Rattle.set_names.specs.declared.name.SetName.{SetName}
+use Rattle.set_names.specs.declared.name.SetName.TheVariants.{Value, Members}
+
+-- the version of a slot at a point: first the point, then the slot
+abbrev pub At : Type 0
+At = ℕ → ℕ → SetVersion
+
+abbrev pub seen_at : At → ℕ → ℕ → PlainVersion
+seen_at at p x = version_seen (at p x)
+
+-- each text of the value of a slot at a point
+abbrev pub used : At → ℕ → Aspect → ℕ → Form SetName
+used at p b x = same_form (Value b (at p x))
+
+-- each text of all members of it
+abbrev pub all_used : At → ℕ → Half → ℕ → Form SetName
+all_used at p h x = same_form (Members h (at p x))
+
+-- the forms, where the test holds
+unfoldable pub where_so : {A : Type 0} → Bool → List A → List A
+where_so true xs = xs
+where_so false xs = []
+
+-- a test of the key of a number among those that are told apart; of no key it does not hold
+unfoldable pub of_told : (PlainKey → Bool) → Option PlainKey → Bool
+of_told test None = false
+of_told test (Some c) = test c
+
+-- a written key, or the key that comes next, may be the one of this number
+unfoldable pub may_be_at : List PlainKey → Option PlainKeyRef → ℕ → Bool
+may_be_at told k i = of_told (may_be k) (slice_get told i)
+
+-- the number of a key among those that are told apart
+unfoldable pub number_from : ℕ → PlainKey → List PlainKey → Option ℕ
+number_from n c [] = None
+number_from n c (k ∷ ks) = if same_key c k then Some n else number_from (suc n) c ks
+
+abbrev pub in_member : Half → Option ℕ → Aspect
+in_member h None = Others h
+in_member h (Some i) = Member i h
+
+-- a member under a key: of the member of this key where it is told apart, of the other members where it is another literal, and of all members
+-- where it is no literal
+abbrev pub member_under : List PlainKey → Half → SetVersion → Option PlainKey → SetName
+member_under told h v None = Members h v
+member_under told h v (Some c) = Value (in_member h (number_from 0 c told)) v
+
+unfoldable pub member_name : List PlainKey → At → ℕ → Half → PlainKeyRef → ℕ → SetName
+unfolding literal_key number_from
+member_name told at p h k x = member_under told h (at p x) (literal_key k)

@@ -1,0 +1,4 @@
+pub mod Forms
+pub mod Versions
+pub mod Stands
+pub mod Exactness

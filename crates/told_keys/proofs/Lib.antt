@@ -1,0 +1,2 @@
+pub mod CollectLemmas
+mod Examples

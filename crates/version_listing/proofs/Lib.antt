@@ -1,0 +1,5 @@
+pub mod Plain
+pub mod Reading
+pub mod Calls
+pub mod Points
+mod Examples
