@@ -1,0 +1,9 @@
+mod Characters
+mod ListLemmas
+mod Means
+mod Sound
+mod Complete
+mod Live
+mod Lists
+mod Closed
+mod Examples

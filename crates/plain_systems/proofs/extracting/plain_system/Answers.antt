@@ -1,0 +1,14 @@
+use Rattle.set_tables.specs.Forms.{cells_of}
+use Rattle.set_tables.specs.Given.{closed_of}
+use Rattle.plain_systems.proofs.PlainLemmas.{has_sets, has_cycles}
+use Rattle.plain_systems.proofs.extracting.plain_system.Goals as goal
+
+pub returns-clause-sets : goal.returns-clause-sets
+returns-clause-sets c =
+    let s = c.in_ok-system.system in
+    has_sets (cells_of c.args.table.now.rows.items) (closed_of c.in_ok-given.given) c.args.table.now.count s.grammar.count s.grammar.productions.items s.ops.items c.in_ok-system.ensures.sets c.in_ok-given.ensures.closed
+
+pub returns-clause-cycles : goal.returns-clause-cycles
+returns-clause-cycles c =
+    let s = c.in_ok-system.system in
+    has_cycles (cells_of c.args.table.now.rows.items) (closed_of c.in_ok-given.given) c.args.table.now.count s.grammar.count s.grammar.productions.items s.ops.items c.in_ok-system.ensures.sets c.in_ok-given.ensures.closed

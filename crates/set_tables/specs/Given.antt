@@ -1,0 +1,6 @@
+-- The texts that are given, as a closed grammar of set_systems.
+use Rattle.set_systems.specs.Parts.{Closed}
+use Rattle.set_tables.specs.declared.given.GivenTexts.{GivenTexts}
+
+abbrev pub closed_of : GivenTexts → Closed
+closed_of given = record { productions = given.grammar.productions.items; request = given.grammar.start.0; integer = given.integer.0 }

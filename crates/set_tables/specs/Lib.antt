@@ -1,0 +1,4 @@
+pub mod Forms
+pub mod Below
+pub mod Given
+pub mod Size

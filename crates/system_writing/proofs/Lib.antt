@@ -1,0 +1,8 @@
+mod BeginLemmas
+mod FinishLemmas
+mod EndSteps
+mod RowSteps
+mod RowAnswers
+mod WriteLemmas
+pub mod Same
+mod Examples

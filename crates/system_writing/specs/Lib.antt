@@ -1,0 +1,5 @@
+pub mod Drafts
+pub mod Steps
+pub mod Moved
+pub mod Rights
+pub mod Written
