@@ -1,0 +1,6 @@
+pub mod ListLemmas
+pub mod GainLemmas
+pub mod GrowLemmas
+pub mod UseLemmas
+pub mod WorkLemmas
+pub mod OpLemmas

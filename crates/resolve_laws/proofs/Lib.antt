@@ -1,0 +1,7 @@
+pub mod LetterLemmas
+pub mod MovedLemmas
+pub mod AnyLemmas
+pub mod DraftLemmas
+pub mod CompleteLemmas
+pub mod MachineLemmas
+pub mod StepLemmas

@@ -1,0 +1,47 @@
+-- The laws of drafts.
+use Rattle.std.specs.Prelude.{◌≡◌, ◌<◌, ◌≤◌, ◌+◌, ◌↔◌, ℕ, Bool, List, Some, slice_get, Contains}
+use Rattle.text_base.specs.declared.numbers.Nt as nt
+use Rattle.text_base.specs.declared.letter.Letter.{Letter}
+use Rattle.text_base.specs.ByteSet.{Has}
+use Rattle.cfg_grammar.specs.declared.symbol.Symbol.TheVariants.{Nt}
+use Rattle.cfg_grammar.specs.declared.production.Production.{Production}
+use Rattle.cfg_grammar.specs.declared.grammar.Grammar.{Grammar}
+use Rattle.cfg_grammar.specs.Derives.{Derives}
+use Rattle.op_system.specs.Rel.{Rel}
+use Rattle.op_system.specs.Size.{size_of}
+use Rattle.op_system.specs.declared.system.OpRule.{OpRule}
+use Rattle.op_system.specs.declared.system.OpSystem.{OpSystem}
+use Rattle.fst_core.specs.Tables.{TableStep, TableStop}
+use Rattle.fst_core.specs.declared.table.Table.{Table}
+use Rattle.string_ops.specs.Listed.{IsMachine}
+use Rattle.image_meaning.specs.Outputs.{Outputs}
+use Rattle.op_cycles.specs.Texts.{ByteOf}
+use Rattle.op_cycles.specs.Cycles.{AreNumbers, IsInCycle}
+use Rattle.system_bytes.specs.Bytes.{HasBytes}
+use Rattle.resolve_laws.specs.Resolved.{AreExact}
+use Rattle.resolve_laws.specs.Drafts.{IsDraft, IsDone, IsReady, AddsAny, AddsImage}
+
+abbrev pub SystemIsDraft : OpSystem → Type 0
+SystemIsDraft s = IsDraft s s.grammar.productions.items s.grammar.count
+
+abbrev pub AnyIsDone : OpSystem → Type 0
+AnyIsDone s = (ps after : List Production) (count : ℕ) (rule : OpRule) (set : List Bool) → HasBytes s → IsDraft s ps count → Contains s.ops.items rule → IsInCycle s rule
+    → ((b : ℕ) → b < 256 → Has set b ↔ ByteOf s (Nt rule.left) b) → AddsAny ps rule.left (record { 0 = count }) set after
+    → IsDraft s after (count + 1) × IsDone s after rule
+
+-- the grammar's sentences are what the machine may put out over the texts of the operand
+abbrev pub IsImage : List Production → nt.Nt → Table → Grammar → Type 0
+IsImage ps operand table image = (w : List Letter) → Derives image.productions.items (Nt image.start) w
+    ↔ Outputs ps (Nt operand) table.start (TableStep table.moves.items) (TableStop table.ends.items) w
+
+abbrev pub ImageIsDone : OpSystem → Type 0
+ImageIsDone s = (ps after : List Production) (count : ℕ) (rule : OpRule) (numbers : List ℕ) (k : ℕ) (table : Table) (image : Grammar) → HasBytes s → IsDraft s ps count → Contains s.ops.items rule → (IsInCycle s rule → ⊥)
+    → AreNumbers s numbers → slice_get numbers rule.left.0 ≡ Some k → IsReady s numbers ps k → IsMachine table (size_of rule.op) (Rel rule.op) → IsImage ps rule.operand table image → AddsImage ps rule.left count image after
+    → IsDraft s after (count + image.count) × IsDone s after rule
+
+abbrev pub OperandIsExact : OpSystem → Type 0
+OperandIsExact s = (ps : List Production) (count : ℕ) (rule : OpRule) (numbers : List ℕ) (k : ℕ) → IsDraft s ps count → Contains s.ops.items rule → (IsInCycle s rule → ⊥)
+    → AreNumbers s numbers → slice_get numbers rule.left.0 ≡ Some k → IsReady s numbers ps k → AreExact s ps (Nt rule.operand)
+
+abbrev pub StartIsExact : OpSystem → Type 0
+StartIsExact s = (ps : List Production) (count : ℕ) → IsDraft s ps count → ((rule : OpRule) → Contains s.ops.items rule → IsDone s ps rule) → (a : nt.Nt) → a.0 < s.grammar.count → AreExact s ps (Nt a)

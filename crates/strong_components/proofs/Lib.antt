@@ -1,0 +1,6 @@
+pub mod ListLemmas
+pub mod ReachLemmas
+pub mod PassLemmas
+pub mod OpenLemmas
+pub mod CloseLemmas
+pub mod LabelLemmas
