@@ -1,0 +1,84 @@
+-- What words ask for: a command with the values of its arguments, or nothing.
+use Rattle.std.specs.Prelude.{◌≡◌, ◌⊎◌, [], ◌+◌, ◌*◌, ◌-◌, ◌==◌, ◌&&◌, ◌≤◌, ℕ, List, Bool, true, false, not, Option, None, Some, fold, length, nat_lt, if◌then◌else◌, option_map, option_and_then, unwrap_or, codes}
+use Rattle.std.specs.List.{list_all}
+use Rattle.std.specs.Str.Parse.{digits_value}
+use Rattle.std.specs.Str.{bytes_eq}
+use Rattle.clap.specs.Words.{Row, Text, fault_of, first_of, subcommand_of, takes}
+use Rattle.command_words.specs.Program.{phpsa}
+
+-- a command, with the file or the number that it is for; a document type and limits that are left out are `strict`, 10,000 and 10,000,000
+pub data Asked : Type 0 where
+  check : (file definition : Text) (limit : ℕ) (by_nesting as_json : Bool) → Asked
+  run : (file : Text) (request : Option Text) (steps : ℕ) → Asked
+  page : (file definition : Text) → Asked
+  grammar : (file : Text) → Asked
+  make : (functions : ℕ) (is_checked : Bool) → Asked
+
+-- what words say of each argument, by its name
+abbrev pub Values : Type 0
+Values = Text → Option Text
+
+abbrev pub is_digit : ℕ → Bool
+is_digit byte = nat_lt 47 byte && nat_lt byte 58
+
+-- a number is one to eight decimal digits that are not all 0
+abbrev pub number_of : Text → Option ℕ
+number_of text =
+    if nat_lt (length text) 9 && list_all is_digit text && nat_lt 0 (digits_value 10 text) then Some (digits_value 10 text) else None
+
+-- the number of an option, or the one that is meant where it is left out
+abbrev pub number_or : ℕ → Option Text → Option ℕ
+number_or usual None = Some usual
+number_or usual (Some text) = number_of text
+
+-- a flag is given
+abbrev pub is_given : Option Text → Bool
+is_given None = false
+is_given (Some text) = bytes_eq text (codes "true")
+
+abbrev pub definition_of : Values → Text
+definition_of values = unwrap_or (values (codes "dtd")) (codes "strict")
+
+abbrev pub asked_check : Values → Option Asked
+asked_check values = option_and_then (λ file. option_map
+    (λ limit. check file (definition_of values) limit (is_given (values (codes "nesting"))) (is_given (values (codes "json"))))
+    (number_or 10000 (values (codes "limit")))) (values (codes "FILE"))
+
+abbrev pub asked_run : Values → Option Asked
+asked_run values = option_and_then (λ file. option_map (run file (values (codes "request")))
+    (number_or 10000000 (values (codes "steps")))) (values (codes "FILE"))
+
+abbrev pub asked_page : Values → Option Asked
+asked_page values = option_map (λ file. page file (definition_of values)) (values (codes "FILE"))
+
+abbrev pub asked_grammar : Values → Option Asked
+asked_grammar values = option_map grammar (values (codes "FILE"))
+
+abbrev pub asked_make : Values → Option Asked
+asked_make values = option_map (λ functions. make functions (is_given (values (codes "check"))))
+    (option_and_then number_of (values (codes "N")))
+
+-- what the command of this name asks for
+abbrev pub asked_by : Text → Values → Option Asked
+asked_by name values =
+    if bytes_eq name (codes "check") then asked_check values
+    else (if bytes_eq name (codes "run") then asked_run values
+    else (if bytes_eq name (codes "page") then asked_page values
+    else (if bytes_eq name (codes "grammar") then asked_grammar values
+    else (if bytes_eq name (codes "make") then asked_make values else None))))
+
+-- what stands in the rows that `clap` makes of words
+abbrev pub values_of : List Row → Values
+values_of rows name = first_of name rows
+
+-- what words ask for, where they are taken
+abbrev pub asked : List Text → Option Asked
+asked words = option_and_then (λ found. asked_by found.0 (values_of found.1)) (subcommand_of phpsa words)
+
+-- `clap` finds no fault in the words, and each number in them is one
+abbrev pub Asks : List Text → Asked → Type 0
+Asks words for = (fault_of phpsa words ≡ []) × (asked words ≡ Some for)
+
+-- `clap` does not take the words, or a number in them is none
+abbrev pub AsksNothing : List Text → Type 0
+AsksNothing words = (takes phpsa words ≡ false) ⊎ (asked words ≡ None)

@@ -1,0 +1,4 @@
+pub mod Program
+pub mod Asked
+pub mod Canonical
+pub mod Views

@@ -1,0 +1,35 @@
+//! What words ask for.
+
+/// A command with the values of its arguments.
+#[derive(Clone, Copy, Debug, PartialEq, Eq)]
+pub enum CommandLine<'a> {
+    /// Decides a script: by the definition of this name, with at most so many pairs of one nonterminal, by nesting alone where
+    /// that is asked for, and the answer as JSON where that is.
+    Check {
+        file: &'a str,
+        definition: &'a str,
+        limit: u32,
+        by_nesting: bool,
+        as_json: bool,
+    },
+    /// Runs a script for the request in a file, or for the empty one, with so many units.
+    Run {
+        file: &'a str,
+        request: Option<&'a str>,
+        steps: u32,
+    },
+    /// Says of a page whether it is valid by the definition of this name.
+    Page {
+        file: &'a str,
+        definition: &'a str,
+    },
+    /// Writes the grammar of the pages of a script.
+    Grammar {
+        file: &'a str,
+    },
+    /// Writes a generated script with so many functions, or checks it.
+    Make {
+        functions: u32,
+        is_checked: bool,
+    },
+}

@@ -1,0 +1,45 @@
+//! The words of the command line, read with `clap`: `read_words` says what they ask for. Its contract cites `Asks` of specs/Asked.antt;
+//! that words in the forms of the documents are taken, whatever their order, are the laws of `laws`. It stands on `clap` alone.
+#![tactic(auto)]
+
+mod builder;
+mod command_line;
+pub mod laws;
+mod numbers;
+mod refusal;
+#[cfg(test)]
+mod tests;
+mod values;
+
+ghost use Rattle.std.specs.Prelude.{◌≡◌, IfOk, IfErr, map, string_bytes};
+ghost use Rattle.command_words.specs.Asked.{Asks, AsksNothing};
+ghost use Rattle.command_words.specs.Views.{asked_as};
+ghost use Rattle.command_words.specs.declared.refusal.WordsRefusal.TheVariants.{Usage};
+
+use builder::matches_of;
+pub use command_line::CommandLine;
+pub use refusal::WordsRefusal;
+use std::alloc::Global;
+use values::line_by;
+
+/// What the words after the program's name ask for.
+///
+/// A command stands first, and after it its file or number, once, and any of its options, each at most once, in any order; an option's value stands after `=` or as
+/// the next word. `docs/command-line.md` lists them.
+///
+/// # Errors
+///
+/// `Usage` only where `clap` does not take the words, or a number in them is not one to eight decimal digits that are not all 0; and `Memory`.
+pub fn read_words<'a>(alloc: Global, words: &'a [String]) -> Result<CommandLine<'a>, WordsRefusal>
+    ensures ok { IfOk result (λ line. Asks (map string_bytes words.entry.now) (asked_as line)) }
+    ensures usage { IfErr result (λ refusal. refusal ≡ Usage → AsksNothing (map string_bytes words.entry.now)) }
+{
+    let matches = matches_of(alloc, words)?;
+    let Some((name, found)) = matches.subcommand() else {
+        return Err(WordsRefusal::Usage);
+    };
+    match line_by(name, found) {
+        None => Err(WordsRefusal::Usage),
+        Some(line) => Ok(line),
+    }
+}
