@@ -1,4 +1,4 @@
-//! Tests of `phpsa_main` on files and outputs in memory: answers by each document type, refusals and their texts, and
+//! Tests of `phpsa_main` on files and outputs in memory: answers by each document type and over includes, refusals and their texts, and
 //! outputs of every room.
 #![tactic(auto)]
 
@@ -6,6 +6,8 @@
 mod definitions;
 #[cfg(test)]
 mod ending;
+#[cfg(test)]
+mod programs;
 #[cfg(test)]
 mod strict;
 #[cfg(test)]

@@ -1,29 +1,15 @@
 -- The definitions on worked examples and near misses.
-use Rattle.std.proofs.Common.{◌≡◌, ℕ, true, false, List, [], ◌++◌, refl, ap, ◌∙◌, inl, inr}
-use Rattle.std.specs.Prelude.{codes, pos}
+use Rattle.std.proofs.Common.{◌≡◌, ℕ, false, List, [], ◌++◌, refl, ap, ◌∙◌, inl, inr}
+use Rattle.std.specs.Prelude.{codes}
 use Rattle.std.specs.List.{list_all}
 use Rattle.php_syntax.specs.Trees.{PlainExpr, PlainStmt, PlainStmts, PlainFile, text_expr, no_exprs, more_exprs, inline_stmt, echo_stmt, if_stmt, no_stmts, more_stmts, no_arms, more_arms}
 use Rattle.std.specs.Char.{is_ascii_alphabetic}
-use Rattle.first_form.specs.Requests.{Request, Members, text_key, int_key, text_member, array_member, no_members, more_members, has_name}
-use Rattle.first_form.specs.Meaning.{Meaning, Ended, Spent, statement_run, texts_of, outcome_of}
-use Rattle.first_form.specs.Loose.{Loose, LooseStatement}
+use Rattle.first_form.specs.Loose.{texts_of, Loose, LooseStatement}
 use Rattle.first_form.specs.FirstTree.{is_set, IsSetTest, IsStraightStatement, IsBranch, IsFirstBody, IsFirstTree}
 
 -- letters
 digits_are_no_letters : list_all is_ascii_alphabetic (codes "q1") ≡ false
 digits_are_no_letters = refl
-
--- names that are set: a member under the name itself, be it an array, and none under another name or a number
-some_members : Members
-some_members = more_members (int_key (pos 0)) (text_member (codes "x")) (more_members (text_key (codes "name")) (array_member no_members) no_members)
-
-name_is_set : has_name (codes "name") some_members ≡ true
-unfolding some_members
-name_is_set = refl
-
-other_is_not : has_name (codes "Name") some_members ≡ false
-unfolding some_members
-other_is_not = refl
 
 -- p<?php if (isset($_GET['name'])) { echo 'y'; } else { echo 'n'; }
 abbrev echo_one : List ℕ → PlainStmt
@@ -37,25 +23,6 @@ choice_on key = if_stmt (more_arms (is_set key) (one_stmt (echo_one (codes "y"))
 
 choice : PlainFile
 choice = record { body_of = more_stmts (inline_stmt (codes "p")) (one_stmt (choice_on (codes "name"))); functions_of = [] }
-
-asked : Request
-asked = record { get = some_members; post = no_members; cookie = no_members; request = no_members; server = no_members }
-
-not_asked : Request
-not_asked = record { get = no_members; post = some_members; cookie = no_members; request = no_members; server = no_members }
-
--- three statements take three units
-set_name_prints_the_first_arm : Meaning choice asked 3 (codes "py") Ended
-unfolding choice asked some_members Meaning statement_run outcome_of
-set_name_prints_the_first_arm = refl
-
-other_array_does_not_count : Meaning choice not_asked 3 (codes "pn") Ended
-unfolding choice not_asked Meaning statement_run outcome_of
-other_array_does_not_count = refl
-
-two_units_are_spent : Meaning choice asked 2 (codes "p") Spent
-unfolding choice asked some_members Meaning statement_run outcome_of
-two_units_are_spent = refl
 
 -- either arm gives a loose page, and no other text does
 first_arm_is_loose : Loose choice (codes "py")

@@ -4,4 +4,3 @@ pub mod Shapes
 pub mod PageLemmas
 pub mod Straight
 pub mod Gathering
-pub mod Runs

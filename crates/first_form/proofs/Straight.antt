@@ -1,16 +1,15 @@
 -- Straight statements and branches, by what the functions over trees give.
-use Rattle.std.proofs.Common.{◌≡◌, ℕ, Bool, true, false, not, List, [], ◌∷◌, ◌++◌, Option, Some, None, refl, sym, ap, ◌∙◌, subst, arith, length, append-nil}
+use Rattle.std.proofs.Common.{◌≡◌, ℕ, true, false, not, List, [], ◌∷◌, ◌++◌, Option, Some, None, refl, sym, ap, ◌∙◌, subst, arith, length, append-nil}
 use Rattle.std.specs.Prelude.{◌≢◌, ◌↔◌, ◌==◌}
 use Rattle.std.specs.List.{list_all}
-use Rattle.std.proofs.lemmas.Bool.{and_parts, and_from, eqb-false, ne_eqb, not-true}
+use Rattle.std.proofs.lemmas.Bool.{and_parts, eqb-false, ne_eqb, not-true}
 use Rattle.std.proofs.lemmas.Option.{same_Some}
 use Rattle.php_syntax.specs.declared.tree.SuperName.TheVariants.{Get, Post, Cookie, Request, Server}
 use Rattle.php_syntax.specs.Trees.{PlainExpr, PlainExprs, PlainStmt, PlainStmts, PlainArms, text_expr, super_expr, member_expr, isset_expr, no_exprs, more_exprs, inline_stmt, echo_stmt, if_stmt, no_stmts, more_stmts, no_arms, more_arms}
 use Rattle.std.specs.Char.{is_ascii_alphabetic}
-use Rattle.first_form.specs.Meaning.{texts_of}
-use Rattle.first_form.specs.Loose.{LooseStatement, LooseStatements}
+use Rattle.first_form.specs.Loose.{texts_of, LooseStatement, LooseStatements}
 use Rattle.first_form.specs.FirstTree.{Each, IsSetTest, IsStraightStatement, IsStraight, IsBranch}
-use Rattle.first_form.specs.Steps.Paging.{◌>>=◌, literal_of, one_text, printed_of, printed_by, is_key, is_get_name, is_get, is_get_member, is_set_one, is_set_test, arm_body, arms_at}
+use Rattle.first_form.specs.Steps.Paging.{literal_of, one_text, printed_of, printed_by, is_key, is_get_name, is_get, is_get_member, is_set_one, is_set_test, arm_body, arms_at}
 use Rattle.first_form.proofs.Binding.{bind_ok, guard_ok}
 
 -- what a statement prints

@@ -2,7 +2,9 @@
 use Rattle.std.specs.Prelude.{◌≡◌, ◌≢◌, ◌⊎◌, ◌↔◌, ℕ, Bool, List, [], Some, ⊤, IsTrue}
 use Rattle.std.specs.List.{list_all}
 use Rattle.php_syntax.specs.declared.tree.SuperName.TheVariants.{Get}
-use Rattle.php_syntax.specs.Trees.{PlainExpr, PlainStmt, PlainStmts, PlainFile, text_expr, super_expr, member_expr, isset_expr, no_exprs, more_exprs, inline_stmt, echo_stmt, if_stmt, no_stmts, more_stmts, no_arms, more_arms}
+use Rattle.php_syntax.specs.declared.tree.Stmt.{Stmt}
+use Rattle.php_syntax.specs.declared.tree.FunctionDef.{FunctionDef}
+use Rattle.php_syntax.specs.Trees.{PlainExpr, PlainStmt, PlainStmts, PlainFile, text_expr, super_expr, member_expr, isset_expr, no_exprs, more_exprs, inline_stmt, echo_stmt, if_stmt, no_stmts, more_stmts, no_arms, more_arms, stmts_of, functions_of_list}
 use Rattle.first_form.specs.declared.pages.Pages.{Pages}
 use Rattle.std.specs.Char.{is_ascii_alphabetic}
 use Rattle.first_form.specs.Loose.{Loose}
@@ -45,6 +47,10 @@ IsFirstBody (more_stmts s ss) = (IsStraightStatement s × IsFirstBody ss) ⊎ (I
 -- the tree of a script of the first form
 abbrev pub IsFirstTree : PlainFile → Type 0
 IsFirstTree tree = IsFirstBody tree.body_of × (tree.functions_of ≡ [])
+
+-- the tree of these statements and functions
+abbrev pub tree_with : List Stmt → List FunctionDef → PlainFile
+tree_with body functions = record { body_of = stmts_of body; functions_of = functions_of_list functions }
 
 -- one of the pages
 abbrev pub IsPage : Pages → List ℕ → Type 0

@@ -1,7 +1,16 @@
 -- Loose pages: what the statements print where each branch may go either way.
-use Rattle.std.specs.Prelude.{◌≡◌, ◌⊎◌, ℕ, List, [], ◌++◌, Some}
-use Rattle.php_syntax.specs.Trees.{PlainStmt, PlainStmts, PlainArms, PlainFile, inline_stmt, echo_stmt, if_stmt, no_stmts, more_stmts, no_arms, more_arms}
-use Rattle.first_form.specs.Meaning.{texts_of}
+use Rattle.std.specs.Prelude.{◌≡◌, ◌⊎◌, ℕ, List, [], ◌++◌, Option, Some, None}
+use Rattle.php_syntax.specs.Trees.{PlainExprs, PlainStmt, PlainStmts, PlainArms, PlainFile, text_expr, no_exprs, more_exprs, inline_stmt, echo_stmt, if_stmt, no_stmts, more_stmts, no_arms, more_arms}
+
+-- what an echo of these texts prints
+unfoldable pub texts_of : PlainExprs → Option (List ℕ)
+texts_of no_exprs = Some []
+texts_of (more_exprs (text_expr text) es) = joined text (texts_of es)
+  where
+    joined : List ℕ → Option (List ℕ) → Option (List ℕ)
+    joined text None = None
+    joined text (Some more) = Some (text ++ more)
+texts_of _ = None
 
 unfoldable mutual
   pub LooseStatement : PlainStmt → List ℕ → Type 0

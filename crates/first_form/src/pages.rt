@@ -1,13 +1,13 @@
 //! The loose pages of a tree of the first form.
 
 ghost use Rattle.std.specs.Prelude.{◌≡◌, [], None, IfOk, IfSome, IfNone};
-ghost use Rattle.php_syntax.specs.Trees.{arms_of as plain_arms_of, plain_expr, plain_stmt, plain_file, exprs_of, stmts_of};
+ghost use Rattle.php_syntax.specs.Trees.{arms_of as plain_arms_of, plain_expr, plain_stmt, exprs_of, stmts_of};
 ghost use Rattle.first_form.specs.Steps.Paging.{forked, literal_of, one_text, printed_of, printed_by, is_key, is_get, is_get_member, is_set_one, is_set_test, arm_body, arms_at, gathered, maybe_gathered, with_text, with_statement, with_body};
-ghost use Rattle.first_form.specs.FirstTree.{IsFirstTree, ArePages};
+ghost use Rattle.first_form.specs.FirstTree.{IsFirstTree, ArePages, tree_with};
 ghost use Rattle.first_form.specs.Steps.Seen.{seen, seen_body, seen_arms};
 
 use crate::characters::are_letters;
-use php_syntax::tree::{Expr, FileTree, Stmt, SuperName};
+use php_syntax::tree::{Expr, FunctionDef, Stmt, SuperName};
 use std::alloc::Global;
 use text_base::{Bytes, NoMemory};
 
@@ -223,14 +223,18 @@ fn pages_of(alloc: Global, body: &[Stmt]) -> Result<Option<Pages>, NoMemory>
     Ok(Some(pages))
 }
 
-/// The loose pages of a tree. None exactly where the tree is not of the first form.
-pub fn loose_pages(alloc: Global, tree: &FileTree) -> Result<Option<Pages>, NoMemory>
-    ensures pages { IfOk result (λ o. IfSome o (λ pages. ArePages pages (plain_file tree.now))) }
-    ensures first_form { IfOk result (λ o. IfSome o (λ _. IsFirstTree (plain_file tree.now))) }
-    ensures none { IfOk result (λ o. IfNone o (IsFirstTree (plain_file tree.now) → ⊥)) }
+/// The loose pages of a tree of these statements and functions. None exactly where the tree is not of the first form.
+pub fn loose_pages(
+    alloc: Global,
+    body: &[Stmt],
+    functions: &[FunctionDef],
+) -> Result<Option<Pages>, NoMemory>
+    ensures pages { IfOk result (λ o. IfSome o (λ pages. ArePages pages (tree_with body.now functions.now))) }
+    ensures first_form { IfOk result (λ o. IfSome o (λ _. IsFirstTree (tree_with body.now functions.now))) }
+    ensures none { IfOk result (λ o. IfNone o (IsFirstTree (tree_with body.now functions.now) → ⊥)) }
 {
-    if !tree.functions.is_empty() {
+    if !functions.is_empty() {
         return Ok(None);
     }
-    pages_of(alloc, tree.body.as_slice())
+    pages_of(alloc, body)
 }

@@ -1,7 +1,7 @@
 //! Trees with their loose pages, and trees that are not of the first form.
 
 use crate::{Pages, loose_pages};
-use php_syntax::tree::{Expr, FileTree, Stmt, SuperName};
+use php_syntax::tree::{Expr, Stmt, SuperName};
 use std::alloc::Global;
 use std::test::Fail;
 use text_base::{Bytes, NoMemory};
@@ -46,11 +46,8 @@ fn pages_of(
     body.push(first)?;
     body.push(second)?;
     body.push(third)?;
-    let tree = FileTree {
-        body,
-        functions: Vec::new(alloc),
-    };
-    loose_pages(alloc, &tree)
+    let functions = Vec::new(alloc);
+    loose_pages(alloc, body.as_slice(), functions.as_slice())
 }
 
 #[test]

@@ -1,1 +1,3 @@
 pub mod RunLemmas
+mod Examples
+mod WorkedRuns

@@ -15,8 +15,7 @@ use Rattle.script_meaning.specs.Expressions.{Environment, value, values}
 use Rattle.script_meaning.specs.Statements.{Flow, goes_on, breaks, continues, returns, next_after, condition, echo, statement, statements, arms_in}
 use Rattle.script_meaning.specs.Meaning.{outcome_of, call_within, meaning}
 use Rattle.program_rules.specs.Limits.{as_file}
-use Rattle.first_form.specs.Meaning.{texts_of}
-use Rattle.first_form.specs.Loose.{LooseStatement, LooseStatements, LooseArms, Loose}
+use Rattle.first_form.specs.Loose.{texts_of, LooseStatement, LooseStatements, LooseArms, Loose}
 use Rattle.first_form.specs.FirstTree.{is_set, IsSetTest, IsStraightStatement, IsStraight, IsBranch, IsFirstBody, IsFirstTree}
 
 -- a run goes on behind what was printed and one of these pages, or it is over and has not ended

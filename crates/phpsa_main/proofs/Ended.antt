@@ -5,18 +5,27 @@ use Rattle.std.proofs.Math.Seq.{take-length}
 use Rattle.std.specs.Io.KnownBytes.{Appends}
 use Rattle.io_edge.specs.Taken.{AppendsPrefix}
 use Rattle.phpsa_main.specs.declared.command.Command.{Command}
-use Rattle.phpsa_main.specs.DocumentTypes.{NamedType}
+use Rattle.document_types.specs.DocumentTypes.{NamedType}
 use Rattle.phpsa_main.specs.declared.exit.Exit.{Exit}
 use Rattle.phpsa_main.specs.declared.exit.Exit.TheVariants.{WriteFault, Memory}
 use Rattle.phpsa_main.specs.declared.reply.Reply.{Reply}
 use Rattle.phpsa_main.specs.declared.refusal.Refusal.{Refusal}
-use Rattle.phpsa_main.specs.Words.{asked_as, asked_of}
+use Rattle.phpsa_main.specs.Words.{Asked, asked_as, asked_of}
 use Rattle.phpsa_main.specs.Texts.{reply_text, refusal_status, error_text}
-use Rattle.phpsa_main.specs.Call.{Call, GainsPrefix, GainsNothing, Fails}
+use Rattle.phpsa_main.specs.Call.{Output, Call, GainsPrefix, GainsNothing, Fails}
 use Rattle.phpsa_main.specs.Replies.{IsReply}
 use Rattle.phpsa_main.specs.Causes.{IsCauseIn, HasCause, asked_for, nothing_asked, wants_memory}
-use Rattle.phpsa_main.specs.Endings.{Owes, KeepsOut, Ends, replied, refused, by_out, by_err, no_memory}
+use Rattle.phpsa_main.specs.Endings.{HasWritten, HasWrittenFor, Owes, KeepsOut, Ends, replied, refused, by_out, by_err, no_memory}
 use Rattle.phpsa_main.specs.Steps.{Puts, Reports, ReportsRefusal}
+
+-- nothing was written before
+wrote_by : (command : Command) (out : Output) → GainsNothing out → HasWritten command out
+wrote_by Command.Check out none = none
+wrote_by Command.Page out none = none
+
+wrote : (asked : Option Asked) (out : Output) → GainsNothing out → HasWrittenFor asked out
+wrote None out none = none
+wrote (Some asked) out none = wrote_by asked.command out none
 
 -- a whole text is a prefix of itself
 whole : (old new : Option (List ℕ)) (text : List ℕ) → Appends old new text → AppendsPrefix old new text
@@ -42,7 +51,7 @@ wanting call refusal file status cause out is err = no_memory is (record {
   err = err;
 })
 
-put_as : (call : Call) (refusal : Refusal) (file : List ℕ) (status : Exit) → HasCause call refusal file → GainsNothing call.out
+put_as : (call : Call) (refusal : Refusal) (file : List ℕ) (status : Exit) → HasCause call refusal file → HasWrittenFor (asked_of call.words) call.out
     → Puts call.err (error_text refusal file) (refusal_status refusal) status → Ends call status
 put_as call refusal file status cause out (inl (is, gains)) =
     refused (record { refusal = refusal; file = file; cause = cause; status_is = is; out = out; err = gains })
@@ -57,8 +66,8 @@ memory_as call status out (inr (inr (is, prefix))) = wanting call Refusal.Memory
 
 refusal_as : (call : Call) (refusal : Refusal) (file : List ℕ) (status : Exit) → HasCause call refusal file → GainsNothing call.out
     → ReportsRefusal file refusal call.err status → Ends call status
-refusal_as call refusal file status cause out (inl puts) = put_as call refusal file status cause out puts
-refusal_as call refusal file status cause out (inr puts) = memory_as call status (inl out) puts
+refusal_as call refusal file status cause out (inl puts) = put_as call refusal file status cause (wrote (asked_of call.words) call.out out) puts
+refusal_as call refusal file status cause out (inr puts) = memory_as call status (inl (wrote (asked_of call.words) call.out out)) puts
 
 -- the words ask for nothing
 pub unasked_ends : (call : Call) (status : Exit) → asked_of call.words ≡ None → GainsNothing call.out → ReportsRefusal [] Refusal.Usage call.err status → Ends call status
@@ -75,7 +84,7 @@ refused_ends call command file document_type read shown refusal status asks read
 
 -- it is replied to
 keeps_out : (call : Call) (reply : Reply) → Owes call reply → GainsNothing call.out ⊎ GainsPrefix call.out (reply_text reply) → KeepsOut call
-keeps_out call reply owed (inl nothing) = inl nothing
+keeps_out call reply owed (inl nothing) = inl (wrote (asked_of call.words) call.out nothing)
 keeps_out call reply owed (inr prefix) = inr (reply_text reply, (reply, owed, refl), prefix)
 
 reported_ends : (call : Call) (reply : Reply) (status : Exit) → Owes call reply → Reports reply call.out call.err status → Ends call status

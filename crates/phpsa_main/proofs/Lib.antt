@@ -1,14 +1,9 @@
-pub mod OneProgram
-pub mod BuiltInText
-pub mod Held
+pub mod OneSubject
 pub mod Verdicts
 pub mod Answers
 pub mod Soundness
 pub mod Ended
 pub mod Counting
-pub mod Decided
-pub mod Reading
-pub mod Definition
+pub mod Parts
 mod Examples
-mod SmallDefinition
 mod SmallScript

@@ -3,16 +3,7 @@ use Rattle.std.specs.Prelude.{◌≡◌, ℕ, List, Option}
 use Rattle.std.specs.Io.KnownBytes.{Appends}
 use Rattle.io_edge.specs.Counts.{Rises}
 use Rattle.io_edge.specs.Taken.{AppendsPrefix}
-
--- a source of files: what it tells, and its counts of faults, of misses and of reads
-pub record Source : Type 0 where
-  pub content : List ℕ → Option (Option (List ℕ))
-  pub faults : ℕ
-  pub faults' : ℕ
-  pub misses : ℕ
-  pub misses' : ℕ
-  pub reads : ℕ
-  pub reads' : ℕ
+use Rattle.program_files.specs.Source.{SourceCall}
 
 -- an output: what is written on it, where that is told, and its count of faults
 pub record Output : Type 0 where
@@ -23,7 +14,7 @@ pub record Output : Type 0 where
 
 pub record Call : Type 0 where
   pub words : List (List ℕ)
-  pub files : Source
+  pub files : SourceCall
   pub out : Output
   pub err : Output
 
@@ -51,10 +42,5 @@ Fails output = Rises output.faults output.faults'
 abbrev pub output_of : Option (List ℕ) → Option (List ℕ) → ℕ → ℕ → Output
 output_of written written' faults faults' = record { written = written; written' = written'; faults = faults; faults' = faults' }
 
--- a source of files by what it tells, and its counts before and after
-abbrev pub source_of : (List ℕ → Option (Option (List ℕ))) → ℕ → ℕ → ℕ → ℕ → ℕ → ℕ → Source
-source_of content faults faults' misses misses' reads reads' =
-    record { content = content; faults = faults; faults' = faults'; misses = misses; misses' = misses'; reads = reads; reads' = reads' }
-
-abbrev pub call_of : List (List ℕ) → Source → Output → Output → Call
+abbrev pub call_of : List (List ℕ) → SourceCall → Output → Output → Call
 call_of words files out err = record { words = words; files = files; out = out; err = err }

@@ -1,33 +1,34 @@
 -- The cause of each refusal.
-use Rattle.std.specs.Prelude.{◌≡◌, ◌<◌, ℕ, List, None, ⊤}
-use Rattle.text_base.specs.declared.limits.TheConstants.{FILE_LIMIT}
-use Rattle.php_syntax.specs.Trees.{PlainFile}
-use Rattle.first_form.specs.FirstTree.{IsFirstTree}
+use Rattle.std.specs.Prelude.{◌≡◌, ℕ, List, ⊤}
+use Rattle.io_edge.specs.Reasons.{HasReason}
+use Rattle.script_meaning.specs.Programs.{PlainProgram}
+use Rattle.program_files.specs.Source.{SourceCall}
+use Rattle.program_loader.specs.Causes.{IsLoadCause}
 use Rattle.dtd_model.specs.Table.{Table}
-use Rattle.io_edge.specs.Counts.{Rises}
-use Rattle.io_edge.specs.Told.{Tells, HasAtLeast}
-use Rattle.phpsa_main.specs.declared.command.Command.TheVariants.{Check}
+use Rattle.dtd_reader.specs.Source as definition
+use Rattle.document_types.specs.DocumentTypes.{HasTable, IsDefinitionRefusal}
+use Rattle.program_decision.specs.Decision.{IsDecided, HasManyStates}
+use Rattle.program_decision.specs.declared.decision.CheckRefusal.TheVariants as checked
+use Rattle.phpsa_main.specs.declared.command.Command.TheVariants.{Check, Page}
 use Rattle.phpsa_main.specs.declared.refusal.Refusal.{Refusal}
 use Rattle.phpsa_main.specs.declared.refusal.Refusal.TheVariants as refusal
-use Rattle.dtd_reader.specs.Source.{source_call}
-use Rattle.phpsa_main.specs.DocumentTypes.{HasTable, IsFileCause, IsBuiltInCause}
 use Rattle.phpsa_main.specs.Words.{Asked, Asks, AsksNothing}
-use Rattle.phpsa_main.specs.Call.{Call, Source}
-use Rattle.phpsa_main.specs.Scripts.{IsScriptFault}
-use Rattle.phpsa_main.specs.Decision.{HasManyStates}
-use Rattle.phpsa_main.specs.Replies.{Holds, HoldsProgram}
+use Rattle.phpsa_main.specs.Call.{Call}
+use Rattle.phpsa_main.specs.Subjects.{a_program, Finds}
+
+-- a source of files as the reader of definitions sees it
+abbrev pub definition_call : SourceCall → definition.SourceCall
+definition_call files = definition.source_call files.content files.faults files.faults' files.misses files.misses'
 
 -- why what is asked for is refused; want of memory may come at any place, and words that ask for nothing ask for no file
-abbrev pub IsCauseIn : Source → Asked → Refusal → Type 0
-IsCauseIn files asked refusal.NotBuilt = (asked.command ≡ Check) × ((program : PlainFile) × HoldsProgram files asked.file program × (IsFirstTree program → ⊥))
-IsCauseIn files asked (refusal.Script fault) = (asked.command ≡ Check) × ((script : List ℕ) × Holds files asked.file script × IsScriptFault script fault)
-IsCauseIn files asked refusal.Missing = Rises files.misses files.misses' × Tells (files.content asked.file) None
-IsCauseIn files asked refusal.ReadFault = Rises files.faults files.faults'
-IsCauseIn files asked (refusal.TooLong len) = (FILE_LIMIT < len) × HasAtLeast (files.content asked.file) len
-IsCauseIn files asked (refusal.Limit count) = (table : Table) × HasTable files.content asked.document_type table × HasManyStates table count
-IsCauseIn files asked (refusal.Dtd fault) =
-    IsFileCause (source_call files.content files.faults files.faults' files.misses files.misses') asked.document_type fault
-IsCauseIn files asked (refusal.BuiltIn fault) = IsBuiltInCause asked.document_type fault
+abbrev pub IsCauseIn : SourceCall → Asked → Refusal → Type 0
+IsCauseIn files asked (refusal.Load cause) = (asked.command ≡ Check) × IsLoadCause files asked.file cause
+IsCauseIn files asked (refusal.File fault) = (asked.command ≡ Page) × HasReason (files.content asked.file) files.faults files.faults' files.misses files.misses' fault
+IsCauseIn files asked (refusal.Definition cause) = IsDefinitionRefusal (definition_call files) asked.document_type cause
+IsCauseIn files asked (refusal.Check checked.NotBuilt) =
+    (program : PlainProgram) × Finds asked.command files.content asked.file (a_program program) × (IsDecided program → ⊥)
+IsCauseIn files asked (refusal.Check (checked.Limit count)) = (table : Table) × HasTable files.content asked.document_type table × HasManyStates table count
+IsCauseIn files asked (refusal.Check checked.Memory) = ⊤
 IsCauseIn files asked refusal.Usage = ⊥
 IsCauseIn files asked refusal.Memory = ⊤
 

@@ -1,8 +1,6 @@
 pub mod Words
-pub mod DocumentTypes
 pub mod Call
-pub mod Scripts
-pub mod Decision
+pub mod Subjects
 pub mod Replies
 pub mod Causes
 pub mod Texts
@@ -11,5 +9,4 @@ pub mod Answered
 pub mod Sound
 pub mod Counted
 pub mod Keeps
-pub mod Pages
 pub mod Steps

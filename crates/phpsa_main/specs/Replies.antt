@@ -1,36 +1,34 @@
--- What a command replies of the file that it is asked for, where the source of files tells of it.
-use Rattle.std.specs.Prelude.{ℕ, Bool, true, false, List, Some}
-use Rattle.php_syntax.specs.Trees.{PlainFile}
+-- What a command replies.
+use Rattle.std.specs.Prelude.{ℕ, Bool, true, false, List}
 use Rattle.dtd_model.specs.Table.{Table}
 use Rattle.page_model.specs.Valid.{Valid}
-use Rattle.io_edge.specs.Told.{Tells}
+use Rattle.program_files.specs.Source.{SourceCall}
+use Rattle.document_types.specs.DocumentTypes.{HasTable}
+use Rattle.program_decision.specs.Decision.{IsAnswerOf}
 use Rattle.phpsa_main.specs.declared.command.Command.{Command}
+use Rattle.phpsa_main.specs.declared.command.Command.TheVariants.{Check, Page}
 use Rattle.phpsa_main.specs.declared.reply.Reply.{Reply}
-use Rattle.phpsa_main.specs.DocumentTypes.{HasTable}
 use Rattle.phpsa_main.specs.Words.{Asked}
-use Rattle.phpsa_main.specs.Call.{Source}
-use Rattle.phpsa_main.specs.Scripts.{IsScript}
-use Rattle.phpsa_main.specs.Decision.{IsAnswerOf}
-
--- the file holds these bytes
-abbrev pub Holds : Source → List ℕ → List ℕ → Type 0
-Holds files file bytes = Tells (files.content file) (Some bytes)
-
--- the file holds a script of this program
-abbrev pub HoldsProgram : Source → List ℕ → PlainFile → Type 0
-HoldsProgram files file program = (script : List ℕ) × Holds files file script × IsScript script program
+use Rattle.phpsa_main.specs.Subjects.{Subject, a_program, a_page, Finds}
 
 -- whether a page is valid
 abbrev pub IsJudged : Table → List ℕ → Bool → Type 0
 IsJudged table page true = Valid table page
 IsJudged table page false = Valid table page → ⊥
 
--- what each command replies, by a definition with this table
-abbrev pub IsReplyBy : Command → Source → List ℕ → Table → Reply → Type 0
-IsReplyBy Command.Check files file table (Reply.Script answer) = (program : PlainFile) × HoldsProgram files file program × IsAnswerOf table program answer
-IsReplyBy Command.Check files file table (Reply.Page valid) = ⊥
-IsReplyBy Command.Page files file table (Reply.Script answer) = ⊥
-IsReplyBy Command.Page files file table (Reply.Page valid) = (page : List ℕ) × Holds files file page × IsJudged table page valid
+-- what each command replies of what it speaks of, by a definition with this table
+abbrev pub IsReplyOf : Command → Table → Subject → Reply → Type 0
+IsReplyOf Check table (a_program program) (Reply.Script answer) = IsAnswerOf table program answer
+IsReplyOf Check table (a_program program) (Reply.Page valid) = ⊥
+IsReplyOf Check table (a_page page) reply = ⊥
+IsReplyOf Page table (a_program program) reply = ⊥
+IsReplyOf Page table (a_page page) (Reply.Script answer) = ⊥
+IsReplyOf Page table (a_page page) (Reply.Page valid) = IsJudged table page valid
 
-abbrev pub IsReply : Source → Asked → Reply → Type 0
-IsReply files asked reply = (table : Table) × HasTable files.content asked.document_type table × IsReplyBy asked.command files asked.file table reply
+-- the reply to what is asked
+pub record IsReply (files : SourceCall) (asked : Asked) (reply : Reply) : Type 0 where
+  pub table : Table
+  pub has_table : HasTable files.content asked.document_type table
+  pub subject : Subject
+  pub found : Finds asked.command files.content asked.file subject
+  pub says : IsReplyOf asked.command table subject reply

@@ -1,57 +1,36 @@
 -- What the parts of a call come to, before and while it is written. No public clause cites these.
 use Rattle.std.specs.Prelude.{◌≡◌, ◌⊎◌, ℕ, List, [], Result, Ok, Err, ⊤}
+use Rattle.io_edge.specs.Counts.{one_more}
+use Rattle.program_files.specs.Source.{SourceCall}
+use Rattle.phpsa_main.specs.declared.command.Command.{Command}
+use Rattle.phpsa_main.specs.declared.command.Command.TheVariants.{Check, Page}
 use Rattle.phpsa_main.specs.declared.exit.Exit.{Exit}
 use Rattle.phpsa_main.specs.declared.exit.Exit.TheVariants.{ReadFault, WriteFault, Memory}
 use Rattle.phpsa_main.specs.declared.reply.Reply.{Reply}
-use Rattle.phpsa_main.specs.declared.decision.CheckRefusal.{CheckRefusal}
-use Rattle.phpsa_main.specs.declared.decision.CheckRefusal.TheVariants as checked
 use Rattle.phpsa_main.specs.declared.refusal.Refusal.{Refusal}
-use Rattle.phpsa_main.specs.declared.refusal.ScriptRefusal.TheVariants.{Lex, Parse}
-use Rattle.php_lexer.specs.declared.refusal.LexRefusal.{LexRefusal}
-use Rattle.php_lexer.specs.declared.refusal.LexRefusal.TheVariants as lexed
-use Rattle.php_parser.specs.declared.refusal.ParseRefusal.{ParseRefusal}
-use Rattle.php_parser.specs.declared.refusal.ParseRefusal.TheVariants as parsed
-use Rattle.io_edge.specs.declared.files.FileFault.{FileFault}
-use Rattle.io_edge.specs.declared.files.FileFault.TheVariants as Fault
-use Rattle.dtd_reader.specs.Source.{SourceCall}
-use Rattle.phpsa_main.specs.DocumentTypes.{NamedType, IsFileCause, IsBuiltInCause}
+use Rattle.phpsa_main.specs.declared.refusal.Refusal.TheVariants as refusal
 use Rattle.phpsa_main.specs.Texts.{reply_status, reply_text, refusal_status, error_text, write_fault_text}
 use Rattle.phpsa_main.specs.Call.{Output, Gains, GainsPrefix, GainsNothing, Fails, IsUnfailed}
-
--- why a file that is not read is refused
-abbrev pub refusal_of : FileFault → Refusal
-refusal_of Fault.Missing = Refusal.Missing
-refusal_of Fault.Failed = Refusal.ReadFault
-refusal_of (Fault.TooLong len) = Refusal.TooLong len
-refusal_of Fault.Memory = Refusal.Memory
-
--- why a script that has no tokens or no tree is refused
-abbrev pub lexed_as : LexRefusal → Refusal
-lexed_as (lexed.TooLong len) = Refusal.TooLong len
-lexed_as lexed.Memory = Refusal.Memory
-lexed_as refusal = Refusal.Script (Lex refusal)
-
-abbrev pub parsed_as : ParseRefusal → Refusal
-parsed_as parsed.Memory = Refusal.Memory
-parsed_as refusal = Refusal.Script (Parse refusal)
-
--- why a program that is not decided, and a page that is not judged, is refused
-abbrev pub checked_as : CheckRefusal → Refusal
-checked_as checked.NotBuilt = Refusal.NotBuilt
-checked_as (checked.Limit count) = Refusal.Limit count
-checked_as checked.Memory = Refusal.Memory
+use Rattle.phpsa_main.specs.Counted.{ReadsItsFiles}
 
 -- a count of faults stays but where its fault is told
 abbrev pub KeepsFaults : {X : Type 0} → ℕ → ℕ → Result X Refusal → Type 0
 KeepsFaults faults faults' (Ok x) = faults' ≡ faults
 KeepsFaults faults faults' (Err refusal) = (refusal_status refusal ≡ ReadFault) ⊎ (faults' ≡ faults)
 
--- a document type has no definition, for this reason; want of memory says nothing
-abbrev pub IsDefinitionRefusal : SourceCall → NamedType → Refusal → Type 0
-IsDefinitionRefusal call named (Refusal.Dtd fault) = IsFileCause call named fault
-IsDefinitionRefusal call named (Refusal.BuiltIn fault) = IsBuiltInCause named fault
-IsDefinitionRefusal call named Refusal.Memory = ⊤
-IsDefinitionRefusal call named refusal = ⊥
+-- each file of the program was read once, where a program was loaded; of a page its own was
+abbrev pub HasReadFiles : {X : Type 0} → SourceCall → List ℕ → Result X Refusal → Type 0
+HasReadFiles files file (Ok x) = ReadsItsFiles files file
+HasReadFiles files file (Err (refusal.Load cause)) = ⊤
+HasReadFiles files file (Err (refusal.File fault)) = ⊤
+HasReadFiles files file (Err (refusal.Definition cause)) = ReadsItsFiles files file
+HasReadFiles files file (Err (refusal.Check cause)) = ReadsItsFiles files file
+HasReadFiles files file (Err refusal.Usage) = ReadsItsFiles files file
+HasReadFiles files file (Err refusal.Memory) = ⊤
+
+abbrev pub HasRead : {X : Type 0} → Command → SourceCall → List ℕ → Result X Refusal → Type 0
+HasRead Check files file result = HasReadFiles files file result
+HasRead Page files file result = files.reads' ≡ one_more files.reads
 
 -- a text was put on an output, and the call ends with this status: the wanted one, or that of a fault
 abbrev pub Puts : Output → List ℕ → Exit → Exit → Type 0

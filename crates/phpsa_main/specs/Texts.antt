@@ -1,5 +1,5 @@
 -- The statuses, and the texts that the program writes, each ended by one LF (10).
-use Rattle.std.specs.Prelude.{ℕ, true, false, List, [], ◌∷◌, ◌++◌, take, length, codes}
+use Rattle.std.specs.Prelude.{ℕ, ◌-◌, ◌^◌, true, false, List, [], ◌∷◌, ◌++◌, take, length, min, codes}
 use Rattle.std.specs.Fmt.{decimal}
 use Rattle.phpsa_main.specs.declared.exit.Exit.{Exit}
 use Rattle.phpsa_main.specs.declared.exit.Exit.TheVariants.{Done, No, NotBuilt, Script, Missing, ReadFault, WriteFault, Usage, Dtd, Input, Memory}
@@ -8,12 +8,20 @@ use Rattle.lexical_grammar.specs.declared.fault.LexicalFault.TheVariants.{BadByt
 use Rattle.php_lexer.specs.declared.refusal.LexRefusal.TheVariants as lexed
 use Rattle.php_parser.specs.declared.refusal.ParseRefusal.TheVariants as parsed
 use Rattle.phpsa_main.specs.declared.texts.TheConstants.{PAGE_LIMIT}
-use Rattle.phpsa_main.specs.declared.decision.Answer.{Answer}
-use Rattle.phpsa_main.specs.declared.reply.Reply.{Reply}
-use Rattle.phpsa_main.specs.declared.refusal.ScriptRefusal.{ScriptRefusal}
-use Rattle.phpsa_main.specs.declared.refusal.ScriptRefusal.TheVariants.{Lex, Parse}
+use Rattle.program_decision.specs.declared.decision.Answer.{Answer}
+use Rattle.program_decision.specs.declared.decision.CheckRefusal.{CheckRefusal}
+use Rattle.program_decision.specs.declared.decision.CheckRefusal.TheVariants as checked
+use Rattle.program_files.specs.declared.refusal.ScriptRefusal.{ScriptRefusal}
+use Rattle.program_files.specs.declared.refusal.ScriptRefusal.TheVariants.{Lex, Parse}
+use Rattle.program_files.specs.declared.refusal.LoadRefusal.{LoadRefusal}
+use Rattle.program_files.specs.declared.refusal.LoadRefusal.TheVariants as load
+use Rattle.io_edge.specs.declared.files.FileFault.{FileFault}
+use Rattle.io_edge.specs.declared.files.FileFault.TheVariants as file
 use Rattle.dtd_reader.specs.declared.refusal.DtdRefusal.{DtdRefusal}
 use Rattle.dtd_reader.specs.declared.refusal.DtdRefusal.TheVariants as dtd
+use Rattle.document_types.specs.declared.refusal.DefinitionRefusal.{DefinitionRefusal}
+use Rattle.document_types.specs.declared.refusal.DefinitionRefusal.TheVariants as definition
+use Rattle.phpsa_main.specs.declared.reply.Reply.{Reply}
 use Rattle.phpsa_main.specs.declared.refusal.Refusal.{Refusal}
 use Rattle.phpsa_main.specs.declared.refusal.Refusal.TheVariants as refusal
 
@@ -38,6 +46,24 @@ reply_status (Reply.Script (Answer.No page)) = No
 reply_status (Reply.Page true) = Done
 reply_status (Reply.Page false) = No
 
+abbrev pub load_status : LoadRefusal → Exit
+load_status (load.Missing name) = Missing
+load_status (load.ReadFault name) = ReadFault
+load_status (load.TooLong name len) = Input
+load_status (load.Script name fault) = Script
+load_status (load.IncludeCycle name) = Script
+load_status (load.DoubleFunction name) = Script
+load_status (load.UnknownFunction name) = Script
+load_status (load.Arity name) = Script
+load_status (load.TooMany count) = Input
+load_status load.Memory = Memory
+
+abbrev pub file_status : FileFault → Exit
+file_status file.Missing = Missing
+file_status file.Failed = ReadFault
+file_status (file.TooLong len) = Input
+file_status file.Memory = Memory
+
 abbrev pub dtd_status : DtdRefusal → Exit
 dtd_status (dtd.Missing name) = Missing
 dtd_status (dtd.ReadFault name) = ReadFault
@@ -49,15 +75,21 @@ abbrev pub built_in_status : DtdRefusal → Exit
 built_in_status dtd.Memory = Memory
 built_in_status other = Dtd
 
+abbrev pub definition_status : DefinitionRefusal → Exit
+definition_status (definition.File fault) = dtd_status fault
+definition_status (definition.BuiltIn fault) = built_in_status fault
+definition_status definition.Memory = Memory
+
+abbrev pub check_status : CheckRefusal → Exit
+check_status checked.NotBuilt = NotBuilt
+check_status (checked.Limit count) = Dtd
+check_status checked.Memory = Memory
+
 abbrev pub refusal_status : Refusal → Exit
-refusal_status refusal.NotBuilt = NotBuilt
-refusal_status (refusal.Script fault) = Script
-refusal_status refusal.Missing = Missing
-refusal_status refusal.ReadFault = ReadFault
-refusal_status (refusal.TooLong len) = Input
-refusal_status (refusal.Limit count) = Dtd
-refusal_status (refusal.Dtd fault) = dtd_status fault
-refusal_status (refusal.BuiltIn fault) = built_in_status fault
+refusal_status (refusal.Load cause) = load_status cause
+refusal_status (refusal.File fault) = file_status fault
+refusal_status (refusal.Definition cause) = definition_status cause
+refusal_status (refusal.Check cause) = check_status cause
 refusal_status refusal.Usage = Usage
 refusal_status refusal.Memory = Memory
 
@@ -65,9 +97,13 @@ refusal_status refusal.Memory = Memory
 abbrev pub yes_text : List ℕ
 yes_text = codes "yes" ++ 10 ∷ []
 
+-- the length that is written of a page: its own, or the largest of 64 bits where it is longer
+abbrev pub shown_length : List ℕ → ℕ
+shown_length page = min (length page) (2 ^ 64 - 1)
+
 -- on `out`, where this loose page is not valid: its length and its first 1,048,576 bytes
 abbrev pub no_text : List ℕ → List ℕ
-no_text page = codes "no" ++ 10 ∷ (codes "page " ++ decimal (length page) ++ 10 ∷ (take PAGE_LIMIT page ++ 10 ∷ []))
+no_text page = codes "no" ++ 10 ∷ (codes "page " ++ decimal (shown_length page) ++ 10 ∷ (take PAGE_LIMIT page ++ 10 ∷ []))
 
 -- on `out`, for a reply
 abbrev pub reply_text : Reply → List ℕ
@@ -84,7 +120,7 @@ fault_name Float = codes "Float"
 fault_name BigInt = codes "BigInt"
 fault_name Escape = codes "Escape"
 
--- what is wrong with a script: its name, and the place or the length that is written behind the file
+-- what is wrong with a script: its name, and the place or the length that is written behind the name of the file
 abbrev pub said_of : ScriptRefusal → List ℕ × ℕ
 said_of (Lex (lexed.Breaks fault at)) = (fault_name fault, at)
 said_of (Lex (lexed.TooLong len)) = (codes "TooLong", len)
@@ -93,13 +129,13 @@ said_of (Parse (parsed.NotInSubset at)) = (codes "NotInSubset", at)
 said_of (Parse (parsed.TooDeep at)) = (codes "TooDeep", at)
 said_of (Parse parsed.Memory) = (codes "Memory", 0)
 
--- `phpsa: NAME FILE NUMBER`
+-- `phpsa: KIND NAME NUMBER`
 abbrev pub counted_text : List ℕ → List ℕ → ℕ → List ℕ
-counted_text name file number = codes "phpsa: " ++ name ++ codes " " ++ file ++ codes " " ++ decimal number ++ 10 ∷ []
+counted_text kind name number = codes "phpsa: " ++ kind ++ codes " " ++ name ++ codes " " ++ decimal number ++ 10 ∷ []
 
--- `phpsa: NAME FILE`
+-- `phpsa: KIND NAME`
 abbrev pub named_text : List ℕ → List ℕ → List ℕ
-named_text name file = codes "phpsa: " ++ name ++ codes " " ++ file ++ 10 ∷ []
+named_text kind name = codes "phpsa: " ++ kind ++ codes " " ++ name ++ 10 ∷ []
 
 -- on `err`, where no memory was left
 abbrev pub memory_text : List ℕ
@@ -109,36 +145,64 @@ memory_text = codes "phpsa: Memory" ++ 10 ∷ []
 abbrev pub dtd_text : List ℕ → List ℕ → List ℕ
 dtd_text kind value = codes "phpsa: Dtd " ++ kind ++ codes " " ++ value ++ 10 ∷ []
 
+-- on `err`, where the program is not loaded: with the name of the file or function, which is not always that of the file that was asked for
+abbrev pub load_text : LoadRefusal → List ℕ
+load_text (load.Missing name) = named_text (codes "Missing") name
+load_text (load.ReadFault name) = named_text (codes "ReadFault") name
+load_text (load.TooLong name len) = counted_text (codes "TooLong") name len
+load_text (load.Script name fault) = counted_text (said_of fault).0 name (said_of fault).1
+load_text (load.IncludeCycle name) = named_text (codes "IncludeCycle") name
+load_text (load.DoubleFunction name) = named_text (codes "DoubleFunction") name
+load_text (load.UnknownFunction name) = named_text (codes "UnknownFunction") name
+load_text (load.Arity name) = named_text (codes "Arity") name
+load_text (load.TooMany count) = named_text (codes "TooMany") (decimal count)
+load_text load.Memory = memory_text
+
+-- on `err`, where this file is not read
+abbrev pub file_text : FileFault → List ℕ → List ℕ
+file_text file.Missing name = named_text (codes "Missing") name
+file_text file.Failed name = named_text (codes "ReadFault") name
+file_text (file.TooLong len) name = counted_text (codes "TooLong") name len
+file_text file.Memory name = memory_text
+
 -- on `err`, for a definition in files: with the name of the file where one is not read
-abbrev pub definition_text : DtdRefusal → List ℕ
-definition_text (dtd.Missing name) = named_text (codes "Missing") name
-definition_text (dtd.ReadFault name) = named_text (codes "ReadFault") name
-definition_text (dtd.TooLong name len) = counted_text (codes "TooLong") name len
-definition_text (dtd.NotDtd at) = dtd_text (codes "NotDtd") (decimal at)
-definition_text (dtd.Entity name) = dtd_text (codes "Entity") name
-definition_text (dtd.Twice name) = dtd_text (codes "Twice") name
-definition_text (dtd.Undeclared name) = dtd_text (codes "Undeclared") name
-definition_text (dtd.LeftOut at) = dtd_text (codes "LeftOut") (decimal at)
-definition_text (dtd.Limit count) = dtd_text (codes "Limit") (decimal count)
-definition_text dtd.Memory = memory_text
+abbrev pub dtd_refusal_text : DtdRefusal → List ℕ
+dtd_refusal_text (dtd.Missing name) = named_text (codes "Missing") name
+dtd_refusal_text (dtd.ReadFault name) = named_text (codes "ReadFault") name
+dtd_refusal_text (dtd.TooLong name len) = counted_text (codes "TooLong") name len
+dtd_refusal_text (dtd.NotDtd at) = dtd_text (codes "NotDtd") (decimal at)
+dtd_refusal_text (dtd.Entity name) = dtd_text (codes "Entity") name
+dtd_refusal_text (dtd.Twice name) = dtd_text (codes "Twice") name
+dtd_refusal_text (dtd.Undeclared name) = dtd_text (codes "Undeclared") name
+dtd_refusal_text (dtd.LeftOut at) = dtd_text (codes "LeftOut") (decimal at)
+dtd_refusal_text (dtd.Limit count) = dtd_text (codes "Limit") (decimal count)
+dtd_refusal_text dtd.Memory = memory_text
 
 -- on `err`, for the built-in text
 abbrev pub built_in_text : DtdRefusal → List ℕ
 built_in_text dtd.Memory = memory_text
 built_in_text other = codes "phpsa: Dtd strict" ++ 10 ∷ []
 
--- on `err`, for a refusal of this file
+-- on `err`, where a document type has no definition
+abbrev pub definition_text : DefinitionRefusal → List ℕ
+definition_text (definition.File fault) = dtd_refusal_text fault
+definition_text (definition.BuiltIn fault) = built_in_text fault
+definition_text definition.Memory = memory_text
+
+-- on `err`, where the program or the page of this file is not judged
+abbrev pub check_text : CheckRefusal → List ℕ → List ℕ
+check_text checked.NotBuilt name = named_text (codes "NotBuilt") name
+check_text (checked.Limit count) name = dtd_text (codes "Limit") (decimal count)
+check_text checked.Memory name = memory_text
+
+-- on `err`, for a refusal, where this file was asked for
 abbrev pub error_text : Refusal → List ℕ → List ℕ
-error_text refusal.NotBuilt file = named_text (codes "NotBuilt") file
-error_text (refusal.Script fault) file = counted_text (said_of fault).0 file (said_of fault).1
-error_text refusal.Missing file = named_text (codes "Missing") file
-error_text refusal.ReadFault file = named_text (codes "ReadFault") file
-error_text refusal.Usage file = codes "phpsa: Usage" ++ 10 ∷ []
-error_text (refusal.TooLong len) file = counted_text (codes "TooLong") file len
-error_text (refusal.Limit count) file = dtd_text (codes "Limit") (decimal count)
-error_text (refusal.Dtd fault) file = definition_text fault
-error_text (refusal.BuiltIn fault) file = built_in_text fault
-error_text refusal.Memory file = memory_text
+error_text (refusal.Load cause) name = load_text cause
+error_text (refusal.File fault) name = file_text fault name
+error_text (refusal.Definition cause) name = definition_text cause
+error_text (refusal.Check cause) name = check_text cause name
+error_text refusal.Usage name = codes "phpsa: Usage" ++ 10 ∷ []
+error_text refusal.Memory name = memory_text
 
 -- on `err`, where `out` failed
 abbrev pub write_fault_text : List ℕ

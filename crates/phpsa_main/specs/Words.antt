@@ -1,8 +1,8 @@
 -- The words of the command line, after the program's name.
-use Rattle.std.specs.Prelude.{◌≡◌, ◌&&◌, ◌==◌, ℕ, List, [], ◌∷◌, Bool, true, false, not, Option, None, Some, if◌then◌else◌, bytes_eq, codes}
+use Rattle.std.specs.Prelude.{◌≡◌, ◌&&◌, ℕ, List, [], ◌∷◌, Option, None, Some, if◌then◌else◌, bytes_eq, codes}
+use Rattle.document_types.specs.DocumentTypes.{NamedType, strict_type, is_file_word, named_type}
 use Rattle.phpsa_main.specs.declared.command.Command.{Command}
 use Rattle.phpsa_main.specs.declared.command.Command.TheVariants.{Check, Page}
-use Rattle.phpsa_main.specs.DocumentTypes.{NamedType, strict_type, mini_type, file_type}
 
 -- what words ask for: a command on a file by a document type
 pub record Asked : Type 0 where
@@ -16,17 +16,6 @@ asked_as command file document_type = record { command = command; file = file; d
 -- the command that the word names
 abbrev pub named_command : List ℕ → Option Command
 named_command word = if bytes_eq word (codes "check") then Some Check else (if bytes_eq word (codes "page") then Some Page else None)
-
--- the name of a file on the command line: it is not empty and does not begin with `-`
-abbrev pub is_file_word : List ℕ → Bool
-is_file_word [] = false
-is_file_word (byte ∷ bytes) = not (byte == 45)
-
--- the document type that the word names: `strict`, `mini`, or the file whose name it is
-abbrev pub named_type : List ℕ → Option NamedType
-named_type word =
-    if bytes_eq word (codes "strict") then Some strict_type
-    else (if bytes_eq word (codes "mini") then Some mini_type else (if is_file_word word then Some (file_type word) else None))
 
 -- where there is a command and a document type
 abbrev pub asked_with : List ℕ → Option Command → Option NamedType → Option Asked

@@ -11,9 +11,9 @@ pub enum Exit {
     No,
     /// 3: the script is of a form that is not decided yet.
     NotBuilt,
-    /// 3: the file is no script of the language, or too deep.
+    /// 3: a file is no script of the language, or too deep, or includes itself, or a rule on functions is broken.
     Script,
-    /// 6: there is no file of this name, or none of a name of the definition.
+    /// 6: there is no file of this name, or none of a name that the script includes or the definition asks for.
     Missing,
     /// 7: the source of the files failed.
     ReadFault,
@@ -23,7 +23,7 @@ pub enum Exit {
     Usage,
     /// 10: there is no document type definition, or it is over a limit.
     Dtd,
-    /// 11: a file is over the limit of 1,048,576 bytes.
+    /// 11: a file is over the limit of 1,048,576 bytes, or the program is too large.
     Input,
     /// 12: no memory was left.
     Memory,

@@ -3,7 +3,7 @@ ghost use Rattle.std.specs.Prelude.{◌≡◌};
 ghost use Rattle.phpsa_main.specs.Texts.{reply_status};
 
 use crate::Exit;
-use crate::decision::Answer;
+use program_decision::Answer;
 
 /// What a command replies of its file, which is written on `out`.
 #[derive(Debug, PartialEq, Eq, Drop)]

@@ -1,16 +1,18 @@
 // The texts that are written.
-ghost use Rattle.std.specs.Prelude.{◌≡◌, ◌++◌, [], ◌∷◌, take, OnOk, OnErr, IfOk};
+ghost use Rattle.std.specs.Prelude.{◌≡◌, ◌++◌, take, OnOk, IfOk};
 ghost use Rattle.std.specs.Fmt.{decimal};
-ghost use Rattle.phpsa_main.specs.Texts.{no_text, error_text, counted_text, named_text, dtd_text, definition_text, built_in_text, fault_name, reply_text, said_of};
-ghost use Rattle.phpsa_main.specs.declared.refusal.Refusal.TheVariants as refusals;
+ghost use Rattle.phpsa_main.specs.Texts.{no_text, shown_length, error_text, load_text, file_text, check_text, counted_text, named_text, dtd_text, dtd_refusal_text, definition_text, built_in_text, fault_name, reply_text, said_of};
 
-use crate::decision::Answer;
-use crate::refusal::{Refusal, ScriptRefusal};
+use crate::refusal::Refusal;
 use crate::reply::Reply;
+use document_types::DefinitionRefusal;
 use dtd_reader::DtdRefusal;
+use io_edge::FileFault;
 use lexical_grammar::fault::LexicalFault;
 use php_lexer::LexRefusal;
 use php_parser::ParseRefusal;
+use program_decision::{Answer, CheckRefusal};
+use program_files::{LoadRefusal, ScriptRefusal};
 use std::alloc::Global;
 use text_base::{Bytes, NoMemory};
 
@@ -42,11 +44,18 @@ fn no_text(alloc: Global, page: &[u8]) -> Result<Bytes, NoMemory>
     ensures { IfOk result (λ text. text ≡ no_text page.now) }
 {
     let mut text = Bytes::from_slice(alloc, b"no\npage ")?;
-    append_number(alloc, &mut text, page.len() as u64)?;
+    append_number(alloc, &mut text, shown_length(page))?;
     text.append(b"\n")?;
     text.append(front(page, PAGE_LIMIT))?;
     text.append(b"\n")?;
     Ok(text)
+}
+
+/// The length of a page, or the largest of 64 bits.
+fn shown_length(page: &[u8]) -> u64
+    ensures { result ≡ shown_length page.now }
+{
+    page.len() as u64
 }
 
 /// The bytes at the front, up to a limit.
@@ -64,7 +73,7 @@ fn append_number(alloc: Global, text: &mut Bytes, number: u64) -> Result<(), NoM
     Ok(())
 }
 
-/// What is wrong with a script: its name, and the place or the length that is written behind the file.
+/// What is wrong with a script: its name, and the place or the length that is written behind the name of the file.
 fn said_of(refusal: ScriptRefusal) -> (&'static [u8], u64)
     ensures name { result.0.now ≡ (said_of refusal).0 }
     ensures number { result.1 ≡ (said_of refusal).1 }
@@ -109,26 +118,76 @@ fn parsed(refusal: ParseRefusal) -> (&'static [u8], u64)
     }
 }
 
-/// The text of a refusal of this file.
+/// The text of a refusal, where this file was asked for.
 pub(crate) fn refusal_text(alloc: Global, file: &[u8], refusal: &Refusal) -> Result<Bytes, NoMemory>
     ensures { IfOk result (λ text. text ≡ error_text refusal.now file.now) }
 {
     match refusal {
-        Refusal::NotBuilt => named_text(alloc, b"NotBuilt", file),
-        Refusal::Script(refusal) => script_text(alloc, file, *refusal),
-        Refusal::Missing => named_text(alloc, b"Missing", file),
-        Refusal::ReadFault => named_text(alloc, b"ReadFault", file),
-        Refusal::TooLong { len } => counted_text(alloc, b"TooLong", file, *len),
-        Refusal::Limit { count } => numbered_text(alloc, b"Limit", *count),
-        Refusal::Dtd(refusal) => definition_text(alloc, refusal),
-        Refusal::BuiltIn(refusal) => built_in_text(alloc, refusal),
+        Refusal::Load(refusal) => load_text(alloc, refusal),
+        Refusal::File(fault) => file_text(alloc, *fault, file),
+        Refusal::Definition(refusal) => definition_text(alloc, refusal),
+        Refusal::Check(refusal) => check_text(alloc, *refusal, file),
         Refusal::Usage => Bytes::from_slice(alloc, b"phpsa: Usage\n"),
         Refusal::Memory => Bytes::from_slice(alloc, NO_MEMORY),
     }
 }
 
-fn definition_text(alloc: Global, refusal: &DtdRefusal) -> Result<Bytes, NoMemory>
+fn load_text(alloc: Global, refusal: &LoadRefusal) -> Result<Bytes, NoMemory>
+    ensures { IfOk result (λ text. text ≡ load_text refusal.now) }
+{
+    match refusal {
+        LoadRefusal::Missing { name } => named_text(alloc, b"Missing", name.as_slice()),
+        LoadRefusal::ReadFault { name } => named_text(alloc, b"ReadFault", name.as_slice()),
+        LoadRefusal::TooLong { name, len } => {
+            counted_text(alloc, b"TooLong", name.as_slice(), *len)
+        }
+        LoadRefusal::Script { name, refusal } => script_text(alloc, name.as_slice(), *refusal),
+        LoadRefusal::IncludeCycle { name } => named_text(alloc, b"IncludeCycle", name.as_slice()),
+        LoadRefusal::DoubleFunction { name } => {
+            named_text(alloc, b"DoubleFunction", name.as_slice())
+        }
+        LoadRefusal::UnknownFunction { name } => {
+            named_text(alloc, b"UnknownFunction", name.as_slice())
+        }
+        LoadRefusal::Arity { name } => named_text(alloc, b"Arity", name.as_slice()),
+        LoadRefusal::TooMany { count } => count_text(alloc, b"TooMany", *count),
+        LoadRefusal::Memory => Bytes::from_slice(alloc, NO_MEMORY),
+    }
+}
+
+fn file_text(alloc: Global, fault: FileFault, file: &[u8]) -> Result<Bytes, NoMemory>
+    ensures { IfOk result (λ text. text ≡ file_text fault file.now) }
+{
+    match fault {
+        FileFault::Missing => named_text(alloc, b"Missing", file),
+        FileFault::Failed => named_text(alloc, b"ReadFault", file),
+        FileFault::TooLong { len } => counted_text(alloc, b"TooLong", file, len),
+        FileFault::Memory => Bytes::from_slice(alloc, NO_MEMORY),
+    }
+}
+
+fn check_text(alloc: Global, refusal: CheckRefusal, file: &[u8]) -> Result<Bytes, NoMemory>
+    ensures { IfOk result (λ text. text ≡ check_text refusal file.now) }
+{
+    match refusal {
+        CheckRefusal::NotBuilt => named_text(alloc, b"NotBuilt", file),
+        CheckRefusal::Limit { count } => numbered_text(alloc, b"Limit", count),
+        CheckRefusal::Memory => Bytes::from_slice(alloc, NO_MEMORY),
+    }
+}
+
+fn definition_text(alloc: Global, refusal: &DefinitionRefusal) -> Result<Bytes, NoMemory>
     ensures { IfOk result (λ text. text ≡ definition_text refusal.now) }
+{
+    match refusal {
+        DefinitionRefusal::File(refusal) => dtd_refusal_text(alloc, refusal),
+        DefinitionRefusal::BuiltIn(refusal) => built_in_text(alloc, refusal),
+        DefinitionRefusal::Memory => Bytes::from_slice(alloc, NO_MEMORY),
+    }
+}
+
+fn dtd_refusal_text(alloc: Global, refusal: &DtdRefusal) -> Result<Bytes, NoMemory>
+    ensures { IfOk result (λ text. text ≡ dtd_refusal_text refusal.now) }
 {
     match refusal {
         DtdRefusal::Missing { name } => named_text(alloc, b"Missing", name.as_slice()),
@@ -160,33 +219,41 @@ fn built_in_text(alloc: Global, refusal: &DtdRefusal) -> Result<Bytes, NoMemory>
     Bytes::from_slice(alloc, text)
 }
 
-fn script_text(alloc: Global, file: &[u8], refusal: ScriptRefusal) -> Result<Bytes, NoMemory>
-    ensures { IfOk result (λ text. text ≡ error_text (refusals.Script refusal) file.now) }
+fn script_text(alloc: Global, name: &[u8], refusal: ScriptRefusal) -> Result<Bytes, NoMemory>
+    ensures { IfOk result (λ text. text ≡ counted_text (said_of refusal).0 name.now (said_of refusal).1) }
 {
-    let (name, number) = said_of(refusal);
-    counted_text(alloc, name, file, number)
+    let (kind, number) = said_of(refusal);
+    counted_text(alloc, kind, name, number)
 }
 
-/// `phpsa: NAME FILE`.
-fn named_text(alloc: Global, name: &[u8], file: &[u8]) -> Result<Bytes, NoMemory>
-    ensures { IfOk result (λ text. text ≡ named_text name.now file.now) }
+/// `phpsa: KIND NAME`.
+fn named_text(alloc: Global, kind: &[u8], name: &[u8]) -> Result<Bytes, NoMemory>
+    ensures { IfOk result (λ text. text ≡ named_text kind.now name.now) }
 {
     let mut text = Bytes::from_slice(alloc, b"phpsa: ")?;
-    text.append(name)?;
+    text.append(kind)?;
     text.append(b" ")?;
-    text.append(file)?;
+    text.append(name)?;
     text.append(b"\n")?;
     Ok(text)
 }
 
-/// `phpsa: NAME FILE NUMBER`.
-fn counted_text(alloc: Global, name: &[u8], file: &[u8], number: u64) -> Result<Bytes, NoMemory>
-    ensures { IfOk result (λ text. text ≡ counted_text name.now file.now number) }
+/// `phpsa: KIND COUNT`.
+fn count_text(alloc: Global, kind: &[u8], count: u64) -> Result<Bytes, NoMemory>
+    ensures { IfOk result (λ text. text ≡ named_text kind.now (decimal count)) }
+{
+    let digits = count.to_string(alloc)?;
+    named_text(alloc, kind, digits.as_bytes())
+}
+
+/// `phpsa: KIND NAME NUMBER`.
+fn counted_text(alloc: Global, kind: &[u8], name: &[u8], number: u64) -> Result<Bytes, NoMemory>
+    ensures { IfOk result (λ text. text ≡ counted_text kind.now name.now number) }
 {
     let mut text = Bytes::from_slice(alloc, b"phpsa: ")?;
-    text.append(name)?;
+    text.append(kind)?;
     text.append(b" ")?;
-    text.append(file)?;
+    text.append(name)?;
     text.append(b" ")?;
     append_number(alloc, &mut text, number)?;
     text.append(b"\n")?;

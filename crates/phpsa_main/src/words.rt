@@ -1,10 +1,10 @@
 // The words of the command line.
 ghost use Rattle.std.specs.Prelude.{◌≡◌, option_map, map, string_bytes};
-ghost use Rattle.phpsa_main.specs.DocumentTypes.{type_of};
+ghost use Rattle.document_types.specs.DocumentTypes.{type_of};
 ghost use Rattle.phpsa_main.specs.Words.{asked_as, asked_of};
 
 use crate::command::Command;
-use crate::document_type::{DocumentType, is_file};
+use document_types::{DocumentType, is_file};
 
 /// What the words `COMMAND FILE` or `COMMAND FILE --dtd TYPE` ask for.
 pub(crate) fn asked(words: &[String]) -> Option<(Command, &String, DocumentType)>

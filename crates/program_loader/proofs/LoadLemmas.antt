@@ -5,6 +5,7 @@ use Rattle.script_meaning.specs.Programs.{PlainProgram}
 use Rattle.program_rules.specs.declared.limits.TheConstants.{PLACE_LIMIT}
 use Rattle.program_rules.specs.Files.{Held, Agrees, HasTree, HasOneTree}
 use Rattle.program_rules.specs.Includes.{Reads, LeadsTo}
+use Rattle.program_rules.specs.Limits.{IsWithin}
 use Rattle.program_rules.specs.Programs.{ReadFile, AreRead, HasNoCycle, IsProgram}
 use Rattle.program_files.specs.declared.refusal.LoadRefusal.{LoadRefusal}
 use Rattle.program_files.specs.declared.refusal.LoadRefusal.TheVariants.{Missing, ReadFault, TooLong, Script, IncludeCycle, DoubleFunction, UnknownFunction, Arity, TooMany, Memory}
@@ -43,12 +44,14 @@ ArePrograms = (held : Held) (files : List ReadFile) (order : List (List ℕ)) (n
 abbrev pub Stand : Type 0
 Stand = OfOrder (λ held files order name. StandsForProgram held name files (program_places files (length order) (tree_named files name)) (program_within files (length order) (tree_named files name)))
 
-abbrev files_from : (call : SourceCall) (name : List ℕ) (files : List ReadFile) → ReadsAll call name files → (held : Held) → Agrees call.content held → AreRead held name files → HasFiles call name
-files_from call name files all held agrees read = record {
+abbrev files_from : (call : SourceCall) (name : List ℕ) (files : List ReadFile) → ReadsAll call name files → (held : Held) → Agrees call.content held
+    → Reached (HasTree held) name files [] → AreRead held name files → HasFiles call name
+files_from call name files all held agrees reached read = record {
   held = held;
   agrees = agrees;
   files = files;
   read = read;
+  in_order = reached;
   few = let few = all.few in omega arith;
   counted = all.counted;
   unfailed = all.unfailed;
@@ -64,12 +67,37 @@ is_ready one was whole scripts named call name files all =
       named = named h.0 name files (one h.0) h.2;
     }
 
-pub loaded : OneTreeEach → WasHeld → ReadsTheProgram → ArePrograms → (call : SourceCall) (name : List ℕ) (files : List ReadFile) (program : PlainProgram) → ReadsAll call name files → Make files name program → Loads call name program
-loaded one was reading programs call name files program all make =
-    let h = was call.content name files [] all.reached in record {
-      source = files_from call name files all h.0 h.1 (reading h.0 name files (one h.0) h.2);
-      is_program = programs h.0 files make.0 name program (one h.0) h.2 make.1;
-    }
+-- the program of files that were read, of these files
+program_of_files : (held : Held) (name : List ℕ) (files : List ReadFile) (order : List (List ℕ)) (program : PlainProgram) → AreRead held name files → HasNoCycle held name
+    → StandsForProgram held name files (program_places files (length order) (tree_named files name)) program → MakeProgram files order name program → IsProgram held name program
+    → (p : IsProgram held name program) × (p.files ≡ files)
+program_of_files held name files order program read acyclic st make p = (
+  record {
+    files = files;
+    read = read;
+    acyclic = acyclic;
+    tree = st.tree;
+    spelled = st.spelled;
+    main = st.main;
+    functions = st.functions;
+    rules = p.rules;
+    own_places = st.own_places;
+    has_places = st.has_places;
+    function_places = st.function_places;
+    have_places = st.have_places;
+    within = subst (λ (n : ℕ). IsWithin n program) st.all_places make.within;
+  },
+  refl,
+)
+
+pub loaded : OneTreeEach → WasHeld → ReadsTheProgram → ArePrograms → OfOrder (λ held files order name. HasNoCycle held name) → Stand → (call : SourceCall) (name : List ℕ) (files : List ReadFile) (program : PlainProgram) → ReadsAll call name files → Make files name program → Loads call name program
+loaded one was reading programs acyclic stand call name files program all make =
+    let h = was call.content name files [] all.reached in
+    let read = reading h.0 name files (one h.0) h.2 in
+    let st = subst (λ (p : PlainProgram). StandsForProgram h.0 name files (program_places files (length make.0) (tree_named files name)) p) (sym make.1.program_is)
+    (stand h.0 name files make.0 (one h.0) h.2 make.1.sorted) in
+    let p = program_of_files h.0 name files make.0 program read (acyclic h.0 name files make.0 (one h.0) h.2 make.1.sorted) st make.1 (programs h.0 files make.0 name program (one h.0) h.2 make.1) in
+    record { source = files_from call name files all h.0 h.1 h.2 read; is_program = p.0; its_files = p.1 }
 
 by_order : OneTreeEach → WasHeld → ReadsTheProgram → OfFiles (λ held files name. AreHeld held files) → (call : SourceCall) (name : List ℕ) (files : List ReadFile) → ReadsAll call name files
     → (refusal : LoadRefusal) → IsOrderCause files refusal → IsLoadCause call name refusal
@@ -78,7 +106,7 @@ by_order one was reading has call name files all (IncludeCycle path) (there, lea
     let read = reading h.0 name files (one h.0) h.2 in
     let t = tree_there files path there in
     record {
-      source = files_from call name files all h.0 h.1 read;
+      source = files_from call name files all h.0 h.1 h.2 read;
       reads = (read.each (record { name = path; tree = t.0 }) t.1).0;
       leads = leads h.0 (has h.0 name files (one h.0) h.2);
     }
@@ -96,7 +124,7 @@ broken : OneTreeEach → WasHeld → ReadsTheProgram → OfOrder (λ held files 
     → (refusal : LoadRefusal) → BreakRules files refusal → BreaksRule call name refusal
 broken one was reading acyclic call name files all refusal b =
     let h = was call.content name files [] all.reached in record {
-      source = files_from call name files all h.0 h.1 (reading h.0 name files (one h.0) h.2);
+      source = files_from call name files all h.0 h.1 h.2 (reading h.0 name files (one h.0) h.2);
       acyclic = acyclic h.0 name files b.order (one h.0) h.2 b.sorted;
       cause = b.cause;
     }
@@ -119,7 +147,7 @@ by_size : OneTreeEach → WasHeld → ReadsTheProgram → OfOrder (λ held files
 by_size one was reading acyclic stand call name files all (TooMany count) p =
     let h = was call.content name files [] all.reached in
     inr (record {
-      source = files_from call name files all h.0 h.1 (reading h.0 name files (one h.0) h.2);
+      source = files_from call name files all h.0 h.1 h.2 (reading h.0 name files (one h.0) h.2);
       acyclic = acyclic h.0 name files p.order (one h.0) h.2 p.sorted;
       rules = p.rules;
       places = program_places files (length p.order) (tree_named files name);

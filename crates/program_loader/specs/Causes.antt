@@ -1,12 +1,13 @@
 -- What loading a program comes to, and why it is refused.
-use Rattle.std.specs.Prelude.{◌≡◌, ◌⊎◌, ◌≤◌, ℕ, ◌+◌, List, length}
+use Rattle.std.specs.Prelude.{◌≡◌, ◌⊎◌, ◌≤◌, ℕ, ◌+◌, List, [], length}
 use Rattle.script_meaning.specs.Programs.{PlainProgram}
 use Rattle.program_rules.specs.declared.limits.TheConstants.{PLACE_LIMIT}
-use Rattle.program_rules.specs.Files.{Held, Agrees}
+use Rattle.program_rules.specs.Files.{Held, Agrees, HasTree}
 use Rattle.program_rules.specs.Includes.{Reads, LeadsTo}
 use Rattle.program_rules.specs.Programs.{ReadFile, AreRead, HasNoCycle, IsProgram}
 use Rattle.program_files.specs.declared.refusal.LoadRefusal.{LoadRefusal}
 use Rattle.program_files.specs.declared.refusal.LoadRefusal.TheVariants.{Missing, ReadFault, TooLong, Script, IncludeCycle, DoubleFunction, UnknownFunction, Arity, TooMany, Memory}
+use Rattle.program_files.specs.Order.{Reached}
 use Rattle.program_files.specs.Source.{SourceCall, so_many_more}
 use Rattle.program_files.specs.Causes.{IsReadCause}
 use Rattle.program_sizes.specs.Limits.{PassesLimit}
@@ -14,22 +15,24 @@ use Rattle.loading_laws.specs.FileRules.{KeepFunctionRules}
 use Rattle.loading_laws.specs.Loaded.{StandsForProgram}
 use Rattle.function_rules.specs.Causes.{IsFunctionCause}
 
--- what the source held agrees with all that it tells; these are the files that the program of the name reads, at most 256 beside its own, and each was
--- asked for once; no count of faults or misses rose
+-- what the source held agrees with all that it tells; these are the files that the program of the name reads, in the order of first include, at most 256 beside
+-- its own, and each was asked for once; no count of faults or misses rose
 pub record HasFiles (call : SourceCall) (name : List ℕ) : Type 0 where
   pub held : Held
   pub agrees : Agrees call.content held
   pub files : List ReadFile
   pub read : AreRead held name files
+  pub in_order : Reached (HasTree held) name files []
   pub few : length files ≤ PLACE_LIMIT + 1
   pub counted : call.reads' ≡ so_many_more (length files) call.reads
   pub unfailed : call.faults' ≡ call.faults
   pub unmissed : call.misses' ≡ call.misses
 
--- a program is loaded: it is that of the name
+-- a program is loaded: it is that of the name, with the functions of these files in their order
 pub record Loads (call : SourceCall) (name : List ℕ) (program : PlainProgram) : Type 0 where
   pub source : HasFiles call name
   pub is_program : IsProgram source.held name program
+  pub its_files : is_program.files ≡ source.files
 
 -- a path is one that the program of the name reads
 pub record IsNamed (call : SourceCall) (name path : List ℕ) : Type 0 where

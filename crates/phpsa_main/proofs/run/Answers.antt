@@ -1,8 +1,9 @@
 use Rattle.std.proofs.Common.{◌≡◌, Some, None, map, string_bytes, refl, inr}
-use Rattle.phpsa_main.specs.DocumentTypes.{type_of}
+use Rattle.document_types.specs.DocumentTypes.{type_of}
+use Rattle.phpsa_main.specs.declared.reply.Reply.{Reply}
 use Rattle.phpsa_main.specs.Words.{asked_as, asked_of}
 use Rattle.phpsa_main.proofs.Ended.{unasked_ends, refused_ends, replied_ends}
-use Rattle.phpsa_main.proofs.Counting.{unasked_counts, asked_counts, fault_told}
+use Rattle.phpsa_main.proofs.Counting.{unasked_counts, asked_counts, read_for_reply, read_for_refusal, fault_told}
 use Rattle.phpsa_main.proofs.run.Goals as goal
 
 pub returns-in-None-clause-ends : goal.returns-in-None-clause-ends
@@ -23,7 +24,8 @@ returns-in-Ok-clause-ends g c =
 pub returns-in-Ok-clause-counted : goal.returns-in-Ok-clause-counted
 returns-in-Ok-clause-counted g c =
     let asked : asked_of (map (λ word. string_bytes word) c.args.words.now.items) ≡ Some (asked_as c.in-Some.command (string_bytes c.in-Some.file.now) (type_of c.in-Some.document_type)) = cc (c.in-Some.ensures, c.deref.ensures.value) in
-    asked_counts _ (asked_as c.in-Some.command (string_bytes c.in-Some.file.now) (type_of c.in-Some.document_type)) c.report.result asked c.in-Ok.ensures.reads c.report.ensures.told_out c.report.ensures.told_err (inr c.in-Ok.ensures.unfailed)
+    asked_counts _ c.in-Some.command (string_bytes c.in-Some.file.now) (type_of c.in-Some.document_type) c.as_str.result.now c.report.result asked c.as_str.ensures.value
+    (λ built_in. read_for_reply c.in-Some.command _ c.as_str.result.now c.in-Ok.reply c.report.result (c.in-Ok.ensures.reads built_in)) c.report.ensures.told_out c.report.ensures.told_err (inr c.in-Ok.ensures.unfailed)
 
 pub returns-in-Err-clause-ends : goal.returns-in-Err-clause-ends
 returns-in-Err-clause-ends g c =
@@ -33,5 +35,6 @@ returns-in-Err-clause-ends g c =
 pub returns-in-Err-clause-counted : goal.returns-in-Err-clause-counted
 returns-in-Err-clause-counted g c =
     let asked : asked_of (map (λ word. string_bytes word) c.args.words.now.items) ≡ Some (asked_as c.in-Some.command (string_bytes c.in-Some.file.now) (type_of c.in-Some.document_type)) = cc (c.in-Some.ensures, c.deref.ensures.value) in
-    asked_counts _ (asked_as c.in-Some.command (string_bytes c.in-Some.file.now) (type_of c.in-Some.document_type)) c.refuse-in-Err.result asked c.in-Err.ensures.reads (inr refl) c.refuse-in-Err.ensures.told
+    asked_counts _ c.in-Some.command (string_bytes c.in-Some.file.now) (type_of c.in-Some.document_type) c.as_str.result.now c.refuse-in-Err.result asked c.as_str.ensures.value
+    (λ built_in. read_for_refusal Reply c.in-Some.command _ c.as_str.result.now c.as_bytes.result.now c.in-Err.refusal _ c.refuse-in-Err.result (c.in-Err.ensures.reads built_in) c.refuse-in-Err.ensures.reports) (inr refl) c.refuse-in-Err.ensures.told
     (fault_told _ c.in-Err.refusal _ c.refuse-in-Err.result c.in-Err.ensures.unfailed c.refuse-in-Err.ensures.reports)

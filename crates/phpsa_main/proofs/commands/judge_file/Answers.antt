@@ -1,12 +1,13 @@
 use Rattle.dtd_model.specs.TableOf.{table_of}
-use Rattle.phpsa_main.specs.DocumentTypes.{type_of}
-use Rattle.phpsa_main.proofs.Reading.{judged}
-use Rattle.phpsa_main.proofs.Definition.{has_table}
+use Rattle.program_files.specs.Source.{source_call}
+use Rattle.document_types.specs.DocumentTypes.{type_of}
+use Rattle.phpsa_main.proofs.Parts.{has_table, page_reply}
 use Rattle.phpsa_main.proofs.commands.judge_file.Goals as goal
 
-pub returns-clause-ok : goal.returns-clause-ok
-returns-clause-ok g c = (
-  table_of c.in_ok-dtd.dtd,
-  has_table (g.F.Files.content c.args.files.now) (g.F.Files.content c.read.new.self) (type_of c.args.document_type) (table_of c.in_ok-dtd.dtd) c.read.ensures.same c.in_ok-dtd.ensures.ok,
-  (c.in_ok-page.page, c.in_ok-page.ensures.content, judged (table_of c.in_ok-dtd.dtd) c.in_ok-page.page c.in_ok-valid.valid (rw c.as_slice.ensures at c.in_ok-valid.ensures.ok)),
-)
+pub returns-in-Ok-is_valid-clause-ok : goal.returns-in-Ok-is_valid-clause-ok
+returns-in-Ok-is_valid-clause-ok g c =
+    page_reply
+    (source_call (g.F.Files.content c.args.files.now) (g.F.Files.faults c.args.files.now) (g.F.Files.faults c.definition.new.files) (g.F.Files.misses c.args.files.now) (g.F.Files.misses c.definition.new.files) (g.F.Files.reads c.args.files.now) (g.F.Files.reads c.definition.new.files))
+    c.args.file.now (type_of c.args.document_type) (table_of c.in-Ok-definition.dtd) c.in-Ok.page c.in-Ok-is_valid.valid
+    (has_table (g.F.Files.content c.args.files.now) (g.F.Files.content c.read.new.self) (type_of c.args.document_type) (table_of c.in-Ok-definition.dtd) c.read.ensures.same c.in-Ok-definition.ensures.ok)
+    c.in-Ok.ensures.content (rw c.as_slice.ensures at c.in-Ok-is_valid.ensures.ok)

@@ -6,6 +6,7 @@ returns-clause-ready c = is_ready c.each_has_one_tree.ensures c.what_was_held.en
 
 pub returns-clause-ok : goal.returns-clause-ok
 returns-clause-ok c = loaded c.each_has_one_tree.ensures c.what_was_held.ensures c.files_of_the_program.ensures c.made_programs_are_programs.ensures
+    c.ordered_files_stand_for_a_program.ensures.acyclic c.ordered_files_stand_for_a_program.ensures.program
 
 pub returns-clause-err : goal.returns-clause-err
 returns-clause-err c =

@@ -1,0 +1,3 @@
+pub mod BuiltInText
+pub mod OneTable
+pub mod ForMemory

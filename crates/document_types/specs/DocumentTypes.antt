@@ -1,0 +1,80 @@
+-- The document types that words may name, the table that each has, and why there is none.
+use Rattle.std.specs.Prelude.{◌≡◌, ◌==◌, ℕ, Bool, false, not, List, [], ◌∷◌, Option, None, Some, if◌then◌else◌, bytes_eq, codes, ⊤}
+use Rattle.dtd_model.specs.Table.{Table}
+use Rattle.dtd_model.specs.Mini.{mini_table}
+use Rattle.dtd_texts.specs.Reading.{Content}
+use Rattle.dtd_texts.specs.Spells.{DtdSpells}
+use Rattle.dtd_reader.specs.Source.{SourceCall, IsCalm}
+use Rattle.dtd_reader.specs.Refusals.{IsCause}
+use Rattle.dtd_reader.specs.declared.refusal.DtdRefusal.{DtdRefusal}
+use Rattle.dtd_table_laws.specs.Certain.{AreTold, AreShort, PassesLimit}
+use Rattle.xhtml_strict.specs.Strict.{file_name, only_file, strict_bytes, IsStrict, IsRefused}
+use Rattle.document_types.specs.declared.document_type.DocumentType.{DocumentType}
+use Rattle.document_types.specs.declared.document_type.DocumentType.TheVariants.{Strict, Mini, File}
+use Rattle.document_types.specs.declared.refusal.DefinitionRefusal.{DefinitionRefusal}
+use Rattle.document_types.specs.declared.refusal.DefinitionRefusal.TheVariants as refusal
+
+-- XHTML 1.0 Strict, the smallest document type, or the one that the file of a name defines
+pub data NamedType : Type 0 where
+  strict_type : NamedType
+  mini_type : NamedType
+  file_type : List ℕ → NamedType
+
+abbrev pub type_of : DocumentType → NamedType
+type_of Strict = strict_type
+type_of Mini = mini_type
+type_of (File name) = file_type name.now
+
+-- the name of a file on the command line: it is not empty and does not begin with `-`
+abbrev pub is_file_word : List ℕ → Bool
+is_file_word [] = false
+is_file_word (byte ∷ bytes) = not (byte == 45)
+
+-- the document type that the word names: `strict`, `mini`, or the file whose name it is
+abbrev pub named_type : List ℕ → Option NamedType
+named_type word =
+    if bytes_eq word (codes "strict") then Some strict_type
+    else (if bytes_eq word (codes "mini") then Some mini_type else (if is_file_word word then Some (file_type word) else None))
+
+-- the document type has this table, where the source of files tells this
+abbrev pub HasTable : Content → NamedType → Table → Type 0
+HasTable content strict_type table = IsStrict strict_bytes table
+HasTable content mini_type table = table ≡ mini_table
+HasTable content (file_type name) table = DtdSpells content name table
+
+-- it stands in the program
+abbrev pub IsBuiltIn : NamedType → Type 0
+IsBuiltIn strict_type = ⊤
+IsBuiltIn mini_type = ⊤
+IsBuiltIn (file_type name) = ⊥
+
+-- the names that its text asks for, that of its file among them, are told of
+abbrev pub NamesAreTold : Content → NamedType → Type 0
+NamesAreTold content strict_type = ⊤
+NamesAreTold content mini_type = ⊤
+NamesAreTold content (file_type name) = AreTold content name
+
+-- and what they hold is within the limit of a file
+abbrev pub NamesAreShort : Content → NamedType → Type 0
+NamesAreShort content strict_type = ⊤
+NamesAreShort content mini_type = ⊤
+NamesAreShort content (file_type name) = AreShort content name
+
+-- a limit on its text or its declarations is passed, by this count
+abbrev pub IsTooLarge : Content → NamedType → ℕ → Type 0
+IsTooLarge content strict_type count = PassesLimit (only_file strict_bytes) file_name count
+IsTooLarge content mini_type count = ⊥
+IsTooLarge content (file_type name) count = PassesLimit content name count
+
+-- why the file of a definition has none, and why the built-in text has none
+abbrev pub IsFileCause : SourceCall → NamedType → DtdRefusal → Type 0
+IsFileCause call named refusal = (name : List ℕ) × (named ≡ file_type name) × IsCause call name refusal
+
+abbrev pub IsBuiltInCause : NamedType → DtdRefusal → Type 0
+IsBuiltInCause named refusal = (named ≡ strict_type) × IsRefused strict_bytes refusal
+
+-- a document type has no definition, for this reason; no count rises but that of the reason
+abbrev pub IsDefinitionRefusal : SourceCall → NamedType → DefinitionRefusal → Type 0
+IsDefinitionRefusal call named (refusal.File fault) = IsFileCause call named fault
+IsDefinitionRefusal call named (refusal.BuiltIn fault) = IsBuiltInCause named fault × IsCalm call
+IsDefinitionRefusal call named refusal.Memory = IsCalm call

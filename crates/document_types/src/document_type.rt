@@ -1,0 +1,85 @@
+//! The document types that words may name: this module alone knows their definitions.
+
+ghost use Rattle.std.specs.Prelude.{◌≡◌, IfOk, IfErr, option_map};
+ghost use Rattle.dtd_model.specs.TableOf.{table_of};
+ghost use Rattle.dtd_reader.specs.Source.{source_call, IsCalm};
+ghost use Rattle.document_types.specs.DocumentTypes.{HasTable, IsBuiltIn, IsDefinitionRefusal, is_file_word, named_type, type_of};
+
+use crate::refusal::DefinitionRefusal;
+use dtd_model::{Dtd, mini};
+use dtd_reader::read_dtd;
+use io_edge::Files;
+use std::alloc::Global;
+use xhtml_strict::strict;
+
+/// A document type that a word names.
+#[derive(Clone, Copy, Debug)]
+pub enum DocumentType<'a> {
+    /// `strict`: XHTML 1.0 Strict, where no word names another.
+    Strict,
+    /// `mini`: `html` holds one `body`, `body` any number of `p`, and `p` text.
+    Mini,
+    /// The one that the file of this name defines.
+    File(&'a str),
+}
+
+/// Whether the word may be the name of a file.
+pub fn is_file(word: &[u8]) -> bool
+    ensures { result ≡ is_file_word word.now }
+{
+    match word {
+        [] => false,
+        [first, ..] => *first != b'-',
+    }
+}
+
+impl<'a> DocumentType<'a> {
+    /// The document type that the word names.
+    pub fn named(word: &'a str) -> Option<DocumentType<'a>>
+        ensures { option_map type_of result ≡ named_type word.now }
+    {
+        if word == "strict" {
+            Some(DocumentType::Strict)
+        } else if word == "mini" {
+            Some(DocumentType::Mini)
+        } else if is_file(word.as_bytes()) {
+            Some(DocumentType::File(word))
+        } else {
+            None
+        }
+    }
+
+    /// Its definition.
+    ///
+    /// # Errors
+    ///
+    /// `File` where the files of a definition spell none, with the cause that `read_dtd` gives; `BuiltIn` where the built-in text is refused; and `Memory`.
+    pub fn definition<F: Files>(
+        self,
+        alloc: Global,
+        files: &mut F,
+    ) -> Result<Dtd, DefinitionRefusal>
+        ensures ok { IfOk result (λ dtd. HasTable (F.content files.old) (type_of self.entry) (table_of dtd)) }
+        ensures err { IfErr result (IsDefinitionRefusal (source_call (F.content files.old) (F.faults files.old)
+            (F.faults files.new) (F.misses files.old) (F.misses files.new)) (type_of self.entry)) }
+        ensures reads { IsBuiltIn (type_of self.entry) → F.reads files.new ≡ F.reads files.old }
+        ensures calm { IfOk result (λ _. IsCalm (source_call (F.content files.old) (F.faults files.old) (F.faults files.new)
+            (F.misses files.old) (F.misses files.new))) }
+        ensures same { F.content files.new ≡ F.content files.old }
+    {
+        match self {
+            DocumentType::Strict => match strict(alloc) {
+                Ok(dtd) => Ok(dtd),
+                Err(refusal) => Err(DefinitionRefusal::BuiltIn(refusal)),
+            },
+            DocumentType::Mini => {
+                let dtd = mini(alloc)?;
+                Ok(dtd)
+            }
+            DocumentType::File(name) => match read_dtd(alloc, files, name) {
+                Ok(dtd) => Ok(dtd),
+                Err(refusal) => Err(DefinitionRefusal::File(refusal)),
+            },
+        }
+    }
+}

@@ -1,0 +1,5 @@
+pub mod Same
+pub mod Walk
+pub mod OneProgram
+pub mod NotRefused
+pub mod SmallProgram
