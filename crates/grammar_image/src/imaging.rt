@@ -1,7 +1,8 @@
 //! Images of grammars under machines.
 
-ghost use Rattle.std.specs.Prelude.{◌≡◌, ◌<◌, ◌↔◌, List, All, Some, map, slice_get, IfOk, IfErr, vec_len};
+ghost use Rattle.std.specs.Prelude.{◌≡◌, ◌<◌, ◌↔◌, List, All, Some, map, slice_get, length, IfOk, IfErr, vec_len};
 ghost use Rattle.text_base.specs.declared.letter.Letter.{Letter};
+ghost use Rattle.cfg_grammar.specs.Below.{AreBelow};
 ghost use Rattle.cfg_grammar.specs.Derives.{Derives};
 ghost use Rattle.cfg_grammar.specs.declared.symbol.Symbol as symbols;
 ghost use Rattle.image_meaning.specs.Outputs.{Outputs};
@@ -71,8 +72,47 @@ fn finish<M: Machine>(
 }
 
 /// A grammar whose sentences are exactly what the machine may put out over the texts of bytes that the nonterminal
+/// derives by these productions, whose places are listed for each nonterminal. `Large` comes only where there are more
+/// items than the limit, so many that it says. Time and memory are within the items that are made and what the machine
+/// answers; productions that no item comes to cost nothing.
+pub fn image_over<M: Machine>(
+    alloc: Global,
+    productions: &[Production],
+    places: &[Vec<usize>],
+    from: Nt,
+    machine: &M,
+    limit: u64,
+) -> Result<Grammar, ImageRefusal>
+    requires places { AreProductionsOf productions.now places.now }
+    requires below { AreBelow (length places.now) productions.now }
+    requires from { from.0 < length places.now }
+    ensures sentences { IfOk result (λ image. (w : List Letter) → Derives image.productions.items (symbols.Symbol.Nt image.start) w
+        ↔ Outputs productions.now (symbols.Symbol.Nt from) (M.first machine.now) (M.steps machine.now) (M.ends machine.now) w) }
+    ensures cause { IfErr result (IsCause productions.now (M.steps machine.now) from (M.first machine.now) limit) }
+{
+    let mut states = first_state(alloc, machine)?;
+    let mut chart = begin(alloc, from)?;
+    match fill(
+        alloc,
+        productions,
+        places,
+        machine,
+        &mut states,
+        &mut chart,
+        limit,
+    ) {
+        Ok(()) => {}
+        Err(refusal) => return Err(refusal),
+    }
+    match finish(alloc, productions, machine, &states, &chart) {
+        Ok(grammar) => Ok(grammar),
+        Err(_) => Err(ImageRefusal::Memory),
+    }
+}
+
+/// A grammar whose sentences are exactly what the machine may put out over the texts of bytes that the nonterminal
 /// derives. `Large` comes only where there are more items than the limit, so many that it says. Time and memory are
-/// within the items that are made and what the machine answers.
+/// within the grammar, the items that are made and what the machine answers.
 pub fn image<M: Machine>(
     alloc: Global,
     g: &Grammar,
@@ -87,22 +127,5 @@ pub fn image<M: Machine>(
 {
     let productions = g.productions.as_slice();
     let places = places_by_left(alloc, g)?;
-    let mut states = first_state(alloc, machine)?;
-    let mut chart = begin(alloc, from)?;
-    match fill(
-        alloc,
-        productions,
-        places.as_slice(),
-        machine,
-        &mut states,
-        &mut chart,
-        limit,
-    ) {
-        Ok(()) => {}
-        Err(refusal) => return Err(refusal),
-    }
-    match finish(alloc, productions, machine, &states, &chart) {
-        Ok(grammar) => Ok(grammar),
-        Err(_) => Err(ImageRefusal::Memory),
-    }
+    image_over(alloc, productions, places.as_slice(), from, machine, limit)
 }

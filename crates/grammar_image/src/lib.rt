@@ -10,5 +10,5 @@ mod imaging;
 mod refusal;
 mod work;
 
-pub use imaging::image;
+pub use imaging::{image, image_over};
 pub use refusal::ImageRefusal;

@@ -1,0 +1,5 @@
+pub mod DraftLemmas
+pub mod AnyLemmas
+pub mod ImageLemmas
+pub mod OrderLemmas
+pub mod RuleLemmas

@@ -1,0 +1,13 @@
+use Rattle.std.proofs.Common.{length}
+use Rattle.resolve_laws.proofs.StepLemmas.{all_exact}
+use Rattle.resolving.proofs.DraftLemmas.{draft_of_system}
+use Rattle.resolving.proofs.resolution.resolve.Goals as goal
+
+pub add_rules-requires-clause-draft : goal.add_rules-requires-clause-draft
+add_rules-requires-clause-draft c = draft_of_system c.args.s.now c.in_ok-draft.draft c.in_ok-draft.ensures
+
+pub returns-clause-exact : goal.returns-clause-exact
+returns-clause-exact c =
+    let d = c.add_rules.new.draft in
+    let added = c.in-Ok.ensures.added in
+    all_exact c.args.s.now d.productions.items (length d.places.items) added.is_draft.is_draft added.done c.args.s.now.start c.args.s.now.start_below
