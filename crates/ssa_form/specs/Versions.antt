@@ -1,8 +1,10 @@
 -- The versions of a program of points, seen as data, and what they are.
-use Rattle.std.specs.Prelude.{◌≡◌, ◌≢◌, ◌↔◌, ℕ, List, [], ◌∷◌, Option, None, Some, Contains}
+use Rattle.std.specs.Prelude.{◌≡◌, ◌≢◌, ◌↔◌, ℕ, List, [], ◌∷◌, Option, None, Some, Contains, slice_get}
 use Rattle.std.specs.Option.{option_map}
 use Rattle.std.specs.declared.vec.Vec.{Vec}
 use Rattle.std.specs.declared.alloc.Global.{Global}
+use Rattle.numbered_sets.specs.Numbers.{AreDifferent}
+use Rattle.function_pairs.specs.Found.{number_in}
 use Rattle.flow_code.specs.Points.{PlainPoint, PlainFlow, point_at}
 use Rattle.flow_code.specs.Lawful.{reads}
 use Rattle.loose_sets.specs.Reaching.{Definition, Reaches}
@@ -19,10 +21,32 @@ joins_in ks rs = []
 abbrev pub joins_of : Versions → List PlainJoin
 joins_of versions = joins_in versions.asks.keys versions.rows.items
 
+-- no join stands twice
+abbrev pub AreOnce : Versions → Type 0
+AreOnce versions = AreDifferent versions.asks.keys
+
 -- a version is one of those that a join joins
 abbrev pub IsLinked : List PlainJoin → PlainVersion → PlainVersion → Type 0
 IsLinked joins (of_definition d) v = ⊥
 IsLinked joins (join_at p x) v = linked_in joins p x v
+
+-- the versions of a row
+abbrev pub in_row : Option (Vec Version Global) → List PlainVersion
+in_row None = []
+in_row (Some row) = versions_seen row.items
+
+abbrev pub row_of : List (Vec Version Global) → Option ℕ → List PlainVersion
+row_of rows None = []
+row_of rows (Some i) = in_row (slice_get rows i)
+
+-- what the join of a slot at a point joins, in turn
+abbrev pub joined_by : Versions → ℕ → ℕ → List PlainVersion
+joined_by versions p x = row_of versions.rows.items (number_in versions.asks.keys p x)
+
+-- what a version joins, in turn; a definition nothing
+abbrev pub links_of : Versions → PlainVersion → List PlainVersion
+links_of versions (of_definition d) = []
+links_of versions (join_at p x) = joined_by versions p x
 
 -- the version of a slot where a point reads it
 abbrev pub version_of : Versions → ℕ → ℕ → Option PlainVersion

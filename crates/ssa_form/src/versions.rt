@@ -1,6 +1,6 @@
 //! The versions of a program of points.
 
-ghost use Rattle.std.specs.Prelude.{◌≡◌, ◌↔◌, length, map, vec_len, Contains, IfOk};
+ghost use Rattle.std.specs.Prelude.{◌≡◌, ◌↔◌, Some, length, map, slice_get, vec_len, Contains, IfOk, IfSome, IfNone};
 ghost use Rattle.std.specs.Option.{option_map};
 ghost use Rattle.flow_code.specs.Points.{PlainFlow};
 ghost use Rattle.flow_code.specs.View.{plain_flow_function, plain_flow};
@@ -10,7 +10,8 @@ ghost use Rattle.flow_graph.specs.Arrivals.{target};
 ghost use Rattle.slot_versions.specs.Versions.{PlainVersion, linked_in};
 ghost use Rattle.ssa_form.specs.Views.{version_seen, versions_seen};
 ghost use Rattle.ssa_form.specs.Marks.{IsGraph};
-ghost use Rattle.ssa_form.specs.Versions.{joins_of, version_of, IsLinked, IsExact};
+ghost use Rattle.function_pairs.specs.Found.{number_in};
+ghost use Rattle.ssa_form.specs.Versions.{joins_of, version_of, IsLinked, IsExact, joined_by, links_of, AreOnce};
 
 use crate::joins::rows_of;
 use crate::marks::marks_of;
@@ -31,6 +32,16 @@ pub struct Versions {
     rows: Vec<Vec<Version>>,
 }
 
+// The number of a join, if it is asked for.
+fn row_number(asks: &IndexSet<(u64, u64)>, point: Point, slot: Slot) -> Option<usize>
+    ensures some { IfSome result (λ n. slice_get asks.now.keys n ≡ Some (point.0, slot.0)) }
+    ensures none { IfNone result (Contains asks.now.keys (point.0, slot.0) → ⊥) }
+    ensures number { result ≡ number_in asks.now.keys point.0 slot.0 }
+{
+    let _count = count(asks);
+    number_of(asks, &(point.0, slot.0))
+}
+
 impl Versions {
     /// The version of a slot where a point reads it; None where the point does not read it. In constant time.
     pub fn version_at(&self, point: Point, slot: Slot) -> Option<Version>
@@ -41,7 +52,8 @@ impl Versions {
 
     /// The versions that a join joins; none where the version is a definition. In constant time.
     pub fn links(&self, version: Version) -> &[Version]
-        ensures { (v : PlainVersion) → Contains (versions_seen result.now) v ↔ IsLinked (joins_of self.now) (version_seen version) v }
+        ensures exact { (v : PlainVersion) → Contains (versions_seen result.now) v ↔ IsLinked (joins_of self.now) (version_seen version) v }
+        ensures list { versions_seen result.now ≡ links_of self.now (version_seen version) }
     {
         let Version::Join { point, slot } = version else {
             return &[];
@@ -51,10 +63,11 @@ impl Versions {
 
     // The versions that the join of a slot at a point joins.
     fn joined(&self, point: Point, slot: Slot) -> &[Version]
-        ensures { (v : PlainVersion) → Contains (versions_seen result.now) v ↔ linked_in (joins_of self.now) point.0 slot.0 v }
+        ensures exact { (v : PlainVersion) → Contains (versions_seen result.now) v ↔ linked_in (joins_of self.now) point.0 slot.0 v }
+        ensures list { versions_seen result.now ≡ joined_by self.now point.0 slot.0 }
     {
         let _count = count(&self.asks);
-        let Some(number) = number_of(&self.asks, &(point.0, slot.0)) else {
+        let Some(number) = row_number(&self.asks, point, slot) else {
             return &[];
         };
         match self.rows.get(number) {
@@ -93,13 +106,23 @@ fn versions_of(
     })
 }
 
-/// The versions of a program of points: one for each slot that a point reads, and the definitions behind it are exactly those that
-/// reach the point. Its time is linear in the points, in what they read, and for each join in the edges into its point.
-pub fn ssa(alloc: Global, flow: &FlowProgram) -> Result<Versions, NoMemory>
-    ensures exact { IfOk result (IsExact (plain_flow flow.now)) }
+// The versions of a program of points.
+fn exact_versions(alloc: Global, flow: &FlowProgram) -> Result<Versions, NoMemory>
+    ensures { IfOk result (IsExact (plain_flow flow.now)) }
 {
     let steps = steps_of(alloc, flow)?;
     let arrivals = arrivals_of(alloc, &flow.functions, &steps)?;
     let heads = heads_of(alloc, &steps, &arrivals)?;
     versions_of(alloc, &flow.functions, &steps, &arrivals, &heads)
+}
+
+/// The versions of a program of points: one for each slot that a point reads, and the definitions behind it are exactly those that
+/// reach the point. Its time is linear in the points, in what they read, and for each join in the edges into its point.
+pub fn ssa(alloc: Global, flow: &FlowProgram) -> Result<Versions, NoMemory>
+    ensures exact { IfOk result (IsExact (plain_flow flow.now)) }
+    ensures once { IfOk result AreOnce }
+{
+    let versions = exact_versions(alloc, flow)?;
+    let _count = count(&versions.asks);
+    Ok(versions)
 }

@@ -1,0 +1,4 @@
+pub mod Returned
+pub mod Handed
+pub mod Tables
+pub mod Found
