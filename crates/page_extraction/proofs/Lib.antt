@@ -1,0 +1,4 @@
+mod EndLemmas
+mod Numbering
+mod Unasked
+mod Pages

@@ -1,0 +1,44 @@
+-- The start of the system has exactly the loose pages.
+use Rattle.std.proofs.Common.{◌≡◌, ◌↔◌, ◌<◌, ℕ, List, sym, subst, arith, Contains}
+use Rattle.std.specs.Prelude.{All}
+use Rattle.xml_text.specs.Texts.{IsText}
+use Rattle.cfg_grammar.specs.declared.symbol.Symbol.TheVariants.{Nt}
+use Rattle.op_system.specs.Rel.{Rel}
+use Rattle.op_system.specs.declared.system.OpSystem.{OpSystem}
+use Rattle.flow_code.specs.Points.{PlainFlow}
+use Rattle.least_sets.specs.Forms.{Form}
+use Rattle.loose_sets.specs.Loose.{Loose}
+use Rattle.set_simulations.specs.Simulations.{IsMonotone}
+use Rattle.slot_versions.specs.Versions.{linked_in}
+use Rattle.ssa_form.specs.Versions.{joins_of}
+use Rattle.set_names.specs.declared.name.SetName.{SetName}
+use Rattle.set_listing.specs.Uses.{seen_at}
+use Rattle.set_versions.specs.Reading.{read_at}
+use Rattle.set_versions.proofs.Exact.{are_exact}
+use Rattle.set_numbering.specs.Numbered.{AreNumbered}
+use Rattle.op_cycles.specs.Texts.{RowOf, TextOf}
+use Rattle.plain_systems.specs.Plain.{IsPlainIn, HasSets}
+use Rattle.page_extraction.specs.Ends.{AreEnds, IsExactLister}
+use Rattle.page_extraction.proofs.Numbering as numbering
+use Rattle.page_extraction.proofs.Unasked as unasked
+
+all_monotone : IsMonotone (λ bytes text. All bytes text)
+all_monotone bytes more w wider h = λ k d below. wider _ (h k d below)
+
+pub start_pages : (flow : PlainFlow) (asks : SetName → Type 0) (lists : SetName → List (Form SetName)) → IsExactLister flow asks lists → (starts names : List SetName) (start count : ℕ) (rows : List (ℕ × Form ℕ)) → AreEnds flow starts
+    → AreNumbered asks lists starts names start count rows → (s : OpSystem) → HasSets rows count s.grammar.productions.items s.ops.items → s.start.0 ≡ start → (w : List ℕ) → TextOf s (Nt s.start) w ↔ Loose flow w
+start_pages flow asks lists is starts names start count rows ends are s has at w =
+    let less : start < count = (let a = are.start_is in let b = are.count_is in omega arith) in
+    let pages =
+    numbering.pages flow (linked_in (joins_of is.versions)) (seen_at (read_at is.versions)) (are_exact flow is.versions is.exact) asks lists is.lister starts names start count rows ends are Rel IsText (λ bytes text. All bytes text) all_monotone w in
+    let sets = has start less w in (
+      λ i. pages.0 (sets.1 (subst (λ (n : ℕ). IsPlainIn (RowOf s) (Nt (record { 0 = n })) w) at (unasked.texts s.grammar.productions.items s.ops.items (λ t. ⊥) IsText Rel (λ bytes text. All bytes text) all_monotone (Nt s.start) w i))),
+      λ page. unasked.texts s.grammar.productions.items s.ops.items IsText (λ t. ⊥) Rel (λ bytes text. All bytes text) all_monotone (Nt s.start) w
+          (subst (λ (n : ℕ). IsPlainIn (RowOf s) (Nt (record { 0 = n })) w) (sym at) (sets.0 (pages.1 page))),
+    )
+
+-- the names to begin with may be asked for
+pub ends_asked : (flow : PlainFlow) (asks : SetName → Type 0) (lists : SetName → List (Form SetName)) → IsExactLister flow asks lists → (starts names : List SetName) → names ≡ starts → AreEnds flow starts → (n : SetName) → Contains names n → asks n
+ends_asked flow asks lists is starts names same ends n c =
+    let e = ends.each n (subst (λ (ns : List SetName). Contains ns n) same c) in
+    subst (λ (m : SetName). asks m) (sym e.3) (is.lister.start e.0 e.1 e.2)

@@ -1,0 +1,4 @@
+mod PlaceLemmas
+mod FormLemmas
+mod RowLemmas
+mod TableLemmas

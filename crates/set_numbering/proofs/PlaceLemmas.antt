@@ -1,0 +1,46 @@
+-- Members of lists by their places.
+use Rattle.std.proofs.Common.{◌≡◌, ◌⊎◌, inl, inr, ℕ, zero, suc, List, [], ◌∷◌, Some, refl, subst, arith, slice_get, Contains, map}
+use Rattle.std.proofs.lemmas.Option.{slice_get_within, get_or_from_slice_get, slice_get-get_or}
+use Rattle.numbered_sets.specs.Numbers.{Keeps}
+
+pub contains_at : {X : Type 0} (xs : List X) (n : ℕ) (x : X) → slice_get xs n ≡ Some x → Contains xs x
+contains_at xs n x h = (n, slice_get_within xs n x h, get_or_from_slice_get xs n x x h)
+
+pub at_contains : {X : Type 0} (xs : List X) (x : X) → Contains xs x → (n : ℕ) × (slice_get xs n ≡ Some x)
+at_contains {X} xs x c = (c.0, subst (λ (y : X). slice_get xs c.0 ≡ Some y) c.2 (slice_get-get_or xs c.0 x c.1))
+
+pub contains_kept : {X : Type 0} (old new : List X) (x : X) → Keeps old new → Contains old x → Contains new x
+contains_kept old new x keeps c = let a = at_contains old x c in contains_at new a.0 x (keeps a.0 x a.1)
+
+pub keeps_itself : {X : Type 0} (xs : List X) → Keeps xs xs
+keeps_itself xs = λ n x h. h
+
+pub keeps_both : {X : Type 0} (old mid new : List X) → Keeps old mid → Keeps mid new → Keeps old new
+keeps_both old mid new a b = λ n x h. b n x (a n x h)
+
+pub none_of : {X : Type 0} (x : X) → Contains [] x → ⊥
+none_of x c = let h = c.1 in omega arith
+
+pub at_head : {X : Type 0} (x : X) (xs : List X) → Contains (x ∷ xs) x
+at_head x xs = (0, omega arith, refl)
+
+pub at_later : {X : Type 0} (x : X) (xs : List X) (c : X) → Contains xs c → Contains (x ∷ xs) c
+at_later x xs c (k, below, is) = (suc k, omega (arith, below), is)
+
+pub head_cases : {X : Type 0} (x : X) (xs : List X) (c : X) → Contains (x ∷ xs) c → (x ≡ c) ⊎ Contains xs c
+head_cases x xs c (zero, below, is) = inl is
+head_cases x xs c (suc k, below, is) = inr (k, omega (arith, below), is)
+
+pub mapped : {X Y : Type 0} (f : X → Y) (xs : List X) (x : X) → Contains xs x → Contains (map f xs) (f x)
+mapped f [] x c = absurd (none_of x c)
+mapped {X} {Y} f (y ∷ xs) x c = elim (head_cases y xs x c) [
+  | inl e ↦ subst (λ (z : X). Contains (f y ∷ map f xs) (f z)) e (at_head (f y) (map f xs))
+  | inr later ↦ at_later (f y) (map f xs) (f x) (mapped f xs x later)
+]
+
+pub unmapped : {X Y : Type 0} (f : X → Y) (xs : List X) (y : Y) → Contains (map f xs) y → (x : X) × Contains xs x × (f x ≡ y)
+unmapped f [] y c = absurd (none_of y c)
+unmapped f (x ∷ xs) y c = elim (head_cases (f x) (map f xs) y c) [
+  | inl e ↦ (x, at_head x xs, e)
+  | inr later ↦ let r = unmapped f xs y later in (r.0, at_later x xs r.0 r.1, r.2)
+]

@@ -1,0 +1,189 @@
+-- Rows that are listed.
+use Rattle.std.proofs.Common.{◌≡◌, ◌<◌, ◌+◌, ◌⊎◌, ◌++◌, inl, inr, ℕ, zero, suc, List, [], ◌∷◌, Some, None, refl, sym, subst, ap, ◌∙◌, arith, slice_get, Contains, length, take, get_or}
+use Rattle.std.proofs.Math.Seq.{take-suc}
+use Rattle.std.proofs.lemmas.Option.{same_Some, slice_get_within}
+use Rattle.std.proofs.lemmas.List.{map-append}
+use Rattle.std.proofs.lemmas.List.Elements.{Contains-push_cases, Contains-append_left, Contains-push}
+use Rattle.least_sets.specs.Forms.{Form}
+use Rattle.set_names.specs.declared.name.SetName.{SetName}
+use Rattle.set_names.specs.declared.form.NamedForm.{NamedForm}
+use Rattle.set_names.specs.Forms.{form_seen, forms_seen}
+use Rattle.set_tables.specs.declared.rows.Row.{Row}
+use Rattle.set_tables.specs.Forms.{cell_of, cells_of}
+use Rattle.set_lister.specs.Asked.{AreAsked, all_names}
+use Rattle.set_numbering.specs.Numbered.{IsAt, IsByNumbers, AreListed}
+use Rattle.set_numbering.specs.Steps.{IsFormNumbered, AddsRows, IsNameNumbered, AreNumbersOf, NamedIn}
+use Rattle.set_numbering.proofs.PlaceLemmas.{keeps_itself, keeps_both, none_of}
+use Rattle.set_numbering.proofs.FormLemmas.{alike_kept}
+
+pub rest_of : {X : Type 0} (all before : List X) (x : X) (rest rest' : List X) → all ≡ before ++ rest → rest ≡ x ∷ rest' → all ≡ (before ++ x ∷ []) ++ rest'
+rest_of all before x rest rest' e f = search (e, f, append_three before x rest')
+  where
+    append_three : {X : Type 0} (before : List X) (x : X) (rest : List X) → before ++ x ∷ rest ≡ (before ++ x ∷ []) ++ rest
+    append_three [] x rest = refl
+    append_three (b ∷ before) x rest = ap (λ (ys : List _). b ∷ ys) (append_three before x rest)
+
+module _ (asks : SetName → Type 0) where
+  pub rows_none : (old : List SetName) (rows : List (ℕ × Form ℕ)) (set : ℕ) → AddsRows asks old old rows rows set []
+  rows_none old rows set = record {
+    keeps = keeps_itself old;
+    adds = λ n c. inl c;
+    stays = λ c h. h;
+    each = λ k g h. inl h;
+    all = λ f h. absurd (none_of f h);
+  }
+
+  push_row : (set : ℕ) (g : Form ℕ) (rows : List (ℕ × Form ℕ)) (k : ℕ) (h : Form ℕ) → Contains (rows ++ (set, g) ∷ []) (k, h) → Contains rows (k, h) ⊎ ((k ≡ set) × (h ≡ g))
+  push_row set g rows k h c = elim (Contains-push_cases rows (set, g) (k, h) c) [
+    | inl o ↦ inl o
+    | inr e ↦ inr (sym (ap (λ (t : ℕ × Form ℕ). t.0) e), sym (ap (λ (t : ℕ × Form ℕ). t.1) e))
+  ]
+
+  -- a row more
+  pub rows_more : (old mid new : List SetName) (before between after : List (ℕ × Form ℕ)) (set : ℕ) (fs : List (Form SetName)) (f : Form SetName) (g : Form ℕ) → AddsRows asks old mid before between set fs
+      → IsFormNumbered mid new f g → ((n : SetName) → Contains (all_names f) n → asks n) → after ≡ between ++ (set, g) ∷ [] → AddsRows asks old new before after set (fs ++ f ∷ [])
+  rows_more old mid new before between after set fs f g so one may is = subst (λ (rows : List (ℕ × Form ℕ)). AddsRows asks old new before rows set (fs ++ f ∷ [])) (sym is) (record {
+    keeps = keeps_both old mid new so.keeps one.keeps;
+    adds = λ n c. elim (one.adds n c) [ inl m ↦ so.adds n m | inr named ↦ inr (may n named) ];
+    stays = λ c h. Contains-append_left between ((set, g) ∷ []) c (so.stays c h);
+    each = λ k h c. elim (push_row set g between k h c) [
+      | inl o ↦ elim (so.each k h o) [
+        | inl b ↦ inl b
+        | inr r ↦ inr (r.0, r.1, Contains-append_left fs (f ∷ []) r.1 r.2, alike_kept mid new one.keeps r.1 h r.3)
+      ]
+      | inr e ↦ inr (e.0, f, Contains-push fs f, subst (λ (z : Form ℕ). IsByNumbers new f z) (sym e.1) one.alike)
+    ];
+    all = λ h c. elim (Contains-push_cases fs f h c) [
+      | inl o ↦ (let r = so.all h o in (r.0, Contains-append_left between ((set, g) ∷ []) (set, r.0) r.1, alike_kept mid new one.keeps h r.0 r.2))
+      | inr e ↦ (g, Contains-push between (set, g), subst (λ (z : Form SetName). IsByNumbers new z g) e one.alike)
+    ];
+  })
+
+  -- the same for what stands in memory
+  pub forms_more : (old mid new : List SetName) (rows between after : List Row) (set : ℕ) (all done : List NamedForm) (form : NamedForm) (rest : List NamedForm) (row : Row) → AreAsked asks (forms_seen all) → all ≡ done ++ form ∷ rest → row.set ≡ set
+      → AddsRows asks old mid (cells_of rows) (cells_of between) set (forms_seen done) → IsFormNumbered mid new (form_seen form) (cell_of row).1 → after ≡ between ++ row ∷ []
+      → AddsRows asks old new (cells_of rows) (cells_of after) set (forms_seen (done ++ form ∷ []))
+  forms_more old mid new rows between after set all done form rest row may split at so one is =
+      subst (λ (fs : List (Form SetName)). AddsRows asks old new (cells_of rows) (cells_of after) set fs) (sym (map-append form_seen done (form ∷ [])))
+      (rows_more old mid new (cells_of rows) (cells_of between) (cells_of after) set (forms_seen done) (form_seen form) (cell_of row).1 so one
+      (λ n named. may (form_seen form) n (subst (λ (xs : List NamedForm). Contains (forms_seen xs) (form_seen form)) (sym split) (inside done)) named)
+      (ap cells_of is ∙ map-append cell_of between (row ∷ []) ∙ ap (λ (k : ℕ). cells_of between ++ (k, (cell_of row).1) ∷ []) at))
+    where
+      inside : (xs : List NamedForm) → Contains (forms_seen (xs ++ form ∷ rest)) (form_seen form)
+      inside [] = (0, omega arith, refl)
+      inside (x ∷ xs) = let c = inside xs in (suc c.0, (let l = c.1 in omega arith), c.2)
+
+  -- all names in forms that may be asked for
+  pub rows_asked : (old new : List SetName) (before after : List (ℕ × Form ℕ)) (set : ℕ) (fs all : List (Form SetName)) → AreAsked asks fs → fs ≡ all → AddsRows (NamedIn fs) old new before after set fs → AddsRows asks old new before after set all
+  rows_asked old new before after set fs all may is so = subst (λ (gs : List (Form SetName)). AddsRows asks old new before after set gs) is (record {
+    keeps = so.keeps;
+    adds = λ n c. elim (so.adds n c) [ inl o ↦ inl o | inr r ↦ inr (may r.0 n r.1 r.2) ];
+    stays = so.stays;
+    each = so.each;
+    all = so.all;
+  })
+
+  module _ (lists : SetName → List (Form SetName)) where
+    pub listed_none : (names : List SetName) → ((n : SetName) → Contains names n → asks n) → AreListed asks lists names 0 []
+    listed_none names may = record {
+      asked = may;
+      each = λ k g c. absurd (none_of (k, g) c);
+      all = λ k n f less at has. absurd (omega arith);
+    }
+
+    -- one name more
+    pub listed_more : (old new : List SetName) (taken : ℕ) (before after : List (ℕ × Form ℕ)) (name : SetName) → AreListed asks lists old taken before → IsAt old name taken
+        → AddsRows asks old new before after taken (lists name) → AreListed asks lists new (taken + 1) after
+    listed_more old new taken before after name are here more = record {
+      asked = λ n c. elim (more.adds n c) [ inl o ↦ are.asked n o | inr may ↦ may ];
+      each = λ k g c. elim (more.each k g c) [
+        | inl o ↦ (let r = are.each k g o in (r.0, more.keeps k r.0 r.1, r.2, r.3, alike_kept old new more.keeps r.2 g r.4))
+        | inr r ↦ (name, subst (λ (j : ℕ). IsAt new name j) (sym r.0) (more.keeps taken name here), r.1, r.2, r.3)
+      ];
+      all = λ k n f less at has. elim (below k taken less) [
+        | inl l ↦ (let o = older k n at (let w = slice_get_within old taken name here in omega arith) in
+            let r = are.all k n f l o has in (r.0, more.stays (k, r.0) r.1, alike_kept old new more.keeps f r.0 r.2))
+        | inr e ↦ (
+            let same : n ≡ name = same_Some n name (sym at ∙ ap (λ (j : ℕ). slice_get new j) e ∙ more.keeps taken name here) in
+            let r = more.all f (subst (λ (z : SetName). Contains (lists z) f) same has) in
+            (r.0, subst (λ (j : ℕ). Contains after (j, r.0)) (sym e) r.1, r.2))
+      ];
+    }
+      where
+        below : (k n : ℕ) → k < n + 1 → (k < n) ⊎ (k ≡ n)
+        below k n l = grind arith
+
+        there : (xs : List SetName) (n : ℕ) → n < length xs → (x : SetName) × (slice_get xs n ≡ Some x)
+        there [] n h = absurd (omega arith)
+        there (x ∷ xs) zero h = (x, refl)
+        there (x ∷ xs) (suc n) h = there xs n (omega arith)
+
+        older : (k : ℕ) (n : SetName) → IsAt new n k → k < length old → IsAt old n k
+        older k n at l = let o = there old k l in o.1 ∙ sym (more.keeps k o.0 o.1) ∙ at
+
+    -- all names
+    pub listed_all : (names : List SetName) (taken : ℕ) (rows : List (ℕ × Form ℕ)) → slice_get names taken ≡ None → AreListed asks lists names taken rows → AreListed asks lists names (length names) rows
+    listed_all names taken rows none are = record {
+      asked = are.asked;
+      each = are.each;
+      all = λ k n f less at has. are.all k n f (past names k taken n none at) at has;
+    }
+      where
+        past : (xs : List SetName) (k t : ℕ) (n : SetName) → slice_get xs t ≡ None → slice_get xs k ≡ Some n → k < t
+        past [] k t n none at = absurd cc
+        past (x ∷ xs) k zero n none at = absurd cc
+        past (x ∷ xs) zero (suc t) n none at = omega arith
+        past (x ∷ xs) (suc k) (suc t) n none at = let l = past xs k t n none at in omega arith
+
+-- the numbers of names to begin with
+pub numbers_none : (old : List SetName) → AreNumbersOf old old [] []
+numbers_none old = record { keeps = keeps_itself old; adds = λ n c. inl c; each = λ k c. absurd (none_of k c); all = λ n c. absurd (none_of n c) }
+
+pub numbers_more : (old mid new some : List SetName) (n : SetName) (numbers : List ℕ) (k : ℕ) → AreNumbersOf old mid some numbers → IsNameNumbered mid new n k → AreNumbersOf old new (some ++ n ∷ []) (numbers ++ k ∷ [])
+numbers_more old mid new some n numbers k are one = record {
+  keeps = keeps_both old mid new are.keeps one.keeps;
+  adds = λ m c. elim (one.adds m c) [
+    | inl o ↦ elim (are.adds m o) [ inl a ↦ inl a | inr b ↦ inr (Contains-append_left some (n ∷ []) m b) ]
+    | inr e ↦ inr (subst (λ (z : SetName). Contains (some ++ n ∷ []) z) (sym e) (Contains-push some n))
+  ];
+  each = λ j c. elim (Contains-push_cases numbers k j c) [
+    | inl o ↦ (let r = are.each j o in (r.0, Contains-append_left some (n ∷ []) r.0 r.1, one.keeps j r.0 r.2))
+    | inr e ↦ (n, Contains-push some n, subst (λ (z : ℕ). IsAt new n z) e one.at)
+  ];
+  all = λ m c. elim (Contains-push_cases some n m c) [
+    | inl o ↦ (let r = are.all m o in (r.0, Contains-append_left numbers (k ∷ []) r.0 r.1, one.keeps r.0 m r.2))
+    | inr e ↦ (k, Contains-push numbers k, subst (λ (z : SetName). IsAt new z k) e one.at)
+  ];
+}
+
+pub all_named : (fs : List (Form SetName)) → AreAsked (NamedIn fs) fs
+all_named fs = λ f n has named. (f, has, named)
+
+-- one name more of a list
+pub numbers_taken : (old mid new some : List SetName) (i : ℕ) (d : SetName) (before after : List ℕ) (k : ℕ) → i < length some → AreNumbersOf old mid (take i some) before → IsNameNumbered mid new (get_or some i d) k
+    → after ≡ before ++ k ∷ [] → AreNumbersOf old new (take (i + 1) some) after
+numbers_taken old mid new some i d before after k within are one is =
+    let next : i + 1 ≡ suc i = omega arith in
+    let longer : take (i + 1) some ≡ take i some ++ get_or some i d ∷ [] = ap (λ (n : ℕ). take n some) next ∙ take-suc some i d within in
+    subst (λ (ks : List ℕ). AreNumbersOf old new (take (i + 1) some) ks) (sym is)
+    (subst (λ (ns : List SetName). AreNumbersOf old new ns (before ++ k ∷ [])) (sym longer) (numbers_more old mid new (take i some) (get_or some i d) before k are one))
+
+-- names to begin with may be asked for
+pub begins_asked : (asks : SetName → Type 0) (old new starts : List SetName) (numbers : List ℕ) → old ≡ [] → AreNumbersOf old new starts numbers → ((n : SetName) → Contains starts n → asks n) → (n : SetName) → Contains new n → asks n
+begins_asked asks old new starts numbers none are may n c = elim (are.adds n c) [
+  | inl o ↦ absurd (none_of n (subst (λ (xs : List SetName). Contains xs n) none o))
+  | inr s ↦ may n s
+]
+
+pub rows_done : (asks : SetName → Type 0) (old new : List SetName) (before after : List (ℕ × Form ℕ)) (set : ℕ) (all done rest : List NamedForm) → all ≡ done ++ rest → rest ≡ [] → AddsRows asks old new before after set (forms_seen done)
+    → AddsRows asks old new before after set (forms_seen all)
+rows_done asks old new before after set all done rest split none so =
+    subst (λ (fs : List NamedForm). AddsRows asks old new before after set (forms_seen fs)) (sym (split ∙ ap (λ (ys : List NamedForm). done ++ ys) none ∙ append_nothing done)) so
+  where
+    append_nothing : (xs : List NamedForm) → xs ++ [] ≡ xs
+    append_nothing [] = refl
+    append_nothing (x ∷ xs) = ap (λ (ys : List NamedForm). x ∷ ys) (append_nothing xs)
+
+pub no_items : {X : Type 0} (xs : List X) → length xs ≡ 0 → xs ≡ []
+no_items [] e = refl
+no_items (x ∷ xs) e = absurd (omega (arith, e))
