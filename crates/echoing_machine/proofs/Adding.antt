@@ -1,0 +1,172 @@
+-- One byte more among moves.
+use Rattle.std.specs.Prelude.{◌≡◌, ℕ, ◌+◌, ◌≤◌, ◌↔◌, true, List, [], ◌∷◌, ◌++◌, map, All, Contains, refl}
+use Rattle.std.proofs.Common.{ap, sym, subst, ◌∙◌, rules, arith, inl, inr, IsTrue}
+use Rattle.std.specs.Cmp.{first_so, second_so}
+use Rattle.std.specs.List.{list_all}
+use Rattle.std.specs.declared.vec.Vec.{Vec}
+use Rattle.std.specs.declared.alloc.Global.{Global}
+use Rattle.std.specs.Cmp.Lexicographic.{pointwise}
+use Rattle.std.proofs.lemmas.Bool.{cases_lt}
+use Rattle.std.proofs.lemmas.List.Elements.{Contains-push_cases, Contains-append_left, Contains-push, All-push, All-nil, All-contains}
+use Rattle.fst_core.proofs.LayerLemmas.{All-from_contains}
+use Rattle.text_base.specs.Exactness.{IsExact}
+use Rattle.text_base.specs.ByteRange.{InRange}
+use Rattle.text_base.specs.declared.letter.Letter.{Letter}
+use Rattle.text_base.specs.declared.letter.Letter.TheVariants.{OfToken}
+use Rattle.text_base.specs.declared.page_token.PageToken.{PageToken}
+use Rattle.fst_core.specs.Letter.{letter_of}
+use Rattle.fst_core.specs.Fits.{is_fixed}
+use Rattle.fst_core.specs.Offers.{OffersLast}
+use Rattle.fst_core.specs.declared.machine.Move.{Move}
+use Rattle.fst_core.specs.declared.out.Out.{Out}
+use Rattle.fst_core.specs.declared.out.Out.TheVariants.{Same, Token}
+use Rattle.fst_core.specs.contracts.out.OutPartialEq.TheImpl as outs
+use Rattle.echoing_machine.specs.Groups.{IsBetween, AddsByte, AreMovesBelow, echo_letters}
+
+exact_out : IsExact (outs.ghosts).eq
+exact_out = search rules
+
+pub exact_outs : (xs ys : List Out) → pointwise (outs.ghosts).eq xs ys ≡ true → xs ≡ ys
+exact_outs [] [] h = refl
+exact_outs [] (y ∷ ys) h = cc
+exact_outs (x ∷ xs) [] h = cc
+exact_outs (x ∷ xs) (y ∷ ys) h =
+    let e : x ≡ y = exact_out x y (first_so ((outs.ghosts).eq x y) (pointwise (outs.ghosts).eq xs ys) h) in
+    let f : xs ≡ ys = exact_outs xs ys (second_so ((outs.ghosts).eq x y) (pointwise (outs.ghosts).eq xs ys) h) in
+    ap (λ (z : Out). z ∷ xs) e ∙ ap (λ (zs : List Out). y ∷ zs) f
+
+wider : {S : Type 0} (lo byte : ℕ) (old : List (Move S)) → All (IsBetween lo byte) old → All (IsBetween lo (byte + 1)) old
+wider lo byte old a = λ k d h. ((a k d h).0, omega (arith, (a k d h).1))
+
+pub adds_alone : {S : Type 0} (old new : List (Move S)) (m : Move S) (byte : ℕ) → m.range.lo ≡ byte → m.range.hi ≡ byte → new ≡ old ++ m ∷ [] → AddsByte old new byte m.to m.out.items
+adds_alone old new m byte lo hi e =
+    record {
+      exact = λ b t letters. (
+        λ f. elim (Contains-push_cases old m f.0 (subst (λ (y : List (Move _)). Contains y f.0) e f.1)) [
+          | inl d ↦ inl (f.0, d, f.2, f.3, f.4)
+          | inr d ↦
+              let i : InRange m.range b = subst (λ (y : Move _). InRange y.range b) (sym d) f.2 in
+              let same : b ≡ byte = omega (arith, i.0, i.1, lo, hi) in
+              inr (same, ap (λ (y : Move _). y.to) d ∙ f.3, ap (λ (n : ℕ). map (letter_of n) m.out.items) (sym same) ∙ (ap (λ (y : Move _). map (letter_of b) y.out.items) d ∙ f.4))
+        ],
+        λ f. elim f [
+          | inl d ↦ (d.0, subst (λ (y : List (Move _)). Contains y d.0) (sym e) (Contains-append_left old (m ∷ []) d.0 d.1), d.2, d.3, d.4)
+          | inr d ↦ (
+            m,
+            subst (λ (y : List (Move _)). Contains y m) (sym e) (Contains-push old m),
+            (omega (arith, d.0, lo), omega (arith, d.0, hi)),
+            d.1,
+            ap (λ (n : ℕ). map (letter_of n) m.out.items) d.0 ∙ d.2,
+          )
+        ],
+      );
+      within = λ from h a. subst (λ (y : List (Move _)). All (IsBetween from (byte + 1)) y) (sym e) (All-push (IsBetween from (byte + 1)) old m (wider from byte old a) (omega (arith, lo, h), omega (arith, hi)));
+    }
+
+pub adds_longer : {S : Type 0} (old new : List (Move S)) (last m : Move S) (byte : ℕ) → last.range.hi + 1 ≡ byte → m.range.lo ≡ last.range.lo → m.range.hi ≡ byte → m.out.items ≡ last.out.items → m.to ≡ last.to → new ≡ old ++ m ∷ [] → AddsByte (old ++ last ∷ []) new byte last.to last.out.items
+adds_longer {S} old new last m byte before lo hi out to e =
+    record {
+      exact = λ b t letters. (
+        λ f. elim (Contains-push_cases old m f.0 (subst (λ (y : List (Move S)). Contains y f.0) e f.1)) [
+          | inl d ↦ inl (f.0, Contains-append_left old (last ∷ []) f.0 d, f.2, f.3, f.4)
+          | inr d ↦
+              let i : InRange m.range b = subst (λ (y : Move S). InRange y.range b) (sym d) f.2 in
+              let goes : last.to ≡ t = sym to ∙ (ap (λ (y : Move S). y.to) d ∙ f.3) in
+              let writes : map (letter_of b) last.out.items ≡ letters = ap (λ (y : List Out). map (letter_of b) y) (sym out) ∙ (ap (λ (y : Move S). map (letter_of b) y.out.items) d ∙ f.4) in
+              elim (cases_lt b byte) [
+                | inl s ↦ inl (last, Contains-push old last, (omega (arith, i.0, lo), omega (arith, s, before)), goes, writes)
+                | inr s ↦
+                    let same : b ≡ byte = omega (arith, i.1, hi, s) in
+                    inr (same, goes, ap (λ (n : ℕ). map (letter_of n) last.out.items) (sym same) ∙ writes)
+              ]
+        ],
+        λ f. elim f [
+          | inl d ↦ elim (Contains-push_cases old last d.0 d.1) [
+            | inl g ↦ (d.0, subst (λ (y : List (Move S)). Contains y d.0) (sym e) (Contains-append_left old (m ∷ []) d.0 g), d.2, d.3, d.4)
+            | inr g ↦
+                let i : InRange last.range b = subst (λ (y : Move S). InRange y.range b) (sym g) d.2 in (
+                  m,
+                  subst (λ (y : List (Move S)). Contains y m) (sym e) (Contains-push old m),
+                  (omega (arith, i.0, lo), omega (arith, i.1, hi, before)),
+                  to ∙ (ap (λ (y : Move S). y.to) g ∙ d.3),
+                  ap (λ (y : List Out). map (letter_of b) y) out ∙ (ap (λ (y : Move S). map (letter_of b) y.out.items) g ∙ d.4),
+                )
+          ]
+          | inr d ↦ (
+            m,
+            subst (λ (y : List (Move S)). Contains y m) (sym e) (Contains-push old m),
+            (omega (arith, d.0, lo, before, last.range.ordered), omega (arith, d.0, hi)),
+            to ∙ d.1,
+            ap (λ (y : List Out). map (letter_of b) y) out ∙ (ap (λ (n : ℕ). map (letter_of n) last.out.items) d.0 ∙ d.2),
+          )
+        ],
+      );
+      within = λ from h a.
+          let inner : All (IsBetween from byte) old = All-from_contains (IsBetween from byte) old (λ x g. All-contains (IsBetween from byte) (old ++ last ∷ []) x a (Contains-append_left old (last ∷ []) x g)) in
+          let own : IsBetween from byte last = All-contains (IsBetween from byte) (old ++ last ∷ []) last a (Contains-push old last) in
+          subst (λ (y : List (Move S)). All (IsBetween from (byte + 1)) y) (sym e) (All-push (IsBetween from (byte + 1)) old m (wider from byte old inner) (omega (arith, own.0, lo), omega (arith, hi)));
+    }
+
+echo_outs : (tokens : List PageToken) (byte : ℕ) → map (letter_of byte) (map Token tokens ++ Same ∷ []) ≡ echo_letters tokens byte
+echo_outs [] byte = refl
+echo_outs (t ∷ ts) byte = ap (λ (w : List Letter). OfToken t ∷ w) (echo_outs ts byte)
+
+pub last_outs : (tokens : List PageToken) → map (letter_of 0) (map Token tokens) ≡ map OfToken tokens
+last_outs [] = refl
+last_outs (t ∷ ts) = ap (λ (w : List Letter). OfToken t ∷ w) (last_outs ts)
+
+pub bytes_none : {S : Type 0} (next : ℕ → S) (puts : ℕ → List PageToken) (lo : ℕ) → AreMovesBelow next puts lo lo []
+bytes_none {S} next puts lo =
+    record {
+      exact = λ b h g t letters. absurd (omega (arith, h, g));
+      within = All-nil (IsBetween lo lo);
+    }
+
+pub bytes_more : {S : Type 0} (next : ℕ → S) (puts : ℕ → List PageToken) (lo n : ℕ) (old new : List (Move S)) (to : S) (out : List Out) → lo ≤ n → to ≡ next n → out ≡ map Token (puts n) ++ Same ∷ []
+    → AreMovesBelow next puts lo n old → AddsByte old new n to out → AreMovesBelow next puts lo (n + 1) new
+bytes_more {S} next puts lo n old new to out h is puts_so before adds =
+    let writes : map (letter_of n) out ≡ echo_letters (puts n) n = ap (λ (y : List Out). map (letter_of n) y) puts_so ∙ echo_outs (puts n) n in
+    record {
+      exact = λ b f g t letters. (
+        λ o. elim ((adds.exact b t letters).0 o) [
+          | inl d ↦
+              let w : IsBetween lo n d.0 = All-contains (IsBetween lo n) old d.0 before.within d.1 in
+              (before.exact b f (omega (arith, w.1, d.2.1)) t letters).0 d
+          | inr d ↦ (
+            sym d.1 ∙ (is ∙ ap next (sym d.0)),
+            sym d.2 ∙ (writes ∙ ap (λ (m : ℕ). echo_letters (puts m) m) (sym d.0)),
+          )
+        ],
+        λ o. (adds.exact b t letters).1 (elim (cases_lt b n) [
+          | inl s ↦ inl ((before.exact b f s t letters).1 o)
+          | inr s ↦
+              let same : b ≡ n = omega (arith, g, s) in
+              inr (same, is ∙ (ap next (sym same) ∙ sym o.0), writes ∙ (ap (λ (m : ℕ). echo_letters (puts m) m) (sym same) ∙ sym o.1))
+        ]),
+      );
+      within = adds.within lo h before.within;
+    }
+
+pub last_exact : (before outs : List (Vec Out Global)) (out : Vec Out Global) (tokens : List PageToken) → before ≡ [] → outs ≡ before ++ out ∷ [] → out.items ≡ map Token tokens
+    → (letters : List Letter) → OffersLast outs letters ↔ (letters ≡ map OfToken tokens)
+last_exact before outs out tokens none e is letters =
+    let writes : map (letter_of 0) out.items ≡ map OfToken tokens = ap (λ (y : List Out). map (letter_of 0) y) is ∙ last_outs tokens in (
+      λ f. elim (Contains-push_cases before out f.0 (subst (λ (y : List (Vec Out Global)). Contains y f.0) e f.1)) [
+        | inl d ↦
+            let z = subst (λ (y : List (Vec Out Global)). Contains y f.0) none d in
+            absurd (omega (arith, z.1))
+        | inr d ↦ sym f.2 ∙ (ap (λ (y : Vec Out Global). map (letter_of 0) y.items) (sym d) ∙ writes)
+      ],
+      λ f. (out, subst (λ (y : List (Vec Out Global)). Contains y out) (sym e) (Contains-push before out), writes ∙ sym f),
+    )
+
+are_fixed : (tokens : List PageToken) → list_all is_fixed (map Token tokens) ≡ true
+are_fixed [] = refl
+are_fixed (t ∷ ts) = are_fixed ts
+
+pub last_fixed : (before outs : List (Vec Out Global)) (out : Vec Out Global) (tokens : List PageToken) → before ≡ [] → outs ≡ before ++ out ∷ [] → out.items ≡ map Token tokens
+    → All (λ (o : Vec Out Global). IsTrue (list_all is_fixed o.items)) outs
+last_fixed before outs out tokens none e is =
+    let P : Vec Out Global → Type 0 = λ o. IsTrue (list_all is_fixed o.items) in
+    let own : P out = subst (λ (y : List Out). IsTrue (list_all is_fixed y)) (sym is) (are_fixed tokens) in
+    subst (λ (y : List (Vec Out Global)). All P y) (sym e) (All-push P before out (subst (λ (y : List (Vec Out Global)). All P y) (sym none) (All-nil P)) own)
