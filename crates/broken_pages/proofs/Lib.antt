@@ -1,0 +1,5 @@
+mod Steps
+mod Opens
+mod Bytes
+mod Texts
+mod Examples

@@ -1,0 +1,3 @@
+pub mod Coarse
+pub mod Seen
+pub mod Laws

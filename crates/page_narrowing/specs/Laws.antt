@@ -1,0 +1,43 @@
+-- The reader of pages that fails at once, as statements.
+use Rattle.std.specs.Prelude.{◌≡◌, ◌↔◌, ◌⊎◌, ℕ, true, List, [], ◌++◌, Some}
+use Rattle.std.specs.List.{Any}
+use Rattle.text_base.specs.declared.page_token.PageToken.{PageToken}
+use Rattle.dtd_model.specs.Table.{Table}
+use Rattle.page_model.specs.PageTokens.{PageTokens}
+use Rattle.page_model.specs.Places.{Place}
+use Rattle.piece_steps.specs.Readers.{go, whole, ends, state_after, all_tokens}
+use Rattle.character_steps.specs.Encoded.{Held, at_state, encoded}
+use Rattle.page_steps.specs.PageSteps.{PageState, page_reader, page_hold}
+use Rattle.page_step_laws.specs.Laws.{beginning}
+use Rattle.page_reads.specs.Laws.{IsLawfulTable}
+use Rattle.page_narrowing.specs.Passing.{some_begins, passes, narrow_reader}
+
+-- each state passes from which some bytes lead to the end of a piece
+abbrev pub EndsPass : Type 0
+EndsPass = (table : Table) (h : Held PageState) (bytes rest : List ℕ) (behind : Place) (tokens : List PageToken)
+    → ends (encoded (page_reader table) page_hold) h bytes ≡ whole behind tokens rest → passes table h ≡ true
+
+-- what the narrowed reader puts out over a page
+abbrev pub narrow_tokens : Table → List ℕ → List PageToken
+narrow_tokens table bytes = all_tokens (narrow_reader table) (Some (at_state beginning)) bytes
+
+-- these are the tokens of the page
+abbrev pub NarrowTokensRead : Type 0
+NarrowTokensRead = (table : Table) → IsLawfulTable table → (bytes : List ℕ) (tokens : List PageToken) → PageTokens table bytes tokens ↔ (tokens ≡ narrow_tokens table bytes)
+
+-- what the narrowed reader keeps of each state that it meets
+abbrev pub IsKept : Table → Held PageState → Type 0
+IsKept table h = passes table h ≡ true
+
+abbrev pub FirstKept : Type 0
+FirstKept = (table : Table) (place : Place) → IsKept table ((narrow_reader table).first place)
+
+abbrev pub StepsKeep : Type 0
+StepsKeep = (table : Table) (h g : Held PageState) (b : ℕ) → (narrow_reader table).step h b ≡ go g → IsKept table g
+
+abbrev pub MetKept : Type 0
+MetKept = (table : Table) (bytes : List ℕ) (h : Held PageState) → state_after (narrow_reader table) (Some (at_state beginning)) bytes ≡ Some h → IsKept table h
+
+-- the test of names tells that one of them begins so
+abbrev pub BeginningsTold : Type 0
+BeginningsTold = (names : List (List ℕ)) (front : List ℕ) → (some_begins names front ≡ true) ↔ ((front ≡ []) ⊎ Any (λ (name : List ℕ). (more : List ℕ) × (name ≡ front ++ more)) names)
