@@ -1,0 +1,13 @@
+-- The move of the definition that a move in memory stands for.
+use Rattle.text_base.specs.declared.page_token.PageToken.{PageToken}
+use Rattle.piece_steps.specs.Readers.{go, done, fail}
+use Rattle.page_steps.specs.PageSteps.{OpenMove}
+use Rattle.byte_readers.specs.Reading.{emitted}
+use Rattle.open_pieces.specs.Views.{plain_open, plain_place}
+use Rattle.remark_stepping.specs.declared.page_move.PageMove.{PageMove}
+use Rattle.remark_stepping.specs.declared.page_move.PageMove.TheVariants.{Go, Done, Fail}
+
+abbrev pub plain_move : PageMove → OpenMove
+plain_move (Go o) = go (plain_open o)
+plain_move (Done place tokens) = done (plain_place place) (emitted tokens)
+plain_move Fail = fail
