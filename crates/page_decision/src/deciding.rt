@@ -1,0 +1,133 @@
+//! The decision.
+
+ghost use Rattle.std.specs.Prelude.{IfOk, IfErr, IfSome};
+ghost use Rattle.cfg_grammar.specs.declared.symbol.Symbol as symbols;
+ghost use Rattle.dtd_model.specs.TableOf.{table_of};
+ghost use Rattle.image_meaning.specs.Outputs.{DerivesText};
+ghost use Rattle.grammar_image.specs.Refusals.{IsCause};
+ghost use Rattle.page_decision.specs.Machines.{IsBrokenMachine, IsPageMachine};
+ghost use Rattle.page_decision.specs.PageSums.{AreSegmentsOf, AreSumsOf};
+ghost use Rattle.page_decision.specs.PageVerdicts.{IsBadPage, IsPageVerdict};
+ghost use Rattle.page_goals.specs.declared.goal.Goal as goals;
+
+use crate::sums::PageSums;
+use cfg_grammar::Grammar;
+use derivations::Derivation;
+use dtd_model::Dtd;
+use dyck_balance::Nesting;
+use fst_core::Machine;
+use grammar_image::ImageRefusal;
+use page_goals::Goal;
+use page_goals::laws::{nests_tell_nested, sums_tell_valid};
+use segment_summary::Segments;
+use std::alloc::Global;
+use summary_fixpoint::Verdict;
+use text_base::NoMemory;
+use text_decision::{decide_texts, find_wrong, texts_fit};
+
+/// Whether each page is valid.
+fn decide_valid<M: Machine>(
+    alloc: Global,
+    grammar: &Grammar,
+    dtd: &Dtd,
+    machine: &M,
+    segments: &Segments,
+    items: u64,
+    pairs: u64,
+) -> Result<Verdict, ImageRefusal>
+    requires machine { IsPageMachine (table_of dtd.now) (M.first machine.now) (M.steps machine.now) (M.ends machine.now) }
+    requires segments { AreSegmentsOf (table_of dtd.now) segments.now }
+    ensures verdict { IfOk result (IsPageVerdict (table_of dtd.now)
+        (DerivesText grammar.now.productions.items (symbols.Symbol.Nt grammar.now.start)) goals.Goal.Valid pairs) }
+    ensures cause { IfErr result
+        (IsCause grammar.now.productions.items (M.steps machine.now) grammar.now.start (M.first machine.now) items) }
+{
+    sums_tell_valid();
+    texts_fit(grammar);
+    let _ = dtd;
+    decide_texts(alloc, grammar, machine, segments, items, pairs)
+}
+
+/// Whether each page is nested.
+fn decide_nested<M: Machine>(
+    alloc: Global,
+    grammar: &Grammar,
+    dtd: &Dtd,
+    machine: &M,
+    nesting: &Nesting,
+    items: u64,
+    pairs: u64,
+) -> Result<Verdict, ImageRefusal>
+    requires { IsPageMachine (table_of dtd.now) (M.first machine.now) (M.steps machine.now) (M.ends machine.now) }
+    ensures verdict { IfOk result (IsPageVerdict (table_of dtd.now)
+        (DerivesText grammar.now.productions.items (symbols.Symbol.Nt grammar.now.start)) goals.Goal.Nested pairs) }
+    ensures cause { IfErr result
+        (IsCause grammar.now.productions.items (M.steps machine.now) grammar.now.start (M.first machine.now) items) }
+{
+    nests_tell_nested();
+    texts_fit(grammar);
+    let _ = dtd;
+    decide_texts(alloc, grammar, machine, nesting, items, pairs)
+}
+
+/// Whether each page that the grammar derives is good by the goal and the definition, with at most
+/// `items` items of the image, at most `pairs` different sums of sentences a nonterminal, and
+/// `TAG_LIMIT` unmatched tags a sum.
+///
+/// # Errors
+///
+/// `Large` only where the image has at least so many items, over `items`. `Memory` may come at any
+/// time.
+pub fn decide_pages<M: Machine>(
+    alloc: Global,
+    grammar: &Grammar,
+    dtd: &Dtd,
+    goal: Goal,
+    machine: &M,
+    sums: &PageSums,
+    items: u64,
+    pairs: u64,
+) -> Result<Verdict, ImageRefusal>
+    requires machine { IsPageMachine (table_of dtd.now) (M.first machine.now) (M.steps machine.now) (M.ends machine.now) }
+    requires sums { AreSumsOf goal (table_of dtd.now) sums.now }
+    ensures verdict { IfOk result (IsPageVerdict (table_of dtd.now)
+        (DerivesText grammar.now.productions.items (symbols.Symbol.Nt grammar.now.start)) goal pairs) }
+    ensures cause { IfErr result
+        (IsCause grammar.now.productions.items (M.steps machine.now) grammar.now.start (M.first machine.now) items) }
+{
+    let _ = goal;
+    match sums {
+        PageSums::BySegments(segments) => decide_valid(
+            alloc, grammar, dtd, machine, segments, items, pairs,
+        ),
+        PageSums::ByNesting(nesting) => decide_nested(
+            alloc, grammar, dtd, machine, nesting, items, pairs,
+        ),
+    }
+}
+
+/// A derivation of a page that is good by no goal, if the machine finds one. None says nothing, and
+/// comes also where a limit is passed.
+///
+/// # Errors
+///
+/// Want of memory.
+pub fn find_broken<B: Machine>(
+    alloc: Global,
+    grammar: &Grammar,
+    dtd: &Dtd,
+    goal: Goal,
+    machine: &B,
+    items: u64,
+    pairs: u64,
+) -> Result<Option<Derivation>, NoMemory>
+    requires { IsBrokenMachine (table_of dtd.now) (B.first machine.now) (B.steps machine.now) (B.ends machine.now) }
+    ensures { IfOk result (λ found. IfSome found (IsBadPage (table_of dtd.now)
+        (DerivesText grammar.now.productions.items (symbols.Symbol.Nt grammar.now.start)) goal)) }
+{
+    let _ = dtd;
+    let _ = goal;
+    texts_fit(grammar);
+    let nesting = Nesting::new();
+    find_wrong(alloc, grammar, machine, &nesting, items, pairs)
+}

@@ -1,0 +1,23 @@
+-- What the private functions say to one another. No public clause cites these.
+use Rattle.std.specs.Prelude.{◌<◌, ℕ, List, ⊤}
+use Rattle.text_base.specs.declared.letter.Letter.{Letter}
+use Rattle.script_meaning.specs.Programs.{PlainProgram}
+use Rattle.grammar_image.specs.declared.refusal.ImageRefusal.{ImageRefusal}
+use Rattle.grammar_image.specs.declared.refusal.ImageRefusal.TheVariants as image
+use Rattle.summary_fixpoint.specs.declared.verdict.Verdict.{Verdict}
+use Rattle.summary_fixpoint.specs.declared.verdict.Verdict.TheVariants as verdict
+use Rattle.program_answers.specs.declared.answer.Answer.{Answer}
+use Rattle.program_answers.specs.declared.answer.TheConstants.{ITEM_LIMIT}
+use Rattle.program_answers.specs.Answers.{HasManyItems}
+
+-- why no image is made: one of them has so many items, over the limit; want of memory says nothing
+abbrev pub IsItemCause : {S : Type 0} → S → (S → ℕ → S → List Letter → Type 0) → PlainProgram → ImageRefusal → Type 0
+IsItemCause first steps program (image.Large count) = (ITEM_LIMIT < count) × HasManyItems first steps program count
+IsItemCause first steps program image.Memory = ⊤
+
+-- the answer that a verdict on the pages is
+abbrev pub answer_of : Verdict → Answer
+answer_of verdict.Yes = Answer.Yes
+answer_of (verdict.No derivation) = Answer.No derivation
+answer_of (verdict.Pairs count height) = Answer.Pairs count height
+answer_of (verdict.Tags count height) = Answer.Tags count height

@@ -1,0 +1,42 @@
+//! Answers.
+
+ghost use Rattle.std.specs.Prelude.{◌≡◌};
+ghost use Rattle.program_answers.specs.Steps.{answer_of};
+
+use derivations::Derivation;
+use summary_fixpoint::Verdict;
+
+/// The most items of an image: more end the decision.
+pub const ITEM_LIMIT: u64 = 8_000_000;
+
+/// The answer for a program.
+#[derive(Debug, Drop)]
+pub enum Answer {
+    /// Every loose page is good.
+    Yes,
+    /// This is a derivation of a loose page that is not good.
+    No(Derivation),
+    /// Some nonterminal of a grammar of the loose pages has at least `count` different sums of
+    /// sentences with derivations of at most `height`, and `count` is over the limit. Every loose
+    /// page with a derivation of a smaller height is good.
+    Pairs { count: u64, height: u64 },
+    /// Some sentence of a nonterminal of such a grammar with a derivation of at most `height` has
+    /// `count` unmatched tags, and `count` is over `TAG_LIMIT`. Every loose page with a derivation
+    /// of a smaller height is good.
+    Tags { count: u64, height: u64 },
+    /// The image of a string operation of the program, or that of its pages, has at least `count`
+    /// items, and `count` is over `ITEM_LIMIT`.
+    Items { count: u64 },
+}
+
+/// The answer that a verdict on the pages is.
+pub(crate) fn verdict_answer(verdict: Verdict) -> Answer
+    ensures { result ≡ answer_of verdict }
+{
+    match verdict {
+        Verdict::Yes => Answer::Yes,
+        Verdict::No(derivation) => Answer::No(derivation),
+        Verdict::Pairs { count, height } => Answer::Pairs { count, height },
+        Verdict::Tags { count, height } => Answer::Tags { count, height },
+    }
+}

@@ -1,0 +1,65 @@
+-- What an answer says of texts, by a summary of their tokens.
+use Rattle.std.specs.Prelude.{◌≡◌, ℕ, ◌<◌, Bool, true, false, List}
+use Rattle.text_base.specs.declared.letter.Letter.{Letter}
+use Rattle.text_base.specs.declared.page_token.PageToken.{PageToken}
+use Rattle.text_base.specs.declared.numbers.Nt as nt
+use Rattle.cfg_grammar.specs.declared.production.Production.{Production}
+use Rattle.derivations.specs.Stands.{IsDerivation}
+use Rattle.derivations.specs.declared.derivation.Derivation.{Derivation}
+use Rattle.sentence_writing.specs.Bytes.{bytes_in}
+use Rattle.summary_fixpoint.specs.declared.verdict.Verdict.{Verdict}
+use Rattle.summary_fixpoint.specs.declared.verdict.Verdict.TheVariants.{Yes, No, Pairs, Tags}
+use Rattle.summary_fixpoint.specs.declared.verdict.TheConstants.{TAG_LIMIT}
+use Rattle.summary_fixpoint.specs.Pairs.{IsPair, HasPairs, AreWholeBelow}
+use Rattle.text_decision.specs.Echoes.{EchoTexts}
+
+-- it is a derivation, by some productions, of letters whose bytes are the text
+pub record WritesText (derivation : Derivation) (text : List ℕ) : Type 0 where
+  pub productions : List Production
+  pub left : nt.Nt
+  pub letters : List Letter
+  pub derived : IsDerivation productions derivation.nodes.nodes.items left letters
+  pub bytes : bytes_in letters ≡ text
+
+module _ (IsText : List ℕ → Type 0) (HasTokens : List ℕ → List PageToken → Type 0) {S : Type 0} (sum_of : List PageToken → S) (whole : S → Bool) where
+  -- the text has tokens whose sum is whole, or is not
+  pub record HasSum (text : List ℕ) (is_whole : Bool) : Type 0 where
+    pub tokens : List PageToken
+    pub has : HasTokens text tokens
+    pub sum : whole (sum_of tokens) ≡ is_whole
+
+  -- the derivation is one of a text that is not whole
+  pub record IsNotWhole (derivation : Derivation) : Type 0 where
+    pub text : List ℕ
+    pub is_text : IsText text
+    pub not_whole : HasSum text false
+    pub writes : WritesText derivation text
+
+  -- a nonterminal of productions that derive the texts with their tokens has so many different sums of sentences of at most a height, over the limit, and
+  -- each sentence of a smaller height is whole
+  pub record HasManySums (limit count height : ℕ) : Type 0 where
+    pub productions : List Production
+    pub start : nt.Nt
+    pub echo : EchoTexts IsText HasTokens productions start
+    pub over : limit < count
+    pub sums : HasPairs sum_of productions start height count
+    pub whole_below : AreWholeBelow sum_of whole productions start height
+
+  -- the sum of a sentence of at most a height has so many unmatched tags, over the limit, and each sentence of a smaller height is whole
+  pub record HasManyTags (tags : S → ℕ) (count height : ℕ) : Type 0 where
+    pub productions : List Production
+    pub start : nt.Nt
+    pub echo : EchoTexts IsText HasTokens productions start
+    pub over : TAG_LIMIT < count
+    pub nonterminal : nt.Nt
+    pub sum : S
+    pub of_sentence : IsPair sum_of productions start height nonterminal sum
+    pub tagged : tags sum ≡ count
+    pub whole_below : AreWholeBelow sum_of whole productions start height
+
+  -- yes: each text is whole; no: a derivation of one that is not; a limit that is passed
+  abbrev pub IsTextVerdict : (S → ℕ) → ℕ → Verdict → Type 0
+  IsTextVerdict tags limit Yes = (text : List ℕ) → IsText text → HasSum text true
+  IsTextVerdict tags limit (No derivation) = IsNotWhole derivation
+  IsTextVerdict tags limit (Pairs count height) = HasManySums limit count height
+  IsTextVerdict tags limit (Tags count height) = HasManyTags tags count height
