@@ -1,0 +1,4 @@
+mod Later
+mod LaterParts
+mod LaterRuns
+pub mod Loops
