@@ -1,11 +1,11 @@
 -- What canonical words ask for.
-use Rattle.std.proofs.Common.{◌≡◌, ◌∙◌, ap, Bool, List, ◌∷◌, Option, Some, None, refl, inl, inr, codes}
+use Rattle.std.proofs.Common.{◌≡◌, ◌∙◌, ap, List, ◌∷◌, Option, Some, refl, inl, inr, codes}
 use Rattle.std.specs.Prelude.{fold, option_and_then}
-use Rattle.clap.specs.Walk.{Row, Rule, Text, with_default, first_of}
+use Rattle.clap.specs.Walk.{Row, Rule, Text, with_default}
 use Rattle.clap.specs.Words.{subcommand_of}
 use Rattle.clap.proofs.OnLiterals.{clap_on_literals}
 use Rattle.command_words.specs.Program as program
-use Rattle.command_words.specs.Asked.{Asked, Values, asked, asked_by, asked_check, asked_run, asked_page, asked_grammar, asked_make, values_of, is_given}
+use Rattle.command_words.specs.Asked.{Values, asked, asked_by, asked_check, asked_run, asked_page, asked_grammar, asked_make, values_of, is_given}
 use Rattle.command_words.specs.Canonical.{Part, AreCanonical, all_words, given, check_names, run_names, page_names, grammar_names, make_names}
 use Rattle.command_words.proofs.Rows.{below, parts_rows}
 use Rattle.command_words.proofs.Steps.{first_finally, LeavesAlone}

@@ -1,15 +1,15 @@
 -- The table of each command, computed, and what canonical words of it ask for.
-use Rattle.std.proofs.Common.{◌≡◌, ◌⊎◌, ◌∙◌, ◌++◌, ap, ℕ, Bool, true, false, List, [], ◌∷◌, Option, Some, None, refl, sym, subst, inl, inr, codes}
+use Rattle.std.proofs.Common.{◌≡◌, ◌∙◌, ◌++◌, ap, true, false, List, [], ◌∷◌, Option, Some, refl, sym, subst, inl, inr, codes}
 use Rattle.std.specs.Prelude.{fold}
-use Rattle.clap.specs.Walk.{Row, Text, nothing_held, rows_after, stop_after, with_default, first_of}
+use Rattle.clap.specs.Walk.{Row, Text, nothing_held, rows_after, stop_after, with_default}
 use Rattle.clap.specs.Simple.{App, Shape, built, entered, names_of, subcommand_of, argument_words, is_simple}
-use Rattle.clap.specs.Takes.{takes, is_given, is_valid, built_takes, level_passes, default_passes}
+use Rattle.clap.specs.Takes.{takes, is_given, is_valid, built_takes, default_passes}
 use Rattle.std.specs.List.{list_all}
 use Rattle.clap.specs.Lexer.{long_of}
 use Rattle.std.specs.Str.{bytes_eq}
 use Rattle.clap.proofs.OnLiterals.{clap_on_literals}
 use Rattle.command_words.specs.Program as program
-use Rattle.command_words.specs.Canonical.{Part, Names, AreParts, AreCanonical, IsAmong, all_words, check_names, run_names, page_names, grammar_names, make_names}
+use Rattle.command_words.specs.Canonical.{Part, Names, AreCanonical, IsAmong, all_words, check_names, run_names, page_names, grammar_names, make_names}
 use Rattle.command_words.proofs.Rows.{below, parts_rows}
 use Rattle.command_words.proofs.Steps.{Table, Enters, level, enters_takes, level_rows, stops_at}
 

@@ -1,5 +1,5 @@
 -- Numbers, and near misses; what words that are not canonical ask for.
-use Rattle.std.proofs.Common.{◌≡◌, [], ◌∷◌, Some, None, true, false, refl, codes}
+use Rattle.std.proofs.Common.{◌≡◌, [], Some, None, refl, codes}
 use Rattle.command_words.specs.Asked.{number_of}
 
 one_digit : number_of (codes "7") ≡ Some 7

@@ -1,13 +1,12 @@
 -- What stands in the rows of canonical words, with the defaults of flags.
-use Rattle.std.proofs.Common.{◌≡◌, ◌∙◌, ◌++◌, ap, ℕ, Bool, true, false, List, [], ◌∷◌, Option, Some, None, refl, sym, codes}
-use Rattle.std.specs.Prelude.{find, fold, cond, slice_get, option_and_then}
+use Rattle.std.proofs.Common.{◌≡◌, ◌∙◌, ◌++◌, Bool, true, false, List, [], ◌∷◌, Option, Some, None, refl, codes}
+use Rattle.std.specs.Prelude.{fold, cond, slice_get}
 use Rattle.std.specs.Str.{bytes_eq}
 use Rattle.clap.specs.Walk.{Row, Rule, Text, has_row, with_default, default_rows, more_values, reading_by, first_of}
 use Rattle.clap.specs.declared.parser.matches.ValueSource.{ValueSource}
-use Rattle.clap.specs.declared.builder.value_parser.Reading.{Reading}
 use Rattle.command_words.specs.Asked.{is_given}
-use Rattle.command_words.specs.Canonical.{Part, place, joined, apart, flag, name_of, part_value, given, last_value}
-use Rattle.command_words.proofs.Rows.{part_row, parts_rows, end_rows, place_row, option_row, flag_row}
+use Rattle.command_words.specs.Canonical.{Part, place, joined, apart, flag, given}
+use Rattle.command_words.proofs.Rows.{parts_rows, place_row, option_row, flag_row}
 use Rattle.command_words.proofs.Steps.{added}
 
 -- of a row in front

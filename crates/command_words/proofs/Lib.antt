@@ -4,4 +4,5 @@ pub mod Steps
 pub mod Commands
 pub mod Given
 pub mod Asking
+pub mod Asks
 mod Examples

@@ -1,8 +1,7 @@
 -- The rows that `clap` makes of canonical words.
 use Rattle.std.proofs.Common.{List, [], ◌∷◌, Option, Some, None, codes}
-use Rattle.std.specs.Prelude.{fold}
 use Rattle.clap.specs.Words.{App, Shape, Row, Rule, Text}
-use Rattle.clap.specs.Walk.{reading_by, with_default}
+use Rattle.clap.specs.Walk.{reading_by}
 use Rattle.clap.specs.Simple.{filled, with_index, built_leaf, inherited}
 use Rattle.clap.specs.declared.parser.matches.ValueSource.{ValueSource}
 use Rattle.clap.specs.declared.builder.value_parser.Reading.{Reading}

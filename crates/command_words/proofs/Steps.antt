@@ -1,11 +1,10 @@
 -- How a walk over canonical words goes on, part by part.
-use Rattle.std.proofs.Common.{◌≡◌, ◌⊎◌, ◌∙◌, ◌++◌, ◌||◌, ◌&&◌, ◌==◌, ap, ap₂, ℕ, Bool, true, false, not, List, [], ◌∷◌, Option, Some, None, refl, sym, subst, inl, inr, arith, rules, codes, true≢false}
-use Rattle.std.specs.Prelude.{find, fold, is_some, cond}
-use Rattle.std.specs.List.{list_any, list_all}
-use Rattle.std.specs.Option.{option_map_or}
+use Rattle.std.proofs.Common.{◌≡◌, ◌⊎◌, ◌∙◌, ◌++◌, ◌||◌, ◌&&◌, ap, ℕ, Bool, true, false, List, [], ◌∷◌, Option, Some, None, refl, sym, subst, inl, inr, codes, true≢false}
+use Rattle.std.specs.Prelude.{fold, is_some, cond}
+use Rattle.std.specs.List.{list_all}
 use Rattle.std.specs.Str.{bytes_eq}
-use Rattle.clap.specs.Walk.{Held, Names, Row, Rule, Text, Walk, idle, option as waits_for, at_row, has_row, settled, with_values, without, with_default, default_rows, more_values, walked, reading_by, arg_by_id, arg_by_long, arg_by_index, used, finished, nothing_held, walk_from, reacted, rows_after, stop_after, first_of}
-use Rattle.clap.specs.Simple.{App, Shape, filled, with_index, entered, names_of}
+use Rattle.clap.specs.Walk.{Held, Names, Row, Rule, Text, Walk, idle, option as waits_for, at_row, has_row, settled, with_values, without, with_default, default_rows, more_values, walked, reading_by, arg_by_id, arg_by_long, arg_by_index, finished, nothing_held, walk_from, reacted, rows_after, stop_after, first_of}
+use Rattle.clap.specs.Simple.{App, Shape, entered, names_of}
 use Rattle.clap.specs.Facts.{explicit_source}
 use Rattle.clap.specs.Takes.{settle_passes, turn_passes, walk_passes, is_given, use_passes, level_passes, default_passes, is_valid, entered_passes, built_takes}
 use Rattle.clap.specs.Lexer.{long_of, short_of}

@@ -1,5 +1,5 @@
 -- What words ask for: a command with the values of its arguments, or nothing.
-use Rattle.std.specs.Prelude.{◌≡◌, ◌⊎◌, [], ◌+◌, ◌*◌, ◌-◌, ◌==◌, ◌&&◌, ◌≤◌, ℕ, List, Bool, true, false, not, Option, None, Some, fold, length, nat_lt, if◌then◌else◌, option_map, option_and_then, unwrap_or, codes}
+use Rattle.std.specs.Prelude.{◌≡◌, ◌⊎◌, [], ◌&&◌, ℕ, List, Bool, true, false, Option, None, Some, length, nat_lt, if◌then◌else◌, option_map, option_and_then, unwrap_or, codes}
 use Rattle.std.specs.List.{list_all}
 use Rattle.std.specs.Str.Parse.{digits_value}
 use Rattle.std.specs.Str.{bytes_eq}
@@ -75,10 +75,14 @@ values_of rows name = first_of name rows
 abbrev pub asked : List Text → Option Asked
 asked words = option_and_then (λ found. asked_by found.0 (values_of found.1)) (subcommand_of phpsa words)
 
--- `clap` finds no fault in the words, and each number in them is one
-abbrev pub Asks : List Text → Asked → Type 0
-Asks words for = (fault_of phpsa words ≡ []) × (asked words ≡ Some for)
+-- `clap` takes the words: its test says so, or its table of faults has none for them
+abbrev pub AreTaken : List Text → Type 0
+AreTaken words = (takes phpsa words ≡ true) ⊎ (fault_of phpsa words ≡ [])
 
--- `clap` does not take the words, or a number in them is none
-abbrev pub AsksNothing : List Text → Type 0
-AsksNothing words = (takes phpsa words ≡ false) ⊎ (asked words ≡ None)
+-- the words are taken, and each number in them is one
+unfoldable pub Asks : List Text → Asked → Type 0
+Asks words for = AreTaken words × (asked words ≡ Some for)
+
+-- the words are not taken, or a number in them is none
+unfoldable pub AsksNothing : List Text → Type 0
+AsksNothing words = (AreTaken words → ⊥) ⊎ (asked words ≡ None)

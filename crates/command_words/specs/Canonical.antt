@@ -1,8 +1,9 @@
 -- Words in the forms that the documents show. Whatever their order, they are taken.
-use Rattle.std.specs.Prelude.{◌≡◌, ◌==◌, ◌⊎◌, ◌++◌, ℕ, List, [], ◌∷◌, Bool, true, false, Option, Some, None, if◌then◌else◌, codes}
+use Rattle.std.specs.Prelude.{◌≡◌, ◌==◌, ◌⊎◌, ◌++◌, List, [], ◌∷◌, Bool, true, false, Option, Some, None, if◌then◌else◌, codes}
 use Rattle.std.specs.List.{list_any}
 use Rattle.std.specs.Str.{bytes_eq}
 use Rattle.clap.specs.Words.{Text}
+use Rattle.command_words.specs.Asked.{Asked, asked_check, asked_run, asked_page, asked_grammar, asked_make}
 
 -- neither empty nor with `-` in front
 abbrev pub IsPlain : Text → Type 0
@@ -106,3 +107,16 @@ grammar_names = record { place = codes "FILE"; options = []; flags = [] }
 
 abbrev pub make_names : Names
 make_names = record { place = codes "N"; options = []; flags = codes "check" ∷ [] }
+
+-- Canonical words of one of the five commands, and what they ask for: their parts are those of the command, and each number in them is one.
+pub data IsCanonical (words : List Text) (for : Asked) : Type 0 where
+  of_check : (parts : List Part) (last : Option Text) → AreCanonical check_names parts last → words ≡ codes "check" ∷ all_words parts last
+      → asked_check (given (codes "FILE") parts last) ≡ Some for → IsCanonical words for
+  of_run : (parts : List Part) (last : Option Text) → AreCanonical run_names parts last → words ≡ codes "run" ∷ all_words parts last
+      → asked_run (given (codes "FILE") parts last) ≡ Some for → IsCanonical words for
+  of_page : (parts : List Part) (last : Option Text) → AreCanonical page_names parts last → words ≡ codes "page" ∷ all_words parts last
+      → asked_page (given (codes "FILE") parts last) ≡ Some for → IsCanonical words for
+  of_grammar : (parts : List Part) (last : Option Text) → AreCanonical grammar_names parts last → words ≡ codes "grammar" ∷ all_words parts last
+      → asked_grammar (given (codes "FILE") parts last) ≡ Some for → IsCanonical words for
+  of_make : (parts : List Part) (last : Option Text) → AreCanonical make_names parts last → words ≡ codes "make" ∷ all_words parts last
+      → asked_make (given (codes "N") parts last) ≡ Some for → IsCanonical words for

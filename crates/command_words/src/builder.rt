@@ -3,6 +3,7 @@
 ghost use Rattle.std.specs.Prelude.{◌≡◌, [], IfOk, IfErr, false, true, map, string_bytes};
 ghost use Rattle.clap.specs.Words.{FailsBy, HasMatchesOf, app_of, fault_of, kind_of, rule_of, subcommand_of, subcommand_rows_of, takes};
 ghost use Rattle.command_words.specs.declared.refusal.WordsRefusal.TheVariants.{Usage};
+ghost use Rattle.command_words.specs.Asked.{AreTaken};
 ghost use Rattle.command_words.specs.Program as spec;
 
 use crate::refusal::WordsRefusal;
@@ -106,7 +107,7 @@ pub(crate) fn matches_of<'a>(
 ) -> Result<ArgMatches<'a>, WordsRefusal>
     ensures rows { IfOk result (λ matches. subcommand_rows_of matches ≡ subcommand_of spec.phpsa (map string_bytes words.entry.now)) }
     ensures fault { IfOk result (λ matches. fault_of spec.phpsa (map string_bytes words.entry.now) ≡ []) }
-    ensures usage { IfErr result (λ refusal. refusal ≡ Usage → takes spec.phpsa (map string_bytes words.entry.now) ≡ false) }
+    ensures usage { IfErr result (λ refusal. refusal ≡ Usage → AreTaken (map string_bytes words.entry.now) → ⊥) }
 {
     match parsed(alloc, words) {
         Ok(matches) => Ok(matches),

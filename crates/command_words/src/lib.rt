@@ -29,7 +29,7 @@ use values::line_by;
 ///
 /// # Errors
 ///
-/// `Usage` only where `clap` does not take the words, or a number in them is not one to eight decimal digits that are not all 0; and `Memory`.
+/// `Usage` only where the words ask for nothing: `clap` does not take them, or a number in them is not one to eight decimal digits that are not all 0; and `Memory`.
 pub fn read_words<'a>(alloc: Global, words: &'a [String]) -> Result<CommandLine<'a>, WordsRefusal>
     ensures ok { IfOk result (λ line. Asks (map string_bytes words.entry.now) (asked_as line)) }
     ensures usage { IfErr result (λ refusal. refusal ≡ Usage → AsksNothing (map string_bytes words.entry.now)) }

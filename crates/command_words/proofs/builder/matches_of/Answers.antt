@@ -1,19 +1,29 @@
-use Rattle.std.proofs.Common.{◌∙◌, ◌≡◌, Bool, true, false, refl, map, string_bytes}
-use Rattle.clap.specs.Words.{takes}
+use Rattle.std.proofs.Common.{◌∙◌, ◌≡◌, List, [], true, map, string_bytes, subst, inl, inr}
+use Rattle.clap.specs.Words.{Text, takes, fault_of, kind_of}
+use Rattle.clap.specs.Kinds.{Kinds, HasKind, IsAmong}
+use Rattle.clap.specs.declared.error.Error.{Error}
+use Rattle.clap.specs.declared.error.kind.ErrorKind.{ErrorKind}
 use Rattle.command_words.specs.Program as spec
+use Rattle.command_words.specs.Asked.{AreTaken}
 use Rattle.command_words.proofs.Commands.{phpsa_simple}
 use Rattle.command_words.proofs.builder.matches_of.Goals as goal
 
 pub returns-in-Ok-clause-rows : goal.returns-in-Ok-clause-rows
 returns-in-Ok-clause-rows c = (c.in-Ok.ensures.ok phpsa_simple).1
 
-not_true : (b : Bool) → (b ≡ true → ⊥) → b ≡ false
-not_true true never = absurd (never refl)
-not_true false never = refl
+-- a fault of one of these kinds, none of which is want of memory, is one
+no_fault : (kinds : Kinds) (e : Error) → HasKind kinds e → (kind_of e ≡ ErrorKind.OutOfMemory → ⊥) → kinds ≡ [] → ⊥
+no_fault kinds e (inl wants) never none = never wants
+no_fault kinds e (inr among) never none = let more : IsAmong (kind_of e) [] = subst (IsAmong (kind_of e)) none among in more
+
+never : (words : List Text) (e : Error) → HasKind (fault_of spec.phpsa words) e → (takes spec.phpsa words ≡ true → kind_of e ≡ ErrorKind.OutOfMemory)
+    → (kind_of e ≡ ErrorKind.OutOfMemory → ⊥) → AreTaken words → ⊥
+never words e has passes other (inl taken) = other (passes taken)
+never words e has passes other (inr none) = no_fault (fault_of spec.phpsa words) e has other none
 
 pub returns : goal.returns
 returns c = record {
   rows = tt;
   fault = tt;
-  usage = λ e. not_true (takes spec.phpsa (map string_bytes c.args.words.now)) (λ t. c.in_default.not-OutOfMemory (c.kind.ensures ∙ c.in-Err.ensures.err t));
+  usage = λ e. never (map string_bytes c.args.words.now) c.in-Err.error c.in-Err.ensures.kinds c.in-Err.ensures.err (λ wants. c.in_default.not-OutOfMemory (c.kind.ensures ∙ wants));
 }

@@ -1,0 +1,17 @@
+-- The texts of small answers, byte for byte.
+use Rattle.std.proofs.Common.{◌≡◌, [], refl, codes}
+use Rattle.std.specs.Fmt.{digits}
+use Rattle.hex.specs.Hex.{encode_with}
+use Rattle.json.specs.Print.{escape_byte}
+use Rattle.json_answers.specs.JsonAnswers.{yes_json, no_json}
+
+valid : yes_json ≡ codes "{\"answer\":\"yes\"}\n"
+valid = refl
+
+empty_page : no_json 0 [] ≡ codes "{\"answer\":\"no\",\"length\":0,\"page\":\"\"}\n"
+unfolding digits encode_with escape_byte
+empty_page = refl
+
+short_page : no_json 12 (codes "<p>") ≡ codes "{\"answer\":\"no\",\"length\":12,\"page\":\"3c703e\"}\n"
+unfolding digits encode_with escape_byte
+short_page = refl

@@ -1,0 +1,13 @@
+-- The answers of the program as JSON (RFC 8259), each one compact object and a line feed (10).
+use Rattle.std.specs.Prelude.{ℕ, List, [], ◌∷◌, ◌++◌, codes, decimal}
+use Rattle.json.specs.Print.{quoted}
+use Rattle.hex.specs.Hex.{encode_lower}
+
+-- `{"answer":"yes"}`
+abbrev pub yes_json : List ℕ
+yes_json = codes "{\"answer\":\"yes\"}" ++ 10 ∷ []
+
+-- `{"answer":"no","length":LENGTH,"page":"HEX"}`: a length, and the bytes at the front of a page as two lower-case hexadecimal digits each
+abbrev pub no_json : ℕ → List ℕ → List ℕ
+no_json len front =
+    codes "{\"answer\":\"no\",\"length\":" ++ (decimal len ++ (codes ",\"page\":" ++ (quoted (encode_lower front) ++ codes "}"))) ++ 10 ∷ []
