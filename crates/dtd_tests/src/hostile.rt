@@ -137,6 +137,17 @@ fn entities_that_double_unseen(rt: HostRuntime) -> Result<(), Fail> {
     Ok(())
 }
 
+// 4,194,303 references are replaced, and one level more, 8,388,607, passes the limit of 4,194,304: within entity values they add no byte.
+#[test]
+fn references_at_their_limit(rt: HostRuntime) -> Result<(), Fail> {
+    let most = doubling_unseen(rt.alloc(), 21)?;
+    assert!(rt; comes_to(rt.alloc(), most.as_str(), "Ok &x")?);
+    let more = doubling_unseen(rt.alloc(), 22)?;
+    let count = count_of(rt.alloc(), more.as_str())?.ok_or("a limit")?;
+    assert!(rt; count > 4_194_304);
+    Ok(())
+}
+
 // So many elements, and so many attribute lists that declare nothing (XML 1.0, 3.3).
 #[test]
 fn many_declarations(rt: HostRuntime) -> Result<(), Fail> {
@@ -198,7 +209,7 @@ fn front_is_judged(alloc: Global, front: &[u8]) -> Result<bool, Fail> {
 #[test]
 fn a_text_cut_at_each_byte(rt: HostRuntime) -> Result<(), Fail> {
     let whole = strict_text(rt.alloc())?;
-    for length in 0..512 {
+    for length in 0..4_096 {
         let front = whole.as_slice().get(..length).ok_or("a front")?;
         assert!(rt; front_is_judged(rt.alloc(), front)?, "{length}");
     }
