@@ -18,6 +18,7 @@ fn is_quote(byte: u8) -> bool
     byte == b'"' || byte == b'\''
 }
 
+/// In content.
 pub fn content_step(alloc: Global, byte: u8) -> Result<CoarseState, NoMemory>
     ensures { IfOk result (λ s. s ≡ coded (coarse.coarse_step coarse.content byte)) }
 {
@@ -31,6 +32,7 @@ pub fn content_step(alloc: Global, byte: u8) -> Result<CoarseState, NoMemory>
     }
 }
 
+/// Behind `&`.
 pub fn reference_step(byte: u8) -> CoarseState
     ensures { result ≡ coded (coarse.coarse_step coarse.reference byte) }
 {
@@ -43,6 +45,7 @@ pub fn reference_step(byte: u8) -> CoarseState
     }
 }
 
+/// Behind `<`.
 pub fn opener_step(alloc: Global, bytes: &Bytes, byte: u8) -> Result<CoarseState, NoMemory>
     ensures { IfOk result (λ s. s ≡ coded (coarse.coarse_step (coarse.opener bytes.now) byte)) }
 {
@@ -57,6 +60,7 @@ pub fn opener_step(alloc: Global, bytes: &Bytes, byte: u8) -> Result<CoarseState
     }
 }
 
+/// In a start tag.
 pub fn tag_step(byte: u8) -> CoarseState
     ensures { result ≡ coded (coarse.coarse_step coarse.tag byte) }
 {
@@ -71,6 +75,7 @@ pub fn tag_step(byte: u8) -> CoarseState
     }
 }
 
+/// In the quotes of a value.
 pub fn quotes_step(quote: u8, byte: u8) -> CoarseState
     ensures { result ≡ coded (coarse.coarse_step (coarse.quotes quote) byte) }
 {
@@ -83,6 +88,7 @@ pub fn quotes_step(quote: u8, byte: u8) -> CoarseState
     }
 }
 
+/// In an end tag.
 pub fn end_tag_step(byte: u8) -> CoarseState
     ensures { result ≡ coded (coarse.coarse_step coarse.end_tag byte) }
 {
@@ -95,6 +101,7 @@ pub fn end_tag_step(byte: u8) -> CoarseState
     }
 }
 
+/// In a comment, of which so many `-` are the last characters.
 pub fn comment_step(dashes: u8, byte: u8) -> CoarseState
     ensures { result ≡ coded (coarse.coarse_step (coarse.comment dashes) byte) }
 {
@@ -118,6 +125,7 @@ fn one_more(brackets: u8) -> u8
     if brackets == 0 { 1 } else { 2 }
 }
 
+/// In a section, of which so many `]` are the last characters.
 pub fn section_step(brackets: u8, byte: u8) -> CoarseState
     ensures { result ≡ coded (coarse.coarse_step (coarse.section brackets) byte) }
 {
@@ -130,6 +138,7 @@ pub fn section_step(brackets: u8, byte: u8) -> CoarseState
     }
 }
 
+/// In an instruction.
 pub fn instruction_step(asked: bool, byte: u8) -> CoarseState
     ensures { result ≡ coded (coarse.coarse_step (coarse.instruction asked) byte) }
 {
@@ -140,6 +149,7 @@ pub fn instruction_step(asked: bool, byte: u8) -> CoarseState
     }
 }
 
+/// In the XML declaration.
 pub fn words_step(byte: u8) -> CoarseState
     ensures { result ≡ coded (coarse.coarse_step coarse.words byte) }
 {
@@ -154,6 +164,7 @@ pub fn words_step(byte: u8) -> CoarseState
     }
 }
 
+/// In the quotes of a value of the XML declaration.
 pub fn word_quotes_step(quote: u8, byte: u8) -> CoarseState
     ensures { result ≡ coded (coarse.coarse_step (coarse.word_quotes quote) byte) }
 {
@@ -166,6 +177,7 @@ pub fn word_quotes_step(quote: u8, byte: u8) -> CoarseState
     }
 }
 
+/// Behind a `?` that only `>` may follow.
 pub fn closing_step(byte: u8) -> CoarseState
     ensures { result ≡ coded (coarse.coarse_step coarse.closing byte) }
 {
@@ -176,6 +188,7 @@ pub fn closing_step(byte: u8) -> CoarseState
     }
 }
 
+/// In a document type declaration.
 pub fn doctype_step(byte: u8) -> CoarseState
     ensures { result ≡ coded (coarse.coarse_step coarse.doctype byte) }
 {
@@ -190,6 +203,7 @@ pub fn doctype_step(byte: u8) -> CoarseState
     }
 }
 
+/// In the quotes of a literal there.
 pub fn doctype_quotes_step(quote: u8, byte: u8) -> CoarseState
     ensures { result ≡ coded (coarse.coarse_step (coarse.doctype_quotes quote) byte) }
 {
