@@ -6,12 +6,12 @@ ghost use Rattle.open_pieces.specs.Views.{plain_word};
 ghost use Rattle.doctype_stepping.specs.Views.{plain_turn, wanted_turn};
 
 use crate::turn::DoctypeTurn;
-use crate::words::in_public_identifier;
 use dtd_model::DoctypeRule;
 use open_pieces::{Characters, DoctypeWord, OpenDoctype};
-use reference_stepping::is_word;
+use page_cutting::in_public_identifier;
 use std::alloc::Global;
 use text_base::NoMemory;
+use value_rules::is_word;
 
 /// The quote of the literal behind the word. Takes no memory.
 pub fn literal_turn(alloc: Global, rule: DoctypeRule, word: DoctypeWord, quote: char) -> DoctypeTurn

@@ -8,13 +8,13 @@ ghost use Rattle.doctype_stepping.specs.Views.{plain_turn, before_next, behind_p
 
 use crate::literals::{free_turn, kept_turn, literal_turn};
 use crate::turn::DoctypeTurn;
-use crate::words::{begins_root, is_free, is_quote, may_begin};
+use crate::words::{begins_root, is_free, may_begin};
 use dtd_model::DoctypeRule;
 use open_pieces::{Characters, DoctypeWord, OpenDoctype};
-use page_cutting::is_blank;
-use reference_stepping::is_word;
+use page_cutting::{is_blank, is_quote};
 use std::alloc::Global;
 use text_base::NoMemory;
+use value_rules::is_word;
 
 /// One character more in a document type declaration, behind `<!DOCTYPE` (XML 1.0, 2.8; XHTML 1.0, 3.1.1).
 pub fn doctype_turn(

@@ -60,3 +60,15 @@ pub fn is_quote(c: char) -> bool
 {
     c == '"' || c == '\''
 }
+
+/// Whether the character may stand in a public identifier (XML 1.0, 2.3, PubidChar).
+pub fn in_public_identifier(c: char) -> bool
+    ensures { result ≡ names.in_public_identifier c }
+{
+    let is_sign = [
+        '-', '\'', '(', ')', '+', ',', '.', '/', ':', '=', '?', ';', '!', '*', '#', '@', '$', '_',
+        '%',
+    ]
+    .contains(&c);
+    c == '\n' || c == '\r' || c == ' ' || c.is_ascii_alphanumeric() || is_sign
+}

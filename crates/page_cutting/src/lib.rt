@@ -12,7 +12,7 @@ mod remarks;
 mod scan;
 mod tags;
 
-pub use classes::{Class, begins_name, in_name, is_blank};
+pub use classes::{Class, begins_name, in_name, in_public_identifier, is_blank, is_quote};
 pub use parts::{
     Attribute, Declaration, Doctype, Identifier, Literal, Piece, Place, Reference, Tag,
 };

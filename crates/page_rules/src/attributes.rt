@@ -3,21 +3,20 @@
 ghost use Rattle.std.specs.Prelude.{◌≡◌, ◌&&◌, IfOk, map};
 ghost use Rattle.std.specs.List.{list_all};
 ghost use Rattle.dtd_model.specs.References.{is_known};
-ghost use Rattle.dtd_model.specs.Table.{declared_of, presence_of};
+ghost use Rattle.dtd_model.specs.Table.{declared_of};
 ghost use Rattle.dtd_model.specs.TableOf.{table_of};
 ghost use Rattle.page_model.specs.Attributes as spec;
 ghost use Rattle.page_model.specs.Parts.{refers_by, Attribute};
 ghost use Rattle.page_cutting.specs.Views.{attribute_of};
-ghost use Rattle.page_rules.specs.Tests.{at_most_one, has_value, once_by};
+ghost use Rattle.page_rules.specs.Tests.{at_most_one, once_by};
 
-use crate::characters::{is_named, is_word};
-use crate::references::refers_to_known;
-use crate::values::{has_fixed, has_kind};
 use dtd_index::IndexedDtd;
-use dtd_model::{AttrRule, Need};
+use dtd_model::AttrRule;
 use page_cutting::Attribute as Read;
 use std::alloc::Global;
+use tag_rules::must_stand;
 use text_base::{Bytes, NoMemory};
+use value_rules::{has_value, is_named, is_word, refers_to_known};
 
 /// Whether the attributes of a tag are those that the element may and must have (XML 1.0, 3.3).
 /// Time is linear in them, times the declared ones, of which there are at most 64.
@@ -87,16 +86,6 @@ fn is_declared(alloc: Global, rules: &Vec<AttrRule>, attribute: &Read<'_>) -> Re
     Ok(false)
 }
 
-fn has_value(alloc: Global, rule: &AttrRule, value: &[char]) -> Result<bool, NoMemory>
-    ensures { IfOk result (λ fit. fit ≡ has_value (declared_of rule.now) value.now) }
-{
-    if has_kind(&rule.kind, value) {
-        has_fixed(alloc, &rule.need, value)
-    } else {
-        Ok(false)
-    }
-}
-
 // Whether no declared name stands twice.
 fn all_once(rules: &Vec<AttrRule>, attributes: &[Read<'_>]) -> bool
     ensures { result ≡ once_by (map attribute_of attributes.now) (map declared_of rules.now.items) }
@@ -144,20 +133,4 @@ fn all_there(name: &[char], rules: &Vec<AttrRule>, attributes: &[Read<'_>]) -> b
         }
     }
     true
-}
-
-fn must_stand(name: &[char], rule: &AttrRule) -> bool
-    ensures { result ≡ spec.must_stand name.now (declared_of rule.now) }
-{
-    is_required(&rule.need)
-        || (is_word(name, b"html") && rule.name.as_slice() == b"xmlns".as_slice())
-}
-
-fn is_required(need: &Need) -> bool
-    ensures { result ≡ spec.is_required (presence_of need.now) }
-{
-    match need {
-        Need::Required => true,
-        Need::Implied | Need::Default | Need::Fixed(_) => false,
-    }
 }

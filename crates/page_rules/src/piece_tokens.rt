@@ -10,14 +10,13 @@ ghost use Rattle.page_cutting.specs.Views.{doctype_of, identifier_of, piece_of, 
 ghost use Rattle.page_rules.specs.Takes.{Takes, TakesTag, identifier_fits};
 
 use crate::attributes::attributes_fit;
-use crate::characters::is_word;
-use crate::elements::element;
-use crate::references::is_known;
 use dtd_index::IndexedDtd;
 use dtd_model::DoctypeRule;
 use page_cutting::{Doctype, Identifier, Piece, Reference, Tag, is_blank};
 use std::alloc::Global;
+use tag_rules::element;
 use text_base::{Elem, NoMemory};
+use value_rules::{is_known, is_word};
 
 /// What a piece is for the tree of a page.
 #[derive(Clone, Copy, Debug)]

@@ -11,11 +11,9 @@ ghost use Rattle.page_model.specs.Prolog as prolog;
 ghost use Rattle.page_reading.specs.Right as spec;
 ghost use Rattle.page_cutting.specs.Views.{attribute_of, identifier_of, literal_of, piece_of, place_of};
 
-use crate::characters::{
-    are_characters, begins_blank, is_some, is_word, is_word_in_any_case, may_be_quoted,
-};
-use crate::references::{is_reference, refers};
-use page_cutting::{Attribute, Identifier, Literal, Piece, Place};
+use crate::characters::{are_characters, begins_blank, may_be_quoted};
+use page_cutting::{Attribute, Identifier, Literal, Piece, Place, in_public_identifier};
+use value_rules::{is_reference, is_some, is_word, is_word_in_any_case, refers};
 use xml_text::is_character;
 
 /// Whether the piece is as XML asks at this place.
@@ -114,18 +112,7 @@ fn is_public(literal: Literal<'_>) -> bool
     ensures { result ≡ spec.literal_is_right names.in_public_identifier (literal_of literal.entry) }
 {
     let Literal { quote, text } = literal;
-    text.iter().all(|c| may_be_public(*c) && *c != quote)
-}
-
-fn may_be_public(c: char) -> bool
-    ensures { result ≡ names.in_public_identifier c }
-{
-    let is_sign = [
-        '-', '\'', '(', ')', '+', ',', '.', '/', ':', '=', '?', ';', '!', '*', '#', '@', '$', '_',
-        '%',
-    ]
-    .contains(&c);
-    c == '\n' || c == '\r' || c == ' ' || c.is_ascii_alphanumeric() || is_sign
+    text.iter().all(|c| in_public_identifier(*c) && *c != quote)
 }
 
 // The version, and maybe the encoding and whether the page stands alone (XML 1.0, 2.8).

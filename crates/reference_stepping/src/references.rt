@@ -7,13 +7,13 @@ ghost use Rattle.page_fronts.specs.OpenValues as value;
 ghost use Rattle.open_pieces.specs.Views.{plain_reference};
 ghost use Rattle.reference_stepping.specs.Views.{plain_next};
 
-use crate::numbers::{is_character_code, with_digit};
-use crate::words::{is_name, is_predefined};
+use crate::numbers::with_digit;
 use dtd_index::IndexedDtd;
 use open_pieces::{Characters, OpenReference};
 use page_cutting::{begins_name, in_name};
 use std::alloc::Global;
 use text_base::NoMemory;
+use value_rules::{is_character_code, is_name, is_predefined};
 
 /// One character more in a reference, behind its `&` and before its `;` (XML 1.0, 4.1); none where no reference goes on so.
 pub fn reference_step(

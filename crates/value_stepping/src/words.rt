@@ -1,7 +1,6 @@
 //! Values of words.
 
 ghost use Rattle.std.specs.Prelude.{◌≡◌, IfOk};
-ghost use Rattle.dtd_model.specs.References as references;
 ghost use Rattle.dtd_model.specs.Table.{kind_of};
 ghost use Rattle.page_steps.specs.ValueSteps as steps;
 ghost use Rattle.value_stepping.specs.Views.{plain_next, choice_next, words_next};
@@ -11,6 +10,7 @@ use open_pieces::{Characters, OpenValue};
 use page_cutting::{begins_name, in_name, is_blank};
 use std::alloc::Global;
 use text_base::NoMemory;
+use value_rules::is_some;
 
 // Whether the type has names, and not name tokens.
 fn has_names(kind: &AttrKind) -> bool
@@ -69,16 +69,6 @@ pub fn words_more(kind: &AttrKind, is_inside: bool, is_one: bool, c: char) -> Op
         Some(OpenValue::Words(false, is_inside || is_one))
     } else {
         words_step(kind, is_inside, is_one, c)
-    }
-}
-
-// Whether there is a character.
-fn is_some(cs: &[char]) -> bool
-    ensures { result ≡ references.is_some cs.now }
-{
-    match cs {
-        [] => false,
-        [_, ..] => true,
     }
 }
 

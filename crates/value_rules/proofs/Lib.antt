@@ -1,0 +1,2 @@
+pub mod Semicolons
+pub mod FirstWords
