@@ -1,0 +1,6 @@
+use Rattle.std.proofs.Common.{◌≡◌, drop}
+use Rattle.page_steps.specs.TagSteps.{is_among}
+use Rattle.attribute_stepping.proofs.names.is_name_among.Given as goal
+
+abbrev pub invariant-loop-other : goal.invariant-loop-other
+invariant-loop-other l = is_among (drop l.other-index l.names) l.name ≡ is_among l.names l.name
