@@ -1,0 +1,14 @@
+//! The law. The function does nothing, and stands for the law that its contract states.
+
+ghost use Rattle.dtd_model.specs.TableOf.{table_of};
+ghost use Rattle.reader_echo.specs.Laws.{IsMachineOf};
+
+use page_reader::PageReader;
+
+/// By each definition the echoing machine of its reader is a machine that reads pages.
+pub fn is_page_machine(reader: &PageReader<'_>)
+    ensures { IsMachineOf (table_of reader.now.indexed.now.dtd.now) }
+{
+    page_reader::laws::reads_pages(reader.indexed.dtd);
+    page_echo::laws::echo_is_page_machine(reader.indexed.dtd, reader);
+}
