@@ -19,6 +19,7 @@ use Rattle.page_steps.specs.DoctypeSteps.{begins}
 use Rattle.page_steps.specs.PageSteps.{PageState, page_reader, page_hold, page_language}
 use Rattle.page_step_laws.specs.Laws.{beginning}
 use Rattle.page_step_laws.proofs.Held.{read_by_characters}
+use Rattle.page_step_laws.proofs.Tokens.{pieces}
 use Rattle.page_reads.specs.Laws.{IsLawfulTable}
 use Rattle.page_reads.proofs.All.{pieces_read, page_tokens_read}
 use Rattle.page_narrowing.specs.Laws.{EndsPass, NarrowTokensRead, FirstKept, StepsKeep, MetKept, BeginningsTold}
@@ -38,13 +39,10 @@ pub ends_pass : EndsPass
 ends_pass table h bytes rest next tokens e =
     end_passes_by_bytes (page_reader table) page_hold (λ (s : PageState). open_passes table s.inside) (λ (s : PageState). takes_several s.inside) (trap table) bytes h next tokens rest e
 
-abbrev pieces : Table → Language Place Piece PageToken
-pieces table = encoded_language (page_language table)
-
 by_bytes : (table : Table) → IsLawfulTable table → Reads (pieces table) (encoded (page_reader table) page_hold)
 by_bytes table h = encoded_reads (page_language table) (page_reader table) page_hold (read_by_characters table) (pieces_read table h)
 
-by_narrow : (table : Table) → IsLawfulTable table → Reads (pieces table) (narrow_reader table)
+pub by_narrow : (table : Table) → IsLawfulTable table → Reads (pieces table) (narrow_reader table)
 by_narrow table h = narrowed_reads (pieces table) (passes table) (encoded (page_reader table) page_hold) (by_bytes table h) (all_pass table)
 
 pub narrow_tokens_read : NarrowTokensRead

@@ -15,14 +15,14 @@ use Rattle.page_steps.specs.PageSteps.{page_reader, page_hold, page_language}
 use Rattle.page_step_laws.specs.Laws.{TokensByReading}
 use Rattle.page_step_laws.proofs.Held.{read_by_characters}
 
-abbrev pieces : Table → Language Place Piece PageToken
+abbrev pub pieces : Table → Language Place Piece PageToken
 pieces table = encoded_language (page_language table)
 
-place_same : (table : Table) (ps : List Piece) (place : Place) → language.behind_all (pieces table) place ps ≡ after_all place ps
+pub place_same : (table : Table) (ps : List Piece) (place : Place) → language.behind_all (pieces table) place ps ≡ after_all place ps
 place_same table [] place = refl
 place_same table (p ∷ ps) place = place_same table ps (after place p)
 
-bytes_same : (table : Table) (ps : List Piece) (rest : List ℕ) → language.spelled_then (pieces table) ps rest ≡ page.bytes_then ps rest
+pub bytes_same : (table : Table) (ps : List Piece) (rest : List ℕ) → language.spelled_then (pieces table) ps rest ≡ page.bytes_then ps rest
 bytes_same table [] rest = refl
 bytes_same table (p ∷ ps) rest = ap (λ (w : List ℕ). page.piece_bytes p ++ w) (bytes_same table ps rest)
 
@@ -34,11 +34,11 @@ left_same : (rest : List ℕ) → language.left_tokens token.Bad rest ≡ page.l
 left_same [] = refl
 left_same (b ∷ bytes) = refl
 
-to_lawful : (table : Table) (ps : List Piece) (place : Place) → page.AreLawful table place ps → language.AllLawful (pieces table) place ps
+pub to_lawful : (table : Table) (ps : List Piece) (place : Place) → page.AreLawful table place ps → language.AllLawful (pieces table) place ps
 to_lawful table [] place h = tt
 to_lawful table (p ∷ ps) place h = (h.0, to_lawful table ps (after place p) h.1)
 
-from_lawful : (table : Table) (ps : List Piece) (place : Place) → language.AllLawful (pieces table) place ps → page.AreLawful table place ps
+pub from_lawful : (table : Table) (ps : List Piece) (place : Place) → language.AllLawful (pieces table) place ps → page.AreLawful table place ps
 from_lawful table [] place h = tt
 from_lawful table (p ∷ ps) place h = (h.0, from_lawful table ps (after place p) h.1)
 

@@ -1,2 +1,2 @@
-mod Reserved
+pub mod Reserved
 pub mod Targets

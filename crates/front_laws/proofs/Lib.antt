@@ -1,0 +1,17 @@
+mod Folds
+mod Pages
+mod Remarks
+mod References
+mod Attributes
+mod Texts
+mod Words
+mod Values
+mod Standing
+mod Signs
+mod Tags
+mod Openers
+mod Targets
+mod Doctypes
+mod Bytes
+mod Characters
+mod Led
