@@ -2,3 +2,5 @@ mod EndLemmas
 mod Numbering
 mod Unasked
 mod Pages
+mod Operations
+mod Rules

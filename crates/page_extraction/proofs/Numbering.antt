@@ -4,7 +4,7 @@ use Rattle.std.proofs.lemmas.Option.{slice_get_within, get_or_from_slice_get}
 use Rattle.plain_values.specs.Plain.{PlainKey}
 use Rattle.op_system.specs.declared.op.Op.{Op}
 use Rattle.flow_code.specs.Points.{PlainFlow}
-use Rattle.least_sets.specs.Forms.{Form, same_form}
+use Rattle.least_sets.specs.Forms.{Form, same_form, apply_form}
 use Rattle.least_sets.specs.Sets.{In}
 use Rattle.loose_sets.specs.Names as sets
 use Rattle.loose_sets.specs.Names.{out_of}
@@ -64,7 +64,7 @@ listed_same (m ∷ starts) n (suc k, below, e) = let c = listed_same starts n (k
 
 module _ (flow : PlainFlow) (linked : Linked) (at : Versioned) (exact : AreExact flow linked at) (asks : SetName → Type 0) (lists : SetName → List (Form SetName)) (is : IsFlowLister flow linked at asks lists)
     (starts names : List SetName) (start count : ℕ) (rows : List (ℕ × Form ℕ)) (ends : AreEnds flow starts) (are : AreNumbered asks lists starts names start count rows) where
-  numbered : IsNumbered flow linked at names rows
+  pub numbered : IsNumbered flow linked at names rows
   numbered = record {
     each = λ m k g h has.
         let r = (are.listed k h.name h.at).each g has in
@@ -93,6 +93,10 @@ module _ (flow : PlainFlow) (linked : Linked) (at : Versioned) (exact : AreExact
     where
       by : (n : SetName) (g : Form ℕ) → Contains starts n → Alike (IsAt names) (same_form n) g → Begins g
       by n _ has (Alike.same _ k there) = record { name = n; number = k; has = has; there = there; form = refl }
+
+  -- the start is no set that an operation makes
+  pub no_start : (op : Op) (j : ℕ) → Contains rows (start, apply_form op j) → ⊥
+  no_start op j c = let b = begins (apply_form op j) c in let f : apply_form op j ≡ same_form b.number = b.form in cc
 
   takes_over : (n : SetName) → Contains starts n → (k : ℕ) × IsAt names n k × Contains rows (start, same_form k)
   takes_over n has = let r = are.begins.all (same_form n) (listed_same starts n has) in by r.0 r.1 r.2

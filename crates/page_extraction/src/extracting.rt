@@ -6,6 +6,7 @@ ghost use Rattle.flow_code.specs.View.{plain_flow};
 ghost use Rattle.loose_sets.specs.Loose.{Loose};
 ghost use Rattle.op_cycles.specs.Texts.{TextOf};
 ghost use Rattle.page_extraction.specs.Ends.{AreEnds, IsExactLister};
+ghost use Rattle.page_extraction.specs.Rules.{AreLooseRules};
 
 use flow_code::FlowProgram;
 use op_system::OpSystem;
@@ -31,15 +32,17 @@ fn ends(alloc: Global, flow: &FlowProgram) -> Result<Vec<SetName>, NoMemory>
 }
 
 /// The system of productions and operations whose start has exactly the loose pages of a program, over a
-/// lister of its sets. Linear in the rows, beside what the lister takes for them.
+/// lister of its sets, and whose operations are in cycles exactly where those of the loose sets are. Linear
+/// in the rows, beside what the lister takes for them.
 pub fn extract_by<L: Lister>(
     alloc: Global,
     flow: &FlowProgram,
     lister: &L,
 ) -> Result<OpSystem, NoMemory>
     requires { IsExactLister (plain_flow flow.now) (L.asks lister.now) (L.lists lister.now) }
-    ensures { IfOk result (λ s. (w : List ℕ) → TextOf s (symbols.Symbol.Nt s.start) w
+    ensures pages { IfOk result (λ s. (w : List ℕ) → TextOf s (symbols.Symbol.Nt s.start) w
         ↔ Loose (plain_flow flow.now) w) }
+    ensures rules { IfOk result (AreLooseRules (plain_flow flow.now)) }
 {
     let starts = ends(alloc, flow)?;
     let numbered = number_sets(alloc, lister, &starts)?;

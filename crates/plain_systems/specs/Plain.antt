@@ -23,3 +23,7 @@ HasSets rows sets productions rules = (k : ℕ) → k < sets → (w : List ℕ) 
 abbrev pub HasCycles : List (ℕ × Form ℕ) → ℕ → List Production → List OpRule → Type 0
 HasCycles rows sets productions rules =
     (k j : ℕ) (op : Op) → k < sets → j < sets → Contains rows (k, apply_form op j) → IsCircular (listed rows) k op j ↔ IsCircular (SystemRow productions rules) (Nt (record { 0 = k })) op (Nt (record { 0 = j }))
+
+-- each rule is an operation of the table, by the numbers of its sets
+abbrev pub AreOfRows : List (ℕ × Form ℕ) → ℕ → List OpRule → Type 0
+AreOfRows rows sets rules = (rule : OpRule) → Contains rules rule → (rule.left.0 < sets) × (rule.operand.0 < sets) × Contains rows (rule.left.0, apply_form rule.op rule.operand.0)

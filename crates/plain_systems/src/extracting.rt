@@ -3,7 +3,7 @@
 ghost use Rattle.std.specs.Prelude.{◌≡◌, ◌+◌, ◌≤◌, length, IfOk};
 ghost use Rattle.set_tables.specs.Forms.{cells_of};
 ghost use Rattle.set_tables.specs.Size.{bytes_in};
-ghost use Rattle.plain_systems.specs.Plain.{HasSets, HasCycles};
+ghost use Rattle.plain_systems.specs.Plain.{HasSets, HasCycles, AreOfRows};
 
 use given_texts::given_texts;
 use op_system::OpSystem;
@@ -20,6 +20,7 @@ pub fn plain_system(alloc: Global, table: &SetTable) -> Result<OpSystem, NoMemor
         s.grammar.productions.items s.ops.items) }
     ensures cycles { IfOk result (λ s. HasCycles (cells_of table.now.rows.items) table.now.count
         s.grammar.productions.items s.ops.items) }
+    ensures rules { IfOk result (λ s. AreOfRows (cells_of table.now.rows.items) table.now.count s.ops.items) }
     ensures start { IfOk result (λ s. s.start.0 ≡ table.now.start) }
     ensures numbers { IfOk result (λ s. s.grammar.count
         ≤ table.now.count + 32 + bytes_in table.now.rows.items) }

@@ -1,6 +1,6 @@
 //! Systems as one grammar: which words it derives, with near misses.
 
-use crate::words::derives;
+use crate::derives;
 use cfg_grammar::{Grammar, Production, Right, Symbol};
 use grammar_image::ImageRefusal;
 use op_system::{Op, OpRule, OpSystem};

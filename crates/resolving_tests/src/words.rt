@@ -1,26 +1,21 @@
-//! Whether a grammar derives a word of up to eight bytes, by trying all cuts.
+//! Whether a grammar derives a short word, by trying all cuts.
 
 use cfg_grammar::{Grammar, Production, Right, Symbol};
+use indexmap::IndexSet;
 use std::alloc::Global;
 use text_base::{NoMemory, Nt};
 
-/// A nonterminal that derives the bytes from one place up to another.
-#[derive(Clone, Copy, PartialEq, Eq)]
-struct Span {
-    nt: u64,
-    from: u64,
-    to: u64,
-}
+/// A nonterminal that derives the bytes from one place up to another, by its number and these places.
+type Spans = IndexSet<(u64, usize, usize)>;
 
-fn symbol_derives(found: &Vec<Span>, word: &[u8], symbol: Symbol, from: u64, to: u64) -> bool {
+/// Whether a symbol derives the bytes from one place up to another, by what has been found.
+fn symbol_derives(found: &Spans, word: &[u8], symbol: Symbol, from: usize, to: usize) -> bool {
     match symbol {
-        Symbol::Nt(a) => found
-            .iter()
-            .any(|s| s.nt == a.0 && s.from == from && s.to == to),
+        Symbol::Nt(a) => found.contains(&(a.0, from, to)),
         Symbol::Range(range) => {
             from < to
                 && to - from == 1
-                && match word.get(from as usize) {
+                && match word.get(from) {
                     Some(byte) => range.lo <= *byte && *byte <= range.hi,
                     None => false,
                 }
@@ -29,57 +24,66 @@ fn symbol_derives(found: &Vec<Span>, word: &[u8], symbol: Symbol, from: u64, to:
     }
 }
 
-fn right_derives(found: &Vec<Span>, word: &[u8], right: &Right, from: u64, to: u64) -> bool {
+/// Whether two symbols derive them one after the other, by some cut between them.
+fn both_derive(found: &Spans, word: &[u8], both: (Symbol, Symbol), from: usize, to: usize) -> bool {
+    for cut in from..to {
+        if symbol_derives(found, word, both.0, from, cut)
+            && symbol_derives(found, word, both.1, cut, to)
+        {
+            return true;
+        }
+    }
+    symbol_derives(found, word, both.0, from, to) && symbol_derives(found, word, both.1, to, to)
+}
+
+fn right_derives(found: &Spans, word: &[u8], right: &Right, from: usize, to: usize) -> bool {
     match right {
         Right::Empty => from == to,
         Right::One(symbol) => symbol_derives(found, word, *symbol, from, to),
-        Right::Two(first, second) => {
-            let mut is_cut = false;
-            for cut in from..9 {
-                if cut <= to
-                    && symbol_derives(found, word, *first, from, cut)
-                    && symbol_derives(found, word, *second, cut, to)
-                {
-                    is_cut = true;
-                }
-            }
-            is_cut
-        }
+        Right::Two(first, second) => both_derive(found, word, (*first, *second), from, to),
     }
 }
 
-/// Adds what is found in one more round, and says whether there was something.
-fn round(found: &mut Vec<Span>, word: &[u8], productions: &[Production]) -> Result<bool, NoMemory> {
-    let mut is_more = false;
-    for p in productions {
-        for from in 0..9 {
-            for to in from..9 {
-                if to <= word.len() as u64
-                    && !symbol_derives(found, word, Symbol::Nt(p.left), from, to)
-                    && right_derives(found, word, &p.right, from, to)
-                {
-                    found.push(Span {
-                        nt: p.left.0,
-                        from,
-                        to,
-                    })?;
-                    is_more = true;
-                }
-            }
+/// Adds what a production derives of the bytes from a place on.
+fn add_from(
+    found: &mut Spans,
+    word: &[u8],
+    production: &Production,
+    from: usize,
+) -> Result<(), NoMemory> {
+    for (before, _) in word.iter().enumerate() {
+        if from <= before && right_derives(found, word, &production.right, from, before) {
+            found.insert((production.left.0, from, before))?;
         }
     }
-    Ok(is_more)
+    if right_derives(found, word, &production.right, from, word.len()) {
+        found.insert((production.left.0, from, word.len()))?;
+    }
+    Ok(())
+}
+
+/// Adds what is found in one more round.
+fn round(found: &mut Spans, word: &[u8], productions: &[Production]) -> Result<(), NoMemory> {
+    for production in productions {
+        for (from, _) in word.iter().enumerate() {
+            add_from(found, word, production, from)?;
+        }
+        add_from(found, word, production, word.len())?;
+    }
+    Ok(())
 }
 
 /// Whether the grammar derives the word, in up to 1,000 rounds.
 pub fn derives(alloc: Global, grammar: &Grammar, word: &str) -> Result<bool, NoMemory> {
     let word = word.as_bytes();
-    let mut found = Vec::new(alloc);
+    let mut found = IndexSet::new(alloc);
     for _round in 0..1000 {
-        if !round(&mut found, word, grammar.productions.as_slice())? {
+        let known = found.len();
+        round(&mut found, word, grammar.productions.as_slice())?;
+        if found.len() == known {
             break;
         }
     }
     let start: Nt = grammar.start;
-    Ok(symbol_derives(&found, word, Symbol::Nt(start), 0, word.len() as u64))
+    Ok(symbol_derives(&found, word, Symbol::Nt(start), 0, word.len()))
 }

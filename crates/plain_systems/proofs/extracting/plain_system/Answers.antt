@@ -1,6 +1,6 @@
 use Rattle.set_tables.specs.Forms.{cells_of}
 use Rattle.set_tables.specs.Given.{closed_of}
-use Rattle.plain_systems.proofs.PlainLemmas.{has_sets, has_cycles}
+use Rattle.plain_systems.proofs.PlainLemmas.{has_sets, has_cycles, of_rows}
 use Rattle.plain_systems.proofs.extracting.plain_system.Goals as goal
 
 pub returns-clause-sets : goal.returns-clause-sets
@@ -12,3 +12,8 @@ pub returns-clause-cycles : goal.returns-clause-cycles
 returns-clause-cycles c =
     let s = c.in_ok-system.system in
     has_cycles (cells_of c.args.table.now.rows.items) (closed_of c.in_ok-given.given) c.args.table.now.count s.grammar.count s.grammar.productions.items s.ops.items c.in_ok-system.ensures.sets c.in_ok-given.ensures.closed
+
+pub returns-clause-rules : goal.returns-clause-rules
+returns-clause-rules c =
+    let s = c.in_ok-system.system in
+    of_rows c.args.table.now.rows.items (closed_of c.in_ok-given.given) c.args.table.now.count s.grammar.count s.grammar.productions.items s.ops.items c.args.table.now.rows_below c.in_ok-system.ensures.sets

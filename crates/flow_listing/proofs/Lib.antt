@@ -1,0 +1,4 @@
+mod Entries
+mod Exact
+mod Closed
+mod Listing

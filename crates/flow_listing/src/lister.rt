@@ -1,0 +1,43 @@
+//! The lister of a program.
+
+ghost use Rattle.std.specs.Prelude.{IfOk};
+ghost use Rattle.flow_code.specs.View.{plain_flow};
+ghost use Rattle.flow_tables.specs.Tables.{lists_of};
+ghost use Rattle.page_extraction.specs.Ends.{IsExactLister};
+ghost use Rattle.flow_listing.specs.Asked.{IsAsked};
+
+use flow_code::FlowProgram;
+use flow_tables::{FlowTables, forms_by, tables_of};
+use set_lister::Lister;
+use set_names::{NamedForm, SetName};
+use std::alloc::Global;
+use text_base::NoMemory;
+
+/// Lists the rows of the sets of a program of points by their names.
+#[derive(Drop)]
+pub struct FlowLister<'a> {
+    /// What is found out once of the program.
+    pub tables: FlowTables<'a>,
+}
+
+impl<'a> FlowLister<'a> {
+    /// The lister of a program. Linear in the program, and for each slot that is joined where several
+    /// points lead, in these points.
+    pub fn new(alloc: Global, flow: &'a FlowProgram) -> Result<FlowLister<'a>, NoMemory>
+        ensures { IfOk result (λ lister. IsExactLister (plain_flow flow.now) (IsAsked lister.tables) (lists_of lister.tables)) }
+    {
+        let tables = tables_of(alloc, flow)?;
+        Ok(FlowLister { tables })
+    }
+}
+
+impl<'a> Lister for FlowLister<'a> {
+    ghost asks = { λ lister. IsAsked lister.tables };
+
+    ghost lists = { λ lister. lists_of lister.tables };
+
+    fn forms(&self, alloc: Global, name: SetName) -> Result<Vec<NamedForm>, NoMemory> {
+        let forms = forms_by(alloc, &self.tables, name)?;
+        Ok(forms)
+    }
+}
