@@ -10,13 +10,14 @@ ghost use Rattle.program_answers.specs.Answers.{DerivePages, IsAnswerBy, IsLoose
 ghost use Rattle.program_answers.specs.Steps.{IsItemCause};
 
 use crate::answer::{Answer, ITEM_LIMIT, verdict_answer};
+use crate::pages::decide_grammar;
 use cfg_grammar::Grammar;
 use dtd_model::Dtd;
 use fst_core::Machine;
 use grammar_image::ImageRefusal;
 use grammar_trimming::trim;
 use op_system::OpSystem;
-use page_decision::{PageSums, decide_pages};
+use page_decision::PageSums;
 use page_goals::Goal;
 use php_program::Program;
 use resolving::resolve;
@@ -68,11 +69,12 @@ fn verdict_by<M: Machine>(
         Ok(grammar) => grammar,
         Err(refusal) => return Err(refusal),
     };
-    decide_pages(alloc, &grammar, dtd, goal, machine, sums, ITEM_LIMIT, pairs)
+    decide_grammar(alloc, &grammar, dtd, goal, machine, sums, pairs)
 }
 
 /// Whether each loose page of the program is good by the goal and the definition, with at most
-/// `pairs` different sums of sentences a nonterminal.
+/// `pairs` different sums of sentences a nonterminal. A page that is broken whatever the definition
+/// is looked for first, and is found also where the whole decision would pass a limit.
 ///
 /// # Errors
 ///

@@ -7,14 +7,14 @@ use Rattle.program_answers.proofs.answering.verdict_by.Goals as goal
 pub returns-clause-verdict : goal.returns-clause-verdict
 returns-clause-verdict g c =
     let made = c.in-Ok.grammar in
-    IfOk-weaker c.decide_pages.result _ _
+    IfOk-weaker c.decide_grammar.result _ _
     (λ v is. verdict_on_program (program_of c.args.program.now) made.productions.items made.start c.in-Ok.ensures.pages (table_of c.args.dtd.now) c.args.goal c.args.pairs v is)
-    c.decide_pages.ensures.verdict
+    c.decide_grammar.ensures.verdict
 
 pub returns-clause-cause : goal.returns-clause-cause
 returns-clause-cause g c =
     let m = c.args.machine.now in
     let made = c.in-Ok.grammar in
-    IfErr-weaker c.decide_pages.result _ _
+    IfErr-weaker c.decide_grammar.result _ _
     (λ refusal is. pages_cause (program_of c.args.program.now) (g.M.Machine.first m) (g.M.Machine.steps m) made.productions.items made.start refusal c.in-Ok.ensures.pages is)
-    c.decide_pages.ensures.cause
+    c.decide_grammar.ensures.cause

@@ -1,0 +1,72 @@
+//! The pages of a grammar: a broken one is looked for first.
+
+ghost use Rattle.std.specs.Prelude.{IfOk, IfErr, IfSome};
+ghost use Rattle.cfg_grammar.specs.declared.symbol.Symbol as symbols;
+ghost use Rattle.dtd_model.specs.TableOf.{table_of};
+ghost use Rattle.image_meaning.specs.Outputs.{DerivesText};
+ghost use Rattle.grammar_image.specs.Refusals.{IsCause};
+ghost use Rattle.page_decision.specs.Machines.{IsPageMachine};
+ghost use Rattle.page_decision.specs.PageSums.{AreSumsOf};
+ghost use Rattle.page_decision.specs.PageVerdicts.{IsBadPage, IsPageVerdict};
+
+use crate::answer::ITEM_LIMIT;
+use cfg_grammar::Grammar;
+use coarse_reader::CoarseReader;
+use coarse_reader::laws::finds_broken;
+use derivations::Derivation;
+use dtd_model::Dtd;
+use echoing_machine::Echoing;
+use fst_core::Machine;
+use grammar_image::ImageRefusal;
+use page_decision::{PageSums, decide_pages, find_broken};
+use page_goals::Goal;
+use std::alloc::Global;
+use summary_fixpoint::Verdict;
+use text_base::NoMemory;
+
+/// The most different sums of the sentences of a nonterminal by the tokens of the coarse reader: a
+/// sentence has a bad token or none.
+const COARSE_SUMS: u64 = 2;
+
+/// A derivation of a page that is broken, and so good by no goal, if one is found.
+fn find_broken_page(
+    alloc: Global,
+    grammar: &Grammar,
+    dtd: &Dtd,
+    goal: Goal,
+) -> Result<Option<Derivation>, NoMemory>
+    ensures { IfOk result (λ found. IfSome found (IsBadPage (table_of dtd.now)
+        (DerivesText grammar.now.productions.items (symbols.Symbol.Nt grammar.now.start)) goal)) }
+{
+    finds_broken();
+    let machine = Echoing {
+        reader: CoarseReader,
+    };
+    find_broken(alloc, grammar, dtd, goal, &machine, ITEM_LIMIT, COARSE_SUMS)
+}
+
+/// Whether each page that the grammar derives is good by the goal and the definition. A broken page
+/// is looked for first by a reader of few states, since the whole reader meets too many where what
+/// comes from outside stands in a page as it is.
+pub(crate) fn decide_grammar<M: Machine>(
+    alloc: Global,
+    grammar: &Grammar,
+    dtd: &Dtd,
+    goal: Goal,
+    machine: &M,
+    sums: &PageSums,
+    pairs: u64,
+) -> Result<Verdict, ImageRefusal>
+    requires machine { IsPageMachine (table_of dtd.now) (M.first machine.now) (M.steps machine.now) (M.ends machine.now) }
+    requires sums { AreSumsOf goal (table_of dtd.now) sums.now }
+    ensures verdict { IfOk result (IsPageVerdict (table_of dtd.now)
+        (DerivesText grammar.now.productions.items (symbols.Symbol.Nt grammar.now.start)) goal pairs) }
+    ensures cause { IfErr result
+        (IsCause grammar.now.productions.items (M.steps machine.now) grammar.now.start (M.first machine.now) ITEM_LIMIT) }
+{
+    match find_broken_page(alloc, grammar, dtd, goal) {
+        Ok(Some(derivation)) => Ok(Verdict::No(derivation)),
+        Ok(None) => decide_pages(alloc, grammar, dtd, goal, machine, sums, ITEM_LIMIT, pairs),
+        Err(_) => Err(ImageRefusal::Memory),
+    }
+}

@@ -1,0 +1,29 @@
+-- What an answer says of runs follows from what it says of loose pages.
+use Rattle.std.proofs.Common.{ℕ, List}
+use Rattle.std.specs.Prelude.{Result, Ok, Err, IfOk}
+use Rattle.text_base.specs.declared.letter.Letter.{Letter}
+use Rattle.script_meaning.specs.Programs.{PlainProgram}
+use Rattle.php_program.specs.Lawful.{IsLawful}
+use Rattle.program_points.specs.Texts.{TextsFit}
+use Rattle.dtd_model.specs.Table.{Table}
+use Rattle.page_goals.specs.declared.goal.Goal.{Goal}
+use Rattle.program_answers.specs.declared.answer.Answer.{Answer}
+use Rattle.program_answers.specs.Answers.{EachIsGood, IsAnswerBy, RunsAreGood, SaysOfRuns}
+use Rattle.script_decision.specs.declared.refusal.CheckRefusal.{CheckRefusal}
+
+-- where each loose page is good, so are runs
+abbrev pub RunsFollow : Type 0
+RunsFollow = (goal : Goal) (table : Table) (program : PlainProgram) → IsLawful program → TextsFit program → EachIsGood goal table program → RunsAreGood goal table program
+
+module _ (law : RunsFollow) {S : Type 0} (first : S) (steps : S → ℕ → S → List Letter → Type 0) (goal : Goal) (table : Table) (program : PlainProgram) (lawful : IsLawful program) (limit : ℕ) where
+  says : (answer : Answer) → TextsFit program → IsAnswerBy first steps goal table program limit answer → SaysOfRuns goal table program answer
+  says Answer.Yes fit each = law goal table program lawful fit each
+  says (Answer.No derivation) fit is = tt
+  says (Answer.Pairs count height) fit is = tt
+  says (Answer.Tags count height) fit is = tt
+  says (Answer.Items count) fit is = tt
+
+  pub result_says : (result : Result Answer CheckRefusal) → IfOk result (λ _. TextsFit program) → IfOk result (IsAnswerBy first steps goal table program limit)
+      → IfOk result (SaysOfRuns goal table program)
+  result_says (Ok answer) fit is = says answer fit is
+  result_says (Err refusal) fit is = tt

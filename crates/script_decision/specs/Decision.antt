@@ -1,0 +1,39 @@
+-- What the answer for a program says of its loose pages, and why it has none.
+use Rattle.std.specs.Prelude.{◌<◌, ℕ, ⊤}
+use Rattle.script_meaning.specs.Programs.{PlainProgram}
+use Rattle.program_literals.specs.Short.{HasLongText}
+use Rattle.dtd_model.specs.Table.{Table}
+use Rattle.content_automata.specs.Decides.{shapes_in}
+use Rattle.content_automata.specs.Tables.{HasStates}
+use Rattle.page_goals.specs.declared.goal.Goal.{Goal}
+use Rattle.page_decision.specs.PageVerdicts.{HasManyPairs, HasManyOpenTags}
+use Rattle.echoing_machine.specs.Echoes.{EchoStep}
+use Rattle.page_reader.specs.States.{first_state, next_state, tokens_at, tokens_behind}
+use Rattle.program_answers.specs.declared.answer.Answer.{Answer}
+use Rattle.program_answers.specs.declared.answer.TheConstants.{ITEM_LIMIT}
+use Rattle.program_answers.specs.Answers as by_machine
+use Rattle.program_answers.specs.Answers.{IsLoosePage, EachIsGood, IsCounterexample}
+use Rattle.script_decision.specs.declared.refusal.CheckRefusal.{CheckRefusal}
+use Rattle.script_decision.specs.declared.refusal.CheckRefusal.TheVariants as refusal
+
+-- an image has at least so many items: that of an operation of the program, or that of its loose pages under the reader of the definition's pages
+abbrev pub HasManyItems : Table → PlainProgram → ℕ → Type 0
+HasManyItems table program count = by_machine.HasManyItems first_state (EchoStep (next_state table) (tokens_at table) (tokens_behind table)) program count
+
+-- yes: each loose page is good; no: a derivation of one that is not; a stated count that is passed: of sums of the sentences of a nonterminal, of unmatched tags, of items
+abbrev pub IsAnswerOf : Goal → Table → PlainProgram → ℕ → Answer → Type 0
+IsAnswerOf goal table program limit Answer.Yes = EachIsGood goal table program
+IsAnswerOf goal table program limit (Answer.No derivation) = IsCounterexample goal table program derivation
+IsAnswerOf goal table program limit (Answer.Pairs count height) = HasManyPairs table (IsLoosePage program) goal limit count height
+IsAnswerOf goal table program limit (Answer.Tags count height) = HasManyOpenTags table (IsLoosePage program) goal count height
+IsAnswerOf goal table program limit (Answer.Items count) = (ITEM_LIMIT < count) × HasManyItems table program count
+
+-- the content models of the definition have over 4,096 states, at least so many
+abbrev pub HasManyStates : Table → ℕ → Type 0
+HasManyStates table count = (4096 < count) × HasStates (shapes_in table) count
+
+-- the program is refused, for this reason; want of memory says nothing
+abbrev pub IsCheckRefusal : Table → PlainProgram → CheckRefusal → Type 0
+IsCheckRefusal table program (refusal.Limit count) = HasManyStates table count
+IsCheckRefusal table program refusal.LongText = HasLongText program
+IsCheckRefusal table program refusal.Memory = ⊤

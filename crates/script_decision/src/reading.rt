@@ -1,0 +1,138 @@
+//! The decision by any reader that has the tokens of pages.
+
+ghost use Rattle.std.specs.Prelude.{◌≡◌, IfOk, IfErr};
+ghost use Rattle.dtd_model.specs.TableOf.{table_of};
+ghost use Rattle.flow_code.specs.Flat.{flat};
+ghost use Rattle.flow_code.specs.View.{plain_flow};
+ghost use Rattle.php_program.specs.View.{program_of};
+ghost use Rattle.program_points.specs.Texts.{TextsFit};
+ghost use Rattle.page_decision.specs.PageSums.{AreSumsOf};
+ghost use Rattle.page_echo.specs.Readers.{ReadsPages};
+ghost use Rattle.echoing_machine.specs.Echoes.{EchoStep};
+ghost use Rattle.program_answers.specs.Answers.{IsAnswerBy, IsSystemOf, SaysOfRuns};
+ghost use Rattle.script_decision.specs.Decision.{IsCheckRefusal};
+
+use crate::refusal::CheckRefusal;
+use byte_readers::ByteReader;
+use call_lowering::LoweringError;
+use content_automata::ContentRefusal;
+use dtd_model::Dtd;
+use echoing_machine::Echoing;
+use extraction::extract;
+use flow_code::FlowProgram;
+use op_system::OpSystem;
+use page_decision::{PageSums, sums_of};
+use page_echo::laws::echo_is_page_machine;
+use page_goals::Goal;
+use php_program::Program;
+use program_answers::laws::good_loose_pages_make_good_runs;
+use program_answers::{Answer, answer_by};
+use program_lowering::lower;
+use std::alloc::Global;
+use text_base::NoMemory;
+
+/// The system of a program, from its points.
+fn system_of(alloc: Global, program: &Program, flow: &FlowProgram) -> Result<OpSystem, NoMemory>
+    requires { plain_flow flow.now ≡ flat (program_of program.now) }
+    ensures { IfOk result (IsSystemOf (program_of program.now)) }
+{
+    let _ = program;
+    extract(alloc, flow)
+}
+
+/// The answer for a program, from its points and the summary of the goal.
+fn answer_points<R: ByteReader + Drop>(
+    alloc: Global,
+    program: &Program,
+    flow: &FlowProgram,
+    dtd: &Dtd,
+    goal: Goal,
+    reader: R,
+    sums: &PageSums,
+    pairs: u64,
+) -> Result<Answer, NoMemory>
+    requires flow { plain_flow flow.now ≡ flat (program_of program.now) }
+    requires reads { ReadsPages (table_of dtd.now) (R.next reader) (R.puts reader) (R.lasts reader) (R.first reader) }
+    requires sums { AreSumsOf goal (table_of dtd.now) sums.now }
+    ensures { IfOk result (IsAnswerBy (R.first reader) (EchoStep (R.next reader) (R.puts reader) (R.lasts reader))
+        goal (table_of dtd.now) (program_of program.now) pairs) }
+{
+    let system = system_of(alloc, program, flow)?;
+    echo_is_page_machine(dtd, &reader);
+    let machine = Echoing { reader };
+    answer_by(alloc, program, &system, dtd, goal, &machine, sums, pairs)
+}
+
+/// The answer for a program, from its points.
+fn decide_points<R: ByteReader + Drop>(
+    alloc: Global,
+    program: &Program,
+    flow: &FlowProgram,
+    dtd: &Dtd,
+    goal: Goal,
+    reader: R,
+    pairs: u64,
+) -> Result<Answer, CheckRefusal>
+    requires flow { plain_flow flow.now ≡ flat (program_of program.now) }
+    requires reads { ReadsPages (table_of dtd.now) (R.next reader) (R.puts reader) (R.lasts reader) (R.first reader) }
+    ensures answer { IfOk result (IsAnswerBy (R.first reader) (EchoStep (R.next reader) (R.puts reader) (R.lasts reader))
+        goal (table_of dtd.now) (program_of program.now) pairs) }
+    ensures refusal { IfErr result (IsCheckRefusal (table_of dtd.now) (program_of program.now)) }
+{
+    let sums = match sums_of(alloc, dtd, goal) {
+        Ok(sums) => sums,
+        Err(ContentRefusal::Limit { count }) => return Err(CheckRefusal::Limit { count }),
+        Err(ContentRefusal::Memory) => return Err(CheckRefusal::Memory),
+    };
+    match answer_points(alloc, program, flow, dtd, goal, reader, &sums, pairs) {
+        Ok(answer) => Ok(answer),
+        Err(_) => Err(CheckRefusal::Memory),
+    }
+}
+
+/// The answer for a program, and that its texts are texts of a run.
+fn decide_program<R: ByteReader + Drop>(
+    alloc: Global,
+    program: &Program,
+    dtd: &Dtd,
+    goal: Goal,
+    reader: R,
+    pairs: u64,
+) -> Result<Answer, CheckRefusal>
+    requires { ReadsPages (table_of dtd.now) (R.next reader) (R.puts reader) (R.lasts reader) (R.first reader) }
+    ensures answer { IfOk result (IsAnswerBy (R.first reader) (EchoStep (R.next reader) (R.puts reader) (R.lasts reader))
+        goal (table_of dtd.now) (program_of program.now) pairs) }
+    ensures texts { IfOk result (λ _. TextsFit (program_of program.now)) }
+    ensures refusal { IfErr result (IsCheckRefusal (table_of dtd.now) (program_of program.now)) }
+{
+    match lower(alloc, program) {
+        Ok(flow) => decide_points(alloc, program, &flow, dtd, goal, reader, pairs),
+        Err(LoweringError::LongText) => Err(CheckRefusal::LongText),
+        Err(LoweringError::Memory) => Err(CheckRefusal::Memory),
+    }
+}
+
+/// Whether each loose page of the program is good by the goal and the definition, by a reader that has
+/// the tokens of each page. A yes says that each run that ends prints a good page.
+///
+/// # Errors
+///
+/// `LongText` only where a text literal of the program has over 16,777,216 bytes; `Limit` only where the
+/// content models of the definition have over 4,096 states. `Memory` may come at any time.
+pub fn check_by<R: ByteReader + Drop>(
+    alloc: Global,
+    program: &Program,
+    dtd: &Dtd,
+    goal: Goal,
+    reader: R,
+    pairs: u64,
+) -> Result<Answer, CheckRefusal>
+    requires { ReadsPages (table_of dtd.now) (R.next reader) (R.puts reader) (R.lasts reader) (R.first reader) }
+    ensures answer { IfOk result (IsAnswerBy (R.first reader) (EchoStep (R.next reader) (R.puts reader) (R.lasts reader))
+        goal (table_of dtd.now) (program_of program.now) pairs) }
+    ensures sound { IfOk result (SaysOfRuns goal (table_of dtd.now) (program_of program.now)) }
+    ensures refusal { IfErr result (IsCheckRefusal (table_of dtd.now) (program_of program.now)) }
+{
+    good_loose_pages_make_good_runs();
+    decide_program(alloc, program, dtd, goal, reader, pairs)
+}
