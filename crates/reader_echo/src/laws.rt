@@ -3,12 +3,12 @@
 ghost use Rattle.dtd_model.specs.TableOf.{table_of};
 ghost use Rattle.reader_echo.specs.Laws.{IsMachineOf};
 
-use page_reader::PageReader;
+use merged_reader::MergedReader;
 
 /// By each definition the echoing machine of its reader is a machine that reads pages.
-pub fn is_page_machine(reader: &PageReader<'_>)
+pub fn is_page_machine(reader: &MergedReader<'_>)
     ensures { IsMachineOf (table_of reader.now.indexed.now.dtd.now) }
 {
-    page_reader::laws::reads_pages(reader.indexed.dtd);
+    merged_reader::laws::reads_pages(reader.indexed.dtd);
     page_echo::laws::echo_is_page_machine(reader.indexed.dtd, reader);
 }

@@ -1,0 +1,4 @@
+pub mod Alike
+pub mod Merging
+pub mod States
+pub mod Laws

@@ -1,0 +1,7 @@
+//! Tests of merged_reader.
+#![tactic(auto)]
+
+#[cfg(test)]
+mod reading;
+#[cfg(test)]
+mod rows;
