@@ -8,8 +8,6 @@ use Rattle.cfg_grammar.specs.declared.production.Production.{Production}
 use Rattle.cfg_grammar.specs.Derives.{Derives}
 use Rattle.image_meaning.specs.Outputs.{DerivesText}
 use Rattle.script_meaning.specs.Programs.{PlainProgram}
-use Rattle.op_system.specs.declared.system.OpSystem.{OpSystem}
-use Rattle.resolve_laws.specs.Resolved.{HasLetters}
 use Rattle.dtd_model.specs.Table.{Table}
 use Rattle.summary_fixpoint.specs.declared.verdict.Verdict.{Verdict}
 use Rattle.summary_fixpoint.specs.declared.verdict.Verdict.TheVariants.{Yes, No, Pairs, Tags}
@@ -19,9 +17,9 @@ use Rattle.page_decision.proofs.AlongLemmas.{page_verdict_along}
 use Rattle.grammar_image.specs.declared.refusal.ImageRefusal.{ImageRefusal}
 use Rattle.grammar_image.specs.declared.refusal.ImageRefusal.TheVariants.{Large, Memory}
 use Rattle.grammar_image.specs.Refusals as images
-use Rattle.resolving.specs.Causes as operations
-use Rattle.program_answers.specs.declared.answer.TheConstants.{ITEM_LIMIT}
-use Rattle.program_answers.specs.Answers.{IsLoosePage, IsSystemOf, DerivePages, by_operation, by_pages, IsAnswerBy}
+use Rattle.loose_grammar.specs.declared.refusal.TheConstants.{ITEM_LIMIT}
+use Rattle.loose_grammar.specs.Pages.{IsLoosePage, DerivePages}
+use Rattle.program_answers.specs.Answers.{by_pages, IsAnswerBy}
 use Rattle.program_answers.specs.Steps.{IsItemCause, answer_of}
 
 same_bytes : (u v : List ℕ) → map OfByte u ≡ map OfByte v → u ≡ v
@@ -34,19 +32,6 @@ same_bytes (a ∷ u) (b ∷ v) e =
     cc
 
 module _ (program : PlainProgram) where
-  -- productions that derive exactly the texts of the start of a system of the loose pages
-  pub system_pages : (system : OpSystem) (productions : List Production) (start : nt.Nt) → IsSystemOf program system
-      → ((w : List Letter) → Derives productions (Nt start) w ↔ HasLetters system (Nt system.start) w) → DerivePages program productions start
-  system_pages system productions start is exact w = (
-    λ d. let h = (exact w).0 d in (h.0, h.1, (is h.0).0 h.2),
-    λ h. (exact w).1 (h.0, h.1, (is h.0).1 h.2),
-  )
-
-  -- and those with the same sentences
-  pub same_pages : (old new : List Production) (start start' : nt.Nt) → DerivePages program old start → ((w : List Letter) → Derives old (Nt start) w ↔ Derives new (Nt start') w)
-      → DerivePages program new start'
-  same_pages old new start start' are same w = (λ d. (are w).0 ((same w).1 d), λ h. (same w).0 ((are w).1 h))
-
   module _ (productions : List Production) (start : nt.Nt) (are : DerivePages program productions start) where
     texts_are_pages : (page : List ℕ) → DerivesText productions (Nt start) page ↔ IsLoosePage program page
     texts_are_pages page = (
@@ -65,11 +50,6 @@ module _ (program : PlainProgram) where
     answer_by_verdict table goal limit (No d) h = h
     answer_by_verdict table goal limit (Pairs count height) h = h
     answer_by_verdict table goal limit (Tags count height) h = h
-
-    -- an operation's image is too large
-    pub operation_cause : (system : OpSystem) (r : ImageRefusal) → IsSystemOf program system → operations.IsCause system ITEM_LIMIT r → IsItemCause first steps program r
-    operation_cause system (Large items) is h = (h.0, by_operation system is h.1)
-    operation_cause system Memory is h = tt
 
     -- the image of the pages is too large
     pub pages_cause : (productions : List Production) (start : nt.Nt) (r : ImageRefusal) → DerivePages program productions start → images.IsCause productions steps start first ITEM_LIMIT r

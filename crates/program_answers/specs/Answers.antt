@@ -1,32 +1,22 @@
 -- What the answer for a program says of its loose pages and of its runs.
-use Rattle.std.specs.Prelude.{◌≡◌, ◌↔◌, ◌<◌, ℕ, List, map, ⊤}
+use Rattle.std.specs.Prelude.{◌≡◌, ◌<◌, ℕ, List, ⊤}
 use Rattle.text_base.specs.declared.numbers.Nt as nt
 use Rattle.text_base.specs.declared.letter.Letter.{Letter}
-use Rattle.text_base.specs.declared.letter.Letter.TheVariants.{OfByte}
-use Rattle.cfg_grammar.specs.declared.symbol.Symbol.TheVariants.{Nt}
 use Rattle.cfg_grammar.specs.declared.production.Production.{Production}
-use Rattle.cfg_grammar.specs.Derives.{Derives}
 use Rattle.derivations.specs.declared.derivation.Derivation.{Derivation}
 use Rattle.image_meaning.specs.Items.{HasItems}
 use Rattle.script_meaning.specs.Requests.{PlainRequest, Admitted}
 use Rattle.script_meaning.specs.Runs.{Ended}
 use Rattle.script_meaning.specs.Programs.{PlainProgram}
 use Rattle.script_meaning.specs.Meaning.{meaning}
-use Rattle.flow_code.specs.Flat.{flat}
-use Rattle.loose_sets.specs.Loose.{Loose}
-use Rattle.op_system.specs.declared.system.OpSystem.{OpSystem}
-use Rattle.op_cycles.specs.Texts.{TextOf}
-use Rattle.resolve_laws.specs.Resolved.{IsTooLarge}
+use Rattle.loose_grammar.specs.declared.refusal.TheConstants.{ITEM_LIMIT}
+use Rattle.loose_grammar.specs.Pages.{IsLoosePage, DerivePages}
+use Rattle.loose_grammar.specs.Refusals.{HasLargeImage}
 use Rattle.dtd_model.specs.Table.{Table}
 use Rattle.page_goals.specs.declared.goal.Goal.{Goal}
 use Rattle.page_goals.specs.Goals.{IsGood}
 use Rattle.page_decision.specs.PageVerdicts.{IsBadPage, HasManyPairs, HasManyOpenTags}
 use Rattle.program_answers.specs.declared.answer.Answer.{Answer}
-use Rattle.program_answers.specs.declared.answer.TheConstants.{ITEM_LIMIT}
-
--- the bytes are a loose page of the program
-abbrev pub IsLoosePage : PlainProgram → List ℕ → Type 0
-IsLoosePage program page = Loose (flat program) page
 
 -- each loose page of the program is good
 abbrev pub EachIsGood : Goal → Table → PlainProgram → Type 0
@@ -36,19 +26,10 @@ EachIsGood goal table program = (page : List ℕ) → IsLoosePage program page �
 abbrev pub IsCounterexample : Goal → Table → PlainProgram → Derivation → Type 0
 IsCounterexample goal table program derivation = IsBadPage table (IsLoosePage program) goal derivation
 
--- the start of the system has exactly the loose pages
-abbrev pub IsSystemOf : PlainProgram → OpSystem → Type 0
-IsSystemOf program system = (page : List ℕ) → TextOf system (Nt system.start) page ↔ IsLoosePage program page
-
--- the productions derive exactly the loose pages
-abbrev pub DerivePages : PlainProgram → List Production → nt.Nt → Type 0
-DerivePages program productions start = (letters : List Letter) → Derives productions (Nt start) letters
-    ↔ ((page : List ℕ) × (letters ≡ map OfByte page) × IsLoosePage program page)
-
 -- one image has at least so many items: that of an operation of a system that has exactly the loose pages, or that of productions that derive exactly these, under
 -- the machine that reads pages
 pub data HasManyItems {S : Type 0} (first : S) (steps : S → ℕ → S → List Letter → Type 0) (program : PlainProgram) (count : ℕ) : Type 0 where
-  by_operation : (system : OpSystem) → IsSystemOf program system → IsTooLarge system count → HasManyItems first steps program count
+  by_operation : HasLargeImage program count → HasManyItems first steps program count
   by_pages : (productions : List Production) (start : nt.Nt) → DerivePages program productions start → HasItems productions steps start first count
       → HasManyItems first steps program count
 

@@ -7,10 +7,10 @@ use Rattle.grammar_image.specs.declared.refusal.ImageRefusal.TheVariants as imag
 use Rattle.summary_fixpoint.specs.declared.verdict.Verdict.{Verdict}
 use Rattle.summary_fixpoint.specs.declared.verdict.Verdict.TheVariants as verdict
 use Rattle.program_answers.specs.declared.answer.Answer.{Answer}
-use Rattle.program_answers.specs.declared.answer.TheConstants.{ITEM_LIMIT}
+use Rattle.loose_grammar.specs.declared.refusal.TheConstants.{ITEM_LIMIT}
 use Rattle.program_answers.specs.Answers.{HasManyItems}
 
--- why no image is made: one of them has so many items, over the limit; want of memory says nothing
+-- why no image of the pages is made: it has so many items, over the limit; want of memory says nothing
 abbrev pub IsItemCause : {S : Type 0} → S → (S → ℕ → S → List Letter → Type 0) → PlainProgram → ImageRefusal → Type 0
 IsItemCause first steps program (image.Large count) = (ITEM_LIMIT < count) × HasManyItems first steps program count
 IsItemCause first steps program image.Memory = ⊤

@@ -6,9 +6,6 @@ ghost use Rattle.program_answers.specs.Steps.{answer_of};
 use derivations::Derivation;
 use summary_fixpoint::Verdict;
 
-/// The most items of an image: more end the decision.
-pub const ITEM_LIMIT: u64 = 8_000_000;
-
 /// The answer for a program.
 #[derive(Debug, Drop)]
 pub enum Answer {
@@ -25,7 +22,7 @@ pub enum Answer {
     /// of a smaller height is good.
     Tags { count: u64, height: u64 },
     /// The image of a string operation of the program, or that of its pages, has at least `count`
-    /// items, and `count` is over `ITEM_LIMIT`.
+    /// items, and `count` is over 8,000,000.
     Items { count: u64 },
 }
 

@@ -1,75 +1,47 @@
-//! From a system to an answer.
+//! From a grammar to an answer.
 
 ghost use Rattle.std.specs.Prelude.{IfOk, IfErr};
 ghost use Rattle.dtd_model.specs.TableOf.{table_of};
 ghost use Rattle.php_program.specs.View.{program_of};
+ghost use Rattle.loose_grammar.specs.Pages.{DerivePages, IsLoosePage};
 ghost use Rattle.page_decision.specs.Machines.{IsPageMachine};
 ghost use Rattle.page_decision.specs.PageSums.{AreSumsOf};
 ghost use Rattle.page_decision.specs.PageVerdicts.{IsPageVerdict};
-ghost use Rattle.program_answers.specs.Answers.{DerivePages, IsAnswerBy, IsLoosePage, IsSystemOf};
+ghost use Rattle.program_answers.specs.Answers.{IsAnswerBy};
 ghost use Rattle.program_answers.specs.Steps.{IsItemCause};
 
-use crate::answer::{Answer, ITEM_LIMIT, verdict_answer};
+use crate::answer::{Answer, verdict_answer};
 use crate::pages::decide_grammar;
 use cfg_grammar::Grammar;
 use dtd_model::Dtd;
 use fst_core::Machine;
 use grammar_image::ImageRefusal;
-use grammar_trimming::trim;
-use op_system::OpSystem;
 use page_decision::PageSums;
 use page_goals::Goal;
 use php_program::Program;
-use resolving::resolve;
 use std::alloc::Global;
 use summary_fixpoint::Verdict;
 use text_base::NoMemory;
-
-/// A grammar that derives exactly the loose pages, without what stands in no derivation.
-fn grammar_of<M: Machine>(
-    alloc: Global,
-    program: &Program,
-    system: &OpSystem,
-    machine: &M,
-) -> Result<Grammar, ImageRefusal>
-    requires { IsSystemOf (program_of program.now) system.now }
-    ensures pages { IfOk result (λ g. DerivePages (program_of program.now) g.productions.items g.start) }
-    ensures cause { IfErr result (IsItemCause (M.first machine.now) (M.steps machine.now) (program_of program.now)) }
-{
-    let _ = program;
-    let _ = machine;
-    let grammar = match resolve(alloc, system, ITEM_LIMIT) {
-        Ok(grammar) => grammar,
-        Err(refusal) => return Err(refusal),
-    };
-    match trim(alloc, &grammar) {
-        Ok(grammar) => Ok(grammar),
-        Err(_) => Err(ImageRefusal::Memory),
-    }
-}
 
 /// Whether each loose page is good.
 fn verdict_by<M: Machine>(
     alloc: Global,
     program: &Program,
-    system: &OpSystem,
+    grammar: &Grammar,
     dtd: &Dtd,
     goal: Goal,
     machine: &M,
     sums: &PageSums,
     pairs: u64,
 ) -> Result<Verdict, ImageRefusal>
-    requires system { IsSystemOf (program_of program.now) system.now }
+    requires grammar { DerivePages (program_of program.now) grammar.now.productions.items grammar.now.start }
     requires machine { IsPageMachine (table_of dtd.now) (M.first machine.now) (M.steps machine.now) (M.ends machine.now) }
     requires sums { AreSumsOf goal (table_of dtd.now) sums.now }
     ensures verdict { IfOk result (IsPageVerdict (table_of dtd.now) (IsLoosePage (program_of program.now)) goal pairs) }
     ensures cause { IfErr result (IsItemCause (M.first machine.now) (M.steps machine.now) (program_of program.now)) }
 {
-    let grammar = match grammar_of(alloc, program, system, machine) {
-        Ok(grammar) => grammar,
-        Err(refusal) => return Err(refusal),
-    };
-    decide_grammar(alloc, &grammar, dtd, goal, machine, sums, pairs)
+    let _ = program;
+    decide_grammar(alloc, grammar, dtd, goal, machine, sums, pairs)
 }
 
 /// Whether each loose page of the program is good by the goal and the definition, with at most
@@ -82,19 +54,19 @@ fn verdict_by<M: Machine>(
 pub fn answer_by<M: Machine>(
     alloc: Global,
     program: &Program,
-    system: &OpSystem,
+    grammar: &Grammar,
     dtd: &Dtd,
     goal: Goal,
     machine: &M,
     sums: &PageSums,
     pairs: u64,
 ) -> Result<Answer, NoMemory>
-    requires system { IsSystemOf (program_of program.now) system.now }
+    requires grammar { DerivePages (program_of program.now) grammar.now.productions.items grammar.now.start }
     requires machine { IsPageMachine (table_of dtd.now) (M.first machine.now) (M.steps machine.now) (M.ends machine.now) }
     requires sums { AreSumsOf goal (table_of dtd.now) sums.now }
     ensures { IfOk result (IsAnswerBy (M.first machine.now) (M.steps machine.now) goal (table_of dtd.now) (program_of program.now) pairs) }
 {
-    match verdict_by(alloc, program, system, dtd, goal, machine, sums, pairs) {
+    match verdict_by(alloc, program, grammar, dtd, goal, machine, sums, pairs) {
         Ok(verdict) => Ok(verdict_answer(verdict)),
         Err(ImageRefusal::Large { items }) => Ok(Answer::Items { count: items }),
         Err(ImageRefusal::Memory) => Err(NoMemory),

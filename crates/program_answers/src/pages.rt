@@ -9,7 +9,6 @@ ghost use Rattle.page_decision.specs.Machines.{IsPageMachine};
 ghost use Rattle.page_decision.specs.PageSums.{AreSumsOf};
 ghost use Rattle.page_decision.specs.PageVerdicts.{IsBadPage, IsPageVerdict};
 
-use crate::answer::ITEM_LIMIT;
 use cfg_grammar::Grammar;
 use coarse_reader::CoarseReader;
 use coarse_reader::laws::finds_broken;
@@ -18,6 +17,7 @@ use dtd_model::Dtd;
 use echoing_machine::Echoing;
 use fst_core::Machine;
 use grammar_image::ImageRefusal;
+use loose_grammar::ITEM_LIMIT;
 use page_decision::{PageSums, decide_pages, find_broken};
 use page_goals::Goal;
 use std::alloc::Global;

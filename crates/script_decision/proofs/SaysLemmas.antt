@@ -2,6 +2,7 @@
 use Rattle.std.proofs.Common.{ℕ, List}
 use Rattle.std.specs.Prelude.{Result, Ok, Err, IfOk}
 use Rattle.text_base.specs.declared.letter.Letter.{Letter}
+use Rattle.text_base.specs.declared.memory.NoMemory.{NoMemory}
 use Rattle.script_meaning.specs.Programs.{PlainProgram}
 use Rattle.php_program.specs.Lawful.{IsLawful}
 use Rattle.program_points.specs.Texts.{TextsFit}
@@ -9,7 +10,6 @@ use Rattle.dtd_model.specs.Table.{Table}
 use Rattle.page_goals.specs.declared.goal.Goal.{Goal}
 use Rattle.program_answers.specs.declared.answer.Answer.{Answer}
 use Rattle.program_answers.specs.Answers.{EachIsGood, IsAnswerBy, RunsAreGood, SaysOfRuns}
-use Rattle.script_decision.specs.declared.refusal.CheckRefusal.{CheckRefusal}
 
 -- where each loose page is good, so are runs
 abbrev pub RunsFollow : Type 0
@@ -23,7 +23,7 @@ module _ (law : RunsFollow) {S : Type 0} (first : S) (steps : S → ℕ → S �
   says (Answer.Tags count height) fit is = tt
   says (Answer.Items count) fit is = tt
 
-  pub result_says : (result : Result Answer CheckRefusal) → IfOk result (λ _. TextsFit program) → IfOk result (IsAnswerBy first steps goal table program limit)
+  pub result_says : TextsFit program → (result : Result Answer NoMemory) → IfOk result (IsAnswerBy first steps goal table program limit)
       → IfOk result (SaysOfRuns goal table program)
-  result_says (Ok answer) fit is = says answer fit is
-  result_says (Err refusal) fit is = tt
+  result_says fit (Ok answer) is = says answer fit is
+  result_says fit (Err e) is = tt

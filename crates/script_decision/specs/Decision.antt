@@ -8,17 +8,19 @@ use Rattle.content_automata.specs.Tables.{HasStates}
 use Rattle.page_goals.specs.declared.goal.Goal.{Goal}
 use Rattle.page_decision.specs.PageVerdicts.{HasManyPairs, HasManyOpenTags}
 use Rattle.echoing_machine.specs.Echoes.{EchoStep}
-use Rattle.page_reader.specs.States.{first_state, next_state, tokens_at, tokens_behind}
+use Rattle.page_reader.specs.States.{first_state, tokens_at, tokens_behind}
+use Rattle.merged_reader.specs.States.{merged_next}
 use Rattle.program_answers.specs.declared.answer.Answer.{Answer}
-use Rattle.program_answers.specs.declared.answer.TheConstants.{ITEM_LIMIT}
+use Rattle.loose_grammar.specs.declared.refusal.TheConstants.{ITEM_LIMIT}
+use Rattle.loose_grammar.specs.Pages.{IsLoosePage}
 use Rattle.program_answers.specs.Answers as by_machine
-use Rattle.program_answers.specs.Answers.{IsLoosePage, EachIsGood, IsCounterexample}
+use Rattle.program_answers.specs.Answers.{EachIsGood, IsCounterexample}
 use Rattle.script_decision.specs.declared.refusal.CheckRefusal.{CheckRefusal}
 use Rattle.script_decision.specs.declared.refusal.CheckRefusal.TheVariants as refusal
 
 -- an image has at least so many items: that of an operation of the program, or that of its loose pages under the reader of the definition's pages
 abbrev pub HasManyItems : Table → PlainProgram → ℕ → Type 0
-HasManyItems table program count = by_machine.HasManyItems first_state (EchoStep (next_state table) (tokens_at table) (tokens_behind table)) program count
+HasManyItems table program count = by_machine.HasManyItems first_state (EchoStep (merged_next table) (tokens_at table) (tokens_behind table)) program count
 
 -- yes: each loose page is good; no: a derivation of one that is not; a stated count that is passed: of sums of the sentences of a nonterminal, of unmatched tags, of items
 abbrev pub IsAnswerOf : Goal → Table → PlainProgram → ℕ → Answer → Type 0

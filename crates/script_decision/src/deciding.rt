@@ -10,9 +10,9 @@ use crate::reading::check_by;
 use crate::refusal::CheckRefusal;
 use dtd_index::IndexedDtd;
 use dtd_model::Dtd;
+use merged_reader::MergedReader;
+use merged_reader::laws::reads_pages;
 use page_goals::Goal;
-use page_reader::PageReader;
-use page_reader::laws::reads_pages;
 use php_program::Program;
 use program_answers::Answer;
 use std::alloc::Global;
@@ -30,7 +30,7 @@ fn check_indexed(
     ensures refusal { IfErr result (IsCheckRefusal (table_of indexed.now.dtd.now) (program_of program.now)) }
 {
     reads_pages(indexed.dtd);
-    let reader = PageReader { indexed };
+    let reader = MergedReader { indexed };
     check_by(alloc, program, indexed.dtd, goal, reader, pairs)
 }
 

@@ -1,114 +1,84 @@
 //! The decision by any reader that has the tokens of pages.
 
-ghost use Rattle.std.specs.Prelude.{◌≡◌, IfOk, IfErr};
+ghost use Rattle.std.specs.Prelude.{IfOk, IfErr};
 ghost use Rattle.dtd_model.specs.TableOf.{table_of};
-ghost use Rattle.flow_code.specs.Flat.{flat};
-ghost use Rattle.flow_code.specs.View.{plain_flow};
 ghost use Rattle.php_program.specs.View.{program_of};
 ghost use Rattle.program_points.specs.Texts.{TextsFit};
+ghost use Rattle.loose_grammar.specs.Pages.{DerivePages};
 ghost use Rattle.page_decision.specs.PageSums.{AreSumsOf};
 ghost use Rattle.page_echo.specs.Readers.{ReadsPages};
 ghost use Rattle.echoing_machine.specs.Echoes.{EchoStep};
-ghost use Rattle.program_answers.specs.Answers.{IsAnswerBy, IsSystemOf, SaysOfRuns};
+ghost use Rattle.program_answers.specs.Answers.{IsAnswerBy, SaysOfRuns};
 ghost use Rattle.script_decision.specs.Decision.{IsCheckRefusal};
 
 use crate::refusal::CheckRefusal;
 use byte_readers::ByteReader;
-use call_lowering::LoweringError;
+use cfg_grammar::Grammar;
 use content_automata::ContentRefusal;
 use dtd_model::Dtd;
 use echoing_machine::Echoing;
-use extraction::extract;
-use flow_code::FlowProgram;
-use op_system::OpSystem;
+use loose_grammar::{GrammarRefusal, loose_grammar};
 use page_decision::{PageSums, sums_of};
 use page_echo::laws::echo_is_page_machine;
 use page_goals::Goal;
 use php_program::Program;
 use program_answers::laws::good_loose_pages_make_good_runs;
 use program_answers::{Answer, answer_by};
-use program_lowering::lower;
 use std::alloc::Global;
 use text_base::NoMemory;
 
-/// The system of a program, from its points.
-fn system_of(alloc: Global, program: &Program, flow: &FlowProgram) -> Result<OpSystem, NoMemory>
-    requires { plain_flow flow.now ≡ flat (program_of program.now) }
-    ensures { IfOk result (IsSystemOf (program_of program.now)) }
-{
-    let _ = program;
-    extract(alloc, flow)
-}
-
-/// The answer for a program, from its points and the summary of the goal.
-fn answer_points<R: ByteReader + Drop>(
+// The answer for a program, from the grammar of its loose pages and the summary of the goal.
+fn answer_grammar<R: ByteReader + Drop>(
     alloc: Global,
     program: &Program,
-    flow: &FlowProgram,
+    grammar: &Grammar,
     dtd: &Dtd,
     goal: Goal,
     reader: R,
     sums: &PageSums,
     pairs: u64,
 ) -> Result<Answer, NoMemory>
-    requires flow { plain_flow flow.now ≡ flat (program_of program.now) }
+    requires texts { TextsFit (program_of program.now) }
+    requires grammar { DerivePages (program_of program.now) grammar.now.productions.items grammar.now.start }
     requires reads { ReadsPages (table_of dtd.now) (R.next reader) (R.puts reader) (R.lasts reader) (R.first reader) }
     requires sums { AreSumsOf goal (table_of dtd.now) sums.now }
-    ensures { IfOk result (IsAnswerBy (R.first reader) (EchoStep (R.next reader) (R.puts reader) (R.lasts reader))
-        goal (table_of dtd.now) (program_of program.now) pairs) }
-{
-    let system = system_of(alloc, program, flow)?;
-    echo_is_page_machine(dtd, &reader);
-    let machine = Echoing { reader };
-    answer_by(alloc, program, &system, dtd, goal, &machine, sums, pairs)
-}
-
-/// The answer for a program, from its points.
-fn decide_points<R: ByteReader + Drop>(
-    alloc: Global,
-    program: &Program,
-    flow: &FlowProgram,
-    dtd: &Dtd,
-    goal: Goal,
-    reader: R,
-    pairs: u64,
-) -> Result<Answer, CheckRefusal>
-    requires flow { plain_flow flow.now ≡ flat (program_of program.now) }
-    requires reads { ReadsPages (table_of dtd.now) (R.next reader) (R.puts reader) (R.lasts reader) (R.first reader) }
     ensures answer { IfOk result (IsAnswerBy (R.first reader) (EchoStep (R.next reader) (R.puts reader) (R.lasts reader))
         goal (table_of dtd.now) (program_of program.now) pairs) }
-    ensures refusal { IfErr result (IsCheckRefusal (table_of dtd.now) (program_of program.now)) }
+    ensures sound { IfOk result (SaysOfRuns goal (table_of dtd.now) (program_of program.now)) }
 {
-    let sums = match sums_of(alloc, dtd, goal) {
-        Ok(sums) => sums,
-        Err(ContentRefusal::Limit { count }) => return Err(CheckRefusal::Limit { count }),
-        Err(ContentRefusal::Memory) => return Err(CheckRefusal::Memory),
-    };
-    match answer_points(alloc, program, flow, dtd, goal, reader, &sums, pairs) {
-        Ok(answer) => Ok(answer),
-        Err(_) => Err(CheckRefusal::Memory),
-    }
+    good_loose_pages_make_good_runs();
+    echo_is_page_machine(dtd, &reader);
+    let machine = Echoing { reader };
+    answer_by(alloc, program, grammar, dtd, goal, &machine, sums, pairs)
 }
 
-/// The answer for a program, and that its texts are texts of a run.
+// The answer for a program, by the summary of the goal.
 fn decide_program<R: ByteReader + Drop>(
     alloc: Global,
     program: &Program,
     dtd: &Dtd,
     goal: Goal,
     reader: R,
+    sums: &PageSums,
     pairs: u64,
 ) -> Result<Answer, CheckRefusal>
-    requires { ReadsPages (table_of dtd.now) (R.next reader) (R.puts reader) (R.lasts reader) (R.first reader) }
+    requires reads { ReadsPages (table_of dtd.now) (R.next reader) (R.puts reader) (R.lasts reader) (R.first reader) }
+    requires sums { AreSumsOf goal (table_of dtd.now) sums.now }
     ensures answer { IfOk result (IsAnswerBy (R.first reader) (EchoStep (R.next reader) (R.puts reader) (R.lasts reader))
         goal (table_of dtd.now) (program_of program.now) pairs) }
-    ensures texts { IfOk result (λ _. TextsFit (program_of program.now)) }
+    ensures sound { IfOk result (SaysOfRuns goal (table_of dtd.now) (program_of program.now)) }
     ensures refusal { IfErr result (IsCheckRefusal (table_of dtd.now) (program_of program.now)) }
 {
-    match lower(alloc, program) {
-        Ok(flow) => decide_points(alloc, program, &flow, dtd, goal, reader, pairs),
-        Err(LoweringError::LongText) => Err(CheckRefusal::LongText),
-        Err(LoweringError::Memory) => Err(CheckRefusal::Memory),
+    match loose_grammar(alloc, program) {
+        Ok(grammar) => match answer_grammar(
+            alloc, program, &grammar, dtd, goal, reader, sums, pairs,
+        ) {
+            Ok(answer) => Ok(answer),
+            Err(_) => Err(CheckRefusal::Memory),
+        },
+        Err(GrammarRefusal::Items { count }) => Ok(Answer::Items { count }),
+        Err(GrammarRefusal::LongText) => Err(CheckRefusal::LongText),
+        Err(GrammarRefusal::Memory) => Err(CheckRefusal::Memory),
     }
 }
 
@@ -133,6 +103,9 @@ pub fn check_by<R: ByteReader + Drop>(
     ensures sound { IfOk result (SaysOfRuns goal (table_of dtd.now) (program_of program.now)) }
     ensures refusal { IfErr result (IsCheckRefusal (table_of dtd.now) (program_of program.now)) }
 {
-    good_loose_pages_make_good_runs();
-    decide_program(alloc, program, dtd, goal, reader, pairs)
+    match sums_of(alloc, dtd, goal) {
+        Ok(sums) => decide_program(alloc, program, dtd, goal, reader, &sums, pairs),
+        Err(ContentRefusal::Limit { count }) => Err(CheckRefusal::Limit { count }),
+        Err(ContentRefusal::Memory) => Err(CheckRefusal::Memory),
+    }
 }

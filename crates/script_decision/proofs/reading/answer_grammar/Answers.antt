@@ -2,7 +2,7 @@ use Rattle.dtd_model.specs.TableOf.{table_of}
 use Rattle.php_program.specs.View.{program_of, lawful_program}
 use Rattle.echoing_machine.specs.Echoes.{EchoStep}
 use Rattle.script_decision.proofs.SaysLemmas.{result_says}
-use Rattle.script_decision.proofs.reading.check_by.Goals as goal
+use Rattle.script_decision.proofs.reading.answer_grammar.Goals as goal
 
 pub returns-clause-sound : goal.returns-clause-sound
 returns-clause-sound g c =
@@ -10,5 +10,4 @@ returns-clause-sound g c =
     let program = c.args.program.now in
     let r = g.R.ByteReader in
     result_says c.good_loose_pages_make_good_runs.ensures (r.first reader) (EchoStep (r.next reader) (r.puts reader) (r.lasts reader))
-    c.args.goal (table_of c.args.dtd.now) (program_of program) (lawful_program program) c.args.pairs
-    c.decide_program.result c.decide_program.ensures.texts c.decide_program.ensures.answer
+    c.args.goal (table_of c.args.dtd.now) (program_of program) (lawful_program program) c.args.pairs c.requires.texts c.answer_by.result c.answer_by.ensures

@@ -4,7 +4,7 @@ use Rattle.cfg_grammar.specs.declared.symbol.Symbol.TheVariants.{Nt}
 use Rattle.flow_code.specs.Points.{PlainFlow}
 use Rattle.loose_sets.specs.Loose.{Loose}
 use Rattle.op_cycles.specs.Texts.{TextOf}
-use Rattle.script_decision.proofs.reading.system_of.Goals as goal
+use Rattle.loose_grammar.proofs.making.system_of.Goals as goal
 
 pub returns : goal.returns
 returns c =

@@ -1,0 +1,7 @@
+//! Tests of extraction, in a crate of their own so that it is proved once.
+#![tactic(auto)]
+
+#[cfg(test)]
+mod pages;
+#[cfg(test)]
+mod scripts;

@@ -1,0 +1,35 @@
+-- The pages that a grammar derives are the loose pages of a program.
+use Rattle.std.proofs.Common.{◌↔◌, List}
+use Rattle.text_base.specs.declared.numbers.Nt as nt
+use Rattle.text_base.specs.declared.letter.Letter.{Letter}
+use Rattle.cfg_grammar.specs.declared.symbol.Symbol.TheVariants.{Nt}
+use Rattle.cfg_grammar.specs.declared.production.Production.{Production}
+use Rattle.cfg_grammar.specs.Derives.{Derives}
+use Rattle.script_meaning.specs.Programs.{PlainProgram}
+use Rattle.op_system.specs.declared.system.OpSystem.{OpSystem}
+use Rattle.resolve_laws.specs.Resolved.{HasLetters}
+use Rattle.resolving.specs.Causes.{IsCause}
+use Rattle.grammar_image.specs.declared.refusal.ImageRefusal.{ImageRefusal}
+use Rattle.grammar_image.specs.declared.refusal.ImageRefusal.TheVariants.{Large, Memory}
+use Rattle.loose_grammar.specs.declared.refusal.TheConstants.{ITEM_LIMIT}
+use Rattle.loose_grammar.specs.Pages.{IsSystemOf, DerivePages}
+use Rattle.loose_grammar.specs.Refusals.{IsGrammarRefusal, refusal_of}
+
+module _ (program : PlainProgram) where
+  -- productions that derive exactly the texts of the start of a system of the loose pages
+  pub system_pages : (system : OpSystem) (productions : List Production) (start : nt.Nt) → IsSystemOf program system
+      → ((w : List Letter) → Derives productions (Nt start) w ↔ HasLetters system (Nt system.start) w) → DerivePages program productions start
+  system_pages system productions start is exact w = (
+    λ d. let h = (exact w).0 d in (h.0, h.1, (is h.0).0 h.2),
+    λ h. (exact w).1 (h.0, h.1, (is h.0).1 h.2),
+  )
+
+  -- and those with the same sentences
+  pub same_pages : (old new : List Production) (start start' : nt.Nt) → DerivePages program old start → ((w : List Letter) → Derives old (Nt start) w ↔ Derives new (Nt start') w)
+      → DerivePages program new start'
+  same_pages old new start start' are same w = (λ d. (are w).0 ((same w).1 d), λ h. (same w).0 ((are w).1 h))
+
+  -- an operation's image is too large
+  pub operation_refusal : (system : OpSystem) (r : ImageRefusal) → IsSystemOf program system → IsCause system ITEM_LIMIT r → IsGrammarRefusal program (refusal_of r)
+  operation_refusal system (Large items) is h = (h.0, record { system = system; is_of = is; large = h.1 })
+  operation_refusal system Memory is h = tt

@@ -1,0 +1,29 @@
+-- Why no grammar is made of a program.
+use Rattle.std.specs.Prelude.{◌<◌, ℕ, ⊤}
+use Rattle.script_meaning.specs.Programs.{PlainProgram}
+use Rattle.op_system.specs.declared.system.OpSystem.{OpSystem}
+use Rattle.grammar_image.specs.declared.refusal.ImageRefusal.{ImageRefusal}
+use Rattle.grammar_image.specs.declared.refusal.ImageRefusal.TheVariants as image
+use Rattle.resolve_laws.specs.Resolved.{IsTooLarge}
+use Rattle.program_literals.specs.Short.{HasLongText}
+use Rattle.loose_grammar.specs.declared.refusal.GrammarRefusal.{GrammarRefusal}
+use Rattle.loose_grammar.specs.declared.refusal.GrammarRefusal.TheVariants as refusal
+use Rattle.loose_grammar.specs.declared.refusal.TheConstants.{ITEM_LIMIT}
+use Rattle.loose_grammar.specs.Pages.{IsSystemOf}
+
+-- the image of an operation of a system that has exactly the loose pages has at least so many items
+pub record HasLargeImage (program : PlainProgram) (items : ℕ) : Type 0 where
+  pub system : OpSystem
+  pub is_of : IsSystemOf program system
+  pub large : IsTooLarge system items
+
+-- the program is refused, for this reason; want of memory says nothing
+abbrev pub IsGrammarRefusal : PlainProgram → GrammarRefusal → Type 0
+IsGrammarRefusal program refusal.LongText = HasLongText program
+IsGrammarRefusal program (refusal.Items count) = (ITEM_LIMIT < count) × HasLargeImage program count
+IsGrammarRefusal program refusal.Memory = ⊤
+
+-- the refusal of a program whose system is refused so
+abbrev pub refusal_of : ImageRefusal → GrammarRefusal
+refusal_of (image.Large items) = refusal.Items items
+refusal_of image.Memory = refusal.Memory

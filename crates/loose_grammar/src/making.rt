@@ -1,0 +1,69 @@
+//! From a program to the grammar of its loose pages.
+
+ghost use Rattle.std.specs.Prelude.{◌≡◌, IfOk, IfErr};
+ghost use Rattle.flow_code.specs.Flat.{flat};
+ghost use Rattle.flow_code.specs.View.{plain_flow};
+ghost use Rattle.php_program.specs.View.{program_of};
+ghost use Rattle.program_points.specs.Texts.{TextsFit};
+ghost use Rattle.loose_grammar.specs.Pages.{DerivePages, IsSystemOf};
+ghost use Rattle.loose_grammar.specs.Refusals.{IsGrammarRefusal};
+
+use crate::refusal::{GrammarRefusal, ITEM_LIMIT, refusal_of};
+use call_lowering::LoweringError;
+use cfg_grammar::Grammar;
+use extraction::extract;
+use flow_code::FlowProgram;
+use grammar_trimming::trim;
+use op_system::OpSystem;
+use php_program::Program;
+use program_lowering::lower;
+use resolving::resolve;
+use std::alloc::Global;
+use text_base::NoMemory;
+
+// The system of a program, from its points.
+fn system_of(alloc: Global, program: &Program, flow: &FlowProgram) -> Result<OpSystem, NoMemory>
+    requires { plain_flow flow.now ≡ flat (program_of program.now) }
+    ensures { IfOk result (IsSystemOf (program_of program.now)) }
+{
+    let _ = program;
+    extract(alloc, flow)
+}
+
+// The grammar of a system.
+fn grammar_of(
+    alloc: Global,
+    program: &Program,
+    system: &OpSystem,
+) -> Result<Grammar, GrammarRefusal>
+    requires { IsSystemOf (program_of program.now) system.now }
+    ensures pages { IfOk result (λ g. DerivePages (program_of program.now) g.productions.items g.start) }
+    ensures refusal { IfErr result (IsGrammarRefusal (program_of program.now)) }
+{
+    let _ = program;
+    match resolve(alloc, system, ITEM_LIMIT) {
+        Ok(grammar) => Ok(trim(alloc, &grammar)?),
+        Err(refusal) => Err(refusal_of(refusal)),
+    }
+}
+
+/// The grammar of the loose pages of a program, without what stands in no derivation.
+///
+/// # Errors
+///
+/// `LongText` only where a text literal of the program has over 16,777,216 bytes; `Items` only where the
+/// image of a string operation has so many items, over `ITEM_LIMIT`. `Memory` may come at any time.
+pub fn loose_grammar(alloc: Global, program: &Program) -> Result<Grammar, GrammarRefusal>
+    ensures pages { IfOk result (λ g. DerivePages (program_of program.now) g.productions.items g.start) }
+    ensures texts { IfOk result (λ _. TextsFit (program_of program.now)) }
+    ensures refusal { IfErr result (IsGrammarRefusal (program_of program.now)) }
+{
+    match lower(alloc, program) {
+        Ok(flow) => {
+            let system = system_of(alloc, program, &flow)?;
+            grammar_of(alloc, program, &system)
+        }
+        Err(LoweringError::LongText) => Err(GrammarRefusal::LongText),
+        Err(LoweringError::Memory) => Err(GrammarRefusal::Memory),
+    }
+}

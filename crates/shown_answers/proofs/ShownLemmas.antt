@@ -1,0 +1,28 @@
+-- What is shown of the page of a derivation is shown of a loose page that is not good.
+use Rattle.std.proofs.Common.{◌≡◌, ℕ, List, subst}
+use Rattle.text_base.specs.declared.letter.Letter.{Letter}
+use Rattle.text_base.specs.declared.numbers.Nt as nt
+use Rattle.cfg_grammar.specs.declared.production.Production.{Production}
+use Rattle.derivations.specs.declared.derivation.Derivation.{Derivation}
+use Rattle.derivations.specs.Stands.{IsDerivation}
+use Rattle.sentence_writing.specs.Bytes.{bytes_in}
+use Rattle.script_meaning.specs.Programs.{PlainProgram}
+use Rattle.dtd_model.specs.Table.{Table}
+use Rattle.page_goals.specs.declared.goal.Goal.{Goal}
+use Rattle.program_answers.specs.Answers.{IsCounterexample}
+use Rattle.shown_pages.specs.declared.showing.ShownPage.{ShownPage}
+use Rattle.shown_pages.specs.Shows.{Shows}
+use Rattle.shown_answers.specs.Shown.{IsShownCounterexample}
+
+-- this is shown of the bytes of each sentence that the derivation is one of
+abbrev pub ShowsEach : Derivation → ShownPage → Type 0
+ShowsEach derivation shown = (ps : List Production) (left : nt.Nt) (w : List Letter) → IsDerivation ps derivation.nodes.nodes.items left w → Shows (bytes_in w) shown
+
+pub shown_counterexample : (goal : Goal) (table : Table) (program : PlainProgram) (derivation : Derivation) (shown : ShownPage) → ShowsEach derivation shown
+    → IsCounterexample goal table program derivation → IsShownCounterexample goal table program shown
+shown_counterexample goal table program derivation shown each is = record {
+  page = is.page;
+  loose = is.is_page;
+  bad = is.bad;
+  shows = subst (λ (page : List ℕ). Shows page shown) is.writes.bytes (each is.writes.productions is.writes.left is.writes.letters is.writes.derived);
+}
