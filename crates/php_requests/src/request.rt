@@ -72,6 +72,32 @@ impl Request {
         })
     }
 
+    /// The request of five arrays, which together are admitted.
+    pub fn of(get: Array, post: Array, cookie: Array, request: Array, server: Array) -> Request
+        requires { Admitted (record {
+          get_of = get;
+          post_of = post;
+          cookie_of = cookie;
+          request_of = request;
+          server_of = server;
+        }) }
+        ensures { result ≡ record {
+          get_of = get;
+          post_of = post;
+          cookie_of = cookie;
+          request_of = request;
+          server_of = server;
+        } }
+    {
+        Request {
+            get,
+            post,
+            cookie,
+            request,
+            server,
+        }
+    }
+
     /// The array that a request variable names.
     #[tactic(auto, unfolding(script_meaning::specs::Requests::request_array))]
     pub fn array(&self, name: SuperName) -> &Array

@@ -1,0 +1,4 @@
+pub mod BindLemmas
+pub mod UnitLemmas
+pub mod SettleLemmas
+pub mod PayLemmas

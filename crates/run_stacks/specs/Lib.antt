@@ -1,0 +1,4 @@
+pub mod Bindings
+pub mod Rest
+pub mod Weights
+pub mod Moves

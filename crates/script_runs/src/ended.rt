@@ -1,0 +1,13 @@
+//! What a run comes to.
+
+use statement_machine::End;
+use text_base::Bytes;
+
+/// A run that has ended.
+#[derive(Drop)]
+pub struct Ended {
+    /// What it printed.
+    pub printed: Bytes,
+    /// How it ended.
+    pub end: End,
+}
