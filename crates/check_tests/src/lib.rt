@@ -1,7 +1,9 @@
 //! Tests of `phpsa_main` on files and outputs in memory: answers by each document type and over includes, refusals and their texts, and
-//! outputs of every room.
+//! outputs of every room, and the words that are taken.
 #![tactic(auto)]
 
+#[cfg(test)]
+mod decided;
 #[cfg(test)]
 mod definitions;
 #[cfg(test)]
@@ -12,3 +14,5 @@ mod programs;
 mod strict;
 #[cfg(test)]
 mod tests;
+#[cfg(test)]
+mod words;

@@ -72,8 +72,8 @@ t.php: <html><body><?php if (isset($_GET['a'])) { include 'a.php'; } else { requ
 t.php: <html><body><?php include 'a.php'; include 'a.php'; ?></body></html> ## a.php: <p>x</p> => 0 yes
 t.php: <?php include 'a.php'; include 'b.php'; ## a.php: <html><?php include 'c.php'; ## b.php: </body></html> ## c.php: <body> => 0 yes
 t.php: <html><body/></html> ## a.php: <?php g(); => 0 yes
-t.php: <?php include 'a.php'; ## a.php: <html><body/></html><?php echo 1; => 3 phpsa: NotBuilt t.php
-t.php: <?php include 'a.php'; ## a.php: <html><body/></html><?php function f() {} => 3 phpsa: NotBuilt t.php"#;
+t.php: <?php include 'a.php'; ## a.php: <html><body/></html><?php echo 1; => 1 21 <html><body/></html>1
+t.php: <?php include 'a.php'; ## a.php: <html><body/></html><?php function f() {} => 0 yes"#;
     for row in rows.lines() {
         assert!(rt; row_is_so(rt.alloc(), &CHECK, row, QUIET)?, "{row}");
     }
@@ -104,7 +104,7 @@ t.php: <?php include 'a.php'; f(1, 2); ## a.php: <?php function f($a) {} => 3 ph
     for row in rows.lines() {
         assert!(rt; row_is_so(rt.alloc(), &CHECK, row, QUIET)?, "{row}");
     }
-    // The program is tested before the definition is read, and the definition before the form of the program.
+    // The program is tested before the definition is read.
     let words = ["check", "t.php", "--dtd", "d.dtd"];
     for row in [
         "t.php: <?php g(); => 3 phpsa: UnknownFunction g",

@@ -14,10 +14,6 @@ const OPEN: &str =
 const CLOSED: &str =
     "<html><body><?php if (isset($_GET['name'])) { echo '<p>a</p>'; } else { echo '<p>b</p>'; } ?></body></html>";
 
-/// The same with both paragraphs open.
-const BOTH_OPEN: &str =
-    "<html><body><?php if (isset($_GET['name'])) { echo '<p>a'; } else { echo '<p>b'; } ?></body></html>";
-
 const NO_OPEN: &str = "no\npage 30\n<html><body><p>b</body></html>\n";
 
 const CHECK: [&str; 4] = ["check", "t.php", "--dtd", "mini"];
@@ -29,11 +25,6 @@ fn answers_for_scripts(rt: HostRuntime) -> Result<(), Fail> {
     for (script, exit, out) in [
         (OPEN, Exit::No, NO_OPEN),
         (CLOSED, Exit::Done, "yes\n"),
-        (
-            BOTH_OPEN,
-            Exit::No,
-            "no\npage 30\n<html><body><p>a</body></html>\n",
-        ),
         ("<html><body><p>x</p></body></html>", Exit::Done, "yes\n"),
         (
             "<html><body><p>x</body></html>",
@@ -159,22 +150,6 @@ fn refuses_with_a_text(rt: HostRuntime) -> Result<(), Fail> {
     for (command, script, file, outside, exit, err) in [
         (
             "check",
-            "<?= 1 ?>",
-            "t.php",
-            QUIET,
-            Exit::NotBuilt,
-            "phpsa: NotBuilt t.php\n",
-        ),
-        (
-            "check",
-            "<?php echo 1;",
-            "t.php",
-            QUIET,
-            Exit::NotBuilt,
-            "phpsa: NotBuilt t.php\n",
-        ),
-        (
-            "check",
             OPEN,
             "a.php",
             QUIET,
@@ -231,14 +206,14 @@ fn bracketed(alloc: Global, count: usize) -> Result<Bytes, Fail> {
 
 #[test]
 fn at_most_200_brackets(rt: HostRuntime) -> Result<(), Fail> {
-    for (count, exit, err) in [
-        (200, Exit::NotBuilt, "phpsa: NotBuilt t.php\n"),
-        (201, Exit::Script, "phpsa: TooDeep t.php 211\n"),
+    for (count, exit, out, err) in [
+        (200, Exit::No, "no\npage 1\n1\n", ""),
+        (201, Exit::Script, "", "phpsa: TooDeep t.php 211\n"),
     ] {
         let script = bracketed(rt.alloc(), count)?;
         let ending = run(rt.alloc(), &CHECK, script.as_slice(), QUIET)?;
         assert_eq!(rt; ending.exit, exit, "{count}");
-        assert_eq!(rt; ending.out.written(), b"".as_slice(), "{count}");
+        assert_eq!(rt; ending.out.written(), out.as_bytes(), "{count}");
         assert_eq!(rt; ending.err.written(), err.as_bytes(), "{count}");
     }
     Ok(())
@@ -285,35 +260,6 @@ fn refuses_a_long_file(rt: HostRuntime) -> Result<(), Fail> {
 }
 
 #[test]
-fn other_words_are_no_use(rt: HostRuntime) -> Result<(), Fail> {
-    let lists: [&[&str]; 16] = [
-        &[],
-        &["check"],
-        &["t.php"],
-        &["run", "t.php"],
-        &["check", "t.php", "--dtd"],
-        &["Check", "t.php", "--dtd", "mini"],
-        &["check", "", "--dtd", "mini"],
-        &["check", "-t.php", "--dtd", "mini"],
-        &["check", "t.php", "--dtd=", "mini"],
-        &["check", "t.php", "--dtd", ""],
-        &["check", "t.php", "--dtd", "-d.dtd"],
-        &["check", "t.php", "--dtd", "mini", "mini"],
-        &["page", "-t.php"],
-        &["page", "-", "--dtd", "mini"],
-        &["pages", "t.php", "--dtd", "mini"],
-        &["--dtd", "mini", "check", "t.php"],
-    ];
-    for words in lists {
-        let ending = run(rt.alloc(), words, CLOSED.as_bytes(), QUIET)?;
-        assert_eq!(rt; ending.exit, Exit::Usage);
-        assert_eq!(rt; ending.out.written(), b"".as_slice());
-        assert_eq!(rt; ending.err.written(), b"phpsa: Usage\n".as_slice());
-    }
-    Ok(())
-}
-
-#[test]
 fn every_room_of_out(rt: HostRuntime) -> Result<(), Fail> {
     let text = NO_OPEN.as_bytes();
     for room in 0..=text.len() {
@@ -336,17 +282,18 @@ fn every_room_of_out(rt: HostRuntime) -> Result<(), Fail> {
 
 #[test]
 fn every_room_of_err(rt: HostRuntime) -> Result<(), Fail> {
-    let text = b"phpsa: NotBuilt t.php\n".as_slice();
+    let text = b"phpsa: Missing a.php\n".as_slice();
     for room in 0..=text.len() {
         let narrow = Outside {
             err: Some(room as u64),
             ..QUIET
         };
-        let ending = run(rt.alloc(), &CHECK, b"<?= 1 ?>", narrow)?;
+        let words = ["check", "a.php", "--dtd", "mini"];
+        let ending = run(rt.alloc(), &words, b"", narrow)?;
         let exit = if room < text.len() {
             Exit::WriteFault
         } else {
-            Exit::NotBuilt
+            Exit::Missing
         };
         assert_eq!(rt; ending.exit, exit, "room {room}");
         assert_eq!(rt; ending.out.written(), b"".as_slice(), "room {room}");
@@ -374,6 +321,7 @@ fn statuses(rt: HostRuntime) {
     for (exit, code) in [
         (Exit::Done, 0),
         (Exit::No, 1),
+        (Exit::Undecided, 2),
         (Exit::NotBuilt, 3),
         (Exit::Script, 3),
         (Exit::Missing, 6),

@@ -1,5 +1,5 @@
 -- The document types that words may name, the table that each has, and why there is none.
-use Rattle.std.specs.Prelude.{◌≡◌, ◌==◌, ℕ, Bool, false, not, List, [], ◌∷◌, Option, None, Some, if◌then◌else◌, bytes_eq, codes, ⊤}
+use Rattle.std.specs.Prelude.{◌≡◌, ℕ, List, if◌then◌else◌, bytes_eq, codes, ⊤}
 use Rattle.dtd_model.specs.Table.{Table}
 use Rattle.dtd_model.specs.Mini.{mini_table}
 use Rattle.dtd_texts.specs.Reading.{Content}
@@ -25,16 +25,9 @@ type_of Strict = strict_type
 type_of Mini = mini_type
 type_of (File name) = file_type name.now
 
--- the name of a file on the command line: it is not empty and does not begin with `-`
-abbrev pub is_file_word : List ℕ → Bool
-is_file_word [] = false
-is_file_word (byte ∷ bytes) = not (byte == 45)
-
--- the document type that the word names: `strict`, `mini`, or the file whose name it is
-abbrev pub named_type : List ℕ → Option NamedType
-named_type word =
-    if bytes_eq word (codes "strict") then Some strict_type
-    else (if bytes_eq word (codes "mini") then Some mini_type else (if is_file_word word then Some (file_type word) else None))
+-- the document type that the word names: `strict`, `mini`, or else that of the file whose name it is
+abbrev pub named_type : List ℕ → NamedType
+named_type word = if bytes_eq word (codes "strict") then strict_type else (if bytes_eq word (codes "mini") then mini_type else file_type word)
 
 -- the document type has this table, where the source of files tells this
 abbrev pub HasTable : Content → NamedType → Table → Type 0

@@ -1,9 +1,9 @@
 //! The document types that words may name: this module alone knows their definitions.
 
-ghost use Rattle.std.specs.Prelude.{◌≡◌, IfOk, IfErr, option_map};
+ghost use Rattle.std.specs.Prelude.{◌≡◌, IfOk, IfErr};
 ghost use Rattle.dtd_model.specs.TableOf.{table_of};
 ghost use Rattle.dtd_reader.specs.Source.{source_call, IsCalm};
-ghost use Rattle.document_types.specs.DocumentTypes.{HasTable, IsBuiltIn, IsDefinitionRefusal, is_file_word, named_type, type_of};
+ghost use Rattle.document_types.specs.DocumentTypes.{HasTable, IsBuiltIn, IsDefinitionRefusal, named_type, type_of};
 
 use crate::refusal::DefinitionRefusal;
 use dtd_model::{Dtd, mini};
@@ -23,29 +23,17 @@ pub enum DocumentType<'a> {
     File(&'a str),
 }
 
-/// Whether the word may be the name of a file.
-pub fn is_file(word: &[u8]) -> bool
-    ensures { result ≡ is_file_word word.now }
-{
-    match word {
-        [] => false,
-        [first, ..] => *first != b'-',
-    }
-}
-
 impl<'a> DocumentType<'a> {
     /// The document type that the word names.
-    pub fn named(word: &'a str) -> Option<DocumentType<'a>>
-        ensures { option_map type_of result ≡ named_type word.now }
+    pub fn named(word: &'a str) -> DocumentType<'a>
+        ensures { type_of result ≡ named_type word.entry.now }
     {
         if word == "strict" {
-            Some(DocumentType::Strict)
+            DocumentType::Strict
         } else if word == "mini" {
-            Some(DocumentType::Mini)
-        } else if is_file(word.as_bytes()) {
-            Some(DocumentType::File(word))
+            DocumentType::Mini
         } else {
-            None
+            DocumentType::File(word)
         }
     }
 

@@ -7,5 +7,5 @@
 mod document_type;
 mod refusal;
 
-pub use document_type::{DocumentType, is_file};
+pub use document_type::DocumentType;
 pub use refusal::DefinitionRefusal;

@@ -11,3 +11,12 @@ yes_json = codes "{\"answer\":\"yes\"}" ++ 10 ∷ []
 abbrev pub no_json : ℕ → List ℕ → List ℕ
 no_json len front =
     codes "{\"answer\":\"no\",\"length\":" ++ (decimal len ++ (codes ",\"page\":" ++ (quoted (encode_lower front) ++ codes "}"))) ++ 10 ∷ []
+
+-- `{"answer":"undecided","count":COUNT,"height":HEIGHT,"kind":"KIND"}`: a count of sums or of tags, of derivations of at most this height
+abbrev pub sums_json : List ℕ → ℕ → ℕ → List ℕ
+sums_json kind count height =
+    codes "{\"answer\":\"undecided\",\"count\":" ++ (decimal count ++ (codes ",\"height\":" ++ (decimal height ++ (codes ",\"kind\":" ++ (quoted kind ++ codes "}"))))) ++ 10 ∷ []
+
+-- `{"answer":"undecided","count":COUNT,"kind":"items"}`: a count of items
+abbrev pub items_json : ℕ → List ℕ
+items_json count = codes "{\"answer\":\"undecided\",\"count\":" ++ (decimal count ++ (codes ",\"kind\":" ++ (quoted (codes "items") ++ codes "}"))) ++ 10 ∷ []

@@ -1,5 +1,5 @@
-//! Answers as JSON: one compact object and a line feed. `yes_json` and `no_json` give exactly the texts of specs/JsonAnswers.antt, built with
-//! `serde_json`. Below stand `text_base`, `serde_json` and `hex`.
+//! Answers as JSON: one compact object and a line feed. `yes_json`, `no_json`, `sums_json` and `items_json` give exactly the texts of
+//! specs/JsonAnswers.antt, built with `serde_json`. Below stand `text_base`, `serde_json` and `hex`.
 #![tactic(auto)]
 
 ghost use Rattle.std.specs.Prelude.{◌≡◌, ◌++◌, ◌∷◌, [], IfOk, codes, decimal, string_bytes};
@@ -34,6 +34,37 @@ fn no_object(alloc: Global, length: u64, digits: &str) -> Result<String, AllocEr
     value.to_string(alloc)
 }
 
+fn sums_value(alloc: Global, kind: &str, count: u64, height: u64) -> Result<Value, AllocError>
+    ensures { IfOk result (λ v. view v ≡ object (member (codes "answer") (string (codes "undecided"))
+        (member (codes "count") (number (unsigned count)) (member (codes "height") (number (unsigned height))
+        (member (codes "kind") (string kind.now) no_members))))) }
+{
+    json!(in alloc; {"answer": "undecided", "count": count, "height": height, "kind": kind})
+}
+
+fn sums_object(alloc: Global, kind: &str, count: u64, height: u64) -> Result<String, AllocError>
+    ensures { IfOk result (λ text. string_bytes text ≡ codes "{\"answer\":\"undecided\",\"count\":"
+        ++ (decimal count ++ (codes ",\"height\":" ++ (decimal height ++ (codes ",\"kind\":" ++ (quoted kind.now ++ codes "}")))))) }
+{
+    let value = sums_value(alloc, kind, count, height)?;
+    value.to_string(alloc)
+}
+
+fn items_value(alloc: Global, kind: &str, count: u64) -> Result<Value, AllocError>
+    ensures { IfOk result (λ v. view v ≡ object (member (codes "answer") (string (codes "undecided"))
+        (member (codes "count") (number (unsigned count)) (member (codes "kind") (string kind.now) no_members)))) }
+{
+    json!(in alloc; {"answer": "undecided", "count": count, "kind": kind})
+}
+
+fn items_object(alloc: Global, kind: &str, count: u64) -> Result<String, AllocError>
+    ensures { IfOk result (λ text. string_bytes text
+        ≡ codes "{\"answer\":\"undecided\",\"count\":" ++ (decimal count ++ (codes ",\"kind\":" ++ (quoted kind.now ++ codes "}")))) }
+{
+    let value = items_value(alloc, kind, count)?;
+    value.to_string(alloc)
+}
+
 /// The text on a line of its own.
 fn line_of(alloc: Global, text: &str) -> Result<Bytes, NoMemory>
     ensures { IfOk result (λ line. line ≡ text.now ++ 10 ∷ []) }
@@ -57,5 +88,21 @@ pub fn no_json(alloc: Global, length: u64, front: &[u8]) -> Result<Bytes, NoMemo
 {
     let digits = hex::encode(alloc, front)?;
     let object = no_object(alloc, length, digits.as_str())?;
+    line_of(alloc, object.as_str())
+}
+
+/// That a count of this kind was passed, of derivations of at most this height: `{"answer":"undecided","count":COUNT,"height":HEIGHT,"kind":"KIND"}` and a line feed.
+pub fn sums_json(alloc: Global, kind: &str, count: u64, height: u64) -> Result<Bytes, NoMemory>
+    ensures { IfOk result (λ text. text ≡ spec.sums_json kind.now count height) }
+{
+    let object = sums_object(alloc, kind, count, height)?;
+    line_of(alloc, object.as_str())
+}
+
+/// That the count of items was passed: `{"answer":"undecided","count":COUNT,"kind":"items"}` and a line feed.
+pub fn items_json(alloc: Global, count: u64) -> Result<Bytes, NoMemory>
+    ensures { IfOk result (λ text. text ≡ spec.items_json count) }
+{
+    let object = items_object(alloc, "items", count)?;
     line_of(alloc, object.as_str())
 }

@@ -1,16 +1,12 @@
-// What is written of a reply or a refusal, and the status that the call ends with.
-ghost use Rattle.std.specs.Prelude.{◌≡◌};
-ghost use Rattle.io_edge.specs.Taken.{AppendsPrefix};
-ghost use Rattle.phpsa_main.specs.Steps.{Puts, Reports, ReportsRefusal, TellsFault};
-ghost use Rattle.phpsa_main.specs.Call.{output_of};
+//! What is written of a reply or a refusal, and the status that the call ends with.
 
-use crate::Exit;
-use crate::refusal::Refusal;
-use crate::reply::Reply;
-use crate::texts::{NO_MEMORY, WRITE_FAULT, refusal_text, reply_text};
+ghost use Rattle.io_edge.specs.Taken.{AppendsPrefix};
+ghost use Rattle.phpsa_tasks.specs.Call.{output_of};
+ghost use Rattle.phpsa_tasks.specs.Counted.{TellsFault};
+ghost use Rattle.phpsa_main.specs.Steps.{Puts, Reports, ReportsRefusal};
+
 use io_edge::{Sink, SinkFault};
-use std::alloc::Global;
-use text_base::NoMemory;
+use phpsa_texts::{Exit, Message, NO_MEMORY, Refusal, WRITE_FAULT};
 
 /// Puts a text, after which the call ends with this status; or with that of the fault.
 fn put<S: Sink>(sink: &mut S, text: &[u8], status: Exit) -> Exit
@@ -36,27 +32,22 @@ fn try_put<S: Sink>(sink: &mut S, text: &[u8])
     }
 }
 
-/// Writes a refusal of this file.
-pub(crate) fn refuse<E: Sink>(alloc: Global, file: &[u8], refusal: &Refusal, err: &mut E) -> Exit
-    ensures reports { ReportsRefusal file.now refusal.now
+/// Writes a refusal.
+pub(crate) fn refuse<E: Sink>(refusal: &Refusal, err: &mut E) -> Exit
+    ensures reports { ReportsRefusal refusal.now
         (output_of (E.written err.old) (E.written err.new) (E.faults err.old) (E.faults err.new)) result }
     ensures told { TellsFault (output_of (E.written err.old) (E.written err.new) (E.faults err.old) (E.faults err.new))
         result }
 {
-    match refusal_text(alloc, file, refusal) {
-        Ok(text) => put(err, text.as_slice(), refusal.status()),
-        Err(NoMemory) => put(err, NO_MEMORY, Exit::Memory),
+    match refusal {
+        Refusal::Told(message) => put(err, message.text.as_slice(), message.status),
+        Refusal::Memory => put(err, NO_MEMORY, Exit::Memory),
     }
 }
 
 /// Writes a reply.
-pub(crate) fn report<O: Sink, E: Sink>(
-    alloc: Global,
-    reply: &Reply,
-    out: &mut O,
-    err: &mut E,
-) -> Exit
-    ensures reports { Reports reply.now
+pub(crate) fn report<O: Sink, E: Sink>(message: &Message, out: &mut O, err: &mut E) -> Exit
+    ensures reports { Reports message.now
         (output_of (O.written out.old) (O.written out.new) (O.faults out.old) (O.faults out.new))
         (output_of (E.written err.old) (E.written err.new) (E.faults err.old) (E.faults err.new)) result }
     ensures told_out { TellsFault (output_of (O.written out.old) (O.written out.new) (O.faults out.old) (O.faults out.new))
@@ -64,12 +55,8 @@ pub(crate) fn report<O: Sink, E: Sink>(
     ensures told_err { TellsFault (output_of (E.written err.old) (E.written err.new) (E.faults err.old) (E.faults err.new))
         result }
 {
-    let text = match reply_text(alloc, reply) {
-        Ok(text) => text,
-        Err(NoMemory) => return put(err, NO_MEMORY, Exit::Memory),
-    };
-    match out.put(text.as_slice()) {
-        Ok(()) => reply.status(),
+    match out.put(message.text.as_slice()) {
+        Ok(()) => message.status,
         Err(SinkFault::Failed) => {
             try_put(err, WRITE_FAULT);
             Exit::WriteFault

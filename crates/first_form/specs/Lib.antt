@@ -1,3 +1,0 @@
-pub mod Loose
-pub mod FirstTree
-pub mod Steps

@@ -1,3 +1,0 @@
-pub mod RunLemmas
-mod Examples
-mod WorkedRuns

@@ -1,0 +1,50 @@
+-- A definition that is refused after a file was read.
+use Rattle.std.proofs.Common.{◌≡◌, ℕ, List, refl, subst, inl, inr}
+use Rattle.std.specs.Prelude.{◌⊎◌}
+use Rattle.program_files.specs.Source.{SourceCall}
+use Rattle.told_programs.specs.Told.{Content}
+use Rattle.dtd_model.specs.Table.{Table}
+use Rattle.dtd_reader.specs.Source as dtd_source
+use Rattle.dtd_reader.specs.Refusals.{IsCause}
+use Rattle.dtd_reader.specs.declared.refusal.DtdRefusal.{DtdRefusal}
+use Rattle.dtd_reader.specs.declared.refusal.DtdRefusal.TheVariants as dtd
+use Rattle.document_types.specs.DocumentTypes.{NamedType, HasTable, IsDefinitionRefusal}
+use Rattle.document_types.specs.declared.refusal.DefinitionRefusal.{DefinitionRefusal}
+use Rattle.document_types.specs.declared.refusal.DefinitionRefusal.TheVariants as definition
+use Rattle.phpsa_texts.specs.declared.exit.Exit.TheVariants.{ReadFault}
+use Rattle.phpsa_texts.specs.Statuses.{dtd_status, definition_status}
+use Rattle.phpsa_tasks.specs.Causes.{definition_call}
+
+-- its table, in what the source told before
+pub has_table : (content content' : Content) (d : NamedType) (table : Table) → content' ≡ content → HasTable content' d table → HasTable content d table
+has_table content content' d table same has = subst (λ (c : Content). HasTable c d table) same has
+
+-- what the source tells and its counts of faults and misses are as they were before the file was read
+moved : (content content' : Content) (f f' g m m' n : ℕ) (d : NamedType) (r : DefinitionRefusal) → content' ≡ content → f' ≡ f → m' ≡ m
+    → IsDefinitionRefusal (dtd_source.source_call content' f' g m' n) d r → IsDefinitionRefusal (dtd_source.source_call content f g m n) d r
+moved content content' f f' g m m' n d r a b e why =
+    subst (λ (c : Content). IsDefinitionRefusal (dtd_source.source_call c f g m n) d r) a
+    (subst (λ (k : ℕ). IsDefinitionRefusal (dtd_source.source_call content' k g m n) d r) b
+    (subst (λ (k : ℕ). IsDefinitionRefusal (dtd_source.source_call content' f' g k n) d r) e why))
+
+pub definition_cause : (files : SourceCall) (d : NamedType) (content : Content) (faults misses : ℕ) (r : DefinitionRefusal) → content ≡ files.content → faults ≡ files.faults
+    → misses ≡ files.misses → IsDefinitionRefusal (dtd_source.source_call content faults files.faults' misses files.misses') d r → IsDefinitionRefusal (definition_call files) d r
+definition_cause files d content faults misses r a b e why = moved files.content content files.faults faults files.faults' files.misses misses files.misses' d r a b e why
+
+-- no fault is counted but that of a file that is not read
+faults_told : (call : dtd_source.SourceCall) (name : List ℕ) (fault : DtdRefusal) → IsCause call name fault → (dtd_status fault ≡ ReadFault) ⊎ (call.faults' ≡ call.faults)
+faults_told call name (dtd.Missing path) (asked, (rises, none, same)) = inr same
+faults_told call name (dtd.ReadFault path) why = inl refl
+faults_told call name (dtd.TooLong path len) (asked, (over, least, (same, others))) = inr same
+faults_told call name (dtd.NotDtd at) (why, (same, others)) = inr same
+faults_told call name (dtd.Entity entity) (why, (same, others)) = inr same
+faults_told call name (dtd.Twice element) (why, (same, others)) = inr same
+faults_told call name (dtd.Undeclared element) (why, (same, others)) = inr same
+faults_told call name (dtd.LeftOut at) (why, (same, others)) = inr same
+faults_told call name (dtd.Limit count) (why, (same, others)) = inr same
+faults_told call name dtd.Memory (same, others) = inr same
+
+pub definition_faults : (call : dtd_source.SourceCall) (d : NamedType) (r : DefinitionRefusal) → IsDefinitionRefusal call d r → (definition_status r ≡ ReadFault) ⊎ (call.faults' ≡ call.faults)
+definition_faults call d (definition.File fault) (name, is, why) = faults_told call name fault why
+definition_faults call d (definition.BuiltIn fault) (why, (same, others)) = inr same
+definition_faults call d definition.Memory (same, others) = inr same

@@ -1,0 +1,67 @@
+-- The definitions of `specs/` on worked examples and on near misses.
+use Rattle.std.proofs.Common.{◌≡◌, ◌≤◌, ℕ, List, [], ◌∷◌, true, false, None, Some, codes, refl, lit≤, arith}
+use Rattle.dtd_model.specs.Table.{Table}
+use Rattle.page_model.specs.Valid as model
+use Rattle.page_goals.specs.declared.goal.Goal.TheVariants.{Valid, Nested}
+use Rattle.command_words.specs.Asked.{check, run, page, grammar, make}
+use Rattle.document_types.specs.DocumentTypes.{strict_type, mini_type, file_type}
+use Rattle.phpsa_texts.specs.declared.exit.Exit.TheVariants.{No, NotBuilt, Input}
+use Rattle.phpsa_texts.specs.declared.answers.AnswerForm.TheVariants.{Plain, Json}
+use Rattle.phpsa_texts.specs.Texts.{not_built_text}
+use Rattle.phpsa_tasks.specs.declared.part.Part.TheVariants.{Run}
+use Rattle.phpsa_tasks.specs.Tasks.{script_check, page_check, script_making, made_check, unbuilt, task_of, part_name}
+use Rattle.phpsa_tasks.specs.Call.{output_of, Gains, GainsPrefix, GainsNothing, Fails}
+use Rattle.phpsa_tasks.specs.Subjects.{PageBy}
+use Rattle.phpsa_tasks.specs.Answered.{IsVerdict}
+
+-- a script is decided by the strict type, the smallest one, or that of a file, which may have any name
+checks : task_of (check (codes "t.php") (codes "strict") 10000 false false) ≡ script_check (codes "t.php") strict_type Valid 10000 Plain
+checks = refl
+
+checks_by_a_file : task_of (check (codes "t.php") (codes "d.dtd") 9 false true) ≡ script_check (codes "t.php") (file_type (codes "d.dtd")) Valid 9 Json
+checks_by_a_file = refl
+
+judges : task_of (page (codes "p.xhtml") (codes "mini")) ≡ page_check (codes "p.xhtml") mini_type
+judges = refl
+
+judges_by_no_name : task_of (page (codes "p.xhtml") []) ≡ page_check (codes "p.xhtml") (file_type [])
+judges_by_no_name = refl
+
+checks_nesting : task_of (check (codes "t.php") (codes "mini") 10000 true false) ≡ script_check (codes "t.php") mini_type Nested 10000 Plain
+checks_nesting = refl
+
+checks_made : task_of (make 200 true) ≡ made_check 200
+checks_made = refl
+
+makes : task_of (make 1001 false) ≡ script_making 1001
+makes = refl
+
+-- what is not built is named by its word
+runs : task_of (run (codes "t.php") None 100) ≡ unbuilt Run
+runs = refl
+
+runs_not : not_built_text (part_name Run) ≡ codes "phpsa: NotBuilt run\n"
+runs_not = refl
+
+-- a page that is not valid has the verdict No, and no other
+invalid_verdict : (x : PageBy) → (model.Valid x.table x.page → ⊥) → IsVerdict (page_check (codes "p") mini_type) x No
+invalid_verdict x invalid = invalid
+
+no_page_is_undecided : (x : PageBy) → IsVerdict (page_check (codes "p") mini_type) x NotBuilt → ⊥
+no_page_is_undecided x verdict = verdict
+
+too_many_functions : IsVerdict (script_making 1001) tt Input
+too_many_functions (least, most) = let at : 1001 ≤ 1000 = most in omega (arith, at)
+
+-- an output gains a text, a prefix of it, or nothing
+gains : Gains (output_of (Some []) (Some (codes "yes")) 0 0) (codes "yes")
+gains = refl
+
+gains_a_prefix : GainsPrefix (output_of (Some (codes "a")) (Some (codes "aye")) 0 1) (codes "yes")
+gains_a_prefix = (2, lit≤ tt, refl)
+
+gains_nothing : GainsNothing (output_of (Some (codes "a")) (Some (codes "a")) 0 1)
+gains_nothing = refl
+
+fails : Fails (output_of None None 3 4)
+fails = lit≤ tt

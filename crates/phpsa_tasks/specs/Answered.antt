@@ -1,0 +1,82 @@
+-- When a call is answered, and how.
+use Rattle.std.specs.Prelude.{◌≡◌, ◌⊎◌, ℕ, List, [], ◌∷◌, Contains, ⊤}
+use Rattle.script_meaning.specs.Programs.{PlainProgram}
+use Rattle.dtd_model.specs.Table.{Table}
+use Rattle.page_model.specs.Valid.{Valid}
+use Rattle.io_edge.specs.Counts.{Rises}
+use Rattle.page_goals.specs.declared.goal.Goal.{Goal}
+use Rattle.page_goals.specs.Goals.{IsGood}
+use Rattle.program_literals.specs.Short.{HasLongText}
+use Rattle.loose_grammar.specs.Pages.{IsLoosePage}
+use Rattle.program_answers.specs.Answers.{EachIsGood}
+use Rattle.shown_answers.specs.declared.answer.ShownAnswer.{ShownAnswer}
+use Rattle.shown_answers.specs.Shown.{IsShownAnswer}
+use Rattle.script_maker.specs.Made.{IsSize}
+use Rattle.command_words.specs.Asked.{Asked, AsksNothing}
+use Rattle.command_words.specs.Canonical.{IsCanonical}
+use Rattle.phpsa_texts.specs.declared.exit.Exit.{Exit}
+use Rattle.phpsa_texts.specs.declared.exit.Exit.TheVariants.{Done, No, Undecided, NotBuilt, Script, Missing, Input, WriteFault, Usage, Memory}
+use Rattle.phpsa_tasks.specs.Tasks.{Task, script_check, page_check, script_making, made_check, unbuilt, usage, AsksFor}
+use Rattle.phpsa_tasks.specs.declared.task.TheConstants.{PAIR_LIMIT}
+use Rattle.phpsa_tasks.specs.Subjects.{Subject, Holds, IsWithin, LacksFile}
+use Rattle.phpsa_tasks.specs.Replies.{answer_status}
+use Rattle.phpsa_tasks.specs.Call.{Call, Fails}
+
+-- no count of faults rises in the call
+pub record IsUndisturbed (call : Call) : Type 0 where
+  pub files : Rises call.files.faults call.files.faults' → ⊥
+  pub out : Fails call.out → ⊥
+  pub err : Fails call.err → ⊥
+
+-- what a program comes to by a goal: each loose page is good, or one is not
+abbrev pub IsScriptVerdict : Goal → Table → PlainProgram → Exit → Type 0
+IsScriptVerdict goal table program Done = EachIsGood goal table program
+IsScriptVerdict goal table program No = (page : List ℕ) × IsLoosePage program page × (IsGood goal table page → ⊥)
+IsScriptVerdict goal table program status = ⊥
+
+-- a limit of the decision is passed: a stated count, or that of the bytes of a text
+abbrev pub PassesScriptLimit : Goal → Table → PlainProgram → ℕ → Exit → Type 0
+PassesScriptLimit goal table program limit Undecided = (answer : ShownAnswer) × IsShownAnswer goal table program limit answer × (answer_status answer ≡ Undecided)
+PassesScriptLimit goal table program limit Input = HasLongText program
+PassesScriptLimit goal table program limit status = ⊥
+
+-- the status that a task has for what it speaks of
+abbrev pub IsVerdict : (task : Task) → Subject task → Exit → Type 0
+IsVerdict (script_check file document_type goal limit form) subject status = IsScriptVerdict goal subject.table subject.program status
+IsVerdict (page_check file document_type) subject Done = Valid subject.table subject.page
+IsVerdict (page_check file document_type) subject No = Valid subject.table subject.page → ⊥
+IsVerdict (script_making functions) subject Done = IsSize functions
+IsVerdict (script_making functions) subject Input = IsSize functions → ⊥
+IsVerdict (made_check functions) subject status = IsScriptVerdict Goal.Valid subject.table subject.program status
+IsVerdict (unbuilt part) subject NotBuilt = ⊤
+IsVerdict usage subject Usage = ⊤
+IsVerdict task subject status = ⊥
+
+-- the status says that a task is not done: a limit of its decision is passed, or memory was wanting
+abbrev pub PassesLimit : (task : Task) → Subject task → Exit → Type 0
+PassesLimit (script_check file document_type goal limit form) subject status = PassesScriptLimit goal subject.table subject.program limit status
+PassesLimit (made_check functions) subject status = PassesScriptLimit Goal.Valid subject.table subject.program PAIR_LIMIT status
+PassesLimit task subject status = ⊥
+
+abbrev pub IsStopped : (task : Task) → Subject task → Exit → Type 0
+IsStopped task subject status = PassesLimit task subject status ⊎ (status ≡ Memory)
+
+-- the statuses of a task that finds nothing under the file's name: a name is missing, a file is no script or a rule is broken, or a limit is passed
+abbrev pub statuses_of_nothing : Task → List Exit
+statuses_of_nothing (script_check file document_type goal limit form) = Missing ∷ Script ∷ Input ∷ Memory ∷ []
+statuses_of_nothing (page_check file document_type) = Missing ∷ Input ∷ Memory ∷ []
+statuses_of_nothing (script_making functions) = []
+statuses_of_nothing (made_check functions) = Input ∷ Memory ∷ []
+statuses_of_nothing (unbuilt part) = []
+statuses_of_nothing usage = []
+
+-- Words that ask for what the source tells all of are answered, a limit and want of memory aside, and exactly by what is so of it; where nothing is found, so is the status;
+-- words that ask for nothing are refused, and canonical ones never for that.
+pub record IsAnswered (call : Call) (status : Exit) : Type 0 where
+  pub answered : (task : Task) (subject : Subject task) → AsksFor call.words task → IsUndisturbed call
+      → Holds call.files.content task subject → IsWithin call.files.content task subject → IsVerdict task subject status ⊎ IsStopped task subject status
+  pub exact : (task : Task) (subject : Subject task) (verdict : Exit) → AsksFor call.words task → IsUndisturbed call
+      → Holds call.files.content task subject → IsWithin call.files.content task subject → IsVerdict task subject verdict → (status ≡ verdict) ⊎ IsStopped task subject status
+  pub nothing : (task : Task) → AsksFor call.words task → IsUndisturbed call → LacksFile call.files.content task → Contains (statuses_of_nothing task) status
+  pub refused : AsksNothing call.words → Contains (Usage ∷ WriteFault ∷ Memory ∷ []) status
+  pub taken : (for : Asked) → IsCanonical call.words for → status ≡ Usage → ⊥

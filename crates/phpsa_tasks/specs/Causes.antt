@@ -1,0 +1,61 @@
+-- Why a task is refused: a status, and a text on `err`.
+use Rattle.std.specs.Prelude.{◌≡◌, ℕ, List}
+use Rattle.io_edge.specs.Reasons.{HasReason}
+use Rattle.io_edge.specs.declared.files.FileFault.{FileFault}
+use Rattle.script_meaning.specs.Programs.{PlainProgram}
+use Rattle.program_files.specs.Source.{SourceCall, source_call}
+use Rattle.program_files.specs.declared.refusal.LoadRefusal.{LoadRefusal}
+use Rattle.program_loader.specs.Causes.{IsLoadCause}
+use Rattle.told_programs.specs.Told.{IsLoaded}
+use Rattle.dtd_model.specs.Table.{Table}
+use Rattle.dtd_reader.specs.Source as definition
+use Rattle.document_types.specs.DocumentTypes.{NamedType, strict_type, HasTable, IsDefinitionRefusal}
+use Rattle.document_types.specs.declared.refusal.DefinitionRefusal.{DefinitionRefusal}
+use Rattle.program_literals.specs.Short.{HasLongText}
+use Rattle.script_decision.specs.Decision.{HasManyStates}
+use Rattle.script_maker.specs.Made.{IsSize}
+use Rattle.phpsa_texts.specs.declared.exit.Exit.{Exit}
+use Rattle.phpsa_texts.specs.declared.exit.Exit.TheVariants.{NotBuilt, Usage, Dtd, Input}
+use Rattle.phpsa_texts.specs.Statuses.{load_status, file_status, definition_status}
+use Rattle.phpsa_texts.specs.Texts.{load_text, file_text, definition_text, states_text, long_text, not_built_text, size_text, usage_text}
+use Rattle.phpsa_tasks.specs.Tasks.{Task, script_check, page_check, script_making, made_check, unbuilt, usage, part_name}
+use Rattle.phpsa_tasks.specs.Subjects.{made_name, only_made}
+
+-- a source of files as the reader of definitions sees it
+abbrev pub definition_call : SourceCall → definition.SourceCall
+definition_call files = definition.source_call files.content files.faults files.faults' files.misses files.misses'
+
+-- the document type has no definition, or the content models of its definition have too many states
+pub data RefusesDefinition (files : SourceCall) (document_type : NamedType) (status : Exit) (text : List ℕ) : Type 0 where
+  not_defined : (cause : DefinitionRefusal) → IsDefinitionRefusal (definition_call files) document_type cause
+      → status ≡ definition_status cause → text ≡ definition_text cause → RefusesDefinition files document_type status text
+  many_states : (table : Table) (count : ℕ) → HasTable files.content document_type table → HasManyStates table count
+      → status ≡ Dtd → text ≡ states_text count → RefusesDefinition files document_type status text
+
+-- the program is not loaded, there is no definition for it, or a text in it is over the limit of a run
+pub data RefusesScript (files : SourceCall) (file : List ℕ) (document_type : NamedType) (status : Exit) (text : List ℕ) : Type 0 where
+  not_loaded : (cause : LoadRefusal) → IsLoadCause files file cause → status ≡ load_status cause → text ≡ load_text cause → RefusesScript files file document_type status text
+  lacks_definition : RefusesDefinition files document_type status text → RefusesScript files file document_type status text
+  has_long_text : (program : PlainProgram) → IsLoaded files.content file program → HasLongText program
+      → status ≡ Input → text ≡ long_text file → RefusesScript files file document_type status text
+
+-- the page is not read, or there is no definition for it
+pub data RefusesPage (files : SourceCall) (file : List ℕ) (document_type : NamedType) (status : Exit) (text : List ℕ) : Type 0 where
+  not_read : (fault : FileFault) → HasReason (files.content file) files.faults files.faults' files.misses files.misses' fault
+      → status ≡ file_status fault → text ≡ file_text fault file → RefusesPage files file document_type status text
+  page_lacks_definition : RefusesDefinition files document_type status text → RefusesPage files file document_type status text
+
+-- a script cannot have so many functions, or the generated one is refused as the one file of a source that does not fail
+pub data RefusesMade (functions : ℕ) (status : Exit) (text : List ℕ) : Type 0 where
+  no_size : (IsSize functions → ⊥) → status ≡ Input → text ≡ size_text functions → RefusesMade functions status text
+  made_refused : IsSize functions → (misses reads : ℕ) → RefusesScript (source_call (only_made functions) 0 0 0 misses 0 reads) made_name strict_type status text
+      → RefusesMade functions status text
+
+-- why each task is refused; want of memory may come at any place beside
+abbrev pub Refuses : SourceCall → Task → Exit → List ℕ → Type 0
+Refuses files (script_check file document_type goal limit form) status text = RefusesScript files file document_type status text
+Refuses files (page_check file document_type) status text = RefusesPage files file document_type status text
+Refuses files (script_making functions) status text = (IsSize functions → ⊥) × (status ≡ Input) × (text ≡ size_text functions)
+Refuses files (made_check functions) status text = RefusesMade functions status text
+Refuses files (unbuilt part) status text = (status ≡ NotBuilt) × (text ≡ not_built_text (part_name part))
+Refuses files usage status text = (status ≡ Usage) × (text ≡ usage_text)

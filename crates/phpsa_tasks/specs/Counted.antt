@@ -1,0 +1,54 @@
+-- What the counts of the source and of the outputs say after a call.
+use Rattle.std.specs.Prelude.{◌≡◌, ◌⊎◌, ℕ, List, [], ◌∷◌, length, Contains}
+use Rattle.io_edge.specs.Counts.{one_more}
+use Rattle.program_rules.specs.Files.{Held, Agrees}
+use Rattle.program_rules.specs.Programs.{ReadFile, AreRead}
+use Rattle.program_files.specs.Source.{SourceCall, so_many_more}
+use Rattle.document_types.specs.DocumentTypes.{IsBuiltIn}
+use Rattle.phpsa_texts.specs.declared.exit.Exit.{Exit}
+use Rattle.phpsa_texts.specs.declared.exit.Exit.TheVariants.{Script, Missing, ReadFault, WriteFault, Input, Memory}
+use Rattle.phpsa_tasks.specs.Tasks.{Task, script_check, page_check, script_making, made_check, unbuilt, usage, AsksFor}
+use Rattle.phpsa_tasks.specs.Call.{Output, Call, IsUnfailed}
+
+-- so many names were asked for as the program has files
+pub record ReadsItsFiles (files : SourceCall) (file : List ℕ) : Type 0 where
+  pub held : Held
+  pub agrees : Agrees files.content held
+  pub own : List ReadFile
+  pub read : AreRead held file own
+  pub counted : files.reads' ≡ so_many_more (length own) files.reads
+
+-- no name was asked for
+abbrev pub ReadsNothing : SourceCall → Type 0
+ReadsNothing files = files.reads' ≡ files.reads
+
+-- memory was wanting, or the text for that could not be written
+abbrev pub IsWanting : Exit → Type 0
+IsWanting status = Contains (WriteFault ∷ Memory ∷ []) status
+
+-- By a built-in definition each file that a task needs is read once: those of a program, unless it is not loaded, for which the cause says what was read, or a text could
+-- not be written; or the page, unless memory was wanting before. The other tasks read nothing.
+abbrev pub ReadsFor : Task → SourceCall → Exit → Type 0
+ReadsFor (script_check file document_type goal limit form) files status =
+    IsBuiltIn document_type → Contains (Script ∷ Missing ∷ ReadFault ∷ Input ∷ WriteFault ∷ Memory ∷ []) status ⊎ ReadsItsFiles files file
+ReadsFor (page_check file document_type) files status =
+    IsBuiltIn document_type → (files.reads' ≡ one_more files.reads) ⊎ (ReadsNothing files × IsWanting status)
+ReadsFor (script_making functions) files status = ReadsNothing files
+ReadsFor (made_check functions) files status = ReadsNothing files
+ReadsFor (unbuilt part) files status = ReadsNothing files
+ReadsFor usage files status = ReadsNothing files
+
+-- a fault of the source is told by the status, but where its text itself could not be made or written
+abbrev pub TellsFaults : SourceCall → Exit → Type 0
+TellsFaults files status = Contains (ReadFault ∷ WriteFault ∷ Memory ∷ []) status ⊎ (files.faults' ≡ files.faults)
+
+-- a fault of an output is told by its status alone
+abbrev pub TellsFault : Output → Exit → Type 0
+TellsFault output status = (status ≡ WriteFault) ⊎ IsUnfailed output
+
+-- what is read, and which faults are told
+pub record IsCounted (call : Call) (status : Exit) : Type 0 where
+  pub read : (task : Task) → AsksFor call.words task → ReadsFor task call.files status
+  pub out : TellsFault call.out status
+  pub err : TellsFault call.err status
+  pub files : TellsFaults call.files status

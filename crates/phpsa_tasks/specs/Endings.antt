@@ -1,0 +1,76 @@
+-- How a call of the program ends: its status, the cause of that, and what is left on the outputs.
+use Rattle.std.specs.Prelude.{◌≡◌, ◌⊎◌, ℕ, List}
+use Rattle.phpsa_texts.specs.declared.exit.Exit.{Exit}
+use Rattle.phpsa_texts.specs.declared.exit.Exit.TheVariants.{WriteFault, Memory}
+use Rattle.phpsa_texts.specs.Texts.{memory_text, write_fault_text}
+use Rattle.phpsa_tasks.specs.Tasks.{Task, AsksFor}
+use Rattle.phpsa_tasks.specs.Replies.{Replies}
+use Rattle.phpsa_tasks.specs.Causes.{Refuses}
+use Rattle.phpsa_tasks.specs.Call.{Call, Gains, GainsPrefix, GainsNothing, Fails}
+
+-- the call has this reply to give: it is that to what the words ask for
+pub record OwesReply (call : Call) (status : Exit) (text : List ℕ) : Type 0 where
+  pub task : Task
+  pub asked : AsksFor call.words task
+  pub replies : Replies call.files task status text
+
+-- the call has this refusal to tell: what the words ask for is refused so, or memory was wanting
+pub data OwesRefusal (call : Call) (status : Exit) (text : List ℕ) : Type 0 where
+  of_task : (task : Task) → AsksFor call.words task → Refuses call.files task status text → OwesRefusal call status text
+  wants_memory : status ≡ Memory → text ≡ memory_text → OwesRefusal call status text
+
+-- the reply is written on `out`
+pub record EndsReplied (call : Call) (status : Exit) : Type 0 where
+  pub text : List ℕ
+  pub owed : OwesReply call status text
+  pub out : Gains call.out text
+  pub err : GainsNothing call.err
+
+-- the refusal is written on `err`
+pub record EndsRefused (call : Call) (status : Exit) : Type 0 where
+  pub text : List ℕ
+  pub owed : OwesRefusal call status text
+  pub out : GainsNothing call.out
+  pub err : Gains call.err text
+
+-- the text that is due on `out`, and the one that is due on `err`
+abbrev pub IsDueOnOut : Call → List ℕ → Type 0
+IsDueOnOut call text = (status : Exit) × OwesReply call status text
+
+abbrev pub IsDueOnErr : Call → List ℕ → Type 0
+IsDueOnErr call text = (status : Exit) × OwesRefusal call status text
+
+-- `out` is as it was, or, where it found no memory while a reply was written, has a prefix of the reply
+abbrev pub KeepsOut : Call → Type 0
+KeepsOut call = GainsNothing call.out ⊎ ((text : List ℕ) × IsDueOnOut call text × GainsPrefix call.out text)
+
+-- `out` failed while a reply was written, and `err` holds what it took of the text for that
+pub record EndsByOut (call : Call) : Type 0 where
+  pub text : List ℕ
+  pub due : IsDueOnOut call text
+  pub failed : Fails call.out
+  pub out : GainsPrefix call.out text
+  pub err : GainsPrefix call.err write_fault_text
+
+-- `err` failed while a text was written on it
+pub record EndsByErr (call : Call) : Type 0 where
+  pub text : List ℕ
+  pub due : IsDueOnErr call text
+  pub failed : Fails call.err
+  pub out : KeepsOut call
+  pub err : GainsPrefix call.err text
+
+-- memory was wanting, at any place
+pub record EndsMemory (call : Call) : Type 0 where
+  pub text : List ℕ
+  pub due : IsDueOnErr call text
+  pub out : KeepsOut call
+  pub err : GainsPrefix call.err text
+
+-- the call ends so
+pub data Ends (call : Call) (status : Exit) : Type 0 where
+  replied : EndsReplied call status → Ends call status
+  refused : EndsRefused call status → Ends call status
+  by_out : status ≡ WriteFault → EndsByOut call → Ends call status
+  by_err : status ≡ WriteFault → EndsByErr call → Ends call status
+  no_memory : status ≡ Memory → EndsMemory call → Ends call status

@@ -1,0 +1,13 @@
+-- What every call of the program keeps, whatever its words ask for.
+use Rattle.phpsa_texts.specs.declared.exit.Exit.{Exit}
+use Rattle.phpsa_tasks.specs.Call.{Call}
+use Rattle.phpsa_tasks.specs.Endings.{Ends}
+use Rattle.phpsa_tasks.specs.Answered.{IsAnswered}
+use Rattle.phpsa_tasks.specs.Sound.{IsSound}
+use Rattle.phpsa_tasks.specs.Counted.{IsCounted}
+
+pub record Keeps (call : Call) (status : Exit) : Type 0 where
+  pub ends : Ends call status
+  pub answered : IsAnswered call status
+  pub sound : IsSound call status
+  pub counted : IsCounted call status

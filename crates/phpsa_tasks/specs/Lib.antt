@@ -1,0 +1,12 @@
+pub mod Tasks
+pub mod Views
+pub mod Call
+pub mod Subjects
+pub mod Replies
+pub mod Causes
+pub mod Counted
+pub mod Outcomes
+pub mod Endings
+pub mod Answered
+pub mod Sound
+pub mod Keeps

@@ -1,0 +1,99 @@
+//! What is to be done for what words ask for.
+
+ghost use Rattle.std.specs.Prelude.{◌≡◌};
+ghost use Rattle.command_words.specs.Views.{asked_as};
+ghost use Rattle.phpsa_tasks.specs.Tasks as spec;
+ghost use Rattle.phpsa_tasks.specs.Views.{task_as};
+
+use crate::part::Part;
+use command_words::CommandLine;
+use document_types::DocumentType;
+use page_goals::Goal;
+use phpsa_texts::AnswerForm;
+
+/// The most different sums of the sentences of one nonterminal for which a generated script is decided.
+pub const PAIR_LIMIT: u64 = 10_000;
+
+/// What is to be done.
+#[derive(Clone, Copy, Debug)]
+pub enum Task<'a> {
+    /// The script of a file is decided, with all that it includes: by this goal, and with at most so many different sums of the sentences of one nonterminal.
+    ScriptCheck {
+        file: &'a str,
+        document_type: DocumentType<'a>,
+        goal: Goal,
+        limit: u64,
+        form: AnswerForm,
+    },
+    /// The page of a file is judged.
+    PageCheck {
+        file: &'a str,
+        document_type: DocumentType<'a>,
+    },
+    /// A script with so many functions is made.
+    ScriptMaking {
+        functions: u32,
+    },
+    /// A script with so many functions is made and decided.
+    MadeCheck {
+        functions: u32,
+    },
+    /// What is asked for is not built.
+    Unbuilt(Part),
+    /// The words ask for nothing: the usage is told.
+    Usage,
+}
+
+/// The form of an answer, by whether JSON is asked for.
+fn form_of(as_json: bool) -> AnswerForm
+    ensures { result ≡ spec.form_of as_json }
+{
+    if as_json {
+        AnswerForm::Json
+    } else {
+        AnswerForm::Plain
+    }
+}
+
+/// The goal, by whether nesting alone is asked for.
+fn goal_of(by_nesting: bool) -> Goal
+    ensures { result ≡ spec.goal_of by_nesting }
+{
+    if by_nesting {
+        Goal::Nested
+    } else {
+        Goal::Valid
+    }
+}
+
+/// What is done for words that ask for this.
+pub(crate) fn task_of<'a>(line: CommandLine<'a>) -> Task<'a>
+    ensures { task_as result ≡ spec.task_of (asked_as line.entry) }
+{
+    match line {
+        CommandLine::Check {
+            file,
+            definition,
+            limit,
+            by_nesting,
+            as_json,
+        } => Task::ScriptCheck {
+            file,
+            document_type: DocumentType::named(definition),
+            goal: goal_of(by_nesting),
+            limit: u64::from(limit),
+            form: form_of(as_json),
+        },
+        CommandLine::Run { .. } => Task::Unbuilt(Part::Run),
+        CommandLine::Page { file, definition } => Task::PageCheck {
+            file,
+            document_type: DocumentType::named(definition),
+        },
+        CommandLine::Grammar { .. } => Task::Unbuilt(Part::Grammar),
+        CommandLine::Make {
+            functions,
+            is_checked: true,
+        } => Task::MadeCheck { functions },
+        CommandLine::Make { functions, .. } => Task::ScriptMaking { functions },
+    }
+}

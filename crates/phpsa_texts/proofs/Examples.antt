@@ -1,0 +1,114 @@
+-- The statuses and texts on examples.
+use Rattle.std.proofs.Common.{◌≡◌, ◌++◌, [], ◌∷◌, true, false, codes, refl}
+use Rattle.std.specs.Fmt.{digits}
+use Rattle.phpsa_texts.specs.declared.exit.Exit.TheVariants.{Done, Undecided, Script, Missing, ReadFault, Usage, Dtd, Input}
+use Rattle.phpsa_texts.specs.declared.answers.AnswerForm.TheVariants.{Plain, Json}
+use Rattle.phpsa_texts.specs.declared.answers.Conclusion.TheVariants as conclusion
+use Rattle.phpsa_texts.specs.declared.answers.PassedCount.TheVariants as passed
+use Rattle.io_edge.specs.declared.files.FileFault.TheVariants as reading
+use Rattle.php_parser.specs.declared.refusal.ParseRefusal.TheVariants as parsed
+use Rattle.program_files.specs.declared.refusal.ScriptRefusal.TheVariants.{Parse}
+use Rattle.program_files.specs.declared.refusal.LoadRefusal.TheVariants as load
+use Rattle.dtd_reader.specs.declared.refusal.DtdRefusal.TheVariants as dtd
+use Rattle.document_types.specs.declared.refusal.DefinitionRefusal.TheVariants as definition
+use Rattle.phpsa_texts.specs.Statuses.{status_of, conclusion_status, judgment_status, load_status, definition_status}
+use Rattle.phpsa_texts.specs.Texts.{yes_answer, no_answer, passed_answer, summary_text, long_text, judgment_text, load_text, file_text, definition_text, states_text, not_built_text, size_text, usage_text, write_fault_text}
+
+a_yes : yes_answer Plain ≡ 121 ∷ 101 ∷ 115 ∷ 10 ∷ []
+a_yes = refl
+
+a_no : no_answer Plain 4 (codes "<p>b") ≡ codes "no" ++ 10 ∷ (codes "page 4" ++ 10 ∷ (codes "<p>b" ++ 10 ∷ []))
+unfolding digits
+a_no = refl
+
+a_json_yes : yes_answer Json ≡ codes "{\"answer\":\"yes\"}" ++ 10 ∷ []
+a_json_yes = refl
+
+many_pairs : passed_answer Plain (passed.Pairs 3 2) ≡ codes "undecided pairs 3 height 2" ++ 10 ∷ []
+unfolding digits
+many_pairs = refl
+
+many_items : passed_answer Plain (passed.Items 8000001) ≡ codes "undecided items 8000001" ++ 10 ∷ []
+unfolding digits
+many_items = refl
+
+a_summary : summary_text 200 17904 conclusion.Yes ≡ codes "functions 200\nbytes 17904\nanswer yes\n"
+unfolding digits
+a_summary = refl
+
+no_conclusion : conclusion_status conclusion.Undecided ≡ Undecided
+no_conclusion = refl
+
+a_long_text : long_text (codes "t.php") ≡ codes "phpsa: LongText t.php" ++ 10 ∷ []
+a_long_text = refl
+
+an_invalid_page : judgment_text false ≡ codes "invalid" ++ 10 ∷ []
+an_invalid_page = refl
+
+a_valid_page : judgment_status true ≡ Done
+a_valid_page = refl
+
+a_long_file : load_text (load.TooLong (codes "t.php") 1048577) ≡ codes "phpsa: TooLong t.php 1048577" ++ 10 ∷ []
+unfolding digits
+a_long_file = refl
+
+a_deep_script : load_text (load.Script (codes "t.php") (Parse (parsed.TooDeep 211))) ≡ codes "phpsa: TooDeep t.php 211" ++ 10 ∷ []
+unfolding digits
+a_deep_script = refl
+
+-- a rule on functions names the function, and a limit nothing
+a_double : load_text (load.DoubleFunction (codes "f")) ≡ codes "phpsa: DoubleFunction f" ++ 10 ∷ []
+a_double = refl
+
+too_many_places : load_text (load.TooMany 257) ≡ codes "phpsa: TooMany 257" ++ 10 ∷ []
+unfolding digits
+too_many_places = refl
+
+a_cycle_status : load_status (load.IncludeCycle (codes "a.php")) ≡ Script
+a_cycle_status = refl
+
+a_limit_status : load_status (load.TooMany 257) ≡ Input
+a_limit_status = refl
+
+a_fault_status : load_status (load.ReadFault (codes "a.php")) ≡ ReadFault
+a_fault_status = refl
+
+a_missing_page : file_text reading.Missing (codes "p.xhtml") ≡ codes "phpsa: Missing p.xhtml" ++ 10 ∷ []
+a_missing_page = refl
+
+no_definition : definition_text (definition.File (dtd.NotDtd 0)) ≡ codes "phpsa: Dtd NotDtd 0" ++ 10 ∷ []
+unfolding digits
+no_definition = refl
+
+no_entity : definition_text (definition.File (dtd.Entity (codes "a"))) ≡ codes "phpsa: Dtd Entity a" ++ 10 ∷ []
+no_entity = refl
+
+no_definition_file : definition_text (definition.File (dtd.Missing (codes "d.dtd"))) ≡ codes "phpsa: Missing d.dtd" ++ 10 ∷ []
+no_definition_file = refl
+
+its_status : definition_status (definition.File (dtd.Missing (codes "d.dtd"))) ≡ Missing
+its_status = refl
+
+a_definition_status : definition_status (definition.File (dtd.Twice (codes "a"))) ≡ Dtd
+a_definition_status = refl
+
+many_states : states_text 4097 ≡ codes "phpsa: Dtd Limit 4097" ++ 10 ∷ []
+unfolding digits
+many_states = refl
+
+a_part : not_built_text (codes "run") ≡ codes "phpsa: NotBuilt run" ++ 10 ∷ []
+a_part = refl
+
+a_size : size_text 1001 ≡ codes "phpsa: Size 1001" ++ 10 ∷ []
+unfolding digits
+a_size = refl
+
+a_fault : write_fault_text ≡ codes "phpsa: WriteFault" ++ 10 ∷ []
+a_fault = refl
+
+a_status : status_of Usage ≡ 9
+a_status = refl
+
+the_usage : usage_text
+    ≡ codes "phpsa: Usage\nphpsa check FILE [--dtd D] [--limit N] [--nesting] [--json]\nphpsa run FILE [--request FILE] [--steps N]\nphpsa page FILE [--dtd D]\nphpsa grammar FILE\nphpsa make N [--check]\n"
+the_usage = refl

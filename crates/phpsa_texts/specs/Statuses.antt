@@ -1,0 +1,79 @@
+-- The statuses that calls end with; this project's own.
+use Rattle.std.specs.Prelude.{ℕ, Bool, true, false}
+use Rattle.phpsa_texts.specs.declared.exit.Exit.{Exit}
+use Rattle.phpsa_texts.specs.declared.exit.Exit.TheVariants.{Done, No, Undecided, NotBuilt, Script, Missing, ReadFault, WriteFault, Usage, Dtd, Input, Memory}
+use Rattle.phpsa_texts.specs.declared.answers.Conclusion.{Conclusion}
+use Rattle.phpsa_texts.specs.declared.answers.Conclusion.TheVariants as conclusion
+use Rattle.program_files.specs.declared.refusal.LoadRefusal.{LoadRefusal}
+use Rattle.program_files.specs.declared.refusal.LoadRefusal.TheVariants as load
+use Rattle.io_edge.specs.declared.files.FileFault.{FileFault}
+use Rattle.io_edge.specs.declared.files.FileFault.TheVariants as file
+use Rattle.dtd_reader.specs.declared.refusal.DtdRefusal.{DtdRefusal}
+use Rattle.dtd_reader.specs.declared.refusal.DtdRefusal.TheVariants as dtd
+use Rattle.document_types.specs.declared.refusal.DefinitionRefusal.{DefinitionRefusal}
+use Rattle.document_types.specs.declared.refusal.DefinitionRefusal.TheVariants as definition
+
+-- the status of the process
+abbrev pub status_of : Exit → ℕ
+status_of Done = 0
+status_of No = 1
+status_of Undecided = 2
+status_of NotBuilt = 3
+status_of Script = 3
+status_of Missing = 6
+status_of ReadFault = 7
+status_of WriteFault = 8
+status_of Usage = 9
+status_of Dtd = 10
+status_of Input = 11
+status_of Memory = 12
+
+-- where a script is decided
+abbrev pub conclusion_status : Conclusion → Exit
+conclusion_status conclusion.Yes = Done
+conclusion_status conclusion.No = No
+conclusion_status conclusion.Undecided = Undecided
+
+-- where it is said whether a page is valid
+abbrev pub judgment_status : Bool → Exit
+judgment_status true = Done
+judgment_status false = No
+
+-- where a program is not loaded
+abbrev pub load_status : LoadRefusal → Exit
+load_status (load.Missing name) = Missing
+load_status (load.ReadFault name) = ReadFault
+load_status (load.TooLong name len) = Input
+load_status (load.Script name fault) = Script
+load_status (load.IncludeCycle name) = Script
+load_status (load.DoubleFunction name) = Script
+load_status (load.UnknownFunction name) = Script
+load_status (load.Arity name) = Script
+load_status (load.TooMany count) = Input
+load_status load.Memory = Memory
+
+-- where a file is not read
+abbrev pub file_status : FileFault → Exit
+file_status file.Missing = Missing
+file_status file.Failed = ReadFault
+file_status (file.TooLong len) = Input
+file_status file.Memory = Memory
+
+-- where files spell no definition
+abbrev pub dtd_status : DtdRefusal → Exit
+dtd_status (dtd.Missing name) = Missing
+dtd_status (dtd.ReadFault name) = ReadFault
+dtd_status (dtd.TooLong name len) = Input
+dtd_status dtd.Memory = Memory
+dtd_status other = Dtd
+
+-- where the built-in text spells none
+abbrev pub built_in_status : DtdRefusal → Exit
+built_in_status dtd.Memory = Memory
+built_in_status other = Dtd
+
+-- where a document type has no definition
+abbrev pub definition_status : DefinitionRefusal → Exit
+definition_status (definition.File fault) = dtd_status fault
+definition_status (definition.BuiltIn fault) = built_in_status fault
+definition_status definition.Memory = Memory

@@ -1,0 +1,205 @@
+-- The texts that the program writes, each ended by one LF (10); this project's own.
+use Rattle.std.specs.Prelude.{◌≡◌, ℕ, Bool, true, false, List, [], ◌∷◌, ◌++◌, codes, ⊤}
+use Rattle.std.specs.Fmt.{decimal}
+use Rattle.lexical_grammar.specs.declared.fault.LexicalFault.{LexicalFault}
+use Rattle.lexical_grammar.specs.declared.fault.LexicalFault.TheVariants.{BadByte, Unclosed, Float, BigInt, Escape}
+use Rattle.php_lexer.specs.declared.refusal.LexRefusal.TheVariants as lexed
+use Rattle.php_parser.specs.declared.refusal.ParseRefusal.TheVariants as parsed
+use Rattle.program_files.specs.declared.refusal.ScriptRefusal.{ScriptRefusal}
+use Rattle.program_files.specs.declared.refusal.ScriptRefusal.TheVariants.{Lex, Parse}
+use Rattle.program_files.specs.declared.refusal.LoadRefusal.{LoadRefusal}
+use Rattle.program_files.specs.declared.refusal.LoadRefusal.TheVariants as load
+use Rattle.io_edge.specs.declared.files.FileFault.{FileFault}
+use Rattle.io_edge.specs.declared.files.FileFault.TheVariants as file
+use Rattle.dtd_reader.specs.declared.refusal.DtdRefusal.{DtdRefusal}
+use Rattle.dtd_reader.specs.declared.refusal.DtdRefusal.TheVariants as dtd
+use Rattle.document_types.specs.declared.refusal.DefinitionRefusal.{DefinitionRefusal}
+use Rattle.document_types.specs.declared.refusal.DefinitionRefusal.TheVariants as definition
+use Rattle.json_answers.specs.JsonAnswers.{yes_json, no_json, sums_json, items_json}
+use Rattle.phpsa_texts.specs.declared.exit.Exit.{Exit}
+use Rattle.phpsa_texts.specs.declared.message.Message.{Message}
+use Rattle.phpsa_texts.specs.declared.message.Refusal.{Refusal}
+use Rattle.phpsa_texts.specs.declared.answers.AnswerForm.{AnswerForm}
+use Rattle.phpsa_texts.specs.declared.answers.AnswerForm.TheVariants.{Plain, Json}
+use Rattle.phpsa_texts.specs.declared.answers.Conclusion.{Conclusion}
+use Rattle.phpsa_texts.specs.declared.answers.Conclusion.TheVariants as conclusion
+use Rattle.phpsa_texts.specs.declared.answers.PassedCount.{PassedCount}
+use Rattle.phpsa_texts.specs.declared.answers.PassedCount.TheVariants as passed
+
+-- a message is this status with this text
+abbrev pub Says : Message → Exit → List ℕ → Type 0
+Says message status text = (message.status ≡ status) × (message.text ≡ text)
+
+-- a refusal is told so, or for want of memory
+abbrev pub IsTold : Refusal → Exit → List ℕ → Type 0
+IsTold (Refusal.Told message) status text = Says message status text
+IsTold Refusal.Memory status text = ⊤
+
+-- on `out`, where each loose page is good
+abbrev pub yes_text : List ℕ
+yes_text = codes "yes" ++ 10 ∷ []
+
+-- on `out`, where a loose page is not: the length that is shown of it, and the bytes
+abbrev pub no_text : ℕ → List ℕ → List ℕ
+no_text len front = codes "no" ++ 10 ∷ (codes "page " ++ decimal len ++ 10 ∷ (front ++ 10 ∷ []))
+
+-- on `out`, where a count of sums or tags was passed, of derivations of at most this height
+abbrev pub sums_text : List ℕ → ℕ → ℕ → List ℕ
+sums_text kind count height = codes "undecided " ++ kind ++ codes " " ++ decimal count ++ codes " height " ++ decimal height ++ 10 ∷ []
+
+-- on `out`, where a stated count was passed
+abbrev pub passed_text : PassedCount → List ℕ
+passed_text (passed.Pairs count height) = sums_text (codes "pairs") count height
+passed_text (passed.Tags count height) = sums_text (codes "tags") count height
+passed_text (passed.Items count) = codes "undecided items " ++ decimal count ++ 10 ∷ []
+
+abbrev pub passed_json : PassedCount → List ℕ
+passed_json (passed.Pairs count height) = sums_json (codes "pairs") count height
+passed_json (passed.Tags count height) = sums_json (codes "tags") count height
+passed_json (passed.Items count) = items_json count
+
+-- these three in each form
+abbrev pub yes_answer : AnswerForm → List ℕ
+yes_answer Plain = yes_text
+yes_answer Json = yes_json
+
+abbrev pub no_answer : AnswerForm → ℕ → List ℕ → List ℕ
+no_answer Plain len front = no_text len front
+no_answer Json len front = no_json len front
+
+abbrev pub passed_answer : AnswerForm → PassedCount → List ℕ
+passed_answer Plain count = passed_text count
+passed_answer Json count = passed_json count
+
+-- the word for a way in which a script is decided
+abbrev pub conclusion_word : Conclusion → List ℕ
+conclusion_word conclusion.Yes = codes "yes"
+conclusion_word conclusion.No = codes "no"
+conclusion_word conclusion.Undecided = codes "undecided"
+
+-- on `out`, where a generated script with so many functions and bytes was decided
+abbrev pub summary_text : ℕ → ℕ → Conclusion → List ℕ
+summary_text functions bytes answer =
+    codes "functions " ++ decimal functions ++ 10 ∷ (codes "bytes " ++ decimal bytes ++ 10 ∷ (codes "answer " ++ conclusion_word answer ++ 10 ∷ []))
+
+-- on `out`, where it is said whether a page is valid
+abbrev pub judgment_text : Bool → List ℕ
+judgment_text true = codes "valid" ++ 10 ∷ []
+judgment_text false = codes "invalid" ++ 10 ∷ []
+
+-- `phpsa: KIND NAME`
+abbrev pub named_text : List ℕ → List ℕ → List ℕ
+named_text kind name = codes "phpsa: " ++ kind ++ codes " " ++ name ++ 10 ∷ []
+
+-- `phpsa: KIND NAME NUMBER`
+abbrev pub counted_text : List ℕ → List ℕ → ℕ → List ℕ
+counted_text kind name number = codes "phpsa: " ++ kind ++ codes " " ++ name ++ codes " " ++ decimal number ++ 10 ∷ []
+
+-- `phpsa: Dtd KIND VALUE`
+abbrev pub dtd_text : List ℕ → List ℕ → List ℕ
+dtd_text kind value = codes "phpsa: Dtd " ++ kind ++ codes " " ++ value ++ 10 ∷ []
+
+-- on `err`, where no memory was left
+abbrev pub memory_text : List ℕ
+memory_text = codes "phpsa: Memory" ++ 10 ∷ []
+
+-- on `err`, where `out` failed
+abbrev pub write_fault_text : List ℕ
+write_fault_text = codes "phpsa: WriteFault" ++ 10 ∷ []
+
+-- the name of a way to break the lexical grammar
+abbrev pub fault_name : LexicalFault → List ℕ
+fault_name BadByte = codes "BadByte"
+fault_name Unclosed = codes "Unclosed"
+fault_name Float = codes "Float"
+fault_name BigInt = codes "BigInt"
+fault_name Escape = codes "Escape"
+
+-- what is wrong with a script: its name, and the place or the length that is written behind the name of the file
+abbrev pub said_of : ScriptRefusal → List ℕ × ℕ
+said_of (Lex (lexed.Breaks fault at)) = (fault_name fault, at)
+said_of (Lex (lexed.TooLong len)) = (codes "TooLong", len)
+said_of (Lex lexed.Memory) = (codes "Memory", 0)
+said_of (Parse (parsed.NotInSubset at)) = (codes "NotInSubset", at)
+said_of (Parse (parsed.TooDeep at)) = (codes "TooDeep", at)
+said_of (Parse parsed.Memory) = (codes "Memory", 0)
+
+-- on `err`, where the program is not loaded: with the name of the file or function, which is not always that of the file that was asked for
+abbrev pub load_text : LoadRefusal → List ℕ
+load_text (load.Missing name) = named_text (codes "Missing") name
+load_text (load.ReadFault name) = named_text (codes "ReadFault") name
+load_text (load.TooLong name len) = counted_text (codes "TooLong") name len
+load_text (load.Script name fault) = counted_text (said_of fault).0 name (said_of fault).1
+load_text (load.IncludeCycle name) = named_text (codes "IncludeCycle") name
+load_text (load.DoubleFunction name) = named_text (codes "DoubleFunction") name
+load_text (load.UnknownFunction name) = named_text (codes "UnknownFunction") name
+load_text (load.Arity name) = named_text (codes "Arity") name
+load_text (load.TooMany count) = named_text (codes "TooMany") (decimal count)
+load_text load.Memory = memory_text
+
+-- on `err`, where this file is not read
+abbrev pub file_text : FileFault → List ℕ → List ℕ
+file_text file.Missing name = named_text (codes "Missing") name
+file_text file.Failed name = named_text (codes "ReadFault") name
+file_text (file.TooLong len) name = counted_text (codes "TooLong") name len
+file_text file.Memory name = memory_text
+
+-- on `err`, for a definition in files: with the name of the file where one is not read
+abbrev pub dtd_refusal_text : DtdRefusal → List ℕ
+dtd_refusal_text (dtd.Missing name) = named_text (codes "Missing") name
+dtd_refusal_text (dtd.ReadFault name) = named_text (codes "ReadFault") name
+dtd_refusal_text (dtd.TooLong name len) = counted_text (codes "TooLong") name len
+dtd_refusal_text (dtd.NotDtd at) = dtd_text (codes "NotDtd") (decimal at)
+dtd_refusal_text (dtd.Entity name) = dtd_text (codes "Entity") name
+dtd_refusal_text (dtd.Twice name) = dtd_text (codes "Twice") name
+dtd_refusal_text (dtd.Undeclared name) = dtd_text (codes "Undeclared") name
+dtd_refusal_text (dtd.LeftOut at) = dtd_text (codes "LeftOut") (decimal at)
+dtd_refusal_text (dtd.Limit count) = dtd_text (codes "Limit") (decimal count)
+dtd_refusal_text dtd.Memory = memory_text
+
+-- on `err`, for the built-in text
+abbrev pub built_in_text : DtdRefusal → List ℕ
+built_in_text dtd.Memory = memory_text
+built_in_text other = codes "phpsa: Dtd strict" ++ 10 ∷ []
+
+-- on `err`, where a document type has no definition
+abbrev pub definition_text : DefinitionRefusal → List ℕ
+definition_text (definition.File fault) = dtd_refusal_text fault
+definition_text (definition.BuiltIn fault) = built_in_text fault
+definition_text definition.Memory = memory_text
+
+-- on `err`, where the content models of a definition have so many states
+abbrev pub states_text : ℕ → List ℕ
+states_text count = dtd_text (codes "Limit") (decimal count)
+
+-- on `err`, where a text in the script of this file is over the limit of a run
+abbrev pub long_text : List ℕ → List ℕ
+long_text file = named_text (codes "LongText") file
+
+-- on `err`, where what has this name is not built
+abbrev pub not_built_text : List ℕ → List ℕ
+not_built_text name = named_text (codes "NotBuilt") name
+
+-- on `err`, where a script cannot have so many functions
+abbrev pub size_text : ℕ → List ℕ
+size_text functions = named_text (codes "Size") (decimal functions)
+
+-- what each command takes
+abbrev pub check_usage : List ℕ
+check_usage = codes "phpsa check FILE [--dtd D] [--limit N] [--nesting] [--json]" ++ 10 ∷ []
+
+abbrev pub run_usage : List ℕ
+run_usage = codes "phpsa run FILE [--request FILE] [--steps N]" ++ 10 ∷ []
+
+abbrev pub page_usage : List ℕ
+page_usage = codes "phpsa page FILE [--dtd D]" ++ 10 ∷ []
+
+abbrev pub grammar_usage : List ℕ
+grammar_usage = codes "phpsa grammar FILE" ++ 10 ∷ []
+
+abbrev pub make_usage : List ℕ
+make_usage = codes "phpsa make N [--check]" ++ 10 ∷ []
+
+-- on `err`, where words ask for nothing: its name, and a line for each command
+abbrev pub usage_text : List ℕ
+usage_text = codes "phpsa: Usage" ++ 10 ∷ (check_usage ++ (run_usage ++ (page_usage ++ (grammar_usage ++ make_usage))))

@@ -1,0 +1,55 @@
+//! The status of a call.
+
+ghost use Rattle.std.specs.Prelude.{◌≡◌};
+ghost use Rattle.phpsa_texts.specs.Statuses.{status_of};
+
+/// How a call ended: a variant for each status, and two for the status 3.
+#[derive(Clone, Copy, Debug, PartialEq, Eq)]
+pub enum Exit {
+    /// 0: every loose page is good, or the page is valid, or the script is written.
+    Done,
+    /// 1: a loose page is not good, or the page is not valid.
+    No,
+    /// 2: a stated count was passed, and the script is not decided.
+    Undecided,
+    /// 3: what the words ask for is not built.
+    NotBuilt,
+    /// 3: a file is no script of the language, or too deep, or includes itself, or a rule on functions is broken.
+    Script,
+    /// 6: there is no file of this name, or none of a name that the script includes or the definition asks for.
+    Missing,
+    /// 7: the source of the files failed.
+    ReadFault,
+    /// 8: an output failed.
+    WriteFault,
+    /// 9: the words ask for nothing.
+    Usage,
+    /// 10: there is no document type definition, or it is over a limit.
+    Dtd,
+    /// 11: a file is over the limit of 1,048,576 bytes, the program is too large, a text in it is too long, or a script cannot have so many functions.
+    Input,
+    /// 12: no memory was left.
+    Memory,
+}
+
+impl Exit {
+    /// The status of the process.
+    pub fn code(self) -> u8
+        ensures { result ≡ status_of self }
+    {
+        match self {
+            Exit::Done => 0,
+            Exit::No => 1,
+            Exit::Undecided => 2,
+            Exit::NotBuilt => 3,
+            Exit::Script => 3,
+            Exit::Missing => 6,
+            Exit::ReadFault => 7,
+            Exit::WriteFault => 8,
+            Exit::Usage => 9,
+            Exit::Dtd => 10,
+            Exit::Input => 11,
+            Exit::Memory => 12,
+        }
+    }
+}

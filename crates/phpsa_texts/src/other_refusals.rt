@@ -1,0 +1,112 @@
+//! Of a page that is not read, of a script that has a long text or is not made, of what is not built, and of words that ask for nothing.
+
+ghost use Rattle.std.specs.Prelude.{◌≡◌, IfOk};
+ghost use Rattle.phpsa_texts.specs.Statuses.{file_status};
+ghost use Rattle.phpsa_texts.specs.Texts.{IsTold, file_text, long_text, not_built_text, size_text, usage_text};
+ghost use Rattle.phpsa_texts.specs.declared.exit.Exit.TheVariants.{Input, NotBuilt, Usage};
+
+use crate::exit::Exit;
+use crate::lines::{NO_MEMORY, count_text, counted_text, named_text};
+use crate::message::{Message, Refusal};
+use io_edge::FileFault;
+use std::alloc::Global;
+use text_base::{Bytes, NoMemory};
+
+fn file_text(alloc: Global, fault: FileFault, file: &[u8]) -> Result<Bytes, NoMemory>
+    ensures { IfOk result (λ text. text ≡ file_text fault file.now) }
+{
+    match fault {
+        FileFault::Missing => named_text(alloc, b"Missing", file),
+        FileFault::Failed => named_text(alloc, b"ReadFault", file),
+        FileFault::TooLong { len } => counted_text(alloc, b"TooLong", file, len),
+        FileFault::Memory => Bytes::from_slice(alloc, NO_MEMORY),
+    }
+}
+
+fn file_status(fault: FileFault) -> Exit
+    ensures { result ≡ file_status fault }
+{
+    match fault {
+        FileFault::Missing => Exit::Missing,
+        FileFault::Failed => Exit::ReadFault,
+        FileFault::TooLong { .. } => Exit::Input,
+        FileFault::Memory => Exit::Memory,
+    }
+}
+
+/// Why the file of this name is not read.
+pub fn file_refusal(alloc: Global, fault: FileFault, file: &[u8]) -> Refusal
+    ensures { IsTold result (file_status fault) (file_text fault file.now) }
+{
+    match file_text(alloc, fault, file) {
+        Ok(text) => Refusal::Told(Message {
+            status: file_status(fault),
+            text,
+        }),
+        Err(NoMemory) => Refusal::Memory,
+    }
+}
+
+/// That a text in the script of the file of this name is over the limit of a run.
+pub fn long_text_refusal(alloc: Global, file: &[u8]) -> Refusal
+    ensures { IsTold result Input (long_text file.now) }
+{
+    match named_text(alloc, b"LongText", file) {
+        Ok(text) => Refusal::Told(Message {
+            status: Exit::Input,
+            text,
+        }),
+        Err(NoMemory) => Refusal::Memory,
+    }
+}
+
+/// That the part of the program that this word names is not built.
+pub fn not_built_refusal(alloc: Global, name: &[u8]) -> Refusal
+    ensures { IsTold result NotBuilt (not_built_text name.now) }
+{
+    match named_text(alloc, b"NotBuilt", name) {
+        Ok(text) => Refusal::Told(Message {
+            status: Exit::NotBuilt,
+            text,
+        }),
+        Err(NoMemory) => Refusal::Memory,
+    }
+}
+
+/// That a script cannot have so many functions.
+pub fn size_refusal(alloc: Global, functions: u32) -> Refusal
+    ensures { IsTold result Input (size_text functions) }
+{
+    match count_text(alloc, b"Size", u64::from(functions)) {
+        Ok(text) => Refusal::Told(Message {
+            status: Exit::Input,
+            text,
+        }),
+        Err(NoMemory) => Refusal::Memory,
+    }
+}
+
+fn usage_text(alloc: Global) -> Result<Bytes, NoMemory>
+    ensures { IfOk result (λ text. text ≡ usage_text) }
+{
+    let mut text = Bytes::from_slice(alloc, b"phpsa: Usage\n")?;
+    text.append(b"phpsa check FILE [--dtd D] [--limit N] [--nesting] [--json]\n")?;
+    text.append(b"phpsa run FILE [--request FILE] [--steps N]\n")?;
+    text.append(b"phpsa page FILE [--dtd D]\n")?;
+    text.append(b"phpsa grammar FILE\n")?;
+    text.append(b"phpsa make N [--check]\n")?;
+    Ok(text)
+}
+
+/// That words ask for nothing, and what they may ask for.
+pub fn usage_refusal(alloc: Global) -> Refusal
+    ensures { IsTold result Usage usage_text }
+{
+    match usage_text(alloc) {
+        Ok(text) => Refusal::Told(Message {
+            status: Exit::Usage,
+            text,
+        }),
+        Err(NoMemory) => Refusal::Memory,
+    }
+}

@@ -1,3 +1,0 @@
-pub mod Decided
-pub mod Sound
-pub mod SmallDefinition
