@@ -61,7 +61,9 @@ impl Allowing<'_, '_> {
         value: &OpenValue,
         c: char,
     ) -> Result<Option<OpenValue>, NoMemory>
-        ensures { IfOk result (λ next. plain_next next ≡ (plain_allowing self.now).step name.now (plain_value value.now) c) }
+        ensures { IfOk result
+            (λ next. plain_next next
+            ≡ (plain_allowing self.now).step name.now (plain_value value.now) c) }
     {
         match self {
             Allowing::Element(indexed, rules) => {
@@ -79,7 +81,8 @@ impl Allowing<'_, '_> {
         name: &Characters,
         value: &OpenValue,
     ) -> Result<bool, NoMemory>
-        ensures { IfOk result (λ good. good ≡ (plain_allowing self.now).good name.now (plain_value value.now)) }
+        ensures { IfOk result
+            (λ good. good ≡ (plain_allowing self.now).good name.now (plain_value value.now)) }
     {
         match self {
             Allowing::Element(indexed, rules) => {

@@ -11,7 +11,8 @@ use text_base::NoMemory;
 use value_rules::{is_word, is_word_in_any_case};
 use value_stepping::may_stand;
 
-/// Whether this may stand behind attributes of these names: the version, maybe the encoding and whether the page stands alone, in this order.
+/// Whether this may stand behind attributes of these names: the version, maybe the encoding and
+/// whether the page stands alone, in this order.
 pub fn may_be_word(names: &NameList, name: &[char]) -> bool
     ensures { result ≡ steps.may_be_word names.now name.now }
 {

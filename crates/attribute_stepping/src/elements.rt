@@ -45,7 +45,8 @@ pub fn step_of(
     c: char,
 ) -> Result<Option<OpenValue>, NoMemory>
     ensures { IfOk result (λ next. plain_next next
-        ≡ steps.step_of (table_of indexed.now.dtd.now).entities (plain_declared rule.entry) (plain_value value.now) c) }
+        ≡ steps.step_of (table_of indexed.now.dtd.now).entities (plain_declared rule.entry)
+        (plain_value value.now) c) }
 {
     match rule {
         None => Ok(None),
@@ -61,7 +62,8 @@ pub fn good_of(
     value: &OpenValue,
 ) -> Result<bool, NoMemory>
     ensures { IfOk result (λ good. good
-        ≡ steps.good_of (table_of indexed.now.dtd.now).entities (plain_declared rule.entry) (plain_value value.now)) }
+        ≡ steps.good_of (table_of indexed.now.dtd.now).entities (plain_declared rule.entry)
+        (plain_value value.now)) }
 {
     match rule {
         None => Ok(false),

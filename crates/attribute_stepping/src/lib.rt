@@ -1,5 +1,6 @@
-//! One character more among attributes of a page, in a tag or in the XML declaration, in memory: `attribute_move` is the function of page_steps of
-//! that name, by what may stand (`Allowing`). Below stand dtd_model, dtd_index, page_cutting, value_rules, tag_rules, page_steps, open_pieces,
+//! One character more among attributes of a page, in a tag or in the XML declaration, in memory:
+//! `attribute_move` is the function of page_steps of that name, by what may stand (`Allowing`).
+//! Below stand dtd_model, dtd_index, page_cutting, value_rules, tag_rules, page_steps, open_pieces,
 //! value_stepping and value_ending.
 #![tactic(auto)]
 

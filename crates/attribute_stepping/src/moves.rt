@@ -23,7 +23,8 @@ pub fn attribute_move(
     c: char,
 ) -> Result<AttributeMove, NoMemory>
     ensures { IfOk result (λ m. plain_move m
-        ≡ steps.attribute_move (plain_allowing allowing.now) names.now (plain_attribute inside.now) c) }
+        ≡ steps.attribute_move (plain_allowing allowing.now) names.now (plain_attribute inside.now)
+        c) }
 {
     match inside {
         OpenAttribute::Between(is_spaced) => between_move(alloc, *is_spaced, c),
@@ -66,7 +67,8 @@ fn name_move(
     name: &Characters,
     c: char,
 ) -> Result<AttributeMove, NoMemory>
-    ensures { IfOk result (λ m. plain_move m ≡ steps.name_move (plain_allowing allowing.now) names.now name.now c) }
+    ensures { IfOk result
+        (λ m. plain_move m ≡ steps.name_move (plain_allowing allowing.now) names.now name.now c) }
 {
     if in_name(c) {
         let more = name.with(alloc, c)?;
@@ -101,7 +103,8 @@ fn quote_move(
     name: &Characters,
     c: char,
 ) -> Result<AttributeMove, NoMemory>
-    ensures { IfOk result (λ m. plain_move m ≡ steps.quote_move (plain_allowing allowing.now) name.now c) }
+    ensures { IfOk result
+        (λ m. plain_move m ≡ steps.quote_move (plain_allowing allowing.now) name.now c) }
 {
     if is_blank(c) {
         let name = name.copy(alloc)?;
@@ -124,7 +127,9 @@ fn value_end(
     name: &Characters,
     value: &OpenValue,
 ) -> Result<AttributeMove, NoMemory>
-    ensures { IfOk result (λ m. plain_move m ≡ value_ended (plain_allowing allowing.now) names.now name.now (plain_value value.now)) }
+    ensures { IfOk result
+        (λ m. plain_move m ≡ value_ended (plain_allowing allowing.now) names.now name.now
+        (plain_value value.now)) }
 {
     if allowing.good(alloc, name, value)? {
         let more = allowing.added(alloc, names, name)?;

@@ -59,7 +59,8 @@ pub fn names_with(
     names: &NameList,
     name: &[char],
 ) -> Result<NameList, NoMemory>
-    ensures { IfOk result (λ more. more ≡ steps.names_with (map declared_of rules.now.items) names.now name.now) }
+    ensures { IfOk result
+        (λ more. more ≡ steps.names_with (map declared_of rules.now.items) names.now name.now) }
 {
     let mut more = NameList::new(alloc);
     for rule in rules {

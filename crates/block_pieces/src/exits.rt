@@ -31,7 +31,8 @@ pub(crate) fn replace_point(index: usize, point: FlowPoint, points: &mut PointBu
 
 // Replaces an exit by a jump.
 fn fill_exit(exit: Exit, stop: Point, again: Point, points: &mut PointBuilder)
-    ensures { progress points.new ≡ filled (record { stop = stop.0; again = again.0 }) (exit ∷ []) (progress points.old) }
+    ensures { progress points.new
+        ≡ filled (record { stop = stop.0; again = again.0 }) (exit ∷ []) (progress points.old) }
 {
     match exit {
         Exit::Stop(index) => replace_point(index, FlowPoint::Jump { next: stop }, points),
@@ -42,7 +43,8 @@ fn fill_exit(exit: Exit, stop: Point, again: Point, points: &mut PointBuilder)
 /// Replaces each exit by a jump: out of the loop, or to its next turn.
 #[tactic(auto, using(crate::proofs::FillLemmas::filled_split))]
 pub fn fill_exits(mut exits: Vec<Exit>, stop: Point, again: Point, points: &mut PointBuilder)
-    ensures { progress points.new ≡ filled (record { stop = stop.0; again = again.0 }) exits.items (progress points.old) }
+    ensures { progress points.new
+        ≡ filled (record { stop = stop.0; again = again.0 }) exits.items (progress points.old) }
 {
     while let Some(exit) = exits.pop() {
         fill_exit(exit, stop, again, points);
@@ -51,7 +53,9 @@ pub fn fill_exits(mut exits: Vec<Exit>, stop: Point, again: Point, points: &mut 
 
 /// `break`, which is replaced at the end of the loop.
 pub fn put_break(points: &mut PointBuilder, exits: &mut Vec<Exit>) -> Result<(), NoMemory>
-    ensures { OnOk result (Drafts (progress points.old) (progress points.new) exits.old.items exits.new.items stopping) }
+    ensures { OnOk result
+        (Drafts (progress points.old) (progress points.new) exits.old.items exits.new.items
+        stopping) }
 {
     let point = points.reserve()?;
     exits.push(Exit::Stop(point.index))?;
@@ -60,7 +64,9 @@ pub fn put_break(points: &mut PointBuilder, exits: &mut Vec<Exit>) -> Result<(),
 
 /// `continue`, which is replaced at the end of the loop.
 pub fn put_continue(points: &mut PointBuilder, exits: &mut Vec<Exit>) -> Result<(), NoMemory>
-    ensures { OnOk result (Drafts (progress points.old) (progress points.new) exits.old.items exits.new.items continuing) }
+    ensures { OnOk result
+        (Drafts (progress points.old) (progress points.new) exits.old.items exits.new.items
+        continuing) }
 {
     let point = points.reserve()?;
     exits.push(Exit::Again(point.index))?;

@@ -15,7 +15,8 @@ use flow_code::FlowPoint;
 use flow_lowering::{PointBuilder, Reserved};
 use text_base::{NoMemory, Point, Slot};
 
-/// The point at the head of a loop that leads behind it, which is replaced once it is known where that is.
+/// The point at the head of a loop that leads behind it, which is replaced once it is known where
+/// that is.
 #[derive(Clone, Copy, Debug)]
 pub enum Head {
     /// A test, by the slot of its value.
@@ -28,7 +29,8 @@ pub enum Head {
 
 /// The test of a loop, behind the code of its value.
 pub fn begin_test(value: Slot, points: &mut PointBuilder) -> Result<Head, NoMemory>
-    ensures { IfOk result (λ head. (before : Progress) (a : Code ℕ) → Emits before (progress points.old) a value.0
+    ensures { IfOk result
+        (λ head. (before : Progress) (a : Code ℕ) → Emits before (progress points.old) a value.0
         → Opens before (progress points.new) head (test_of a)) }
 {
     let point = points.reserve()?;
@@ -66,7 +68,8 @@ fn set_value(walk: Slot, value: Slot, points: &mut PointBuilder) -> Result<(), N
 // The variables of the key and of the value of a turn are set.
 fn set_both(walk: Slot, key: Slot, value: Slot, points: &mut PointBuilder) -> Result<(), NoMemory>
     ensures { OnOk result (Puts (progress points.old) (progress points.new)
-        (key_point key.0 walk.0 (place (progress points.old) + 1) ∷ value_point value.0 walk.0 (place (progress points.old) + 2) ∷ []) 0) }
+        (key_point key.0 walk.0 (place (progress points.old) + 1)
+        ∷ value_point value.0 walk.0 (place (progress points.old) + 2) ∷ []) 0) }
 {
     let next = points.ahead(1);
     points.push(FlowPoint::KeyOf {
@@ -94,14 +97,16 @@ fn set_pair(
     }
 }
 
-/// The head of a `foreach`, behind the code of the value that is walked, and the number of the point that begins each turn.
+/// The head of a `foreach`, behind the code of the value that is walked, and the number of the
+/// point that begins each turn.
 pub fn begin_walk(
     from: Slot,
     key: Option<Slot>,
     value: Slot,
     points: &mut PointBuilder,
 ) -> Result<(Head, Point), NoMemory>
-    ensures opens { IfOk result (λ begun. (before : Progress) (a : Code ℕ) → Emits before (progress points.old) a from.0
+    ensures opens { IfOk result
+        (λ begun. (before : Progress) (a : Code ℕ) → Emits before (progress points.old) a from.0
         → Opens before (progress points.new) begun.0 (walk_head a (maybe_slot key) value.0)) }
     ensures again { IfOk result (λ begun. begun.1.0 ≡ place (progress points.old) + 1) }
 {
@@ -133,7 +138,8 @@ fn close_head(head: Head, stop: Point, points: &mut PointBuilder)
     }
 }
 
-/// The end of a loop: its last point is put, which leads back, each `break` and the head lead behind it, and each `continue` to `again`.
+/// The end of a loop: its last point is put, which leads back, each `break` and the head lead
+/// behind it, and each `continue` to `again`.
 pub fn end_loop(
     head: Head,
     last: FlowPoint,
@@ -141,7 +147,9 @@ pub fn end_loop(
     exits: Vec<Exit>,
     points: &mut PointBuilder,
 ) -> Result<(), NoMemory>
-    ensures { OnOk result (EndsLoop (progress points.old) (progress points.new) head (plain_point last) again.0 exits.items) }
+    ensures { OnOk result
+        (EndsLoop (progress points.old) (progress points.new) head (plain_point last) again.0
+        exits.items) }
 {
     let stop = points.ahead(1);
     points.push(last)?;

@@ -3,7 +3,8 @@
 ghost use Rattle.broken_pages.specs.Laws.{BrokenIsBad, BrokenNotValid, BytesSeen};
 
 /// A byte more: where the reader of a page goes on, the coarse reader leads to what is seen then,
-/// and where a piece ends, to content; so where the coarse reader fails, the reader of a page fails.
+/// and where a piece ends, to content; so where the coarse reader fails, the reader of a page
+/// fails.
 pub fn seen_by_bytes()
     ensures { BytesSeen }
 {}

@@ -6,7 +6,8 @@ ghost use Rattle.builtin_meaning.specs.Names.{find_function, first_of, builtin_n
 use crate::builtin::Builtin;
 
 impl Builtin {
-    /// The function of a name, which is in lower case; none where PHP's functions here have no such name.
+    /// The function of a name, which is in lower case; none where PHP's functions here have no such
+    /// name.
     pub fn of(name: &[u8]) -> Option<Builtin>
         ensures { result ≡ builtin_named name.now }
     {

@@ -16,7 +16,8 @@ pub struct ReaderStep<S> {
     pub emit: Emit,
 }
 
-/// A reader that goes over a text byte by byte. Where no page can come of the text any more, it goes on in a state that puts out nothing.
+/// A reader that goes over a text byte by byte. Where no page can come of the text any more, it
+/// goes on in a state that puts out nothing.
 pub trait ByteReader {
     /// Two states that `==` finds equal are one value to contracts.
     type State: Exact + Hash + Drop;

@@ -8,7 +8,8 @@ ghost use Rattle.byte_stepping.specs.Views as views;
 use std::str;
 use xml_text::is_character;
 
-/// The character of XML whose UTF-8 the bytes are; none where they are that of none, or of more than one (XML 1.0, 2.2).
+/// The character of XML whose UTF-8 the bytes are; none where they are that of none, or of more
+/// than one (XML 1.0, 2.2).
 pub fn decoded(bytes: &[u8]) -> Option<char>
     ensures { result ≡ spec.decoded bytes.now }
 {

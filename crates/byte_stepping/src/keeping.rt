@@ -15,9 +15,11 @@ use remark_stepping::PageMove;
 use std::alloc::Global;
 use text_base::{Bytes, NoMemory};
 
-/// What is kept of the place: the brackets before it only where nothing is open, not even a character.
+/// What is kept of the place: the brackets before it only where nothing is open, not even a
+/// character.
 pub fn kept_place(inside: &OpenPiece, begun: &[u8], place: PagePlace) -> PagePlace
-    ensures { plain_place result ≡ fronts.kept_place (plain_open inside.now) begun.now (plain_place place) }
+    ensures { plain_place result
+        ≡ fronts.kept_place (plain_open inside.now) begun.now (plain_place place) }
 {
     match place {
         PagePlace::AtBeginning => PagePlace::AtBeginning,
@@ -27,7 +29,8 @@ pub fn kept_place(inside: &OpenPiece, begun: &[u8], place: PagePlace) -> PagePla
 }
 
 fn kept_brackets(inside: &OpenPiece, begun: &[u8], brackets: u8) -> u8
-    ensures { behind result ≡ fronts.kept_place (plain_open inside.now) begun.now (behind brackets) }
+    ensures { behind result
+        ≡ fronts.kept_place (plain_open inside.now) begun.now (behind brackets) }
 {
     match inside {
         OpenPiece::Nothing => unheld_brackets(begun, brackets),
@@ -67,7 +70,8 @@ pub fn is_inside(inside: &OpenPiece) -> bool
 
 /// A move of what is open as one of states.
 pub fn put_place(place: PagePlace, to: PageMove) -> StateMove<PageState>
-    ensures { plain_move_by plain_state result ≡ steps.put_place (plain_place place) (plain_move to) }
+    ensures { plain_move_by plain_state result
+        ≡ steps.put_place (plain_place place) (plain_move to) }
 {
     match to {
         PageMove::Go(inside) => {

@@ -18,7 +18,7 @@ use Rattle.expression_pieces.proofs.RowLemmas.{drop_here, drop_past}
 use Rattle.builtin_meaning.specs.declared.builtin.Builtin.{Builtin}
 use Rattle.flow_code.specs.declared.source.Work.TheVariants as work
 use Rattle.php_syntax.specs.declared.tree.FunctionDef.{FunctionDef}
-use Rattle.call_lowering.specs.Small.{IsNoNegative}
+use Rattle.literal_trees.specs.Literals.{IsNoNegative}
 
 pub number_of_exprs : (es : List Expr) → number_of (exprs_of es) ≡ length es
 unfolding number_of

@@ -1,6 +1,5 @@
 -- Integer literals that machines are made for.
 use Rattle.std.specs.Prelude.{◌≡◌, ⊤, ℤ, true, false, Option, Some, None}
-use Rattle.php_syntax.specs.Trees.{PlainExpr, neg_expr, int_expr}
 use Rattle.flow_code.specs.Builtins.{literal_integer, is_small}
 
 -- there is none, or it is too large
@@ -11,8 +10,3 @@ IsNotSmall (Some z) = is_small z ≡ false
 -- this one
 abbrev pub IsSmall : Option ℤ → ℤ → Type 0
 IsSmall literal z = (literal ≡ Some z) × (is_small z ≡ true)
-
--- it is not `-` and an integer
-abbrev pub IsNoNegative : PlainExpr → Type 0
-IsNoNegative (neg_expr (int_expr z)) = ⊥
-IsNoNegative _ = ⊤

@@ -31,7 +31,8 @@ fn applied(op: Op, from: Slot, builtin: Builtin, args: Vec<Slot>) -> Source
 
 // A function that gives an integer, or one that the analysis knows nothing else of.
 fn counted(builtin: Builtin, args: Vec<Slot>) -> Source
-    ensures { plain_source result ≡ number_source (work.Builtin builtin) (map slot_number args.items) }
+    ensures { plain_source result
+        ≡ number_source (work.Builtin builtin) (map slot_number args.items) }
 {
     let work = Work::Builtin(builtin);
     Source::Number { work, args }
@@ -74,7 +75,8 @@ fn source_of_one(builtin: Builtin, from: Slot, args: Vec<Slot>) -> Source
 
 // A function that trims.
 fn trimmed(left: bool, right: bool, from: Slot, builtin: Builtin, args: Vec<Slot>) -> Source
-    ensures { plain_source result ≡ apply_source (op.Trim left right) from.0 builtin (map slot_number args.items) }
+    ensures { plain_source result
+        ≡ apply_source (op.Trim left right) from.0 builtin (map slot_number args.items) }
 {
     applied(Op::Trim { left, right }, from, builtin, args)
 }
@@ -91,7 +93,8 @@ fn source_of_two(
 ) -> Result<Source, NoMemory>
     requires { map slot_number args.items ≡ from.0.0 ∷ from.1.0 ∷ [] }
     ensures { IfOk result (λ source. plain_source source
-        ≡ plain.source_of_two builtin (plain_expr first.now) (plain_expr second.now) from.0.0 from.1.0) }
+        ≡ plain.source_of_two builtin (plain_expr first.now) (plain_expr second.now) from.0.0
+        from.1.0) }
 {
     match builtin {
         Builtin::Substr => Ok(applied(cut_from(second), from.0, builtin, args)),
@@ -150,7 +153,8 @@ fn source_of_three(
 ) -> Result<Source, NoMemory>
     requires { map slot_number args.items ≡ from.0.0 ∷ from.1.0 ∷ from.2.0 ∷ [] }
     ensures { IfOk result (λ source. plain_source source
-        ≡ plain.source_of_three builtin (plain_expr first.now) (plain_expr second.now) (plain_expr third.now) from.0.0 from.1.0 from.2.0) }
+        ≡ plain.source_of_three builtin (plain_expr first.now) (plain_expr second.now)
+        (plain_expr third.now) from.0.0 from.1.0 from.2.0) }
 {
     match builtin {
         Builtin::StrReplace => {
@@ -182,7 +186,8 @@ fn source_of_three(
     }
 }
 
-/// What a call of one of PHP's functions sets its slot to, by its arguments and the slots of their values.
+/// What a call of one of PHP's functions sets its slot to, by its arguments and the slots of their
+/// values.
 #[tactic(auto, using(crate::proofs::RowLemmas::one_slot, crate::proofs::RowLemmas::two_slots, crate::proofs::RowLemmas::three_slots), unfolding(flow_code::specs::Builtins::builtin_source))]
 pub fn builtin_source(
     alloc: Global,
@@ -191,7 +196,9 @@ pub fn builtin_source(
     slots: Vec<Slot>,
 ) -> Result<Source, NoMemory>
     requires { vec_len slots ≡ length arguments.now }
-    ensures { IfOk result (λ source. plain_source source ≡ plain.builtin_source builtin (exprs_of arguments.now) (map slot_number slots.items)) }
+    ensures { IfOk result
+        (λ source. plain_source source
+        ≡ plain.builtin_source builtin (exprs_of arguments.now) (map slot_number slots.items)) }
 {
     match arguments {
         [_] => {

@@ -41,14 +41,17 @@ fn values_of_call(
     mut slots: Vec<Slot>,
     defaults: &[Slot],
 ) -> Result<Vec<Slot>, NoMemory>
-    ensures { IfOk result (λ values. map slot_number values.items ≡ take params (map slot_number slots.items) ++ map slot_number defaults.now) }
+    ensures { IfOk result
+        (λ values. map slot_number values.items ≡ take params (map slot_number slots.items)
+        ++ map slot_number defaults.now) }
 {
     slots.truncate(params);
     slots.extend_from_slice(defaults)?;
     Ok(slots)
 }
 
-// A call of a function of the script: one value for each of its parameters, those of the arguments first.
+// A call of a function of the script: one value for each of its parameters, those of the arguments
+// first.
 fn call_function(
     alloc: Global,
     number: u64,
@@ -57,8 +60,12 @@ fn call_function(
     slots: Vec<Slot>,
     points: &mut PointBuilder,
 ) -> Result<Slot, LoweringError>
-    ensures { IfOk result (λ slot. (start : Progress) (args : Code (List ℕ)) → Emits start (progress points.old) args (map slot_number slots.items) →
-        Emits start (progress points.new) (called number (length params.now) args (default_codes (drop count (params_of_list params.now)))) slot.0) }
+    ensures { IfOk result
+        (λ slot. (start : Progress) (args : Code (List ℕ))
+        → Emits start (progress points.old) args (map slot_number slots.items) →
+        Emits start (progress points.new)
+        (called number (length params.now) args
+        (default_codes (drop count (params_of_list params.now)))) slot.0) }
 {
     let behind = params_behind(params, count);
     let defaults = lower_defaults(alloc, behind, points)?;
@@ -77,8 +84,11 @@ fn finish_own(
     slots: Vec<Slot>,
     points: &mut PointBuilder,
 ) -> Result<Slot, LoweringError>
-    ensures { IfOk result (λ slot. (start : Progress) (args : Code (List ℕ)) → Emits start (progress points.old) args (map slot_number slots.items) →
-        Emits start (progress points.new) (call_own (function_in 1 (scope_in scope.now).functions name.now) count args) slot.0) }
+    ensures { IfOk result
+        (λ slot. (start : Progress) (args : Code (List ℕ))
+        → Emits start (progress points.old) args (map slot_number slots.items) →
+        Emits start (progress points.new)
+        (call_own (function_in 1 (scope_in scope.now).functions name.now) count args) slot.0) }
 {
     match scope.function(name) {
         Some(found) => {
@@ -93,7 +103,8 @@ fn finish_own(
     }
 }
 
-/// The end of a call, whose arguments have these slots: behind the code of the arguments it is the code of the call.
+/// The end of a call, whose arguments have these slots: behind the code of the arguments it is the
+/// code of the call.
 pub fn finish_call(
     alloc: Global,
     scope: &FunctionScope<'_>,
@@ -103,8 +114,13 @@ pub fn finish_call(
     points: &mut PointBuilder,
 ) -> Result<Slot, LoweringError>
     requires { vec_len slots ≡ length arguments.now }
-    ensures { IfOk result (λ slot. (start : Progress) (args : Code (List ℕ)) → Emits start (progress points.old) args (map slot_number slots.items) →
-        Emits start (progress points.new) (call_code (builtin_named name.now) (function_in 1 (scope_in scope.now).functions name.now) (exprs_of arguments.now) args) slot.0) }
+    ensures { IfOk result
+        (λ slot. (start : Progress) (args : Code (List ℕ))
+        → Emits start (progress points.old) args (map slot_number slots.items) →
+        Emits start (progress points.new)
+        (call_code (builtin_named name.now)
+        (function_in 1 (scope_in scope.now).functions name.now) (exprs_of arguments.now) args)
+        slot.0) }
 {
     match Builtin::of(name.as_slice()) {
         Some(builtin) => {

@@ -5,7 +5,7 @@ ghost use Rattle.php_syntax.specs.Trees.{plain_expr};
 ghost use Rattle.flow_code.specs.Builtins.{literal_integer, is_small, cutting_from, cutting_out};
 ghost use Rattle.call_lowering.specs.Small.{IsNotSmall, IsSmall};
 
-use expression_pieces::values::literal_number;
+use literal_trees::literal_number;
 use op_system::Op;
 use php_syntax::tree::Expr;
 
@@ -18,7 +18,8 @@ fn is_small_number(number: i64) -> bool
 
 // The number, where a machine is made for it.
 fn kept(number: i64) -> Option<i64>
-    ensures { MatchOption result (is_small number ≡ false) (λ z. (z ≡ number) × (is_small number ≡ true)) }
+    ensures { MatchOption result (is_small number ≡ false)
+        (λ z. (z ≡ number) × (is_small number ≡ true)) }
 {
     if is_small_number(number) {
         Some(number)
@@ -29,7 +30,8 @@ fn kept(number: i64) -> Option<i64>
 
 // The number with its sign turned, where a machine is made for it.
 fn kept_turned(number: i64) -> Option<i64>
-    ensures { MatchOption result (is_small (neg_ℤ number) ≡ false) (λ z. (z ≡ neg_ℤ number) × (is_small (neg_ℤ number) ≡ true)) }
+    ensures { MatchOption result (is_small (neg_ℤ number) ≡ false)
+        (λ z. (z ≡ neg_ℤ number) × (is_small (neg_ℤ number) ≡ true)) }
 {
     match number.checked_neg() {
         Some(turned) => kept(turned),
@@ -40,7 +42,8 @@ fn kept_turned(number: i64) -> Option<i64>
 // An integer literal, or `-` and one, that a machine is made for.
 #[tactic(auto, using(php_syntax::proofs::Views::views), unfolding(flow_code::specs::Builtins::literal_integer))]
 fn small_integer(expr: &Expr) -> Option<i64>
-    ensures { MatchOption result (IsNotSmall (literal_integer (plain_expr expr.now))) (λ z. IsSmall (literal_integer (plain_expr expr.now)) z) }
+    ensures { MatchOption result (IsNotSmall (literal_integer (plain_expr expr.now)))
+        (λ z. IsSmall (literal_integer (plain_expr expr.now)) z) }
 {
     match expr {
         Expr::Int(number) => kept(*number),
@@ -84,7 +87,8 @@ pub(crate) fn cut_from(start: &Expr) -> Op
 
 /// The operation of `substr` from a start on, of a length.
 pub(crate) fn cut_out(start: &Expr, len: &Expr) -> Op
-    ensures { result ≡ cutting_out (literal_integer (plain_expr start.now)) (literal_integer (plain_expr len.now)) }
+    ensures { result ≡ cutting_out (literal_integer (plain_expr start.now))
+        (literal_integer (plain_expr len.now)) }
 {
     let Some(start) = small_integer(start) else {
         return Op::Factor;

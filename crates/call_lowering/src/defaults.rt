@@ -9,12 +9,13 @@ ghost use Rattle.flow_code.specs.View.{slot_number};
 ghost use Rattle.flow_code.specs.Expressions.{default_code, default_codes};
 ghost use Rattle.flow_lowering.specs.View.{progress};
 ghost use Rattle.flow_lowering.specs.Emits.{Emits};
-ghost use Rattle.call_lowering.specs.Small.{IsNoNegative};
+ghost use Rattle.literal_trees.specs.Literals.{IsNoNegative};
 
 use crate::error::LoweringError;
-use expression_pieces::values::{literal_number, lower_value, number_of_one, text_value};
+use expression_pieces::values::{lower_value, number_of_one, text_value};
 use flow_code::Work;
 use flow_lowering::PointBuilder;
+use literal_trees::{Literal, literal_negative, unsigned_literal};
 use php_syntax::tree::{Expr, Param};
 use php_values::Value;
 use std::alloc::Global;
@@ -32,68 +33,17 @@ fn checked_text(alloc: Global, text: &Bytes) -> Result<Value, LoweringError>
     Ok(value)
 }
 
-// The integer behind a `-`, where the expression is such.
-#[tactic(auto, using(php_syntax::proofs::Views::views))]
-fn literal_negative(expr: &Expr) -> Option<i64>
-    ensures { MatchOption result (IsNoNegative (plain_expr expr.now)) (λ number. plain_expr expr.now ≡ neg_expr (int_expr number)) }
-{
-    match expr {
-        Expr::Neg(operand) => literal_number(operand),
-        Expr::Null
-        | Expr::Flag(_)
-        | Expr::Int(_)
-        | Expr::Text(_)
-        | Expr::Var(_)
-        | Expr::Super(_)
-        | Expr::Member(_, _)
-        | Expr::ArrayOf(_)
-        | Expr::Join(_)
-        | Expr::Not(_)
-        | Expr::Arith(_, _, _)
-        | Expr::Compare(_, _, _)
-        | Expr::And(_, _)
-        | Expr::Or(_, _)
-        | Expr::Coalesce(_, _)
-        | Expr::Choice(_, _, _)
-        | Expr::Isset(_)
-        | Expr::Empty(_)
-        | Expr::Assign(_, _)
-        | Expr::Update(_, _, _)
-        | Expr::Step { .. }
-        | Expr::Call(_, _) => None,
-    }
-}
-
 // The value of a literal that has no sign before it.
-#[tactic(auto, using(php_syntax::proofs::Views::views), unfolding(script_meaning::specs::Programs::literal_value))]
+#[tactic(auto, unfolding(literal_trees::specs::Literals::plain_literal))]
 fn literal_of(alloc: Global, expr: &Expr) -> Result<Value, LoweringError>
     requires { IsNoNegative (plain_expr expr.now) }
     ensures { IfOk result (λ value. plain_of value ≡ literal_value (plain_expr expr.now)) }
 {
-    match expr {
-        Expr::Flag(truth) => Ok(Value::Flag(*truth)),
-        Expr::Int(number) => Ok(Value::Int(*number)),
-        Expr::Text(text) => checked_text(alloc, text),
-        Expr::Neg(_)
-        | Expr::Null
-        | Expr::Var(_)
-        | Expr::Super(_)
-        | Expr::Member(_, _)
-        | Expr::ArrayOf(_)
-        | Expr::Join(_)
-        | Expr::Not(_)
-        | Expr::Arith(_, _, _)
-        | Expr::Compare(_, _, _)
-        | Expr::And(_, _)
-        | Expr::Or(_, _)
-        | Expr::Coalesce(_, _)
-        | Expr::Choice(_, _, _)
-        | Expr::Isset(_)
-        | Expr::Empty(_)
-        | Expr::Assign(_, _)
-        | Expr::Update(_, _, _)
-        | Expr::Step { .. }
-        | Expr::Call(_, _) => Ok(Value::Null),
+    match unsigned_literal(expr) {
+        Literal::Null => Ok(Value::Null),
+        Literal::Flag(truth) => Ok(Value::Flag(truth)),
+        Literal::Int(number) => Ok(Value::Int(number)),
+        Literal::Text(text) => checked_text(alloc, text),
     }
 }
 
@@ -104,7 +54,9 @@ fn lower_negative(
     number: i64,
     points: &mut PointBuilder,
 ) -> Result<Slot, LoweringError>
-    ensures { IfOk result (λ slot. Emits (progress points.old) (progress points.new) (default_code (some_expr (neg_expr (int_expr number)))) slot.0) }
+    ensures { IfOk result
+        (λ slot. Emits (progress points.old) (progress points.new)
+        (default_code (some_expr (neg_expr (int_expr number)))) slot.0) }
 {
     let operand = lower_value(Value::Int(number), points)?;
     let slot = number_of_one(alloc, Work::Neg, operand, points)?;
@@ -118,7 +70,9 @@ fn lower_default(
     default: &Option<Expr>,
     points: &mut PointBuilder,
 ) -> Result<Slot, LoweringError>
-    ensures { IfOk result (λ slot. Emits (progress points.old) (progress points.new) (default_code (maybe_of default.now)) slot.0) }
+    ensures { IfOk result
+        (λ slot. Emits (progress points.old) (progress points.new)
+        (default_code (maybe_of default.now)) slot.0) }
 {
     match default {
         None => {
@@ -135,7 +89,9 @@ fn lower_constant(
     expr: &Expr,
     points: &mut PointBuilder,
 ) -> Result<Slot, LoweringError>
-    ensures { IfOk result (λ slot. Emits (progress points.old) (progress points.new) (default_code (some_expr (plain_expr expr.now))) slot.0) }
+    ensures { IfOk result
+        (λ slot. Emits (progress points.old) (progress points.new)
+        (default_code (some_expr (plain_expr expr.now))) slot.0) }
 {
     match literal_negative(expr) {
         Some(number) => lower_negative(alloc, number, points),
@@ -153,7 +109,9 @@ pub fn lower_defaults(
     params: &[Param],
     points: &mut PointBuilder,
 ) -> Result<Vec<Slot>, LoweringError>
-    ensures { IfOk result (λ slots. Emits (progress points.old) (progress points.new) (default_codes (params_of_list params.now)) (map slot_number slots.items)) }
+    ensures { IfOk result
+        (λ slots. Emits (progress points.old) (progress points.new)
+        (default_codes (params_of_list params.now)) (map slot_number slots.items)) }
 {
     let mut slots = Vec::new(alloc);
     for param in params {

@@ -23,7 +23,8 @@ impl Grammar {
     /// The grammar of these productions; None exactly where the start or a nonterminal of a
     /// production is not below the count.
     pub fn new(start: Nt, count: u64, productions: Vec<Production>) -> Option<Grammar>
-        ensures kept { IfSome result (λ g. (g.start ≡ start) × (g.count ≡ count) × (g.productions.items ≡ productions.items)) }
+        ensures kept { IfSome result
+            (λ g. (g.start ≡ start) × (g.count ≡ count) × (g.productions.items ≡ productions.items)) }
         ensures variant { IsSome result ↔ ((start.0 < count) × AreBelow count productions.items) }
     {
         if start.0 < count && are_below(count, &productions) {

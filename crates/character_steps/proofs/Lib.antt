@@ -1,3 +1,3 @@
-mod Begun
+pub mod Begun
 pub mod Encoding
 mod Examples

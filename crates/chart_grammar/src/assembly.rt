@@ -12,8 +12,8 @@ use numbered_sets::count;
 use std::alloc::Global;
 use text_base::{NoMemory, Nt};
 
-/// The grammar of all productions of the image: the start is 0, the passage k has the nonterminal k + 1, and the
-/// fronts of outputs come behind.
+/// The grammar of all productions of the image: the start is 0, the passage k has the nonterminal k
+/// + 1, and the fronts of outputs come behind.
 pub fn grammar_of(
     alloc: Global,
     productions: &[Production],

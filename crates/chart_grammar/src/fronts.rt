@@ -10,8 +10,8 @@ use indexmap::IndexSet;
 use numbered_sets::number;
 use text_base::{Exact, NoMemory};
 
-/// The front of an output: what stands before its last symbol, as 0 for nothing or the nonterminal of a front, and its
-/// last symbol.
+/// The front of an output: what stands before its last symbol, as 0 for nothing or the nonterminal
+/// of a front, and its last symbol.
 #[derive(Clone, Copy, Debug, PartialEq, Eq, Hash)]
 pub struct Front {
     pub before: u64,
@@ -22,7 +22,8 @@ impl Exact for Front {
     ghost exact = { exact_front };
 }
 
-/// What stands for the symbols, with their fronts numbered and the front n as the nonterminal `base` + n.
+/// What stands for the symbols, with their fronts numbered and the front n as the nonterminal
+/// `base` + n.
 pub fn front_of(
     fronts: &mut IndexSet<Front>,
     base: u64,

@@ -1,6 +1,7 @@
-//! The productions of an image, out of its chart: one for each production that is read whole, by the passages of its
-//! symbols, and those that spell what is put out. The fronts of outputs are shared, so that many outputs with one
-//! beginning cost their ends alone. Below stand cfg_grammar, fst_core, numbered_sets, image_meaning and grammar_chart.
+//! The productions of an image, out of its chart: one for each production that is read whole, by
+//! the passages of its symbols, and those that spell what is put out. The fronts of outputs are
+//! shared, so that many outputs with one beginning cost their ends alone. Below stand cfg_grammar,
+//! fst_core, numbered_sets, image_meaning and grammar_chart.
 #![tactic(auto)]
 
 mod assembly;

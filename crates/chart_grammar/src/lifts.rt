@@ -31,7 +31,8 @@ pub struct Last {
 
 /// The nonterminal of a passage, if it is one.
 pub fn nonterminal_of(passages: &IndexSet<Passage>, passage: Passage) -> Option<Nt>
-    ensures some { IfSome result (λ a. (k : ℕ) × (slice_get passages.now.keys k ≡ Some passage) × (a.0 ≡ k + 1)) }
+    ensures some { IfSome result
+        (λ a. (k : ℕ) × (slice_get passages.now.keys k ≡ Some passage) × (a.0 ≡ k + 1)) }
     ensures none { IfNone result (Contains passages.now.keys passage → ⊥) }
 {
     match number_of(passages, &passage) {
@@ -43,7 +44,8 @@ pub fn nonterminal_of(passages: &IndexSet<Passage>, passage: Passage) -> Option<
 /// The right side by the passages that its symbols were read by.
 fn lift_right(passages: &IndexSet<Passage>, right: Right, from: u64, read: Read) -> Option<Right>
     ensures some { IfSome result (λ r. RightLift passages.now.keys right from read r) }
-    ensures none { IfNone result (HasRead passages.now.keys right from read → awaited_by right from read ≡ None → ⊥) }
+    ensures none { IfNone result
+        (HasRead passages.now.keys right from read → awaited_by right from read ≡ None → ⊥) }
 {
     match (right, read) {
         (Right::Empty, Read::Nothing) => Some(Right::Empty),
@@ -79,8 +81,11 @@ fn lift_whole(
     one: Begun,
 ) -> Option<Production>
     ensures some { IfSome result (λ p. WholeLift productions.now passages.now.keys one p) }
-    ensures none { IfNone result ((q : plain.Production) → slice_get productions.now one.place ≡ Some q → awaited_of productions.now one ≡ None
-        → Contains passages.now.keys (passage_by q one) → HasRead passages.now.keys q.right one.from one.read → ⊥) }
+    ensures none { IfNone result
+        ((q : plain.Production) → slice_get productions.now one.place ≡ Some q
+        → awaited_of productions.now one ≡ None
+        → Contains passages.now.keys (passage_by q one)
+        → HasRead passages.now.keys q.right one.from one.read → ⊥) }
 {
     let Some(production) = production_at(productions, one.place) else {
         return None;
@@ -101,7 +106,9 @@ fn write_whole(
     out: &mut Vec<Production>,
     one: Begun,
 ) -> Result<(), NoMemory>
-    ensures { OnOk result (WritesOne {X = front.Front} (WholeMade productions.now passages.now.keys) (WholeHas productions.now passages.now.keys)
+    ensures { OnOk result
+        (WritesOne {X = front.Front} (WholeMade productions.now passages.now.keys)
+        (WholeHas productions.now passages.now.keys)
         one [] [] out.old.items out.new.items) }
 {
     if awaited(productions, one).is_some() {
@@ -123,7 +130,9 @@ pub fn write_wholes(
     out: &mut Vec<Production>,
     begun: &[Begun],
 ) -> Result<(), NoMemory>
-    ensures { OnOk result (WritesAll {X = front.Front} (WholeMade productions.now passages.now.keys) (WholeHas productions.now passages.now.keys)
+    ensures { OnOk result
+        (WritesAll {X = front.Front} (WholeMade productions.now passages.now.keys)
+        (WholeHas productions.now passages.now.keys)
         begun.now [] [] out.old.items out.new.items) }
 {
     for one in begun {

@@ -16,7 +16,8 @@ use indexmap::IndexSet;
 use std::alloc::Global;
 use text_base::{ByteRange, NoMemory, Nt};
 
-/// Writes the production of what is put out by a part of a reading; false where the letters depend on one another.
+/// Writes the production of what is put out by a part of a reading; false where the letters depend
+/// on one another.
 fn write_part(
     alloc: Global,
     passages: &IndexSet<Passage>,
@@ -29,8 +30,12 @@ fn write_part(
     requires base { base ≤ 9223372036854775808 }
     requires low { reading.now.range.lo ≤ part.lo }
     requires high { part.hi ≤ reading.now.range.hi }
-    ensures some { OnOk result (WritesSome passages.now.keys base reading.now fronts.old.keys fronts.new.keys out.old.items out.new.items) }
-    ensures has { IfOk result (λ done. done ≡ true → HasPart passages.now.keys base reading.now fronts.new.keys part out.new.items) }
+    ensures some { OnOk result
+        (WritesSome passages.now.keys base reading.now fronts.old.keys fronts.new.keys out.old.items
+        out.new.items) }
+    ensures has { IfOk result
+        (λ done. done ≡ true
+        → HasPart passages.now.keys base reading.now fronts.new.keys part out.new.items) }
     ensures single { part.lo ≡ part.hi → IfOk result (λ done. done ≡ true) }
 {
     let Some(symbols) = symbols_of(alloc, part, reading.out.as_slice())? else {
@@ -63,8 +68,12 @@ fn write_byte(
     byte: u8,
 ) -> Result<(), NoMemory>
     requires { base ≤ 9223372036854775808 }
-    ensures some { OnOk result (WritesSome passages.now.keys base reading.now fronts.old.keys fronts.new.keys out.old.items out.new.items) }
-    ensures has { OnOk result (InRange reading.now.range byte → HasByte passages.now.keys base reading.now fronts.new.keys byte out.new.items) }
+    ensures some { OnOk result
+        (WritesSome passages.now.keys base reading.now fronts.old.keys fronts.new.keys out.old.items
+        out.new.items) }
+    ensures has { OnOk result
+        (InRange reading.now.range byte
+        → HasByte passages.now.keys base reading.now fronts.new.keys byte out.new.items) }
 {
     if byte < reading.range.lo {
         return Ok(());
@@ -87,7 +96,9 @@ fn write_bytes(
     reading: &Reading,
 ) -> Result<(), NoMemory>
     requires { base ≤ 9223372036854775808 }
-    ensures some { OnOk result (WritesSome passages.now.keys base reading.now fronts.old.keys fronts.new.keys out.old.items out.new.items) }
+    ensures some { OnOk result
+        (WritesSome passages.now.keys base reading.now fronts.old.keys fronts.new.keys out.old.items
+        out.new.items) }
     ensures has { OnOk result ((byte : ℕ) → byte < 256 → InRange reading.now.range byte
         → HasByte passages.now.keys base reading.now fronts.new.keys byte out.new.items) }
 {
@@ -97,8 +108,8 @@ fn write_bytes(
     Ok(())
 }
 
-/// Writes the productions of what is put out by a reading: one for the whole range, or one for each of its bytes
-/// where the letters depend on one another.
+/// Writes the productions of what is put out by a reading: one for the whole range, or one for each
+/// of its bytes where the letters depend on one another.
 fn write_reading(
     alloc: Global,
     passages: &IndexSet<Passage>,
@@ -108,7 +119,8 @@ fn write_reading(
     reading: &Reading,
 ) -> Result<(), NoMemory>
     requires { base ≤ 9223372036854775808 }
-    ensures { OnOk result (WritesOne (ReadMade passages.now.keys base) (ReadHas passages.now.keys base) reading.now
+    ensures { OnOk result
+        (WritesOne (ReadMade passages.now.keys base) (ReadHas passages.now.keys base) reading.now
         fronts.old.keys fronts.new.keys out.old.items out.new.items) }
 {
     let _hi = reading.range.hi;
@@ -129,7 +141,8 @@ pub fn write_readings(
     readings: &[Reading],
 ) -> Result<(), NoMemory>
     requires { base ≤ 9223372036854775808 }
-    ensures { OnOk result (WritesAll (ReadMade passages.now.keys base) (ReadHas passages.now.keys base) readings.now
+    ensures { OnOk result
+        (WritesAll (ReadMade passages.now.keys base) (ReadHas passages.now.keys base) readings.now
         fronts.old.keys fronts.new.keys out.old.items out.new.items) }
 {
     for reading in readings {
@@ -149,7 +162,9 @@ fn write_end(
     last: &Last,
 ) -> Result<(), NoMemory>
     requires { base ≤ 9223372036854775808 }
-    ensures { OnOk result (WritesOne (EndMade from passages.now.keys base) (EndHas from passages.now.keys base) last.now
+    ensures { OnOk result
+        (WritesOne (EndMade from passages.now.keys base) (EndHas from passages.now.keys base)
+        last.now
         fronts.old.keys fronts.new.keys out.old.items out.new.items) }
 {
     let none = ByteRange { lo: 0, hi: 0 };
@@ -183,7 +198,9 @@ pub fn write_ends(
     lasts: &[Last],
 ) -> Result<(), NoMemory>
     requires { base ≤ 9223372036854775808 }
-    ensures { OnOk result (WritesAll (EndMade from passages.now.keys base) (EndHas from passages.now.keys base) lasts.now
+    ensures { OnOk result
+        (WritesAll (EndMade from passages.now.keys base) (EndHas from passages.now.keys base)
+        lasts.now
         fronts.old.keys fronts.new.keys out.old.items out.new.items) }
 {
     for last in lasts {
@@ -215,7 +232,8 @@ fn write_front(
     Ok(())
 }
 
-/// Writes the productions of the fronts. Those that no output has would have other nonterminals; they are left out.
+/// Writes the productions of the fronts. Those that no output has would have other nonterminals;
+/// they are left out.
 pub fn write_fronts(
     fronts: &[Front],
     base: u64,
@@ -225,8 +243,11 @@ pub fn write_fronts(
     requires base { base ≤ 9223372036854775808 }
     requires few { length fronts.now < 9223372036854775808 }
     requires count { count ≡ base + length fronts.now }
-    ensures keeps { OnOk result ((p : plain.Production) → Contains out.old.items p → Contains out.new.items p) }
-    ensures only { OnOk result ((p : plain.Production) → Contains out.new.items p → Contains out.old.items p ⊎ FrontLift fronts.now base p) }
+    ensures keeps { OnOk result
+        ((p : plain.Production) → Contains out.old.items p → Contains out.new.items p) }
+    ensures only { OnOk result
+        ((p : plain.Production) → Contains out.new.items p → Contains out.old.items p
+        ⊎ FrontLift fronts.now base p) }
     ensures has { OnOk result (HasFronts fronts.now base out.new.items) }
 {
     for (number, front) in fronts.iter().enumerate() {

@@ -29,7 +29,8 @@ fn shifted(range: ByteRange, by: u8) -> Option<ByteRange>
 
 /// The symbol for one thing put out as the bytes of a range are read; None where there is none.
 fn symbol_of(range: ByteRange, out: Out) -> Option<Symbol>
-    ensures puts { IfSome result (λ x. (c : Letter) → Puts x c ↔ ((b : ℕ) × InRange range b × (letter_of b out ≡ c))) }
+    ensures puts { IfSome result
+        (λ x. (c : Letter) → Puts x c ↔ ((b : ℕ) × InRange range b × (letter_of b out ≡ c))) }
     ensures single { range.lo ≡ range.hi → IsSome result }
 {
     match out {
@@ -43,8 +44,8 @@ fn symbol_of(range: ByteRange, out: Out) -> Option<Symbol>
     }
 }
 
-/// Symbols that put out exactly what is put out as some byte of the range is read; None where the letters depend on
-/// one another, which they do not where the range has one byte.
+/// Symbols that put out exactly what is put out as some byte of the range is read; None where the
+/// letters depend on one another, which they do not where the range has one byte.
 pub fn symbols_of(
     alloc: Global,
     range: ByteRange,

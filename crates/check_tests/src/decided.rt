@@ -1,4 +1,5 @@
-// Scripts of every form, by the smallest document type: loops, functions, variables, string functions and input; by nesting alone, and with a limit on sums.
+// Scripts of every form, by the smallest document type: loops, functions, variables, string
+// functions and input; by nesting alone, and with a limit on sums.
 use crate::ending::{QUIET, run};
 use phpsa_main::Exit;
 use std::alloc::Global;
@@ -13,7 +14,8 @@ fn script_of(alloc: Global, content: &str) -> Result<Bytes, Fail> {
     Ok(script)
 }
 
-/// Whether the words come to what the row says, `CONTENT => STATUS TEXT`: the output begins with the text, and is it where it ends a line.
+/// Whether the words come to what the row says, `CONTENT => STATUS TEXT`: the output begins with
+/// the text, and is it where it ends a line.
 fn row_is_so(alloc: Global, words: &[&str], row: &str) -> Result<bool, Fail> {
     let (content, said) = row.split_once(" => ").ok_or("a row")?;
     let (status, text) = said.split_once(" ").ok_or("a status")?;
@@ -110,7 +112,8 @@ fn a_limit_on_sums(rt: HostRuntime) -> Result<(), Fail> {
     Ok(())
 }
 
-// Sixty-four functions, of which each calls the one before it twice: the one page has two to the power of 64 bytes.
+// Sixty-four functions, of which each calls the one before it twice: the one page has two to the
+// power of 64 bytes.
 #[test]
 fn a_page_that_is_too_long_to_count(rt: HostRuntime) -> Result<(), Fail> {
     let alloc = rt.alloc();

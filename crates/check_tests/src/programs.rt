@@ -1,4 +1,5 @@
-// Scripts with includes: answers for the program of all files, and each refusal with the name that it is about.
+// Scripts with includes: answers for the program of all files, and each refusal with the name that
+// it is about.
 use crate::ending::{Ending, Outside, QUIET, run_over};
 use std::alloc::Global;
 use std::test::Fail;
@@ -36,7 +37,8 @@ fn reply(alloc: Global, said: &str) -> Result<Vec<u8>, Fail> {
     Ok(text)
 }
 
-// Whether a call ended with this status, and wrote this line on one output and nothing on the other.
+// Whether a call ended with this status, and wrote this line on one output and nothing on the
+// other.
 fn says(alloc: Global, ending: &Ending, status: &str, said: &str) -> Result<bool, Fail> {
     let code = (ending.exit.code() as u64).to_string(alloc)?;
     let out = ending.out.written();

@@ -1,4 +1,5 @@
-// Scripts and pages by the smallest document type, refusals, and outputs that take only so many bytes.
+// Scripts and pages by the smallest document type, refusals, and outputs that take only so many
+// bytes.
 use crate::ending::{Ending, Outside, QUIET, run};
 use phpsa_main::Exit;
 use std::alloc::Global;
@@ -322,8 +323,9 @@ fn statuses(rt: HostRuntime) {
         (Exit::Done, 0),
         (Exit::No, 1),
         (Exit::Undecided, 2),
-        (Exit::NotBuilt, 3),
         (Exit::Script, 3),
+        (Exit::Fault, 4),
+        (Exit::Spent, 5),
         (Exit::Missing, 6),
         (Exit::ReadFault, 7),
         (Exit::WriteFault, 8),
@@ -331,6 +333,7 @@ fn statuses(rt: HostRuntime) {
         (Exit::Dtd, 10),
         (Exit::Input, 11),
         (Exit::Memory, 12),
+        (Exit::Deep, 13),
     ] {
         assert_eq!(rt; exit.code(), code);
     }

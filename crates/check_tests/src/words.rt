@@ -1,4 +1,4 @@
-// Words: their order, both forms of options, `--`, what is not built, and what asks for nothing.
+// Words: their order, both forms of options, `--`, and what asks for nothing.
 use crate::ending::{Outside, QUIET, run};
 use phpsa_main::Exit;
 use std::alloc::Global;
@@ -90,22 +90,16 @@ fn answers_as_json(rt: HostRuntime) -> Result<(), Fail> {
 }
 
 #[test]
-fn what_is_not_built_is_named(rt: HostRuntime) -> Result<(), Fail> {
-    for (words, err) in [
-        ("run t.php", "phpsa: NotBuilt run\n"),
-        (
-            "run --steps 100 a.php --request=r.json",
-            "phpsa: NotBuilt run\n",
-        ),
-        ("grammar -- t.php", "phpsa: NotBuilt grammar\n"),
+fn runs_and_grammars_are_taken(rt: HostRuntime) -> Result<(), Fail> {
+    for words in [
+        "run t.php",
+        "run --steps 100 t.php",
+        "run t.php --steps=00000001",
+        "run --request=r.json -- t.php",
+        "grammar -- t.php",
     ] {
-        let is_so = ends_so(
-            rt.alloc(),
-            words,
-            CLOSED,
-            FAILING,
-            (Exit::NotBuilt, "", err),
-        )?;
+        let fault = (Exit::ReadFault, "", "phpsa: ReadFault t.php\n");
+        let is_so = ends_so(rt.alloc(), words, CLOSED, FAILING, fault)?;
         assert!(rt; is_so, "{words}");
     }
     Ok(())

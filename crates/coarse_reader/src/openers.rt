@@ -39,7 +39,8 @@ pub fn less_step(alloc: Global, byte: u8) -> Result<CoarseState, NoMemory>
 
 /// Whether an opener begins so.
 fn is_opening(bytes: &[u8]) -> bool
-    ensures { result ≡ (begins (codes "<!--") bytes.now || begins (codes "<![CDATA[") bytes.now || begins (codes "<!DOCTYPE") bytes.now) }
+    ensures { result ≡ (begins (codes "<!--") bytes.now || begins (codes "<![CDATA[") bytes.now ||
+        begins (codes "<!DOCTYPE") bytes.now) }
 {
     is_front(b"<!--", bytes) || is_front(b"<![CDATA[", bytes) || is_front(b"<!DOCTYPE", bytes)
 }

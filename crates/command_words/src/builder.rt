@@ -94,7 +94,9 @@ fn program<'a>(alloc: Global) -> Result<Command<'a>, AllocError>
 /// What `clap` makes of the words, or why it does not take them.
 fn parsed<'a>(alloc: Global, words: &'a [String]) -> Result<ArgMatches<'a>, Error>
     ensures ok { IfOk result (HasMatchesOf spec.phpsa (map string_bytes words.entry.now)) }
-    ensures err { IfErr result (λ error. takes spec.phpsa (map string_bytes words.entry.now) ≡ true → kind_of error ≡ ErrorKind.OutOfMemory) }
+    ensures err { IfErr result
+        (λ error. takes spec.phpsa (map string_bytes words.entry.now) ≡ true → kind_of error
+        ≡ ErrorKind.OutOfMemory) }
     ensures kinds { FailsBy (fault_of spec.phpsa (map string_bytes words.entry.now)) result }
 {
     program(alloc)?.try_get_matches_from(words)
@@ -105,9 +107,13 @@ pub(crate) fn matches_of<'a>(
     alloc: Global,
     words: &'a [String],
 ) -> Result<ArgMatches<'a>, WordsRefusal>
-    ensures rows { IfOk result (λ matches. subcommand_rows_of matches ≡ subcommand_of spec.phpsa (map string_bytes words.entry.now)) }
-    ensures fault { IfOk result (λ matches. fault_of spec.phpsa (map string_bytes words.entry.now) ≡ []) }
-    ensures usage { IfErr result (λ refusal. refusal ≡ Usage → AreTaken (map string_bytes words.entry.now) → ⊥) }
+    ensures rows { IfOk result
+        (λ matches. subcommand_rows_of matches
+        ≡ subcommand_of spec.phpsa (map string_bytes words.entry.now)) }
+    ensures fault { IfOk result
+        (λ matches. fault_of spec.phpsa (map string_bytes words.entry.now) ≡ []) }
+    ensures usage { IfErr result
+        (λ refusal. refusal ≡ Usage → AreTaken (map string_bytes words.entry.now) → ⊥) }
 {
     match parsed(alloc, words) {
         Ok(matches) => Ok(matches),

@@ -3,8 +3,8 @@
 /// A command with the values of its arguments.
 #[derive(Clone, Copy, Debug, PartialEq, Eq)]
 pub enum CommandLine<'a> {
-    /// Decides a script: by the definition of this name, with at most so many pairs of one nonterminal, by nesting alone where
-    /// that is asked for, and the answer as JSON where that is.
+    /// Decides a script: by the definition of this name, with at most so many pairs of one
+    /// nonterminal, by nesting alone where that is asked for, and the answer as JSON where that is.
     Check {
         file: &'a str,
         definition: &'a str,

@@ -1,5 +1,6 @@
-//! The words of the command line, read with `clap`: `read_words` says what they ask for. Its contract cites `Asks` of specs/Asked.antt;
-//! that words in the forms of the documents are taken, whatever their order, are the laws of `laws`. It stands on `clap` alone.
+//! The words of the command line, read with `clap`: `read_words` says what they ask for. Its
+//! contract cites `Asks` of specs/Asked.antt; that words in the forms of the documents are taken,
+//! whatever their order, are the laws of `laws`. It stands on `clap` alone.
 #![tactic(auto)]
 
 mod builder;
@@ -24,15 +25,18 @@ use values::line_by;
 
 /// What the words after the program's name ask for.
 ///
-/// A command stands first, and after it its file or number, once, and any of its options, each at most once, in any order; an option's value stands after `=` or as
-/// the next word. `docs/command-line.md` lists them.
+/// A command stands first, and after it its file or number, once, and any of its options, each at
+/// most once, in any order; an option's value stands after `=` or as the next word.
+/// `docs/command-line.md` lists them.
 ///
 /// # Errors
 ///
-/// `Usage` only where the words ask for nothing: `clap` does not take them, or a number in them is not one to eight decimal digits that are not all 0; and `Memory`.
+/// `Usage` only where the words ask for nothing: `clap` does not take them, or a number in them is
+/// not one to eight decimal digits that are not all 0; and `Memory`.
 pub fn read_words<'a>(alloc: Global, words: &'a [String]) -> Result<CommandLine<'a>, WordsRefusal>
     ensures ok { IfOk result (λ line. Asks (map string_bytes words.entry.now) (asked_as line)) }
-    ensures usage { IfErr result (λ refusal. refusal ≡ Usage → AsksNothing (map string_bytes words.entry.now)) }
+    ensures usage { IfErr result
+        (λ refusal. refusal ≡ Usage → AsksNothing (map string_bytes words.entry.now)) }
 {
     let matches = matches_of(alloc, words)?;
     let Some((name, found)) = matches.subcommand() else {

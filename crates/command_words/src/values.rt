@@ -11,7 +11,8 @@ use clap::ArgMatches;
 
 /// The text of the argument of this name.
 fn value<'a>(matches: &ArgMatches<'a>, name: &str) -> Option<&'a str>
-    ensures { option_map (λ text. text.now) result ≡ spec.values_of (rows_of (found_of matches.now)) name.now }
+    ensures { option_map (λ text. text.now) result
+        ≡ spec.values_of (rows_of (found_of matches.now)) name.now }
 {
     matches.get_str(name)
 }
@@ -36,7 +37,8 @@ fn definition_of<'a>(matches: &ArgMatches<'a>) -> &'a str
 }
 
 fn check_line<'a>(matches: &ArgMatches<'a>) -> Option<CommandLine<'a>>
-    ensures { option_map asked_as result ≡ spec.asked_check (spec.values_of (rows_of (found_of matches.now))) }
+    ensures { option_map asked_as result
+        ≡ spec.asked_check (spec.values_of (rows_of (found_of matches.now))) }
 {
     let file = value(matches, "FILE")?;
     let limit = number_or(10_000, value(matches, "limit"))?;
@@ -50,7 +52,8 @@ fn check_line<'a>(matches: &ArgMatches<'a>) -> Option<CommandLine<'a>>
 }
 
 fn run_line<'a>(matches: &ArgMatches<'a>) -> Option<CommandLine<'a>>
-    ensures { option_map asked_as result ≡ spec.asked_run (spec.values_of (rows_of (found_of matches.now))) }
+    ensures { option_map asked_as result
+        ≡ spec.asked_run (spec.values_of (rows_of (found_of matches.now))) }
 {
     let file = value(matches, "FILE")?;
     let steps = number_or(10_000_000, value(matches, "steps"))?;
@@ -62,7 +65,8 @@ fn run_line<'a>(matches: &ArgMatches<'a>) -> Option<CommandLine<'a>>
 }
 
 fn page_line<'a>(matches: &ArgMatches<'a>) -> Option<CommandLine<'a>>
-    ensures { option_map asked_as result ≡ spec.asked_page (spec.values_of (rows_of (found_of matches.now))) }
+    ensures { option_map asked_as result
+        ≡ spec.asked_page (spec.values_of (rows_of (found_of matches.now))) }
 {
     Some(CommandLine::Page {
         file: value(matches, "FILE")?,
@@ -71,7 +75,8 @@ fn page_line<'a>(matches: &ArgMatches<'a>) -> Option<CommandLine<'a>>
 }
 
 fn grammar_line<'a>(matches: &ArgMatches<'a>) -> Option<CommandLine<'a>>
-    ensures { option_map asked_as result ≡ spec.asked_grammar (spec.values_of (rows_of (found_of matches.now))) }
+    ensures { option_map asked_as result
+        ≡ spec.asked_grammar (spec.values_of (rows_of (found_of matches.now))) }
 {
     Some(CommandLine::Grammar {
         file: value(matches, "FILE")?,
@@ -79,7 +84,8 @@ fn grammar_line<'a>(matches: &ArgMatches<'a>) -> Option<CommandLine<'a>>
 }
 
 fn make_line<'a>(matches: &ArgMatches<'a>) -> Option<CommandLine<'a>>
-    ensures { option_map asked_as result ≡ spec.asked_make (spec.values_of (rows_of (found_of matches.now))) }
+    ensures { option_map asked_as result
+        ≡ spec.asked_make (spec.values_of (rows_of (found_of matches.now))) }
 {
     Some(CommandLine::Make {
         functions: number_of(value(matches, "N")?)?,
@@ -89,7 +95,8 @@ fn make_line<'a>(matches: &ArgMatches<'a>) -> Option<CommandLine<'a>>
 
 /// What the command of this name asks for.
 pub(crate) fn line_by<'a>(name: &str, matches: &ArgMatches<'a>) -> Option<CommandLine<'a>>
-    ensures { option_map asked_as result ≡ spec.asked_by name.now (spec.values_of (rows_of (found_of matches.now))) }
+    ensures { option_map asked_as result
+        ≡ spec.asked_by name.now (spec.values_of (rows_of (found_of matches.now))) }
 {
     match name {
         "check" => check_line(matches),

@@ -41,7 +41,9 @@ impl Model for Contents {
 }
 
 fn models(alloc: Global, elements: &[ElementRule]) -> Result<Vec<Allowed>, NoMemory>
-    ensures { IfOk result (λ v. shapes_of v.items ≡ map (λ (r : ElementRule). shape (holding_of r.content)) elements.now) }
+    ensures { IfOk result
+        (λ v. shapes_of v.items
+        ≡ map (λ (r : ElementRule). shape (holding_of r.content)) elements.now) }
 {
     let mut models = Vec::new(alloc);
     for element in elements {

@@ -31,7 +31,8 @@ fn begin_one(
     ensures number { IfOk result (λ n. BeginsAt (shapes_of models.now) keys.new.keys element n) }
     ensures few { OnOk result (length keys.new.keys ≤ 4096) }
     ensures keeps { Keeps keys.old.keys keys.new.keys }
-    ensures reached { AllReached (shapes_of models.now) keys.old.keys → AllReached (shapes_of models.now) keys.new.keys }
+    ensures reached { AllReached (shapes_of models.now) keys.old.keys
+        → AllReached (shapes_of models.now) keys.new.keys }
     ensures limit { IfErr result (IsOver keys.new.keys) }
 {
     let first = first_state(alloc, model_at(models, element))?;
@@ -45,7 +46,8 @@ pub fn begin(
     keys: &mut IndexSet<(u64, Flags)>,
 ) -> Result<Vec<u16>, ContentRefusal>
     requires { keys.old.keys ≡ [] }
-    ensures firsts { IfOk result (λ v. FirstsFit (shapes_of models.now) keys.new.keys v.items (length models.now)) }
+    ensures firsts { IfOk result
+        (λ v. FirstsFit (shapes_of models.now) keys.new.keys v.items (length models.now)) }
     ensures few { OnOk result (length keys.new.keys ≤ 4096) }
     ensures reached { AllReached (shapes_of models.now) keys.new.keys }
     ensures limit { IfErr result (IsOver keys.new.keys) }
@@ -95,7 +97,8 @@ fn state_at(
     requires within { at < length keys.old.keys }
     requires sized { AreSized (shapes_of models.now) }
     requires reached { AllReached (shapes_of models.now) keys.old.keys }
-    ensures row { IfOk result (λ s. HasRow (shapes_of models.now) keys.old.keys keys.new.keys at (row_of s)) }
+    ensures row { IfOk result
+        (λ s. HasRow (shapes_of models.now) keys.old.keys keys.new.keys at (row_of s)) }
     ensures few { OnOk result (length keys.old.keys ≤ 4096 → length keys.new.keys ≤ 4096) }
     ensures keeps { Keeps keys.old.keys keys.new.keys }
     ensures reached { AllReached (shapes_of models.now) keys.new.keys }
@@ -119,7 +122,9 @@ pub fn explore(
     requires few { length keys.old.keys ≤ 4096 }
     requires sized { AreSized (shapes_of models.now) }
     requires reached { AllReached (shapes_of models.now) keys.old.keys }
-    ensures rows { IfOk result (λ v. RowsFit (shapes_of models.now) keys.new.keys (map row_of v.items) (length keys.new.keys)) }
+    ensures rows { IfOk result
+        (λ v. RowsFit (shapes_of models.now) keys.new.keys (map row_of v.items)
+        (length keys.new.keys)) }
     ensures few { OnOk result (length keys.new.keys ≤ 4096) }
     ensures apart { OnOk result (IsDistinct key_eq keys.new.keys) }
     ensures keeps { Keeps keys.old.keys keys.new.keys }

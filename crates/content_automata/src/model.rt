@@ -37,7 +37,8 @@ fn numbers(alloc: Global, elements: &[Elem]) -> Result<Vec<usize>, NoMemory>
 }
 
 fn children(alloc: Global, particle: &Particle) -> Result<Model, NoMemory>
-    ensures { IfOk result (λ m. shape_of m ≡ spec.shape (table.children (table.model_of particle.now))) }
+    ensures { IfOk result
+        (λ m. shape_of m ≡ spec.shape (table.children (table.model_of particle.now))) }
 {
     let first = first_of(alloc, particle)?;
     let places = places_of(alloc, particle)?;
@@ -117,7 +118,8 @@ fn kept_for(
     children: &[usize],
     count: usize,
 ) -> Result<Vec<Option<Flags>>, NoMemory>
-    ensures { IfOk result (λ v. v.items ≡ map (spec.kept flags.now) (raised (replicate count false) children.now)) }
+    ensures { IfOk result
+        (λ v. v.items ≡ map (spec.kept flags.now) (raised (replicate count false) children.now)) }
 {
     let stays = listed(alloc, count, children)?;
     kept(alloc, flags, stays.as_slice())
@@ -133,7 +135,9 @@ pub fn states_behind(
     flags: &Flags,
 ) -> Result<Vec<Option<Flags>>, NoMemory>
     requires { spec.IsSized (shape_of model.now) flags.now }
-    ensures { IfOk result (λ v. v.items ≡ map (spec.state_behind count (shape_of model.now) flags.now) (range_with_len 0 count)) }
+    ensures { IfOk result
+        (λ v. v.items ≡ map (spec.state_behind count (shape_of model.now) flags.now)
+        (range_with_len 0 count)) }
 {
     match model {
         Model::Nothing => kept_for_all(alloc, flags, false, count),

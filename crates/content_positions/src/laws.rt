@@ -10,7 +10,8 @@ ghost use Rattle.content_positions.specs.Walks.{place_at, leads};
 /// Elements lead over the positions of a model to its end exactly where the model matches them
 /// (XML 1.0, 3.2.1).
 pub fn positions_decide()
-    ensures { (m : Model) (es : List ℕ) → leads (place_at (places_of m)) (first_of m) es ≡ model_matches m es }
+    ensures { (m : Model) (es : List ℕ) → leads (place_at (places_of m)) (first_of m) es
+        ≡ model_matches m es }
 {}
 
 /// The set of positions behind some elements is there and has the end exactly where the model

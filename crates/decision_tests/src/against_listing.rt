@@ -9,8 +9,8 @@ use grammar_decision::decide;
 use std::test::Fail;
 use summary_fixpoint::Verdict;
 
-// Where a sentence that is listed is not nested, the answer is no; no comes with a derivation from the start whose
-// sentence is not nested.
+// Where a sentence that is listed is not nested, the answer is no; no comes with a derivation from
+// the start whose sentence is not nested.
 #[test]
 fn against_a_listing(rt: HostRuntime) -> Result<(), Fail> {
     let alloc = rt.alloc();

@@ -8,9 +8,10 @@ use grammar_decision::decide;
 use segment_summary::Segments;
 use std::test::Fail;
 
-// By nesting: nothing, an element, an open one; p^n P^n; p^n; p^n P; a part of which no sentence is left; copies of
-// nonterminals with one sum; two sums of a nonterminal before the first sentence, by limits of 1 and of 9;
-// a start tag 2^13 times, which passes the limit on unmatched tags at the height of 14.
+// By nesting: nothing, an element, an open one; p^n P^n; p^n; p^n P; a part of which no sentence is
+// left; copies of nonterminals with one sum; two sums of a nonterminal before the first sentence,
+// by limits of 1 and of 9; a start tag 2^13 times, which passes the limit on unmatched tags at the
+// height of 14.
 #[test]
 fn by_nesting(rt: HostRuntime) -> Result<(), Fail> {
     let alloc = rt.alloc();
@@ -41,7 +42,8 @@ fn by_nesting(rt: HostRuntime) -> Result<(), Fail> {
     Ok(())
 }
 
-// By the smallest document type: a page, with any number of paragraphs; a page without a body; text in the body.
+// By the smallest document type: a page, with any number of paragraphs; a page without a body; text
+// in the body.
 #[test]
 fn by_document_type(rt: HostRuntime) -> Result<(), Fail> {
     let alloc = rt.alloc();

@@ -5,7 +5,8 @@ use std::alloc::Global;
 use summary_fixpoint::Verdict;
 use text_base::{Elem, NoMemory, Nt, PageToken};
 
-/// A digit is a nonterminal, as the signs behind `9` are; `h b p` start `html`, `body` and `p`, `H B P` end them, `t` is text.
+/// A digit is a nonterminal, as the signs behind `9` are; `h b p` start `html`, `body` and `p`, `H
+/// B P` end them, `t` is text.
 pub fn symbol(letter: u8) -> Symbol {
     match letter {
         b'h' => Symbol::Token(PageToken::Start(Elem(0))),

@@ -31,8 +31,9 @@ fn letters(alloc: Global) -> Result<Option<Grammar>, NoMemory> {
     Ok(Grammar::new(Nt(2), 4, productions))
 }
 
-// The start is written as 0, and 0 as the start; 1 is not reached and 3 derives nothing, so what is trimmed has neither,
-// and the numbers of the others are 0 and 1. What fits is written where the sink is full.
+// The start is written as 0, and 0 as the start; 1 is not reached and 3 derives nothing, so what is
+// trimmed has neither, and the numbers of the others are 0 and 1. What fits is written where the
+// sink is full.
 #[test]
 fn lines(rt: HostRuntime) -> Result<(), Fail> {
     let alloc = rt.alloc();

@@ -11,7 +11,8 @@ use std::test::Fail;
 use summary_fixpoint::Verdict;
 use text_base::{ByteRange, Elem, NoMemory, Nt, PageToken};
 
-// What 1 derives and then a start tag, where each nonterminal from 1 on is the next one twice, but for the last.
+// What 1 derives and then a start tag, where each nonterminal from 1 on is the next one twice, but
+// for the last.
 fn doubled(alloc: Global, times: u64, last: Right) -> Result<Option<Grammar>, NoMemory> {
     let mut productions = Vec::new(alloc);
     let tag = Symbol::Token(PageToken::Start(Elem(0)));
@@ -43,8 +44,9 @@ fn not_nested(alloc: Global, grammar: &Grammar) -> Result<Option<Derivation>, No
     }
 }
 
-// The last nonterminal is `ab`: the length of the sentence, at most the largest u64; so many bytes of it are written, also
-// where that is many times what is put at once; what fits is written where the sink is full.
+// The last nonterminal is `ab`: the length of the sentence, at most the largest u64; so many bytes
+// of it are written, also where that is many times what is put at once; what fits is written where
+// the sink is full.
 #[test]
 fn first_bytes(rt: HostRuntime) -> Result<(), Fail> {
     let alloc = rt.alloc();
@@ -76,7 +78,8 @@ fn first_bytes(rt: HostRuntime) -> Result<(), Fail> {
     Ok(())
 }
 
-// A sentence that is empty is written at once, however often it is doubled; a walk writes the same again.
+// A sentence that is empty is written at once, however often it is doubled; a walk writes the same
+// again.
 #[test]
 fn nothing_and_again(rt: HostRuntime) -> Result<(), Fail> {
     let alloc = rt.alloc();

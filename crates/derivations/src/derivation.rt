@@ -111,7 +111,8 @@ impl Derivation {
 
 /// The number of bytes of the sentence of a derivation, at most the largest `u64`.
 pub fn length(derivation: &Derivation) -> u64
-    ensures { result ≡ part_length derivation.now.nodes.nodes.items (root_of derivation.now.nodes.nodes.items) }
+    ensures { result ≡ part_length derivation.now.nodes.nodes.items
+        (root_of derivation.now.nodes.nodes.items) }
 {
     match derivation.nodes.nodes.last() {
         Some(node) => node.length,

@@ -1,5 +1,6 @@
-//! One character more in a document type declaration of a page, in memory: `doctype_turn` is the function of page_steps of that name. Below stand
-//! xml_text, dtd_model, page_cutting, value_rules, page_steps and open_pieces.
+//! One character more in a document type declaration of a page, in memory: `doctype_turn` is the
+//! function of page_steps of that name. Below stand xml_text, dtd_model, page_cutting, value_rules,
+//! page_steps and open_pieces.
 #![tactic(auto)]
 
 mod literals;

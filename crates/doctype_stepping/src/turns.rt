@@ -16,14 +16,16 @@ use std::alloc::Global;
 use text_base::NoMemory;
 use value_rules::is_word;
 
-/// One character more in a document type declaration, behind `<!DOCTYPE` (XML 1.0, 2.8; XHTML 1.0, 3.1.1).
+/// One character more in a document type declaration, behind `<!DOCTYPE` (XML 1.0, 2.8; XHTML 1.0,
+/// 3.1.1).
 pub fn doctype_turn(
     alloc: Global,
     rule: DoctypeRule,
     inside: &OpenDoctype,
     c: char,
 ) -> Result<DoctypeTurn, NoMemory>
-    ensures { IfOk result (λ turn. plain_turn turn ≡ steps.doctype_turn rule (plain_doctype inside.now) c) }
+    ensures { IfOk result
+        (λ turn. plain_turn turn ≡ steps.doctype_turn rule (plain_doctype inside.now) c) }
 {
     match inside {
         OpenDoctype::BeforeRoot(is_spaced) => before_turn(alloc, *is_spaced, c),
@@ -80,7 +82,8 @@ fn name_turn(
     name: &Characters,
     c: char,
 ) -> Result<DoctypeTurn, NoMemory>
-    ensures { IfOk result (λ turn. plain_turn turn ≡ steps.doctype_turn rule (doctype.in_root name.now) c) }
+    ensures { IfOk result
+        (λ turn. plain_turn turn ≡ steps.doctype_turn rule (doctype.in_root name.now) c) }
 {
     let more = name.with(alloc, c)?;
     if begins_root(more.as_slice()) {
@@ -126,7 +129,8 @@ fn word_turn(
 }
 
 fn behind_word_turn(alloc: Global, rule: DoctypeRule, word: DoctypeWord, c: char) -> DoctypeTurn
-    ensures { plain_turn result ≡ steps.doctype_turn rule (doctype.behind_word (plain_word word)) c }
+    ensures { plain_turn result
+        ≡ steps.doctype_turn rule (doctype.behind_word (plain_word word)) c }
 {
     if is_blank(c) {
         return DoctypeTurn::On(OpenDoctype::BehindWord(word));

@@ -41,17 +41,22 @@ impl<'a> DocumentType<'a> {
     ///
     /// # Errors
     ///
-    /// `File` where the files of a definition spell none, with the cause that `read_dtd` gives; `BuiltIn` where the built-in text is refused; and `Memory`.
+    /// `File` where the files of a definition spell none, with the cause that `read_dtd` gives;
+    /// `BuiltIn` where the built-in text is refused; and `Memory`.
     pub fn definition<F: Files>(
         self,
         alloc: Global,
         files: &mut F,
     ) -> Result<Dtd, DefinitionRefusal>
-        ensures ok { IfOk result (λ dtd. HasTable (F.content files.old) (type_of self.entry) (table_of dtd)) }
-        ensures err { IfErr result (IsDefinitionRefusal (source_call (F.content files.old) (F.faults files.old)
+        ensures ok { IfOk result
+            (λ dtd. HasTable (F.content files.old) (type_of self.entry) (table_of dtd)) }
+        ensures err { IfErr result
+            (IsDefinitionRefusal (source_call (F.content files.old) (F.faults files.old)
             (F.faults files.new) (F.misses files.old) (F.misses files.new)) (type_of self.entry)) }
         ensures reads { IsBuiltIn (type_of self.entry) → F.reads files.new ≡ F.reads files.old }
-        ensures calm { IfOk result (λ _. IsCalm (source_call (F.content files.old) (F.faults files.old) (F.faults files.new)
+        ensures calm { IfOk result
+            (λ _. IsCalm (source_call (F.content files.old) (F.faults files.old)
+            (F.faults files.new)
             (F.misses files.old) (F.misses files.new))) }
         ensures same { F.content files.new ≡ F.content files.old }
     {

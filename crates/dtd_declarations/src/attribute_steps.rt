@@ -45,7 +45,8 @@ fn kind_named(word: &[u8]) -> Result<AttrKind, Fault>
 }
 
 fn name_step(alloc: Global, token: &Token<'_>) -> Result<Place, Fault>
-    ensures { (ds : List Declared) → Gives (at_place ds) result (spec.name_step ds (token_of token.now)) }
+    ensures { (ds : List Declared)
+        → Gives (at_place ds) result (spec.name_step ds (token_of token.now)) }
 {
     match token {
         Token::Word(word) => {
@@ -61,7 +62,8 @@ fn name_step(alloc: Global, token: &Token<'_>) -> Result<Place, Fault>
 
 #[tactic(auto, using(crate::proofs::Passing::passed_on))]
 fn kind_step(alloc: Global, name: Bytes, token: &Token<'_>) -> Result<Place, Fault>
-    ensures { (ds : List Declared) → Gives (at_place ds) result (spec.kind_step ds name (token_of token.now)) }
+    ensures { (ds : List Declared)
+        → Gives (at_place ds) result (spec.kind_step ds name (token_of token.now)) }
 {
     match token {
         Token::Word(word) => match kind_named(word) {
@@ -87,7 +89,8 @@ fn token_step(
     tokens: Vec<Bytes>,
     token: &Token<'_>,
 ) -> Result<Place, Fault>
-    ensures { (ds : List Declared) → Gives (at_place ds) result (spec.token_step ds name tokens.items (token_of token.now)) }
+    ensures { (ds : List Declared)
+        → Gives (at_place ds) result (spec.token_step ds name tokens.items (token_of token.now)) }
 {
     match token {
         Token::Gap => Ok(Place::AtToken(name, tokens)),
@@ -97,7 +100,9 @@ fn token_step(
 }
 
 fn behind_token_step(name: Bytes, tokens: Vec<Bytes>, token: &Token<'_>) -> Result<Place, Fault>
-    ensures { (ds : List Declared) → Gives (at_place ds) result (spec.behind_token_step ds name tokens.items (token_of token.now)) }
+    ensures { (ds : List Declared)
+        → Gives (at_place ds) result
+        (spec.behind_token_step ds name tokens.items (token_of token.now)) }
 {
     match token {
         Token::Gap => Ok(Place::BehindToken(name, tokens)),
@@ -126,7 +131,8 @@ fn with_attribute(
     need: Need,
 ) -> Result<Reading, NoMemory>
     ensures { IfOk result (λ r. reading_of r
-        ≡ spec.with_attribute (map declared_of attributes.items) name (kind_of kind) (presence_of need)) }
+        ≡ spec.with_attribute (map declared_of attributes.items) name (kind_of kind)
+        (presence_of need)) }
 {
     attributes.push(AttrRule { name, kind, need })?;
     Ok(Reading {
@@ -141,7 +147,9 @@ fn default_step(
     kind: AttrKind,
     token: &Token<'_>,
 ) -> Result<Reading, Fault>
-    ensures { Gives reading_of result (spec.default_step (map declared_of attributes.items) name (kind_of kind) (token_of token.now)) }
+    ensures { Gives reading_of result
+        (spec.default_step (map declared_of attributes.items) name (kind_of kind)
+        (token_of token.now)) }
 {
     match token {
         Token::Hash => Ok(Reading {
@@ -165,7 +173,8 @@ fn word_step(
     kind: AttrKind,
     token: &Token<'_>,
 ) -> Result<Reading, Fault>
-    ensures { Gives reading_of result (spec.word_step (map declared_of attributes.items) name (kind_of kind) (token_of token.now)) }
+    ensures { Gives reading_of result
+        (spec.word_step (map declared_of attributes.items) name (kind_of kind) (token_of token.now)) }
 {
     match token {
         Token::Word(word) => {
@@ -193,7 +202,9 @@ fn fixed_step(
     kind: AttrKind,
     token: &Token<'_>,
 ) -> Result<Reading, Fault>
-    ensures { Gives reading_of result (spec.fixed_step (map declared_of attributes.items) name (kind_of kind) (token_of token.now)) }
+    ensures { Gives reading_of result
+        (spec.fixed_step (map declared_of attributes.items) name (kind_of kind)
+        (token_of token.now)) }
 {
     match token {
         Token::Literal(value) => {
@@ -210,7 +221,8 @@ fn fixed_step(
 
 // The attributes beside a place that a step leads to.
 fn beside(attributes: Vec<AttrRule>, place: Result<Place, Fault>) -> Result<Reading, Fault>
-    ensures { (w : Went spec.Stage) → Gives (at_place (map declared_of attributes.items)) place w → Gives reading_of result w }
+    ensures { (w : Went spec.Stage) → Gives (at_place (map declared_of attributes.items)) place w
+        → Gives reading_of result w }
 {
     match place {
         Ok(place) => Ok(Reading { attributes, place }),
@@ -271,7 +283,8 @@ fn start(alloc: Global) -> Reading
 ///
 /// As the tokens go wrong: `Refused`, `LeftOut` for a type of entities or notations; and `Memory`.
 pub fn attributes_of(alloc: Global, tokens: &[Token<'_>]) -> Result<Vec<AttrRule>, Fault>
-    ensures { Gives (λ ds. map declared_of ds.items) result (spec.attributes_of (tokens_of tokens.now)) }
+    ensures { Gives (λ ds. map declared_of ds.items) result
+        (spec.attributes_of (tokens_of tokens.now)) }
 {
     let mut reading = start(alloc);
     for token in tokens {

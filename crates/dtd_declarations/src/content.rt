@@ -63,7 +63,8 @@ fn done_step(content: Content, token: &Token<'_>) -> Result<Stage, Fault>
 
 // What a token leads to.
 fn step(alloc: Global, names: &Names, stage: Stage, token: &Token<'_>) -> Result<Stage, Fault>
-    ensures { Gives stage_of result (spec.stage_step names.now (stage_of stage) (token_of token.now)) }
+    ensures { Gives stage_of result
+        (spec.stage_step names.now (stage_of stage) (token_of token.now)) }
 {
     match stage {
         Stage::BehindName => name_step(token),
@@ -103,8 +104,8 @@ fn end(stage: Stage) -> Result<Content, Fault>
 ///
 /// # Errors
 ///
-/// As the tokens go wrong: `Refused`, `TooDeep` with over 200 open brackets, `Undeclared` where they
-/// name an element that is not declared; and `Memory`.
+/// As the tokens go wrong: `Refused`, `TooDeep` with over 200 open brackets, `Undeclared` where
+/// they name an element that is not declared; and `Memory`.
 pub fn content_of(alloc: Global, names: &Names, tokens: &[Token<'_>]) -> Result<Content, Fault>
     ensures { Gives holding_of result (spec.content_of names.now (tokens_of tokens.now)) }
 {

@@ -73,9 +73,9 @@ fn attributes(alloc: Global, tokens: &[Token<'_>]) -> Result<Said, Fault>
 ///
 /// # Errors
 ///
-/// `Refused` where it is none of the declarations of XML 1.0 (3.2 and 3.3), `LeftOut` for a notation
-/// or an attribute of entities or notations, `TooDeep` with over 200 open brackets, `Undeclared`
-/// where a content model names an element that is not declared, and `Memory`.
+/// `Refused` where it is none of the declarations of XML 1.0 (3.2 and 3.3), `LeftOut` for a
+/// notation or an attribute of entities or notations, `TooDeep` with over 200 open brackets,
+/// `Undeclared` where a content model names an element that is not declared, and `Memory`.
 #[tactic(auto, unfolding(dtd_texts::specs::Tables::said))]
 pub fn read_declaration(alloc: Global, names: &Names, text: &[u8]) -> Result<Said, Fault>
     ensures { Gives said_of result (spec.said names.now text.now) }

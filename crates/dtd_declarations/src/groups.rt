@@ -49,7 +49,9 @@ fn at_least_one(alloc: Global, particle: Particle) -> Result<Particle, NoMemory>
 // The particle of a group that is closed.
 #[tactic(auto, using(dtd_model::proofs::Views::views, crate::proofs::Models::models_are))]
 fn particle_of(group: Group) -> Particle
-    ensures { model_of result ≡ spec.group_model (separator_of group.separator) (spec.all_models (map model_of group.parts.items)) }
+    ensures { model_of result
+        ≡ spec.group_model (separator_of group.separator)
+        (spec.all_models (map model_of group.parts.items)) }
 {
     match group.separator {
         Separator::Unknown => Particle::Seq(group.parts),
@@ -115,7 +117,8 @@ pub fn particle_step(
     groups: Groups,
     token: &Token<'_>,
 ) -> Result<Stage, Fault>
-    ensures { Gives stage_of result (spec.particle_step names.now (groups_of groups) (token_of token.now)) }
+    ensures { Gives stage_of result
+        (spec.particle_step names.now (groups_of groups) (token_of token.now)) }
 {
     match token {
         Token::Gap => Ok(Stage::AtParticle(groups)),
@@ -185,7 +188,8 @@ pub fn on_step(
     particle: Particle,
     token: &Token<'_>,
 ) -> Result<Stage, Fault>
-    ensures { Gives stage_of result (spec.on_step (groups_of groups) (model_of particle) (token_of token.now)) }
+    ensures { Gives stage_of result
+        (spec.on_step (groups_of groups) (model_of particle) (token_of token.now)) }
 {
     match token {
         Token::Question => Ok(Stage::BehindParticle(put(groups, optional(alloc, particle)?)?)),

@@ -31,7 +31,8 @@ pub fn text_step(alloc: Global, token: &Token<'_>) -> Result<Stage, Fault>
 
 // Behind text or an element.
 pub fn behind_text_step(elements: Vec<Elem>, token: &Token<'_>) -> Result<Stage, Fault>
-    ensures { Gives stage_of result (spec.behind_text_step (numbers_of elements.items) (token_of token.now)) }
+    ensures { Gives stage_of result
+        (spec.behind_text_step (numbers_of elements.items) (token_of token.now)) }
 {
     match token {
         Token::Gap => Ok(Stage::BehindText(elements)),
@@ -57,7 +58,8 @@ pub fn element_step(
     elements: Vec<Elem>,
     token: &Token<'_>,
 ) -> Result<Stage, Fault>
-    ensures { Gives stage_of result (spec.element_step names.now (numbers_of elements.items) (token_of token.now)) }
+    ensures { Gives stage_of result
+        (spec.element_step names.now (numbers_of elements.items) (token_of token.now)) }
 {
     match token {
         Token::Gap => Ok(Stage::AtElement(elements)),
@@ -71,7 +73,8 @@ pub fn element_step(
 
 // Behind the closing bracket.
 pub fn mixed_step(elements: Vec<Elem>, token: &Token<'_>) -> Result<Stage, Fault>
-    ensures { Gives stage_of result (spec.mixed_step (numbers_of elements.items) (token_of token.now)) }
+    ensures { Gives stage_of result
+        (spec.mixed_step (numbers_of elements.items) (token_of token.now)) }
 {
     match token {
         Token::Star => Ok(Stage::Done(Content::Mixed(elements))),

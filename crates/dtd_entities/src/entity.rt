@@ -156,7 +156,8 @@ fn public_of<'a>(name: &'a [u8], identifier: Option<Found<'a, '_>>) -> Ending<'a
 }
 
 fn identified<'a>(is_parameter: bool, name: &'a [u8], word: Option<Found<'a, '_>>) -> Ending<'a>
-    ensures { ending_of result ≡ spec.identified (entity_by is_parameter name.now) (found word.entry) }
+    ensures { ending_of result
+        ≡ spec.identified (entity_by is_parameter name.now) (found word.entry) }
 {
     match word {
         Some((word, rest)) => {

@@ -25,7 +25,8 @@ use text_base::{Bytes, NoMemory};
 
 // A reference at the head, or no move.
 fn reference(bytes: &[u8]) -> Move
-    ensures value { (s : spec.State) → seen result s bytes.now ≡ spec.moved s (places.reference_or bytes.now places.refuses) }
+    ensures value { (s : spec.State) → seen result s bytes.now
+        ≡ spec.moved s (places.reference_or bytes.now places.refuses) }
     ensures within { (s : spec.State) → IsWithin result s s bytes.now }
 {
     let n = reference_length(bytes);
@@ -84,7 +85,8 @@ impl Reading {
         requires small { self.old.length < 2 ^ 32 }
         requires some { 0 < length bytes.now }
         requires place { self.old.mode ≡ Mode.InComment }
-        ensures value { seen result (state_of self.new) bytes.now ≡ spec.moved (state_of self.old) (places.comment_step bytes.now) }
+        ensures value { seen result (state_of self.new) bytes.now
+            ≡ spec.moved (state_of self.old) (places.comment_step bytes.now) }
         ensures within { IsWithin result (state_of self.old) (state_of self.new) bytes.now }
     {
         if begins(bytes, b"-->") {
@@ -103,7 +105,8 @@ impl Reading {
     fn behind_target(&mut self, bytes: &[u8]) -> Move
         requires small { self.old.length < 2 ^ 32 }
         requires place { self.old.mode ≡ Mode.BehindTarget }
-        ensures value { seen result (state_of self.new) bytes.now ≡ spec.moved (state_of self.old) (places.target_step bytes.now) }
+        ensures value { seen result (state_of self.new) bytes.now
+            ≡ spec.moved (state_of self.old) (places.target_step bytes.now) }
         ensures within { IsWithin result (state_of self.old) (state_of self.new) bytes.now }
     {
         if begins(bytes, b"?>") {
@@ -124,7 +127,8 @@ impl Reading {
         requires small { self.old.length < 2 ^ 32 }
         requires some { 0 < length bytes.now }
         requires place { self.old.mode ≡ Mode.InInstruction }
-        ensures value { seen result (state_of self.new) bytes.now ≡ spec.moved (state_of self.old) (places.instruction_step bytes.now) }
+        ensures value { seen result (state_of self.new) bytes.now
+            ≡ spec.moved (state_of self.old) (places.instruction_step bytes.now) }
         ensures within { IsWithin result (state_of self.old) (state_of self.new) bytes.now }
     {
         if begins(bytes, b"?>") {
@@ -140,7 +144,8 @@ impl Reading {
     fn between(&mut self, alloc: Global, bytes: &[u8]) -> Move
         requires small { self.old.length < 2 ^ 32 }
         requires place { self.old.mode ≡ Mode.Between }
-        ensures value { seen result (state_of self.new) bytes.now ≡ spec.moved (state_of self.old) (places.between_step bytes.now) }
+        ensures value { seen result (state_of self.new) bytes.now
+            ≡ spec.moved (state_of self.old) (places.between_step bytes.now) }
         ensures within { IsWithin result (state_of self.old) (state_of self.new) bytes.now }
     {
         if head_is_blank(bytes) {
@@ -190,8 +195,10 @@ impl Reading {
         requires small { self.old.length < 2 ^ 32 }
         requires place { self.old.mode ≡ Mode.InLiteral }
         ensures value { IfOk result (λ m. seen m (state_of self.new) bytes.now
-            ≡ spec.moved (state_of self.old) (places.literal_step self.old.text self.old.quote bytes.now)) }
-        ensures within { IfOk result (λ m. IsWithin m (state_of self.old) (state_of self.new) bytes.now) }
+            ≡ spec.moved (state_of self.old)
+            (places.literal_step self.old.text self.old.quote bytes.now)) }
+        ensures within { IfOk result
+            (λ m. IsWithin m (state_of self.old) (state_of self.new) bytes.now) }
     {
         let byte = match bytes {
             [] => return Ok(Move::Stuck),
@@ -210,8 +217,10 @@ impl Reading {
         requires small { self.old.length < 2 ^ 32 }
         requires some { 0 < length bytes.now }
         ensures value { IfOk result (λ m. seen m (state_of self.new) bytes.now
-            ≡ spec.moved (state_of self.old) (places.goes 1 (places.in_literal (self.old.text ++ quote ∷ []) quote))) }
-        ensures within { IfOk result (λ m. IsWithin m (state_of self.old) (state_of self.new) bytes.now) }
+            ≡ spec.moved (state_of self.old)
+            (places.goes 1 (places.in_literal (self.old.text ++ quote ∷ []) quote))) }
+        ensures within { IfOk result
+            (λ m. IsWithin m (state_of self.old) (state_of self.new) bytes.now) }
     {
         self.text.push(quote)?;
         self.quote = quote;
@@ -232,7 +241,8 @@ impl Reading {
         requires small { self.old.length < 2 ^ 32 }
         requires some { 0 < length bytes.now }
         ensures value { seen result (state_of self.new) bytes.now
-            ≡ spec.moved (state_of self.old) (places.goes 1 (places.in_value (entity_by is_parameter name) quote [] 0)) }
+            ≡ spec.moved (state_of self.old)
+            (places.goes 1 (places.in_value (entity_by is_parameter name) quote [] 0)) }
         ensures within { IsWithin result (state_of self.old) (state_of self.new) bytes.now }
     {
         self.text = Bytes::new(alloc);
@@ -259,7 +269,8 @@ impl Reading {
         requires place { self.old.mode ≡ Mode.Inside quoted }
         ensures value { IfOk result (λ m. seen m (state_of self.new) bytes.now
             ≡ spec.moved (state_of self.old) (places.quote_step self.old.text quoted quote)) }
-        ensures within { IfOk result (λ m. IsWithin m (state_of self.old) (state_of self.new) bytes.now) }
+        ensures within { IfOk result
+            (λ m. IsWithin m (state_of self.old) (state_of self.new) bytes.now) }
     {
         if quoted {
             return self.literal(bytes, quote);
@@ -290,7 +301,8 @@ impl Reading {
         requires some { 0 < length bytes.now }
         ensures value { IfOk result (λ m. seen m (state_of self.new) bytes.now
             ≡ spec.moved (state_of self.old) (places.declares_parameter name (plain_source source))) }
-        ensures within { IfOk result (λ m. IsWithin m (state_of self.old) (state_of self.new) bytes.now) }
+        ensures within { IfOk result
+            (λ m. IsWithin m (state_of self.old) (state_of self.new) bytes.now) }
     {
         declare(&mut self.parameters, name, source)?;
         self.end_declaration();
@@ -303,7 +315,8 @@ impl Reading {
         requires some { 0 < length bytes.now }
         ensures value { IfOk result (λ m. seen m (state_of self.new) bytes.now
             ≡ spec.moved (state_of self.old) (places.declares_general name)) }
-        ensures within { IfOk result (λ m. IsWithin m (state_of self.old) (state_of self.new) bytes.now) }
+        ensures within { IfOk result
+            (λ m. IsWithin m (state_of self.old) (state_of self.new) bytes.now) }
     {
         self.generals.insert(name)?;
         self.end_declaration();
@@ -316,7 +329,8 @@ impl Reading {
         requires some { 0 < length bytes.now }
         ensures value { IfOk result (λ m. seen m (state_of self.new) bytes.now
             ≡ spec.moved (state_of self.old) (places.declares self.old.text)) }
-        ensures within { IfOk result (λ m. IsWithin m (state_of self.old) (state_of self.new) bytes.now) }
+        ensures within { IfOk result
+            (λ m. IsWithin m (state_of self.old) (state_of self.new) bytes.now) }
     {
         let text = mem::replace(&mut self.text, Bytes::new(alloc));
         let at = self.begun;
@@ -330,7 +344,8 @@ impl Reading {
         requires small { self.old.length < 2 ^ 32 }
         requires place { (self.old.mode ≡ Mode.InValue) }
         ensures { IfOk result (λ done. state_of self.new ≡ spec.on_to (state_of self.old) 1
-            (places.in_value (entity_by self.old.is_parameter self.old.name) self.old.quote (self.old.text ++ byte ∷ []) self.old.depth)) }
+            (places.in_value (entity_by self.old.is_parameter self.old.name) self.old.quote
+            (self.old.text ++ byte ∷ []) self.old.depth)) }
     {
         self.text.push(byte)?;
         self.count(1);
@@ -343,7 +358,8 @@ impl Reading {
         requires few { n < 2 ^ 63 }
         requires place { self.old.mode ≡ Mode.InValue }
         ensures { IfOk result (λ done. state_of self.new ≡ spec.on_to (state_of self.old) n
-            (places.in_value (entity_by self.old.is_parameter self.old.name) self.old.quote (self.old.text ++ encode_utf8 c) self.old.depth)) }
+            (places.in_value (entity_by self.old.is_parameter self.old.name) self.old.quote
+            (self.old.text ++ encode_utf8 c) self.old.depth)) }
     {
         let mut buffer = [0; 4];
         let encoded = c.encode_utf8(&mut buffer);
@@ -357,9 +373,12 @@ impl Reading {
         requires small { self.old.length < 2 ^ 32 }
         requires some { 0 < length bytes.now }
         requires place { self.old.mode ≡ Mode.InValue }
-        ensures value { IfOk result (λ m. seen m (state_of self.new) bytes.now ≡ spec.moved (state_of self.old)
-            (places.value_else (entity_by self.old.is_parameter self.old.name) self.old.quote self.old.text self.old.depth byte bytes.now)) }
-        ensures within { IfOk result (λ m. IsWithin m (state_of self.old) (state_of self.new) bytes.now) }
+        ensures value { IfOk result
+            (λ m. seen m (state_of self.new) bytes.now ≡ spec.moved (state_of self.old)
+            (places.value_else (entity_by self.old.is_parameter self.old.name) self.old.quote
+            self.old.text self.old.depth byte bytes.now)) }
+        ensures within { IfOk result
+            (λ m. IsWithin m (state_of self.old) (state_of self.new) bytes.now) }
     {
         if byte == b'&' {
             if entity_length(bytes) == 0 {
@@ -379,9 +398,12 @@ impl Reading {
     fn in_value(&mut self, bytes: &[u8]) -> Result<Move, NoMemory>
         requires small { self.old.length < 2 ^ 32 }
         requires place { self.old.mode ≡ Mode.InValue }
-        ensures value { IfOk result (λ m. seen m (state_of self.new) bytes.now ≡ spec.moved (state_of self.old)
-            (places.value_step (entity_by self.old.is_parameter self.old.name) self.old.quote self.old.text self.old.depth bytes.now)) }
-        ensures within { IfOk result (λ m. IsWithin m (state_of self.old) (state_of self.new) bytes.now) }
+        ensures value { IfOk result
+            (λ m. seen m (state_of self.new) bytes.now ≡ spec.moved (state_of self.old)
+            (places.value_step (entity_by self.old.is_parameter self.old.name) self.old.quote
+            self.old.text self.old.depth bytes.now)) }
+        ensures within { IfOk result
+            (λ m. IsWithin m (state_of self.old) (state_of self.new) bytes.now) }
     {
         let byte = match bytes {
             [] => return Ok(Move::Stuck),
@@ -404,9 +426,11 @@ impl Reading {
         requires small { self.old.length < 2 ^ 32 }
         requires some { 0 < length bytes.now }
         requires place { self.old.mode ≡ Mode.BehindValue }
-        ensures value { IfOk result (λ m. seen m (state_of self.new) bytes.now ≡ spec.moved (state_of self.old)
+        ensures value { IfOk result
+            (λ m. seen m (state_of self.new) bytes.now ≡ spec.moved (state_of self.old)
             (places.declares_value (entity_by self.old.is_parameter self.old.name) self.old.text)) }
-        ensures within { IfOk result (λ m. IsWithin m (state_of self.old) (state_of self.new) bytes.now) }
+        ensures within { IfOk result
+            (λ m. IsWithin m (state_of self.old) (state_of self.new) bytes.now) }
     {
         if self.is_parameter {
             let name = mem::replace(&mut self.name, Bytes::new(alloc));
@@ -424,9 +448,12 @@ impl Reading {
     fn behind_value(&mut self, alloc: Global, bytes: &[u8]) -> Result<Move, NoMemory>
         requires small { self.old.length < 2 ^ 32 }
         requires place { self.old.mode ≡ Mode.BehindValue }
-        ensures value { IfOk result (λ m. seen m (state_of self.new) bytes.now ≡ spec.moved (state_of self.old)
-            (places.behind_step (entity_by self.old.is_parameter self.old.name) self.old.text bytes.now)) }
-        ensures within { IfOk result (λ m. IsWithin m (state_of self.old) (state_of self.new) bytes.now) }
+        ensures value { IfOk result
+            (λ m. seen m (state_of self.new) bytes.now ≡ spec.moved (state_of self.old)
+            (places.behind_step (entity_by self.old.is_parameter self.old.name) self.old.text
+            bytes.now)) }
+        ensures within { IfOk result
+            (λ m. IsWithin m (state_of self.old) (state_of self.new) bytes.now) }
     {
         if head_is_blank(bytes) {
             self.count(1);
@@ -445,7 +472,8 @@ impl Reading {
         requires some { 0 < length bytes.now }
         ensures value { IfOk result (λ m. seen m (state_of self.new) bytes.now
             ≡ spec.moved (state_of self.old) (places.end_step self.old.text)) }
-        ensures within { IfOk result (λ m. IsWithin m (state_of self.old) (state_of self.new) bytes.now) }
+        ensures within { IfOk result
+            (λ m. IsWithin m (state_of self.old) (state_of self.new) bytes.now) }
     {
         match ending(alloc, self.text.as_slice())? {
             Ended::Written => self.declare_written(alloc, bytes),
@@ -463,7 +491,8 @@ impl Reading {
         requires place { self.old.mode ≡ Mode.Inside quoted }
         ensures value { IfOk result (λ m. seen m (state_of self.new) bytes.now
             ≡ spec.moved (state_of self.old) (places.inside_step self.old.text quoted bytes.now)) }
-        ensures within { IfOk result (λ m. IsWithin m (state_of self.old) (state_of self.new) bytes.now) }
+        ensures within { IfOk result
+            (λ m. IsWithin m (state_of self.old) (state_of self.new) bytes.now) }
     {
         let byte = match bytes {
             [] => return Ok(Move::Stuck),
@@ -488,8 +517,10 @@ impl Reading {
     pub fn step(&mut self, alloc: Global, bytes: &[u8]) -> Result<Move, NoMemory>
         requires small { self.old.length < 2 ^ 32 }
         requires some { 0 < length bytes.now }
-        ensures value { IfOk result (λ m. seen m (state_of self.new) bytes.now ≡ spec.move (state_of self.old) bytes.now) }
-        ensures within { IfOk result (λ m. IsWithin m (state_of self.old) (state_of self.new) bytes.now) }
+        ensures value { IfOk result
+            (λ m. seen m (state_of self.new) bytes.now ≡ spec.move (state_of self.old) bytes.now) }
+        ensures within { IfOk result
+            (λ m. IsWithin m (state_of self.old) (state_of self.new) bytes.now) }
     {
         match self.mode {
             Mode::Between => Ok(self.between(alloc, bytes)),
@@ -565,7 +596,8 @@ impl Reading {
 // The entity whose value comes next behind this text of a declaration: whether it is a parameter
 // entity, and its name.
 fn entity_before(alloc: Global, text: &[u8]) -> Result<Option<(bool, Bytes)>, NoMemory>
-    ensures { IfOk result (λ found. entity_found found ≡ places.value_of (places.entity_of (tokens text.now))) }
+    ensures { IfOk result
+        (λ found. entity_found found ≡ places.value_of (places.entity_of (tokens text.now))) }
 {
     let tokens = tokens_of(alloc, text)?;
     match valued(tokens.as_slice()) {

@@ -48,7 +48,8 @@ impl<'d> IndexedDtd<'d> {
     /// The place of the element of this name among the declared ones; none where none is
     /// declared (XML 1.0, 3.2).
     pub fn element(&self, name: &[char]) -> Option<usize>
-        ensures { result ≡ position (bytes_eq name.now) (names_of_rules (table_of self.now.dtd.now).elements) }
+        ensures { result ≡ position (bytes_eq name.now)
+            (names_of_rules (table_of self.now.dtd.now).elements) }
     {
         self.elements.place(name)
     }

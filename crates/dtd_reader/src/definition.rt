@@ -34,13 +34,16 @@ fn refusal_of(refusal: TableRefusal) -> DtdRefusal
 ///
 /// Each of [`DtdRefusal`] with its cause. Where several causes hold, those of files and references
 /// and of the text up to there are told before those of the declarations. `NotDtd` has the first
-/// place of a fault up to where the text breaks; a declaration before is judged by the elements that
-/// are declared up to there.
+/// place of a fault up to where the text breaks; a declaration before is judged by the elements
+/// that are declared up to there.
 pub fn read_dtd<F: Files>(alloc: Global, files: &mut F, name: &str) -> Result<Dtd, DtdRefusal>
-    ensures spelled { IfOk result (λ dtd. DtdSpells (F.content files.old) name.now (tables.table_of dtd)) }
-    ensures calm { IfOk result (λ dtd. IsCalm (source_call (F.content files.old) (F.faults files.old) (F.faults files.new)
+    ensures spelled { IfOk result
+        (λ dtd. DtdSpells (F.content files.old) name.now (tables.table_of dtd)) }
+    ensures calm { IfOk result
+        (λ dtd. IsCalm (source_call (F.content files.old) (F.faults files.old) (F.faults files.new)
         (F.misses files.old) (F.misses files.new))) }
-    ensures refused { IfErr result (IsCause (source_call (F.content files.old) (F.faults files.old) (F.faults files.new)
+    ensures refused { IfErr result
+        (IsCause (source_call (F.content files.old) (F.faults files.old) (F.faults files.new)
         (F.misses files.old) (F.misses files.new)) name.now) }
     ensures same { F.content files.new ≡ F.content files.old }
 {

@@ -42,7 +42,9 @@ impl Frames {
     /// Opens an entity that is not open.
     pub fn open(&mut self, name: Bytes, rest: Rest) -> Result<(), NoMemory>
         requires { is_among (names (frames_of self.old)) name ≡ false }
-        ensures { IfOk result (λ done. frames_of self.new ≡ record { name = name; rest = drop rest.at rest.text } ∷ frames_of self.old) }
+        ensures { IfOk result
+            (λ done. frames_of self.new ≡ record { name = name; rest = drop rest.at rest.text }
+            ∷ frames_of self.old) }
     {
         self.frames.insert(name, rest)?;
         Ok(())
@@ -51,7 +53,8 @@ impl Frames {
     /// Closes the last entity.
     pub fn close(&mut self) -> Option<Rest>
         ensures { MatchOption result (frames_of self.old ≡ [])
-            (λ rest. (f : Frame) × (frames_of self.old ≡ f ∷ frames_of self.new) × (f.rest ≡ drop rest.at rest.text)) }
+            (λ rest. (f : Frame) × (frames_of self.old ≡ f ∷ frames_of self.new)
+            × (f.rest ≡ drop rest.at rest.text)) }
     {
         match self.frames.pop() {
             Some((_, rest)) => Some(rest),

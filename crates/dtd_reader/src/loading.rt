@@ -21,7 +21,8 @@ fn text_behind(alloc: Global, whole: &[u8]) -> Result<Bytes, NoMemory>
 /// The text of this file behind its text declaration, or why it was not read.
 pub fn load<F: Files>(alloc: Global, files: &mut F, system: &str) -> Result<Found, NoMemory>
     ensures loaded { IfOk result (IsLoaded (F.content files.old) system.now) }
-    ensures counted { Counted FoundCounts (source_call (F.content files.old) (F.faults files.old) (F.faults files.new)
+    ensures counted { Counted FoundCounts
+        (source_call (F.content files.old) (F.faults files.old) (F.faults files.new)
         (F.misses files.old) (F.misses files.new)) result }
     ensures same { F.content files.new ≡ F.content files.old }
 {

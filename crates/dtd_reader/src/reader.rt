@@ -42,11 +42,13 @@ impl Reader {
 
     // The end of the text of an entity, or of the whole.
     fn close(&mut self) -> Result<Outcome, NoMemory>
-        requires small { (self.old.reading.length ≤ REPLACED_LIMIT) × (self.old.reading.references ≤ REPLACED_LIMIT) }
+        requires small { (self.old.reading.length ≤ REPLACED_LIMIT)
+            × (self.old.reading.references ≤ REPLACED_LIMIT) }
         requires at { length self.old.text ≤ self.old.at }
         ensures nearer { IfOk result (λ o. IsNearer o (position_of self.old) (position_of self.new)) }
         ensures counted { (call : SourceCall) → IsCalm call → Counted OutcomeCounts call result }
-        ensures told { (content : Content) (file : List ℕ) → SoFar content file (position_of self.old) →
+        ensures told { (content : Content) (file : List ℕ)
+            → SoFar content file (position_of self.old) →
             IfOk result (λ o. Told content file o (position_of self.old) (position_of self.new)) }
     {
         match self.frames.close() {
@@ -62,10 +64,12 @@ impl Reader {
 
     // Into the text of an entity, whose reference has so many bytes.
     fn enter(&mut self, name: Bytes, text: Bytes, n: usize) -> Result<(), NoMemory>
-        requires small { (self.old.reading.length < 2 ^ 32) × (self.old.reading.references < 2 ^ 32) }
+        requires small { (self.old.reading.length < 2 ^ 32)
+            × (self.old.reading.references < 2 ^ 32) }
         requires fits { self.old.at + n ≤ length self.old.text }
         requires shut { is_among (names (frames_of self.old.frames)) name ≡ false }
-        ensures { IfOk result (λ done. position_of self.new ≡ entered (position_of self.old) name text n) }
+        ensures { IfOk result
+            (λ done. position_of self.new ≡ entered (position_of self.old) name text n) }
     {
         self.reading.enter()?;
         let text = mem::replace(&mut self.text, text);
@@ -77,8 +81,11 @@ impl Reader {
 
     // The text of an entity that is declared so far and is not open.
     fn find<F: Files>(&self, alloc: Global, files: &mut F, name: &Bytes) -> Result<Found, NoMemory>
-        ensures found { IfOk result (IsFound (F.content files.old) (state_of self.now.reading) (frames_of self.now.frames) name.now) }
-        ensures counted { Counted FoundCounts (source_call (F.content files.old) (F.faults files.old) (F.faults files.new)
+        ensures found { IfOk result
+            (IsFound (F.content files.old) (state_of self.now.reading) (frames_of self.now.frames)
+            name.now) }
+        ensures counted { Counted FoundCounts
+            (source_call (F.content files.old) (F.faults files.old) (F.faults files.new)
             (F.misses files.old) (F.misses files.new)) result }
         ensures same { F.content files.new ≡ F.content files.old }
     {
@@ -99,14 +106,17 @@ impl Reader {
         files: &mut F,
         n: usize,
     ) -> Result<Outcome, NoMemory>
-        requires small { (self.old.reading.length ≤ REPLACED_LIMIT) × (self.old.reading.references ≤ REPLACED_LIMIT) }
+        requires small { (self.old.reading.length ≤ REPLACED_LIMIT)
+            × (self.old.reading.references ≤ REPLACED_LIMIT) }
         requires some { self.old.at + (2 + n) ≤ length self.old.text }
         requires opens { move (state_of self.old.reading) (drop self.old.at self.old.text)
             ≡ opens (take n (drop 1 (drop self.old.at self.old.text))) (2 + n) }
         ensures told { (file : List ℕ) → SoFar (F.content files.old) file (position_of self.old) →
-            IfOk result (λ o. Told (F.content files.old) file o (position_of self.old) (position_of self.new)) }
+            IfOk result (λ o. Told (F.content files.old) file o (position_of self.old)
+            (position_of self.new)) }
         ensures nearer { IfOk result (λ o. IsNearer o (position_of self.old) (position_of self.new)) }
-        ensures counted { Counted OutcomeCounts (source_call (F.content files.old) (F.faults files.old) (F.faults files.new)
+        ensures counted { Counted OutcomeCounts
+            (source_call (F.content files.old) (F.faults files.old) (F.faults files.new)
             (F.misses files.old) (F.misses files.new)) result }
         ensures same { F.content files.new ≡ F.content files.old }
     {
@@ -126,12 +136,15 @@ impl Reader {
 
     // What stands at the head of the text.
     fn take<F: Files>(&mut self, alloc: Global, files: &mut F) -> Result<Outcome, NoMemory>
-        requires small { (self.old.reading.length ≤ REPLACED_LIMIT) × (self.old.reading.references ≤ REPLACED_LIMIT) }
+        requires small { (self.old.reading.length ≤ REPLACED_LIMIT)
+            × (self.old.reading.references ≤ REPLACED_LIMIT) }
         requires at { self.old.at < length self.old.text }
         ensures told { (file : List ℕ) → SoFar (F.content files.old) file (position_of self.old) →
-            IfOk result (λ o. Told (F.content files.old) file o (position_of self.old) (position_of self.new)) }
+            IfOk result (λ o. Told (F.content files.old) file o (position_of self.old)
+            (position_of self.new)) }
         ensures nearer { IfOk result (λ o. IsNearer o (position_of self.old) (position_of self.new)) }
-        ensures counted { Counted OutcomeCounts (source_call (F.content files.old) (F.faults files.old) (F.faults files.new)
+        ensures counted { Counted OutcomeCounts
+            (source_call (F.content files.old) (F.faults files.old) (F.faults files.new)
             (F.misses files.old) (F.misses files.new)) result }
         ensures same { F.content files.new ≡ F.content files.old }
     {
@@ -151,11 +164,14 @@ impl Reader {
 
     /// One step of the reading.
     pub fn advance<F: Files>(&mut self, alloc: Global, files: &mut F) -> Result<Outcome, NoMemory>
-        requires small { (self.old.reading.length ≤ REPLACED_LIMIT) × (self.old.reading.references ≤ REPLACED_LIMIT) }
+        requires small { (self.old.reading.length ≤ REPLACED_LIMIT)
+            × (self.old.reading.references ≤ REPLACED_LIMIT) }
         ensures told { (file : List ℕ) → SoFar (F.content files.old) file (position_of self.old) →
-            IfOk result (λ o. Told (F.content files.old) file o (position_of self.old) (position_of self.new)) }
+            IfOk result (λ o. Told (F.content files.old) file o (position_of self.old)
+            (position_of self.new)) }
         ensures nearer { IfOk result (λ o. IsNearer o (position_of self.old) (position_of self.new)) }
-        ensures counted { Counted OutcomeCounts (source_call (F.content files.old) (F.faults files.old) (F.faults files.new)
+        ensures counted { Counted OutcomeCounts
+            (source_call (F.content files.old) (F.faults files.old) (F.faults files.new)
             (F.misses files.old) (F.misses files.new)) result }
         ensures same { F.content files.new ≡ F.content files.old }
     {

@@ -23,7 +23,8 @@ use text_base::Bytes;
 // The refusal of a file that was not read.
 fn unread(name: Bytes, fault: FileFault) -> DtdRefusal
     ensures first { (call : SourceCall) → IsUnread call name fault → IsReadCause call name result }
-    ensures asked { (call : SourceCall) (file : List ℕ) → Asks call.content file name → IsUnread call name fault →
+    ensures asked { (call : SourceCall) (file : List ℕ) → Asks call.content file name
+        → IsUnread call name fault →
         IsTextCause call file result }
 {
     match fault {
@@ -44,8 +45,10 @@ fn is_between(reading: &Reading) -> bool
 
 // Whether the text so far is within the limits.
 fn is_within_limits(reading: &Reading) -> bool
-    ensures within { result ≡ true → (reading.now.length ≤ REPLACED_LIMIT) × (reading.now.references ≤ REPLACED_LIMIT) }
-    ensures over { result ≡ false → (REPLACED_LIMIT < reading.now.length) ⊎ (REPLACED_LIMIT < reading.now.references) }
+    ensures within { result ≡ true → (reading.now.length ≤ REPLACED_LIMIT)
+        × (reading.now.references ≤ REPLACED_LIMIT) }
+    ensures over { result ≡ false → (REPLACED_LIMIT < reading.now.length)
+        ⊎ (REPLACED_LIMIT < reading.now.references) }
 {
     if reading.length > REPLACED_LIMIT {
         return false;
@@ -56,7 +59,8 @@ fn is_within_limits(reading: &Reading) -> bool
 // How many bytes or references there are, where there are too many.
 fn most(reading: &Reading) -> u64
     ensures { (REPLACED_LIMIT < reading.now.length) ⊎ (REPLACED_LIMIT < reading.now.references) →
-        (REPLACED_LIMIT < result) × ((result ≤ reading.now.length) ⊎ (result ≤ reading.now.references)) }
+        (REPLACED_LIMIT < result)
+        × ((result ≤ reading.now.length) ⊎ (result ≤ reading.now.references)) }
 {
     if reading.length < reading.references {
         reading.references
@@ -68,7 +72,8 @@ fn most(reading: &Reading) -> u64
 // The first fault of a text that breaks behind these declarations.
 fn first_fault(alloc: Global, reading: &Reading) -> DtdRefusal
     ensures { (call : SourceCall) (file : List ℕ) → Comes call.content file (state_of reading.now) →
-        Breaks call.content file (state_of reading.now).begun → IsCalm call → IsTextCause call file result }
+        Breaks call.content file (state_of reading.now).begun → IsCalm call
+        → IsTextCause call file result }
 {
     match first_refused(alloc, reading.written.as_slice()) {
         Ok(first) => DtdRefusal::NotDtd {
@@ -80,7 +85,8 @@ fn first_fault(alloc: Global, reading: &Reading) -> DtdRefusal
 
 // The end of the text, which is to stand between declarations.
 fn ended(alloc: Global, reading: Reading) -> Result<Reading, DtdRefusal>
-    ensures { (call : SourceCall) (file : List ℕ) → Reads call.content [] start file (state_of reading) →
+    ensures { (call : SourceCall) (file : List ℕ)
+        → Reads call.content [] start file (state_of reading) →
         IsWithinLimits (state_of reading) → IsCalm call → IsTextAnswer call file result }
 {
     if is_between(&reading) {
@@ -92,7 +98,8 @@ fn ended(alloc: Global, reading: Reading) -> Result<Reading, DtdRefusal>
 
 // Reads a text to its end.
 fn read_from<F: Files>(alloc: Global, files: &mut F, text: Bytes) -> Result<Reading, DtdRefusal>
-    ensures answer { IsTextAnswer (source_call (F.content files.old) (F.faults files.old) (F.faults files.new)
+    ensures answer { IsTextAnswer
+        (source_call (F.content files.old) (F.faults files.old) (F.faults files.new)
         (F.misses files.old) (F.misses files.new)) text result }
     ensures same { F.content files.new ≡ F.content files.old }
 {
@@ -126,7 +133,8 @@ fn read_from<F: Files>(alloc: Global, files: &mut F, text: Bytes) -> Result<Read
 /// `LeftOut` for what the text breaks, `Limit` where the replaced text has over 4,194,304 bytes or
 /// as many references were replaced, and `Memory`.
 pub fn read_text<F: Files>(alloc: Global, files: &mut F, name: &str) -> Result<Reading, DtdRefusal>
-    ensures answer { IsAnswer (source_call (F.content files.old) (F.faults files.old) (F.faults files.new)
+    ensures answer { IsAnswer
+        (source_call (F.content files.old) (F.faults files.old) (F.faults files.new)
         (F.misses files.old) (F.misses files.new)) name.now result }
     ensures same { F.content files.new ≡ F.content files.old }
 {

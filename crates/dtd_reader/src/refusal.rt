@@ -16,12 +16,12 @@ pub enum DtdRefusal {
     /// The file has over 1,048,576 bytes, at least `len`.
     #[error("a file of the document type definition has {len} bytes or more")]
     TooLong { name: Bytes, len: u64 },
-    /// What begins at this place is no declaration, comment or instruction (XML 1.0, 2.8): the first
-    /// place of which this holds.
+    /// What begins at this place is no declaration, comment or instruction (XML 1.0, 2.8): the
+    /// first place of which this holds.
     #[error("no document type definition stands at {at}")]
     NotDtd { at: u64 },
-    /// A parameter entity of this name is referred to, which is not declared so far, or which is open
-    /// (XML 1.0, 4.1).
+    /// A parameter entity of this name is referred to, which is not declared so far, or which is
+    /// open (XML 1.0, 4.1).
     #[error("a parameter entity is not declared, or refers to itself")]
     Entity { name: Bytes },
     /// An element of this name is declared twice (XML 1.0, 3.2).

@@ -1,6 +1,7 @@
-//! Laws of the tables of document type definitions, where the source tells what the names of a file hold: a file
-//! spells one table, and one that spells a table is refused for a limit or want of memory alone. The functions do
-//! nothing; each stands for the law that its contract states. Below stand dtd_texts, dtd_tables and dtd_reader.
+//! Laws of the tables of document type definitions, where the source tells what the names of a file
+//! hold: a file spells one table, and one that spells a table is refused for a limit or want of
+//! memory alone. The functions do nothing; each stands for the law that its contract states. Below
+//! stand dtd_texts, dtd_tables and dtd_reader.
 #![tactic(auto)]
 
 ghost use Rattle.std.specs.Prelude.{◌≡◌, ℕ, List};
@@ -18,21 +19,25 @@ ghost use Rattle.dtd_table_laws.specs.Certain.{AreTold, AreShort, IsForLimit};
 
 /// A file spells one table, where the names that it asks for are told of.
 pub fn one_table()
-    ensures { (content : Content) (name : List ℕ) (table other : Table) → AreTold content name → DtdSpells content name table →
+    ensures { (content : Content) (name : List ℕ) (table other : Table) → AreTold content name
+        → DtdSpells content name table →
         DtdSpells content name other → table ≡ other }
 {}
 
-/// A file that spells a table is refused for a limit or want of memory alone, where the names that it asks for are
-/// told of and within the limit of a file, and the source does not fail.
+/// A file that spells a table is refused for a limit or want of memory alone, where the names that
+/// it asks for are told of and within the limit of a file, and the source does not fail.
 pub fn refused_for_limits()
-    ensures { (call : SourceCall) (name : List ℕ) (table : Table) (refusal : DtdRefusal) → AreTold call.content name →
-        AreShort call.content name → DtdSpells call.content name table → (Rises call.faults call.faults' → ⊥) →
+    ensures { (call : SourceCall) (name : List ℕ) (table : Table) (refusal : DtdRefusal)
+        → AreTold call.content name →
+        AreShort call.content name → DtdSpells call.content name table
+        → (Rises call.faults call.faults' → ⊥) →
         IsCause call name refusal → IsForLimit call.content name refusal }
 {}
 
 /// Where declarations say something, each of them does, and no element stands twice.
 pub fn nothing_wrong()
-    ensures each { (written : List Written) (says : List Said) (at : ℕ) (how : Went Said) → Says written says →
+    ensures each { (written : List Written) (says : List Said) (at : ℕ) (how : Went Said)
+        → Says written says →
         GoesWrong written at how → (s : Said) × (how ≡ leads s) }
     ensures once { (written : List Written) (says : List Said) (name : List ℕ) → Says written says →
         ¬ StandsTwice (element_names written) name }

@@ -33,9 +33,12 @@ fn push(rules: &mut Vec<AttrRule>, rule: AttrRule) -> Result<(), NoMemory>
 // Puts an attribute behind the others, where none of its name is there.
 fn add(rules: &mut Vec<AttrRule>, rule: AttrRule) -> Result<(), TableRefusal>
     requires { length rules.old.items ≤ attribute_limit }
-    ensures added { IfOk result (λ done. map declared_of rules.new.items ≡ with_one (map declared_of rules.old.items) (declared_of rule)) }
+    ensures added { IfOk result
+        (λ done. map declared_of rules.new.items
+        ≡ with_one (map declared_of rules.old.items) (declared_of rule)) }
     ensures few { IfOk result (λ done. length rules.new.items ≤ attribute_limit) }
-    ensures many { IfErr result (IsCrowded (with_one (map declared_of rules.old.items) (declared_of rule))) }
+    ensures many { IfErr result
+        (IsCrowded (with_one (map declared_of rules.old.items) (declared_of rule))) }
 {
     if is_declared(rules.as_slice(), &rule.name) {
         return Ok(());
@@ -53,7 +56,9 @@ pub fn add_all(rules: &mut Vec<AttrRule>, more: Vec<AttrRule>) -> Result<(), Tab
     ensures added { IfOk result (λ done. map declared_of rules.new.items
         ≡ spec.with_others (map declared_of rules.old.items) (map declared_of more.items)) }
     ensures few { IfOk result (λ done. length rules.new.items ≤ attribute_limit) }
-    ensures many { IfErr result (IsCrowded (spec.with_others (map declared_of rules.old.items) (map declared_of more.items))) }
+    ensures many { IfErr result
+        (IsCrowded (spec.with_others (map declared_of rules.old.items)
+        (map declared_of more.items))) }
 {
     for rule in more {
         add(rules, rule)?;

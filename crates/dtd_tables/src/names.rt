@@ -30,8 +30,10 @@ fn put(alloc: Global, names: &mut Names, written: &Written) -> Result<(), TableR
 /// The names of the elements that are declared, which differ, in order.
 pub fn names_of(alloc: Global, written: &[Written]) -> Result<Names, TableRefusal>
     ensures names { IfOk result (λ names. names ≡ element_names (map written_of written.now)) }
-    ensures once { IfOk result (λ names. is_distinct (element_names (map written_of written.now)) ≡ true) }
-    ensures few { IfOk result (λ names. length (element_names (map written_of written.now)) ≤ element_limit) }
+    ensures once { IfOk result
+        (λ names. is_distinct (element_names (map written_of written.now)) ≡ true) }
+    ensures few { IfOk result
+        (λ names. length (element_names (map written_of written.now)) ≤ element_limit) }
     ensures refused { IfErr result (IsNameCause (element_names (map written_of written.now))) }
 {
     let mut names = Names::new(alloc);

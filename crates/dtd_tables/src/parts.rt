@@ -104,8 +104,10 @@ pub fn parts_of(alloc: Global, names: &Names, written: &[Written]) -> Result<Par
 
 // Whether the text is no declaration, where these elements are declared.
 fn is_refused(alloc: Global, names: &Names, one: &Written) -> Result<bool, NoMemory>
-    ensures refused { IfOk result (λ b. b ≡ true → spec.said names.now (written_of one.now).text ≡ refused) }
-    ensures other { IfOk result (λ b. b ≡ false → spec.said names.now (written_of one.now).text ≢ refused) }
+    ensures refused { IfOk result
+        (λ b. b ≡ true → spec.said names.now (written_of one.now).text ≡ refused) }
+    ensures other { IfOk result
+        (λ b. b ≡ false → spec.said names.now (written_of one.now).text ≢ refused) }
 {
     match read_declaration(alloc, names, one.text.as_slice()) {
         Ok(_) => Ok(false),
@@ -115,8 +117,10 @@ fn is_refused(alloc: Global, names: &Names, one: &Written) -> Result<bool, NoMem
 
 // Whether the fault is that of a text that is no declaration.
 fn is_refusal(fault: Fault) -> Result<bool, NoMemory>
-    ensures refused { (w : Went SpecSaid) → WentWrong fault w → IfOk result (λ b. b ≡ true → w ≡ refused) }
-    ensures other { (w : Went SpecSaid) → WentWrong fault w → IfOk result (λ b. b ≡ false → w ≢ refused) }
+    ensures refused { (w : Went SpecSaid) → WentWrong fault w
+        → IfOk result (λ b. b ≡ true → w ≡ refused) }
+    ensures other { (w : Went SpecSaid) → WentWrong fault w
+        → IfOk result (λ b. b ≡ false → w ≢ refused) }
 {
     match fault {
         Fault::Refused => Ok(true),
@@ -130,7 +134,9 @@ fn is_refusal(fault: Fault) -> Result<bool, NoMemory>
 // Where the first of these declarations begins that is none, where these elements are declared.
 fn refused_among(alloc: Global, names: &Names, written: &[Written]) -> Result<Option<u64>, NoMemory>
     requires { names.now ≡ element_names (map written_of written.now) }
-    ensures { IfOk result (λ at. MatchOption at (NoneRefused (map written_of written.now)) (FirstRefused (map written_of written.now))) }
+    ensures { IfOk result
+        (λ at. MatchOption at (NoneRefused (map written_of written.now))
+        (FirstRefused (map written_of written.now))) }
 {
     for one in written {
         if is_refused(alloc, names, one)? {
@@ -158,7 +164,9 @@ fn not_judged(refusal: TableRefusal) -> Result<Option<u64>, NoMemory>
 /// Where the first of these declarations begins that is none of XML 1.0 (3.2 and 3.3), in time
 /// linear in their text; none where no such is found, as where an element is declared twice.
 pub fn first_refused(alloc: Global, written: &[Written]) -> Result<Option<u64>, NoMemory>
-    ensures { IfOk result (λ at. MatchOption at (NoneRefused (map written_of written.now)) (FirstRefused (map written_of written.now))) }
+    ensures { IfOk result
+        (λ at. MatchOption at (NoneRefused (map written_of written.now))
+        (FirstRefused (map written_of written.now))) }
 {
     match names_of(alloc, written) {
         Ok(names) => refused_among(alloc, &names, written),

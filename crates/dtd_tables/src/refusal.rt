@@ -13,8 +13,8 @@ pub enum TableRefusal {
     Refused(u64),
     /// What begins at this place is left out by this project.
     LeftOut(u64),
-    /// Over 1,024 elements, 64 attributes of an element, or 200 open brackets in a content model: at
-    /// least so many.
+    /// Over 1,024 elements, 64 attributes of an element, or 200 open brackets in a content model:
+    /// at least so many.
     Limit(u64),
     /// No memory was left.
     Memory,

@@ -44,7 +44,8 @@ pub fn table_of(
     generals: &IndexSet<Bytes>,
 ) -> Result<Dtd, TableRefusal>
     requires { are_names generals.now.keys ≡ true }
-    ensures table { IfOk result (λ dtd. IsTable (map written_of written.now) generals.now.keys (tables.table_of dtd)) }
+    ensures table { IfOk result
+        (λ dtd. IsTable (map written_of written.now) generals.now.keys (tables.table_of dtd)) }
     ensures refused { IfErr result (IsTableCause (map written_of written.now)) }
 {
     let names = names_of(alloc, written)?;

@@ -137,7 +137,8 @@ fn entities_that_double_unseen(rt: HostRuntime) -> Result<(), Fail> {
     Ok(())
 }
 
-// 4,194,303 references are replaced, and one level more, 8,388,607, passes the limit of 4,194,304: within entity values they add no byte.
+// 4,194,303 references are replaced, and one level more, 8,388,607, passes the limit of 4,194,304:
+// within entity values they add no byte.
 #[test]
 fn references_at_their_limit(rt: HostRuntime) -> Result<(), Fail> {
     let most = doubling_unseen(rt.alloc(), 21)?;

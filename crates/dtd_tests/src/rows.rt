@@ -91,7 +91,8 @@ x => NotDtd 0
     Ok(())
 }
 
-// The examples of XML 1.0 (3.2, 3.2.1, 3.2.2, 3.3, 4.2, 4.4.5, 4.5 and appendix D), where they declare what they name.
+// The examples of XML 1.0 (3.2, 3.2.1, 3.2.2, 3.3, 4.2, 4.4.5, 4.5 and appendix D), where they
+// declare what they name.
 #[test]
 fn examples_of_xml(rt: HostRuntime) -> Result<(), Fail> {
     let rows = r#"<!ELEMENT br EMPTY> => Ok br Empty

@@ -18,7 +18,8 @@ pub fn one_reading()
 pub fn nothing_refused()
     ensures broken { (content : Content) (file : List ℕ) (last : State) (at : ℕ) → IsTold content →
         ReadsAll content file last → ¬ Breaks content file at }
-    ensures left_out { (content : Content) (file : List ℕ) (last : State) (at : ℕ) → IsTold content →
+    ensures left_out { (content : Content) (file : List ℕ) (last : State) (at : ℕ) → IsTold content
+        →
         ReadsAll content file last → ¬ Omits content file at }
     ensures missed { (content : Content) (file name : List ℕ) (last : State) → IsTold content →
         ReadsAll content file last → ¬ Misses content file name }
@@ -33,5 +34,6 @@ pub fn nothing_missing()
 /// On the way the replaced text is never longer than in the end, nor are more references replaced.
 pub fn never_larger()
     ensures { (content : Content) (file : List ℕ) (s last : State) → IsTold content →
-        ReadsAll content file last → Comes content file s → (s.length ≤ last.length) × (s.references ≤ last.references) }
+        ReadsAll content file last → Comes content file s → (s.length ≤ last.length)
+        × (s.references ≤ last.references) }
 {}

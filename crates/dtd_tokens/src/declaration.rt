@@ -46,7 +46,8 @@ fn is_encoding(tokens: &[Token<'_>]) -> bool
 
 // What stands behind `xml`.
 fn is_version(tokens: &[Token<'_>]) -> bool
-    ensures { result ≡ spec.is_version (spec.setting (codes "version") (tokens_of tokens.now)) (tokens_of tokens.now) }
+    ensures { result ≡ spec.is_version (spec.setting (codes "version") (tokens_of tokens.now))
+        (tokens_of tokens.now) }
 {
     match setting(b"version", tokens) {
         Some((value, others)) => value == b"1.0".as_slice()

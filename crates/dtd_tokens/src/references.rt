@@ -63,8 +63,10 @@ fn digit(byte: u8) -> u32
 fn number(base: u32, digits: &[u8]) -> u32
     requires base { (1 ≤ base) × (base ≤ 16) }
     requires digits { list_all is_ascii_hexdigit digits.now ≡ true }
-    ensures same { characters.is_character result ≡ characters.is_character (number_written base 0 digits.now) }
-    ensures value { characters.is_character result ≡ true → result ≡ number_written base 0 digits.now }
+    ensures same { characters.is_character result
+        ≡ characters.is_character (number_written base 0 digits.now) }
+    ensures value { characters.is_character result ≡ true → result
+        ≡ number_written base 0 digits.now }
 {
     let mut so_far = 0;
     let mut rest = digits;
@@ -116,8 +118,10 @@ fn decimal_digits(bytes: &[u8]) -> usize
 #[tactic(auto, using(crate::proofs::Numbers::all_hexadecimal), unfolding(dtd_texts::specs::Heads::digits_length))]
 fn hexadecimal(bytes: &[u8]) -> Option<(char, usize)>
     ensures { MatchOption result (spec.hexadecimal_length bytes.now ≡ 0) (λ found.
-        (found.0 ≡ number_written 16 0 (take (spec.hexadecimal_length bytes.now) (drop 3 bytes.now)))
-        × (found.1 ≡ spec.hexadecimal_length bytes.now) × (0 < found.1) × (found.1 + 4 ≤ length bytes.now)) }
+        (found.0 ≡ number_written 16 0
+        (take (spec.hexadecimal_length bytes.now) (drop 3 bytes.now)))
+        × (found.1 ≡ spec.hexadecimal_length bytes.now) × (0 < found.1)
+        × (found.1 + 4 ≤ length bytes.now)) }
 {
     let digits = behind(bytes, 3);
     let n = hexadecimal_digits(digits);
@@ -139,7 +143,8 @@ fn hexadecimal(bytes: &[u8]) -> Option<(char, usize)>
 fn decimal(bytes: &[u8]) -> Option<(char, usize)>
     ensures { MatchOption result (spec.decimal_length bytes.now ≡ 0) (λ found.
         (found.0 ≡ number_written 10 0 (take (spec.decimal_length bytes.now) (drop 2 bytes.now)))
-        × (found.1 ≡ spec.decimal_length bytes.now) × (0 < found.1) × (found.1 + 3 ≤ length bytes.now)) }
+        × (found.1 ≡ spec.decimal_length bytes.now) × (0 < found.1)
+        × (found.1 + 3 ≤ length bytes.now)) }
 {
     let digits = behind(bytes, 2);
     let n = decimal_digits(digits);
@@ -189,7 +194,8 @@ fn begins_character(bytes: &[u8]) -> bool
 
 // Whether a reference to a character or a general entity stands at the head.
 fn begins_reference(bytes: &[u8]) -> bool
-    ensures { result ≡ (nat_lt 0 (spec.character_length bytes.now) || nat_lt 0 (spec.entity_length bytes.now)) }
+    ensures { result ≡ (nat_lt 0 (spec.character_length bytes.now) || nat_lt 0
+        (spec.entity_length bytes.now)) }
 {
     begins_character(bytes) || 0 < entity_length(bytes)
 }

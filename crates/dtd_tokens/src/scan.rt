@@ -1,29 +1,14 @@
 //! What stands at the head of a slice.
 
-ghost use Rattle.std.specs.Prelude.{◌≡◌, ◌-◌, ◌<◌, ◌≤◌, min, take, drop, length, IsTrue, nat_eq, not, ◌==◌};
+ghost use Rattle.std.specs.Prelude.{◌≡◌, ◌<◌, ◌≤◌, length, IsTrue, nat_eq, not, ◌==◌};
 ghost use Rattle.std.specs.List.{prefix_len};
 ghost use Rattle.std.specs.Str.{str_eq_ignore_ascii_case};
 ghost use Rattle.xml_text.specs.Characters as characters;
 ghost use Rattle.xml_text.specs.Names as names;
 ghost use Rattle.dtd_texts.specs.Heads as spec;
 
+pub use byte_slices::{behind, front};
 use xml_text::{begins_name, in_name, is_blank};
-
-/// The bytes behind the first so many; none where there are fewer.
-pub fn behind(bytes: &[u8], n: usize) -> &[u8]
-    ensures value { result.now ≡ drop n bytes.now }
-    ensures len { length result.now ≡ length bytes.now - n }
-{
-    if n < bytes.len() { &bytes[n..] } else { &[] }
-}
-
-/// The first so many bytes; all where there are fewer.
-pub fn front(bytes: &[u8], n: usize) -> &[u8]
-    ensures value { result.now ≡ take n bytes.now }
-    ensures len { length result.now ≡ min n (length bytes.now) }
-{
-    if n < bytes.len() { &bytes[..n] } else { bytes }
-}
 
 /// Whether the bytes begin with this text.
 pub fn begins(bytes: &[u8], text: &[u8]) -> bool

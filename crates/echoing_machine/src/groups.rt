@@ -68,7 +68,8 @@ fn add_longer<S: Exact + Hash + Drop>(
     byte: u8,
 ) -> Result<(), NoMemory>
     requires { last.range.hi + 1 ≡ byte }
-    ensures { OnOk result (AddsByte (moves.old.items ++ last ∷ []) moves.new.items byte last.to last.out.items) }
+    ensures { OnOk result
+        (AddsByte (moves.old.items ++ last ∷ []) moves.new.items byte last.to last.out.items) }
 {
     let Move { range, out, to } = last;
     moves.push(Move {

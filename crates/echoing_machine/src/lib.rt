@@ -1,6 +1,7 @@
-//! A machine of any reader that goes from byte to byte: it puts out the text itself with the reader's tokens between its bytes, so that what a grammar derives
-//! under it holds each text of the grammar with its tokens. Contracts cite `tokens_over` of byte_readers. Below stand fst_core, sentence_writing, summary_fixpoint
-//! and byte_readers.
+//! A machine of any reader that goes from byte to byte: it puts out the text itself with the
+//! reader's tokens between its bytes, so that what a grammar derives under it holds each text of
+//! the grammar with its tokens. Contracts cite `tokens_over` of byte_readers. Below stand fst_core,
+//! sentence_writing, summary_fixpoint and byte_readers.
 #![tactic(auto)]
 
 mod groups;

@@ -14,7 +14,8 @@ use fst_core::{Machine, Move, Out};
 use std::alloc::Global;
 use text_base::{ByteRange, NoMemory};
 
-/// The machine that puts out what it reads, with the tokens of a reader before each byte at which they are put out, and behind the text.
+/// The machine that puts out what it reads, with the tokens of a reader before each byte at which
+/// they are put out, and behind the text.
 #[derive(Drop)]
 pub struct Echoing<R: ByteReader + Drop> {
     pub reader: R,
@@ -27,7 +28,9 @@ fn moves_by<R: ByteReader>(
     state: &R::State,
     range: ByteRange,
 ) -> Result<Vec<Move<R::State>>, NoMemory>
-    ensures { IfOk result (λ moves. AreMovesBelow (R.next reader.now state.now) (R.puts reader.now state.now) range.lo (range.hi + 1) moves.items) }
+    ensures { IfOk result
+        (λ moves. AreMovesBelow (R.next reader.now state.now) (R.puts reader.now state.now) range.lo
+        (range.hi + 1) moves.items) }
 {
     let mut moves = Vec::new(alloc);
     for byte in u16::from(range.lo)..u16::from(range.hi) + 1 {
@@ -86,7 +89,9 @@ impl<R: ByteReader + Drop> Machine for Echoing<R> {
     }
 }
 
-/// What the machine of a reader puts out over a text is the text with the reader's tokens between its bytes.
+/// What the machine of a reader puts out over a text is the text with the reader's tokens between
+/// its bytes.
 pub fn machine_echoes<R: ByteReader>(reader: &R)
-    ensures { IsEcho (R.next reader.now) (R.puts reader.now) (R.lasts reader.now) (R.first reader.now) }
+    ensures { IsEcho (R.next reader.now) (R.puts reader.now) (R.lasts reader.now)
+        (R.first reader.now) }
 {}

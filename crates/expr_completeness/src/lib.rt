@@ -1,8 +1,8 @@
 //! Each expression is read by the machine of `expr_machine`.
 //!
-//! `expressions_are_read` carries it as its contract: the terminals of a derivation, with nothing behind them that could
-//! go on with it, are read as far as the derivation goes, and the actions are those of the derivation. Below stand
-//! `expr_machine` and `script_grammar`.
+//! `expressions_are_read` carries it as its contract: the terminals of a derivation, with nothing
+//! behind them that could go on with it, are read as far as the derivation goes, and the actions
+//! are those of the derivation. Below stand `expr_machine` and `script_grammar`.
 #![tactic(auto)]
 
 ghost use Rattle.std.specs.Prelude.{◌≡◌, List, [], Some};

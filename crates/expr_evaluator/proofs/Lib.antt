@@ -1,5 +1,4 @@
 pub mod Runs
-pub mod IdentityLemmas
 pub mod TreeLemmas
 pub mod VariableLemmas
 pub mod Opening

@@ -17,7 +17,8 @@ use php_values::{Array, Text, Value};
 use std::alloc::Global;
 use text_base::{Bytes, NoMemory};
 
-// The value of a text literal. One that is longer than a text may be, which no file holds, wants memory.
+// The value of a text literal. One that is longer than a text may be, which no file holds, wants
+// memory.
 fn literal(alloc: Global, bytes: &Bytes) -> Result<Value, NoMemory>
     ensures { IfOk result (λ v. plain_of v ≡ Plain.text bytes.now) }
 {
@@ -86,7 +87,8 @@ pub fn begin<'a>(
     m: &mut Evaluator<'a>,
     e: &'a Expr,
 ) -> Result<Focus<'a>, NoMemory>
-    ensures { IfOk result (λ f. (fs : List PlainFunction) → Moves request.now fs (Focus.Eval e.entry) m.old f m.new) }
+    ensures { IfOk result
+        (λ f. (fs : List PlainFunction) → Moves request.now fs (Focus.Eval e.entry) m.old f m.new) }
 {
     match e {
         Expr::Null => Ok(Focus::Value(Value::Null)),

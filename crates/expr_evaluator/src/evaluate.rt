@@ -33,7 +33,9 @@ fn advance<'a>(
     m: &mut Evaluator<'a>,
     focus: Focus<'a>,
 ) -> Result<Moved<'a>, NoMemory>
-    ensures { IfOk result (λ n. Advances request.now (functions_of_list functions.now.all.now) focus.entry m.old n m.new) }
+    ensures { IfOk result
+        (λ n. Advances request.now (functions_of_list functions.now.all.now) focus.entry m.old n
+        m.new) }
 {
     match focus {
         Focus::Eval(e) => {
@@ -73,7 +75,9 @@ impl<'a> Evaluator<'a> {
         functions: &Functions<'a>,
         first: Focus<'a>,
     ) -> Result<Pause<'a>, NoMemory>
-        ensures { IfOk result (λ p. Pauses request.now (functions_of_list functions.now.all.now) first.entry self.old p self.new) }
+        ensures { IfOk result
+            (λ p. Pauses request.now (functions_of_list functions.now.all.now) first.entry self.old
+            p self.new) }
     {
         let mut focus = first;
         loop {
@@ -84,8 +88,8 @@ impl<'a> Evaluator<'a> {
         }
     }
 
-    /// Evaluates an expression up to its value, or to the next call of a function of the script. What is to come then is what
-    /// the meaning of the expression says.
+    /// Evaluates an expression up to its value, or to the next call of a function of the script.
+    /// What is to come then is what the meaning of the expression says.
     pub fn evaluate(
         &mut self,
         alloc: Global,
@@ -93,7 +97,9 @@ impl<'a> Evaluator<'a> {
         functions: &Functions<'a>,
         e: &'a Expr,
     ) -> Result<Pause<'a>, NoMemory>
-        ensures { IfOk result (λ p. Pauses request.now (functions_of_list functions.now.all.now) (Focus.Eval e.entry) self.old p self.new) }
+        ensures { IfOk result
+            (λ p. Pauses request.now (functions_of_list functions.now.all.now) (Focus.Eval e.entry)
+            self.old p self.new) }
     {
         self.go_on(alloc, request, functions, Focus::Eval(e))
     }
@@ -106,7 +112,9 @@ impl<'a> Evaluator<'a> {
         functions: &Functions<'a>,
         value: Value,
     ) -> Result<Pause<'a>, NoMemory>
-        ensures { IfOk result (λ p. Pauses request.now (functions_of_list functions.now.all.now) (Focus.Value value) self.old p self.new) }
+        ensures { IfOk result
+            (λ p. Pauses request.now (functions_of_list functions.now.all.now) (Focus.Value value)
+            self.old p self.new) }
     {
         self.go_on(alloc, request, functions, Focus::Value(value))
     }

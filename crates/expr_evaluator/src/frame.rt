@@ -21,7 +21,8 @@ pub enum Purpose<'a> {
 pub enum Writing<'a> {
     /// An assignment of the value of an expression to the variable.
     Assign(&'a Bytes, &'a Expr),
-    /// An assignment to the variable that reads its target first, by the expression of its right side.
+    /// An assignment to the variable that reads its target first, by the expression of its right
+    /// side.
     Update(UpdateSign, &'a Bytes, &'a Expr),
 }
 
@@ -34,7 +35,8 @@ pub enum Frame<'a> {
     Container(Value),
     /// Puts this item at the key that the value is into an array, and then the items behind it.
     ItemKey(&'a Expr, &'a [(Option<Expr>, Expr)], Array),
-    /// Puts the value at this key into an array, or behind the others, and then the items behind it.
+    /// Puts the value at this key into an array, or behind the others, and then the items behind
+    /// it.
     ItemValue(Option<Value>, &'a [(Option<Expr>, Expr)], Array),
     /// Goes on with the expressions of a row behind these values and the value.
     Row(Purpose<'a>, &'a [Expr], Vec<Value>),
@@ -60,11 +62,13 @@ pub enum Frame<'a> {
     Or(&'a Expr),
     /// Goes on with the right side where the value is null.
     Coalesce(&'a Expr),
-    /// Goes on with the first, or gives the value where there is none, where the value is true, and else with the second.
+    /// Goes on with the first, or gives the value where there is none, where the value is true, and
+    /// else with the second.
     Choice(Option<&'a Expr>, &'a Expr),
     /// Writes the value to the variable at the end of these subscripts.
     Assign(&'a Bytes, Vec<Option<Value>>),
-    /// Writes what the sign makes of this old value and the value to the variable at the end of this path.
+    /// Writes what the sign makes of this old value and the value to the variable at the end of
+    /// this path.
     Update(UpdateSign, &'a Bytes, Vec<Option<Key>>, Value),
 }
 

@@ -16,8 +16,10 @@ impl<'a> Functions<'a> {
     /// The first function of a name, which is in lower case.
     #[tactic(auto, unfolding(script_meaning::specs::Programs::function_named))]
     pub fn named(&self, name: &[u8]) -> Option<&'a FunctionDef>
-        ensures { MatchOption result (function_named (functions_of_list self.now.all.now) name.now ≡ None)
-            (λ f. function_named (functions_of_list self.now.all.now) name.now ≡ Some (plain_function f.now)) }
+        ensures { MatchOption result
+            (function_named (functions_of_list self.now.all.now) name.now ≡ None)
+            (λ f. function_named (functions_of_list self.now.all.now) name.now
+            ≡ Some (plain_function f.now)) }
     {
         let mut rest = self.all;
         while let Some((first, others)) = rest.split_first() {

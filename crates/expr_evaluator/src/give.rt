@@ -24,7 +24,9 @@ pub fn give<'a>(
     frame: Frame<'a>,
     value: Value,
 ) -> Result<Focus<'a>, NoMemory>
-    ensures { IfOk result (λ f. (r : PlainRequest) (fs : List PlainFunction) → Takes r fs (plain_of value) frame.entry m.old f m.new) }
+    ensures { IfOk result
+        (λ f. (r : PlainRequest) (fs : List PlainFunction)
+        → Takes r fs (plain_of value) frame.entry m.old f m.new) }
 {
     match frame {
         Frame::Subscript(subscript) => {

@@ -41,7 +41,9 @@ pub fn items<'a>(
     rest: &'a [(Option<Expr>, Expr)],
     made: Array,
 ) -> Result<Focus<'a>, NoMemory>
-    ensures { IfOk result (λ f. (r : PlainRequest) (fs : List PlainFunction) → Moves r fs (Focus.Items rest.entry made) m.old f m.new) }
+    ensures { IfOk result
+        (λ f. (r : PlainRequest) (fs : List PlainFunction)
+        → Moves r fs (Focus.Items rest.entry made) m.old f m.new) }
 {
     match rest.split_first() {
         None => Ok(Focus::Value(Value::Array(made))),

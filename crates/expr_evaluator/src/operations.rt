@@ -33,8 +33,10 @@ pub fn failed<'a>(fault: Fault) -> Result<Focus<'a>, NoMemory>
 
 #[tactic(auto, unfolding(script_meaning::specs::Expressions::arithmetic))]
 fn arithmetic_value(sign: ArithSign, a: &Value, b: &Value) -> Result<Value, Fault>
-    ensures ok { IfOk result (λ v. spec.arithmetic sign (plain_of a.now) (plain_of b.now) ≡ Ok (plain_of v)) }
-    ensures err { IfErr result (λ fault. spec.arithmetic sign (plain_of a.now) (plain_of b.now) ≡ Err fault) }
+    ensures ok { IfOk result
+        (λ v. spec.arithmetic sign (plain_of a.now) (plain_of b.now) ≡ Ok (plain_of v)) }
+    ensures err { IfErr result
+        (λ fault. spec.arithmetic sign (plain_of a.now) (plain_of b.now) ≡ Err fault) }
 {
     match sign {
         ArithSign::Add => sum(a, b),
@@ -63,7 +65,8 @@ fn is_same(a: &Value, b: &Value) -> bool
 
 #[tactic(auto, unfolding(script_meaning::specs::Expressions::comparison))]
 fn comparison_answer(alloc: Global, sign: CompareSign, a: &Value, b: &Value) -> Result<bool, Fault>
-    ensures ok { IfOk result (λ answer. spec.comparison sign (plain_of a.now) (plain_of b.now) ≡ Ok answer) }
+    ensures ok { IfOk result
+        (λ answer. spec.comparison sign (plain_of a.now) (plain_of b.now) ≡ Ok answer) }
     ensures err { IfErr result (λ fault. (fault ≡ Fault.Memory)
         ⊎ (spec.comparison sign (plain_of a.now) (plain_of b.now) ≡ Err fault)) }
 {
@@ -86,7 +89,8 @@ pub fn comparison<'a>(
     a: &Value,
     b: &Value,
 ) -> Result<Focus<'a>, NoMemory>
-    ensures { IfOk result (λ f. TellsFlag f (spec.comparison sign (plain_of a.now) (plain_of b.now))) }
+    ensures { IfOk result
+        (λ f. TellsFlag f (spec.comparison sign (plain_of a.now) (plain_of b.now))) }
 {
     match comparison_answer(alloc, sign, a, b) {
         Ok(answer) => Ok(Focus::Value(Value::Flag(answer))),
@@ -105,7 +109,9 @@ pub fn negation<'a>(a: &Value) -> Result<Focus<'a>, NoMemory>
 }
 
 fn member_value(alloc: Global, container: &Value, subscript: &Value) -> Result<Value, Fault>
-    ensures ok { IfOk result (λ v. paths.subscript_of (plain_of container.now) (plain_of subscript.now) ≡ Ok (plain_of v)) }
+    ensures ok { IfOk result
+        (λ v. paths.subscript_of (plain_of container.now) (plain_of subscript.now)
+        ≡ Ok (plain_of v)) }
     ensures err { IfErr result (λ fault. (fault ≡ Fault.Memory)
         ⊎ (paths.subscript_of (plain_of container.now) (plain_of subscript.now) ≡ Err fault)) }
 {
@@ -119,7 +125,8 @@ pub fn member<'a>(
     container: &Value,
     subscript: &Value,
 ) -> Result<Focus<'a>, NoMemory>
-    ensures { IfOk result (λ f. Tells f (paths.subscript_of (plain_of container.now) (plain_of subscript.now))) }
+    ensures { IfOk result
+        (λ f. Tells f (paths.subscript_of (plain_of container.now) (plain_of subscript.now))) }
 {
     match member_value(alloc, container, subscript) {
         Ok(value) => Ok(Focus::Value(value)),
@@ -134,7 +141,8 @@ pub fn with_item(
     key: &Option<Value>,
     new: Value,
 ) -> Result<Array, Fault>
-    ensures ok { IfOk result (λ a. paths.add_item (array made) (plain_maybe key.now) (plain_of new) ≡ Ok (array a)) }
+    ensures ok { IfOk result
+        (λ a. paths.add_item (array made) (plain_maybe key.now) (plain_of new) ≡ Ok (array a)) }
     ensures err { IfErr result (λ fault. (fault ≡ Fault.Memory)
         ⊎ (paths.add_item (array made) (plain_maybe key.now) (plain_of new) ≡ Err fault)) }
 {
@@ -164,7 +172,8 @@ pub fn stepped(up: bool, old: &Value) -> Result<Value, Fault>
 /// What an assignment that reads its target first makes of the old value and the right side.
 #[tactic(auto, unfolding(script_meaning::specs::Expressions::updated))]
 pub fn updated(alloc: Global, sign: UpdateSign, old: Value, right: Value) -> Result<Value, Fault>
-    ensures ok { IfOk result (λ v. spec.updated sign (plain_of old) (plain_of right) ≡ Ok (plain_of v)) }
+    ensures ok { IfOk result
+        (λ v. spec.updated sign (plain_of old) (plain_of right) ≡ Ok (plain_of v)) }
     ensures err { IfErr result (λ fault. (fault ≡ Fault.Memory)
         ⊎ (spec.updated sign (plain_of old) (plain_of right) ≡ Err fault)) }
 {
@@ -181,7 +190,8 @@ pub fn updated(alloc: Global, sign: UpdateSign, old: Value, right: Value) -> Res
 // The step that a subscript is.
 fn step_of(alloc: Global, subscript: &Option<Value>) -> Result<Option<Key>, Fault>
     ensures ok { IfOk result (λ s. paths.step_of (plain_maybe subscript.now) ≡ Ok (plain_step s)) }
-    ensures err { IfErr result (λ fault. (fault ≡ Fault.Memory) ⊎ (paths.step_of (plain_maybe subscript.now) ≡ Err fault)) }
+    ensures err { IfErr result
+        (λ fault. (fault ≡ Fault.Memory) ⊎ (paths.step_of (plain_maybe subscript.now) ≡ Err fault)) }
 {
     match subscript {
         None => Ok(None),
@@ -191,8 +201,11 @@ fn step_of(alloc: Global, subscript: &Option<Value>) -> Result<Option<Key>, Faul
 
 /// The path that subscripts are. Faults at the first that is no key.
 pub fn path_of(alloc: Global, subscripts: &[Option<Value>]) -> Result<Vec<Option<Key>>, Fault>
-    ensures ok { IfOk result (λ p. paths.path_of (plain_maybes subscripts.now) ≡ Ok (plain_path p.items)) }
-    ensures err { IfErr result (λ fault. (fault ≡ Fault.Memory) ⊎ (paths.path_of (plain_maybes subscripts.now) ≡ Err fault)) }
+    ensures ok { IfOk result
+        (λ p. paths.path_of (plain_maybes subscripts.now) ≡ Ok (plain_path p.items)) }
+    ensures err { IfErr result
+        (λ fault. (fault ≡ Fault.Memory)
+        ⊎ (paths.path_of (plain_maybes subscripts.now) ≡ Err fault)) }
 {
     let mut path = Vec::new(alloc);
     let mut rest = subscripts;

@@ -38,7 +38,8 @@ fn none_is_null(values: &[Value]) -> bool
 
 // The texts of values, joined.
 fn joined<'a>(alloc: Global, values: &[Value]) -> Result<Focus<'a>, NoMemory>
-    ensures { IfOk result (λ f. (fs : List PlainFunction) → Finishes fs Purpose.Join (plain_list values.now) f) }
+    ensures { IfOk result
+        (λ f. (fs : List PlainFunction) → Finishes fs Purpose.Join (plain_list values.now) f) }
 {
     match join(alloc, values) {
         Ok(value) => Ok(Focus::Value(value)),
@@ -59,14 +60,17 @@ fn applied<'a>(alloc: Global, builtin: Builtin, values: &[Value]) -> Result<Focu
     }
 }
 
-// A function with its arguments: one of PHP gives its value at once; one that is not there, which no program calls, gives null.
+// A function with its arguments: one of PHP gives its value at once; one that is not there, which
+// no program calls, gives null.
 fn called<'a>(
     alloc: Global,
     functions: &Functions<'a>,
     name: &'a Bytes,
     args: Vec<Value>,
 ) -> Result<Focus<'a>, NoMemory>
-    ensures { IfOk result (λ f. Finishes (functions_of_list functions.now.all.now) (Purpose.Call name.entry) (plain_list args.items) f) }
+    ensures { IfOk result
+        (λ f. Finishes (functions_of_list functions.now.all.now) (Purpose.Call name.entry)
+        (plain_list args.items) f) }
 {
     match Builtin::of(name.as_slice()) {
         Some(builtin) => {
@@ -87,7 +91,9 @@ fn finish<'a>(
     purpose: Purpose<'a>,
     values: Vec<Value>,
 ) -> Result<Focus<'a>, NoMemory>
-    ensures { IfOk result (λ f. Finishes (functions_of_list functions.now.all.now) purpose.entry (plain_list values.items) f) }
+    ensures { IfOk result
+        (λ f. Finishes (functions_of_list functions.now.all.now) purpose.entry
+        (plain_list values.items) f) }
 {
     match purpose {
         Purpose::Join => {
@@ -112,7 +118,8 @@ pub fn row<'a>(
     done: Vec<Value>,
 ) -> Result<Focus<'a>, NoMemory>
     ensures { IfOk result (λ f. (r : PlainRequest)
-        → Moves r (functions_of_list functions.now.all.now) (Focus.Row purpose.entry rest.entry done) m.old f m.new) }
+        → Moves r (functions_of_list functions.now.all.now)
+        (Focus.Row purpose.entry rest.entry done) m.old f m.new) }
 {
     match rest.split_first() {
         None => {

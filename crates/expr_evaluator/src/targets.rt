@@ -29,7 +29,9 @@ fn assigned(
     new: Value,
     old: Value,
 ) -> Result<Value, Fault>
-    ensures ok { IfOk result (λ v. spec.assigned (plain_maybes subscripts.now) (plain_of new) (plain_of old) ≡ Ok (plain_of v)) }
+    ensures ok { IfOk result
+        (λ v. spec.assigned (plain_maybes subscripts.now) (plain_of new) (plain_of old)
+        ≡ Ok (plain_of v)) }
     ensures err { IfErr result (λ fault. (fault ≡ Fault.Memory)
         ⊎ (spec.assigned (plain_maybes subscripts.now) (plain_of new) (plain_of old) ≡ Err fault)) }
 {
@@ -52,7 +54,9 @@ pub fn assign<'a>(
     subscripts: &[Option<Value>],
     value: Value,
 ) -> Result<Focus<'a>, NoMemory>
-    ensures { IfOk result (λ f. Does (assign_in name.now (plain_maybes subscripts.now) (plain_of value)) m.old f m.new) }
+    ensures { IfOk result
+        (λ f. Does (assign_in name.now (plain_maybes subscripts.now) (plain_of value)) m.old f
+        m.new) }
 {
     let new = value.share()?;
     let old = m.variables.take(name)?;
@@ -70,7 +74,8 @@ pub fn assign<'a>(
 
 // A variable after a write at the end of a path.
 fn written(alloc: Global, path: &[Option<Key>], new: Value, whole: Value) -> Result<Value, Fault>
-    ensures ok { IfOk result (λ w. moves.written (plain_path path.now) (plain_of new) (plain_of whole) ≡ Ok (plain_of w)) }
+    ensures ok { IfOk result
+        (λ w. moves.written (plain_path path.now) (plain_of new) (plain_of whole) ≡ Ok (plain_of w)) }
     ensures err { IfErr result (λ fault. (fault ≡ Fault.Memory)
         ⊎ (moves.written (plain_path path.now) (plain_of new) (plain_of whole) ≡ Err fault)) }
 {
@@ -86,8 +91,8 @@ fn written(alloc: Global, path: &[Option<Key>], new: Value, whole: Value) -> Res
     }
 }
 
-// A variable after a write at the end of a path, and the value that is written. What stands there is let go first, so that
-// an old text is appended to in place.
+// A variable after a write at the end of a path, and the value that is written. What stands there
+// is let go first, so that an old text is appended to in place.
 fn rewritten(
     alloc: Global,
     sign: UpdateSign,
@@ -96,10 +101,14 @@ fn rewritten(
     right: Value,
     whole: Value,
 ) -> Result<(Value, Value), Fault>
-    ensures ok { IfOk result (λ p. (spec.updated sign (plain_of old) (plain_of right) ≡ Ok (plain_of p.0))
+    ensures ok { IfOk result
+        (λ p. (spec.updated sign (plain_of old) (plain_of right) ≡ Ok (plain_of p.0))
         × (moves.written (plain_path path.now) (plain_of p.0) (plain_of whole) ≡ Ok (plain_of p.1))) }
-    ensures err { IfErr result (λ fault. (fault ≡ Fault.Memory) ⊎ (spec.updated sign (plain_of old) (plain_of right) ≡ Err fault)
-        ⊎ ((v : Plain) × (spec.updated sign (plain_of old) (plain_of right) ≡ Ok v) × (moves.written (plain_path path.now) v (plain_of whole) ≡ Err fault))) }
+    ensures err { IfErr result
+        (λ fault. (fault ≡ Fault.Memory)
+        ⊎ (spec.updated sign (plain_of old) (plain_of right) ≡ Err fault)
+        ⊎ ((v : Plain) × (spec.updated sign (plain_of old) (plain_of right) ≡ Ok v)
+        × (moves.written (plain_path path.now) v (plain_of whole) ≡ Err fault))) }
 {
     let mut whole = whole;
     whole.release(path);
@@ -111,7 +120,8 @@ fn rewritten(
     }
 }
 
-/// Writes what the sign makes of the old value and the right side to a variable at the end of a path.
+/// Writes what the sign makes of the old value and the right side to a variable at the end of a
+/// path.
 pub fn update<'a>(
     alloc: Global,
     m: &mut Evaluator<'a>,
@@ -121,7 +131,9 @@ pub fn update<'a>(
     old: Value,
     right: Value,
 ) -> Result<Focus<'a>, NoMemory>
-    ensures { IfOk result (λ f. Does (update_in sign name.now (plain_path path.now) (plain_of old) (plain_of right)) m.old f m.new) }
+    ensures { IfOk result
+        (λ f. Does (update_in sign name.now (plain_path path.now) (plain_of old) (plain_of right))
+        m.old f m.new) }
 {
     let whole = m.variables.take(name)?;
     match rewritten(alloc, sign, path, old, right, whole) {
@@ -138,8 +150,11 @@ pub fn update<'a>(
 
 // The value at the end of a path.
 fn value_at(whole: &Value, path: &[Option<Key>]) -> Result<Value, Fault>
-    ensures ok { IfOk result (λ v. paths.read (plain_path path.now) (plain_of whole.now) ≡ Ok (plain_of v)) }
-    ensures err { IfErr result (λ fault. (fault ≡ Fault.Memory) ⊎ (paths.read (plain_path path.now) (plain_of whole.now) ≡ Err fault)) }
+    ensures ok { IfOk result
+        (λ v. paths.read (plain_path path.now) (plain_of whole.now) ≡ Ok (plain_of v)) }
+    ensures err { IfErr result
+        (λ fault. (fault ≡ Fault.Memory)
+        ⊎ (paths.read (plain_path path.now) (plain_of whole.now) ≡ Err fault)) }
 {
     match whole.read(path)? {
         None => Ok(Value::Null),
@@ -153,10 +168,13 @@ fn old_value(
     subscripts: &[Option<Value>],
     whole: &Value,
 ) -> Result<(Vec<Option<Key>>, Value), Fault>
-    ensures ok { IfOk result (λ p. (paths.path_of (plain_maybes subscripts.now) ≡ Ok (plain_path p.0.items))
+    ensures ok { IfOk result
+        (λ p. (paths.path_of (plain_maybes subscripts.now) ≡ Ok (plain_path p.0.items))
         × (paths.read (plain_path p.0.items) (plain_of whole.now) ≡ Ok (plain_of p.1))) }
-    ensures err { IfErr result (λ fault. (fault ≡ Fault.Memory) ⊎ (paths.path_of (plain_maybes subscripts.now) ≡ Err fault)
-        ⊎ ((path : List paths.Step) × (paths.path_of (plain_maybes subscripts.now) ≡ Ok path) × (paths.read path (plain_of whole.now) ≡ Err fault))) }
+    ensures err { IfErr result
+        (λ fault. (fault ≡ Fault.Memory) ⊎ (paths.path_of (plain_maybes subscripts.now) ≡ Err fault)
+        ⊎ ((path : List paths.Step) × (paths.path_of (plain_maybes subscripts.now) ≡ Ok path)
+        × (paths.read path (plain_of whole.now) ≡ Err fault))) }
 {
     let path = path_of(alloc, subscripts)?;
     let old = value_at(whole, &path)?;
@@ -193,7 +211,9 @@ fn read_target<'a>(
     right: &'a Expr,
     subscripts: &[Option<Value>],
 ) -> Result<Focus<'a>, NoMemory>
-    ensures { IfOk result (λ f. Reads (Writing.Update sign name.entry right.entry) (plain_maybes subscripts.now) m.old f m.new) }
+    ensures { IfOk result
+        (λ f. Reads (Writing.Update sign name.entry right.entry) (plain_maybes subscripts.now) m.old
+        f m.new) }
 {
     let whole = m.variables.get(name)?;
     match old_value(alloc, subscripts, &whole) {
@@ -241,7 +261,9 @@ pub fn keys<'a>(
     rest: &'a [Option<Expr>],
     mut done: Vec<Option<Value>>,
 ) -> Result<Focus<'a>, NoMemory>
-    ensures { IfOk result (λ f. (r : PlainRequest) (fs : List PlainFunction) → Moves r fs (Focus.Keys writing.entry rest.entry done) m.old f m.new) }
+    ensures { IfOk result
+        (λ f. (r : PlainRequest) (fs : List PlainFunction)
+        → Moves r fs (Focus.Keys writing.entry rest.entry done) m.old f m.new) }
 {
     match rest.split_first() {
         None => {

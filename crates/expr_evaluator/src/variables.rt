@@ -14,8 +14,9 @@ use std::marker::Model;
 use std::mem;
 use text_base::{Bytes, NoMemory};
 
-/// The variables of a function's call, or of the script outside functions, by their names, which the script's tree
-/// holds: the parameters, and a map of the others. Contracts see them as a list of names with plain values.
+/// The variables of a function's call, or of the script outside functions, by their names, which
+/// the script's tree holds: the parameters, and a map of the others. Contracts see them as a list
+/// of names with plain values.
 #[derive(Drop)]
 pub struct Variables<'a> {
     parameters: Vec<(&'a [u8], Value)>,
@@ -88,9 +89,11 @@ fn value_of(
 // Writes a parameter, and gives its old value.
 fn replace_parameter(parameters: &mut Vec<(&[u8], Value)>, place: usize, value: Value) -> Value
     requires { place < length parameters.old.items }
-    ensures value { (d : Bor (List ℕ) × Value) → result ≡ (slice_index_or parameters.old.items place d).1 }
+    ensures value { (d : Bor (List ℕ) × Value) → result
+        ≡ (slice_index_or parameters.old.items place d).1 }
     ensures items { (d : Bor (List ℕ) × Value) → parameters.new.items
-        ≡ slice_set parameters.old.items place ((slice_index_or parameters.old.items place d).0, value) }
+        ≡ slice_set parameters.old.items place
+        ((slice_index_or parameters.old.items place d).0, value) }
 {
     mem::replace(&mut parameters[place].1, value)
 }
@@ -101,7 +104,8 @@ fn put_other<'a>(
     name: &'a [u8],
     value: Value,
 ) -> Result<Value, NoMemory>
-    ensures value { IfOk result (λ v. plain_of v ≡ value_in (plain_variables others.old.entries) name.now) }
+    ensures value { IfOk result
+        (λ v. plain_of v ≡ value_in (plain_variables others.old.entries) name.now) }
     ensures entries { OnOk result (plain_variables others.new.entries
         ≡ set_in (plain_variables others.old.entries) name.now (plain_of value)) }
 {
@@ -162,8 +166,8 @@ impl<'a> Variables<'a> {
         Ok(())
     }
 
-    /// Takes the value of a variable, before a write of the variable, which is null until then: so a text or an array
-    /// that nothing else holds can be written in place.
+    /// Takes the value of a variable, before a write of the variable, which is null until then: so
+    /// a text or an array that nothing else holds can be written in place.
     pub fn take(&mut self, name: &'a Bytes) -> Result<Value, NoMemory>
         ensures value { IfOk result (λ v. plain_of v ≡ value_in self.old name.now) }
         ensures variables { OnOk result (self.new ≡ set_in self.old name.now null) }

@@ -18,7 +18,8 @@ pub enum Brackets {
 pub enum Focus {
     /// An expression or an operand begins here.
     Begin,
-    /// A variable was read with so many keys, of which one is left out where `gap`; it may be a target.
+    /// A variable was read with so many keys, of which one is left out where `gap`; it may be a
+    /// target.
     Place { name: Bytes, keys: usize, gap: bool },
     /// A value was read that subscripts may follow.
     Subscripted,

@@ -11,7 +11,8 @@ ghost use Rattle.expr_machine.specs.Reading.{weight, expr_at, reads_on, reads_ne
 
 /// Each move makes the weight less, so that a run ends.
 pub fn moves_get_lighter()
-    ensures { (f : Focus) (fs : List Frame) (ts : List Terminal) (g : Focus) (gs : List Frame) (r : List Terminal) (acts : List Action) →
+    ensures { (f : Focus) (fs : List Frame) (ts : List Terminal) (g : Focus) (gs : List Frame)
+        (r : List Terminal) (acts : List Action) →
         move f fs ts ≡ moves g gs r acts → weight g gs r < weight f fs ts }
 {}
 
@@ -23,5 +24,6 @@ pub fn runs_go_on()
 
 /// Fewer terminals stand behind an expression than at its beginning.
 pub fn what_is_read_is_shorter()
-    ensures { (ts : List Terminal) (acts : List Action) (r : List Terminal) → expr_at ts ≡ Some (acts, r) → length r < length ts }
+    ensures { (ts : List Terminal) (acts : List Action) (r : List Terminal) → expr_at ts
+        ≡ Some (acts, r) → length r < length ts }
 {}

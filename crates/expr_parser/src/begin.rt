@@ -36,8 +36,8 @@ fn constant_of(alloc: Global, word: Keyword) -> Result<Option<Expr>, NoMemory>
     }
 }
 
-// The tokens from the first that nothing goes on with where no bracket stands behind a keyword: the keyword itself where
-// it begins no operand.
+// The tokens from the first that nothing goes on with where no bracket stands behind a keyword: the
+// keyword itself where it begins no operand.
 fn without_bracket<'a>(word: Keyword, rest: &'a [Token], from: &'a [Token]) -> &'a [Token] {
     match word {
         Keyword::Isset | Keyword::Empty | Keyword::Array => rest,

@@ -14,7 +14,8 @@ use php_syntax::token::Token;
 use script_grammar::operator::{Level, level_rank};
 
 impl Reader {
-    // The first level, from this one on, that the last thing begun or the next sign is of; behind all levels, if none is.
+    // The first level, from this one on, that the last thing begun or the next sign is of; behind
+    // all levels, if none is.
     fn climb(&self, level: Level, rest: &[Token]) -> Focus
         ensures { Leads (focus.Operand level) result self.now (terminals_of rest.now) }
     {

@@ -1,7 +1,7 @@
 //! Reads expressions from tokens to trees.
 //!
-//! `parser::read_expr` runs the machine of `expr_machine` over the tokens of a script and makes its values; its contract
-//! says that these are what `reads_expr` says.
+//! `parser::read_expr` runs the machine of `expr_machine` over the tokens of a script and makes its
+//! values; its contract says that these are what `reads_expr` says.
 #![tactic(auto)]
 
 mod begin;

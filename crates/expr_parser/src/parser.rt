@@ -35,9 +35,10 @@ impl Reader {
     }
 }
 
-/// Reads the longest expression at the front of tokens, makes its value, and answers the tokens behind it; or nothing
-/// where no expression stands there, or one that breaks a rule of the language. Then the values are of no use, but for
-/// how many tokens were left at the first one that nothing goes on with.
+/// Reads the longest expression at the front of tokens, makes its value, and answers the tokens
+/// behind it; or nothing where no expression stands there, or one that breaks a rule of the
+/// language. Then the values are of no use, but for how many tokens were left at the first one that
+/// nothing goes on with.
 pub fn read_expr<'a>(
     alloc: Global,
     rest: &'a [Token],

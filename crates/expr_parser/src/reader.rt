@@ -67,7 +67,8 @@ fn rank_of(waiting: Waiting) -> u32
     }
 }
 
-/// A reader of an expression. Contracts see what it has begun and waits for a value, the last thing begun first.
+/// A reader of an expression. Contracts see what it has begun and waits for a value, the last thing
+/// begun first.
 #[derive(Drop)]
 pub(crate) struct Reader {
     pub(crate) alloc: Global,

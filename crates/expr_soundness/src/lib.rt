@@ -1,5 +1,5 @@
-//! What the machine of `expr_machine` reads is an expression of `script_grammar`. The function does nothing, and stands for the
-//! law that its contract states.
+//! What the machine of `expr_machine` reads is an expression of `script_grammar`. The function does
+//! nothing, and stands for the law that its contract states.
 #![tactic(auto)]
 
 ghost use Rattle.std.specs.Prelude.{◌≡◌, List, [], Some};

@@ -127,8 +127,8 @@ impl Values {
         self.array(alloc, count)
     }
 
-    /// Does what a move asks for; false where the values do not allow it: they are too few, or a rule of the language
-    /// is broken. Then they are of no use.
+    /// Does what a move asks for; false where the values do not allow it: they are too few, or a
+    /// rule of the language is broken. Then they are of no use.
     pub fn perform(&mut self, alloc: Global, actions: Actions) -> Result<bool, NoMemory>
         ensures { IfOk result (λ fine.
             Applied fine (execute (plain_actions actions.entry) (plain_values self.old))

@@ -1,4 +1,5 @@
-//! What the actions do that take a row of values off. Each call answers whether the values allow it.
+//! What the actions do that take a row of values off. Each call answers whether the values allow
+//! it.
 
 ghost use Rattle.std.specs.Prelude.{◌≡◌, [], IfOk};
 ghost use Rattle.std.specs.Str.{str_to_ascii_lowercase};

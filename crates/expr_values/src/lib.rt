@@ -1,7 +1,8 @@
-//! The values that a reader of expressions makes, and what the actions of `expr_machine` do with them.
+//! The values that a reader of expressions makes, and what the actions of `expr_machine` do with
+//! them.
 //!
-//! `Values::perform` does the actions of one move; its contract says that they make what `execute` of `expr_machine`
-//! says, and that it answers false exactly where `execute` gives nothing.
+//! `Values::perform` does the actions of one move; its contract says that they make what `execute`
+//! of `expr_machine` says, and that it answers false exactly where `execute` gives nothing.
 #![tactic(auto)]
 
 pub mod action;

@@ -13,7 +13,8 @@ use php_syntax::tree::Expr;
 use std::alloc::Global;
 use text_base::NoMemory;
 
-/// Trees in a row, the last one first, and the height of the highest; and whether all are variables with subscripts.
+/// Trees in a row, the last one first, and the height of the highest; and whether all are variables
+/// with subscripts.
 #[derive(Debug, Drop)]
 pub(crate) struct Row {
     pub(crate) exprs: Option<(Vec<Expr>, u32)>,
@@ -26,7 +27,8 @@ pub(crate) struct Items {
     pub(crate) items: Option<(Vec<(Option<Expr>, Expr)>, u32)>,
 }
 
-/// Keys, the last one first, and the height of the highest; whether none is left out, and whether none but the last.
+/// Keys, the last one first, and the height of the highest; whether none is left out, and whether
+/// none but the last.
 #[derive(Debug, Drop)]
 pub(crate) struct Path {
     pub(crate) keys: Option<(Vec<Option<Expr>>, u32)>,
@@ -162,7 +164,8 @@ impl Values {
     ) -> Result<Option<Row>, NoMemory>
         ensures { IfOk result (λ found. MatchOption found
             (take_values count [] (plain_values self.old) ≡ None)
-            (λ row. IsRow (take_values count [] (plain_values self.old)) (exprs_shown row.exprs) row.places (plain_values self.new))) }
+            (λ row. IsRow (take_values count [] (plain_values self.old)) (exprs_shown row.exprs)
+            row.places (plain_values self.new))) }
     {
         let mut exprs = Some((Vec::new(alloc), 0));
         let mut places = true;
@@ -189,7 +192,8 @@ impl Values {
     ) -> Result<Option<Items>, NoMemory>
         ensures { IfOk result (λ found. MatchOption found
             (take_values (count + count) [] (plain_values self.old) ≡ None)
-            (λ row. IsItems (take_values (count + count) [] (plain_values self.old)) (items_shown row.items) (plain_values self.new))) }
+            (λ row. IsItems (take_values (count + count) [] (plain_values self.old))
+            (items_shown row.items) (plain_values self.new))) }
     {
         let mut items = Some((Vec::new(alloc), 0));
         let mut left = count;

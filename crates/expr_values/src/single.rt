@@ -1,5 +1,5 @@
-//! What the actions of the machine do with the values. Each call answers whether the values allow it: they do not where
-//! they are too few, or where a rule of the language is broken.
+//! What the actions of the machine do with the values. Each call answers whether the values allow
+//! it: they do not where they are too few, or where a rule of the language is broken.
 
 ghost use Rattle.std.specs.Prelude.{◌≡◌, ℕ, Some, true, OnOk, IfOk};
 ghost use Rattle.php_syntax.specs.Trees.{plain_expr, int_expr};

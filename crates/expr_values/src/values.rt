@@ -10,8 +10,9 @@ use std::alloc::Global;
 use std::marker::Model;
 use text_base::NoMemory;
 
-/// The values that a reader has made. Contracts see them as a list, the last one first. Beside them stands how many
-/// tokens were left where the reading came to, of which no clause speaks: it only says where a script breaks off.
+/// The values that a reader has made. Contracts see them as a list, the last one first. Beside them
+/// stands how many tokens were left where the reading came to, of which no clause speaks: it only
+/// says where a script breaks off.
 #[derive(Debug, Drop)]
 pub struct Values {
     stack: Stack<Value>,
@@ -64,7 +65,8 @@ impl Values {
         self.left = left;
     }
 
-    /// How many tokens were left where the reading came to last; the largest number where it came nowhere yet.
+    /// How many tokens were left where the reading came to last; the largest number where it came
+    /// nowhere yet.
     pub fn left(&self) -> usize {
         self.left
     }
@@ -83,11 +85,13 @@ impl Values {
         }
     }
 
-    /// Takes so many values off; popping the answer gives them in the order in which they were made.
+    /// Takes so many values off; popping the answer gives them in the order in which they were
+    /// made.
     pub fn take_row(&mut self, alloc: Global, count: usize) -> Result<Option<Values>, NoMemory>
         ensures { IfOk result (λ found. MatchOption found
             (take_values count [] (plain_values self.old) ≡ None)
-            (λ row. take_values count [] (plain_values self.old) ≡ Some (plain_values row, plain_values self.new))) }
+            (λ row. take_values count [] (plain_values self.old)
+            ≡ Some (plain_values row, plain_values self.new))) }
     {
         let mut row = Values::new(alloc);
         let mut left = count;

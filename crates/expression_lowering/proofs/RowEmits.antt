@@ -12,7 +12,7 @@ use Rattle.flow_code.specs.Code.{Code, known}
 use Rattle.flow_code.specs.Expressions.{Scope, code, codes, maybe_key, path_code, items_code, length_of_path, key_code}
 use Rattle.flow_lowering.specs.Emits.{Progress, Emits}
 use Rattle.flow_lowering.proofs.EmitLemmas.{emits_known, emits_both, emits_left}
-use Rattle.expression_pieces.specs.Forms.{IsNoNumber, IsNoText}
+use Rattle.literal_trees.specs.Literals.{IsNoNumber, IsNoText}
 use Rattle.expression_pieces.proofs.FormLemmas.{read_key}
 use Rattle.expression_pieces.proofs.RowLemmas.{drop_here, drop_past}
 

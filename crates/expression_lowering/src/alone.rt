@@ -4,7 +4,7 @@ ghost use Rattle.std.specs.Prelude.{◌≡◌, ℕ, IfOk, MatchOption};
 ghost use Rattle.php_syntax.specs.Trees.{plain_expr, var_expr, text_expr, super_expr, step_expr};
 ghost use Rattle.php_values.specs.View.{plain_of};
 ghost use Rattle.flow_code.specs.Code.{Code, known};
-ghost use Rattle.expression_pieces.specs.Forms.{IsNoNumber};
+ghost use Rattle.literal_trees.specs.Literals.{IsNoNumber};
 ghost use Rattle.flow_code.specs.View.{plain_key_ref};
 ghost use Rattle.flow_code.specs.Expressions.{Scope, code, key_code, literal};
 ghost use Rattle.flow_lowering.specs.View.{progress};
@@ -37,7 +37,9 @@ pub(crate) fn number_key(key: &Expr) -> Option<KeyRef>
 
 /// A value that stands in the script.
 pub(crate) fn lower_literal(value: Value, points: &mut PointBuilder) -> Result<Slot, LoweringError>
-    ensures { IfOk result (λ slot. Emits (progress points.old) (progress points.new) (literal (plain_of value)) slot.0) }
+    ensures { IfOk result
+        (λ slot. Emits (progress points.old) (progress points.new) (literal (plain_of value))
+        slot.0) }
 {
     let slot = lower_value(value, points)?;
     Ok(slot)
@@ -50,7 +52,9 @@ pub(crate) fn lower_text(
     text: &Bytes,
     points: &mut PointBuilder,
 ) -> Result<Slot, LoweringError>
-    ensures { IfOk result (λ slot. (w : Scope) → Emits (progress points.old) (progress points.new) (code w (text_expr text.now)) slot.0) }
+    ensures { IfOk result
+        (λ slot. (w : Scope)
+        → Emits (progress points.old) (progress points.new) (code w (text_expr text.now)) slot.0) }
 {
     if text.as_slice().len() > TEXT_LIMIT {
         return Err(LoweringError::LongText);
@@ -67,7 +71,9 @@ pub(crate) fn lower_name(
     name: &Bytes,
     points: &mut PointBuilder,
 ) -> Result<Slot, LoweringError>
-    ensures { IfOk result (λ slot. Emits (progress points.old) (progress points.new) (code (scope_in scope.now) (var_expr name.now)) slot.0) }
+    ensures { IfOk result
+        (λ slot. Emits (progress points.old) (progress points.new)
+        (code (scope_in scope.now) (var_expr name.now)) slot.0) }
 {
     let variable = scope.variable(name);
     let slot = lower_source(Source::Copy(variable), points)?;
@@ -80,7 +86,9 @@ pub(crate) fn lower_request(
     name: SuperName,
     points: &mut PointBuilder,
 ) -> Result<Slot, LoweringError>
-    ensures { IfOk result (λ slot. (w : Scope) → Emits (progress points.old) (progress points.new) (code w (super_expr name)) slot.0) }
+    ensures { IfOk result
+        (λ slot. (w : Scope)
+        → Emits (progress points.old) (progress points.new) (code w (super_expr name)) slot.0) }
 {
     let slot = lower_source(Source::Super(name), points)?;
     Ok(slot)
@@ -96,7 +104,9 @@ pub(crate) fn lower_step(
     before: bool,
     points: &mut PointBuilder,
 ) -> Result<Slot, LoweringError>
-    ensures { IfOk result (λ slot. Emits (progress points.old) (progress points.new) (code (scope_in scope.now) (step_expr name.now up before)) slot.0) }
+    ensures { IfOk result
+        (λ slot. Emits (progress points.old) (progress points.new)
+        (code (scope_in scope.now) (step_expr name.now up before)) slot.0) }
 {
     let variable = scope.variable(name);
     if before {

@@ -13,13 +13,12 @@ ghost use Rattle.expression_pieces.specs.Forms.{connected};
 use crate::alone::{lower_literal, lower_name, lower_request, lower_step, lower_text, number_key};
 use call_lowering::{LoweringError, finish_call};
 use expression_pieces::choices::{begin_itself, begin_there, branching, finish_copy, finish_truth};
-use expression_pieces::values::{
-    literal_number, literal_text, number_of_one, number_of_two, truth_of_one, truth_of_two,
-};
+use expression_pieces::values::{number_of_one, number_of_two, truth_of_one, truth_of_two};
 use expression_pieces::writes::{finish_filled, finish_updated, lower_members, write};
 use flow_code::{KeyRef, Source, Work};
 use flow_lowering::PointBuilder;
 use function_scopes::FunctionScope;
+use literal_trees::literal_text;
 use php_syntax::tree::{Expr, Target, UpdateSign};
 use php_values::Value;
 use std::alloc::Global;
@@ -33,7 +32,9 @@ pub fn lower_exprs(
     exprs: &[Expr],
     points: &mut PointBuilder,
 ) -> Result<Vec<Slot>, LoweringError>
-    ensures emits { IfOk result (λ slots. Emits (progress points.old) (progress points.new) (codes (scope_in scope.now) (exprs_of exprs.now)) (map slot_number slots.items)) }
+    ensures emits { IfOk result
+        (λ slots. Emits (progress points.old) (progress points.new)
+        (codes (scope_in scope.now) (exprs_of exprs.now)) (map slot_number slots.items)) }
     ensures long { IfOk result (λ slots. vec_len slots ≡ length exprs.now) }
 {
     let mut slots = Vec::new(alloc);
@@ -52,7 +53,10 @@ fn lower_key(
     key: &Expr,
     points: &mut PointBuilder,
 ) -> Result<KeyRef, LoweringError>
-    ensures { IfOk result (λ k. Emits (progress points.old) (progress points.new) (key_code (plain_expr key.now) (code (scope_in scope.now) (plain_expr key.now))) (plain_key_ref k)) }
+    ensures { IfOk result
+        (λ k. Emits (progress points.old) (progress points.new)
+        (key_code (plain_expr key.now) (code (scope_in scope.now) (plain_expr key.now)))
+        (plain_key_ref k)) }
 {
     if let Some(literal) = number_key(key) {
         return Ok(literal);
@@ -74,7 +78,9 @@ fn lower_maybe_key(
     key: &Option<Expr>,
     points: &mut PointBuilder,
 ) -> Result<Option<KeyRef>, LoweringError>
-    ensures { IfOk result (λ k. Emits (progress points.old) (progress points.new) (maybe_key (scope_in scope.now) (maybe_of key.now)) (plain_maybe_key k)) }
+    ensures { IfOk result
+        (λ k. Emits (progress points.old) (progress points.new)
+        (maybe_key (scope_in scope.now) (maybe_of key.now)) (plain_maybe_key k)) }
 {
     match key {
         Some(key) => {
@@ -93,7 +99,9 @@ fn lower_path(
     keys: &[Option<Expr>],
     points: &mut PointBuilder,
 ) -> Result<Vec<Option<KeyRef>>, LoweringError>
-    ensures emits { IfOk result (λ path. Emits (progress points.old) (progress points.new) (path_code (scope_in scope.now) (path_of keys.now)) (map plain_maybe_key path.items)) }
+    ensures emits { IfOk result
+        (λ path. Emits (progress points.old) (progress points.new)
+        (path_code (scope_in scope.now) (path_of keys.now)) (map plain_maybe_key path.items)) }
     ensures long { IfOk result (λ path. vec_len path ≡ length keys.now) }
 {
     let mut path = Vec::new(alloc);
@@ -112,7 +120,9 @@ fn lower_items(
     items: &[(Option<Expr>, Expr)],
     points: &mut PointBuilder,
 ) -> Result<Vec<(Option<KeyRef>, Slot)>, LoweringError>
-    ensures { IfOk result (λ lowered. Emits (progress points.old) (progress points.new) (items_code (scope_in scope.now) (items_of items.now)) (map plain_item lowered.items)) }
+    ensures { IfOk result
+        (λ lowered. Emits (progress points.old) (progress points.new)
+        (items_code (scope_in scope.now) (items_of items.now)) (map plain_item lowered.items)) }
 {
     let mut lowered = Vec::new(alloc);
     for item in items {
@@ -132,7 +142,9 @@ fn lower_number(
     operand: &Expr,
     points: &mut PointBuilder,
 ) -> Result<Slot, LoweringError>
-    ensures { IfOk result (λ slot. Emits (progress points.old) (progress points.new) (of_one work number_source (code (scope_in scope.now) (plain_expr operand.now))) slot.0) }
+    ensures { IfOk result
+        (λ slot. Emits (progress points.old) (progress points.new)
+        (of_one work number_source (code (scope_in scope.now) (plain_expr operand.now))) slot.0) }
 {
     let operand = lower_expr(alloc, scope, operand, points)?;
     let slot = number_of_one(alloc, work, operand, points)?;
@@ -150,7 +162,8 @@ fn lower_numbers(
     points: &mut PointBuilder,
 ) -> Result<Slot, LoweringError>
     ensures { IfOk result (λ slot. Emits (progress points.old) (progress points.new)
-        (of_two work number_source (code (scope_in scope.now) (plain_expr left.now)) (code (scope_in scope.now) (plain_expr right.now))) slot.0) }
+        (of_two work number_source (code (scope_in scope.now) (plain_expr left.now))
+        (code (scope_in scope.now) (plain_expr right.now))) slot.0) }
 {
     let left = lower_expr(alloc, scope, left, points)?;
     let right = lower_expr(alloc, scope, right, points)?;
@@ -167,7 +180,9 @@ fn lower_truth(
     operand: &Expr,
     points: &mut PointBuilder,
 ) -> Result<Slot, LoweringError>
-    ensures { IfOk result (λ slot. Emits (progress points.old) (progress points.new) (of_one work truth_source (code (scope_in scope.now) (plain_expr operand.now))) slot.0) }
+    ensures { IfOk result
+        (λ slot. Emits (progress points.old) (progress points.new)
+        (of_one work truth_source (code (scope_in scope.now) (plain_expr operand.now))) slot.0) }
 {
     let operand = lower_expr(alloc, scope, operand, points)?;
     let slot = truth_of_one(alloc, work, operand, points)?;
@@ -185,7 +200,8 @@ fn lower_truths(
     points: &mut PointBuilder,
 ) -> Result<Slot, LoweringError>
     ensures { IfOk result (λ slot. Emits (progress points.old) (progress points.new)
-        (of_two work truth_source (code (scope_in scope.now) (plain_expr left.now)) (code (scope_in scope.now) (plain_expr right.now))) slot.0) }
+        (of_two work truth_source (code (scope_in scope.now) (plain_expr left.now))
+        (code (scope_in scope.now) (plain_expr right.now))) slot.0) }
 {
     let left = lower_expr(alloc, scope, left, points)?;
     let right = lower_expr(alloc, scope, right, points)?;
@@ -204,7 +220,8 @@ fn lower_connected(
     points: &mut PointBuilder,
 ) -> Result<Slot, LoweringError>
     ensures { IfOk result (λ slot. Emits (progress points.old) (progress points.new)
-        (connected both (code (scope_in scope.now) (plain_expr left.now)) (code (scope_in scope.now) (plain_expr right.now))) slot.0) }
+        (connected both (code (scope_in scope.now) (plain_expr left.now))
+        (code (scope_in scope.now) (plain_expr right.now))) slot.0) }
 {
     let left = lower_expr(alloc, scope, left, points)?;
     let branch = points.reserve()?;
@@ -223,7 +240,8 @@ fn lower_coalesce(
     points: &mut PointBuilder,
 ) -> Result<Slot, LoweringError>
     ensures { IfOk result (λ slot. Emits (progress points.old) (progress points.new)
-        (first_there (code (scope_in scope.now) (plain_expr left.now)) (code (scope_in scope.now) (plain_expr right.now))) slot.0) }
+        (first_there (code (scope_in scope.now) (plain_expr left.now))
+        (code (scope_in scope.now) (plain_expr right.now))) slot.0) }
 {
     let left = lower_expr(alloc, scope, left, points)?;
     let copy = begin_there(alloc, left, points)?;
@@ -242,7 +260,8 @@ fn lower_itself(
     points: &mut PointBuilder,
 ) -> Result<Slot, LoweringError>
     ensures { IfOk result (λ slot. Emits (progress points.old) (progress points.new)
-        (chosen_itself (code (scope_in scope.now) (plain_expr condition.now)) (code (scope_in scope.now) (plain_expr other.now))) slot.0) }
+        (chosen_itself (code (scope_in scope.now) (plain_expr condition.now))
+        (code (scope_in scope.now) (plain_expr other.now))) slot.0) }
 {
     let condition = lower_expr(alloc, scope, condition, points)?;
     let copy = begin_itself(condition, points)?;
@@ -262,7 +281,9 @@ fn lower_choice(
     points: &mut PointBuilder,
 ) -> Result<Slot, LoweringError>
     ensures { IfOk result (λ slot. Emits (progress points.old) (progress points.new)
-        (chosen (code (scope_in scope.now) (plain_expr condition.now)) (code (scope_in scope.now) (plain_expr middle.now)) (code (scope_in scope.now) (plain_expr other.now))) slot.0) }
+        (chosen (code (scope_in scope.now) (plain_expr condition.now))
+        (code (scope_in scope.now) (plain_expr middle.now))
+        (code (scope_in scope.now) (plain_expr other.now))) slot.0) }
 {
     let condition = lower_expr(alloc, scope, condition, points)?;
     let branch = points.reserve()?;
@@ -284,7 +305,9 @@ fn lower_member(
     key: &Expr,
     points: &mut PointBuilder,
 ) -> Result<Slot, LoweringError>
-    ensures { IfOk result (λ slot. Emits (progress points.old) (progress points.new) (code (scope_in scope.now) (member_expr (plain_expr base.now) (plain_expr key.now))) slot.0) }
+    ensures { IfOk result
+        (λ slot. Emits (progress points.old) (progress points.new)
+        (code (scope_in scope.now) (member_expr (plain_expr base.now) (plain_expr key.now))) slot.0) }
 {
     let base = lower_expr(alloc, scope, base, points)?;
     let key = lower_key(alloc, scope, key, points)?;
@@ -302,7 +325,9 @@ fn lower_assign(
     points: &mut PointBuilder,
 ) -> Result<Slot, LoweringError>
     ensures { IfOk result (λ slot. Emits (progress points.old) (progress points.new)
-        (code (scope_in scope.now) (assign_expr (target_name target.now) (target_path target.now) (plain_expr value.now))) slot.0) }
+        (code (scope_in scope.now)
+        (assign_expr (target_name target.now) (target_path target.now) (plain_expr value.now)))
+        slot.0) }
 {
     let variable = scope.variable(&target.name);
     let path = lower_path(alloc, scope, target.path.as_slice(), points)?;
@@ -320,7 +345,9 @@ fn lower_old(
     points: &mut PointBuilder,
 ) -> Result<(Vec<Option<KeyRef>>, Slot), LoweringError>
     ensures { IfOk result (λ old. Emits (progress points.old) (progress points.new)
-        (old_value (variable (scope_in scope.now) (target_name target.now)) (length_of_path (target_path target.now)) (path_code (scope_in scope.now) (target_path target.now)))
+        (old_value (variable (scope_in scope.now) (target_name target.now))
+        (length_of_path (target_path target.now))
+        (path_code (scope_in scope.now) (target_path target.now)))
         (map plain_maybe_key old.0.items, old.1.0)) }
 {
     let variable = scope.variable(&target.name);
@@ -342,7 +369,9 @@ fn lower_updated(
 ) -> Result<Slot, LoweringError>
     ensures { IfOk result (λ slot. Emits (progress points.old) (progress points.new)
         (updated_at sign (variable (scope_in scope.now) (target_name target.now))
-        (old_value (variable (scope_in scope.now) (target_name target.now)) (length_of_path (target_path target.now)) (path_code (scope_in scope.now) (target_path target.now)))
+        (old_value (variable (scope_in scope.now) (target_name target.now))
+        (length_of_path (target_path target.now))
+        (path_code (scope_in scope.now) (target_path target.now)))
         (code (scope_in scope.now) (plain_expr value.now))) slot.0) }
 {
     let variable = scope.variable(&target.name);
@@ -363,7 +392,9 @@ fn lower_filled(
 ) -> Result<Slot, LoweringError>
     ensures { IfOk result (λ slot. Emits (progress points.old) (progress points.new)
         (filled (variable (scope_in scope.now) (target_name target.now))
-        (old_value (variable (scope_in scope.now) (target_name target.now)) (length_of_path (target_path target.now)) (path_code (scope_in scope.now) (target_path target.now)))
+        (old_value (variable (scope_in scope.now) (target_name target.now))
+        (length_of_path (target_path target.now))
+        (path_code (scope_in scope.now) (target_path target.now)))
         (code (scope_in scope.now) (plain_expr value.now))) slot.0) }
 {
     let variable = scope.variable(&target.name);
@@ -386,7 +417,9 @@ fn lower_update(
     points: &mut PointBuilder,
 ) -> Result<Slot, LoweringError>
     ensures { IfOk result (λ slot. Emits (progress points.old) (progress points.new)
-        (code (scope_in scope.now) (update_expr sign (target_name target.now) (target_path target.now) (plain_expr value.now))) slot.0) }
+        (code (scope_in scope.now)
+        (update_expr sign (target_name target.now) (target_path target.now)
+        (plain_expr value.now))) slot.0) }
 {
     match sign {
         UpdateSign::Coalesce => lower_filled(alloc, scope, target, value, points),
@@ -403,7 +436,9 @@ fn lower_array(
     items: &[(Option<Expr>, Expr)],
     points: &mut PointBuilder,
 ) -> Result<Slot, LoweringError>
-    ensures { IfOk result (λ slot. Emits (progress points.old) (progress points.new) (code (scope_in scope.now) (array_expr (items_of items.now))) slot.0) }
+    ensures { IfOk result
+        (λ slot. Emits (progress points.old) (progress points.new)
+        (code (scope_in scope.now) (array_expr (items_of items.now))) slot.0) }
 {
     let items = lower_items(alloc, scope, items, points)?;
     let slot = points.compute(Source::ArrayOf(items))?;
@@ -418,7 +453,9 @@ fn lower_join(
     parts: &[Expr],
     points: &mut PointBuilder,
 ) -> Result<Slot, LoweringError>
-    ensures { IfOk result (λ slot. Emits (progress points.old) (progress points.new) (code (scope_in scope.now) (join_expr (exprs_of parts.now))) slot.0) }
+    ensures { IfOk result
+        (λ slot. Emits (progress points.old) (progress points.new)
+        (code (scope_in scope.now) (join_expr (exprs_of parts.now))) slot.0) }
 {
     let slots = lower_exprs(alloc, scope, parts, points)?;
     let slot = points.compute(Source::Concat(slots))?;
@@ -433,7 +470,9 @@ fn lower_isset(
     parts: &[Expr],
     points: &mut PointBuilder,
 ) -> Result<Slot, LoweringError>
-    ensures { IfOk result (λ slot. Emits (progress points.old) (progress points.new) (code (scope_in scope.now) (isset_expr (exprs_of parts.now))) slot.0) }
+    ensures { IfOk result
+        (λ slot. Emits (progress points.old) (progress points.new)
+        (code (scope_in scope.now) (isset_expr (exprs_of parts.now))) slot.0) }
 {
     let args = lower_exprs(alloc, scope, parts, points)?;
     let work = Work::Isset;
@@ -450,7 +489,9 @@ fn lower_call(
     arguments: &[Expr],
     points: &mut PointBuilder,
 ) -> Result<Slot, LoweringError>
-    ensures { IfOk result (λ slot. Emits (progress points.old) (progress points.new) (code (scope_in scope.now) (call_expr name.now (exprs_of arguments.now))) slot.0) }
+    ensures { IfOk result
+        (λ slot. Emits (progress points.old) (progress points.new)
+        (code (scope_in scope.now) (call_expr name.now (exprs_of arguments.now))) slot.0) }
 {
     let slots = lower_exprs(alloc, scope, arguments, points)?;
     let slot = finish_call(alloc, scope, name, arguments, slots, points)?;
@@ -466,7 +507,9 @@ pub fn lower_expr(
     expr: &Expr,
     points: &mut PointBuilder,
 ) -> Result<Slot, LoweringError>
-    ensures { IfOk result (λ slot. Emits (progress points.old) (progress points.new) (code (scope_in scope.now) (plain_expr expr.now)) slot.0) }
+    ensures { IfOk result
+        (λ slot. Emits (progress points.old) (progress points.new)
+        (code (scope_in scope.now) (plain_expr expr.now)) slot.0) }
 {
     match expr {
         Expr::Null => lower_literal(Value::Null, points),

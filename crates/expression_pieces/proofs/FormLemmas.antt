@@ -1,23 +1,12 @@
 -- What an expression of no literal form is to the definitions that ask for one.
-use Rattle.std.proofs.Common.{◌≡◌, ℕ, ℤ, List, refl}
-use Rattle.php_syntax.specs.Trees.{PlainExpr, int_expr, text_expr, plain_expr}
-use Rattle.php_syntax.specs.declared.tree.Expr.{Expr, Int, Text}
+use Rattle.std.proofs.Common.{◌≡◌, ℕ, refl}
+use Rattle.php_syntax.specs.Trees.{PlainExpr, int_expr, text_expr}
 use Rattle.flow_code.specs.Code.{Code, left}
 use Rattle.flow_code.specs.Points.{read_ref}
 use Rattle.flow_code.specs.Expressions.{key_code}
 use Rattle.flow_code.specs.Builtins.{replacement, splitting}
-use Rattle.expression_pieces.specs.Forms.{IsNoText, IsNoNumber}
+use Rattle.literal_trees.specs.Literals.{IsNoText, IsNoNumber}
 use Rattle.op_system.specs.declared.op.Op.TheVariants as op
-
-pub no_text : (e : Expr) → ((t : List ℕ) → e ≡ Text t → ⊥) → IsNoText (plain_expr e)
-unfolding plain_expr
-no_text (Text t) h = h t refl
-no_text _ h = tt
-
-pub no_number : (e : Expr) → ((z : ℤ) → e ≡ Int z → ⊥) → IsNoNumber (plain_expr e)
-unfolding plain_expr
-no_number (Int z) h = h z refl
-no_number _ h = tt
 
 pub read_key : (e : PlainExpr) (a : Code ℕ) → IsNoNumber e → IsNoText e → key_code e a ≡ left a read_ref
 unfolding key_code

@@ -4,7 +4,7 @@ ghost use Rattle.std.specs.Prelude.{◌≡◌, IfOk};
 ghost use Rattle.php_syntax.specs.Trees.{plain_expr};
 ghost use Rattle.flow_code.specs.Builtins.{replacement, splitting};
 
-use crate::values::literal_text;
+use literal_trees::literal_text;
 use op_system::Op;
 use php_syntax::tree::Expr;
 use std::alloc::Global;

@@ -15,7 +15,8 @@ use flow_lowering::{PointBuilder, Reserved};
 use std::alloc::Global;
 use text_base::{NoMemory, Point, Slot};
 
-/// The end of `&&` (`both`) and `||`: on the way through the right side the result is its truth, and else that of the left side.
+/// The end of `&&` (`both`) and `||`: on the way through the right side the result is its truth,
+/// and else that of the left side.
 #[tactic(auto, using(flow_lowering::proofs::BranchLemmas::closes_of, flow_lowering::proofs::EmitLemmas::puts_then))]
 pub fn finish_truth(
     alloc: Global,
@@ -28,9 +29,12 @@ pub fn finish_truth(
     requires { branch.index < length (progress points.old).points }
     ensures slot { IfOk result (λ slot. slot.0 ≡ (progress points.old).slot) }
     ensures closes { OnOk result (Closes (progress points.old) (progress points.new) branch.index
-        (if both then branch_point left.0 branch.behind.0 (place (progress points.old) + 1) else branch_point left.0 (place (progress points.old) + 1) branch.behind.0)
-        (set_point (progress points.old).slot (truth_source work.AsTruth (right.0 ∷ [])) (place (progress points.old) + 2)
-        ∷ set_point (progress points.old).slot (truth_source work.AsTruth (left.0 ∷ [])) (place (progress points.old) + 2) ∷ []) 1) }
+        (if both then branch_point left.0 branch.behind.0 (place (progress points.old) + 1)
+        else branch_point left.0 (place (progress points.old) + 1) branch.behind.0)
+        (set_point (progress points.old).slot (truth_source work.AsTruth (right.0 ∷ []))
+        (place (progress points.old) + 2)
+        ∷ set_point (progress points.old).slot (truth_source work.AsTruth (left.0 ∷ []))
+        (place (progress points.old) + 2) ∷ []) 1) }
 {
     let other = points.ahead(1);
     let end = points.ahead(2);
@@ -47,7 +51,9 @@ pub fn finish_truth(
 
 /// A branch that leads to the first where the value is what is asked for.
 pub fn branching(slot: Slot, first: Point, other: Point, asked: bool) -> FlowPoint
-    ensures { plain_point result ≡ (if asked then branch_point slot.0 first.0 other.0 else branch_point slot.0 other.0 first.0) }
+    ensures { plain_point result
+        ≡ (if asked then branch_point slot.0 first.0 other.0 else branch_point slot.0 other.0
+        first.0) }
 {
     if asked {
         let (yes, no) = (first, other);
@@ -58,7 +64,8 @@ pub fn branching(slot: Slot, first: Point, other: Point, asked: bool) -> FlowPoi
     }
 }
 
-/// The begin of `??`: a test whether the value is not null, a branch, and a point for the copy where it is not.
+/// The begin of `??`: a test whether the value is not null, a branch, and a point for the copy
+/// where it is not.
 #[tactic(auto, using(flow_lowering::proofs::EmitLemmas::puts_then))]
 pub fn begin_there(
     alloc: Global,
@@ -66,8 +73,10 @@ pub fn begin_there(
     points: &mut PointBuilder,
 ) -> Result<Reserved, NoMemory>
     ensures puts { OnOk result (Puts (progress points.old) (progress points.new)
-        (set_point (progress points.old).slot (truth_source work.NotNull (value.0 ∷ [])) (place (progress points.old) + 1)
-        ∷ branch_point (progress points.old).slot (place (progress points.old) + 2) (place (progress points.old) + 3) ∷ jump_point 0 ∷ []) 1) }
+        (set_point (progress points.old).slot (truth_source work.NotNull (value.0 ∷ []))
+        (place (progress points.old) + 1)
+        ∷ branch_point (progress points.old).slot (place (progress points.old) + 2)
+        (place (progress points.old) + 3) ∷ jump_point 0 ∷ []) 1) }
     ensures index { IfOk result (λ point. point.index ≡ length (progress points.old).points + 2) }
 {
     let yes = points.ahead(2);
@@ -83,7 +92,8 @@ pub fn begin_there(
 #[tactic(auto, using(flow_lowering::proofs::EmitLemmas::puts_then))]
 pub fn begin_itself(value: Slot, points: &mut PointBuilder) -> Result<Reserved, NoMemory>
     ensures puts { OnOk result (Puts (progress points.old) (progress points.new)
-        (branch_point value.0 (place (progress points.old) + 1) (place (progress points.old) + 2) ∷ jump_point 0 ∷ []) 0) }
+        (branch_point value.0 (place (progress points.old) + 1) (place (progress points.old) + 2)
+        ∷ jump_point 0 ∷ []) 0) }
     ensures index { IfOk result (λ point. point.index ≡ length (progress points.old).points + 1) }
 {
     let yes = points.ahead(1);
@@ -96,7 +106,8 @@ pub fn begin_itself(value: Slot, points: &mut PointBuilder) -> Result<Reserved, 
     points.reserve()
 }
 
-/// The end of a choice: the result is a copy of the second, and where the reserved point stands a copy of the first.
+/// The end of a choice: the result is a copy of the second, and where the reserved point stands a
+/// copy of the first.
 #[tactic(auto, using(flow_lowering::proofs::BranchLemmas::closes_of))]
 pub fn finish_copy(
     copy: usize,
@@ -106,8 +117,12 @@ pub fn finish_copy(
 ) -> Result<Slot, NoMemory>
     requires { copy < length (progress points.old).points }
     ensures slot { IfOk result (λ slot. slot.0 ≡ (progress points.old).slot) }
-    ensures closes { OnOk result (Closes (progress points.old) (progress points.new) copy (set_point (progress points.old).slot (copy_source first.0) (place (progress points.old) + 1))
-        (set_point (progress points.old).slot (copy_source second.0) (place (progress points.old) + 1) ∷ []) 1) }
+    ensures closes { OnOk result
+        (Closes (progress points.old) (progress points.new) copy
+        (set_point (progress points.old).slot (copy_source first.0)
+        (place (progress points.old) + 1))
+        (set_point (progress points.old).slot (copy_source second.0)
+        (place (progress points.old) + 1) ∷ []) 1) }
 {
     let next = points.ahead(1);
     let slot = points.set_fresh(Source::Copy(second), next)?;

@@ -1,20 +1,17 @@
 //! Values that stand in the script, slots in a row, and operations on them.
 
-ghost use Rattle.std.specs.Prelude.{◌≡◌, ◌+◌, ◌≤◌, [], ◌∷◌, length, map, MatchOption, IfOk};
+ghost use Rattle.std.specs.Prelude.{◌≡◌, ◌+◌, ◌≤◌, [], ◌∷◌, length, map, IfOk};
 ghost use Rattle.plain_values.specs.Plain.{text};
 ghost use Rattle.php_values.specs.View.{plain_of};
 ghost use Rattle.flow_code.specs.Points.{literal_source, number_source, truth_source};
 ghost use Rattle.flow_code.specs.View.{plain_source, plain_key_ref, slot_number};
 ghost use Rattle.flow_code.specs.Code.{from_source};
 ghost use Rattle.flow_code.specs.Expressions.{literal};
-ghost use Rattle.php_syntax.specs.Trees.{plain_expr, int_expr, text_expr};
-ghost use Rattle.expression_pieces.specs.Forms.{IsNoNumber, IsNoText};
 ghost use Rattle.flow_lowering.specs.View.{progress};
 ghost use Rattle.flow_lowering.specs.Emits.{Emits, Sets, place};
 
 use flow_code::{KeyRef, Source, Work};
 use flow_lowering::PointBuilder;
-use php_syntax::tree::Expr;
 use php_values::{Text, Value};
 use std::alloc::Global;
 use text_base::{Bytes, NoMemory, Slot};
@@ -64,7 +61,9 @@ pub fn copy_key(alloc: Global, key: &KeyRef) -> Result<KeyRef, NoMemory>
 /// A source that needs nothing before it.
 #[tactic(auto, using(flow_lowering::proofs::EmitLemmas::emits_source))]
 pub fn lower_source(source: Source, points: &mut PointBuilder) -> Result<Slot, NoMemory>
-    ensures { IfOk result (λ slot. Emits (progress points.old) (progress points.new) (from_source (plain_source source)) slot.0) }
+    ensures { IfOk result
+        (λ slot. Emits (progress points.old) (progress points.new)
+        (from_source (plain_source source)) slot.0) }
 {
     points.compute(source)
 }
@@ -72,7 +71,9 @@ pub fn lower_source(source: Source, points: &mut PointBuilder) -> Result<Slot, N
 /// A value that stands in the script.
 #[tactic(auto, using(flow_lowering::proofs::EmitLemmas::emits_source))]
 pub fn lower_value(value: Value, points: &mut PointBuilder) -> Result<Slot, NoMemory>
-    ensures { IfOk result (λ slot. Emits (progress points.old) (progress points.new) (literal (plain_of value)) slot.0) }
+    ensures { IfOk result
+        (λ slot. Emits (progress points.old) (progress points.new) (literal (plain_of value))
+        slot.0) }
 {
     points.compute(Source::Lit(value))
 }
@@ -84,7 +85,9 @@ pub fn number_of_one(
     operand: Slot,
     points: &mut PointBuilder,
 ) -> Result<Slot, NoMemory>
-    ensures { IfOk result (λ slot. Sets (progress points.old) (progress points.new) (number_source work (operand.0 ∷ [])) (place (progress points.old) + 1) slot.0) }
+    ensures { IfOk result
+        (λ slot. Sets (progress points.old) (progress points.new)
+        (number_source work (operand.0 ∷ [])) (place (progress points.old) + 1) slot.0) }
 {
     let args = one_slot(alloc, operand)?;
     points.compute(Source::Number { work, args })
@@ -98,7 +101,9 @@ pub fn number_of_two(
     right: Slot,
     points: &mut PointBuilder,
 ) -> Result<Slot, NoMemory>
-    ensures { IfOk result (λ slot. Sets (progress points.old) (progress points.new) (number_source work (left.0 ∷ right.0 ∷ [])) (place (progress points.old) + 1) slot.0) }
+    ensures { IfOk result
+        (λ slot. Sets (progress points.old) (progress points.new)
+        (number_source work (left.0 ∷ right.0 ∷ [])) (place (progress points.old) + 1) slot.0) }
 {
     let args = two_slots(alloc, left, right)?;
     points.compute(Source::Number { work, args })
@@ -111,7 +116,9 @@ pub fn truth_of_one(
     operand: Slot,
     points: &mut PointBuilder,
 ) -> Result<Slot, NoMemory>
-    ensures { IfOk result (λ slot. Sets (progress points.old) (progress points.new) (truth_source work (operand.0 ∷ [])) (place (progress points.old) + 1) slot.0) }
+    ensures { IfOk result
+        (λ slot. Sets (progress points.old) (progress points.new)
+        (truth_source work (operand.0 ∷ [])) (place (progress points.old) + 1) slot.0) }
 {
     let args = one_slot(alloc, operand)?;
     points.compute(Source::Truth { work, args })
@@ -125,30 +132,10 @@ pub fn truth_of_two(
     right: Slot,
     points: &mut PointBuilder,
 ) -> Result<Slot, NoMemory>
-    ensures { IfOk result (λ slot. Sets (progress points.old) (progress points.new) (truth_source work (left.0 ∷ right.0 ∷ [])) (place (progress points.old) + 1) slot.0) }
+    ensures { IfOk result
+        (λ slot. Sets (progress points.old) (progress points.new)
+        (truth_source work (left.0 ∷ right.0 ∷ [])) (place (progress points.old) + 1) slot.0) }
 {
     let args = two_slots(alloc, left, right)?;
     points.compute(Source::Truth { work, args })
-}
-
-/// The number of an integer literal.
-#[tactic(auto, using(php_syntax::proofs::Views::views))]
-pub fn literal_number(expr: &Expr) -> Option<i64>
-    ensures { MatchOption result (IsNoNumber (plain_expr expr.now)) (λ number. plain_expr expr.now ≡ int_expr number) }
-{
-    match expr {
-        Expr::Int(number) => Some(*number),
-        _ => None,
-    }
-}
-
-/// The bytes of a text literal.
-#[tactic(auto, using(php_syntax::proofs::Views::views))]
-pub fn literal_text(expr: &Expr) -> Option<&Bytes>
-    ensures { MatchOption result (IsNoText (plain_expr expr.now)) (λ text. plain_expr expr.now ≡ text_expr text.now) }
-{
-    match expr {
-        Expr::Text(text) => Some(text),
-        _ => None,
-    }
 }

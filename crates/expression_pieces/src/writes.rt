@@ -48,14 +48,16 @@ pub fn write(
     points: &mut PointBuilder,
 ) -> Result<(), NoMemory>
     ensures { OnOk result (Puts (progress points.old) (progress points.new)
-        (set_point variable.0 (written variable.0 (map plain_maybe_key path.items) value.0) (place (progress points.old) + 1) ∷ []) 0) }
+        (set_point variable.0 (written variable.0 (map plain_maybe_key path.items) value.0)
+        (place (progress points.old) + 1) ∷ []) 0) }
 {
     set_variable(variable, written_source(variable, path, value), points)
 }
 
 /// What the member under a key is set to, where `[]` has none.
 fn member_source(alloc: Global, base: Slot, key: &Option<KeyRef>) -> Result<Source, NoMemory>
-    ensures { IfOk result (λ source. plain_source source ≡ member_at base.0 (plain_maybe_key key.now)) }
+    ensures { IfOk result
+        (λ source. plain_source source ≡ member_at base.0 (plain_maybe_key key.now)) }
 {
     match key {
         None => Ok(Source::Lit(Value::Null)),
@@ -75,7 +77,8 @@ pub fn lower_members(
 ) -> Result<Slot, NoMemory>
     requires { base.0 + 1 ≡ (progress points.old).slot }
     ensures puts { OnOk result (Puts (progress points.old) (progress points.new)
-        (members_along base.0 (map plain_maybe_key path.now) (place (progress points.old)) (progress points.old).slot) (length path.now)) }
+        (members_along base.0 (map plain_maybe_key path.now) (place (progress points.old))
+        (progress points.old).slot) (length path.now)) }
     ensures slot { IfOk result (λ slot. slot.0 + 1 ≡ (progress points.new).slot) }
 {
     let mut member = base;
@@ -111,7 +114,8 @@ pub fn updating_source(
 
 // An arithmetic operation on the old value and the right side.
 fn arithmetic(alloc: Global, sign: ArithSign, old: Slot, right: Slot) -> Result<Source, NoMemory>
-    ensures { IfOk result (λ source. plain_source source ≡ number_source (work.Arith sign) (old.0 ∷ right.0 ∷ [])) }
+    ensures { IfOk result
+        (λ source. plain_source source ≡ number_source (work.Arith sign) (old.0 ∷ right.0 ∷ [])) }
 {
     let args = two_slots(alloc, old, right)?;
     let work = Work::Arith(sign);
@@ -131,8 +135,11 @@ pub fn finish_updated(
 ) -> Result<Slot, NoMemory>
     ensures slot { IfOk result (λ slot. slot.0 ≡ (progress points.old).slot) }
     ensures puts { OnOk result (Puts (progress points.old) (progress points.new)
-        (set_point (progress points.old).slot (updating sign old.0 right.0) (place (progress points.old) + 1)
-        ∷ set_point variable.0 (written variable.0 (map plain_maybe_key path.items) (progress points.old).slot) (place (progress points.old) + 2) ∷ []) 1) }
+        (set_point (progress points.old).slot (updating sign old.0 right.0)
+        (place (progress points.old) + 1)
+        ∷ set_point variable.0
+        (written variable.0 (map plain_maybe_key path.items) (progress points.old).slot)
+        (place (progress points.old) + 2) ∷ []) 1) }
 {
     let source = updating_source(alloc, sign, old, right)?;
     let slot = points.compute(source)?;
@@ -142,7 +149,8 @@ pub fn finish_updated(
 
 // What `++` and `--` set a variable to.
 fn step_source(alloc: Global, variable: Slot, up: bool) -> Result<Source, NoMemory>
-    ensures { IfOk result (λ source. plain_source source ≡ number_source (step_work up) (variable.0 ∷ [])) }
+    ensures { IfOk result
+        (λ source. plain_source source ≡ number_source (step_work up) (variable.0 ∷ [])) }
 {
     let args = one_slot(alloc, variable)?;
     if up {
@@ -161,7 +169,9 @@ pub fn lower_step_before(
     up: bool,
     points: &mut PointBuilder,
 ) -> Result<Slot, NoMemory>
-    ensures { IfOk result (λ slot. Emits (progress points.old) (progress points.new) (step_code variable.0 up true) slot.0) }
+    ensures { IfOk result
+        (λ slot. Emits (progress points.old) (progress points.new) (step_code variable.0 up true)
+        slot.0) }
 {
     let source = step_source(alloc, variable, up)?;
     set_variable(variable, source, points)?;
@@ -176,7 +186,9 @@ pub fn lower_step_after(
     up: bool,
     points: &mut PointBuilder,
 ) -> Result<Slot, NoMemory>
-    ensures { IfOk result (λ slot. Emits (progress points.old) (progress points.new) (step_code variable.0 up false) slot.0) }
+    ensures { IfOk result
+        (λ slot. Emits (progress points.old) (progress points.new) (step_code variable.0 up false)
+        slot.0) }
 {
     let source = step_source(alloc, variable, up)?;
     let copy = points.compute(Source::Copy(variable))?;
@@ -184,7 +196,8 @@ pub fn lower_step_after(
     Ok(copy)
 }
 
-/// The end of `??=`: the right side is copied and written, and where the reserved point stands the old value is copied.
+/// The end of `??=`: the right side is copied and written, and where the reserved point stands the
+/// old value is copied.
 #[tactic(auto, using(flow_lowering::proofs::BranchLemmas::closes_of, flow_lowering::proofs::EmitLemmas::puts_then))]
 pub fn finish_filled(
     copy: usize,
@@ -196,9 +209,14 @@ pub fn finish_filled(
 ) -> Result<Slot, NoMemory>
     requires { copy < length (progress points.old).points }
     ensures slot { IfOk result (λ slot. slot.0 ≡ (progress points.old).slot) }
-    ensures closes { OnOk result (Closes (progress points.old) (progress points.new) copy (set_point (progress points.old).slot (copy_source old.0) (place (progress points.old) + 2))
-        (set_point (progress points.old).slot (copy_source right.0) (place (progress points.old) + 1)
-        ∷ set_point variable.0 (written variable.0 (map plain_maybe_key path.items) (progress points.old).slot) (place (progress points.old) + 2) ∷ []) 1) }
+    ensures closes { OnOk result
+        (Closes (progress points.old) (progress points.new) copy
+        (set_point (progress points.old).slot (copy_source old.0) (place (progress points.old) + 2))
+        (set_point (progress points.old).slot (copy_source right.0)
+        (place (progress points.old) + 1)
+        ∷ set_point variable.0
+        (written variable.0 (map plain_maybe_key path.items) (progress points.old).slot)
+        (place (progress points.old) + 2) ∷ []) 1) }
 {
     let next = points.ahead(2);
     let slot = points.compute(Source::Copy(right))?;

@@ -80,7 +80,8 @@ fn members(rt: HostRuntime) -> Result<(), Fail> {
     Ok(())
 }
 
-/// A function has the arguments of all its calls, and goes back to each; an end of the run ends all calls.
+/// A function has the arguments of all its calls, and goes back to each; an end of the run ends all
+/// calls.
 #[test]
 fn functions(rt: HostRuntime) -> Result<(), Fail> {
     for (script, pages, others) in [

@@ -30,7 +30,9 @@ pub(crate) fn edges_of(alloc: Global, files: &ScriptFiles) -> Result<Vec<Vec<usi
 
 // The places of the files that a tree includes.
 fn targets_of(alloc: Global, files: &ScriptFiles, tree: &FileTree) -> Result<Vec<usize>, NoMemory>
-    ensures { IfOk result (λ targets. targets.items ≡ places_of (files_of files.now) (includes_of_file (plain_file tree.now))) }
+    ensures { IfOk result
+        (λ targets. targets.items
+        ≡ places_of (files_of files.now) (includes_of_file (plain_file tree.now))) }
 {
     let mut paths = Vec::new(alloc);
     find_includes(alloc, tree, &mut paths)?;

@@ -11,12 +11,14 @@ use include_order::{OrderRefusal, order_of};
 use program_files::{LoadRefusal, ScriptFiles};
 use std::alloc::Global;
 
-/// The places of all files, from 0, each behind those of the files that it includes, directly or through others. Takes time linear in the files,
-/// and calls itself as deep as files include one another.
+/// The places of all files, from 0, each behind those of the files that it includes, directly or
+/// through others. Takes time linear in the files, and calls itself as deep as files include one
+/// another.
 ///
 /// # Errors
 ///
-/// `IncludeCycle` with the name of a file that includes itself, directly or through others, and `Memory`.
+/// `IncludeCycle` with the name of a file that includes itself, directly or through others, and
+/// `Memory`.
 pub fn order_files(alloc: Global, files: &ScriptFiles) -> Result<Vec<usize>, LoadRefusal>
     requires { AreWhole (files_of files.now) }
     ensures order { IfOk result (λ places. IsFileOrder (files_of files.now) places.items) }
@@ -33,7 +35,9 @@ pub fn order_files(alloc: Global, files: &ScriptFiles) -> Result<Vec<usize>, Loa
 // That the file at this place includes itself.
 fn cycle_at(alloc: Global, files: &ScriptFiles, place: usize) -> LoadRefusal
     requires { place < length (files_of files.now) }
-    ensures { (result ≡ Memory) ⊎ ((file : ReadFile) × (slice_get (files_of files.now) place ≡ Some file) × (result ≡ IncludeCycle file.name)) }
+    ensures { (result ≡ Memory)
+        ⊎ ((file : ReadFile) × (slice_get (files_of files.now) place ≡ Some file)
+        × (result ≡ IncludeCycle file.name)) }
 {
     match files.name(place) {
         Some(name) => match name.copy(alloc) {

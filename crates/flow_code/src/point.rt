@@ -12,7 +12,8 @@ pub enum FlowPoint {
         source: Source,
         next: Point,
     },
-    /// Calls a function of the program by its number, with the values of these slots as its parameters, and sets a slot to its result.
+    /// Calls a function of the program by its number, with the values of these slots as its
+    /// parameters, and sets a slot to its result.
     Call {
         slot: Slot,
         function: u64,

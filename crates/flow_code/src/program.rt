@@ -3,7 +3,8 @@
 use crate::point::FlowPoint;
 use text_base::{Point, Slot};
 
-/// A function: where it begins, the slots of its parameters, and the slots and points that are its own.
+/// A function: where it begins, the slots of its parameters, and the slots and points that are its
+/// own.
 #[derive(Debug, Drop)]
 pub struct FlowFunction {
     pub entry: Point,
@@ -14,7 +15,8 @@ pub struct FlowFunction {
     pub points: Vec<FlowPoint>,
 }
 
-/// A program: its first function holds the statements outside functions. Points and slots are numbered through all functions.
+/// A program: its first function holds the statements outside functions. Points and slots are
+/// numbered through all functions.
 #[derive(Debug, Drop)]
 pub struct FlowProgram {
     pub functions: Vec<FlowFunction>,

@@ -44,8 +44,8 @@ pub enum Work {
     Builtin(Builtin),
 }
 
-/// What a slot is set to. Where a function of PHP is named, `args` has the slots of all its arguments, and the other fields say how
-/// the analysis takes the call.
+/// What a slot is set to. Where a function of PHP is named, `args` has the slots of all its
+/// arguments, and the other fields say how the analysis takes the call.
 #[derive(Debug, Drop)]
 pub enum Source {
     /// A literal, which is no array.
@@ -58,7 +58,8 @@ pub enum Source {
     MemberOf(Slot, KeyRef),
     /// An array literal: for each item its key, where one is written, and its value.
     ArrayOf(Vec<(Option<KeyRef>, Slot)>),
-    /// A value with another one written in at the end of a path of keys, where None is the key that comes next.
+    /// A value with another one written in at the end of a path of keys, where None is the key that
+    /// comes next.
     PutIn(Slot, Vec<Option<KeyRef>>, Slot),
     /// The text forms of values, joined.
     Concat(Vec<Slot>),

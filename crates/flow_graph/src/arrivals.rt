@@ -115,7 +115,8 @@ pub fn arrivals_of(
     ensures all { IfOk result (λ arrivals. arrivals.all.items
         ≡ from_steps (length steps.now) 0 (steps_seen steps.now)
         ++ from_functions (length steps.now) 0 (map plain_flow_function functions.now)) }
-    ensures at { IfOk result (λ arrivals. ArePlaces (map target arrivals.all.items) arrivals.at.items) }
+    ensures at { IfOk result
+        (λ arrivals. ArePlaces (map target arrivals.all.items) arrivals.at.items) }
     ensures len { IfOk result (λ arrivals. vec_len arrivals.at ≡ length steps.now) }
 {
     let count = steps.len() as u64;

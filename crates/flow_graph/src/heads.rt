@@ -26,7 +26,8 @@ fn only_place(places: &[usize]) -> Option<usize>
 // The point from which the one edge comes that leads to a point, where nothing else does.
 fn only_edge(arrivals: &Arrivals, point: usize) -> Option<u64>
     requires { ArePlaces (map target arrivals.now.all.items) arrivals.now.at.items }
-    ensures { IfSome result (λ q. (a : Arrival) → Contains arrivals.now.all.items (point, a) → a ≡ Edge q) }
+    ensures { IfSome result
+        (λ q. (a : Arrival) → Contains arrivals.now.all.items (point, a) → a ≡ Edge q) }
 {
     let place = only_place(arrivals.at.get(point)?)?;
     match arrivals.all.get(place)?.1 {
@@ -62,7 +63,8 @@ fn goes_on(steps: &[Step], arrivals: &Arrivals, point: usize) -> bool
 // The first point of the row of a point, where `before` is that of the point before it.
 fn head_at(steps: &[Step], arrivals: &Arrivals, point: usize, before: u64) -> u64
     requires { ArePlaces (map target arrivals.now.all.items) arrivals.now.at.items }
-    ensures { (result ≡ point) ⊎ ((result ≡ before) × GoesOn (steps_seen steps.now) arrivals.now.all.items point) }
+    ensures { (result ≡ point)
+        ⊎ ((result ≡ before) × GoesOn (steps_seen steps.now) arrivals.now.all.items point) }
 {
     if goes_on(steps, arrivals, point) {
         before
@@ -71,12 +73,13 @@ fn head_at(steps: &[Step], arrivals: &Arrivals, point: usize, before: u64) -> u6
     }
 }
 
-/// The first point of the row in which each point stands: a point stands in the row of the one before it where that one goes on
-/// there alone, and nothing else leads there. Linear in points.
+/// The first point of the row in which each point stands: a point stands in the row of the one
+/// before it where that one goes on there alone, and nothing else leads there. Linear in points.
 pub fn heads_of(alloc: Global, steps: &[Step], arrivals: &Arrivals) -> Result<Vec<u64>, NoMemory>
     requires { ArePlaces (map target arrivals.now.all.items) arrivals.now.at.items }
     ensures len { IfOk result (λ heads. vec_len heads ≡ length steps.now) }
-    ensures heads { IfOk result (λ heads. AreHeads (steps_seen steps.now) arrivals.now.all.items heads.items) }
+    ensures heads { IfOk result
+        (λ heads. AreHeads (steps_seen steps.now) arrivals.now.all.items heads.items) }
 {
     let mut heads = Vec::new(alloc);
     let mut head = 0;

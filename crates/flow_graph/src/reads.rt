@@ -21,7 +21,8 @@ fn put(slot: Slot, reads: &mut Vec<Slot>) -> Result<(), NoMemory>
 // Slots in a row.
 #[tactic(auto, using(crate::proofs::NumberLemmas::ends))]
 fn of_slots(slots: &[Slot], reads: &mut Vec<Slot>) -> Result<(), NoMemory>
-    ensures { OnOk result (numbers reads.new.items ≡ numbers reads.old.items ++ map slot_number slots.now) }
+    ensures { OnOk result
+        (numbers reads.new.items ≡ numbers reads.old.items ++ map slot_number slots.now) }
 {
     for slot in slots {
         put(*slot, reads)?;
@@ -32,7 +33,8 @@ fn of_slots(slots: &[Slot], reads: &mut Vec<Slot>) -> Result<(), NoMemory>
 // A slot, and then others.
 #[tactic(auto, using(crate::proofs::NumberLemmas::ends))]
 fn of_first(first: Slot, slots: &[Slot], reads: &mut Vec<Slot>) -> Result<(), NoMemory>
-    ensures { OnOk result (numbers reads.new.items ≡ numbers reads.old.items ++ first.0 ∷ map slot_number slots.now) }
+    ensures { OnOk result
+        (numbers reads.new.items ≡ numbers reads.old.items ++ first.0 ∷ map slot_number slots.now) }
 {
     put(first, reads)?;
     of_slots(slots, reads)
@@ -41,7 +43,9 @@ fn of_first(first: Slot, slots: &[Slot], reads: &mut Vec<Slot>) -> Result<(), No
 // A key.
 #[tactic(auto, using(crate::proofs::NumberLemmas::ends))]
 fn of_key(key: &KeyRef, reads: &mut Vec<Slot>) -> Result<(), NoMemory>
-    ensures { OnOk result (numbers reads.new.items ≡ numbers reads.old.items ++ lawful.key_slots (plain_key_ref key.now)) }
+    ensures { OnOk result
+        (numbers reads.new.items ≡ numbers reads.old.items
+        ++ lawful.key_slots (plain_key_ref key.now)) }
 {
     match key {
         KeyRef::Read(slot) => put(*slot, reads),

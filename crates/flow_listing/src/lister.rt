@@ -21,10 +21,12 @@ pub struct FlowLister<'a> {
 }
 
 impl<'a> FlowLister<'a> {
-    /// The lister of a program. Linear in the program, and for each slot that is joined where several
-    /// points lead, in these points.
+    /// The lister of a program. Linear in the program, and for each slot that is joined where
+    /// several points lead, in these points.
     pub fn new(alloc: Global, flow: &'a FlowProgram) -> Result<FlowLister<'a>, NoMemory>
-        ensures { IfOk result (λ lister. IsExactLister (plain_flow flow.now) (IsAsked lister.tables) (lists_of lister.tables)) }
+        ensures { IfOk result
+            (λ lister. IsExactLister (plain_flow flow.now) (IsAsked lister.tables)
+            (lists_of lister.tables)) }
     {
         let tables = tables_of(alloc, flow)?;
         Ok(FlowLister { tables })

@@ -18,7 +18,8 @@ pub struct Reserved {
     pub behind: Point,
 }
 
-/// The points of a function that are made so far. Contracts see what `progress` of specs/View.antt says.
+/// The points of a function that are made so far. Contracts see what `progress` of specs/View.antt
+/// says.
 #[derive(Debug, Drop)]
 pub struct PointBuilder {
     /// The points.
@@ -78,7 +79,8 @@ impl PointBuilder {
 
     /// Puts a point behind the others.
     pub fn push(&mut self, point: FlowPoint) -> Result<(), NoMemory>
-        ensures { OnOk result (Puts (progress self.old) (progress self.new) (plain_point point ∷ []) 0) }
+        ensures { OnOk result
+            (Puts (progress self.old) (progress self.new) (plain_point point ∷ []) 0) }
     {
         self.points.push(point)?;
         Ok(())
@@ -86,7 +88,9 @@ impl PointBuilder {
 
     /// Sets the next free slot, which is then taken, and goes on at a point.
     pub fn set_fresh(&mut self, source: Source, next: Point) -> Result<Slot, NoMemory>
-        ensures { IfOk result (λ slot. Sets (progress self.old) (progress self.new) (plain_source source) next.0 slot.0) }
+        ensures { IfOk result
+            (λ slot. Sets (progress self.old) (progress self.new) (plain_source source) next.0
+            slot.0) }
     {
         let slot = Slot(self.slot);
         self.points.push(FlowPoint::Set { slot, source, next })?;
@@ -96,16 +100,20 @@ impl PointBuilder {
 
     /// Sets the next free slot, which is then taken, and goes on at the point behind.
     pub fn compute(&mut self, source: Source) -> Result<Slot, NoMemory>
-        ensures { IfOk result (λ slot. Sets (progress self.old) (progress self.new) (plain_source source) (place (progress self.old) + 1) slot.0) }
+        ensures { IfOk result
+            (λ slot. Sets (progress self.old) (progress self.new) (plain_source source)
+            (place (progress self.old) + 1) slot.0) }
     {
         let next = self.ahead(1);
         self.set_fresh(source, next)
     }
 
-    /// Calls a function and sets the next free slot, which is then taken, to its result; goes on at the point behind.
+    /// Calls a function and sets the next free slot, which is then taken, to its result; goes on at
+    /// the point behind.
     pub fn call(&mut self, function: u64, args: Vec<Slot>) -> Result<Slot, NoMemory>
         ensures puts { OnOk result (Puts (progress self.old) (progress self.new)
-            (call_point (progress self.old).slot function (map slot_number args.items) (place (progress self.old) + 1) ∷ []) 1) }
+            (call_point (progress self.old).slot function (map slot_number args.items)
+            (place (progress self.old) + 1) ∷ []) 1) }
         ensures slot { IfOk result (λ slot. slot.0 ≡ (progress self.old).slot) }
     {
         let next = self.ahead(1);
@@ -122,7 +130,8 @@ impl PointBuilder {
 
     /// Puts a point behind the others, to be replaced once it is known where it leads.
     pub fn reserve(&mut self) -> Result<Reserved, NoMemory>
-        ensures { IfOk result (λ point. Reserves (progress self.old) (progress self.new) point.index point.behind.0) }
+        ensures { IfOk result
+            (λ point. Reserves (progress self.old) (progress self.new) point.index point.behind.0) }
     {
         let index = self.points.len();
         let behind = self.ahead(1);

@@ -13,11 +13,13 @@ ghost use Rattle.flow_runs.specs.Fits.{ProgramFits};
 
 /// Where a run of a program ended, the points of the program have a run that printed the same.
 pub fn ended_runs_are_runs_of_points()
-    ensures { (program : PlainProgram) (r : PlainRequest) (n : ℕ) (w : List ℕ) → HaveDefaults program.functions_of →
+    ensures { (program : PlainProgram) (r : PlainRequest) (n : ℕ) (w : List ℕ)
+        → HaveDefaults program.functions_of →
         meaning program r n ≡ record { printed = w; end = Ended } → FlatRun (flat program) r w }
 {}
 
 /// The points of a program keep what is asked of points.
 pub fn points_are_of_their_form()
-    ensures { (program : PlainProgram) → HaveDefaults program.functions_of → ProgramFits program → IsFlow (flat program) }
+    ensures { (program : PlainProgram) → HaveDefaults program.functions_of → ProgramFits program
+        → IsFlow (flat program) }
 {}

@@ -1,5 +1,5 @@
-//! What points do is what their program does: laws alone. The definitions stand in flow_code and script_meaning; what is asked of the
-//! defaults of parameters stands in specs/Defaults.antt.
+//! What points do is what their program does: laws alone. The definitions stand in flow_code and
+//! script_meaning; what is asked of the defaults of parameters stands in specs/Defaults.antt.
 #![tactic(auto)]
 
 mod laws;

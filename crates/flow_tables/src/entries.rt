@@ -30,14 +30,15 @@ pub fn push_results(
     aspect: Aspect,
     function: u64,
 ) -> Result<(), NoMemory>
-    ensures { OnOk result (Adds forms.old.items forms.new.items (spec.result_forms tables.now aspect function)) }
+    ensures { OnOk result
+        (Adds forms.old.items forms.new.items (spec.result_forms tables.now aspect function)) }
 {
     let pairs = pairs_of(&tables.returned, function);
     push_pairs(forms, &tables.versions, pairs, aspect)
 }
 
-/// What a slot has where the function of a number is entered, behind the others. Linear in the calls
-/// that hand something in for it.
+/// What a slot has where the function of a number is entered, behind the others. Linear in the
+/// calls that hand something in for it.
 pub fn push_entered(
     alloc: Global,
     forms: &mut Vec<NamedForm>,
@@ -46,7 +47,8 @@ pub fn push_entered(
     function: u64,
     slot: u64,
 ) -> Result<(), NoMemory>
-    ensures { OnOk result (Adds forms.old.items forms.new.items (spec.entered_forms tables.now aspect function slot)) }
+    ensures { OnOk result
+        (Adds forms.old.items forms.new.items (spec.entered_forms tables.now aspect function slot)) }
 {
     let pairs = tables.handed.pairs(alloc, function, slot)?;
     let is_null = is_null(&tables.flow.functions, &tables.params, function, slot);

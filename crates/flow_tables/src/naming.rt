@@ -94,8 +94,8 @@ fn push_forms(
     )
 }
 
-/// The forms of a set by its name: all ways in which its texts are made. Linear in these, beside the
-/// parts of the point to which the set belongs.
+/// The forms of a set by its name: all ways in which its texts are made. Linear in these, beside
+/// the parts of the point to which the set belongs.
 pub fn forms_by(
     alloc: Global,
     tables: &FlowTables<'_>,

@@ -16,7 +16,8 @@ fn put_params(
     function: u64,
     params: &[Slot],
 ) -> Result<(), NoMemory>
-    ensures { OnOk result (spec.Puts keys.old.keys keys.new.keys function (map slot_number params.now)) }
+    ensures { OnOk result
+        (spec.Puts keys.old.keys keys.new.keys function (map slot_number params.now)) }
 {
     for param in params {
         number(keys, (function, param.0))?;
@@ -70,7 +71,8 @@ pub fn is_null(
     number: u64,
     slot: u64,
 ) -> bool
-    ensures { result ≡ spec.is_null (map plain_flow_function functions.now) keys.now.keys number slot }
+    ensures { result ≡ spec.is_null (map plain_flow_function functions.now) keys.now.keys number
+        slot }
 {
     let is_owned = is_owned(functions, number, slot);
     let is_no_param = is_no_param(keys, number, slot);

@@ -37,8 +37,10 @@ fn puts(out: Out, byte: u8, wanted: u8) -> bool
 /// How far the output is written after all of `out`, put out as `byte` is read, where it was
 /// written up to `from`; None where the output goes on otherwise.
 fn written_after(out: &[Out], byte: u8, output: &[u8], from: usize) -> Option<usize>
-    ensures puts { MatchOption result ((rest : List Letter) → letters_from output.now from ≢ map (letter_of byte) out.now ++ rest)
-        (λ at. letters_from output.now from ≡ map (letter_of byte) out.now ++ letters_from output.now at) }
+    ensures puts { MatchOption result
+        ((rest : List Letter) → letters_from output.now from ≢ map (letter_of byte) out.now ++ rest)
+        (λ at. letters_from output.now from ≡ map (letter_of byte) out.now
+        ++ letters_from output.now at) }
     ensures within { IfSome result (λ at. (from ≤ length output.now) ↔ (at ≤ length output.now)) }
 {
     let mut at = from;
@@ -85,7 +87,8 @@ fn try_move(
 
 /// Adds a place that is reached, unless it is there.
 fn add_reached(next: &mut IndexSet<Reached>, reached: Reached) -> Result<(), NoMemory>
-    ensures { OnOk result ((r : Reached) → Contains next.new.keys r ↔ (Contains next.old.keys r ⊎ (r ≡ reached))) }
+    ensures { OnOk result
+        ((r : Reached) → Contains next.new.keys r ↔ (Contains next.old.keys r ⊎ (r ≡ reached))) }
 {
     let (_, _) = next.insert_full(reached)?;
     Ok(())
@@ -162,7 +165,8 @@ fn next_layer(
 /// Where the output has to have been written up to for an end to put out just what is left; None
 /// where there is no such place.
 fn written_before(out: &[Out], output: &[u8]) -> Option<usize>
-    ensures { MatchOption result ((at : ℕ) → at ≤ length output.now → letters_from output.now at ≢ map (letter_of 0) out.now)
+    ensures { MatchOption result
+        ((at : ℕ) → at ≤ length output.now → letters_from output.now at ≢ map (letter_of 0) out.now)
         (λ at. (at ≤ length output.now) × (letters_from output.now at ≡ map (letter_of 0) out.now)) }
 {
     if out.len() > output.len() {
@@ -224,7 +228,8 @@ fn add_place(index: &mut Vec<Vec<usize>>, state: u64, place: usize) -> Result<()
 
 /// For each state, the places of its moves in the table.
 fn moves_by_state(alloc: Global, table: &Table) -> Result<Vec<Vec<usize>>, NoMemory>
-    ensures { IfOk result (λ index. IsIndex table.now.moves.items (length table.now.moves.items) index.items) }
+    ensures { IfOk result
+        (λ index. IsIndex table.now.moves.items (length table.now.moves.items) index.items) }
 {
     let mut index = empty_index(alloc, table.states)?;
     for place in 0..table.moves.len() {
@@ -237,7 +242,8 @@ fn moves_by_state(alloc: Global, table: &Table) -> Result<Vec<Vec<usize>>, NoMem
 /// Whether the table may put out the output over the input. It takes time and memory within the
 /// moves and states, times the bytes of the input, times the bytes of the output.
 pub fn applies(alloc: Global, table: &Table, input: &[u8], output: &[u8]) -> Result<bool, NoMemory>
-    ensures { IfOk result (λ answer. IsTrue answer ↔ TableRelates table.now input.now (map OfByte output.now)) }
+    ensures { IfOk result
+        (λ answer. IsTrue answer ↔ TableRelates table.now input.now (map OfByte output.now)) }
 {
     let index = moves_by_state(alloc, table)?;
     let mut layer = IndexSet::new(alloc);

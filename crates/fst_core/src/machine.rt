@@ -69,5 +69,6 @@ pub trait Machine {
         requires { gives self.now state.now }
         ensures exact { IfOk result (λ lasts. (letters : List Letter)
             → OffersLast lasts.items letters ↔ ends self.now state.now letters) }
-        ensures fixed { IfOk result (λ lasts. All (λ out. IsTrue (list_all is_fixed out.items)) lasts.items) };
+        ensures fixed { IfOk result
+            (λ lasts. All (λ out. IsTrue (list_all is_fixed out.items)) lasts.items) };
 }

@@ -67,7 +67,9 @@ impl Table {
         requires ordered { lo ≤ hi }
         requires from { from < self.old.states }
         requires to { ForSome (option_copied action) (λ a. a.to < self.old.states) }
-        ensures moves { OnOk result (AddsChoice self.old.moves.items self.new.moves.items from lo hi (option_copied action.entry)) }
+        ensures moves { OnOk result
+            (AddsChoice self.old.moves.items self.new.moves.items from lo hi
+            (option_copied action.entry)) }
         ensures states { self.new.states ≡ self.old.states }
         ensures start { self.new.start ≡ self.old.start }
         ensures ends { self.new.ends.items ≡ self.old.ends.items }
@@ -98,7 +100,8 @@ impl Table {
         requires from { from < self.old.states }
         requires bytes { length named.now ≡ 256 }
         requires to { All (λ a. a.to < self.old.states) actions.now }
-        ensures moves { OnOk result (AddsRow self.old.moves.items self.new.moves.items from named.now actions.now) }
+        ensures moves { OnOk result
+            (AddsRow self.old.moves.items self.new.moves.items from named.now actions.now) }
         ensures states { self.new.states ≡ self.old.states }
         ensures start { self.new.start ≡ self.old.start }
         ensures ends { self.new.ends.items ≡ self.old.ends.items }

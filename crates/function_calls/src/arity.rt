@@ -35,7 +35,8 @@ fn has_default(param: &Param) -> bool
     }
 }
 
-/// The numbers of arguments that these parameters take: the last ones may be left out as far as they have defaults.
+/// The numbers of arguments that these parameters take: the last ones may be left out as far as
+/// they have defaults.
 pub fn numbers_of(params: &[Param]) -> Numbers
     ensures { AreNumbersOf result (params_of_list params.now) }
 {

@@ -10,7 +10,8 @@ use program_files::ScriptFiles;
 use std::alloc::Global;
 use text_base::NoMemory;
 
-/// The calls in all files, those of each file outside functions first. Takes time and memory linear in the files.
+/// The calls in all files, those of each file outside functions first. Takes time and memory linear
+/// in the files.
 pub fn calls_of(alloc: Global, files: &ScriptFiles) -> Result<Vec<Call>, NoMemory>
     ensures { IfOk result (λ calls. calls_seen calls.items ≡ calls_in_files (files_of files.now)) }
 {

@@ -29,7 +29,9 @@ pub(crate) fn lower_body(
 ) -> Result<PointBuilder, LoweringError>
     requires point { point ≤ START_LIMIT }
     requires free { free ≤ START_LIMIT }
-    ensures { IfOk result (λ points. progress points ≡ with_return (block (scope_in scope.now) (stmts_of body.now)) point free) }
+    ensures { IfOk result
+        (λ points. progress points
+        ≡ with_return (block (scope_in scope.now) (stmts_of body.now)) point free) }
 {
     let mut points = PointBuilder::new(alloc, point, free);
     let mut exits = Vec::new(alloc);

@@ -46,7 +46,8 @@ fn parameter_slots(
     params: &[Param],
 ) -> Result<Vec<Slot>, NoMemory>
     ensures { IfOk result (λ slots. map slot_number slots.items
-        ≡ map (λ (p : PlainParam). variable (scope_in scope.now) p.name_of) (params_of_list params.now)) }
+        ≡ map (λ (p : PlainParam). variable (scope_in scope.now) p.name_of)
+        (params_of_list params.now)) }
 {
     let mut slots = Vec::new(alloc);
     for param in params {
@@ -56,7 +57,8 @@ fn parameter_slots(
     Ok(slots)
 }
 
-// A function with these parameters and this body, whose first point and first slot have these numbers.
+// A function with these parameters and this body, whose first point and first slot have these
+// numbers.
 fn lower_function(
     alloc: Global,
     functions: &[FunctionDef],
@@ -69,7 +71,8 @@ fn lower_function(
     requires point { point ≤ START_LIMIT }
     requires slot { slot ≤ START_LIMIT }
     ensures { IfOk result (λ made. (name : List ℕ) → plain_flow_function made
-        ≡ flat_function (functions_of_list functions.now) (function_with name params.now body.now) point slot) }
+        ≡ flat_function (functions_of_list functions.now) (function_with name params.now body.now)
+        point slot) }
 {
     let names = variables_of(alloc, params, body)?;
     let free = behind(slot, count(&names) as u64)?;
@@ -91,7 +94,8 @@ fn lower_function(
     })
 }
 
-/// All functions of a program: first the statements outside functions, then the others in their order.
+/// All functions of a program: first the statements outside functions, then the others in their
+/// order.
 pub fn lower_functions(
     alloc: Global,
     main: &[Stmt],
@@ -99,7 +103,8 @@ pub fn lower_functions(
 ) -> Result<Vec<FlowFunction>, LoweringError>
     requires few { length functions.now < 9223372036854775808 }
     ensures { IfOk result (λ made. map plain_flow_function made.items
-        ≡ flat_functions (functions_of_list functions.now) (function_with [] [] main.now ∷ functions_of_list functions.now) 0 0) }
+        ≡ flat_functions (functions_of_list functions.now)
+        (function_with [] [] main.now ∷ functions_of_list functions.now) 0 0) }
 {
     let first = lower_function(alloc, functions, &[], main, 0, 0)?;
     let mut point = behind(0, first.points.len() as u64)?;

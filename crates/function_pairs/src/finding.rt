@@ -34,7 +34,8 @@ fn key_number(keys: &IndexSet<(u64, u64)>, function: u64, param: u64) -> Option<
 
 // The places of the items of a key.
 fn places_under(groups: &Groups, function: u64, param: u64) -> &[usize]
-    ensures { result.now ≡ places_of groups.now.places.items (number_in groups.now.keys.keys function param) }
+    ensures { result.now
+        ≡ places_of groups.now.places.items (number_in groups.now.keys.keys function param) }
 {
     let Some(number) = key_number(&groups.keys, function, param) else {
         return &[];
@@ -95,14 +96,17 @@ impl Handed {
     ) -> Result<Handed, NoMemory>
         ensures all { IfOk result (λ handed. handed.all.items
             ≡ handings_from (map plain_flow_function functions.now) 0 (points_seen row.now)) }
-        ensures groups { IfOk result (λ handed. AreGroups handed.all.items handed.groups.keys.keys handed.groups.places.items) }
+        ensures groups { IfOk result
+            (λ handed. AreGroups handed.all.items handed.groups.keys.keys
+            handed.groups.places.items) }
     {
         let all = handings(alloc, row, functions)?;
         let groups = group(alloc, &all)?;
         Ok(Handed { all, groups })
     }
 
-    /// The pairs of the point of a call and the slot that it hands in for a parameter of a function. Linear in these.
+    /// The pairs of the point of a call and the slot that it hands in for a parameter of a
+    /// function. Linear in these.
     pub fn pairs(
         &self,
         alloc: Global,
@@ -110,7 +114,8 @@ impl Handed {
         param: u64,
     ) -> Result<Vec<(u64, u64)>, NoMemory>
         ensures { IfOk result (λ pairs. pairs.items
-            ≡ pairs_under self.now.all.items self.now.groups.keys.keys self.now.groups.places.items function param) }
+            ≡ pairs_under self.now.all.items self.now.groups.keys.keys self.now.groups.places.items
+            function param) }
     {
         pairs_at(
             alloc,

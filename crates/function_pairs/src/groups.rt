@@ -8,7 +8,8 @@ use numbered_sets::{count, number, places_by};
 use std::alloc::Global;
 use text_base::NoMemory;
 
-/// For each function and parameter for which some call hands something in, the places of the items in the list of all.
+/// For each function and parameter for which some call hands something in, the places of the items
+/// in the list of all.
 #[derive(Debug, Drop)]
 pub struct Groups {
     /// The functions and parameters.

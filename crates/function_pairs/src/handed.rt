@@ -35,7 +35,8 @@ fn put_args(
 
 // The parameters of the function of a number.
 fn params_of(functions: &[FlowFunction], number: u64) -> &[Slot]
-    ensures { map slot_number result.now ≡ spec.params_of (slice_get (map plain_flow_function functions.now) number) }
+    ensures { map slot_number result.now
+        ≡ spec.params_of (slice_get (map plain_flow_function functions.now) number) }
 {
     match functions.get(number as usize) {
         Some(function) => function.params.as_slice(),
@@ -78,7 +79,8 @@ fn put_point(
     }
 }
 
-/// What calls hand in, in the order of points: each with its function and parameter, its point and its slot. Linear in the points and the arguments.
+/// What calls hand in, in the order of points: each with its function and parameter, its point and
+/// its slot. Linear in the points and the arguments.
 #[tactic(auto, using(crate::proofs::PairLemmas::ends), unfolding(crate::specs::Handed::handings_from))]
 pub fn handings(
     alloc: Global,

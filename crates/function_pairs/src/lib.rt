@@ -1,5 +1,5 @@
-//! Pairs of a point and a slot for functions: what each function returns, and what calls hand in for each parameter. Below stand text_base, indexmap,
-//! numbered_sets, flow_code and point_rows.
+//! Pairs of a point and a slot for functions: what each function returns, and what calls hand in
+//! for each parameter. Below stand text_base, indexmap, numbered_sets, flow_code and point_rows.
 #![tactic(auto)]
 
 mod finding;

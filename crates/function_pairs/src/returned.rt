@@ -111,7 +111,8 @@ fn returned_by(
     Ok(pairs)
 }
 
-/// For each function its pairs of a point that returns and the slot that it returns. Linear in the points.
+/// For each function its pairs of a point that returns and the slot that it returns. Linear in the
+/// points.
 #[tactic(auto, using(crate::proofs::PairLemmas::ends))]
 pub fn returned_pairs(
     alloc: Global,

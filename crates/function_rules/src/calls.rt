@@ -16,7 +16,8 @@ use std::alloc::Global;
 
 // Whether a call is of a function that there is.
 fn knows(table: &FunctionTable, call: &Call) -> bool
-    ensures { OfTable table.now.rows (λ functions. result ≡ is_known functions (plain_call call.now)) }
+    ensures { OfTable table.now.rows
+        (λ functions. result ≡ is_known functions (plain_call call.now)) }
 {
     Builtin::of(call.name.as_slice()).is_some() || table.numbers(&call.name).is_some()
 }
@@ -35,7 +36,8 @@ fn builtin_takes(builtin: Builtin, count: usize) -> bool
 
 // Whether a call hands in as many arguments as its function takes, if there is one.
 fn serves(table: &FunctionTable, call: &Call) -> bool
-    ensures { OfTable table.now.rows (λ functions. result ≡ serves_call functions (plain_call call.now)) }
+    ensures { OfTable table.now.rows
+        (λ functions. result ≡ serves_call functions (plain_call call.now)) }
 {
     match Builtin::of(call.name.as_slice()) {
         Some(builtin) => builtin_takes(builtin, call.arguments),
@@ -52,8 +54,11 @@ pub(crate) fn check_known(
     table: &FunctionTable,
     calls: &[Call],
 ) -> Result<(), LoadRefusal>
-    ensures ok { OnOk result (OfTable table.now.rows (λ functions. NoneIs (is_unknown functions) (calls_seen calls.now))) }
-    ensures err { IfErr result (λ refusal. OfTable table.now.rows (λ functions. IsUnknownCause functions (calls_seen calls.now) refusal)) }
+    ensures ok { OnOk result
+        (OfTable table.now.rows (λ functions. NoneIs (is_unknown functions) (calls_seen calls.now))) }
+    ensures err { IfErr result
+        (λ refusal. OfTable table.now.rows
+        (λ functions. IsUnknownCause functions (calls_seen calls.now) refusal)) }
 {
     for call in calls {
         if !knows(table, call) {
@@ -70,8 +75,11 @@ pub(crate) fn check_arguments(
     table: &FunctionTable,
     calls: &[Call],
 ) -> Result<(), LoadRefusal>
-    ensures ok { OnOk result (OfTable table.now.rows (λ functions. NoneIs (is_misused functions) (calls_seen calls.now))) }
-    ensures err { IfErr result (λ refusal. OfTable table.now.rows (λ functions. IsArityCause functions (calls_seen calls.now) refusal)) }
+    ensures ok { OnOk result
+        (OfTable table.now.rows (λ functions. NoneIs (is_misused functions) (calls_seen calls.now))) }
+    ensures err { IfErr result
+        (λ refusal. OfTable table.now.rows
+        (λ functions. IsArityCause functions (calls_seen calls.now) refusal)) }
 {
     for call in calls {
         if !serves(table, call) {

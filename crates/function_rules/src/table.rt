@@ -29,15 +29,20 @@ impl FunctionTable {
 
     /// How many arguments the function of this name takes, if there is one.
     pub fn numbers(&self, name: &Bytes) -> Option<Numbers>
-        ensures { OfTable self.now.rows (λ functions. MatchOption result (function_named functions name.now ≡ None) (Takes functions name.now)) }
+        ensures { OfTable self.now.rows
+            (λ functions. MatchOption result (function_named functions name.now ≡ None)
+            (Takes functions name.now)) }
     {
         self.rows.get(name).copied()
     }
 
     /// One more function, of a name that is new.
     pub fn insert(&mut self, name: Bytes, numbers: Numbers) -> Result<(), NoMemory>
-        ensures { OnOk result ((functions : List PlainFunction) (function : PlainFunction) → IsTable self.old.rows functions →
-            function_named functions name ≡ None → function.name_of ≡ name → AreNumbersOf numbers function.params_of →
+        ensures { OnOk result
+            ((functions : List PlainFunction) (function : PlainFunction)
+            → IsTable self.old.rows functions →
+            function_named functions name ≡ None → function.name_of ≡ name
+            → AreNumbersOf numbers function.params_of →
             IsTable self.new.rows (functions ++ function ∷ [])) }
     {
         self.rows.insert(name, numbers)?;

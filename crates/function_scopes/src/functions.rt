@@ -7,7 +7,8 @@ ghost use Rattle.flow_code.specs.Expressions.{function_in};
 use php_syntax::tree::FunctionDef;
 use text_base::Bytes;
 
-/// The first function of a name, with its number. They are numbered from 1, since the statements outside functions are function 0 of the points.
+/// The first function of a name, with its number. They are numbered from 1, since the statements
+/// outside functions are function 0 of the points.
 #[tactic(auto, unfolding(flow_code::specs::Expressions::function_in))]
 pub(crate) fn named<'a>(
     functions: &'a [FunctionDef],
@@ -15,7 +16,8 @@ pub(crate) fn named<'a>(
 ) -> Option<(u64, &'a FunctionDef)>
     requires { length functions.now < 9223372036854775808 }
     ensures { MatchOption result (function_in 1 (functions_of_list functions.now) name.now ≡ None)
-        (λ found. function_in 1 (functions_of_list functions.now) name.now ≡ Some (found.0, plain_function found.1.now)) }
+        (λ found. function_in 1 (functions_of_list functions.now) name.now
+        ≡ Some (found.0, plain_function found.1.now)) }
 {
     let mut number = 1;
     let mut rest = functions;

@@ -11,8 +11,8 @@ use numbered_sets::{count, number_of};
 use php_syntax::tree::FunctionDef;
 use text_base::{Bytes, Slot};
 
-/// The variables of a function, whose slots are numbered from the function's first one, and the functions of the program.
-/// Contracts see what `scope_in` of specs/View.antt says.
+/// The variables of a function, whose slots are numbered from the function's first one, and the
+/// functions of the program. Contracts see what `scope_in` of specs/View.antt says.
 #[derive(Drop)]
 pub struct FunctionScope<'a> {
     /// The slot of the first variable.
@@ -44,7 +44,8 @@ impl<'a> FunctionScope<'a> {
     /// The first function of the program of a name, with its number.
     pub fn function(&self, name: &Bytes) -> Option<(u64, &'a FunctionDef)>
         ensures { MatchOption result (function_in 1 (scope_in self.now).functions name.now ≡ None)
-            (λ found. function_in 1 (scope_in self.now).functions name.now ≡ Some (found.0, plain_function found.1.now)) }
+            (λ found. function_in 1 (scope_in self.now).functions name.now
+            ≡ Some (found.0, plain_function found.1.now)) }
     {
         named(self.functions, name)
     }

@@ -58,7 +58,8 @@ fn in_boxed(
     middle: &Option<Box<Expr>>,
     names: &mut IndexSet<Bytes>,
 ) -> Result<(), NoMemory>
-    ensures { OnOk result (names.new.keys ≡ added names.old.keys (maybe_names (boxed_of middle.now))) }
+    ensures { OnOk result
+        (names.new.keys ≡ added names.old.keys (maybe_names (boxed_of middle.now))) }
 {
     match middle {
         Some(expr) => in_expr(alloc, expr, names),
@@ -90,7 +91,8 @@ pub(crate) fn in_exprs(
     exprs: &[Expr],
     names: &mut IndexSet<Bytes>,
 ) -> Result<(), NoMemory>
-    ensures { OnOk result (names.new.keys ≡ added names.old.keys (names_in_all (exprs_of exprs.now))) }
+    ensures { OnOk result
+        (names.new.keys ≡ added names.old.keys (names_in_all (exprs_of exprs.now))) }
 {
     for expr in exprs {
         in_expr(alloc, expr, names)?;
@@ -141,7 +143,8 @@ fn in_assignment(
     names: &mut IndexSet<Bytes>,
 ) -> Result<(), NoMemory>
     ensures { OnOk result (names.new.keys ≡ added names.old.keys
-        (target_name target.now ∷ path_names (target_path target.now) ++ names_in (plain_expr value.now))) }
+        (target_name target.now ∷ path_names (target_path target.now)
+        ++ names_in (plain_expr value.now))) }
 {
     note(alloc, &target.name, names)?;
     in_path(alloc, target.path.as_slice(), names)?;

@@ -66,7 +66,8 @@ fn in_for(
     names: &mut IndexSet<Bytes>,
 ) -> Result<(), NoMemory>
     ensures { OnOk result (names.new.keys ≡ added names.old.keys (names_in_all (exprs_of begin.now)
-        ++ (maybe_names (maybe_of test.now) ++ (names_of (stmts_of body.now) ++ names_in_all (exprs_of next.now))))) }
+        ++ (maybe_names (maybe_of test.now)
+        ++ (names_of (stmts_of body.now) ++ names_in_all (exprs_of next.now))))) }
 {
     in_exprs(alloc, begin, names)?;
     in_maybe(alloc, test, names)?;
@@ -97,7 +98,8 @@ fn in_each(
     names: &mut IndexSet<Bytes>,
 ) -> Result<(), NoMemory>
     ensures { OnOk result (names.new.keys ≡ added names.old.keys
-        (names_in (plain_expr array.now) ++ (key_names key.now ++ value.now ∷ names_of (stmts_of body.now)))) }
+        (names_in (plain_expr array.now)
+        ++ (key_names key.now ++ value.now ∷ names_of (stmts_of body.now)))) }
 {
     in_expr(alloc, array, names)?;
     in_key(alloc, key, names)?;
@@ -109,7 +111,8 @@ fn in_each(
 #[cycle(statements)]
 #[tactic(auto, using(php_syntax::proofs::Views::views, crate::proofs::AddedLemmas::ends), unfolding(flow_code::specs::Variables::names_of_stmt))]
 fn in_stmt(alloc: Global, stmt: &Stmt, names: &mut IndexSet<Bytes>) -> Result<(), NoMemory>
-    ensures { OnOk result (names.new.keys ≡ added names.old.keys (names_of_stmt (plain_stmt stmt.now))) }
+    ensures { OnOk result
+        (names.new.keys ≡ added names.old.keys (names_of_stmt (plain_stmt stmt.now))) }
 {
     match stmt {
         Stmt::Echo(exprs) => in_exprs(alloc, exprs.as_slice(), names),
@@ -145,7 +148,8 @@ fn in_stmt(alloc: Global, stmt: &Stmt, names: &mut IndexSet<Bytes>) -> Result<()
 // The parameters of a function.
 #[tactic(auto, using(crate::proofs::AddedLemmas::ends))]
 fn in_params(alloc: Global, params: &[Param], names: &mut IndexSet<Bytes>) -> Result<(), NoMemory>
-    ensures { OnOk result (names.new.keys ≡ added names.old.keys (map name_of_param (params_of_list params.now))) }
+    ensures { OnOk result
+        (names.new.keys ≡ added names.old.keys (map name_of_param (params_of_list params.now))) }
 {
     for param in params {
         note(alloc, &param.name, names)?;
@@ -153,14 +157,17 @@ fn in_params(alloc: Global, params: &[Param], names: &mut IndexSet<Bytes>) -> Re
     Ok(())
 }
 
-/// The variables of a function with these parameters and this body: each name once, in the order in which they first stand.
+/// The variables of a function with these parameters and this body: each name once, in the order in
+/// which they first stand.
 #[tactic(auto, using(crate::proofs::AddedLemmas::ends, crate::proofs::AddedLemmas::added_once))]
 pub fn variables_of(
     alloc: Global,
     params: &[Param],
     body: &[Stmt],
 ) -> Result<IndexSet<Bytes>, NoMemory>
-    ensures { IfOk result (λ names. names.keys ≡ once (map name_of_param (params_of_list params.now) ++ names_of (stmts_of body.now))) }
+    ensures { IfOk result
+        (λ names. names.keys
+        ≡ once (map name_of_param (params_of_list params.now) ++ names_of (stmts_of body.now))) }
 {
     let mut names = IndexSet::new(alloc);
     in_params(alloc, params, &mut names)?;

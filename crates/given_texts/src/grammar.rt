@@ -28,8 +28,8 @@ fn add_ends(productions: &mut Vec<Production>) -> Result<(), NoMemory>
     Ok(())
 }
 
-/// The grammar of all texts of XML's characters, with the nonterminal of all integer texts. It has 32 nonterminals and 65
-/// productions.
+/// The grammar of all texts of XML's characters, with the nonterminal of all integer texts. It has
+/// 32 nonterminals and 65 productions.
 pub fn given_texts(alloc: Global) -> Result<GivenTexts, NoMemory>
     ensures closed { IfOk result (λ g. IsClosed (closed_of g) IsText) }
     ensures numbers { IfOk result (λ g. g.grammar.count ≡ 32) }

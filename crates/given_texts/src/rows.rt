@@ -1,11 +1,14 @@
-//! The rows of the grammar. Nonterminal 0 is any number of characters, 1 a character, 2 to 4 are one to three bytes behind a first one, 5 to 10 are those that may
-//! come behind the first bytes 0xE0, 0xED, 0xEF (7, and 8 behind 0xEF 0xBF), 0xF0 and 0xF4 (The Unicode Standard, table 3-7, and XML 1.0, 2.2); 11 is an integer, 12 one without a sign and
-//! not 0, and 13 + k at most k digits.
+//! The rows of the grammar. Nonterminal 0 is any number of characters, 1 a character, 2 to 4 are
+//! one to three bytes behind a first one, 5 to 10 are those that may come behind the first bytes
+//! 0xE0, 0xED, 0xEF (7, and 8 behind 0xEF 0xBF), 0xF0 and 0xF4 (The Unicode Standard, table 3-7,
+//! and XML 1.0, 2.2); 11 is an integer, 12 one without a sign and not 0, and 13 + k at most k
+//! digits.
 
 /// The number of nonterminals.
 pub const COUNT: u64 = 32;
 
-/// A nonterminal may be a byte between two, both included, with what another one may be behind it, or alone.
+/// A nonterminal may be a byte between two, both included, with what another one may be behind it,
+/// or alone.
 pub const ROWS: [(u64, u8, u8, Option<u64>); 44] = [
     (1, 0x09, 0x0A, None),
     (1, 0x0D, 0x0D, None),

@@ -22,7 +22,6 @@ use std::alloc::Global;
 use text_base::{ByteRange, NoMemory, Nt};
 
 /// The productions that are begun, where the symbols lead, and how far the work on each has come.
-#[derive(Drop)]
 pub struct Chart {
     /// The nonterminal whose texts are read.
     pub from: Nt,
@@ -39,6 +38,24 @@ pub struct Chart {
     pub left: usize,
 }
 
+// Written out, so that a chart that is let go is one call to the proofs above, and not a step for
+// each part.
+impl Drop for Chart {
+    fn drop(self) {
+        let Chart {
+            from: _,
+            entries: _,
+            visits: _,
+            begun: _,
+            passages: _,
+            readings: _,
+            opened: _,
+            taken: _,
+            left: _,
+        } = self;
+    }
+}
+
 /// A begun production waits for its next symbol.
 fn await_symbol(
     alloc: Global,
@@ -49,7 +66,8 @@ fn await_symbol(
     entry: Entry,
 ) -> Result<(), NoMemory>
     requires { vec_len visits.old ≡ length entries.old.keys }
-    ensures { OnOk result (Awaits entries.old.keys entries.new.keys visits.old.items visits.new.items
+    ensures { OnOk result
+        (Awaits entries.old.keys entries.new.keys visits.old.items visits.new.items
         begun.old.keys begun.new.keys one entry) }
 {
     let at = enter(alloc, entries, visits, entry)?;
@@ -67,7 +85,8 @@ fn leave_entry(
     one: Passage,
 ) -> Result<(), NoMemory>
     requires { vec_len visits.old ≡ length entries.old.keys }
-    ensures { OnOk result (Leaves entries.old.keys entries.new.keys visits.old.items visits.new.items
+    ensures { OnOk result
+        (Leaves entries.old.keys entries.new.keys visits.old.items visits.new.items
         begun.old.keys begun.new.keys one) }
 {
     let entry = Entry {
@@ -86,7 +105,8 @@ fn finish(
     passages: &mut IndexSet<Passage>,
     one: Begun,
 ) -> Result<(), NoMemory>
-    ensures { OnOk result (Finishes passages.old.keys passages.new.keys (passage_of productions.now one)) }
+    ensures { OnOk result
+        (Finishes passages.old.keys passages.new.keys (passage_of productions.now one)) }
 {
     match passage(productions, one) {
         None => Ok(()),
@@ -247,16 +267,25 @@ fn open_nonterminal(
 
 /// Notes what the machine puts out as it reads a part of a range, and where it is then.
 pub fn read(chart: &mut Chart, reading: Reading) -> Result<(), NoMemory>
-    requires entered { Contains chart.old.entries.keys (record { symbol = symbols.Symbol.Range reading.asked; state = reading.from }) }
+    requires entered { Contains chart.old.entries.keys
+        (record { symbol = symbols.Symbol.Range reading.asked; state = reading.from }) }
     requires low { reading.asked.lo ≤ reading.range.lo }
     requires high { reading.range.hi ≤ reading.asked.hi }
-    ensures chart { OnOk result ((ps : List plain.Production) → IsChartOf ps chart.old → IsChartOf ps chart.new) }
+    ensures chart { OnOk result
+        ((ps : List plain.Production) → IsChartOf ps chart.old → IsChartOf ps chart.new) }
     ensures entries { OnOk result (chart.new.entries.keys ≡ chart.old.entries.keys) }
     ensures from { OnOk result (chart.new.from ≡ chart.old.from) }
     ensures begun { OnOk result (chart.new.begun.keys ≡ chart.old.begun.keys) }
     ensures passages { OnOk result (Keeps chart.old.passages.keys chart.new.passages.keys) }
-    ensures passage { OnOk result (Contains chart.new.passages.keys (record { symbol = symbols.Symbol.Range reading.asked; from = reading.from; to = reading.to })) }
-    ensures readings { OnOk result (chart.new.readings.items ≡ chart.old.readings.items ++ reading ∷ []) }
+    ensures passage { OnOk result
+        (Contains chart.new.passages.keys
+        (record {
+          symbol = symbols.Symbol.Range reading.asked;
+          from = reading.from;
+          to = reading.to;
+        })) }
+    ensures readings { OnOk result
+        (chart.new.readings.items ≡ chart.old.readings.items ++ reading ∷ []) }
     ensures step { OnOk result (IsCounted chart.old chart.new 0 0 0) }
 {
     let passage = Passage {

@@ -22,7 +22,8 @@ pub enum Read {
     Both(u64, u64),
 }
 
-/// A production by its place in the grammar, the state in which the machine comes to it, and what of it is read.
+/// A production by its place in the grammar, the state in which the machine comes to it, and what
+/// of it is read.
 #[derive(Clone, Copy, Debug, PartialEq, Eq, Hash)]
 pub struct Begun {
     pub place: u64,

@@ -14,7 +14,8 @@ use numbered_sets::number;
 use std::alloc::Global;
 use text_base::NoMemory;
 
-/// What is kept of an entry: the begun productions that wait for its symbol there, and the states in which it is left.
+/// What is kept of an entry: the begun productions that wait for its symbol there, and the states
+/// in which it is left.
 #[derive(Drop)]
 pub struct Visit {
     pub waiting: Vec<Begun>,
@@ -57,7 +58,9 @@ pub fn advance_all(
 
 /// Adds the productions at these places, of which nothing is read yet.
 pub fn begin_all(begun: &mut IndexSet<Begun>, places: &[usize], from: u64) -> Result<(), NoMemory>
-    ensures { OnOk result (AddsAll begun.old.keys begun.new.keys places.now (λ p. record { place = p; from = from; read = Nothing })) }
+    ensures { OnOk result
+        (AddsAll begun.old.keys begun.new.keys places.now
+        (λ p. record { place = p; from = from; read = Nothing })) }
 {
     for place in places {
         add_begun(
@@ -82,7 +85,8 @@ pub fn enter(
     requires { vec_len visits.old ≡ length entries.old.keys }
     ensures number { IfOk result (λ n. slice_get entries.new.keys n ≡ Some entry) }
     ensures keeps { OnOk result (Keeps entries.old.keys entries.new.keys) }
-    ensures adds { OnOk result ((x : Entry) → Contains entries.new.keys x → Contains entries.old.keys x ⊎ (x ≡ entry)) }
+    ensures adds { OnOk result
+        ((x : Entry) → Contains entries.new.keys x → Contains entries.old.keys x ⊎ (x ≡ entry)) }
     ensures len { OnOk result (vec_len visits.new ≡ length entries.new.keys) }
     ensures grows { OnOk result (VisitsGrow visits.old.items visits.new.items) }
 {

@@ -27,9 +27,13 @@ fn halted<S: Summary>(
     halt: Halt,
 ) -> Result<Verdict, NoMemory>
     requires { Explains (S.sum_of question.now.summary.now) (S.is_whole question.now.summary.now)
-        (S.tag_count question.now.summary.now) question.now.grammar.now.productions.items question.now.grammar.now.start question.now.limit table.nodes.nodes.items table.height halt }
-    ensures { IfOk result (λ v. IsVerdict (S.sum_of question.now.summary.now) (S.is_whole question.now.summary.now)
-        (S.tag_count question.now.summary.now) question.now.grammar.now.productions.items question.now.grammar.now.start question.now.limit v) }
+        (S.tag_count question.now.summary.now) question.now.grammar.now.productions.items
+        question.now.grammar.now.start question.now.limit table.nodes.nodes.items table.height
+        halt }
+    ensures { IfOk result
+        (λ v. IsVerdict (S.sum_of question.now.summary.now) (S.is_whole question.now.summary.now)
+        (S.tag_count question.now.summary.now) question.now.grammar.now.productions.items
+        question.now.grammar.now.start question.now.limit v) }
 {
     let Some(height) = table.height.checked_add(1) else {
         return Err(NoMemory);
@@ -48,11 +52,18 @@ fn verdict<S: Summary>(
     table: Table<S::Sum>,
     ended: Result<(), Halt>,
 ) -> Result<Verdict, NoMemory>
-    requires whole { OnOk ended (AreWhole (S.sum_of question.now.summary.now) (S.is_whole question.now.summary.now) question.now.grammar.now.productions.items question.now.grammar.now.start) }
-    requires explained { IfErr ended (λ h. Explains (S.sum_of question.now.summary.now) (S.is_whole question.now.summary.now)
-        (S.tag_count question.now.summary.now) question.now.grammar.now.productions.items question.now.grammar.now.start question.now.limit table.nodes.nodes.items table.height h) }
-    ensures { IfOk result (λ v. IsVerdict (S.sum_of question.now.summary.now) (S.is_whole question.now.summary.now)
-        (S.tag_count question.now.summary.now) question.now.grammar.now.productions.items question.now.grammar.now.start question.now.limit v) }
+    requires whole { OnOk ended
+        (AreWhole (S.sum_of question.now.summary.now) (S.is_whole question.now.summary.now)
+        question.now.grammar.now.productions.items question.now.grammar.now.start) }
+    requires explained { IfErr ended
+        (λ h. Explains (S.sum_of question.now.summary.now) (S.is_whole question.now.summary.now)
+        (S.tag_count question.now.summary.now) question.now.grammar.now.productions.items
+        question.now.grammar.now.start question.now.limit table.nodes.nodes.items table.height
+        h) }
+    ensures { IfOk result
+        (λ v. IsVerdict (S.sum_of question.now.summary.now) (S.is_whole question.now.summary.now)
+        (S.tag_count question.now.summary.now) question.now.grammar.now.productions.items
+        question.now.grammar.now.start question.now.limit v) }
 {
     match ended {
         Ok(()) => Ok(Verdict::Yes),

@@ -42,11 +42,15 @@ fn run<S: Summary>(
     requires up { AreUp (S.sum_of question.now.summary.now) (S.composed question.now.summary.now)
         (S.is_whole question.now.summary.now) question.now.grammar.now.productions.items
         question.now.grammar.now.start question.now.grammar.now.count table.old taken.old }
-    requires firsts { AreUses Side.First question.now.grammar.now.productions.items question.now.grammar.now.start question.now.grammar.now.count uses.now.firsts.items }
-    requires seconds { AreUses Side.Second question.now.grammar.now.productions.items question.now.grammar.now.start question.now.grammar.now.count uses.now.seconds.items }
+    requires firsts { AreUses Side.First question.now.grammar.now.productions.items
+        question.now.grammar.now.start question.now.grammar.now.count uses.now.firsts.items }
+    requires seconds { AreUses Side.Second question.now.grammar.now.productions.items
+        question.now.grammar.now.start question.now.grammar.now.count uses.now.seconds.items }
     requires many { question.now.grammar.now.count < length uses.now.firsts.items }
     requires as_many { question.now.grammar.now.count < length uses.now.seconds.items }
-    ensures ok { OnOk result (AreWhole (S.sum_of question.now.summary.now) (S.is_whole question.now.summary.now) question.now.grammar.now.productions.items question.now.grammar.now.start) }
+    ensures ok { OnOk result
+        (AreWhole (S.sum_of question.now.summary.now) (S.is_whole question.now.summary.now)
+        question.now.grammar.now.productions.items question.now.grammar.now.start) }
     ensures err { IfErr result (λ h. Explains (S.sum_of question.now.summary.now)
         (S.is_whole question.now.summary.now) (S.tag_count question.now.summary.now)
         question.now.grammar.now.productions.items question.now.grammar.now.start question.now.limit
@@ -67,18 +71,25 @@ pub(crate) fn work<S: Summary>(
     useful: &[bool],
     taken: &mut Taken,
 ) -> Result<(), Halt>
-    requires table { IsTable (S.sum_of question.now.summary.now) (S.composed question.now.summary.now)
+    requires table { IsTable (S.sum_of question.now.summary.now)
+        (S.composed question.now.summary.now)
         (S.is_whole question.now.summary.now) question.now.grammar.now.productions.items
         question.now.grammar.now.start question.now.grammar.now.count table.old }
-    requires useful { (a : nt.Nt) → IsMarked useful.now a.0 ↔ IsUseful question.now.grammar.now.productions.items question.now.grammar.now.start a }
+    requires useful { (a : nt.Nt)
+        → IsMarked useful.now a.0 ↔ IsUseful question.now.grammar.now.productions.items
+        question.now.grammar.now.start a }
     requires none { taken.old.count ≡ 0 }
     requires lists { AreTaken (known table.old) 0 taken.old.lists.items }
     requires spread { length taken.old.lists.items ≡ question.now.grammar.now.count }
-    requires firsts { AreUses Side.First question.now.grammar.now.productions.items question.now.grammar.now.start question.now.grammar.now.count uses.now.firsts.items }
-    requires seconds { AreUses Side.Second question.now.grammar.now.productions.items question.now.grammar.now.start question.now.grammar.now.count uses.now.seconds.items }
+    requires firsts { AreUses Side.First question.now.grammar.now.productions.items
+        question.now.grammar.now.start question.now.grammar.now.count uses.now.firsts.items }
+    requires seconds { AreUses Side.Second question.now.grammar.now.productions.items
+        question.now.grammar.now.start question.now.grammar.now.count uses.now.seconds.items }
     requires many { question.now.grammar.now.count < length uses.now.firsts.items }
     requires as_many { question.now.grammar.now.count < length uses.now.seconds.items }
-    ensures ok { OnOk result (AreWhole (S.sum_of question.now.summary.now) (S.is_whole question.now.summary.now) question.now.grammar.now.productions.items question.now.grammar.now.start) }
+    ensures ok { OnOk result
+        (AreWhole (S.sum_of question.now.summary.now) (S.is_whole question.now.summary.now)
+        question.now.grammar.now.productions.items question.now.grammar.now.start) }
     ensures err { IfErr result (λ h. Explains (S.sum_of question.now.summary.now)
         (S.is_whole question.now.summary.now) (S.tag_count question.now.summary.now)
         question.now.grammar.now.productions.items question.now.grammar.now.start question.now.limit

@@ -21,9 +21,11 @@ fn note_move<S: Exact + Hash + Drop>(
     from: u64,
     step: Move<S>,
 ) -> Result<(), NoMemory>
-    requires entered { Contains chart.old.entries.keys (record { symbol = symbols.Symbol.Range range; state = from }) }
+    requires entered { Contains chart.old.entries.keys
+        (record { symbol = symbols.Symbol.Range range; state = from }) }
     requires within { IsWithin range step }
-    ensures { OnOk result (NotesOne states.old.keys states.new.keys chart.old chart.new range from step) }
+    ensures { OnOk result
+        (NotesOne states.old.keys states.new.keys chart.old chart.new range from step) }
 {
     let Move {
         range: part,
@@ -52,9 +54,11 @@ fn note_moves<S: Exact + Hash + Drop>(
     from: u64,
     mut moves: Vec<Move<S>>,
 ) -> Result<(), NoMemory>
-    requires entered { Contains chart.old.entries.keys (record { symbol = symbols.Symbol.Range range; state = from }) }
+    requires entered { Contains chart.old.entries.keys
+        (record { symbol = symbols.Symbol.Range range; state = from }) }
     requires within { All (IsWithin range) moves.items }
-    ensures { OnOk result (NotesAll states.old.keys states.new.keys chart.old chart.new range from moves.items) }
+    ensures { OnOk result
+        (NotesAll states.old.keys states.new.keys chart.old chart.new range from moves.items) }
 {
     while let Some(step) = moves.pop() {
         note_move(states, chart, range, from, step)?;
@@ -71,10 +75,13 @@ pub fn ask<M: Machine>(
     range: ByteRange,
     state: u64,
 ) -> Result<(), NoMemory>
-    requires entered { Contains chart.old.entries.keys (record { symbol = symbols.Symbol.Range range; state = state }) }
+    requires entered { Contains chart.old.entries.keys
+        (record { symbol = symbols.Symbol.Range range; state = state }) }
     requires known { (s : M.State) × (slice_get states.old.keys state ≡ Some s) }
     requires given { All (M.gives machine.now) states.old.keys }
-    ensures { OnOk result (Asks (M.steps machine.now) (M.gives machine.now) states.old.keys states.new.keys chart.old chart.new range state) }
+    ensures { OnOk result
+        (Asks (M.steps machine.now) (M.gives machine.now) states.old.keys states.new.keys chart.old
+        chart.new range state) }
 {
     let Some(at) = states.get_index(state as usize) else {
         return Ok(());

@@ -26,7 +26,9 @@ pub fn lasts_of<M: Machine>(
     states: &IndexSet<M::State>,
 ) -> Result<Vec<Last>, NoMemory>
     requires { All (M.gives machine.now) states.now.keys }
-    ensures { IfOk result (λ lasts. AreLastsBelow (M.ends machine.now) states.now.keys (length states.now.keys) lasts.items) }
+    ensures { IfOk result
+        (λ lasts. AreLastsBelow (M.ends machine.now) states.now.keys (length states.now.keys)
+        lasts.items) }
 {
     let mut lasts = Vec::new(alloc);
     for (number, state) in states.as_slice().iter().enumerate() {

@@ -23,8 +23,10 @@ fn within_limit<M: Machine>(
     chart: &Chart,
     limit: u64,
 ) -> Result<(), ImageRefusal>
-    requires { IsWorked (M.steps machine.now) (M.gives machine.now) (M.first machine.now) productions.now states.now.keys chart.now }
-    ensures { IfErr result (IsCause productions.now (M.steps machine.now) chart.now.from (M.first machine.now) limit) }
+    requires { IsWorked (M.steps machine.now) (M.gives machine.now) (M.first machine.now)
+        productions.now states.now.keys chart.now }
+    ensures { IfErr result
+        (IsCause productions.now (M.steps machine.now) chart.now.from (M.first machine.now) limit) }
 {
     let _states = count(states);
     let items = count(&chart.begun) as u64;
@@ -34,8 +36,8 @@ fn within_limit<M: Machine>(
     Ok(())
 }
 
-/// Fills the chart. Each turn takes up one more of its members, all of which are held in memory, so there are fewer
-/// than 2^64 turns.
+/// Fills the chart. Each turn takes up one more of its members, all of which are held in memory, so
+/// there are fewer than 2^64 turns.
 pub fn fill<M: Machine>(
     alloc: Global,
     productions: &[Production],
@@ -45,14 +47,18 @@ pub fn fill<M: Machine>(
     chart: &mut Chart,
     limit: u64,
 ) -> Result<(), ImageRefusal>
-    requires worked { IsWorked (M.steps machine.now) (M.gives machine.now) (M.first machine.now) productions.now states.old.keys chart.old }
+    requires worked { IsWorked (M.steps machine.now) (M.gives machine.now) (M.first machine.now)
+        productions.now states.old.keys chart.old }
     requires places { AreProductionsOf productions.now places.now }
     requires below { AreBelow (length places.now) productions.now }
     requires from { chart.old.from.0 < length places.now }
-    ensures worked { OnOk result (IsWorked (M.steps machine.now) (M.gives machine.now) (M.first machine.now) productions.now states.new.keys chart.new) }
+    ensures worked { OnOk result
+        (IsWorked (M.steps machine.now) (M.gives machine.now) (M.first machine.now) productions.now
+        states.new.keys chart.new) }
     ensures from { OnOk result (chart.new.from ≡ chart.old.from) }
     ensures done { OnOk result (IsDone chart.new) }
-    ensures cause { IfErr result (IsCause productions.now (M.steps machine.now) chart.old.from (M.first machine.now) limit) }
+    ensures cause { IfErr result
+        (IsCause productions.now (M.steps machine.now) chart.old.from (M.first machine.now) limit) }
 {
     for _turn in 0..u64::MAX {
         if work(alloc, productions, places, machine, states, chart)? {

@@ -59,10 +59,14 @@ fn finish<M: Machine>(
     states: &IndexSet<M::State>,
     chart: &Chart,
 ) -> Result<Grammar, NoMemory>
-    requires worked { IsWorked (M.steps machine.now) (M.gives machine.now) (M.first machine.now) productions.now states.now.keys chart.now }
+    requires worked { IsWorked (M.steps machine.now) (M.gives machine.now) (M.first machine.now)
+        productions.now states.now.keys chart.now }
     requires done { IsDone chart.now }
-    ensures { IfOk result (λ image. (w : List Letter) → Derives image.productions.items (symbols.Symbol.Nt image.start) w
-        ↔ Outputs productions.now (symbols.Symbol.Nt chart.now.from) (M.first machine.now) (M.steps machine.now) (M.ends machine.now) w) }
+    ensures { IfOk result
+        (λ image. (w : List Letter)
+        → Derives image.productions.items (symbols.Symbol.Nt image.start) w
+        ↔ Outputs productions.now (symbols.Symbol.Nt chart.now.from) (M.first machine.now)
+        (M.steps machine.now) (M.ends machine.now) w) }
 {
     let _entries = count(&chart.entries);
     let _passages = count(&chart.passages);
@@ -71,10 +75,11 @@ fn finish<M: Machine>(
     Ok(grammar)
 }
 
-/// A grammar whose sentences are exactly what the machine may put out over the texts of bytes that the nonterminal
-/// derives by these productions, whose places are listed for each nonterminal. `Large` comes only where there are more
-/// items than the limit, so many that it says. Time and memory are within the items that are made and what the machine
-/// answers; productions that no item comes to cost nothing.
+/// A grammar whose sentences are exactly what the machine may put out over the texts of bytes that
+/// the nonterminal derives by these productions, whose places are listed for each nonterminal.
+/// `Large` comes only where there are more items than the limit, so many that it says. Time and
+/// memory are within the items that are made and what the machine answers; productions that no item
+/// comes to cost nothing.
 pub fn image_over<M: Machine>(
     alloc: Global,
     productions: &[Production],
@@ -86,9 +91,13 @@ pub fn image_over<M: Machine>(
     requires places { AreProductionsOf productions.now places.now }
     requires below { AreBelow (length places.now) productions.now }
     requires from { from.0 < length places.now }
-    ensures sentences { IfOk result (λ image. (w : List Letter) → Derives image.productions.items (symbols.Symbol.Nt image.start) w
-        ↔ Outputs productions.now (symbols.Symbol.Nt from) (M.first machine.now) (M.steps machine.now) (M.ends machine.now) w) }
-    ensures cause { IfErr result (IsCause productions.now (M.steps machine.now) from (M.first machine.now) limit) }
+    ensures sentences { IfOk result
+        (λ image. (w : List Letter)
+        → Derives image.productions.items (symbols.Symbol.Nt image.start) w
+        ↔ Outputs productions.now (symbols.Symbol.Nt from) (M.first machine.now)
+        (M.steps machine.now) (M.ends machine.now) w) }
+    ensures cause { IfErr result
+        (IsCause productions.now (M.steps machine.now) from (M.first machine.now) limit) }
 {
     let mut states = first_state(alloc, machine)?;
     let mut chart = begin(alloc, from)?;
@@ -110,9 +119,10 @@ pub fn image_over<M: Machine>(
     }
 }
 
-/// A grammar whose sentences are exactly what the machine may put out over the texts of bytes that the nonterminal
-/// derives. `Large` comes only where there are more items than the limit, so many that it says. Time and memory are
-/// within the grammar, the items that are made and what the machine answers.
+/// A grammar whose sentences are exactly what the machine may put out over the texts of bytes that
+/// the nonterminal derives. `Large` comes only where there are more items than the limit, so many
+/// that it says. Time and memory are within the grammar, the items that are made and what the
+/// machine answers.
 pub fn image<M: Machine>(
     alloc: Global,
     g: &Grammar,
@@ -121,9 +131,13 @@ pub fn image<M: Machine>(
     limit: u64,
 ) -> Result<Grammar, ImageRefusal>
     requires { from.0 < g.now.count }
-    ensures sentences { IfOk result (λ image. (w : List Letter) → Derives image.productions.items (symbols.Symbol.Nt image.start) w
-        ↔ Outputs g.now.productions.items (symbols.Symbol.Nt from) (M.first machine.now) (M.steps machine.now) (M.ends machine.now) w) }
-    ensures cause { IfErr result (IsCause g.now.productions.items (M.steps machine.now) from (M.first machine.now) limit) }
+    ensures sentences { IfOk result
+        (λ image. (w : List Letter)
+        → Derives image.productions.items (symbols.Symbol.Nt image.start) w
+        ↔ Outputs g.now.productions.items (symbols.Symbol.Nt from) (M.first machine.now)
+        (M.steps machine.now) (M.ends machine.now) w) }
+    ensures cause { IfErr result
+        (IsCause g.now.productions.items (M.steps machine.now) from (M.first machine.now) limit) }
 {
     let productions = g.productions.as_slice();
     let places = places_by_left(alloc, g)?;

@@ -24,10 +24,14 @@ fn answer<M: Machine>(
     range: ByteRange,
     state: u64,
 ) -> Result<(), NoMemory>
-    requires worked { IsWorked (M.steps machine.now) (M.gives machine.now) (M.first machine.now) productions.now states.old.keys chart.old }
-    requires next { slice_get chart.old.entries.keys chart.old.opened ≡ Some (record { symbol = symbols.Symbol.Range range; state = state }) }
+    requires worked { IsWorked (M.steps machine.now) (M.gives machine.now) (M.first machine.now)
+        productions.now states.old.keys chart.old }
+    requires next { slice_get chart.old.entries.keys chart.old.opened
+        ≡ Some (record { symbol = symbols.Symbol.Range range; state = state }) }
     requires small { chart.old.opened < 9223372036854775808 }
-    ensures worked { OnOk result (IsWorked (M.steps machine.now) (M.gives machine.now) (M.first machine.now) productions.now states.new.keys chart.new) }
+    ensures worked { OnOk result
+        (IsWorked (M.steps machine.now) (M.gives machine.now) (M.first machine.now) productions.now
+        states.new.keys chart.new) }
     ensures from { OnOk result (chart.new.from ≡ chart.old.from) }
 {
     ask(alloc, machine, states, chart, range, state)?;
@@ -50,11 +54,14 @@ pub fn work<M: Machine>(
     states: &mut IndexSet<M::State>,
     chart: &mut Chart,
 ) -> Result<bool, NoMemory>
-    requires worked { IsWorked (M.steps machine.now) (M.gives machine.now) (M.first machine.now) productions.now states.old.keys chart.old }
+    requires worked { IsWorked (M.steps machine.now) (M.gives machine.now) (M.first machine.now)
+        productions.now states.old.keys chart.old }
     requires places { AreProductionsOf productions.now places.now }
     requires below { AreBelow (length places.now) productions.now }
     requires from { chart.old.from.0 < length places.now }
-    ensures worked { OnOk result (IsWorked (M.steps machine.now) (M.gives machine.now) (M.first machine.now) productions.now states.new.keys chart.new) }
+    ensures worked { OnOk result
+        (IsWorked (M.steps machine.now) (M.gives machine.now) (M.first machine.now) productions.now
+        states.new.keys chart.new) }
     ensures from { OnOk result (chart.new.from ≡ chart.old.from) }
     ensures done { IfOk result (λ done. done ≡ true → IsDone chart.new) }
 {

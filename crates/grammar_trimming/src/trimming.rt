@@ -38,7 +38,8 @@ fn named_productions(
 /// The grammar without the nonterminals that stand in no derivation from the start, but for the
 /// start itself. The others are numbered anew, in their order. The time is linear in the grammar.
 pub fn trim(alloc: Global, grammar: &Grammar) -> Result<Grammar, NoMemory>
-    ensures { IfOk result (λ g. IsTrimmed grammar.now.productions.items grammar.now.start grammar.now.count
+    ensures { IfOk result
+        (λ g. IsTrimmed grammar.now.productions.items grammar.now.start grammar.now.count
         g.productions.items g.start g.count) }
 {
     let useful = useful_nonterminals(alloc, grammar)?;

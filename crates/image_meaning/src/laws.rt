@@ -9,10 +9,14 @@ use cfg_grammar::Grammar;
 use fst_core::Machine;
 use text_base::Nt;
 
-/// An item whose symbols are all read leads the machine from its first state to its last, by a text of the left side.
+/// An item whose symbols are all read leads the machine from its first state to its last, by a text
+/// of the left side.
 pub fn whole_items_lead<M: Machine>(grammar: &Grammar, machine: &M, from: Nt)
     ensures { (item : Item M.State)
-        (it : IsItem grammar.now.productions.items (M.steps machine.now) from (M.first machine.now) item)
-        → IsWhole it.production item → (t : M.State) → slice_get (item.entry ∷ item.after) (length item.after) ≡ Some t
-        → Leads grammar.now.productions.items (M.steps machine.now) item.entry (symbol.Symbol.Nt it.production.left) t }
+        (it : IsItem grammar.now.productions.items (M.steps machine.now) from (M.first machine.now)
+        item)
+        → IsWhole it.production item → (t : M.State)
+        → slice_get (item.entry ∷ item.after) (length item.after) ≡ Some t
+        → Leads grammar.now.productions.items (M.steps machine.now) item.entry
+        (symbol.Symbol.Nt it.production.left) t }
 {}

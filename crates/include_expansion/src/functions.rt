@@ -13,7 +13,8 @@ use std::alloc::Global;
 use text_base::NoMemory;
 use tree_copies::copy_params;
 
-/// The functions of all files, in the order of the files, each with the includes of its body replaced so many times over.
+/// The functions of all files, in the order of the files, each with the includes of its body
+/// replaced so many times over.
 #[tactic(auto, unfolding(program_rules::specs::Programs::functions_in))]
 pub fn expand_functions(
     alloc: Global,
@@ -21,7 +22,8 @@ pub fn expand_functions(
     nesting: usize,
 ) -> Result<Vec<FunctionDef>, NoMemory>
     ensures { IfOk result (λ copies. functions_of_list copies.items
-        ≡ map (with_body (bodies_within (files_of files.now) nesting)) (functions_in (files_of files.now))) }
+        ≡ map (with_body (bodies_within (files_of files.now) nesting))
+        (functions_in (files_of files.now))) }
 {
     let mut copies = Vec::new(alloc);
     for place in 0..files.len() {
@@ -48,7 +50,8 @@ fn expand_all(
     copies: &mut Vec<FunctionDef>,
 ) -> Result<(), NoMemory>
     ensures { OnOk result (functions_of_list copies.new.items ≡ functions_of_list copies.old.items
-        ++ map (with_body (bodies_within (files_of files.now) nesting)) (functions_of_list functions.now)) }
+        ++ map (with_body (bodies_within (files_of files.now) nesting))
+        (functions_of_list functions.now)) }
 {
     for function in functions {
         let copy = expand_function(alloc, files, nesting, function)?;

@@ -12,7 +12,9 @@ use tree_copies::{copy_expr, copy_exprs, copy_maybe};
 /// One more statement.
 #[tactic(auto, using(crate::proofs::Followed::ends))]
 pub(crate) fn put(out: &mut Vec<Stmt>, stmt: Stmt) -> Result<(), NoMemory>
-    ensures { OnOk result (stmts_of out.new.items ≡ followed_by (stmts_of out.old.items) (more_stmts (plain_stmt stmt) no_stmts)) }
+    ensures { OnOk result
+        (stmts_of out.new.items
+        ≡ followed_by (stmts_of out.old.items) (more_stmts (plain_stmt stmt) no_stmts)) }
 {
     out.push(stmt)?;
     Ok(())

@@ -118,7 +118,8 @@ fn expand_if(
     otherwise: &[Stmt],
 ) -> Result<Stmt, NoMemory>
     ensures { IfOk result (λ copy. plain_stmt copy
-        ≡ if_stmt (with_bodies_in_arms (bodies_within (files_of files.now) nesting) (arms_of arms.now))
+        ≡ if_stmt (with_bodies_in_arms (bodies_within (files_of files.now) nesting)
+        (arms_of arms.now))
         (with_bodies (bodies_within (files_of files.now) nesting) (stmts_of otherwise.now))) }
 {
     let arms = expand_arms(alloc, files, nesting, arms)?;
@@ -155,7 +156,8 @@ fn expand_do_while(
     test: &Expr,
 ) -> Result<Stmt, NoMemory>
     ensures { IfOk result (λ copy. plain_stmt copy ≡ do_while_stmt
-        (with_bodies (bodies_within (files_of files.now) nesting) (stmts_of body.now)) (plain_expr test.now)) }
+        (with_bodies (bodies_within (files_of files.now) nesting) (stmts_of body.now))
+        (plain_expr test.now)) }
 {
     let body = expand_body(alloc, files, nesting, body)?;
     let test = copy_expr(alloc, test)?;
@@ -173,7 +175,8 @@ fn expand_for(
     body: &[Stmt],
 ) -> Result<Stmt, NoMemory>
     ensures { IfOk result (λ copy. plain_stmt copy
-        ≡ for_stmt (exprs_of head.entry.0.now) (maybe_of head.entry.1.now) (exprs_of head.entry.2.now)
+        ≡ for_stmt (exprs_of head.entry.0.now) (maybe_of head.entry.1.now)
+        (exprs_of head.entry.2.now)
         (with_bodies (bodies_within (files_of files.now) nesting) (stmts_of body.now))) }
 {
     let begin = copy_exprs(alloc, head.0)?;
@@ -195,7 +198,8 @@ fn expand_each(
     value: &Bytes,
     body: &[Stmt],
 ) -> Result<Stmt, NoMemory>
-    ensures { IfOk result (λ copy. plain_stmt copy ≡ each_stmt (plain_expr array.now) key.now value.now
+    ensures { IfOk result
+        (λ copy. plain_stmt copy ≡ each_stmt (plain_expr array.now) key.now value.now
         (with_bodies (bodies_within (files_of files.now) nesting) (stmts_of body.now))) }
 {
     let array = copy_expr(alloc, array)?;

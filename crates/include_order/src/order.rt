@@ -39,10 +39,11 @@ enum Mark {
     Done,
 }
 
-/// The nodes, each behind all those that its edges lead to, directly or through others. `edges` lists for each node, by its
-/// number from 0, which nodes its edges lead to.
+/// The nodes, each behind all those that its edges lead to, directly or through others. `edges`
+/// lists for each node, by its number from 0, which nodes its edges lead to.
 ///
-/// Takes time linear in the number of nodes and edges, and calls itself as deep as there are nodes in a row.
+/// Takes time linear in the number of nodes and edges, and calls itself as deep as there are nodes
+/// in a row.
 ///
 /// # Errors
 ///
@@ -67,7 +68,8 @@ pub fn order_of(alloc: Global, edges: &[Vec<usize>]) -> Result<Vec<usize>, Order
 // Each node is new.
 fn new_marks(alloc: Global, edges: &[Vec<usize>]) -> Result<Vec<Mark>, NoMemory>
     ensures size { IfOk result (λ marks. length marks.items ≡ length edges.now) }
-    ensures all { IfOk result (λ marks. (node : ℕ) → node < length marks.items → slice_get marks.items node ≡ Some New) }
+    ensures all { IfOk result
+        (λ marks. (node : ℕ) → node < length marks.items → slice_get marks.items node ≡ Some New) }
 {
     let mut marks = Vec::new(alloc);
     for _edge in edges {
@@ -90,7 +92,8 @@ fn visit(
     ensures walk { OnOk result (IsWalk edges.now marks.new.items order.new.items) }
     ensures goes_on { OnOk result (GoesOn marks.old.items marks.new.items) }
     ensures done { OnOk result (slice_get marks.new.items node ≡ Some Done) }
-    ensures fewer { OnOk result (sum_by weight_of marks.new.items ≤ sum_by weight_of marks.old.items) }
+    ensures fewer { OnOk result
+        (sum_by weight_of marks.new.items ≤ sum_by weight_of marks.old.items) }
     ensures cycle { IfErr result (IsCause edges.now) }
 {
     marks[node] = Mark::Open;

@@ -37,8 +37,8 @@ impl From<NoMemory> for FileFault {
 
 /// A source of files.
 ///
-/// No call changes what the source tells of a name. Its three counts never fall, and stay at the largest `u64`
-/// once they reach it.
+/// No call changes what the source tells of a name. Its three counts never fall, and stay at the
+/// largest `u64` once they reach it.
 pub trait Files {
     /// What the source tells of a name.
     ghost content: { Self → List ℕ → Option (Option (List ℕ)) };
@@ -56,15 +56,16 @@ pub trait Files {
     ///
     /// # Errors
     ///
-    /// `Missing` where there is no such name, `Failed` where the source failed, `TooLong` where there are more
-    /// bytes, and `Memory`, of which no clause says when it comes.
+    /// `Missing` where there is no such name, `Failed` where the source failed, `TooLong` where
+    /// there are more bytes, and `Memory`, of which no clause says when it comes.
     fn read(&mut self, alloc: Global, name: &str) -> Result<Bytes, FileFault>
         ensures content { IfOk result (λ bytes. Tells (content self.old name.now) (Some bytes)) }
         ensures limit { IfOk result (λ bytes. length bytes ≤ FILE_LIMIT) }
         ensures reason { IfErr result (λ fault. HasReason (content self.old name.now)
             (faults self.old) (faults self.new) (misses self.old) (misses self.new) fault) }
 
-        // No call changes what is told, and no count falls. A count stays where the answer is not its own.
+        // No call changes what is told, and no count falls. A count stays where the answer is not
+        // its own.
         ensures same { content self.new ≡ content self.old }
         ensures faults { faults self.old ≤ faults self.new }
         ensures misses { misses self.old ≤ misses self.new }

@@ -12,7 +12,8 @@ use std::alloc::Global;
 use text_base::Bytes;
 use text_base::limits::FILE_LIMIT;
 
-/// Files that are held in memory, and the numbers of the calls that are to fail. Calls are numbered from 0.
+/// Files that are held in memory, and the numbers of the calls that are to fail. Calls are numbered
+/// from 0.
 #[derive(Drop)]
 pub struct MemFiles {
     files: Vec<(Bytes, Bytes)>,
@@ -23,7 +24,8 @@ pub struct MemFiles {
 }
 
 impl MemFiles {
-    /// Holds these files, each a name and its bytes. Where a name stands more than once, its first file counts.
+    /// Holds these files, each a name and its bytes. Where a name stands more than once, its first
+    /// file counts.
     pub fn new(files: Vec<(Bytes, Bytes)>, fail: Vec<u64>) -> MemFiles
         ensures files { held_files result ≡ files.items }
         ensures planned { planned_faults result ≡ fail.items }
@@ -42,9 +44,11 @@ impl MemFiles {
 
     fn answer(&self, alloc: Global, name: &str) -> Result<Bytes, FileFault>
         ensures answer { result ≢ Err FileFault.Memory → result ≡ planned_answer
-            (is_planned (planned_faults self.now) (calls_made self.now)) (file_named name.now (held_files self.now)) }
+            (is_planned (planned_faults self.now) (calls_made self.now))
+            (file_named name.now (held_files self.now)) }
         ensures memory { IsErrOf result FileFault.Memory → IsOk (planned_answer
-            (is_planned (planned_faults self.now) (calls_made self.now)) (file_named name.now (held_files self.now))) }
+            (is_planned (planned_faults self.now) (calls_made self.now))
+            (file_named name.now (held_files self.now))) }
     {
         if self.fail.contains(&self.calls) {
             return Err(FileFault::Failed);
@@ -82,26 +86,36 @@ impl Files for MemFiles {
     ghost reads = { λ m. calls_made m };
 
     fn read(&mut self, alloc: Global, name: &str) -> Result<Bytes, FileFault>
-        ensures content { IfOk result (λ bytes. Tells (Some (file_named name.now (held_files self.old))) (Some bytes)) }
+        ensures content { IfOk result
+            (λ bytes. Tells (Some (file_named name.now (held_files self.old))) (Some bytes)) }
         ensures limit { IfOk result (λ bytes. length bytes ≤ FILE_LIMIT) }
-        ensures reason { IfErr result (λ fault. HasReason (Some (file_named name.now (held_files self.old)))
-            (fault_count self.old) (fault_count self.new) (miss_count self.old) (miss_count self.new) fault) }
+        ensures reason { IfErr result
+            (λ fault. HasReason (Some (file_named name.now (held_files self.old)))
+            (fault_count self.old) (fault_count self.new) (miss_count self.old)
+            (miss_count self.new) fault) }
         ensures same { held_files self.new ≡ held_files self.old }
         ensures faults { fault_count self.old ≤ fault_count self.new }
         ensures misses { miss_count self.old ≤ miss_count self.new }
-        ensures unfailed { result ≢ Err FileFault.Failed → fault_count self.new ≡ fault_count self.old }
-        ensures unmissed { result ≢ Err FileFault.Missing → miss_count self.new ≡ miss_count self.old }
+        ensures unfailed { result ≢ Err FileFault.Failed → fault_count self.new
+            ≡ fault_count self.old }
+        ensures unmissed { result ≢ Err FileFault.Missing → miss_count self.new
+            ≡ miss_count self.old }
         ensures asked { calls_made self.new ≡ one_more (calls_made self.old) }
 
-        // Want of memory aside, each answer is known beforehand, and memory is wanted only to give a file's bytes.
+        // Want of memory aside, each answer is known beforehand, and memory is wanted only to give
+        // a file's bytes.
         ensures answer { result ≢ Err FileFault.Memory → result ≡ planned_answer
-            (is_planned (planned_faults self.old) (calls_made self.old)) (file_named name.now (held_files self.old)) }
+            (is_planned (planned_faults self.old) (calls_made self.old))
+            (file_named name.now (held_files self.old)) }
         ensures memory { IsErrOf result FileFault.Memory → IsOk (planned_answer
-            (is_planned (planned_faults self.old) (calls_made self.old)) (file_named name.now (held_files self.old))) }
+            (is_planned (planned_faults self.old) (calls_made self.old))
+            (file_named name.now (held_files self.old))) }
 
         // A count rises by one at its own fault.
-        ensures failed { IsErrOf result FileFault.Failed → fault_count self.new ≡ one_more (fault_count self.old) }
-        ensures missed { IsErrOf result FileFault.Missing → miss_count self.new ≡ one_more (miss_count self.old) }
+        ensures failed { IsErrOf result FileFault.Failed → fault_count self.new
+            ≡ one_more (fault_count self.old) }
+        ensures missed { IsErrOf result FileFault.Missing → miss_count self.new
+            ≡ one_more (miss_count self.old) }
         ensures planned { planned_faults self.new ≡ planned_faults self.old }
     {
         let answer = self.answer(alloc, name);

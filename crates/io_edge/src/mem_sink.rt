@@ -39,7 +39,8 @@ impl MemSink {
     }
 
     fn fitting<'a>(&self, bytes: &'a [u8]) -> &'a [u8]
-        ensures { result.now ≡ fitting (sink_room self.now) (length (sink_bytes self.now)) bytes.now }
+        ensures { result.now
+            ≡ fitting (sink_room self.now) (length (sink_bytes self.now)) bytes.now }
     {
         match self.room {
             None => bytes,
@@ -57,20 +58,28 @@ impl Sink for MemSink {
     ghost faults = { λ m. sink_faults m };
 
     fn put(&mut self, bytes: &[u8]) -> Result<(), SinkFault>
-        ensures ok { OnOk result (Appends (Some (sink_bytes self.old)) (Some (sink_bytes self.new)) bytes.now) }
-        ensures err { OnErr result (AppendsPrefix (Some (sink_bytes self.old)) (Some (sink_bytes self.new)) bytes.now) }
-        ensures failed { IsErrOf result SinkFault.Failed → Rises (sink_faults self.old) (sink_faults self.new) }
+        ensures ok { OnOk result
+            (Appends (Some (sink_bytes self.old)) (Some (sink_bytes self.new)) bytes.now) }
+        ensures err { OnErr result
+            (AppendsPrefix (Some (sink_bytes self.old)) (Some (sink_bytes self.new)) bytes.now) }
+        ensures failed { IsErrOf result SinkFault.Failed
+            → Rises (sink_faults self.old) (sink_faults self.new) }
         ensures faults { sink_faults self.old ≤ sink_faults self.new }
 
         // Want of memory aside, all is taken exactly where it fits, and else what fits.
-        ensures fits { OnOk result (fitting (sink_room self.old) (length (sink_bytes self.old)) bytes.now ≡ bytes.now) }
+        ensures fits { OnOk result
+            (fitting (sink_room self.old) (length (sink_bytes self.old)) bytes.now ≡ bytes.now) }
         ensures full { IsErrOf result SinkFault.Failed →
-            length (fitting (sink_room self.old) (length (sink_bytes self.old)) bytes.now) < length bytes.now }
+            length (fitting (sink_room self.old) (length (sink_bytes self.old)) bytes.now) < length
+            bytes.now }
         ensures taken { result ≢ Err SinkFault.Memory → sink_bytes self.new ≡ sink_bytes self.old
             ++ fitting (sink_room self.old) (length (sink_bytes self.old)) bytes.now }
-        ensures memory { IsErrOf result SinkFault.Memory → sink_bytes self.new ≡ sink_bytes self.old }
-        ensures counted { IsErrOf result SinkFault.Failed → sink_faults self.new ≡ one_more (sink_faults self.old) }
-        ensures unfailed { result ≢ Err SinkFault.Failed → sink_faults self.new ≡ sink_faults self.old }
+        ensures memory { IsErrOf result SinkFault.Memory → sink_bytes self.new
+            ≡ sink_bytes self.old }
+        ensures counted { IsErrOf result SinkFault.Failed → sink_faults self.new
+            ≡ one_more (sink_faults self.old) }
+        ensures unfailed { result ≢ Err SinkFault.Failed → sink_faults self.new
+            ≡ sink_faults self.old }
         ensures room { sink_room self.new ≡ sink_room self.old }
     {
         let fitting = self.fitting(bytes);

@@ -17,7 +17,8 @@ pub enum SinkFault {
     Memory,
 }
 
-/// A sink of bytes. Its count of faults never falls, and stays at the largest `u64` once it reaches it.
+/// A sink of bytes. Its count of faults never falls, and stays at the largest `u64` once it reaches
+/// it.
 pub trait Sink {
     /// What was written so far, where that is told.
     ghost written: { Self → Option (List ℕ) };
@@ -29,12 +30,13 @@ pub trait Sink {
     ///
     /// # Errors
     ///
-    /// `Failed` where the sink failed, and `Memory`, of which no clause says when it comes. A prefix of the bytes
-    /// may then be written.
+    /// `Failed` where the sink failed, and `Memory`, of which no clause says when it comes. A
+    /// prefix of the bytes may then be written.
     fn put(&mut self, bytes: &[u8]) -> Result<(), SinkFault>
         ensures ok { OnOk result (Appends (written self.old) (written self.new) bytes.now) }
         ensures err { OnErr result (AppendsPrefix (written self.old) (written self.new) bytes.now) }
-        ensures failed { IsErrOf result SinkFault.Failed → Rises (faults self.old) (faults self.new) }
+        ensures failed { IsErrOf result SinkFault.Failed
+            → Rises (faults self.old) (faults self.new) }
         ensures faults { faults self.old ≤ faults self.new }
 
         // The count stays where the answer is not a fault.

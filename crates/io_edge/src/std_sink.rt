@@ -5,7 +5,8 @@ ghost use Rattle.io_edge.specs.Stream.{sink_writer};
 use crate::{Sink, SinkFault};
 use std::io::{ErrorKind, Write};
 
-/// A sink that hands all it is given to a writer. What is written is what the writer tells of its bytes.
+/// A sink that hands all it is given to a writer. What is written is what the writer tells of its
+/// bytes.
 #[derive(Drop)]
 pub struct StdSink<W: Write> {
     writer: W,
@@ -26,7 +27,8 @@ impl<W: Write> Sink for StdSink<W> {
 
     ghost faults = { λ s. s.faults };
 
-    /// A write that is interrupted is tried again. One that fails, or takes nothing of what is left, is a fault.
+    /// A write that is interrupted is tried again. One that fails, or takes nothing of what is
+    /// left, is a fault.
     fn put(&mut self, bytes: &[u8]) -> Result<(), SinkFault> {
         let mut at = 0;
         for _ in 0..u64::MAX {
@@ -55,8 +57,8 @@ mod tests {
     use std::test::Fail;
     use std::{env, fs, io};
 
-    /// Takes three bytes at a time, is interrupted once, and takes no more than `room`: then it fails or takes
-    /// nothing.
+    /// Takes three bytes at a time, is interrupted once, and takes no more than `room`: then it
+    /// fails or takes nothing.
     #[derive(Drop)]
     struct SlowWriter {
         taken: usize,

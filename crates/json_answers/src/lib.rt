@@ -1,5 +1,6 @@
-//! Answers as JSON: one compact object and a line feed. `yes_json`, `no_json`, `sums_json` and `items_json` give exactly the texts of
-//! specs/JsonAnswers.antt, built with `serde_json`. Below stand `text_base`, `serde_json` and `hex`.
+//! Answers as JSON: one compact object and a line feed. `yes_json`, `no_json`, `sums_json` and
+//! `items_json` give exactly the texts of specs/JsonAnswers.antt, built with `serde_json`. Below
+//! stand `text_base`, `serde_json` and `hex`.
 #![tactic(auto)]
 
 ghost use Rattle.std.specs.Prelude.{◌≡◌, ◌++◌, ◌∷◌, [], IfOk, codes, decimal, string_bytes};
@@ -35,7 +36,8 @@ fn no_object(alloc: Global, length: u64, digits: &str) -> Result<String, AllocEr
 }
 
 fn sums_value(alloc: Global, kind: &str, count: u64, height: u64) -> Result<Value, AllocError>
-    ensures { IfOk result (λ v. view v ≡ object (member (codes "answer") (string (codes "undecided"))
+    ensures { IfOk result
+        (λ v. view v ≡ object (member (codes "answer") (string (codes "undecided"))
         (member (codes "count") (number (unsigned count)) (member (codes "height") (number (unsigned height))
         (member (codes "kind") (string kind.now) no_members))))) }
 {
@@ -51,7 +53,8 @@ fn sums_object(alloc: Global, kind: &str, count: u64, height: u64) -> Result<Str
 }
 
 fn items_value(alloc: Global, kind: &str, count: u64) -> Result<Value, AllocError>
-    ensures { IfOk result (λ v. view v ≡ object (member (codes "answer") (string (codes "undecided"))
+    ensures { IfOk result
+        (λ v. view v ≡ object (member (codes "answer") (string (codes "undecided"))
         (member (codes "count") (number (unsigned count)) (member (codes "kind") (string kind.now) no_members)))) }
 {
     json!(in alloc; {"answer": "undecided", "count": count, "kind": kind})
@@ -82,7 +85,8 @@ pub fn yes_json(alloc: Global) -> Result<Bytes, NoMemory>
     line_of(alloc, object.as_str())
 }
 
-/// That a page of this length in bytes is not valid, with the bytes at its front: `{"answer":"no","length":LENGTH,"page":"HEX"}` and a line feed.
+/// That a page of this length in bytes is not valid, with the bytes at its front:
+/// `{"answer":"no","length":LENGTH,"page":"HEX"}` and a line feed.
 pub fn no_json(alloc: Global, length: u64, front: &[u8]) -> Result<Bytes, NoMemory>
     ensures { IfOk result (λ text. text ≡ spec.no_json length front.now) }
 {
@@ -91,7 +95,8 @@ pub fn no_json(alloc: Global, length: u64, front: &[u8]) -> Result<Bytes, NoMemo
     line_of(alloc, object.as_str())
 }
 
-/// That a count of this kind was passed, of derivations of at most this height: `{"answer":"undecided","count":COUNT,"height":HEIGHT,"kind":"KIND"}` and a line feed.
+/// That a count of this kind was passed, of derivations of at most this height:
+/// `{"answer":"undecided","count":COUNT,"height":HEIGHT,"kind":"KIND"}` and a line feed.
 pub fn sums_json(alloc: Global, kind: &str, count: u64, height: u64) -> Result<Bytes, NoMemory>
     ensures { IfOk result (λ text. text ≡ spec.sums_json kind.now count height) }
 {
@@ -99,7 +104,8 @@ pub fn sums_json(alloc: Global, kind: &str, count: u64, height: u64) -> Result<B
     line_of(alloc, object.as_str())
 }
 
-/// That the count of items was passed: `{"answer":"undecided","count":COUNT,"kind":"items"}` and a line feed.
+/// That the count of items was passed: `{"answer":"undecided","count":COUNT,"kind":"items"}` and a
+/// line feed.
 pub fn items_json(alloc: Global, count: u64) -> Result<Bytes, NoMemory>
     ensures { IfOk result (λ text. text ≡ spec.items_json count) }
 {

@@ -17,8 +17,8 @@ pub trait Reading {
     ghost circular: { Self → (ℕ → Type 0) → List ℕ → Type 0 };
 }
 
-/// Texts as they are: operations as PHP has them, any text of XML's characters from the request, and any text over its bytes for an
-/// operation in a cycle.
+/// Texts as they are: operations as PHP has them, any text of XML's characters from the request,
+/// and any text over its bytes for an operation in a cycle.
 #[derive(Clone, Copy, Debug)]
 pub struct Plain;
 

@@ -8,7 +8,8 @@ ghost use Rattle.lexical_grammar.specs.Cuts.{Cuts, Breaks};
 
 /// A file is cut into at most one token list.
 pub fn one_token_list()
-    ensures { (file : List ℕ) (tokens others : List PlainToken) → Cuts file tokens → Cuts file others → tokens ≡ others }
+    ensures { (file : List ℕ) (tokens others : List PlainToken) → Cuts file tokens
+        → Cuts file others → tokens ≡ others }
 {}
 
 /// A file breaks the lexical grammar in at most one way and at one place.
@@ -19,5 +20,6 @@ pub fn one_fault()
 
 /// A file that is cut into tokens breaks nothing.
 pub fn never_both()
-    ensures { (file : List ℕ) (tokens : List PlainToken) (fault : LexicalFault) (place : ℕ) → Cuts file tokens → ¬ Breaks file fault place }
+    ensures { (file : List ℕ) (tokens : List PlainToken) (fault : LexicalFault) (place : ℕ)
+        → Cuts file tokens → ¬ Breaks file fault place }
 {}

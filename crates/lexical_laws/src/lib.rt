@@ -26,7 +26,8 @@ pub fn cut_or_broken()
 /// digits, and no opener stands in an inline token. Of the spelling of other kinds it says nothing.
 pub fn pieces_are_the_file()
     ensures { (file : List ℕ) (tokens : List PlainToken) → Cuts file tokens →
-        (pieces : List Piece) × (joined pieces ≡ file) × (placed 0 pieces ≡ tokens) × ArePieces pieces }
+        (pieces : List Piece) × (joined pieces ≡ file) × (placed 0 pieces ≡ tokens)
+        × ArePieces pieces }
 {}
 
 /// Each token stands behind the one before it.
@@ -39,7 +40,8 @@ pub fn longest_sign()
     ensures found { (bytes : List ℕ) (x : Sign) (n : ℕ) → sign_step bytes ≡ gives (sign x) n →
         (begins (spelling_of x) bytes ≡ true) × (n ≡ length (spelling_of x)) }
     ensures longest { (bytes : List ℕ) (x y : Sign) (n : ℕ) → sign_step bytes ≡ gives (sign x) n →
-        y ≢ signs.CastInt → y ≢ signs.CastString → begins (spelling_of y) bytes ≡ true → length (spelling_of y) ≤ n }
+        y ≢ signs.CastInt → y ≢ signs.CastString → begins (spelling_of y) bytes ≡ true
+        → length (spelling_of y) ≤ n }
     ensures none { (bytes : List ℕ) (y : Sign) → sign_step bytes ≡ None →
         y ≢ signs.CastInt → y ≢ signs.CastString → begins (spelling_of y) bytes ≡ false }
 {}
@@ -52,7 +54,8 @@ pub fn comment_ends_first()
 
 /// A comment of one line ends before the first line end or `?>`, or with the file.
 pub fn line_comment_ends_first()
-    ensures { (inner rest : List ℕ) → BeginsNot ends_line inner rest → (rest ≡ []) ⊎ (ends_line rest ≡ true) →
+    ensures { (inner rest : List ℕ) → BeginsNot ends_line inner rest → (rest ≡ [])
+        ⊎ (ends_line rest ≡ true) →
         step inside (codes "//" ++ (inner ++ rest)) ≡ goes None (2 + length inner) inside }
 {}
 
@@ -65,7 +68,8 @@ pub fn quoted_text()
 /// A text in double quotes without a quote, backslash, `$` or `{` in it is read as its bytes.
 pub fn plain_double_quoted_text()
     ensures { (bytes rest : List ℕ) → HasNoMark bytes →
-        step inside (34 ∷ (bytes ++ (34 ∷ rest))) ≡ goes (Some (text bytes)) (2 + length bytes) inside }
+        step inside (34 ∷ (bytes ++ (34 ∷ rest)))
+        ≡ goes (Some (text bytes)) (2 + length bytes) inside }
 {}
 
 /// A file in which no opener stands is one inline token.
@@ -76,6 +80,8 @@ pub fn without_opener()
 
 /// The tag that leaves PHP is a semicolon, and takes the line end behind it with it.
 pub fn leaving_tag()
-    ensures lf { (rest : List ℕ) → step inside (codes "?>\n" ++ rest) ≡ goes (Some (sign signs.Semicolon)) 3 outside }
-    ensures crlf { (rest : List ℕ) → step inside (codes "?>\r\n" ++ rest) ≡ goes (Some (sign signs.Semicolon)) 4 outside }
+    ensures lf { (rest : List ℕ) → step inside (codes "?>\n" ++ rest)
+        ≡ goes (Some (sign signs.Semicolon)) 3 outside }
+    ensures crlf { (rest : List ℕ) → step inside (codes "?>\r\n" ++ rest)
+        ≡ goes (Some (sign signs.Semicolon)) 4 outside }
 {}

@@ -1,5 +1,5 @@
-//! What files say of the program that they stand for: it is lawful, and it is the program of the name. Each function stands for the law that
-//! its contract states.
+//! What files say of the program that they stand for: it is lawful, and it is the program of the
+//! name. Each function stands for the law that its contract states.
 #![tactic(auto)]
 
 ghost use Rattle.std.specs.Prelude.{◌≡◌, ℕ, List, [], true, length};
@@ -29,24 +29,33 @@ pub fn each_has_one_tree()
     one_tree();
 }
 
-/// Files that were read, with no name left to be looked at, are under names of their own with all that they include, and hold their trees;
-/// each is a script, and that of the name is among them.
+/// Files that were read, with no name left to be looked at, are under names of their own with all
+/// that they include, and hold their trees; each is a script, and that of the name is among them.
 pub fn read_files_are_whole()
-    ensures whole { (held : Held) (name : List ℕ) (files : List ReadFile) → HasOneTree held → Reached (HasTree held) name files [] → AreWhole files }
-    ensures held { (held : Held) (name : List ℕ) (files : List ReadFile) → HasOneTree held → Reached (HasTree held) name files [] → AreHeld held files }
-    ensures scripts { (held : Held) (name : List ℕ) (files : List ReadFile) → HasOneTree held → Reached (HasTree held) name files [] → AreScripts files }
-    ensures named { (held : Held) (name : List ℕ) (files : List ReadFile) → HasOneTree held → Reached (HasTree held) name files [] → is_read files name ≡ true }
+    ensures whole { (held : Held) (name : List ℕ) (files : List ReadFile) → HasOneTree held
+        → Reached (HasTree held) name files [] → AreWhole files }
+    ensures held { (held : Held) (name : List ℕ) (files : List ReadFile) → HasOneTree held
+        → Reached (HasTree held) name files [] → AreHeld held files }
+    ensures scripts { (held : Held) (name : List ℕ) (files : List ReadFile) → HasOneTree held
+        → Reached (HasTree held) name files [] → AreScripts files }
+    ensures named { (held : Held) (name : List ℕ) (files : List ReadFile) → HasOneTree held
+        → Reached (HasTree held) name files [] → is_read files name ≡ true }
 {
     files_of_the_program();
 }
 
-/// Where they have an order of their includes, none includes itself, and the file of the name stands for a program, however large.
+/// Where they have an order of their includes, none includes itself, and the file of the name
+/// stands for a program, however large.
 pub fn ordered_files_stand_for_a_program()
-    ensures acyclic { (held : Held) (name : List ℕ) (files : List ReadFile) (order : List (List ℕ)) →
-        HasOneTree held → Reached (HasTree held) name files [] → IsIncludeOrder files order → HasNoCycle held name }
-    ensures program { (held : Held) (name : List ℕ) (files : List ReadFile) (order : List (List ℕ)) →
+    ensures acyclic { (held : Held) (name : List ℕ) (files : List ReadFile) (order : List (List ℕ))
+        →
+        HasOneTree held → Reached (HasTree held) name files [] → IsIncludeOrder files order
+        → HasNoCycle held name }
+    ensures program { (held : Held) (name : List ℕ) (files : List ReadFile) (order : List (List ℕ))
+        →
         HasOneTree held → Reached (HasTree held) name files [] → IsIncludeOrder files order →
-        StandsForProgram held name files (program_places files (length order) (tree_named files name))
+        StandsForProgram held name files
+        (program_places files (length order) (tree_named files name))
         (program_within files (length order) (tree_named files name)) }
 {
     files_of_the_program();
@@ -57,7 +66,8 @@ pub fn ordered_files_stand_for_a_program()
 
 /// What files make is lawful.
 pub fn made_programs_are_lawful()
-    ensures { (files : List ReadFile) (order : List (List ℕ)) (name : List ℕ) (program : PlainProgram) →
+    ensures { (files : List ReadFile) (order : List (List ℕ)) (name : List ℕ)
+        (program : PlainProgram) →
         AreScripts files → MakeProgram files order name program → IsLawful program }
 {
     calls_are_in_files();
@@ -68,8 +78,10 @@ pub fn made_programs_are_lawful()
 
 /// And it is the program of the name.
 pub fn made_programs_are_programs()
-    ensures { (held : Held) (files : List ReadFile) (order : List (List ℕ)) (name : List ℕ) (program : PlainProgram) →
-        HasOneTree held → Reached (HasTree held) name files [] → MakeProgram files order name program → IsProgram held name program }
+    ensures { (held : Held) (files : List ReadFile) (order : List (List ℕ)) (name : List ℕ)
+        (program : PlainProgram) →
+        HasOneTree held → Reached (HasTree held) name files []
+        → MakeProgram files order name program → IsProgram held name program }
 {
     files_of_the_program();
     statements_stand_for();

@@ -29,7 +29,8 @@ fn refusal_line(alloc: Global, refusal: &LoadRefusal) -> Result<String, AllocErr
     }
 }
 
-/// What loading the program of `t.php` comes to: `Ok` with the numbers of its statements and of its functions, or the refusal.
+/// What loading the program of `t.php` comes to: `Ok` with the numbers of its statements and of its
+/// functions, or the refusal.
 pub fn outcome<F: Files>(alloc: Global, source: &mut F) -> Result<String, AllocError> {
     match load(alloc, source, "t.php") {
         Ok(program) => format!(in alloc; "Ok {} {}", program.main.len(), program.functions.len()),

@@ -1,4 +1,5 @@
-//! Small programs, and what loading them comes to (PHP manual, "include", "User-defined functions", "Function parameters and arguments").
+//! Small programs, and what loading them comes to (PHP manual, "include", "User-defined functions",
+//! "Function parameters and arguments").
 
 use crate::outcome::{outcome, source_of};
 use std::alloc::Global;
@@ -63,7 +64,8 @@ t.php: <?php function f($a, $b = 1) {} f(1, 2, 3); => Arity f"#;
     Ok(())
 }
 
-// Each name is asked for once: of a program of three files a call 2 that fails is met, and a call 3 is not.
+// Each name is asked for once: of a program of three files a call 2 that fails is met, and a call 3
+// is not.
 #[test]
 fn names_are_read_once(rt: HostRuntime) -> Result<(), Fail> {
     let files =

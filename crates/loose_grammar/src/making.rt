@@ -37,7 +37,8 @@ fn grammar_of(
     system: &OpSystem,
 ) -> Result<Grammar, GrammarRefusal>
     requires { IsSystemOf (program_of program.now) system.now }
-    ensures pages { IfOk result (λ g. DerivePages (program_of program.now) g.productions.items g.start) }
+    ensures pages { IfOk result
+        (λ g. DerivePages (program_of program.now) g.productions.items g.start) }
     ensures refusal { IfErr result (IsGrammarRefusal (program_of program.now)) }
 {
     let _ = program;
@@ -51,10 +52,12 @@ fn grammar_of(
 ///
 /// # Errors
 ///
-/// `LongText` only where a text literal of the program has over 16,777,216 bytes; `Items` only where the
-/// image of a string operation has so many items, over `ITEM_LIMIT`. `Memory` may come at any time.
+/// `LongText` only where a text literal of the program has over 16,777,216 bytes; `Items` only
+/// where the image of a string operation has so many items, over `ITEM_LIMIT`. `Memory` may come at
+/// any time.
 pub fn loose_grammar(alloc: Global, program: &Program) -> Result<Grammar, GrammarRefusal>
-    ensures pages { IfOk result (λ g. DerivePages (program_of program.now) g.productions.items g.start) }
+    ensures pages { IfOk result
+        (λ g. DerivePages (program_of program.now) g.productions.items g.start) }
     ensures texts { IfOk result (λ _. TextsFit (program_of program.now)) }
     ensures refusal { IfErr result (IsGrammarRefusal (program_of program.now)) }
 {

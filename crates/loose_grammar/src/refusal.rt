@@ -17,8 +17,8 @@ pub enum GrammarRefusal {
     /// A text literal of the program has over 16,777,216 bytes, and so is no text of a run.
     #[error("a text has more than 16,777,216 bytes")]
     LongText,
-    /// The image of a string operation of the program has at least `count` items, and `count` is over
-    /// `ITEM_LIMIT`.
+    /// The image of a string operation of the program has at least `count` items, and `count` is
+    /// over `ITEM_LIMIT`.
     #[error("at least {count} items")]
     Items { count: u64 },
     /// No memory was left.

@@ -2,8 +2,9 @@
 
 ghost use Rattle.loose_runs.specs.Laws.{EndedRunsPrintLoosePages};
 
-/// What an ended run of a lawful program prints is a loose page of it, for every admitted request and every number of units, where the text literals of
-/// the program are of at most 16,777,216 bytes.
+/// What an ended run of a lawful program prints is a loose page of it, for every admitted request
+/// and every number of units, where the text literals of the program are of at most 16,777,216
+/// bytes.
 pub fn ended_runs_print_loose_pages()
     ensures { EndedRunsPrintLoosePages }
 {

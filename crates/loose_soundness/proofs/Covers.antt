@@ -14,6 +14,7 @@ use Rattle.plain_values.specs.Keys.{same_key, is_absent, are_distinct}
 use Rattle.plain_values.specs.Members.{member, put_pair}
 use Rattle.plain_values.specs.Text.{text_of}
 use Rattle.plain_values.specs.Walks.{value_of_key}
+use Rattle.plain_values.proofs.SameKeys.{same_is}
 use Rattle.loose_sets.specs.Keys.{is_among}
 use Rattle.loose_sets.specs.Names.{Half, text_half, array_half, Aspect, own, others, keys_of}
 use Rattle.loose_sets.specs.Names as aspect
@@ -169,28 +170,6 @@ covers_deep told H Y T A t a u b (flag x) o i k = o
 covers_deep told H Y T A t a u b (int z) o i k = o
 covers_deep told H Y T A t a u b (text w) o i k = o
 covers_deep told H Y T A t a u b (array ps) o i k = (o, all_members told H Y T A t a u b ps i, k)
-
--- keys
-equal_if : (o : Ordering) → is_eq o ≡ true → o ≡ Equal
-equal_if Less e = cc
-equal_if Equal e = refl
-equal_if Greater e = cc
-
-pub same_is : (a b : PlainKey) → same_key a b ≡ true → a ≡ b
-same_is (int_key a) (int_key b) h = ap (λ z. int_key z) (exact_signed a b (equal_if (int_cmp a b) h))
-same_is (int_key a) (text_key t) h = cc
-same_is (text_key s) (int_key b) h = cc
-same_is (text_key s) (text_key t) h = ap (λ (u : List ℕ). text_key u) (exact_bytes s t (equal_if (slice_cmp nat_cmp s t) (is_eq-slice_cmp s t ∙ h)))
-
-pub same_itself : (a : PlainKey) → same_key a a ≡ true
-same_itself (int_key a) = int_eq_equiv.refl a
-same_itself (text_key s) = nat_list_eq_equiv.refl s
-
-pub same_back : (a b : PlainKey) → same_key a b ≡ same_key b a
-same_back (int_key a) (int_key b) = int_eq_equiv.symm a b
-same_back (int_key a) (text_key t) = refl
-same_back (text_key s) (int_key b) = refl
-same_back (text_key s) (text_key t) = nat_list_eq_equiv.symm s t
 
 -- the member of a key
 pub member_own : (told : List PlainKey) (H : Has) (Y : Yes) (T : Texts) (A : Type 0) (k : PlainKey) → T []

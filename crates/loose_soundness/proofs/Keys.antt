@@ -18,7 +18,7 @@ use Rattle.loose_sets.specs.Reaching.{at_point}
 use Rattle.loose_sets.specs.Keys.{literal_key, is_among, may_be, may_be_other, is_exactly}
 use Rattle.loose_sets.specs.Names.{text_half, own, keys_of, Name, set_of, use_of}
 use Rattle.loose_sets.specs.Table.{Row, KeyText, of_integer, of_text, of_value, of_false, of_next}
-use Rattle.loose_soundness.proofs.Covers.{same_is, same_itself, same_back}
+use Rattle.plain_values.proofs.SameKeys.{same_is, same_itself, same_back}
 use Rattle.loose_soundness.proofs.Decimals.{integer_is, decimal_none, decimal_one}
 use Rattle.loose_soundness.proofs.Lying.{Def, UseLies, same_in}
 

@@ -15,7 +15,8 @@ use Rattle.loose_sets.specs.Reaching.{Definition, at_point, Reaches}
 use Rattle.loose_sets.specs.Keys.{told_keys, is_among}
 use Rattle.loose_sets.specs.Names.{Half, text_half, array_half, Aspect, member, others, Name, set_of, use_of, all_of}
 use Rattle.loose_sets.specs.Table.{Row, SourceRow, SetsTo, IsTold}
-use Rattle.loose_soundness.proofs.Covers.{Has, Yes, InsideIn, AllIn, MembersIn, Covers, place, covers_wider, members_all, same_is}
+use Rattle.loose_soundness.proofs.Covers.{Has, Yes, InsideIn, AllIn, MembersIn, Covers, place, covers_wider, members_all}
+use Rattle.plain_values.proofs.SameKeys.{same_is}
 
 abbrev pub HasIn : PlainFlow → Name → List ℕ → Type 0
 HasIn flow name w = In (Row flow) Rel IsText (λ bytes text. All bytes text) name w

@@ -9,5 +9,6 @@ ghost use Rattle.loose_sets.specs.Loose.{Loose};
 
 /// For every admitted request, what a run of points prints is a loose page of them.
 pub fn ended_runs_print_loose_pages()
-    ensures { (flow : PlainFlow) (r : PlainRequest) (printed : List ℕ) → IsFlow flow → Admitted r → FlatRun flow r printed → Loose flow printed }
+    ensures { (flow : PlainFlow) (r : PlainRequest) (printed : List ℕ) → IsFlow flow → Admitted r
+        → FlatRun flow r printed → Loose flow printed }
 {}

@@ -10,6 +10,7 @@ use Rattle.std.proofs.lemmas.Slice.Eq.{bytes_eq-Decides}
 use Rattle.std.proofs.lemmas.Str.{IsUtf8-encode, chars_from_encodes, encode_ascii}
 use Rattle.xml_text.specs.Characters.{is_character}
 use Rattle.character_steps.specs.Bytes.{only, decoded, is_second, continues}
+use Rattle.character_steps.proofs.Begun.{Decoded, decoded_is, decoded_whole}
 
 -- a character of two, of three or of four bytes (RFC 3629, 4), without U+FFFE and U+FFFF
 abbrev pub is_whole : List ℕ → Bool
@@ -80,39 +81,8 @@ encode_four c low = grind (arith, nat_tests)
 
 -- A character of XML is read back from its bytes, and nothing else is.
 
-is_scalar : (c : ℕ) → is_character c ≡ true → IsScalar c
-is_scalar c h = grind arith
-
 pub decoded_character : (c : ℕ) (bytes : List ℕ) → is_character c ≡ true → encode_utf8 c ≡ bytes → decoded bytes ≡ Some c
-unfolding decoded
-decoded_character c bytes h e =
-    let one : encode_utf8_all (c ∷ []) ≡ bytes = append-nil (encode_utf8 c) ∙ e in
-    let utf8 : IsUtf8 bytes = subst IsUtf8 e (IsUtf8-encode c (is_scalar c h)) in
-    ap (λ (cs : List ℕ). only cs bytes) (sym (chars_from_encodes (c ∷ []) bytes utf8 one))
-    ∙ ap (λ (b : Bool). if b then Some c else None)
-    (and_from (is_character c) (bytes_eq (encode_utf8 c) bytes) h ((bytes_eq-Decides (encode_utf8 c) bytes).1 e))
-
-record Decoded (bytes : List ℕ) (c : ℕ) : Type 0 where
-  is : encode_utf8 c ≡ bytes
-  character : is_character c ≡ true
-
-decoded_is : (bytes : List ℕ) (c : ℕ) → decoded bytes ≡ Some c → Decoded bytes c
-unfolding decoded
-decoded_is bytes c e = at (chars bytes) e
-  where
-    same : (x y : ℕ) → (let z : Option ℕ = Some x in z ≡ Some y) → x ≡ y
-    same x y e = cc
-
-    by : (d : ℕ) (b : Bool) → (is_character d && bytes_eq (encode_utf8 d) bytes) ≡ b → (if b then Some d else None) ≡ Some c → Decoded bytes c
-    by d true h e =
-        let p = and_parts (is_character d) (bytes_eq (encode_utf8 d) bytes) h in
-        subst (Decoded bytes) (same d c e) (record { is = (bytes_eq-Decides (encode_utf8 d) bytes).0 p.1; character = p.0 })
-    by d false h e = cc
-
-    at : (cs : List ℕ) → only cs bytes ≡ Some c → Decoded bytes c
-    at [] e = cc
-    at (d ∷ []) e = by d (is_character d && bytes_eq (encode_utf8 d) bytes) refl e
-    at (d ∷ f ∷ cs) e = cc
+decoded_character c bytes h e = subst (λ (w : List ℕ). decoded w ≡ Some c) e (decoded_whole c h)
 
 -- The bytes of a character of several bytes are whole.
 

@@ -11,8 +11,8 @@ use page_reader::{PageReader, ReaderState};
 use std::alloc::Global;
 use text_base::NoMemory;
 
-/// The reader of the pages of a document type definition that keeps of an open character only what makes a
-/// difference. Over each page it puts out exactly the tokens of the page.
+/// The reader of the pages of a document type definition that keeps of an open character only what
+/// makes a difference. Over each page it puts out exactly the tokens of the page.
 #[derive(Clone, Copy, Debug, Drop)]
 pub struct MergedReader<'a> {
     /// The definition.

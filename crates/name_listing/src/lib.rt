@@ -1,5 +1,6 @@
-//! The forms of a set that belongs to a point, by its name, and those of a join: which list of point_listing a name asks for. The contracts cite `forms_from` and
-//! `link_forms` of version_listing. Below stand flow_code, set_names, point_rows, source_listing and point_listing.
+//! The forms of a set that belongs to a point, by its name, and those of a join: which list of
+//! point_listing a name asks for. The contracts cite `forms_from` and `link_forms` of
+//! version_listing. Below stand flow_code, set_names, point_rows, source_listing and point_listing.
 #![tactic(auto)]
 
 mod joins;

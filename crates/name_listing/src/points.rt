@@ -30,7 +30,8 @@ fn push_from(
 ) -> Result<(), NoMemory>
     requires { IsAt name place.now.point }
     ensures { OnOk result (Adds forms.old.items forms.new.items
-        (forms_from (told_of place.now) (map plain_flow_function functions.now) (at_of place.now) name (plain_point point.now))) }
+        (forms_from (told_of place.now) (map plain_flow_function functions.now) (at_of place.now)
+        name (plain_point point.now))) }
 {
     match name {
         SetName::Value(aspect, SetVersion::Point(_)) => {
@@ -50,7 +51,8 @@ fn push_from(
     }
 }
 
-/// The forms of a set that belongs to the point of the place, behind the others; none where there is no such point.
+/// The forms of a set that belongs to the point of the place, behind the others; none where there
+/// is no such point.
 #[tactic(auto, using(source_listing::proofs::PlaceLemmas::ends))]
 pub fn push_named(
     alloc: Global,
@@ -62,7 +64,8 @@ pub fn push_named(
 ) -> Result<(), NoMemory>
     requires { IsAt name place.now.point }
     ensures { OnOk result (Adds forms.old.items forms.new.items
-        (forms_there (forms_from (told_of place.now) (map plain_flow_function functions.now) (at_of place.now) name)
+        (forms_there (forms_from (told_of place.now) (map plain_flow_function functions.now)
+        (at_of place.now) name)
         (slice_get (points_seen row.now) place.now.point))) }
 {
     match row.find(place.point) {

@@ -1,4 +1,3 @@
-pub mod ListLemmas
 pub mod GainLemmas
 pub mod GrowLemmas
 pub mod UseLemmas

@@ -22,7 +22,7 @@ use Rattle.system_bytes.specs.Bytes.{HasBytes}
 use Rattle.op_bytes.specs.Fitting.{AreFitting, AreFittingRules}
 use Rattle.op_bytes.specs.declared.uses.Use.{Use}
 use Rattle.op_bytes.specs.Work.{uses_in, uses_on, uses_of}
-use Rattle.op_bytes.proofs.ListLemmas.{one_of, none_in, only_in, first_in, later_in, all_at, first_so, second_so, placed, contained}
+use Rattle.system_bytes.proofs.ListLemmas.{one_of, none_in, only_in, first_in, later_in, all_at, first_so, second_so, placed, contained}
 
 -- a use is of a production
 pub record IsUse (ps : List Production) (u : Use) : Type 0 where

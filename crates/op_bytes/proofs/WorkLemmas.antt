@@ -26,7 +26,7 @@ use Rattle.op_bytes.specs.declared.uses.Use.{Use}
 use Rattle.op_bytes.specs.Bytes.{AreByteSets}
 use Rattle.system_bytes.specs.Bytes.{HasBytes}
 use Rattle.op_bytes.specs.Work.{HasAt, Gains, IsBehind, IsKept, Grows, GivesUse, GivesRule, IsTurned, IsPassed, IsFollowed, IsWork, AreFirstSets, AreNumbersBelow, uses_of}
-use Rattle.op_bytes.proofs.ListLemmas.{one_of, none_in, only_in, first_in, later_in, placed, contained, of_map, to_map}
+use Rattle.system_bytes.proofs.ListLemmas.{one_of, none_in, only_in, first_in, later_in, placed, contained, of_map, to_map}
 use Rattle.op_bytes.proofs.GrowLemmas.{grows_two, grows_like}
 use Rattle.op_bytes.proofs.UseLemmas.{use_is, is_use, left_below_so, rule_below_so}
 use Rattle.system_bytes.proofs.BelowLemmas.{turns_below}

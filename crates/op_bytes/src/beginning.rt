@@ -31,7 +31,9 @@ pub fn no_sets(alloc: Global, count: u64) -> Result<Vec<ByteSet>, NoMemory>
 /// Adds the bytes of a symbol that is a range.
 fn add_symbol(sets: &mut Vec<ByteSet>, left: u64, symbol: Symbol)
     requires { left < length sets.old.items }
-    ensures { Gains sets.old.items (λ a b. (a ≡ left) × ((range : byte_range.ByteRange) × (symbol ≡ symbols.Symbol.Range range) × InRange range b)) sets.new.items }
+    ensures { Gains sets.old.items
+        (λ a b. (a ≡ left) × ((range : byte_range.ByteRange) × (symbol ≡ symbols.Symbol.Range range)
+        × InRange range b)) sets.new.items }
 {
     match symbol {
         Symbol::Range(range) => sets[left as usize].add(range),
@@ -44,7 +46,10 @@ fn add_symbol(sets: &mut Vec<ByteSet>, left: u64, symbol: Symbol)
 fn add_production(sets: &mut Vec<ByteSet>, p: Production)
     requires { p.left.0 < length sets.old.items }
     ensures { Gains sets.old.items
-        (λ a b. (a ≡ p.left.0) × ((range : byte_range.ByteRange) × Contains (symbols_of p.right) (symbols.Symbol.Range range) × InRange range b)) sets.new.items }
+        (λ a b. (a ≡ p.left.0)
+        × ((range : byte_range.ByteRange)
+        × Contains (symbols_of p.right) (symbols.Symbol.Range range) × InRange range b))
+        sets.new.items }
 {
     match p.right {
         Right::Empty => {}
@@ -59,7 +64,8 @@ fn add_production(sets: &mut Vec<ByteSet>, p: Production)
 /// Adds the bytes of the ranges of all productions.
 pub fn add_ranges(sets: &mut Vec<ByteSet>, productions: &[Production])
     requires { AreBelow (length sets.old.items) productions.now }
-    ensures { Gains sets.old.items (HasRange productions.now (length productions.now)) sets.new.items }
+    ensures { Gains sets.old.items (HasRange productions.now (length productions.now))
+        sets.new.items }
 {
     for p in productions {
         add_production(sets, *p);
@@ -95,7 +101,8 @@ fn add_literal(set: &mut ByteSet, op: &Op)
 /// Adds the bytes that the operation of a rule has in any output.
 fn add_rule(sets: &mut Vec<ByteSet>, rule: &OpRule)
     requires { rule.now.left.0 < length sets.old.items }
-    ensures { Gains sets.old.items (λ a b. (a ≡ rule.now.left.0) × Adds rule.now.op b) sets.new.items }
+    ensures { Gains sets.old.items (λ a b. (a ≡ rule.now.left.0) × Adds rule.now.op b)
+        sets.new.items }
 {
     add_literal(&mut sets[rule.left.0 as usize], &rule.op);
 }

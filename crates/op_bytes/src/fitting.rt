@@ -27,7 +27,8 @@ fn text_fits(text: &[u8])
 
 /// The bytes of a range.
 fn symbol_fits(symbol: Symbol)
-    ensures { (range : byte_range.ByteRange) → symbol ≡ symbols.Symbol.Range range → range.hi < 256 }
+    ensures { (range : byte_range.ByteRange) → symbol ≡ symbols.Symbol.Range range
+        → range.hi < 256 }
 {
     match symbol {
         Symbol::Range(range) => byte_fits(range.hi),
@@ -38,7 +39,8 @@ fn symbol_fits(symbol: Symbol)
 
 /// The ranges of a production.
 fn production_fits(p: Production)
-    ensures { (range : byte_range.ByteRange) → Contains (symbols_of p.right) (symbols.Symbol.Range range) → range.hi < 256 }
+    ensures { (range : byte_range.ByteRange)
+        → Contains (symbols_of p.right) (symbols.Symbol.Range range) → range.hi < 256 }
 {
     match p.right {
         Right::Empty => {}
@@ -94,7 +96,8 @@ fn rules_fit(rules: &[OpRule])
     }
 }
 
-/// What stands in a system as bytes is below 256, as contracts see numbers. It goes over the system and does nothing.
+/// What stands in a system as bytes is below 256, as contracts see numbers. It goes over the system
+/// and does nothing.
 pub fn fits(s: &OpSystem)
     ensures { HasBytes s.now }
 {

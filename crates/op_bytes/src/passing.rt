@@ -40,7 +40,9 @@ fn grow(
     extra: &ByteSet,
 ) -> Result<(), NoMemory>
     requires { target < length sets.old.items }
-    ensures { OnOk result (Grows sets.old.items order.old.items (λ a b. (a ≡ target) × Has extra.now b) sets.new.items order.new.items) }
+    ensures { OnOk result
+        (Grows sets.old.items order.old.items (λ a b. (a ≡ target) × Has extra.now b) sets.new.items
+        order.new.items) }
 {
     if !has_more(extra, &sets[target as usize]) {
         return Ok(());
@@ -73,7 +75,9 @@ fn pass_use(
     own: &ByteSet,
 ) -> Result<(), NoMemory>
     requires { All (λ u. u.to < length sets.old.items) uses.now }
-    ensures { OnOk result (Grows sets.old.items order.old.items (IsUseAt uses.now place own.now) sets.new.items order.new.items) }
+    ensures { OnOk result
+        (Grows sets.old.items order.old.items (IsUseAt uses.now place own.now) sets.new.items
+        order.new.items) }
 {
     let Some(found) = use_at(uses, place) else {
         return Ok(());
@@ -90,7 +94,9 @@ fn pass_rule(
     own: &ByteSet,
 ) -> Result<(), NoMemory>
     requires { RulesAreBelow (length sets.old.items) rules.now }
-    ensures { OnOk result (Grows sets.old.items order.old.items (IsRuleAt rules.now place own.now) sets.new.items order.new.items) }
+    ensures { OnOk result
+        (Grows sets.old.items order.old.items (IsRuleAt rules.now place own.now) sets.new.items
+        order.new.items) }
 {
     let Some(rule) = rule_at(rules, place) else {
         return Ok(());
@@ -108,7 +114,9 @@ pub fn pass_uses(
     own: &ByteSet,
 ) -> Result<(), NoMemory>
     requires { All (λ u. u.to < length sets.old.items) uses.now }
-    ensures { OnOk result (Grows sets.old.items order.old.items (GivesUse uses.now places.now (length places.now) own.now) sets.new.items order.new.items) }
+    ensures { OnOk result
+        (Grows sets.old.items order.old.items
+        (GivesUse uses.now places.now (length places.now) own.now) sets.new.items order.new.items) }
 {
     for place in places {
         pass_use(sets, order, uses, *place, own)?;
@@ -125,7 +133,9 @@ pub fn pass_rules(
     own: &ByteSet,
 ) -> Result<(), NoMemory>
     requires { RulesAreBelow (length sets.old.items) rules.now }
-    ensures { OnOk result (Grows sets.old.items order.old.items (GivesRule rules.now places.now (length places.now) own.now) sets.new.items order.new.items) }
+    ensures { OnOk result
+        (Grows sets.old.items order.old.items
+        (GivesRule rules.now places.now (length places.now) own.now) sets.new.items order.new.items) }
 {
     for place in places {
         pass_rule(sets, order, rules, *place, own)?;

@@ -36,7 +36,8 @@ fn by_use(alloc: Global, count: u64, uses: &[Use]) -> Result<Vec<Vec<usize>>, No
 fn by_operand(alloc: Global, count: u64, rules: &[OpRule]) -> Result<Vec<Vec<usize>>, NoMemory>
     requires { All (λ r. r.operand.0 < count) rules.now }
     ensures len { IfOk result (λ places. vec_len places ≡ count) }
-    ensures exact { IfOk result (λ places. ArePlaces (map (λ r. r.operand.0) rules.now) places.items) }
+    ensures exact { IfOk result
+        (λ places. ArePlaces (map (λ r. r.operand.0) rules.now) places.items) }
 {
     let keys: Vec<u64> = rules.iter().map(|r| r.operand.0).collect(alloc)?;
     let places = places_by(alloc, count, keys.as_slice())?;
@@ -84,19 +85,24 @@ fn take_up(
     x: u64,
 ) -> Result<(), NoMemory>
     requires uses { uses.now ≡ uses_of s.now.grammar.productions.items }
-    requires at_uses { (i : ℕ) → Contains at_uses.now i ↔ (slice_get (map (λ u. u.from) uses.now) i ≡ Some x) }
-    requires at_rules { (i : ℕ) → Contains at_rules.now i ↔ (slice_get (map (λ r. r.operand.0) s.now.ops.items) i ≡ Some x) }
+    requires at_uses { (i : ℕ)
+        → Contains at_uses.now i ↔ (slice_get (map (λ u. u.from) uses.now) i ≡ Some x) }
+    requires at_rules { (i : ℕ)
+        → Contains at_rules.now i ↔ (slice_get (map (λ r. r.operand.0) s.now.ops.items) i ≡ Some x) }
     requires size { length sets.old.items ≡ s.now.grammar.count }
     requires below { x < s.now.grammar.count }
-    ensures { OnOk result (Grows sets.old.items order.old.items (IsPassed s.now sets.old.items x) sets.new.items order.new.items) }
+    ensures { OnOk result
+        (Grows sets.old.items order.old.items (IsPassed s.now sets.old.items x) sets.new.items
+        order.new.items) }
 {
     let own = copy_of(&sets[x as usize]);
     pass_uses(sets, order, uses, at_uses, &own)?;
     pass_rules(sets, order, s.ops.as_slice(), at_rules, &own)
 }
 
-/// For each nonterminal its set of bytes: the bytes of the texts of its set, where those of an operation's outputs are said by the bytes of its
-/// inputs alone. Each set is passed on again where it has grown, at most 256 times.
+/// For each nonterminal its set of bytes: the bytes of the texts of its set, where those of an
+/// operation's outputs are said by the bytes of its inputs alone. Each set is passed on again where
+/// it has grown, at most 256 times.
 pub fn byte_sets(alloc: Global, s: &OpSystem) -> Result<Vec<ByteSet>, NoMemory>
     ensures { IfOk result (λ sets. AreByteSets s.now sets.items) }
 {

@@ -43,7 +43,8 @@ fn add_html(set: &mut ByteSet, byte: u8)
 
 /// Adds `%` and the two digits of a byte.
 fn add_percent(set: &mut ByteSet, byte: u8)
-    ensures { (c : ℕ) → c < 256 → Has set.new c ↔ (Has set.old c ⊎ Contains (percent_of_byte byte) c) }
+    ensures { (c : ℕ) → c < 256
+        → Has set.new c ↔ (Has set.old c ⊎ Contains (percent_of_byte byte) c) }
 {
     add_text(
         set,
@@ -66,7 +67,8 @@ fn add_url(set: &mut ByteSet, byte: u8)
 
 /// Adds what `rawurlencode` writes for a byte.
 fn add_raw_url(set: &mut ByteSet, byte: u8)
-    ensures { (c : ℕ) → c < 256 → Has set.new c ↔ (Has set.old c ⊎ Contains (raw_url_of_byte byte) c) }
+    ensures { (c : ℕ) → c < 256
+        → Has set.new c ↔ (Has set.old c ⊎ Contains (raw_url_of_byte byte) c) }
 {
     if is_kept_byte(byte) || byte == b'~' {
         add_byte(set, byte);
@@ -77,7 +79,8 @@ fn add_raw_url(set: &mut ByteSet, byte: u8)
 
 /// Adds what `addslashes` writes for a byte.
 fn add_slashes(set: &mut ByteSet, byte: u8)
-    ensures { (c : ℕ) → c < 256 → Has set.new c ↔ (Has set.old c ⊎ Contains (slashes_of_byte byte) c) }
+    ensures { (c : ℕ) → c < 256
+        → Has set.new c ↔ (Has set.old c ⊎ Contains (slashes_of_byte byte) c) }
 {
     if byte == b'\'' || byte == b'"' || byte == b'\\' {
         add_text(set, &[b'\\', byte]);
@@ -126,7 +129,8 @@ pub fn add_turned(set: &mut ByteSet, op: &Op, byte: u8)
 
 /// Adds the bytes that an operation may make of a byte, where a set has it.
 fn add_made(set: &mut ByteSet, op: &Op, own: &ByteSet, byte: u8)
-    ensures { (c : ℕ) → c < 256 → Has set.new c ↔ (Has set.old c ⊎ (Has own.now byte × Turns op.now byte c)) }
+    ensures { (c : ℕ) → c < 256
+        → Has set.new c ↔ (Has set.old c ⊎ (Has own.now byte × Turns op.now byte c)) }
 {
     if !own.has(byte) {
         return;

@@ -9,8 +9,8 @@ use std::alloc::Global;
 use strong_components::components;
 use text_base::NoMemory;
 
-/// A number for each nonterminal: none depends on one with a higher number, and those with one number depend on each other. Time and
-/// memory are linear in the system.
+/// A number for each nonterminal: none depends on one with a higher number, and those with one
+/// number depend on each other. Time and memory are linear in the system.
 pub fn numbers(alloc: Global, s: &OpSystem) -> Result<Vec<usize>, NoMemory>
     ensures { IfOk result (λ numbers. AreNumbers s.now numbers.items) }
 {
@@ -19,7 +19,8 @@ pub fn numbers(alloc: Global, s: &OpSystem) -> Result<Vec<usize>, NoMemory>
     Ok(numbers)
 }
 
-/// Whether the operation of a rule is in a cycle, by the numbers of nonterminals. `Op::Any` is taken so always.
+/// Whether the operation of a rule is in a cycle, by the numbers of nonterminals. `Op::Any` is
+/// taken so always.
 pub fn is_circular(s: &OpSystem, numbers: &[usize], rule: &OpRule) -> bool
     requires numbers { AreNumbers s.now numbers.now }
     requires rule { Contains s.now.ops.items rule.now }
@@ -31,8 +32,8 @@ pub fn is_circular(s: &OpSystem, numbers: &[usize], rule: &OpRule) -> bool
     }
 }
 
-/// For each rule of a system, whether its operation is in a cycle: whether its operand depends on what it makes. `Op::Any` is taken so
-/// always. Time and memory are linear in the system.
+/// For each rule of a system, whether its operation is in a cycle: whether its operand depends on
+/// what it makes. `Op::Any` is taken so always. Time and memory are linear in the system.
 pub fn circular(alloc: Global, s: &OpSystem) -> Result<Vec<bool>, NoMemory>
     ensures { IfOk result (λ marks. AreCircular s.now marks.items) }
 {

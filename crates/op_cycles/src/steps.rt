@@ -28,7 +28,8 @@ fn no_edges(alloc: Global, count: u64) -> Result<Vec<Vec<usize>>, NoMemory>
 fn add_edge(edges: &mut Vec<Vec<usize>>, from: Nt, to: Nt) -> Result<(), NoMemory>
     requires { from.0 < vec_len edges.old }
     ensures len { vec_len edges.new ≡ vec_len edges.old }
-    ensures adds { OnOk result (AddsEdges edges.old.items edges.new.items (λ a b. (a ≡ from.0) × (b ≡ to.0))) }
+    ensures adds { OnOk result
+        (AddsEdges edges.old.items edges.new.items (λ a b. (a ≡ from.0) × (b ≡ to.0))) }
 {
     edges[from.0 as usize].push(to.0 as usize)?;
     Ok(())
@@ -38,7 +39,9 @@ fn add_edge(edges: &mut Vec<Vec<usize>>, from: Nt, to: Nt) -> Result<(), NoMemor
 fn add_symbol(edges: &mut Vec<Vec<usize>>, from: Nt, symbol: Symbol) -> Result<(), NoMemory>
     requires { from.0 < vec_len edges.old }
     ensures len { vec_len edges.new ≡ vec_len edges.old }
-    ensures adds { OnOk result (AddsEdges edges.old.items edges.new.items (λ a b. (a ≡ from.0) × (symbol ≡ symbols.Symbol.Nt (record { 0 = b })))) }
+    ensures adds { OnOk result
+        (AddsEdges edges.old.items edges.new.items
+        (λ a b. (a ≡ from.0) × (symbol ≡ symbols.Symbol.Nt (record { 0 = b })))) }
 {
     match symbol {
         Symbol::Range(_) => Ok(()),
@@ -52,7 +55,8 @@ fn add_production(edges: &mut Vec<Vec<usize>>, p: Production) -> Result<(), NoMe
     requires { p.left.0 < vec_len edges.old }
     ensures len { vec_len edges.new ≡ vec_len edges.old }
     ensures adds { OnOk result (AddsEdges edges.old.items edges.new.items
-        (λ a b. (a ≡ p.left.0) × Contains (symbols_of p.right) (symbols.Symbol.Nt (record { 0 = b })))) }
+        (λ a b. (a ≡ p.left.0)
+        × Contains (symbols_of p.right) (symbols.Symbol.Nt (record { 0 = b })))) }
 {
     match p.right {
         Right::Empty => Ok(()),
@@ -68,7 +72,9 @@ fn add_production(edges: &mut Vec<Vec<usize>>, p: Production) -> Result<(), NoMe
 fn add_productions(edges: &mut Vec<Vec<usize>>, productions: &[Production]) -> Result<(), NoMemory>
     requires { AreBelow (vec_len edges.old) productions.now }
     ensures len { vec_len edges.new ≡ vec_len edges.old }
-    ensures adds { OnOk result (AddsEdges edges.old.items edges.new.items (IsFirstStep productions.now (length productions.now))) }
+    ensures adds { OnOk result
+        (AddsEdges edges.old.items edges.new.items
+        (IsFirstStep productions.now (length productions.now))) }
 {
     for p in productions {
         add_production(edges, *p)?;
@@ -80,7 +86,8 @@ fn add_productions(edges: &mut Vec<Vec<usize>>, productions: &[Production]) -> R
 fn add_rules(edges: &mut Vec<Vec<usize>>, rules: &[OpRule]) -> Result<(), NoMemory>
     requires { RulesAreBelow (vec_len edges.old) rules.now }
     ensures len { vec_len edges.new ≡ vec_len edges.old }
-    ensures adds { OnOk result (AddsEdges edges.old.items edges.new.items (IsFirstRule rules.now (length rules.now))) }
+    ensures adds { OnOk result
+        (AddsEdges edges.old.items edges.new.items (IsFirstRule rules.now (length rules.now))) }
 {
     for rule in rules {
         add_edge(edges, rule.left, rule.operand)?;
@@ -91,7 +98,9 @@ fn add_rules(edges: &mut Vec<Vec<usize>>, rules: &[OpRule]) -> Result<(), NoMemo
 /// For each nonterminal, those that it names.
 pub fn steps(alloc: Global, s: &OpSystem) -> Result<Vec<Vec<usize>>, NoMemory>
     ensures len { IfOk result (λ edges. vec_len edges ≡ s.now.grammar.count) }
-    ensures exact { IfOk result (λ edges. (a b : ℕ) → HasEdge edges.items a b ↔ IsStep s.now.grammar.productions.items s.now.ops.items a b) }
+    ensures exact { IfOk result
+        (λ edges. (a b : ℕ)
+        → HasEdge edges.items a b ↔ IsStep s.now.grammar.productions.items s.now.ops.items a b) }
     ensures within { IfOk result (λ edges. AreWithin edges.items) }
 {
     let mut edges = no_edges(alloc, s.grammar.count)?;

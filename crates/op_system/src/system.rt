@@ -33,8 +33,10 @@ impl OpSystem {
     /// The system of this grammar and these rules; None exactly where the start or a nonterminal
     /// of a rule is not below the count of the grammar, or where a page token stands in it.
     pub fn new(grammar: Grammar, ops: Vec<OpRule>, start: Nt) -> Option<OpSystem>
-        ensures kept { IfSome result (λ s. (s.grammar ≡ grammar) × (s.ops.items ≡ ops.items) × (s.start ≡ start)) }
-        ensures variant { IsSome result ↔ ((start.0 < grammar.count) × RulesAreBelow grammar.count ops.items
+        ensures kept { IfSome result
+            (λ s. (s.grammar ≡ grammar) × (s.ops.items ≡ ops.items) × (s.start ≡ start)) }
+        ensures variant { IsSome result ↔
+            ((start.0 < grammar.count) × RulesAreBelow grammar.count ops.items
             × HaveNoToken grammar.productions.items) }
     {
         if start.0 < grammar.count && are_below(grammar.count, &ops) && grammar.is_without_token() {

@@ -12,7 +12,8 @@ use std::hash::{Hash, Hasher};
 use std::marker::Model;
 use text_base::{Exact, NoMemory};
 
-/// A text by its characters. Contracts see it as the list of their code points; equality and hash are those of that list.
+/// A text by its characters. Contracts see it as the list of their code points; equality and hash
+/// are those of that list.
 #[derive(Debug, Drop)]
 pub struct Characters {
     characters: Vec<char>,

@@ -1,5 +1,6 @@
-//! What a page that is cut at any byte has open, in memory: each value of these types stands for one value of the definition in page_fronts and
-//! page_steps (`specs/Views.antt`), and two that `==` finds equal are one. Below stand text_base, page_fronts, page_steps and character_steps.
+//! What a page that is cut at any byte has open, in memory: each value of these types stands for
+//! one value of the definition in page_fronts and page_steps (`specs/Views.antt`), and two that
+//! `==` finds equal are one. Below stand text_base, page_fronts, page_steps and character_steps.
 #![tactic(auto)]
 
 mod attribute;

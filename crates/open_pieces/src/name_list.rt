@@ -13,7 +13,8 @@ use std::hash::{Hash, Hasher};
 use std::marker::Model;
 use text_base::{Exact, NoMemory};
 
-/// Names in an order. Contracts see it as the list of them; equality and hash are those of that list.
+/// Names in an order. Contracts see it as the list of them; equality and hash are those of that
+/// list.
 #[derive(Debug, Drop)]
 pub struct NameList {
     names: Vec<Characters>,

@@ -14,7 +14,8 @@ pub enum PagePlace {
     AtBeginning,
     /// Behind the byte order mark alone.
     BehindMark,
-    /// Behind other pieces, of which so many characters `]` are the last, two standing for all above.
+    /// Behind other pieces, of which so many characters `]` are the last, two standing for all
+    /// above.
     Behind(u8),
 }
 

@@ -20,7 +20,8 @@ pub fn doctype_move(
     inside: &OpenDoctype,
     c: char,
 ) -> Result<PageMove, NoMemory>
-    ensures { IfOk result (λ to. plain_move to ≡ steps.doctype_move rule (plain_doctype inside.now) c) }
+    ensures { IfOk result
+        (λ to. plain_move to ≡ steps.doctype_move rule (plain_doctype inside.now) c) }
 {
     match doctype_turn(alloc, rule, inside, c)? {
         DoctypeTurn::On(more) => Ok(PageMove::Go(OpenPiece::Doctype(more))),

@@ -13,7 +13,8 @@ use std::alloc::Global;
 use text_base::NoMemory;
 use value_rules::is_word;
 
-/// Behind `<` and maybe more of `<!--`, `<![CDATA[` or `<!DOCTYPE` (XML 1.0, 2.5, 2.7, 2.8 and 3.1).
+/// Behind `<` and maybe more of `<!--`, `<![CDATA[` or `<!DOCTYPE` (XML 1.0, 2.5, 2.7, 2.8 and
+/// 3.1).
 pub fn opener_move(alloc: Global, begun: &Characters, c: char) -> Result<PageMove, NoMemory>
     ensures { IfOk result (λ to. plain_move to ≡ steps.opener_move begun.now c) }
 {

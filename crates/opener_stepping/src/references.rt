@@ -23,7 +23,8 @@ pub fn reference_move(
     c: char,
 ) -> Result<PageMove, NoMemory>
     ensures { IfOk result (λ to. plain_move to
-        ≡ steps.reference_move (table_of indexed.now.dtd.now).entities (plain_reference reference.now) c) }
+        ≡ steps.reference_move (table_of indexed.now.dtd.now).entities
+        (plain_reference reference.now) c) }
 {
     if c == ';' {
         return Ok(reference_end(indexed, reference));
@@ -35,7 +36,8 @@ pub fn reference_move(
 }
 
 fn reference_end(indexed: &IndexedDtd<'_>, reference: &OpenReference) -> PageMove
-    ensures { plain_move result ≡ reference_ended (table_of indexed.now.dtd.now).entities (plain_reference reference.now) }
+    ensures { plain_move result
+        ≡ reference_ended (table_of indexed.now.dtd.now).entities (plain_reference reference.now) }
 {
     if reference_good(indexed, reference) {
         PageMove::Done(PagePlace::Behind(0), Emit::One(PageToken::Text))

@@ -84,7 +84,8 @@ fn second<'c>(
     literal: Literal<'c>,
     cs: &'c [char],
 ) -> Option<(Piece<'c>, &'c [char])>
-    ensures { seen_piece result ≡ spec.second_at space.now before.now between.now (literal_of literal.entry) cs.now }
+    ensures { seen_piece result
+        ≡ spec.second_at space.now before.now between.now (literal_of literal.entry) cs.now }
 {
     let (apart, at_second) = split(cs, Class::Blank);
     let (system, rest) = quoted(at_second)?;
@@ -101,7 +102,8 @@ fn doctype_end<'c>(
     identifier: Identifier<'c>,
     cs: &'c [char],
 ) -> Option<(Piece<'c>, &'c [char])>
-    ensures { seen_piece result ≡ spec.doctype_end space.now (identifier_of identifier.entry) cs.now }
+    ensures { seen_piece result
+        ≡ spec.doctype_end space.now (identifier_of identifier.entry) cs.now }
 {
     let (end_space, end) = split(cs, Class::Blank);
     let rest = strip(end, b">")?;

@@ -35,12 +35,15 @@ fn decide_valid<M: Machine>(
     items: u64,
     pairs: u64,
 ) -> Result<Verdict, ImageRefusal>
-    requires machine { IsPageMachine (table_of dtd.now) (M.first machine.now) (M.steps machine.now) (M.ends machine.now) }
+    requires machine { IsPageMachine (table_of dtd.now) (M.first machine.now) (M.steps machine.now)
+        (M.ends machine.now) }
     requires segments { AreSegmentsOf (table_of dtd.now) segments.now }
     ensures verdict { IfOk result (IsPageVerdict (table_of dtd.now)
-        (DerivesText grammar.now.productions.items (symbols.Symbol.Nt grammar.now.start)) goals.Goal.Valid pairs) }
+        (DerivesText grammar.now.productions.items (symbols.Symbol.Nt grammar.now.start))
+        goals.Goal.Valid pairs) }
     ensures cause { IfErr result
-        (IsCause grammar.now.productions.items (M.steps machine.now) grammar.now.start (M.first machine.now) items) }
+        (IsCause grammar.now.productions.items (M.steps machine.now) grammar.now.start
+        (M.first machine.now) items) }
 {
     sums_tell_valid();
     texts_fit(grammar);
@@ -58,11 +61,14 @@ fn decide_nested<M: Machine>(
     items: u64,
     pairs: u64,
 ) -> Result<Verdict, ImageRefusal>
-    requires { IsPageMachine (table_of dtd.now) (M.first machine.now) (M.steps machine.now) (M.ends machine.now) }
+    requires { IsPageMachine (table_of dtd.now) (M.first machine.now) (M.steps machine.now)
+        (M.ends machine.now) }
     ensures verdict { IfOk result (IsPageVerdict (table_of dtd.now)
-        (DerivesText grammar.now.productions.items (symbols.Symbol.Nt grammar.now.start)) goals.Goal.Nested pairs) }
+        (DerivesText grammar.now.productions.items (symbols.Symbol.Nt grammar.now.start))
+        goals.Goal.Nested pairs) }
     ensures cause { IfErr result
-        (IsCause grammar.now.productions.items (M.steps machine.now) grammar.now.start (M.first machine.now) items) }
+        (IsCause grammar.now.productions.items (M.steps machine.now) grammar.now.start
+        (M.first machine.now) items) }
 {
     nests_tell_nested();
     texts_fit(grammar);
@@ -88,12 +94,15 @@ pub fn decide_pages<M: Machine>(
     items: u64,
     pairs: u64,
 ) -> Result<Verdict, ImageRefusal>
-    requires machine { IsPageMachine (table_of dtd.now) (M.first machine.now) (M.steps machine.now) (M.ends machine.now) }
+    requires machine { IsPageMachine (table_of dtd.now) (M.first machine.now) (M.steps machine.now)
+        (M.ends machine.now) }
     requires sums { AreSumsOf goal (table_of dtd.now) sums.now }
     ensures verdict { IfOk result (IsPageVerdict (table_of dtd.now)
-        (DerivesText grammar.now.productions.items (symbols.Symbol.Nt grammar.now.start)) goal pairs) }
+        (DerivesText grammar.now.productions.items (symbols.Symbol.Nt grammar.now.start)) goal
+        pairs) }
     ensures cause { IfErr result
-        (IsCause grammar.now.productions.items (M.steps machine.now) grammar.now.start (M.first machine.now) items) }
+        (IsCause grammar.now.productions.items (M.steps machine.now) grammar.now.start
+        (M.first machine.now) items) }
 {
     let _ = goal;
     match sums {
@@ -121,7 +130,8 @@ pub fn find_broken<B: Machine>(
     items: u64,
     pairs: u64,
 ) -> Result<Option<Derivation>, NoMemory>
-    requires { IsBrokenMachine (table_of dtd.now) (B.first machine.now) (B.steps machine.now) (B.ends machine.now) }
+    requires { IsBrokenMachine (table_of dtd.now) (B.first machine.now) (B.steps machine.now)
+        (B.ends machine.now) }
     ensures { IfOk result (λ found. IfSome found (IsBadPage (table_of dtd.now)
         (DerivesText grammar.now.productions.items (symbols.Symbol.Nt grammar.now.start)) goal)) }
 {

@@ -12,7 +12,8 @@ use echoing_machine::machine_echoes;
 /// The echoing machine of a reader that gives the tokens of each page of bytes is a machine that
 /// reads pages.
 pub fn echo_is_page_machine<R: ByteReader>(dtd: &Dtd, reader: &R)
-    requires { ReadsPages (table_of dtd.now) (R.next reader.now) (R.puts reader.now) (R.lasts reader.now) (R.first reader.now) }
+    requires { ReadsPages (table_of dtd.now) (R.next reader.now) (R.puts reader.now)
+        (R.lasts reader.now) (R.first reader.now) }
     ensures { IsPageMachine (table_of dtd.now) (R.first reader.now)
         (EchoStep (R.next reader.now) (R.puts reader.now) (R.lasts reader.now))
         (EchoEnd (R.next reader.now) (R.puts reader.now) (R.lasts reader.now)) }

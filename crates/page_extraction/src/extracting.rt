@@ -17,8 +17,8 @@ use set_numbering::number_sets;
 use std::alloc::Global;
 use text_base::NoMemory;
 
-/// The sets of what is printed from the entry of the first function on, until it returns and until the run
-/// ends elsewhere; none where there is no function.
+/// The sets of what is printed from the entry of the first function on, until it returns and until
+/// the run ends elsewhere; none where there is no function.
 fn ends(alloc: Global, flow: &FlowProgram) -> Result<Vec<SetName>, NoMemory>
     ensures { IfOk result (λ names. AreEnds (plain_flow flow.now) names.items) }
 {
@@ -31,9 +31,9 @@ fn ends(alloc: Global, flow: &FlowProgram) -> Result<Vec<SetName>, NoMemory>
     Ok(names)
 }
 
-/// The system of productions and operations whose start has exactly the loose pages of a program, over a
-/// lister of its sets, and whose operations are in cycles exactly where those of the loose sets are. Linear
-/// in the rows, beside what the lister takes for them.
+/// The system of productions and operations whose start has exactly the loose pages of a program,
+/// over a lister of its sets, and whose operations are in cycles exactly where those of the loose
+/// sets are. Linear in the rows, beside what the lister takes for them.
 pub fn extract_by<L: Lister>(
     alloc: Global,
     flow: &FlowProgram,

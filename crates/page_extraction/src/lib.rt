@@ -1,7 +1,7 @@
-//! From points to a system: `extract_by` numbers the sets that a lister of the sets of a program lists,
-//! and writes their table as a system of productions and operations, whose start has exactly the loose
-//! pages of the program. Below stand flow_code, loose_sets, set_lister, set_numbering, numbered_rows
-//! and plain_systems.
+//! From points to a system: `extract_by` numbers the sets that a lister of the sets of a program
+//! lists, and writes their table as a system of productions and operations, whose start has exactly
+//! the loose pages of the program. Below stand flow_code, loose_sets, set_lister, set_numbering,
+//! numbered_rows and plain_systems.
 #![tactic(auto)]
 
 mod extracting;

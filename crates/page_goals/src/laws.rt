@@ -2,8 +2,8 @@
 
 ghost use Rattle.page_goals.specs.Telling.{NestsTellNested, SumsTellValid};
 
-/// By each table of states that decides what elements may hold, the sum of a page's tokens is whole exactly where the page is
-/// valid.
+/// By each table of states that decides what elements may hold, the sum of a page's tokens is whole
+/// exactly where the page is valid.
 pub fn sums_tell_valid()
     ensures { SumsTellValid }
 {

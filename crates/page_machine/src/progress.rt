@@ -36,7 +36,8 @@ impl Progress {
 
     /// Goes over the document type declaration; false where it may not stand there.
     pub fn doctype(&mut self) -> bool
-        ensures { Goes (machine.typed (progress_of self.old).0 (progress_of self.old).1) (progress_of self.new) result }
+        ensures { Goes (machine.typed (progress_of self.old).0 (progress_of self.old).1)
+            (progress_of self.new) result }
     {
         let is_empty = self.open.last().is_none();
         match self.stage {
@@ -52,7 +53,9 @@ impl Progress {
     /// want of memory nothing more is said of the progress.
     pub fn start(&mut self, dtd: &Dtd, contents: &Contents, element: Elem) -> Result<bool, NoMemory>
         requires { length contents.now.0 ≡ length (table_of dtd.now).elements }
-        ensures { IfOk result (Goes (machine.opened (table_of dtd.now) contents.now (progress_of self.old) element.0) (progress_of self.new)) }
+        ensures { IfOk result
+            (Goes (machine.opened (table_of dtd.now) contents.now (progress_of self.old) element.0)
+            (progress_of self.new)) }
     {
         if usize::from(element.0) >= dtd.elements.len() {
             return Ok(false);
@@ -80,7 +83,9 @@ impl Progress {
     // The start tag of the root.
     fn begin(&mut self, dtd: &Dtd, root: Open) -> Result<bool, NoMemory>
         requires { self.old.«open» ≡ [] }
-        ensures { IfOk result (Goes (root_at (table_of dtd.now) (stage_of self.old.stage) root.element.0 root.state) (progress_of self.new)) }
+        ensures { IfOk result
+            (Goes (root_at (table_of dtd.now) (stage_of self.old.stage) root.element.0 root.state)
+            (progress_of self.new)) }
     {
         if !(may_begin(dtd.doctype, self.stage) && is_html(dtd, root.element)) {
             return Ok(false);
@@ -92,7 +97,8 @@ impl Progress {
 
     /// Goes over an end tag; false where it does not close the innermost element.
     pub fn end(&mut self, contents: &Contents, element: Elem) -> bool
-        ensures { Goes (machine.popped contents.now (progress_of self.old).0 (progress_of self.old).1 element.0) (progress_of self.new) result }
+        ensures { Goes (machine.popped contents.now (progress_of self.old).0
+            (progress_of self.old).1 element.0) (progress_of self.new) result }
     {
         match self.open.pop() {
             None => false,
@@ -102,7 +108,8 @@ impl Progress {
 
     /// Whether this may stand here.
     pub fn allows(&self, dtd: &Dtd, sort: Sort) -> bool
-        ensures { result ≡ machine.may_stand (table_of dtd.now) (progress_of self.now).1 (sort_of sort) }
+        ensures { result ≡ machine.may_stand (table_of dtd.now) (progress_of self.now).1
+            (sort_of sort) }
     {
         match self.open.last() {
             None => is_between(sort),
@@ -164,7 +171,8 @@ fn is_between(sort: Sort) -> bool
 
 // Whether this may stand in the element.
 fn may_hold(dtd: &Dtd, element: Elem, sort: Sort) -> bool
-    ensures { result ≡ valid.may_hold (machine.holding_at (table_of dtd.now) element.0) (sort_of sort) }
+    ensures { result ≡ valid.may_hold (machine.holding_at (table_of dtd.now) element.0)
+        (sort_of sort) }
 {
     match dtd.elements.as_slice().get(usize::from(element.0)) {
         None => false,

@@ -20,7 +20,8 @@ use page_stepping::narrow_step;
 use std::alloc::Global;
 use text_base::{NoMemory, PageToken};
 
-/// The reader of the pages of a document type definition. Over each page it puts out exactly the tokens of the page.
+/// The reader of the pages of a document type definition. Over each page it puts out exactly the
+/// tokens of the page.
 #[derive(Clone, Copy, Debug, Drop)]
 pub struct PageReader<'a> {
     /// The definition.
@@ -42,8 +43,10 @@ fn beginning(alloc: Global, place: PagePlace) -> ReaderState
 
 // Where a move leads, and what is put out at it.
 fn step_by(alloc: Global, to: StateMove<HeldState>) -> ReaderStep<ReaderState>
-    ensures to { (table : Table) → result.to ≡ coded (to_state (narrow_reader table) (plain_move_by plain_held to)) }
-    ensures emit { (table : Table) → emitted result.emit ≡ put_out (narrow_reader table) (plain_move_by plain_held to) }
+    ensures to { (table : Table) → result.to
+        ≡ coded (to_state (narrow_reader table) (plain_move_by plain_held to)) }
+    ensures emit { (table : Table) → emitted result.emit
+        ≡ put_out (narrow_reader table) (plain_move_by plain_held to) }
 {
     match to {
         StateMove::Go(held) => ReaderStep {
@@ -73,7 +76,8 @@ fn emit_behind(state: &ReaderState) -> Emit
 
 // One bad token where some of a piece is read.
 fn emit_left(held: &HeldState) -> Emit
-    ensures { (table : Table) → emitted result ≡ last_tokens (narrow_reader table) (plain_held held.now) }
+    ensures { (table : Table) → emitted result
+        ≡ last_tokens (narrow_reader table) (plain_held held.now) }
 {
     if has_begun(held) || is_inside(&held.state.inside) {
         Emit::One(PageToken::Bad)

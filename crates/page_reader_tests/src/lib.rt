@@ -1,7 +1,16 @@
-//! Tests of page_reader.
+//! Tests of page_reader and merged_reader: both readers on pages with their tokens, on generated
+//! pages beside a plain reading piece by piece, and where two texts share a state.
 #![tactic(auto)]
 
 #[cfg(test)]
+mod by_pieces;
+#[cfg(test)]
+mod character_rows;
+#[cfg(test)]
+mod generated;
+#[cfg(test)]
+mod page_rows;
+#[cfg(test)]
 mod reading;
 #[cfg(test)]
-mod rows;
+mod token_words;

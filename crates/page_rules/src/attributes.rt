@@ -27,7 +27,9 @@ pub fn attributes_fit(
     rules: &Vec<AttrRule>,
     attributes: &[Read<'_>],
 ) -> Result<bool, NoMemory>
-    ensures { IfOk result (λ fit. fit ≡ spec.attributes_fit (table_of indexed.now.dtd.now).entities name.now (map declared_of rules.now.items) (map attribute_of attributes.now)) }
+    ensures { IfOk result
+        (λ fit. fit ≡ spec.attributes_fit (table_of indexed.now.dtd.now).entities name.now
+        (map declared_of rules.now.items) (map attribute_of attributes.now)) }
 {
     let known = all_known(indexed, attributes);
     let declared = all_declared(alloc, rules, attributes)?;
@@ -43,13 +45,17 @@ fn all_three(first: bool, second: bool, third: bool) -> bool
 
 // Whether no declared name stands twice, and each that has to stand does.
 fn all_stand(name: &[char], rules: &Vec<AttrRule>, attributes: &[Read<'_>]) -> bool
-    ensures { result ≡ (once_by (map attribute_of attributes.now) (map declared_of rules.now.items) && spec.all_there name.now (map declared_of rules.now.items) (map attribute_of attributes.now)) }
+    ensures { result ≡ (once_by (map attribute_of attributes.now) (map declared_of rules.now.items)
+        && spec.all_there name.now (map declared_of rules.now.items)
+        (map attribute_of attributes.now)) }
 {
     all_once(rules, attributes) && all_there(name, rules, attributes)
 }
 
 fn all_known(indexed: &IndexedDtd<'_>, attributes: &[Read<'_>]) -> bool
-    ensures { result ≡ list_all (λ (a : Attribute). refers_by (is_known (table_of indexed.now.dtd.now).entities) a.value) (map attribute_of attributes.now) }
+    ensures { result ≡ list_all
+        (λ (a : Attribute). refers_by (is_known (table_of indexed.now.dtd.now).entities) a.value)
+        (map attribute_of attributes.now) }
 {
     for attribute in attributes {
         if !refers_to_known(indexed, attribute.value.text) {
@@ -64,7 +70,9 @@ fn all_declared(
     rules: &Vec<AttrRule>,
     attributes: &[Read<'_>],
 ) -> Result<bool, NoMemory>
-    ensures { IfOk result (λ fit. fit ≡ list_all (spec.is_declared (map declared_of rules.now.items)) (map attribute_of attributes.now)) }
+    ensures { IfOk result
+        (λ fit. fit ≡ list_all (spec.is_declared (map declared_of rules.now.items))
+        (map attribute_of attributes.now)) }
 {
     for attribute in attributes {
         if !is_declared(alloc, rules, attribute)? {
@@ -76,7 +84,9 @@ fn all_declared(
 
 // Whether the attribute is declared, and has an allowed value.
 fn is_declared(alloc: Global, rules: &Vec<AttrRule>, attribute: &Read<'_>) -> Result<bool, NoMemory>
-    ensures { IfOk result (λ fit. fit ≡ spec.is_declared (map declared_of rules.now.items) (attribute_of attribute.now)) }
+    ensures { IfOk result
+        (λ fit. fit ≡ spec.is_declared (map declared_of rules.now.items)
+        (attribute_of attribute.now)) }
 {
     for rule in rules {
         if is_named(&rule.name, attribute.name) {
@@ -125,7 +135,8 @@ fn stands(attributes: &[Read<'_>], name: &Bytes) -> bool
 
 // Whether each attribute that has to stand does.
 fn all_there(name: &[char], rules: &Vec<AttrRule>, attributes: &[Read<'_>]) -> bool
-    ensures { result ≡ spec.all_there name.now (map declared_of rules.now.items) (map attribute_of attributes.now) }
+    ensures { result ≡ spec.all_there name.now (map declared_of rules.now.items)
+        (map attribute_of attributes.now) }
 {
     for rule in rules {
         if must_stand(name, rule) && !stands(attributes, &rule.name) {

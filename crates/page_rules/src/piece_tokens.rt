@@ -61,7 +61,8 @@ pub fn tokens_of(
 }
 
 fn doctype_taken(indexed: &IndexedDtd<'_>, doctype: Doctype<'_>) -> Option<Taken>
-    ensures { Takes (table_of indexed.now.dtd.now) (pieces.doctype (doctype_of doctype.entry)) result }
+    ensures { Takes (table_of indexed.now.dtd.now) (pieces.doctype (doctype_of doctype.entry))
+        result }
 {
     if doctype_fits(indexed.dtd.doctype, doctype.identifier) {
         Some(Taken::Doctype)
@@ -96,7 +97,8 @@ fn start_taken(
     indexed: &IndexedDtd<'_>,
     tag: &Tag<'_>,
 ) -> Result<Option<Taken>, NoMemory>
-    ensures { IfOk result (λ found. Takes (table_of indexed.now.dtd.now) (pieces.start_tag (tag_of tag.now)) found) }
+    ensures { IfOk result
+        (λ found. Takes (table_of indexed.now.dtd.now) (pieces.start_tag (tag_of tag.now)) found) }
 {
     match tag_taken(alloc, indexed, tag)? {
         Some(element) => Ok(Some(Taken::Start(element))),
@@ -109,7 +111,8 @@ fn empty_taken(
     indexed: &IndexedDtd<'_>,
     tag: &Tag<'_>,
 ) -> Result<Option<Taken>, NoMemory>
-    ensures { IfOk result (λ found. Takes (table_of indexed.now.dtd.now) (pieces.empty_tag (tag_of tag.now)) found) }
+    ensures { IfOk result
+        (λ found. Takes (table_of indexed.now.dtd.now) (pieces.empty_tag (tag_of tag.now)) found) }
 {
     match tag_taken(alloc, indexed, tag)? {
         Some(element) => Ok(Some(Taken::Empty(element))),
@@ -137,7 +140,8 @@ fn tag_taken(
 }
 
 fn end_taken(indexed: &IndexedDtd<'_>, name: &[char]) -> Option<Taken>
-    ensures { (space : List ℕ) → Takes (table_of indexed.now.dtd.now) (pieces.end_tag name.now space) result }
+    ensures { (space : List ℕ)
+        → Takes (table_of indexed.now.dtd.now) (pieces.end_tag name.now space) result }
 {
     match element(indexed, name) {
         Some(element) => Some(Taken::End(element)),
@@ -156,7 +160,8 @@ fn character_taken(c: char) -> Option<Taken>
 }
 
 fn reference_taken(indexed: &IndexedDtd<'_>, reference: Reference<'_>) -> Option<Taken>
-    ensures { Takes (table_of indexed.now.dtd.now) (pieces.leaf (parts.reference (reference_of reference.entry))) result }
+    ensures { Takes (table_of indexed.now.dtd.now)
+        (pieces.leaf (parts.reference (reference_of reference.entry))) result }
 {
     if is_known(indexed, reference) {
         Some(Taken::Text)

@@ -26,7 +26,8 @@ pub fn byte_step(
     byte: u8,
 ) -> Result<StateMove<HeldState>, NoMemory>
     ensures { IfOk result (λ to. plain_move_by plain_held to
-        ≡ encoded.byte_step (steps.page_reader (table_of indexed.now.dtd.now)) steps.page_hold (plain_held held.now) byte) }
+        ≡ encoded.byte_step (steps.page_reader (table_of indexed.now.dtd.now)) steps.page_hold
+        (plain_held held.now) byte) }
 {
     let mut begun = held.begun.copy(alloc)?;
     begun.push(byte)?;
@@ -45,7 +46,8 @@ fn held_move(
     state: &PageState,
     begun: Bytes,
 ) -> Result<StateMove<HeldState>, NoMemory>
-    ensures { IfOk result (λ to. plain_move_by plain_held to ≡ views.held_move (plain_state state.now) begun) }
+    ensures { IfOk result
+        (λ to. plain_move_by plain_held to ≡ views.held_move (plain_state state.now) begun) }
 {
     if !is_begun(begun.as_slice()) {
         return Ok(StateMove::Fail);
@@ -70,7 +72,8 @@ pub fn narrow_step(
 
 // The move, but that it fails at a state that does not pass.
 fn kept(indexed: &IndexedDtd<'_>, to: StateMove<HeldState>) -> StateMove<HeldState>
-    ensures { plain_move_by plain_held result ≡ readers.kept (passing.passes (table_of indexed.now.dtd.now)) (plain_move_by plain_held to) }
+    ensures { plain_move_by plain_held result
+        ≡ readers.kept (passing.passes (table_of indexed.now.dtd.now)) (plain_move_by plain_held to) }
 {
     match to {
         StateMove::Go(held) => {

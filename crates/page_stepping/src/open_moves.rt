@@ -26,7 +26,8 @@ pub fn open_move(
     c: char,
 ) -> Result<PageMove, NoMemory>
     ensures { IfOk result (λ to. plain_move to
-        ≡ steps.open_move (table_of indexed.now.dtd.now) (plain_place place) (plain_open inside.now) c) }
+        ≡ steps.open_move (table_of indexed.now.dtd.now) (plain_place place) (plain_open inside.now)
+        c) }
 {
     match inside {
         OpenPiece::Nothing => first_move(alloc, place, c),

@@ -28,8 +28,8 @@ pub fn is_valid(alloc: Global, dtd: &Dtd, page: &[u8]) -> Result<bool, PageRefus
     }
 }
 
-/// Whether the page of a row, between these bytes, is as the row says: `+` before one that is valid, `-` before one
-/// that is not.
+/// Whether the page of a row, between these bytes, is as the row says: `+` before one that is
+/// valid, `-` before one that is not.
 pub fn row_is_so(
     alloc: Global,
     dtd: &Dtd,

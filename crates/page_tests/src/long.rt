@@ -44,8 +44,8 @@ fn nested(alloc: Global, elements: u32, ends: u32) -> Result<Vec<u8>, AllocError
     Ok(page)
 }
 
-// 300,000 elements stand in one another. Where one end tag is missing the last one shows it, where all are, the end of
-// the page.
+// 300,000 elements stand in one another. Where one end tag is missing the last one shows it, where
+// all are, the end of the page.
 #[test]
 fn deep_pages(rt: HostRuntime) -> Result<(), Fail> {
     let dtd = definition(
@@ -71,8 +71,8 @@ fn deep_pages(rt: HostRuntime) -> Result<(), Fail> {
     Ok(())
 }
 
-// A tag of 20,000 attributes, whose names all differ, and one of 200,000, which have one declared name: pairs of these
-// would be 20,000,000,000.
+// A tag of 20,000 attributes, whose names all differ, and one of 200,000, which have one declared
+// name: pairs of these would be 20,000,000,000.
 #[test]
 fn many_attributes(rt: HostRuntime) -> Result<(), Fail> {
     let dtd = definition(
@@ -93,7 +93,8 @@ fn many_attributes(rt: HostRuntime) -> Result<(), Fail> {
     Ok(())
 }
 
-// 100,000 references where 20,000 entities are declared: looked up one by one they would be 2,000,000,000.
+// 100,000 references where 20,000 entities are declared: looked up one by one they would be
+// 2,000,000,000.
 #[test]
 fn many_entities(rt: HostRuntime) -> Result<(), Fail> {
     let mut text = Vec::new(rt.alloc());

@@ -1,5 +1,6 @@
-//! The examples of XML 1.0 for what a page can hold, by section. Where an example has a root of its own it stands in
-//! `html` here; rows with `-` are those that XML itself calls wrong, or near misses of the example before them.
+//! The examples of XML 1.0 for what a page can hold, by section. Where an example has a root of its
+//! own it stands in `html` here; rows with `-` are those that XML itself calls wrong, or near
+//! misses of the example before them.
 
 use crate::judging::{definition, row_is_so};
 use std::test::Fail;

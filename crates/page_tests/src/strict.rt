@@ -1,5 +1,5 @@
-//! Pages by XHTML 1.0 Strict: short pages as those of the documentation of XHTML, and of each rule of its section on what
-//! differs from HTML.
+//! Pages by XHTML 1.0 Strict: short pages as those of the documentation of XHTML, and of each rule
+//! of its section on what differs from HTML.
 
 use crate::judging::{is_valid, only_whole, row_is_so};
 use std::test::Fail;

@@ -62,7 +62,9 @@ fn next<'c>(
     cs: &'c [char],
 ) -> Result<Option<(Place, &'c [char])>, NoMemory>
     requires { length contents.now.0 ≡ length (table_of indexed.now.dtd.now).elements }
-    ensures { IfOk result (IsNext (table_of indexed.now.dtd.now) contents.now (place_of place) (progress_of progress.old) cs.now (progress_of progress.new)) }
+    ensures { IfOk result
+        (IsNext (table_of indexed.now.dtd.now) contents.now (place_of place)
+        (progress_of progress.old) cs.now (progress_of progress.new)) }
 {
     let Some((piece, behind)) = piece_at(alloc, place, cs)? else {
         return Ok(None);
@@ -88,7 +90,9 @@ fn take(
     taken: Taken,
 ) -> Result<bool, NoMemory>
     requires { length contents.now.0 ≡ length (table_of dtd.now).elements }
-    ensures { IfOk result (Goes (moved (table_of dtd.now) contents.now (progress_of progress.old) (taken_tokens taken)) (progress_of progress.new)) }
+    ensures { IfOk result
+        (Goes (moved (table_of dtd.now) contents.now (progress_of progress.old)
+        (taken_tokens taken)) (progress_of progress.new)) }
 {
     match taken {
         Taken::Nothing => Ok(true),

@@ -76,7 +76,8 @@ fn is_string(a: &Value) -> Value
 }
 
 fn apply_two(alloc: Global, builtin: Builtin, a: &Value, b: &Value) -> Result<Value, Fault>
-    ensures ok { IfOk result (λ v. value_of_two builtin (plain_of a.now) (plain_of b.now) ≡ Ok (plain_of v)) }
+    ensures ok { IfOk result
+        (λ v. value_of_two builtin (plain_of a.now) (plain_of b.now) ≡ Ok (plain_of v)) }
     ensures err { IfErr result (λ fault. (fault ≡ Fault.Memory)
         ⊎ (value_of_two builtin (plain_of a.now) (plain_of b.now) ≡ Err fault)) }
 {
@@ -97,7 +98,9 @@ fn apply_three(
     b: &Value,
     c: &Value,
 ) -> Result<Value, Fault>
-    ensures ok { IfOk result (λ v. value_of_three builtin (plain_of a.now) (plain_of b.now) (plain_of c.now) ≡ Ok (plain_of v)) }
+    ensures ok { IfOk result
+        (λ v. value_of_three builtin (plain_of a.now) (plain_of b.now) (plain_of c.now)
+        ≡ Ok (plain_of v)) }
     ensures err { IfErr result (λ fault. (fault ≡ Fault.Memory)
         ⊎ (value_of_three builtin (plain_of a.now) (plain_of b.now) (plain_of c.now) ≡ Err fault)) }
 {

@@ -55,7 +55,8 @@ fn first_uppered(alloc: Global, text: &[u8]) -> Result<Vec<u8>, NoMemory>
 /// `strtolower(text)` (PHP manual).
 pub fn lower(alloc: Global, text: &[u8]) -> Result<Text, Fault>
     ensures ok { IfOk result (λ t. within_length (lower_of text.now) ≡ Ok (Plain.text t)) }
-    ensures err { IfErr result (λ fault. (fault ≡ Fault.Memory) ⊎ (within_length (lower_of text.now) ≡ Err fault)) }
+    ensures err { IfErr result
+        (λ fault. (fault ≡ Fault.Memory) ⊎ (within_length (lower_of text.now) ≡ Err fault)) }
 {
     let bytes = lowered(alloc, text)?;
     Text::from_vec(alloc, bytes)
@@ -64,7 +65,8 @@ pub fn lower(alloc: Global, text: &[u8]) -> Result<Text, Fault>
 /// `strtoupper(text)` (PHP manual).
 pub fn upper(alloc: Global, text: &[u8]) -> Result<Text, Fault>
     ensures ok { IfOk result (λ t. within_length (upper_of text.now) ≡ Ok (Plain.text t)) }
-    ensures err { IfErr result (λ fault. (fault ≡ Fault.Memory) ⊎ (within_length (upper_of text.now) ≡ Err fault)) }
+    ensures err { IfErr result
+        (λ fault. (fault ≡ Fault.Memory) ⊎ (within_length (upper_of text.now) ≡ Err fault)) }
 {
     let bytes = uppered(alloc, text)?;
     Text::from_vec(alloc, bytes)
@@ -73,7 +75,8 @@ pub fn upper(alloc: Global, text: &[u8]) -> Result<Text, Fault>
 /// `ucfirst(text)` (PHP manual).
 pub fn first_upper(alloc: Global, text: &[u8]) -> Result<Text, Fault>
     ensures ok { IfOk result (λ t. within_length (first_upper_of text.now) ≡ Ok (Plain.text t)) }
-    ensures err { IfErr result (λ fault. (fault ≡ Fault.Memory) ⊎ (within_length (first_upper_of text.now) ≡ Err fault)) }
+    ensures err { IfErr result
+        (λ fault. (fault ≡ Fault.Memory) ⊎ (within_length (first_upper_of text.now) ≡ Err fault)) }
 {
     let bytes = first_uppered(alloc, text)?;
     Text::from_vec(alloc, bytes)
@@ -117,7 +120,9 @@ fn trimmed(left: bool, right: bool, text: &[u8]) -> &[u8]
 /// manual).
 pub fn trim(alloc: Global, left: bool, right: bool, text: &[u8]) -> Result<Text, Fault>
     ensures ok { IfOk result (λ t. within_length (trim_of left right text.now) ≡ Ok (Plain.text t)) }
-    ensures err { IfErr result (λ fault. (fault ≡ Fault.Memory) ⊎ (within_length (trim_of left right text.now) ≡ Err fault)) }
+    ensures err { IfErr result
+        (λ fault. (fault ≡ Fault.Memory)
+        ⊎ (within_length (trim_of left right text.now) ≡ Err fault)) }
 {
     Text::new(alloc, trimmed(left, right, text))
 }
@@ -173,7 +178,8 @@ fn part_length(text: &[u8], from: usize, len: i64) -> usize
 /// `substr(text, start, len)` (PHP manual); without a length the rest.
 pub fn substr(alloc: Global, text: &[u8], start: i64, len: Option<i64>) -> Result<Text, Fault>
     ensures ok { IfOk result (λ t. within_length (part_of text.now start len) ≡ Ok (Plain.text t)) }
-    ensures err { IfErr result (λ fault. (fault ≡ Fault.Memory) ⊎ (within_length (part_of text.now start len) ≡ Err fault)) }
+    ensures err { IfErr result
+        (λ fault. (fault ≡ Fault.Memory) ⊎ (within_length (part_of text.now start len) ≡ Err fault)) }
 {
     Text::new(alloc, part(text, start, len))
 }

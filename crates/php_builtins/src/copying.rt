@@ -40,7 +40,8 @@ fn is_too_long(count: usize, len: usize) -> bool
 /// anything is built.
 pub fn repeat(alloc: Global, text: &[u8], count: i64) -> Result<Text, Fault>
     ensures ok { IfOk result (λ t. copies_at text.now count ≡ Ok (Plain.text t)) }
-    ensures err { IfErr result (λ fault. (fault ≡ Fault.Memory) ⊎ (copies_at text.now count ≡ Err fault)) }
+    ensures err { IfErr result
+        (λ fault. (fault ≡ Fault.Memory) ⊎ (copies_at text.now count ≡ Err fault)) }
 {
     if count < 0 {
         return Err(Fault::WrongType);
@@ -50,7 +51,8 @@ pub fn repeat(alloc: Global, text: &[u8], count: i64) -> Result<Text, Fault>
 
 fn repeat_known(alloc: Global, text: &[u8], count: u64) -> Result<Text, Fault>
     ensures ok { IfOk result (λ t. within_length (copies_of count text.now) ≡ Ok (Plain.text t)) }
-    ensures err { IfErr result (λ fault. (fault ≡ Fault.Memory) ⊎ (within_length (copies_of count text.now) ≡ Err fault)) }
+    ensures err { IfErr result
+        (λ fault. (fault ≡ Fault.Memory) ⊎ (within_length (copies_of count text.now) ≡ Err fault)) }
 {
     if text.is_empty() {
         return Text::new(alloc, text);

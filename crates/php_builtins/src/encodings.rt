@@ -184,7 +184,8 @@ fn written(alloc: Global, encoding: Encoding, text: &[u8]) -> Result<Vec<u8>, No
 /// 16,777,216 bytes, before anything is built.
 fn encode(alloc: Global, encoding: Encoding, text: &[u8]) -> Result<Text, Fault>
     ensures ok { IfOk result (λ t. within_length (encoded encoding text.now) ≡ Ok (Plain.text t)) }
-    ensures err { IfErr result (λ fault. (fault ≡ Fault.Memory) ⊎ (within_length (encoded encoding text.now) ≡ Err fault)) }
+    ensures err { IfErr result
+        (λ fault. (fault ≡ Fault.Memory) ⊎ (within_length (encoded encoding text.now) ≡ Err fault)) }
 {
     if is_too_long(encoding, text) {
         return Err(Fault::Long);
@@ -193,8 +194,8 @@ fn encode(alloc: Global, encoding: Encoding, text: &[u8]) -> Result<Text, Fault>
     Text::from_vec(alloc, bytes)
 }
 
-/// `htmlspecialchars(text)` (PHP manual), of a text that is UTF-8. Faults Long exactly where it would be longer than 16,777,216
-/// bytes, before anything is built.
+/// `htmlspecialchars(text)` (PHP manual), of a text that is UTF-8. Faults Long exactly where it
+/// would be longer than 16,777,216 bytes, before anything is built.
 pub fn html(alloc: Global, text: &[u8]) -> Result<Text, Fault>
     ensures ok { IfOk result (λ t. within_length (html_of text.now) ≡ Ok (Plain.text t)) }
     ensures err { IfErr result (λ fault. (fault ≡ Fault.Memory)

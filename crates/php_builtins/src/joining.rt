@@ -44,7 +44,8 @@ fn is_too_long(
 }
 
 fn push_member(alloc: Global, out: &mut Vec<u8>, sep: &[u8], value: &Value) -> Result<(), NoMemory>
-    ensures { IfOk result (λ _. out.new.items ≡ out.old.items ++ (sep.now ++ text_form (plain_of value.now))) }
+    ensures { IfOk result
+        (λ _. out.new.items ≡ out.old.items ++ (sep.now ++ text_form (plain_of value.now))) }
 {
     let form = text_of(alloc, value)?;
     out.extend_from_slice(sep)?;
@@ -58,8 +59,11 @@ fn joined(
     first: &Value,
     others: &[(Key, Value)],
 ) -> Result<Vec<u8>, NoMemory>
-    requires { length (text_form (plain_of first.now) ++ behind_first sep.now (pairs_of others.now)) ≤ 16777216 }
-    ensures { IfOk result (λ bytes. bytes.items ≡ text_form (plain_of first.now) ++ behind_first sep.now (pairs_of others.now)) }
+    requires { length (text_form (plain_of first.now)
+        ++ behind_first sep.now (pairs_of others.now)) ≤ 16777216 }
+    ensures { IfOk result
+        (λ bytes. bytes.items ≡ text_form (plain_of first.now)
+        ++ behind_first sep.now (pairs_of others.now)) }
 {
     let mut out = Vec::new(alloc);
     let form = text_of(alloc, first)?;
@@ -76,14 +80,19 @@ fn joined(
 /// each two. Faults Long exactly where they are longer than 16,777,216 bytes together, before
 /// anything is built.
 pub fn implode(alloc: Global, sep: &[u8], array: &Array) -> Result<Text, Fault>
-    ensures ok { IfOk result (λ t. within_length (join_of sep.now (member_texts array.now)) ≡ Ok (Plain.text t)) }
-    ensures err { IfErr result (λ fault. (fault ≡ Fault.Memory) ⊎ (within_length (join_of sep.now (member_texts array.now)) ≡ Err fault)) }
+    ensures ok { IfOk result
+        (λ t. within_length (join_of sep.now (member_texts array.now)) ≡ Ok (Plain.text t)) }
+    ensures err { IfErr result
+        (λ fault. (fault ≡ Fault.Memory)
+        ⊎ (within_length (join_of sep.now (member_texts array.now)) ≡ Err fault)) }
 {
     implode_pairs(alloc, sep, array.pairs())
 }
 
 fn implode_pairs(alloc: Global, sep: &[u8], pairs: &[(Key, Value)]) -> Result<Text, Fault>
-    ensures ok { IfOk result (λ t. within_length (join_of sep.now (member_texts (pairs_of pairs.now))) ≡ Ok (Plain.text t)) }
+    ensures ok { IfOk result
+        (λ t. within_length (join_of sep.now (member_texts (pairs_of pairs.now)))
+        ≡ Ok (Plain.text t)) }
     ensures err { IfErr result (λ fault. (fault ≡ Fault.Memory)
         ⊎ (within_length (join_of sep.now (member_texts (pairs_of pairs.now))) ≡ Err fault)) }
 {
@@ -99,10 +108,13 @@ fn implode_from(
     first: &Value,
     others: &[(Key, Value)],
 ) -> Result<Text, Fault>
-    ensures ok { IfOk result (λ t. within_length (text_form (plain_of first.now) ++ behind_first sep.now (pairs_of others.now))
+    ensures ok { IfOk result
+        (λ t. within_length (text_form (plain_of first.now)
+        ++ behind_first sep.now (pairs_of others.now))
         ≡ Ok (Plain.text t)) }
     ensures err { IfErr result (λ fault. (fault ≡ Fault.Memory)
-        ⊎ (within_length (text_form (plain_of first.now) ++ behind_first sep.now (pairs_of others.now)) ≡ Err fault)) }
+        ⊎ (within_length (text_form (plain_of first.now)
+        ++ behind_first sep.now (pairs_of others.now)) ≡ Err fault)) }
 {
     if is_too_long(alloc, sep, first, others)? {
         return Err(Fault::Long);

@@ -1,6 +1,6 @@
-//! What PHP's functions that a script may call give, computed: the contracts cite the definitions of
-//! builtin_meaning and string_functions. No result longer than a text may be is built before it is
-//! refused, and time is linear in arguments and result. Below stand text_base, string_functions,
+//! What PHP's functions that a script may call give, computed: the contracts cite the definitions
+//! of builtin_meaning and string_functions. No result longer than a text may be is built before it
+//! is refused, and time is linear in arguments and result. Below stand text_base, string_functions,
 //! text_search, plain_values, php_values, value_operations and builtin_meaning.
 #![tactic(auto)]
 

@@ -64,7 +64,8 @@ fn written(alloc: Global, text: &[u8]) -> Result<Vec<u8>, NoMemory>
 /// be longer than 16,777,216 bytes, before anything is built.
 pub fn breaks(alloc: Global, text: &[u8]) -> Result<Text, Fault>
     ensures ok { IfOk result (λ t. within_length (breaks_of text.now) ≡ Ok (Plain.text t)) }
-    ensures err { IfErr result (λ fault. (fault ≡ Fault.Memory) ⊎ (within_length (breaks_of text.now) ≡ Err fault)) }
+    ensures err { IfErr result
+        (λ fault. (fault ≡ Fault.Memory) ⊎ (within_length (breaks_of text.now) ≡ Err fault)) }
 {
     if is_too_long(text) {
         return Err(Fault::Long);

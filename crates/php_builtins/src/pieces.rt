@@ -72,7 +72,8 @@ fn replaced(
 /// the text. Faults Long exactly where the result would be longer than 16,777,216 bytes, before
 /// anything is built. Takes time linear in the arguments and the result.
 pub fn replace(alloc: Global, search: &[u8], with: &[u8], text: &[u8]) -> Result<Text, Fault>
-    ensures ok { IfOk result (λ t. within_length (replaced_text search.now with.now text.now) ≡ Ok (Plain.text t)) }
+    ensures ok { IfOk result
+        (λ t. within_length (replaced_text search.now with.now text.now) ≡ Ok (Plain.text t)) }
     ensures err { IfErr result (λ fault. (fault ≡ Fault.Memory)
         ⊎ (within_length (replaced_text search.now with.now text.now) ≡ Err fault)) }
 {
@@ -124,7 +125,8 @@ fn list_of(alloc: Global, texts: &[Text]) -> Result<Array, Fault>
 /// overlap. Faults WrongType exactly where the separator is empty. Takes time linear in both.
 pub fn explode(alloc: Global, sep: &[u8], text: &Text) -> Result<Array, Fault>
     ensures ok { IfOk result (λ array. pieces_at sep.now text.now ≡ Ok (Plain.array array)) }
-    ensures err { IfErr result (λ fault. (fault ≡ Fault.Memory) ⊎ (pieces_at sep.now text.now ≡ Err fault)) }
+    ensures err { IfErr result
+        (λ fault. (fault ≡ Fault.Memory) ⊎ (pieces_at sep.now text.now ≡ Err fault)) }
 {
     if sep.is_empty() {
         return Err(Fault::WrongType);

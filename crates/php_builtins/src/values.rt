@@ -136,7 +136,8 @@ pub(crate) fn addslashes(alloc: Global, a: &Value) -> Result<Value, Fault>
 
 /// `trim`, `ltrim` or `rtrim` of a value.
 pub(crate) fn trimmed(alloc: Global, left: bool, right: bool, a: &Value) -> Result<Value, Fault>
-    ensures ok { IfOk result (λ v. spec.of_text (trim_of left right) (plain_of a.now) ≡ Ok (plain_of v)) }
+    ensures ok { IfOk result
+        (λ v. spec.of_text (trim_of left right) (plain_of a.now) ≡ Ok (plain_of v)) }
     ensures err { IfErr result (λ fault. (fault ≡ Fault.Memory)
         ⊎ (spec.of_text (trim_of left right) (plain_of a.now) ≡ Err fault)) }
 {
@@ -193,7 +194,8 @@ pub(crate) fn intval(a: &Value) -> Result<Value, Fault>
 
 /// `str_replace` of values.
 pub(crate) fn str_replace(alloc: Global, a: &Value, b: &Value, c: &Value) -> Result<Value, Fault>
-    ensures ok { IfOk result (λ v. spec.replaced (plain_of a.now) (plain_of b.now) (plain_of c.now) ≡ Ok (plain_of v)) }
+    ensures ok { IfOk result
+        (λ v. spec.replaced (plain_of a.now) (plain_of b.now) (plain_of c.now) ≡ Ok (plain_of v)) }
     ensures err { IfErr result (λ fault. (fault ≡ Fault.Memory)
         ⊎ (spec.replaced (plain_of a.now) (plain_of b.now) (plain_of c.now) ≡ Err fault)) }
 {
@@ -206,7 +208,8 @@ pub(crate) fn str_replace(alloc: Global, a: &Value, b: &Value, c: &Value) -> Res
 
 /// `substr` of values.
 pub(crate) fn substr_of(alloc: Global, a: &Value, b: &Value, c: &Value) -> Result<Value, Fault>
-    ensures ok { IfOk result (λ v. spec.cut (plain_of a.now) (plain_of b.now) (plain_of c.now) ≡ Ok (plain_of v)) }
+    ensures ok { IfOk result
+        (λ v. spec.cut (plain_of a.now) (plain_of b.now) (plain_of c.now) ≡ Ok (plain_of v)) }
     ensures err { IfErr result (λ fault. (fault ≡ Fault.Memory)
         ⊎ (spec.cut (plain_of a.now) (plain_of b.now) (plain_of c.now) ≡ Err fault)) }
 {
@@ -219,7 +222,8 @@ pub(crate) fn substr_of(alloc: Global, a: &Value, b: &Value, c: &Value) -> Resul
 
 /// `explode` of values.
 pub(crate) fn explode_of(alloc: Global, a: &Value, b: &Value) -> Result<Value, Fault>
-    ensures ok { IfOk result (λ v. spec.exploded (plain_of a.now) (plain_of b.now) ≡ Ok (plain_of v)) }
+    ensures ok { IfOk result
+        (λ v. spec.exploded (plain_of a.now) (plain_of b.now) ≡ Ok (plain_of v)) }
     ensures err { IfErr result (λ fault. (fault ≡ Fault.Memory)
         ⊎ (spec.exploded (plain_of a.now) (plain_of b.now) ≡ Err fault)) }
 {
@@ -231,7 +235,8 @@ pub(crate) fn explode_of(alloc: Global, a: &Value, b: &Value) -> Result<Value, F
 
 /// `implode` of values.
 pub(crate) fn implode_of(alloc: Global, a: &Value, b: &Value) -> Result<Value, Fault>
-    ensures ok { IfOk result (λ v. spec.imploded (plain_of a.now) (plain_of b.now) ≡ Ok (plain_of v)) }
+    ensures ok { IfOk result
+        (λ v. spec.imploded (plain_of a.now) (plain_of b.now) ≡ Ok (plain_of v)) }
     ensures err { IfErr result (λ fault. (fault ≡ Fault.Memory)
         ⊎ (spec.imploded (plain_of a.now) (plain_of b.now) ≡ Err fault)) }
 {
@@ -247,7 +252,8 @@ pub(crate) fn implode_of(alloc: Global, a: &Value, b: &Value) -> Result<Value, F
 
 /// `str_repeat` of values.
 pub(crate) fn str_repeat(alloc: Global, a: &Value, b: &Value) -> Result<Value, Fault>
-    ensures ok { IfOk result (λ v. spec.repeated (plain_of a.now) (plain_of b.now) ≡ Ok (plain_of v)) }
+    ensures ok { IfOk result
+        (λ v. spec.repeated (plain_of a.now) (plain_of b.now) ≡ Ok (plain_of v)) }
     ensures err { IfErr result (λ fault. (fault ≡ Fault.Memory)
         ⊎ (spec.repeated (plain_of a.now) (plain_of b.now) ≡ Err fault)) }
 {
@@ -266,10 +272,12 @@ fn is_valid(text: &[u8]) -> bool
 
 // `htmlspecialchars` of a text.
 fn escaped(alloc: Global, text: &[u8]) -> Result<Text, Fault>
-    ensures ok { IfOk result (λ t. (if is_utf8 text.now then within_length (html_of text.now) else Err Fault.NotUtf8)
+    ensures ok { IfOk result
+        (λ t. (if is_utf8 text.now then within_length (html_of text.now) else Err Fault.NotUtf8)
         ≡ Ok (Plain.text t)) }
     ensures err { IfErr result (λ fault. (fault ≡ Fault.Memory)
-        ⊎ ((if is_utf8 text.now then within_length (html_of text.now) else Err Fault.NotUtf8) ≡ Err fault)) }
+        ⊎ ((if is_utf8 text.now then within_length (html_of text.now) else Err Fault.NotUtf8)
+        ≡ Err fault)) }
 {
     if is_valid(text) {
         return html(alloc, text);

@@ -20,7 +20,8 @@ use text_base::{Bytes, NoMemory};
 
 // Whether the text comes to its end, whatever stands in it.
 fn has_end(alloc: Global, enclosure: Enclosure, bytes: &[u8]) -> Result<bool, NoMemory>
-    ensures { IfOk result (λ b. b ≡ has_end_of (row (spec.unit_at (enclosure_of enclosure)) 0 bytes.now)) }
+    ensures { IfOk result
+        (λ b. b ≡ has_end_of (row (spec.unit_at (enclosure_of enclosure)) 0 bytes.now)) }
 {
     let mut n = 0;
     'places: loop {
@@ -41,7 +42,8 @@ fn has_end(alloc: Global, enclosure: Enclosure, bytes: &[u8]) -> Result<bool, No
 
 // The parts, and the bytes behind them as one part more, if there are any.
 fn put_bytes(parts: &mut Vec<Part>, bytes: Bytes) -> Result<(), NoMemory>
-    ensures { OnOk result (map plain_part_of parts.new.items ≡ map plain_part_of parts.old.items ++ bytes_part bytes) }
+    ensures { OnOk result
+        (map plain_part_of parts.new.items ≡ map plain_part_of parts.old.items ++ bytes_part bytes) }
 {
     if !bytes.is_empty() {
         parts.push(Part::Plain(bytes))?;
@@ -72,7 +74,9 @@ fn put_unit(
 
 /// The parts of a template.
 pub fn template(alloc: Global, enclosure: Enclosure, bytes: &[u8]) -> Result<TextRow, NoMemory>
-    ensures value { IfOk result (λ found. plain_row found ≡ parts_row (row (spec.unit_at (enclosure_of enclosure)) 0 bytes.now)) }
+    ensures value { IfOk result
+        (λ found. plain_row found
+        ≡ parts_row (row (spec.unit_at (enclosure_of enclosure)) 0 bytes.now)) }
     ensures within { IfOk result (TextWithin (length bytes.now)) }
 {
     let mut parts = Vec::new(alloc);
@@ -102,7 +106,8 @@ pub fn template(alloc: Global, enclosure: Enclosure, bytes: &[u8]) -> Result<Tex
 
 /// What a template is: a text where no variable is read in it.
 pub fn kind_of_parts(alloc: Global, parts: Vec<Part>) -> Result<TokenKind, NoMemory>
-    ensures { IfOk result (λ kind. plain_kind kind ≡ spec.kind_of_parts (map plain_part_of parts.items)) }
+    ensures { IfOk result
+        (λ kind. plain_kind kind ≡ spec.kind_of_parts (map plain_part_of parts.items)) }
 {
     let mut parts = parts;
     match parts.pop() {

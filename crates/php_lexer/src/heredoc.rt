@@ -47,7 +47,8 @@ fn begins_name(name: &[u8], bytes: &[u8]) -> bool
 // Whether a line end and the name stand at the head.
 fn ends_body(name: &[u8], bytes: &[u8]) -> bool
     ensures value { result ≡ spec.ends_body name.now bytes.now }
-    ensures long { IsTrue result → spec.heredoc_newline bytes.now + length name.now ≤ length bytes.now }
+    ensures long { IsTrue result
+        → spec.heredoc_newline bytes.now + length name.now ≤ length bytes.now }
 {
     let newline = heredoc_newline(bytes);
     0 < newline && begins_name(name, behind(bytes, newline))
@@ -130,7 +131,8 @@ fn return_at(name: &[u8], body: &[u8]) -> Option<usize>
 // The first of two places.
 fn first_of(first: Option<usize>, second: Option<usize>) -> Option<usize>
     ensures value { result ≡ spec.first_of first second }
-    ensures within { (most : ℕ) → IfSome first (λ n. n ≤ most) → IfSome second (λ n. n ≤ most) → IfSome result (λ n. n ≤ most) }
+    ensures within { (most : ℕ) → IfSome first (λ n. n ≤ most) → IfSome second (λ n. n ≤ most)
+        → IfSome result (λ n. n ≤ most) }
 {
     match (first, second) {
         (None, second) => second,
@@ -173,7 +175,8 @@ fn heredoc_token(
 ) -> Result<Option<Step>, NoMemory>
     requires { head + length body.now < 2 ^ 63 }
     ensures value { Reads result (spec.body_token spec.of_heredoc head n name.now body.now) }
-    ensures within { (most : ℕ) → head + length body.now ≤ most → 0 < n → n ≤ most → ReadsWithin result most }
+    ensures within { (most : ℕ) → head + length body.now ≤ most → 0 < n → n ≤ most
+        → ReadsWithin result most }
 {
     let other_end = other_end_at(name, body);
     match template(alloc, Enclosure::Lines, body)? {
@@ -202,7 +205,8 @@ fn nowdoc_token(
 ) -> Result<Option<Step>, NoMemory>
     requires { head + length body.now < 2 ^ 63 }
     ensures value { Reads result (spec.body_token spec.of_nowdoc head n name.now body.now) }
-    ensures within { (most : ℕ) → head + length body.now ≤ most → 0 < n → n ≤ most → ReadsWithin result most }
+    ensures within { (most : ℕ) → head + length body.now ≤ most → 0 < n → n ≤ most
+        → ReadsWithin result most }
 {
     match other_end_at(name, body) {
         None => {
@@ -224,7 +228,8 @@ fn body_token(
 ) -> Result<Option<Step>, NoMemory>
     requires { head + length body.now < 2 ^ 63 }
     ensures value { Reads result (spec.body_token (body_of kind) head n name.now body.now) }
-    ensures within { (most : ℕ) → head + length body.now ≤ most → 0 < n → n ≤ most → ReadsWithin result most }
+    ensures within { (most : ℕ) → head + length body.now ≤ most → 0 < n → n ≤ most
+        → ReadsWithin result most }
 {
     match kind {
         Body::Heredoc => heredoc_token(alloc, head, n, name, body),

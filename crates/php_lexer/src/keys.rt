@@ -47,7 +47,8 @@ fn variable_key(alloc: Global, bytes: &[u8]) -> Result<Option<(PartKey, usize)>,
 
 // An integer or a variable.
 fn unquoted_key(alloc: Global, bytes: &[u8]) -> Result<Option<(PartKey, usize)>, NoMemory>
-    ensures value { IfOk result (λ o. maybe_key o ≡ spec.or_key (spec.integer_key bytes.now) (spec.variable_key bytes.now)) }
+    ensures value { IfOk result
+        (λ o. maybe_key o ≡ spec.or_key (spec.integer_key bytes.now) (spec.variable_key bytes.now)) }
     ensures within { IfOk result (λ o. IfSome o (λ key. key.1 ≤ length bytes.now)) }
 {
     match integer_key(bytes) {
@@ -105,8 +106,10 @@ fn closed_key(key: Option<(PartKey, usize)>, inner: &[u8]) -> Option<(PartKey, u
 
 /// The key of `$x[key]` and its `]`, from the `[` on; the bytes are those behind it.
 pub fn closed_simple_key(alloc: Global, inner: &[u8]) -> Result<Option<(PartKey, usize)>, NoMemory>
-    ensures value { IfOk result (λ o. maybe_key o ≡ spec.closed_key (spec.simple_key inner.now) inner.now) }
-    ensures within { IfOk result (λ o. IfSome o (λ key. (0 < key.1) × (key.1 ≤ length inner.now + 1))) }
+    ensures value { IfOk result
+        (λ o. maybe_key o ≡ spec.closed_key (spec.simple_key inner.now) inner.now) }
+    ensures within { IfOk result
+        (λ o. IfSome o (λ key. (0 < key.1) × (key.1 ≤ length inner.now + 1))) }
 {
     let key = simple_key(alloc, inner)?;
     Ok(closed_key(key, inner))
@@ -114,8 +117,10 @@ pub fn closed_simple_key(alloc: Global, inner: &[u8]) -> Result<Option<(PartKey,
 
 // A key of `{$x[key]}` and its `]`, from the `[` on; the bytes are those behind it.
 fn closed_braced_key(alloc: Global, inner: &[u8]) -> Result<Option<(PartKey, usize)>, NoMemory>
-    ensures value { IfOk result (λ o. maybe_key o ≡ spec.closed_key (spec.braced_key inner.now) inner.now) }
-    ensures within { IfOk result (λ o. IfSome o (λ key. (0 < key.1) × (key.1 ≤ length inner.now + 1))) }
+    ensures value { IfOk result
+        (λ o. maybe_key o ≡ spec.closed_key (spec.braced_key inner.now) inner.now) }
+    ensures within { IfOk result
+        (λ o. IfSome o (λ key. (0 < key.1) × (key.1 ≤ length inner.now + 1))) }
 {
     let key = braced_key(alloc, inner)?;
     Ok(closed_key(key, inner))

@@ -20,7 +20,9 @@ use text_base::limits::FILE_LIMIT;
 // The token that a step gives, if it gives one, behind those before it.
 fn put_token(tokens: &mut Vec<Token>, kind: Option<TokenKind>, at: usize) -> Result<(), NoMemory>
     requires { at < 2 ^ 32 }
-    ensures { OnOk result (plain_tokens tokens.new.items ≡ tokens_with (plain_tokens tokens.old.items) (option_map plain_kind kind) at) }
+    ensures { OnOk result
+        (plain_tokens tokens.new.items
+        ≡ tokens_with (plain_tokens tokens.old.items) (option_map plain_kind kind) at) }
 {
     if let Some(kind) = kind {
         tokens.push(Token {
@@ -35,7 +37,8 @@ fn put_token(tokens: &mut Vec<Token>, kind: Option<TokenKind>, at: usize) -> Res
 /// Takes time linear in the length of the file.
 pub fn lex(alloc: Global, file: &[u8]) -> Result<Vec<Token>, LexRefusal>
     // The tokens are those that the file is cut into.
-    ensures tokens { IfOk result (λ tokens. IsShort file.now × Cuts file.now (plain_tokens tokens.items)) }
+    ensures tokens { IfOk result
+        (λ tokens. IsShort file.now × Cuts file.now (plain_tokens tokens.items)) }
 
     // A refusal has its cause.
     ensures refused { IfErr result (IsCauseOf file.now) }
@@ -44,10 +47,12 @@ pub fn lex(alloc: Global, file: &[u8]) -> Result<Vec<Token>, LexRefusal>
     ensures only { (tokens : List PlainToken) → IsShort file.now → Cuts file.now tokens →
         MatchResult result (λ found. plain_tokens found.items ≡ tokens) (λ e. e ≡ refusals.Memory) }
 
-    // A file that breaks the lexical grammar is refused so, and one that is too long before all else.
+    // A file that breaks the lexical grammar is refused so, and one that is too long before all
+    // else.
     ensures faults { (fault : LexicalFault) (at : ℕ) → IsShort file.now → Breaks file.now fault at →
         IsRefused result (refusals.Breaks fault at) }
-    ensures long { FILE_LIMIT < length file.now → result ≡ Err (refusals.TooLong (length file.now)) }
+    ensures long { FILE_LIMIT < length file.now → result
+        ≡ Err (refusals.TooLong (length file.now)) }
 {
     if file.len() > FILE_LIMIT {
         return Err(LexRefusal::TooLong {

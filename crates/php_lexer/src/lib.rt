@@ -1,5 +1,6 @@
-//! Bytes of a script to its tokens. The contract of `lex` cites `Cuts` and `Breaks` of lexical_grammar,
-//! the lexical grammar of the script language; below this crate stand lexical_grammar, php_syntax and text_base.
+//! Bytes of a script to its tokens. The contract of `lex` cites `Cuts` and `Breaks` of
+//! lexical_grammar, the lexical grammar of the script language; below this crate stand
+//! lexical_grammar, php_syntax and text_base.
 #![tactic(auto)]
 
 mod blanks;

@@ -1,26 +1,11 @@
 //! What stands at the head of a slice.
 
-ghost use Rattle.std.specs.Prelude.{◌≡◌, ◌-◌, ◌<◌, ◌≤◌, min, take, drop, length, IsTrue};
+ghost use Rattle.std.specs.Prelude.{◌≡◌, ◌<◌, ◌≤◌, length, IsTrue};
 ghost use Rattle.std.specs.List.{prefix_len};
 ghost use Rattle.lexical_grammar.specs.Characters as spec;
 
 use crate::classes::{is_digit, is_gap, is_high, is_line_end, is_name_byte, is_name_start};
-
-/// The bytes behind the first so many; none where there are fewer.
-pub fn behind(bytes: &[u8], n: usize) -> &[u8]
-    ensures value { result.now ≡ drop n bytes.now }
-    ensures len { length result.now ≡ length bytes.now - n }
-{
-    if n < bytes.len() { &bytes[n..] } else { &[] }
-}
-
-/// The first so many bytes; all where there are fewer.
-pub fn front(bytes: &[u8], n: usize) -> &[u8]
-    ensures value { result.now ≡ take n bytes.now }
-    ensures len { length result.now ≡ min n (length bytes.now) }
-{
-    if n < bytes.len() { &bytes[..n] } else { bytes }
-}
+pub use byte_slices::{behind, front};
 
 /// Whether the bytes begin with this text.
 pub fn begins(bytes: &[u8], text: &[u8]) -> bool

@@ -14,7 +14,8 @@ use php_syntax::token::{Sign, TokenKind};
 
 // The signs that begin with this byte, the longer ones first.
 fn signs_beginning(byte: u8) -> &'static [Sign]
-    ensures { (rest : List ℕ) → spec.first_sign result.now (byte ∷ rest) ≡ spec.first_sign spec.all_signs (byte ∷ rest) }
+    ensures { (rest : List ℕ) → spec.first_sign result.now (byte ∷ rest)
+        ≡ spec.first_sign spec.all_signs (byte ∷ rest) }
 {
     match byte {
         b'=' => &[

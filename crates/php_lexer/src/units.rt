@@ -72,14 +72,16 @@ fn head_is_high_or_brace(bytes: &[u8]) -> bool
 
 // What a variable may not stand before.
 fn begins_other_form(rest: &[u8]) -> bool
-    ensures { result ≡ (chars.begins (codes "->") rest.now || chars.begins (codes "?->") rest.now || chars.head_is chars.is_high rest.now) }
+    ensures { result ≡ (chars.begins (codes "->") rest.now || chars.begins (codes "?->") rest.now ||
+        chars.head_is chars.is_high rest.now) }
 {
     begins(rest, b"->") || begins(rest, b"?->") || head_is_high(rest)
 }
 
 // A name behind `$`, and what follows it.
 fn named_at(alloc: Global, name: &[u8], rest: &[u8]) -> Result<Found<TextUnit>, NoMemory>
-    ensures value { IfOk result (λ found. plain_found unit_of found ≡ spec.named_at name.now rest.now) }
+    ensures value { IfOk result
+        (λ found. plain_found unit_of found ≡ spec.named_at name.now rest.now) }
     ensures within { IfOk result (FoundWithin (1 + length name.now + length rest.now)) }
 {
     if begins(rest, b"[") {
@@ -155,7 +157,8 @@ pub fn unit_at(
     enclosure: Enclosure,
     bytes: &[u8],
 ) -> Result<Found<TextUnit>, NoMemory>
-    ensures value { IfOk result (λ found. plain_found unit_of found ≡ spec.unit_at (enclosure_of enclosure) bytes.now) }
+    ensures value { IfOk result
+        (λ found. plain_found unit_of found ≡ spec.unit_at (enclosure_of enclosure) bytes.now) }
     ensures within { IfOk result (FoundWithin (length bytes.now)) }
 {
     let inner = behind(bytes, 1);

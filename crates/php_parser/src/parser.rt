@@ -18,10 +18,12 @@ use stmt_parser::reader::{Reading, read_file};
 use stmt_soundness::what_is_read_is_a_file;
 use stmt_trees::actions_make_files;
 
-/// The tree that the tokens spell, by the grammar of the script language (PHP manual, "Language Reference").
+/// The tree that the tokens spell, by the grammar of the script language (PHP manual, "Language
+/// Reference").
 ///
-/// At most 200 brackets may be open at once, which is tested first, and the tree may be at most 200 high. Takes time and
-/// memory linear in the number of the tokens, and a stack of its own, so that no nesting outgrows the machine's.
+/// At most 200 brackets may be open at once, which is tested first, and the tree may be at most 200
+/// high. Takes time and memory linear in the number of the tokens, and a stack of its own, so that
+/// no nesting outgrows the machine's.
 pub fn parse(alloc: Global, tokens: &[Token]) -> Result<FileTree, ParseRefusal>
     // The tokens spell the tree, and no other.
     ensures tree { IfOk result (λ tree. SpellsTree (plain_tokens tokens.now) (plain_file tree)) }

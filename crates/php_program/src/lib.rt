@@ -1,7 +1,8 @@
-//! Programs: a script with its includes replaced by the statements of their files, and one table of the functions of all files.
+//! Programs: a script with its includes replaced by the statements of their files, and one table of
+//! the functions of all files.
 //!
-//! `specs/Lawful.antt` says what the type keeps, `specs/View.antt` how a program is seen. Whoever reads files makes one; whoever runs or
-//! lowers one asks nothing more of it.
+//! `specs/Lawful.antt` says what the type keeps, `specs/View.antt` how a program is seen. Whoever
+//! reads files makes one; whoever runs or lowers one asks nothing more of it.
 #![tactic(auto)]
 
 ghost use Rattle.php_program.specs.Lawful.{program_with, HasNoInclude, IsOfGrammar, FitsGrammar};
@@ -15,9 +16,10 @@ use php_syntax::tree::{FunctionDef, Stmt};
 
 /// A program (PHP manual, "include", "User-defined functions").
 ///
-/// The type keeps that no include is left in it, that it has the forms of the grammar and keeps the rules beside it, that no function is
-/// defined twice or has the name of one of PHP's, that each call is of a function that there is and hands in as many arguments as it
-/// takes, and that there are at most 200,000 nodes and a height of at most 1,000.
+/// The type keeps that no include is left in it, that it has the forms of the grammar and keeps the
+/// rules beside it, that no function is defined twice or has the name of one of PHP's, that each
+/// call is of a function that there is and hands in as many arguments as it takes, and that there
+/// are at most 200,000 nodes and a height of at most 1,000.
 #[derive(Debug, Drop)]
 pub struct Program {
     /// The statements outside functions, in their order.

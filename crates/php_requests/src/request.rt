@@ -10,7 +10,8 @@ use std::alloc::Global;
 use std::marker::Model;
 use text_base::NoMemory;
 
-/// A request that a run may be asked with. Contracts see its five arrays as plain pairs, and know that it is admitted.
+/// A request that a run may be asked with. Contracts see its five arrays as plain pairs, and know
+/// that it is admitted.
 #[derive(Debug, Drop)]
 pub struct Request {
     get: Array,

@@ -69,7 +69,7 @@ pub enum SuperName {
 }
 
 /// An expression.
-#[derive(Debug, Drop)]
+#[derive(Debug)]
 #[cycle(tree)]
 pub enum Expr {
     /// `null`
@@ -120,7 +120,45 @@ pub enum Expr {
     Call(Bytes, Vec<Expr>),
 }
 
-/// What an assignment writes: a variable, or a member of it by a path of keys, where `[]` is no key.
+// Written out, so that an expression that is let go is one call to the proofs above, and not a case
+// for each variant.
+impl Drop for Expr {
+    #[cycle(tree)]
+    fn drop(self) {
+        match self {
+            Expr::Null => {}
+            Expr::Flag(_) => {}
+            Expr::Int(_) => {}
+            Expr::Text(_) => {}
+            Expr::Var(_) => {}
+            Expr::Super(_) => {}
+            Expr::Member(_, _) => {}
+            Expr::ArrayOf(_) => {}
+            Expr::Join(_) => {}
+            Expr::Neg(_) => {}
+            Expr::Not(_) => {}
+            Expr::Arith(_, _, _) => {}
+            Expr::Compare(_, _, _) => {}
+            Expr::And(_, _) => {}
+            Expr::Or(_, _) => {}
+            Expr::Coalesce(_, _) => {}
+            Expr::Choice(_, _, _) => {}
+            Expr::Isset(_) => {}
+            Expr::Empty(_) => {}
+            Expr::Assign(_, _) => {}
+            Expr::Update(_, _, _) => {}
+            Expr::Step {
+                name: _,
+                up: _,
+                before: _,
+            } => {}
+            Expr::Call(_, _) => {}
+        }
+    }
+}
+
+/// What an assignment writes: a variable, or a member of it by a path of keys, where `[]` is no
+/// key.
 #[derive(Debug, Drop)]
 #[cycle(tree)]
 pub struct Target {
@@ -131,7 +169,7 @@ pub struct Target {
 }
 
 /// A statement.
-#[derive(Debug, Drop)]
+#[derive(Debug)]
 pub enum Stmt {
     /// The bytes outside PHP.
     Inline(Bytes),
@@ -159,6 +197,27 @@ pub enum Stmt {
     Include(Bytes),
     /// `exit` and `die`, with what is printed before the run ends, if anything is.
     Quit(Option<Expr>),
+}
+
+// Written out, as that of `Expr` is.
+impl Drop for Stmt {
+    fn drop(self) {
+        match self {
+            Stmt::Inline(_) => {}
+            Stmt::Echo(_) => {}
+            Stmt::Run(_) => {}
+            Stmt::If(_, _) => {}
+            Stmt::While(_, _) => {}
+            Stmt::DoWhile(_, _) => {}
+            Stmt::For(_, _, _, _) => {}
+            Stmt::Each(_, _, _, _) => {}
+            Stmt::Break => {}
+            Stmt::Continue => {}
+            Stmt::Return(_) => {}
+            Stmt::Include(_) => {}
+            Stmt::Quit(_) => {}
+        }
+    }
 }
 
 /// A parameter of a function.

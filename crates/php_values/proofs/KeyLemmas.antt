@@ -13,16 +13,12 @@ use Rattle.std.proofs.lemmas.Map.Text.{is_eq-slice_cmp}
 use Rattle.plain_values.specs.Plain.{PlainKey, int_key, text_key}
 use Rattle.plain_values.specs.Keys.{same_key, is_absent, are_distinct}
 use Rattle.plain_values.specs.Members.{larger, largest_from}
+use Rattle.plain_values.proofs.SameKeys.{same_back}
 use Rattle.php_values.specs.View.{plain_key}
 use Rattle.php_values.specs.Index.{place, one_later}
 use Rattle.php_values.specs.declared.key.Key.{Key}
 use Rattle.php_values.specs.declared.key.Key.TheVariants as key
 use Rattle.php_values.specs.contracts.key.KeyOrd.TheImpl as key_order
-
-equal_if : (o : Ordering) → is_eq o ≡ true → o ≡ Equal
-equal_if Less e = cc
-equal_if Equal e = refl
-equal_if Greater e = cc
 
 -- the order of keys finds two equal where they are one
 pub order_tells : (a b : Key) → is_eq (key_order.ghosts.cmp a b) ≡ same_key (plain_key a) (plain_key b)
@@ -30,22 +26,6 @@ order_tells (key.Int a) (key.Int b) = refl
 order_tells (key.Int a) (key.Text t) = refl
 order_tells (key.Text s) (key.Int b) = refl
 order_tells (key.Text s) (key.Text t) = is_eq-slice_cmp s t
-
-pub same_is : (a b : PlainKey) → same_key a b ≡ true → a ≡ b
-same_is (int_key a) (int_key b) h = ap (λ (z : ℤ). int_key z) (exact_signed a b (equal_if (int_cmp a b) h))
-same_is (int_key a) (text_key t) h = cc
-same_is (text_key s) (int_key b) h = cc
-same_is (text_key s) (text_key t) h = ap (λ (u : List ℕ). text_key u) (exact_bytes s t (equal_if (slice_cmp nat_cmp s t) (is_eq-slice_cmp s t ∙ h)))
-
-pub same_back : (a b : PlainKey) → same_key a b ≡ same_key b a
-same_back (int_key a) (int_key b) = int_eq_equiv.symm a b
-same_back (int_key a) (text_key t) = refl
-same_back (text_key s) (int_key b) = refl
-same_back (text_key s) (text_key t) = nat_list_eq_equiv.symm s t
-
-pub same_itself : (a : PlainKey) → same_key a a ≡ true
-same_itself (int_key a) = int_eq_equiv.refl a
-same_itself (text_key s) = nat_list_eq_equiv.refl s
 
 pub later_some : (o : Option ℕ) (i : ℕ) → one_later o ≡ Some i → (j : ℕ) × (o ≡ Some j) × (i ≡ suc j)
 later_some None i e = cc

@@ -1,5 +1,6 @@
 mod KeyLemmas
 pub mod Places
+mod DeepestLemmas
 mod IndexLemmas
 mod WalkLemmas
 mod WriteLemmas

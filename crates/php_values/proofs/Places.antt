@@ -1,5 +1,5 @@
 -- What the place of a key tells of the pairs of an array.
-use Rattle.std.proofs.Common.{◌≡◌, ℕ, zero, suc, ◌+◌, ◌<◌, ◌≤◌, max, Bool, true, false, if◌then◌else◌, List, [], ◌∷◌, ◌++◌, length, get_or, set, take, Some, None, Ok, Err, nat_le, nat_lt, refl, sym, ◌∙◌, ap, subst, arith}
+use Rattle.std.proofs.Common.{◌≡◌, ℕ, zero, suc, ◌+◌, ◌<◌, ◌≤◌, max, Bool, true, false, if◌then◌else◌, List, [], ◌∷◌, ◌++◌, length, get_or, set, take, Some, None, Ok, Err, nat_lt, refl, sym, ◌∙◌, ap, subst, arith}
 use Rattle.std.proofs.lemmas.Bool.Decides.{nat_tests}
 use Rattle.std.specs.Cmp.{first_so, second_so}
 use Rattle.std.proofs.lemmas.List.{take_more}
@@ -7,8 +7,9 @@ use Rattle.plain_values.specs.Plain.{Plain, PlainKey, Pairs, null, array, empty,
 use Rattle.plain_values.specs.Keys.{same_key, is_absent, are_distinct}
 use Rattle.plain_values.specs.Members.{member, put_pair, within_depth}
 use Rattle.php_values.specs.View.{plain_of, plain_key, pairs_of}
-use Rattle.php_values.specs.Index.{place, one_later, deepest_after}
-use Rattle.php_values.proofs.KeyLemmas.{later_some, later_none, not_first, no_place, same_back}
+use Rattle.php_values.specs.Index.{place, one_later}
+use Rattle.plain_values.proofs.SameKeys.{same_back}
+use Rattle.php_values.proofs.KeyLemmas.{later_some, later_none, not_first, no_place}
 use Rattle.plain_values.specs.declared.fault.Fault.TheVariants.{Long}
 use Rattle.php_values.specs.declared.key.Key.{Key}
 use Rattle.php_values.specs.declared.array.Value.{Value}
@@ -144,29 +145,13 @@ put_long ps k v h = by (nat_lt (deepest (put_pair ps k v)) 1000) refl
     by false e = refl
 
 -- how deep the values are after one of them changed
-changed_depth : (xs : List (Key × Value)) (i : ℕ) (d x : Key × Value) → i < length xs
+pub changed_depth : (xs : List (Key × Value)) (i : ℕ) (d x : Key × Value) → i < length xs
     → (deepest (pairs_of (set xs i x)) ≤ max (deepest (pairs_of xs)) (depth (plain_of x.1))) × (depth (plain_of x.1) ≤ deepest (pairs_of (set xs i x))) × (deepest (pairs_of xs) ≤ max (deepest (pairs_of (set xs i x))) (depth (plain_of (get_or xs i d).1)))
 changed_depth [] i d x h = absurd (omega arith)
 changed_depth (y ∷ ys) zero d x h = (omega arith, omega arith, omega arith)
 changed_depth (y ∷ ys) (suc i) d x h =
     let rest = changed_depth ys i d x (omega arith) in
     (omega (arith, rest.0), omega (arith, rest.1), omega (arith, rest.2))
-
-pub deepest_changed : (xs : List (Key × Value)) (i : ℕ) (d x : Key × Value) → i < length xs → deepest_after (deepest (pairs_of xs)) (depth (plain_of (get_or xs i d).1)) (depth (plain_of x.1)) (deepest (pairs_of (set xs i x))) ≡ deepest (pairs_of (set xs i x))
-deepest_changed xs i d x h =
-    let known = changed_depth xs i d x h in
-    by (deepest (pairs_of xs)) (depth (plain_of (get_or xs i d).1)) (depth (plain_of x.1)) (deepest (pairs_of (set xs i x))) known.0 known.1 known.2
-  where
-    by : (deep before after anew : ℕ) → anew ≤ max deep after → after ≤ anew → deep ≤ max anew before → deepest_after deep before after anew ≡ anew
-    by deep before after anew a b c = first (nat_le deep after) refl
-      where
-        second : (t : Bool) → nat_lt before deep ≡ t → nat_le deep after ≡ false → (if t then deep else anew) ≡ anew
-        second true e f = grind (arith, nat_tests)
-        second false e f = refl
-
-        first : (t : Bool) → nat_le deep after ≡ t → (if t then after else if nat_lt before deep then deep else anew) ≡ anew
-        first true e = grind (arith, nat_tests)
-        first false e = second (nat_lt before deep) refl e
 
 pub not_deeper : (xs : List (Key × Value)) (i : ℕ) (d x : Key × Value) → i < length xs → depth (plain_of x.1) ≤ depth (plain_of (get_or xs i d).1) → deepest (pairs_of (set xs i x)) ≤ deepest (pairs_of xs)
 not_deeper xs i d x h low =

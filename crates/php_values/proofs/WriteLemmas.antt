@@ -6,7 +6,7 @@ use Rattle.plain_values.specs.Members.{member, put_pair, key_after, largest_key}
 use Rattle.plain_values.specs.Paths.{put_back, change_member, named_key}
 use Rattle.php_values.specs.Writes.{write_if, KeepsWrites, KeepsMember}
 use Rattle.plain_values.specs.Keys.{same_key}
-use Rattle.php_values.proofs.KeyLemmas.{same_itself}
+use Rattle.plain_values.proofs.SameKeys.{same_itself}
 use Rattle.php_values.specs.View.{plain_of, pairs_of, plain_path}
 use Rattle.php_values.specs.Index.{place}
 use Rattle.php_values.proofs.Places.{member_at, member_none, put_present}

@@ -1,6 +1,6 @@
 //! Values, and arrays of them.
 
-ghost use Rattle.std.specs.Prelude.{◌≡◌, ◌⊎◌, ℕ, ◌<◌, ◌≤◌, length, true, IfOk, IfErr, OnOk, OnErr, IfSome, IfNone, is_none, Ok, Err};
+ghost use Rattle.std.specs.Prelude.{◌≡◌, ◌⊎◌, ℕ, ◌<◌, ◌≤◌, length, true, IfOk, IfErr, OnOk, OnErr, IfSome, IfNone, MatchResult, is_none, Ok, Err};
 ghost use Rattle.plain_values.specs.Plain.{Plain, Pairs, keys, empty, depth, deepest};
 ghost use Rattle.plain_values.specs.Keys.{is_absent, are_distinct};
 ghost use Rattle.plain_values.specs.Members.{member, put_pair, within_depth, push_at, key_after, largest_key};
@@ -18,7 +18,7 @@ use text_base::limits::DEPTH_LIMIT;
 
 /// A value of a script (PHP manual, "Types").
 #[cycle(value)]
-#[derive(Debug, Drop)]
+#[derive(Debug)]
 pub enum Value {
     /// Null.
     Null,
@@ -30,6 +30,21 @@ pub enum Value {
     Text(Text),
     /// An array.
     Array(Array),
+}
+
+// Written out, so that a value that is let go is one call to the proofs above, and not a case for
+// each variant.
+impl Drop for Value {
+    #[cycle(value)]
+    fn drop(self) {
+        match self {
+            Value::Null => {}
+            Value::Flag(_) => {}
+            Value::Int(_) => {}
+            Value::Text(_) => {}
+            Value::Array(_) => {}
+        }
+    }
 }
 
 /// An array (PHP manual, "Arrays"). Contracts see it as the list of its pairs, in the order in
@@ -59,16 +74,24 @@ impl Model for Array {
     ghost size_decreases = { λ a h. Prim.omega arith };
 }
 
+/// How deep the deepest member of an array is, and how many members are as deep.
+#[derive(Clone, Copy, Debug)]
+pub(crate) struct Deepest {
+    pub(crate) depth: u64,
+    pub(crate) count: u64,
+}
+
 /// The members of an array, which any number of arrays hold. The depth is kept and never counted
 /// through the members' members: where members are shared, that walk can be as long as two to the
-/// power of the depth.
+/// power of the depth. It is counted anew only where the last of the deepest members is made less
+/// deep.
 #[cycle(value)]
 #[derive(Debug, Drop)]
 pub(crate) struct Members {
     pub(crate) pairs: Vec<(Key, Value)>,
     pub(crate) places: BTreeMap<Key, u64>,
     pub(crate) largest: Option<i64>,
-    pub(crate) deepest: u64,
+    pub(crate) deepest: Deepest,
 }
 
 impl Model for Members {
@@ -84,7 +107,7 @@ impl Model for Members {
 
     ghost view = { λ m. pairs_of m.pairs.items };
 
-    ghost invariant = { λ m. IsIndexed m.pairs.items m.places m.largest m.deepest };
+    ghost invariant = { λ m. IsIndexed m.pairs.items m.places m.largest m.deepest.depth m.deepest.count };
 
     ghost size = { weight };
 
@@ -110,6 +133,17 @@ impl Value {
                 let array = array.share()?;
                 Ok(Value::Array(array))
             }
+        }
+    }
+
+    /// The text that this value is, or else the value itself.
+    pub fn into_text(self) -> Result<Text, Value>
+        ensures { MatchResult result (λ text. plain_of self ≡ Plain.text text)
+            (λ other. plain_of other ≡ plain_of self) }
+    {
+        match self {
+            Value::Text(text) => Ok(text),
+            other => Err(other),
         }
     }
 
@@ -174,7 +208,9 @@ impl Array {
     /// Long exactly where the array would be nested deeper than 1,000; after a fault nothing has
     /// changed.
     pub fn put(&mut self, key: Key, value: Value) -> Result<(), Fault>
-        ensures ok { OnOk result (within_depth (put_pair self.old (plain_key key) (plain_of value)) ≡ Ok (Plain.array self.new)) }
+        ensures ok { OnOk result
+            (within_depth (put_pair self.old (plain_key key) (plain_of value))
+            ≡ Ok (Plain.array self.new)) }
         ensures err { IfErr result (λ fault. (fault ≡ Fault.Memory)
             ⊎ (within_depth (put_pair self.old (plain_key key) (plain_of value)) ≡ Err fault)) }
         ensures unchanged { OnErr result (self.new ≡ self.old) }
@@ -202,7 +238,9 @@ impl Array {
     /// Puts a value behind the others, at the largest integer key plus 1, or at 0 where there is
     /// none; as `put` in all else. Faults Full exactly where that largest key is the last integer.
     pub fn push(&mut self, value: Value) -> Result<(), Fault>
-        ensures ok { OnOk result (push_at self.old (key_after (largest_key self.old)) (plain_of value) ≡ Ok (Plain.array self.new)) }
+        ensures ok { OnOk result
+            (push_at self.old (key_after (largest_key self.old)) (plain_of value)
+            ≡ Ok (Plain.array self.new)) }
         ensures err { IfErr result (λ fault. (fault ≡ Fault.Memory)
             ⊎ (push_at self.old (key_after (largest_key self.old)) (plain_of value) ≡ Err fault)) }
         ensures unchanged { OnErr result (self.new ≡ self.old) }

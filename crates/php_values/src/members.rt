@@ -1,15 +1,17 @@
 //! The members of an array: its pairs, and the index of their keys.
 
-ghost use Rattle.std.specs.Prelude.{◌≡◌, ◌⊎◌, ℕ, ◌<◌, ◌≤◌, true, IfOk, IfErr, OnOk, OnErr, IfSome, IfNone, is_none, Some, None};
+ghost use Rattle.std.specs.Prelude.{◌≡◌, ◌⊎◌, ◌∷◌, [], ◌++◌, ◌^◌, ℕ, List, length, ◌<◌, ◌≤◌, true, IfOk, IfErr, OnOk, OnErr, IfSome, IfNone, is_none, Some, None, slice_index_or, slice_set};
 ghost use Rattle.plain_values.specs.Plain.{Plain, keys, empty, depth, deepest};
-ghost use Rattle.plain_values.specs.Plain.{deepest as deepest_in};
+ghost use Rattle.plain_values.specs.Plain.{depth as depth_of};
 ghost use Rattle.plain_values.specs.Keys.{is_absent, are_distinct};
 ghost use Rattle.plain_values.specs.Members.{member, put_pair, key_after, largest_key, larger as larger_key};
 ghost use Rattle.plain_values.specs.Paths.{named_key};
 ghost use Rattle.php_values.specs.View.{plain_of, plain_key, pairs_of, plain_step};
-ghost use Rattle.php_values.specs.Index.{place as place_of, deepest_after as deepest_after_change};
+ghost use Rattle.php_values.specs.declared.key.Key.{Key};
+ghost use Rattle.php_values.specs.declared.array.Value.{Value};
+ghost use Rattle.php_values.specs.Index.{place as place_of, HasDeepest};
 
-use crate::array::{Members, Value};
+use crate::array::{Deepest, Members, Value};
 use crate::key::Key;
 use plain_values::Fault;
 use std::alloc::{AllocError, Global};
@@ -25,7 +27,7 @@ impl Members {
             pairs: Vec::new(alloc),
             places: BTreeMap::new(alloc),
             largest: None,
-            deepest: 0,
+            deepest: Deepest { depth: 0, count: 0 },
         }
     }
 
@@ -43,7 +45,7 @@ impl Members {
         ensures depth { result ≡ deepest self.now }
         ensures small { result < 1000 }
     {
-        self.deepest
+        self.deepest.depth
     }
 
     // The key that an append takes.
@@ -58,7 +60,9 @@ impl Members {
 
     // The key that a step of a path names.
     pub(crate) fn key_at(&self, step: &Option<Key>) -> Result<Key, Fault>
-        ensures ok { IfOk result (λ key. named_key (plain_step step.now) (key_after (largest_key self.now)) ≡ Some (plain_key key)) }
+        ensures ok { IfOk result
+            (λ key. named_key (plain_step step.now) (key_after (largest_key self.now))
+            ≡ Some (plain_key key)) }
         ensures err { IfErr result (λ fault. (fault ≡ Fault.Memory)
             ⊎ ((named_key (plain_step step.now) (key_after (largest_key self.now)) ≡ None)
             × (fault ≡ Fault.Full))) }
@@ -119,7 +123,7 @@ impl Members {
         self.pairs.reserve(1)?;
         self.places.insert(own, self.pairs.len() as u64)?;
         self.largest = larger(&key, self.largest);
-        self.deepest = self.deepest.max(value.depth());
+        self.deepest = deepest_with(self.deepest, value.depth());
         match self.pairs.push((key, value)) {
             Ok(()) => Ok(()),
             Err(_) => unreachable!(),
@@ -180,26 +184,71 @@ fn larger(key: &Key, best: Option<i64>) -> Option<i64>
     }
 }
 
-// The depth of the deepest value of some pairs.
-fn deepest_of(pairs: &[(Key, Value)]) -> u64
-    ensures { result ≡ deepest (pairs_of pairs.now) }
+// The deepest members of an array with one more, of this depth.
+fn deepest_with(deepest: Deepest, depth: u64) -> Deepest
+    ensures { (xs : List (Key × Value)) (x : Key × Value) → length xs < 2 ^ 63
+        → HasDeepest deepest.depth deepest.count xs → depth ≡ depth_of (plain_of x.1)
+        → HasDeepest result.depth result.count (xs ++ x ∷ []) }
 {
-    let mut most: u64 = 0;
-    for pair in pairs {
-        most = most.max(pair.1.depth());
+    if depth > deepest.depth {
+        return Deepest { depth, count: 1 };
     }
-    most
+    if depth < deepest.depth {
+        return deepest;
+    }
+    Deepest {
+        depth,
+        count: deepest.count.saturating_add(1),
+    }
 }
 
-// The depth of the deepest value after one changed its depth.
-pub(crate) fn deepest_after(deepest: u64, before: u64, after: u64, pairs: &[(Key, Value)]) -> u64
-    ensures { result ≡ deepest_after_change deepest before after (deepest_in (pairs_of pairs.now)) }
+// The deepest of some members.
+fn deepest_of(pairs: &[(Key, Value)]) -> Deepest
+    ensures { HasDeepest result.depth result.count pairs.now }
 {
-    if deepest <= after {
-        after
-    } else if before < deepest {
-        deepest
-    } else {
-        deepest_of(pairs)
+    let mut deepest = Deepest { depth: 0, count: 0 };
+    for pair in pairs {
+        deepest = deepest_with(deepest, pair.1.depth());
     }
+    deepest
+}
+
+// The deepest members after one changed its depth.
+pub(crate) fn deepest_after(
+    deepest: Deepest,
+    before: u64,
+    after: u64,
+    pairs: &[(Key, Value)],
+) -> Deepest
+    ensures { (xs : List (Key × Value)) (place : ℕ) (old new : Key × Value)
+        → place < length xs → length xs < 2 ^ 63 → HasDeepest deepest.depth deepest.count xs
+        → before ≡ depth_of (plain_of (slice_index_or xs place old).1)
+        → after ≡ depth_of (plain_of new.1) → pairs.now ≡ slice_set xs place new
+        → HasDeepest result.depth result.count pairs.now }
+{
+    if after > deepest.depth {
+        return Deepest {
+            depth: after,
+            count: 1,
+        };
+    }
+    if before == deepest.depth {
+        if after == deepest.depth {
+            return deepest;
+        }
+        if deepest.count > 1 {
+            return Deepest {
+                depth: deepest.depth,
+                count: deepest.count - 1,
+            };
+        }
+        return deepest_of(pairs);
+    }
+    if after == deepest.depth {
+        return Deepest {
+            depth: after,
+            count: deepest.count.saturating_add(1),
+        };
+    }
+    deepest
 }

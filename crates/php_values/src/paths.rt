@@ -24,7 +24,8 @@ impl Value {
         ensures ok { IfOk result (λ found. MatchOption found
             (spec.get_step (plain_of self.now) (plain_step step.now) ≡ Ok Plain.null)
             (λ v. spec.get_step (plain_of self.now) (plain_step step.now) ≡ Ok (plain_of v.now))) }
-        ensures err { IfErr result (λ fault. spec.get_step (plain_of self.now) (plain_step step.now) ≡ Err fault) }
+        ensures err { IfErr result
+            (λ fault. spec.get_step (plain_of self.now) (plain_step step.now) ≡ Err fault) }
     {
         match (self, step) {
             (Value::Null | Value::Flag(_) | Value::Int(_), _) => Ok(None),
@@ -41,7 +42,8 @@ impl Value {
         ensures ok { IfOk result (λ found. MatchOption found
             (spec.read (plain_path path.now) (plain_of self.now) ≡ Ok Plain.null)
             (λ v. spec.read (plain_path path.now) (plain_of self.now) ≡ Ok (plain_of v.now))) }
-        ensures err { IfErr result (λ fault. spec.read (plain_path path.now) (plain_of self.now) ≡ Err fault) }
+        ensures err { IfErr result
+            (λ fault. spec.read (plain_path path.now) (plain_of self.now) ≡ Err fault) }
     {
         match path.split_first() {
             None => Ok(Some(self)),
@@ -56,8 +58,11 @@ impl Value {
     /// have the key, and at every key of null, a boolean and an integer. Faults BadIndex exactly at
     /// a text.
     pub fn get(&self, key: &Key) -> Result<Value, Fault>
-        ensures ok { IfOk result (λ found. get (plain_of self.now) (plain_key key.now) ≡ Ok (plain_of found)) }
-        ensures err { IfErr result (λ fault. (fault ≡ Fault.Memory) ⊎ (get (plain_of self.now) (plain_key key.now) ≡ Err fault)) }
+        ensures ok { IfOk result
+            (λ found. get (plain_of self.now) (plain_key key.now) ≡ Ok (plain_of found)) }
+        ensures err { IfErr result
+            (λ fault. (fault ≡ Fault.Memory)
+            ⊎ (get (plain_of self.now) (plain_key key.now) ≡ Err fault)) }
     {
         match self {
             Value::Null | Value::Flag(_) | Value::Int(_) => Ok(Value::Null),
@@ -76,7 +81,9 @@ impl Value {
     /// written into, and Full where an append finds no next key; else faults Long exactly where an
     /// array would be nested deeper than 1,000. After a fault nothing has changed.
     pub fn write(&mut self, alloc: Global, path: &[Option<Key>], new: Value) -> Result<(), Fault>
-        ensures ok { OnOk result (spec.write (plain_path path.now) (plain_of new) (plain_of self.old) ≡ Ok (plain_of self.new)) }
+        ensures ok { OnOk result
+            (spec.write (plain_path path.now) (plain_of new) (plain_of self.old)
+            ≡ Ok (plain_of self.new)) }
         ensures err { IfErr result (λ fault. (fault ≡ Fault.Memory)
             ⊎ (spec.write (plain_path path.now) (plain_of new) (plain_of self.old) ≡ Err fault)) }
         ensures unchanged { OnErr result (self.new ≡ self.old) }
@@ -89,8 +96,8 @@ impl Value {
 
     /// Lets go of the value at the end of a path, where a write by the same path is to follow: each
     /// such write gives the same as before. So a text that was read there has one holder fewer, and
-    /// `$a['k'] .= e` can append to it in place: read the text, evaluate `e`, let go, append, write.
-    /// Where other arrays hold a part of the path, nothing is let go. Takes no memory.
+    /// `$a['k'] .= e` can append to it in place: read the text, evaluate `e`, let go, append,
+    /// write. Where other arrays hold a part of the path, nothing is let go. Takes no memory.
     pub fn release(&mut self, path: &[Option<Key>])
         ensures { Releases (plain_path path.now) (plain_of self.old) (plain_of self.new) }
     {
@@ -124,7 +131,9 @@ impl Value {
         new: Value,
     ) -> Result<(), Fault>
         requires { (fits ≡ true) → (length (plain_path path.now) + depth (plain_of new) ≤ 1000) }
-        ensures ok { OnOk result (write_if fits (plain_path path.now) (plain_of new) (plain_of self.old) ≡ Ok (plain_of self.new)) }
+        ensures ok { OnOk result
+            (write_if fits (plain_path path.now) (plain_of new) (plain_of self.old)
+            ≡ Ok (plain_of self.new)) }
         ensures err { IfErr result (λ fault. (fault ≡ Fault.Memory)
             ⊎ (write_if fits (plain_path path.now) (plain_of new) (plain_of self.old)
             ≡ Err fault)) }

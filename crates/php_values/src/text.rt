@@ -75,7 +75,8 @@ impl Text {
     /// A text of these bytes. Faults Long exactly where there are more than 16,777,216.
     pub fn new(alloc: Global, bytes: &[u8]) -> Result<Text, Fault>
         ensures ok { IfOk result (λ t. within_length bytes.now ≡ Ok (Plain.text t)) }
-        ensures err { IfErr result (λ fault. (fault ≡ Fault.Memory) ⊎ (within_length bytes.now ≡ Err fault)) }
+        ensures err { IfErr result
+            (λ fault. (fault ≡ Fault.Memory) ⊎ (within_length bytes.now ≡ Err fault)) }
     {
         if bytes.len() > TEXT_LIMIT {
             return Err(Fault::Long);
@@ -99,7 +100,8 @@ impl Text {
     /// more than 16,777,216.
     pub fn from_vec(alloc: Global, bytes: Vec<u8>) -> Result<Text, Fault>
         ensures ok { IfOk result (λ t. within_length bytes.items ≡ Ok (Plain.text t)) }
-        ensures err { IfErr result (λ fault. (fault ≡ Fault.Memory) ⊎ (within_length bytes.items ≡ Err fault)) }
+        ensures err { IfErr result
+            (λ fault. (fault ≡ Fault.Memory) ⊎ (within_length bytes.items ≡ Err fault)) }
     {
         if bytes.len() > TEXT_LIMIT {
             return Err(Fault::Long);
@@ -128,7 +130,8 @@ impl Text {
     /// where the text would be longer than 16,777,216 bytes; after a fault nothing has changed.
     pub fn append(&mut self, more: &[u8]) -> Result<(), Fault>
         ensures ok { OnOk result (within_length (self.old ++ more.now) ≡ Ok (Plain.text self.new)) }
-        ensures err { IfErr result (λ fault. (fault ≡ Fault.Memory) ⊎ (within_length (self.old ++ more.now) ≡ Err fault)) }
+        ensures err { IfErr result
+            (λ fault. (fault ≡ Fault.Memory) ⊎ (within_length (self.old ++ more.now) ≡ Err fault)) }
         ensures unchanged { OnErr result (self.new ≡ self.old) }
     {
         if more.len() > TEXT_LIMIT - self.as_slice().len() {

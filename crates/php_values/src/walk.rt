@@ -40,7 +40,8 @@ impl Walk {
 
     /// The next pair, and None where no pair is left. For want of memory the walk stays.
     pub fn next(&mut self) -> Result<Option<(Key, Value)>, NoMemory>
-        ensures some { IfOk result (λ next. IfSome next (λ p. self.old ≡ pair (plain_key p.0) (plain_of p.1) self.new)) }
+        ensures some { IfOk result
+            (λ next. IfSome next (λ p. self.old ≡ pair (plain_key p.0) (plain_of p.1) self.new)) }
         ensures none { IfOk result (λ next. IfNone next ((self.old ≡ empty) × (self.new ≡ empty))) }
         ensures unchanged { OnErr result (self.new ≡ self.old) }
     {

@@ -36,7 +36,7 @@ pub fn are_places(exprs: &[Expr]) -> bool
 }
 
 // Whether a template can have the expression as a key.
-#[tactic(auto, using(php_syntax::proofs::Views::views))]
+#[tactic(auto, unfolding(php_syntax::specs::Trees::plain_expr))]
 fn is_part_key(expr: &Expr) -> bool
     ensures { result ≡ spelled.is_part_key (plain_expr expr.now) }
 {
@@ -53,7 +53,7 @@ fn is_part_key(expr: &Expr) -> bool
 }
 
 // Whether a template can read the expression.
-#[tactic(auto, using(php_syntax::proofs::Views::views))]
+#[tactic(auto, unfolding(php_syntax::specs::Trees::plain_expr))]
 fn is_read(expr: &Expr) -> bool
     ensures { result ≡ spelled.is_read (plain_expr expr.now) }
 {
@@ -81,7 +81,7 @@ pub fn are_parts(parts: &[Expr]) -> bool
 }
 
 // Whether an expression is an integer literal.
-#[tactic(auto, using(php_syntax::proofs::Views::views))]
+#[tactic(auto, unfolding(php_syntax::specs::Trees::plain_expr))]
 fn is_unsigned_literal(expr: &Expr) -> bool
     ensures { result ≡ spelled.is_unsigned_literal (plain_expr expr.now) }
 {
@@ -97,7 +97,7 @@ fn is_unsigned_literal(expr: &Expr) -> bool
 }
 
 // Whether an expression is a literal.
-#[tactic(auto, using(php_syntax::proofs::Views::views))]
+#[tactic(auto, unfolding(php_syntax::specs::Trees::plain_expr))]
 fn is_literal(expr: &Expr) -> bool
     ensures { result ≡ spelled.is_literal (plain_expr expr.now) }
 {

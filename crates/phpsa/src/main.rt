@@ -1,6 +1,6 @@
-//! The program `phpsa`: it hands the real words, files and streams to `phpsa_main`, and ends with the status that
-//! comes back. What it answers is said by the contract of `phpsa_main::phpsa`; below it stand `io_edge`, with the
-//! files and streams of the system, and `phpsa_main`.
+//! The program `phpsa`: it hands the real words, files and streams to `phpsa_main`, and ends with
+//! the status that comes back. What it answers is said by the contract of `phpsa_main::phpsa`;
+//! below it stand `io_edge`, with the files and streams of the system, and `phpsa_main`.
 #![tactic(auto)]
 
 use io_edge::{DiskFiles, StdSink};
@@ -9,7 +9,8 @@ use std::process::ExitCode;
 use std::rt::Env;
 use std::{env, io};
 
-/// The status where the system does not give the words: one of them is not UTF-8, or no memory was left for them.
+/// The status where the system does not give the words: one of them is not UTF-8, or no memory was
+/// left for them.
 const NO_WORDS: u8 = 16;
 
 /// The words after the program's name.

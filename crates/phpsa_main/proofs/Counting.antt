@@ -4,14 +4,15 @@ use Rattle.std.specs.Prelude.{◌⊎◌, Ok, Err}
 use Rattle.io_edge.specs.Counts.{one_more}
 use Rattle.program_files.specs.Source.{SourceCall}
 use Rattle.phpsa_texts.specs.declared.exit.Exit.{Exit}
-use Rattle.phpsa_texts.specs.declared.exit.Exit.TheVariants.{Script, Missing, ReadFault, WriteFault, Input, Memory}
-use Rattle.phpsa_texts.specs.declared.message.Message.{Message}
+use Rattle.phpsa_texts.specs.declared.exit.Exit.TheVariants.{Done, ReadFault, WriteFault, Memory}
 use Rattle.phpsa_texts.specs.declared.message.Refusal.{Refusal}
-use Rattle.phpsa_tasks.specs.Tasks.{Task, script_check, page_check, script_making, made_check, unbuilt, usage, AsksFor}
+use Rattle.phpsa_tasks.specs.declared.reply.Reply.{Reply}
+use Rattle.phpsa_tasks.specs.declared.reply.Reply.TheVariants as reply
+use Rattle.phpsa_tasks.specs.Tasks.{Task, script_check, page_check, script_making, made_check, script_run, grammar_making, usage, AsksFor}
 use Rattle.phpsa_tasks.specs.Call.{Call, Output, IsUnfailed}
-use Rattle.phpsa_tasks.specs.Counted.{ReadsNothing, IsWanting, ReadsFor, TellsFaults, TellsFault, IsCounted}
-use Rattle.phpsa_tasks.specs.Outcomes.{Does}
-use Rattle.phpsa_main.specs.Steps.{Puts, Reports, ReportsRefusal}
+use Rattle.phpsa_tasks.specs.Counted.{unloaded, ReadsNothing, IsWanting, ReadsFor, TellsFaults, TellsFault, IsCounted}
+use Rattle.phpsa_tasks.specs.Outcomes.{reply_status, reply_text, Does}
+use Rattle.phpsa_main.specs.Steps.{Puts, FailsOnOut, WantsMemory, Reports, ReportsRefusal}
 
 abbrev pub OneTask : Type 0
 OneTask = (words : List (List ℕ)) (task other : Task) → AsksFor words task → AsksFor words other → task ≡ other
@@ -35,15 +36,19 @@ wanting_behind : (own status : Exit) → Behind Memory status → Behind own sta
 wanting_behind own status (inl is) = inr (memory status is)
 wanting_behind own status (inr is) = inr is
 
-reply_behind : (message : Message) (out err : Output) (status : Exit) → Reports message out err status → Behind message.status status
-reply_behind message out err status (inl w) = inl w.status_is
-reply_behind message out err status (inr (inl w)) = inr (write_fault status w.status_is)
-reply_behind message out err status (inr (inr w)) = wanting_behind message.status status (put_behind _ err Memory status w.err_puts)
+unwritten_behind : (text : List ℕ) (out err : Output) (own status : Exit) → FailsOnOut text out err status ⊎ WantsMemory text out err status → Behind own status
+unwritten_behind text out err own status (inl w) = inr (write_fault status w.status_is)
+unwritten_behind text out err own status (inr w) = wanting_behind own status (put_behind _ err Memory status w.err_puts)
+
+reply_behind : (own : Reply) (out err : Output) (status : Exit) → Reports own out err status → Behind (reply_status own) status
+reply_behind (reply.Text message) out err status (inl (gains, (is, nothing))) = inl is
+reply_behind (reply.Text message) out err status (inr w) = unwritten_behind message.text out err message.status status w
+reply_behind (reply.Grammar grammar) out err status (inl (gains, (is, nothing))) = inl is
+reply_behind (reply.Grammar grammar) out err status (inr w) = unwritten_behind (reply_text (reply.Grammar grammar)) out err Done status w
+reply_behind (reply.Halted printed message) out err status (inl (gains, puts)) = put_behind message.text err message.status status puts
+reply_behind (reply.Halted printed message) out err status (inr w) = unwritten_behind printed out err message.status status w
 
 -- want of memory, and a text for it that could not be written, are among the statuses of a program that is not loaded
-abbrev unloaded : List Exit
-unloaded = Script ∷ Missing ∷ ReadFault ∷ Input ∷ WriteFault ∷ Memory ∷ []
-
 wanting_unloaded : (status : Exit) → IsWanting status → Contains unloaded status
 wanting_unloaded status (zero, less, is) = subst (Contains unloaded) is (4, lit< tt, refl)
 wanting_unloaded status (suc zero, less, is) = subst (Contains unloaded) is (5, lit< tt, refl)
@@ -69,7 +74,8 @@ read_behind (script_check file d goal limit form) files own status read (inr wan
 read_behind (page_check file d) files own status read (inr wants) = λ built_in. once_or files own status wants (read built_in)
 read_behind (script_making n) files own status read (inr wants) = read
 read_behind (made_check n) files own status read (inr wants) = read
-read_behind (unbuilt part) files own status read (inr wants) = read
+read_behind (script_run file request steps) files own status read (inr wants) = inl (wanting_unloaded status wants)
+read_behind (grammar_making file) files own status read (inr wants) = inl (wanting_unloaded status wants)
 read_behind usage files own status read (inr wants) = read
 
 faults_behind : (files : SourceCall) (own status : Exit) → TellsFaults files own → Behind own status → TellsFaults files status
@@ -86,10 +92,10 @@ counts one call task own status asked read faults behind out err = record {
   files = faults_behind call.files own status faults behind;
 }
 
-pub replied_counts : OneTask → (call : Call) (task : Task) (message : Message) (status : Exit) → AsksFor call.words task → Does call.files task (Ok message)
-    → Reports message call.out call.err status → TellsFault call.out status → TellsFault call.err status → IsCounted call status
-replied_counts one call task message status asked does reports out err =
-    counts one call task message.status status asked does.read does.faults (reply_behind message call.out call.err status reports) out err
+pub replied_counts : OneTask → (call : Call) (task : Task) (own : Reply) (status : Exit) → AsksFor call.words task → Does call.files task (Ok own)
+    → Reports own call.out call.err status → TellsFault call.out status → TellsFault call.err status → IsCounted call status
+replied_counts one call task own status asked does reports out err =
+    counts one call task (reply_status own) status asked does.read does.faults (reply_behind own call.out call.err status reports) out err
 
 pub refused_counts : OneTask → (call : Call) (task : Task) (refusal : Refusal) (status : Exit) → AsksFor call.words task → Does call.files task (Err refusal)
     → ReportsRefusal refusal call.err status → IsUnfailed call.out → TellsFault call.err status → IsCounted call status
@@ -104,7 +110,8 @@ unread (script_check file d goal limit form) files status none wants = λ built_
 unread (page_check file d) files status none wants = λ built_in. inr (none, wants)
 unread (script_making n) files status none wants = none
 unread (made_check n) files status none wants = none
-unread (unbuilt part) files status none wants = none
+unread (script_run file request steps) files status none wants = inl (wanting_unloaded status wants)
+unread (grammar_making file) files status none wants = inl (wanting_unloaded status wants)
 unread usage files status none wants = none
 
 is_wanting : (status : Exit) → Behind Memory status → IsWanting status

@@ -5,15 +5,16 @@ use Rattle.std.proofs.Math.Seq.{take-length}
 use Rattle.std.specs.Io.KnownBytes.{Appends}
 use Rattle.io_edge.specs.Taken.{AppendsPrefix}
 use Rattle.phpsa_texts.specs.declared.exit.Exit.{Exit}
-use Rattle.phpsa_texts.specs.declared.exit.Exit.TheVariants.{WriteFault, Memory}
-use Rattle.phpsa_texts.specs.declared.message.Message.{Message}
+use Rattle.phpsa_texts.specs.declared.exit.Exit.TheVariants.{Done, WriteFault, Memory}
 use Rattle.phpsa_texts.specs.declared.message.Refusal.{Refusal}
 use Rattle.phpsa_texts.specs.Texts.{memory_text}
+use Rattle.phpsa_tasks.specs.declared.reply.Reply.{Reply}
+use Rattle.phpsa_tasks.specs.declared.reply.Reply.TheVariants as reply
 use Rattle.phpsa_tasks.specs.Tasks.{Task, AsksFor}
-use Rattle.phpsa_tasks.specs.Call.{Call, GainsPrefix, GainsNothing, Fails}
+use Rattle.phpsa_tasks.specs.Call.{Call, Gains, GainsPrefix, GainsNothing, Fails}
 use Rattle.phpsa_tasks.specs.Outcomes.{Does}
-use Rattle.phpsa_tasks.specs.Endings.{OwesReply, OwesRefusal, of_task, wants_memory, KeepsOut, Ends, replied, refused, by_out, by_err, no_memory}
-use Rattle.phpsa_main.specs.Steps.{Puts, Reports, ReportsRefusal}
+use Rattle.phpsa_tasks.specs.Endings.{OwesReply, OwesRefusal, of_task, wants_memory, OwesHalt, IsDueOnOut, KeepsOut, Ends, replied, refused, halted, by_out, by_err, no_memory}
+use Rattle.phpsa_main.specs.Steps.{Puts, FailsOnOut, WantsMemory, Reports, ReportsRefusal}
 
 -- a whole text is a prefix of itself
 whole : (old new : Option (List ℕ)) (text : List ℕ) → Appends old new text → AppendsPrefix old new text
@@ -21,10 +22,10 @@ whole old new text h = (length text, omega arith, subst (λ bytes. Appends old n
 
 -- `err` failed, or found no memory
 failed_as : (call : Call) (own status : Exit) (text : List ℕ) → OwesRefusal call own text → KeepsOut call → status ≡ WriteFault → Fails call.err → GainsPrefix call.err text → Ends call status
-failed_as call own status text owed out is failed err = by_err is (record { text = text; due = (own, owed); failed = failed; out = out; err = err })
+failed_as call own status text owed out is failed err = by_err is (record { text = text; due = (own, inl owed); failed = failed; out = out; err = err })
 
 wanting : (call : Call) (own status : Exit) (text : List ℕ) → OwesRefusal call own text → KeepsOut call → status ≡ Memory → GainsPrefix call.err text → Ends call status
-wanting call own status text owed out is err = no_memory is (record { text = text; due = (own, owed); out = out; err = err })
+wanting call own status text owed out is err = no_memory is (record { text = text; due = (own, inl owed); out = out; err = err })
 
 -- a refusal was put on `err`, and nothing on `out`
 put_as : (call : Call) (own status : Exit) (text : List ℕ) → OwesRefusal call own text → GainsNothing call.out → Puts call.err text own status → Ends call status
@@ -48,14 +49,36 @@ pub refused_ends : (call : Call) (task : Task) (refusal : Refusal) (status : Exi
 refused_ends call task (Refusal.Told message) status asked does out puts = put_as call message.status status message.text (of_task task asked does.due) out puts
 refused_ends call task Refusal.Memory status asked does out puts = memory_as call status (inl out) puts
 
--- the task has a reply
-reported_ends : (call : Call) (message : Message) (status : Exit) → OwesReply call message.status message.text → Reports message call.out call.err status → Ends call status
-reported_ends call message status owed (inl w) =
-    replied (record { text = message.text; owed = subst (λ (s : Exit). OwesReply call s message.text) (sym w.status_is) owed; out = w.out_gains; err = w.err_gains })
-reported_ends call message status owed (inr (inl w)) =
-    by_out w.status_is (record { text = message.text; due = (message.status, owed); failed = w.failed; out = w.out_gains; err = w.err_gains })
-reported_ends call message status owed (inr (inr w)) = memory_as call status (inr (message.text, (message.status, owed), w.out_gains)) w.err_puts
+-- a text that is due on `out` could not be written there
+unwritten : (call : Call) (text : List ℕ) (status : Exit) → IsDueOnOut call text → FailsOnOut text call.out call.err status ⊎ WantsMemory text call.out call.err status → Ends call status
+unwritten call text status due (inl w) = by_out w.status_is (record { text = text; due = due; failed = w.failed; out = w.out_gains; err = w.err_gains })
+unwritten call text status due (inr w) = memory_as call status (inr (inl (text, due, w.out_gains))) w.err_puts
 
-pub replied_ends : (call : Call) (task : Task) (message : Message) (status : Exit) → AsksFor call.words task → Does call.files task (Ok message)
-    → Reports message call.out call.err status → Ends call status
-replied_ends call task message status asked does reports = reported_ends call message status (record { task = task; asked = asked; replies = does.due }) reports
+-- the task has a reply
+whole_ends : (call : Call) (own status : Exit) (text : List ℕ) → OwesReply call own text → Gains call.out text → status ≡ own → GainsNothing call.err → Ends call status
+whole_ends call own status text owed gains is nothing =
+    replied (record { text = text; owed = subst (λ (s : Exit). OwesReply call s text) (sym is) owed; out = gains; err = nothing })
+
+-- what a run printed stands on `out`, and why it did not come to its end was put on `err`
+halted_ends : (call : Call) (own status : Exit) (printed text : List ℕ) → OwesHalt call own printed text → Gains call.out printed → Puts call.err text own status → Ends call status
+halted_ends call own status printed text owed gains (inl (is, told)) =
+    halted (record { printed = printed; text = text; owed = subst (λ (s : Exit). OwesHalt call s printed text) (sym is) owed; out = gains; err = told })
+halted_ends call own status printed text owed gains (inr (inl (is, failed, prefix))) =
+    by_err is (record { text = text; due = (own, inr (printed, owed)); failed = failed; out = inr (inr (own, printed, text, owed, gains)); err = prefix })
+halted_ends call own status printed text owed gains (inr (inr (is, prefix))) =
+    no_memory is (record { text = text; due = (own, inr (printed, owed)); out = inr (inr (own, printed, text, owed, gains)); err = prefix })
+
+pub replied_ends : (call : Call) (task : Task) (own : Reply) (status : Exit) → AsksFor call.words task → Does call.files task (Ok own)
+    → Reports own call.out call.err status → Ends call status
+replied_ends call task (reply.Text message) status asked does (inl (gains, (is, nothing))) =
+    whole_ends call message.status status message.text (record { task = task; asked = asked; replies = does.due }) gains is nothing
+replied_ends call task (reply.Text message) status asked does (inr w) =
+    unwritten call message.text status (message.status, inl (record { task = task; asked = asked; replies = does.due })) w
+replied_ends call task (reply.Grammar grammar) status asked does (inl (gains, (is, nothing))) =
+    whole_ends call Done status _ (record { task = task; asked = asked; replies = does.due }) gains is nothing
+replied_ends call task (reply.Grammar grammar) status asked does (inr w) =
+    unwritten call _ status (Done, inl (record { task = task; asked = asked; replies = does.due })) w
+replied_ends call task (reply.Halted printed message) status asked does (inl (gains, puts)) =
+    halted_ends call message.status status printed message.text (record { task = task; asked = asked; halts = does.due }) gains puts
+replied_ends call task (reply.Halted printed message) status asked does (inr w) =
+    unwritten call printed status (message.status, inr (message.text, record { task = task; asked = asked; halts = does.due })) w

@@ -1,2 +1,6 @@
+pub mod ScriptParts
+pub mod PageParts
+pub mod MadeParts
+pub mod LoadedParts
 pub mod Ended
 pub mod Counting

@@ -1,15 +1,18 @@
-//! Tasks are done, each by the crate of its command.
+//! Tasks are done, each by the function of its command.
 
 ghost use Rattle.program_files.specs.Source.{source_call};
 ghost use Rattle.phpsa_tasks.specs.Outcomes.{Does};
 ghost use Rattle.phpsa_tasks.specs.Views.{task_as};
 
-use check_command::check_script;
+use crate::grammars::make_grammar;
+use crate::made::check_made;
+use crate::making::make_script;
+use crate::page::judge_page;
+use crate::running::run_script;
+use crate::script::check_script;
 use io_edge::Files;
-use make_command::{check_made, make_script};
-use page_command::judge_page;
-use phpsa_tasks::Task;
-use phpsa_texts::{Message, Refusal, not_built_refusal, usage_refusal};
+use phpsa_tasks::{Reply, Task};
+use phpsa_texts::{Refusal, usage_refusal};
 use std::alloc::Global;
 
 /// Does the task: what is written of it, or why it is refused.
@@ -17,7 +20,7 @@ pub(crate) fn outcome_of<F: Files>(
     alloc: Global,
     task: Task<'_>,
     files: &mut F,
-) -> Result<Message, Refusal>
+) -> Result<Reply, Refusal>
     ensures { Does (source_call (F.content files.old) (F.faults files.old) (F.faults files.new)
         (F.misses files.old) (F.misses files.new) (F.reads files.old) (F.reads files.new))
         (task_as task.entry) result }
@@ -36,7 +39,12 @@ pub(crate) fn outcome_of<F: Files>(
         } => judge_page(alloc, file, document_type, files),
         Task::ScriptMaking { functions } => make_script(alloc, functions),
         Task::MadeCheck { functions } => check_made(alloc, functions),
-        Task::Unbuilt(part) => Err(not_built_refusal(alloc, part.name())),
+        Task::ScriptRun {
+            file,
+            request,
+            steps,
+        } => run_script(alloc, file, request, steps, files),
+        Task::GrammarMaking { file } => make_grammar(alloc, file, files),
         Task::Usage => Err(usage_refusal(alloc)),
     }
 }

@@ -1,15 +1,12 @@
 -- The definitions of `specs/` on worked examples and on near misses.
-use Rattle.std.proofs.Common.{◌≡◌, ◌≤◌, ℕ, List, [], ◌∷◌, true, false, None, Some, codes, refl, lit≤, arith}
-use Rattle.dtd_model.specs.Table.{Table}
+use Rattle.std.proofs.Common.{◌≡◌, ◌≤◌, [], true, false, None, Some, codes, refl, lit≤, arith}
 use Rattle.page_model.specs.Valid as model
 use Rattle.page_goals.specs.declared.goal.Goal.TheVariants.{Valid, Nested}
 use Rattle.command_words.specs.Asked.{check, run, page, grammar, make}
 use Rattle.document_types.specs.DocumentTypes.{strict_type, mini_type, file_type}
-use Rattle.phpsa_texts.specs.declared.exit.Exit.TheVariants.{No, NotBuilt, Input}
+use Rattle.phpsa_texts.specs.declared.exit.Exit.TheVariants.{No, Undecided, Input}
 use Rattle.phpsa_texts.specs.declared.answers.AnswerForm.TheVariants.{Plain, Json}
-use Rattle.phpsa_texts.specs.Texts.{not_built_text}
-use Rattle.phpsa_tasks.specs.declared.part.Part.TheVariants.{Run}
-use Rattle.phpsa_tasks.specs.Tasks.{script_check, page_check, script_making, made_check, unbuilt, task_of, part_name}
+use Rattle.phpsa_tasks.specs.Tasks.{script_check, page_check, script_making, made_check, script_run, grammar_making, task_of}
 use Rattle.phpsa_tasks.specs.Call.{output_of, Gains, GainsPrefix, GainsNothing, Fails}
 use Rattle.phpsa_tasks.specs.Subjects.{PageBy}
 use Rattle.phpsa_tasks.specs.Answered.{IsVerdict}
@@ -36,18 +33,17 @@ checks_made = refl
 makes : task_of (make 1001 false) ≡ script_making 1001
 makes = refl
 
--- what is not built is named by its word
-runs : task_of (run (codes "t.php") None 100) ≡ unbuilt Run
+runs : task_of (run (codes "t.php") None 100) ≡ script_run (codes "t.php") None 100
 runs = refl
 
-runs_not : not_built_text (part_name Run) ≡ codes "phpsa: NotBuilt run\n"
-runs_not = refl
+writes_a_grammar : task_of (grammar (codes "t.php")) ≡ grammar_making (codes "t.php")
+writes_a_grammar = refl
 
 -- a page that is not valid has the verdict No, and no other
 invalid_verdict : (x : PageBy) → (model.Valid x.table x.page → ⊥) → IsVerdict (page_check (codes "p") mini_type) x No
 invalid_verdict x invalid = invalid
 
-no_page_is_undecided : (x : PageBy) → IsVerdict (page_check (codes "p") mini_type) x NotBuilt → ⊥
+no_page_is_undecided : (x : PageBy) → IsVerdict (page_check (codes "p") mini_type) x Undecided → ⊥
 no_page_is_undecided x verdict = verdict
 
 too_many_functions : IsVerdict (script_making 1001) tt Input

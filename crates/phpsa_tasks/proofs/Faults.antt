@@ -1,5 +1,5 @@
 -- Statuses that tell of faults of the source, and of want of memory.
-use Rattle.std.proofs.Common.{◌≡◌, ◌∙◌, ℕ, List, [], ◌∷◌, Contains, refl, sym, subst, inl, inr, lit<}
+use Rattle.std.proofs.Common.{◌≡◌, ◌∙◌, [], ◌∷◌, Contains, refl, sym, subst, inl, inr, lit<}
 use Rattle.std.specs.Prelude.{◌⊎◌}
 use Rattle.program_files.specs.Source.{SourceCall}
 use Rattle.phpsa_texts.specs.declared.exit.Exit.{Exit}

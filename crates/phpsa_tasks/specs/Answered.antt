@@ -15,11 +15,11 @@ use Rattle.script_maker.specs.Made.{IsSize}
 use Rattle.command_words.specs.Asked.{Asked, AsksNothing}
 use Rattle.command_words.specs.Canonical.{IsCanonical}
 use Rattle.phpsa_texts.specs.declared.exit.Exit.{Exit}
-use Rattle.phpsa_texts.specs.declared.exit.Exit.TheVariants.{Done, No, Undecided, NotBuilt, Script, Missing, Input, WriteFault, Usage, Memory}
-use Rattle.phpsa_tasks.specs.Tasks.{Task, script_check, page_check, script_making, made_check, unbuilt, usage, AsksFor}
+use Rattle.phpsa_texts.specs.declared.exit.Exit.TheVariants.{Done, No, Undecided, Script, Missing, Input, WriteFault, Usage, Memory}
+use Rattle.phpsa_tasks.specs.Tasks.{Task, script_check, page_check, script_making, made_check, script_run, grammar_making, usage, AsksFor}
 use Rattle.phpsa_tasks.specs.declared.task.TheConstants.{PAIR_LIMIT}
 use Rattle.phpsa_tasks.specs.Subjects.{Subject, Holds, IsWithin, LacksFile}
-use Rattle.phpsa_tasks.specs.Replies.{answer_status}
+use Rattle.phpsa_tasks.specs.Replies.{answer_status, end_status, outcome_for, HasManyItems}
 use Rattle.phpsa_tasks.specs.Call.{Call, Fails}
 
 -- no count of faults rises in the call
@@ -40,7 +40,13 @@ PassesScriptLimit goal table program limit Undecided = (answer : ShownAnswer) ×
 PassesScriptLimit goal table program limit Input = HasLongText program
 PassesScriptLimit goal table program limit status = ⊥
 
--- the status that a task has for what it speaks of
+-- a limit of the making of a grammar is passed: of the items of an image, or of the bytes of a text
+abbrev pub PassesGrammarLimit : PlainProgram → Exit → Type 0
+PassesGrammarLimit program Undecided = (count : ℕ) × HasManyItems program count
+PassesGrammarLimit program Input = HasLongText program
+PassesGrammarLimit program status = ⊥
+
+-- the status that a task has for what it speaks of: of a run, that of its end; and each program has a grammar
 abbrev pub IsVerdict : (task : Task) → Subject task → Exit → Type 0
 IsVerdict (script_check file document_type goal limit form) subject status = IsScriptVerdict goal subject.table subject.program status
 IsVerdict (page_check file document_type) subject Done = Valid subject.table subject.page
@@ -48,7 +54,8 @@ IsVerdict (page_check file document_type) subject No = Valid subject.table subje
 IsVerdict (script_making functions) subject Done = IsSize functions
 IsVerdict (script_making functions) subject Input = IsSize functions → ⊥
 IsVerdict (made_check functions) subject status = IsScriptVerdict Goal.Valid subject.table subject.program status
-IsVerdict (unbuilt part) subject NotBuilt = ⊤
+IsVerdict (script_run file request steps) subject status = status ≡ end_status (outcome_for subject steps).end
+IsVerdict (grammar_making file) subject Done = ⊤
 IsVerdict usage subject Usage = ⊤
 IsVerdict task subject status = ⊥
 
@@ -56,6 +63,7 @@ IsVerdict task subject status = ⊥
 abbrev pub PassesLimit : (task : Task) → Subject task → Exit → Type 0
 PassesLimit (script_check file document_type goal limit form) subject status = PassesScriptLimit goal subject.table subject.program limit status
 PassesLimit (made_check functions) subject status = PassesScriptLimit Goal.Valid subject.table subject.program PAIR_LIMIT status
+PassesLimit (grammar_making file) subject status = PassesGrammarLimit subject status
 PassesLimit task subject status = ⊥
 
 abbrev pub IsStopped : (task : Task) → Subject task → Exit → Type 0
@@ -67,7 +75,8 @@ statuses_of_nothing (script_check file document_type goal limit form) = Missing 
 statuses_of_nothing (page_check file document_type) = Missing ∷ Input ∷ Memory ∷ []
 statuses_of_nothing (script_making functions) = []
 statuses_of_nothing (made_check functions) = Input ∷ Memory ∷ []
-statuses_of_nothing (unbuilt part) = []
+statuses_of_nothing (script_run file request steps) = Missing ∷ Script ∷ Input ∷ Memory ∷ []
+statuses_of_nothing (grammar_making file) = Missing ∷ Script ∷ Input ∷ Memory ∷ []
 statuses_of_nothing usage = []
 
 -- Words that ask for what the source tells all of are answered, a limit and want of memory aside, and exactly by what is so of it; where nothing is found, so is the status;

@@ -1,5 +1,5 @@
 -- Why a task is refused: a status, and a text on `err`.
-use Rattle.std.specs.Prelude.{◌≡◌, ℕ, List}
+use Rattle.std.specs.Prelude.{◌≡◌, ◌⊎◌, ℕ, List, Option}
 use Rattle.io_edge.specs.Reasons.{HasReason}
 use Rattle.io_edge.specs.declared.files.FileFault.{FileFault}
 use Rattle.script_meaning.specs.Programs.{PlainProgram}
@@ -15,11 +15,12 @@ use Rattle.program_literals.specs.Short.{HasLongText}
 use Rattle.script_decision.specs.Decision.{HasManyStates}
 use Rattle.script_maker.specs.Made.{IsSize}
 use Rattle.phpsa_texts.specs.declared.exit.Exit.{Exit}
-use Rattle.phpsa_texts.specs.declared.exit.Exit.TheVariants.{NotBuilt, Usage, Dtd, Input}
+use Rattle.phpsa_texts.specs.declared.exit.Exit.TheVariants.{Usage, Dtd, Input}
 use Rattle.phpsa_texts.specs.Statuses.{load_status, file_status, definition_status}
-use Rattle.phpsa_texts.specs.Texts.{load_text, file_text, definition_text, states_text, long_text, not_built_text, size_text, usage_text}
-use Rattle.phpsa_tasks.specs.Tasks.{Task, script_check, page_check, script_making, made_check, unbuilt, usage, part_name}
+use Rattle.phpsa_texts.specs.Texts.{load_text, file_text, definition_text, states_text, long_text, size_text, usage_text}
+use Rattle.phpsa_tasks.specs.Tasks.{Task, script_check, page_check, script_making, made_check, script_run, grammar_making, usage}
 use Rattle.phpsa_tasks.specs.Subjects.{made_name, only_made}
+use Rattle.phpsa_tasks.specs.Requests.{RefusesRequest}
 
 -- a source of files as the reader of definitions sees it
 abbrev pub definition_call : SourceCall → definition.SourceCall
@@ -51,11 +52,24 @@ pub data RefusesMade (functions : ℕ) (status : Exit) (text : List ℕ) : Type 
   made_refused : IsSize functions → (misses reads : ℕ) → RefusesScript (source_call (only_made functions) 0 0 0 misses 0 reads) made_name strict_type status text
       → RefusesMade functions status text
 
+-- the program of a file is not loaded
+abbrev pub RefusesProgram : SourceCall → List ℕ → Exit → List ℕ → Type 0
+RefusesProgram files file status text = (cause : LoadRefusal) × IsLoadCause files file cause × (status ≡ load_status cause) × (text ≡ load_text cause)
+
+-- the program is loaded, and there is no request for it
+abbrev pub LacksRequest : SourceCall → List ℕ → Option (List ℕ) → Exit → List ℕ → Type 0
+LacksRequest files file request status text = (program : PlainProgram) × IsLoaded files.content file program × RefusesRequest files request status text
+
+-- a text in the program of a file is over the limit of a run
+abbrev pub RefusesLongText : SourceCall → List ℕ → Exit → List ℕ → Type 0
+RefusesLongText files file status text = (program : PlainProgram) × IsLoaded files.content file program × HasLongText program × (status ≡ Input) × (text ≡ long_text file)
+
 -- why each task is refused; want of memory may come at any place beside
 abbrev pub Refuses : SourceCall → Task → Exit → List ℕ → Type 0
 Refuses files (script_check file document_type goal limit form) status text = RefusesScript files file document_type status text
 Refuses files (page_check file document_type) status text = RefusesPage files file document_type status text
 Refuses files (script_making functions) status text = (IsSize functions → ⊥) × (status ≡ Input) × (text ≡ size_text functions)
 Refuses files (made_check functions) status text = RefusesMade functions status text
-Refuses files (unbuilt part) status text = (status ≡ NotBuilt) × (text ≡ not_built_text (part_name part))
+Refuses files (script_run file request steps) status text = RefusesProgram files file status text ⊎ LacksRequest files file request status text
+Refuses files (grammar_making file) status text = RefusesProgram files file status text ⊎ RefusesLongText files file status text
 Refuses files usage status text = (status ≡ Usage) × (text ≡ usage_text)

@@ -1,5 +1,5 @@
 -- What the counts of the source and of the outputs say after a call.
-use Rattle.std.specs.Prelude.{◌≡◌, ◌⊎◌, ℕ, List, [], ◌∷◌, length, Contains}
+use Rattle.std.specs.Prelude.{◌≡◌, ◌⊎◌, ℕ, List, [], ◌∷◌, length, Option, None, Some, Contains}
 use Rattle.io_edge.specs.Counts.{one_more}
 use Rattle.program_rules.specs.Files.{Held, Agrees}
 use Rattle.program_rules.specs.Programs.{ReadFile, AreRead}
@@ -7,7 +7,7 @@ use Rattle.program_files.specs.Source.{SourceCall, so_many_more}
 use Rattle.document_types.specs.DocumentTypes.{IsBuiltIn}
 use Rattle.phpsa_texts.specs.declared.exit.Exit.{Exit}
 use Rattle.phpsa_texts.specs.declared.exit.Exit.TheVariants.{Script, Missing, ReadFault, WriteFault, Input, Memory}
-use Rattle.phpsa_tasks.specs.Tasks.{Task, script_check, page_check, script_making, made_check, unbuilt, usage, AsksFor}
+use Rattle.phpsa_tasks.specs.Tasks.{Task, script_check, page_check, script_making, made_check, script_run, grammar_making, usage, AsksFor}
 use Rattle.phpsa_tasks.specs.Call.{Output, Call, IsUnfailed}
 
 -- so many names were asked for as the program has files
@@ -18,6 +18,11 @@ pub record ReadsItsFiles (files : SourceCall) (file : List ℕ) : Type 0 where
   pub read : AreRead held file own
   pub counted : files.reads' ≡ so_many_more (length own) files.reads
 
+-- and for a run that of the file of its request, if there is one, behind them
+abbrev pub ReadsForRun : SourceCall → List ℕ → Option (List ℕ) → Type 0
+ReadsForRun files file None = ReadsItsFiles files file
+ReadsForRun files file (Some name) = (between : ℕ) × ReadsItsFiles (record files { reads' = between }) file × (files.reads' ≡ one_more between)
+
 -- no name was asked for
 abbrev pub ReadsNothing : SourceCall → Type 0
 ReadsNothing files = files.reads' ≡ files.reads
@@ -26,16 +31,21 @@ ReadsNothing files = files.reads' ≡ files.reads
 abbrev pub IsWanting : Exit → Type 0
 IsWanting status = Contains (WriteFault ∷ Memory ∷ []) status
 
--- By a built-in definition each file that a task needs is read once: those of a program, unless it is not loaded, for which the cause says what was read, or a text could
--- not be written; or the page, unless memory was wanting before. The other tasks read nothing.
+-- the statuses of a program that is not loaded, or has no request, for which the cause says what was read, or for which a text could not be made or written
+abbrev pub unloaded : List Exit
+unloaded = Script ∷ Missing ∷ ReadFault ∷ Input ∷ WriteFault ∷ Memory ∷ []
+
+-- By a built-in definition, or where none is asked for, each file that a task needs is read once: those of a program, unless it is not loaded, with that of a request; or the page, unless memory was
+-- wanting before. The other tasks read nothing.
 abbrev pub ReadsFor : Task → SourceCall → Exit → Type 0
 ReadsFor (script_check file document_type goal limit form) files status =
-    IsBuiltIn document_type → Contains (Script ∷ Missing ∷ ReadFault ∷ Input ∷ WriteFault ∷ Memory ∷ []) status ⊎ ReadsItsFiles files file
+    IsBuiltIn document_type → Contains unloaded status ⊎ ReadsItsFiles files file
 ReadsFor (page_check file document_type) files status =
     IsBuiltIn document_type → (files.reads' ≡ one_more files.reads) ⊎ (ReadsNothing files × IsWanting status)
 ReadsFor (script_making functions) files status = ReadsNothing files
 ReadsFor (made_check functions) files status = ReadsNothing files
-ReadsFor (unbuilt part) files status = ReadsNothing files
+ReadsFor (script_run file request steps) files status = Contains unloaded status ⊎ ReadsForRun files file request
+ReadsFor (grammar_making file) files status = Contains unloaded status ⊎ ReadsItsFiles files file
 ReadsFor usage files status = ReadsNothing files
 
 -- a fault of the source is told by the status, but where its text itself could not be made or written

@@ -4,7 +4,7 @@ use Rattle.phpsa_texts.specs.declared.exit.Exit.{Exit}
 use Rattle.phpsa_texts.specs.declared.exit.Exit.TheVariants.{WriteFault, Memory}
 use Rattle.phpsa_texts.specs.Texts.{memory_text, write_fault_text}
 use Rattle.phpsa_tasks.specs.Tasks.{Task, AsksFor}
-use Rattle.phpsa_tasks.specs.Replies.{Replies}
+use Rattle.phpsa_tasks.specs.Replies.{Replies, Halts}
 use Rattle.phpsa_tasks.specs.Causes.{Refuses}
 use Rattle.phpsa_tasks.specs.Call.{Call, Gains, GainsPrefix, GainsNothing, Fails}
 
@@ -18,6 +18,12 @@ pub record OwesReply (call : Call) (status : Exit) (text : List ℕ) : Type 0 wh
 pub data OwesRefusal (call : Call) (status : Exit) (text : List ℕ) : Type 0 where
   of_task : (task : Task) → AsksFor call.words task → Refuses call.files task status text → OwesRefusal call status text
   wants_memory : status ≡ Memory → text ≡ memory_text → OwesRefusal call status text
+
+-- the call has this to leave on `out`, and this to tell on `err`: what the words ask for is a run that does not come to its end
+pub record OwesHalt (call : Call) (status : Exit) (printed text : List ℕ) : Type 0 where
+  pub task : Task
+  pub asked : AsksFor call.words task
+  pub halts : Halts call.files task status printed text
 
 -- the reply is written on `out`
 pub record EndsReplied (call : Call) (status : Exit) : Type 0 where
@@ -33,18 +39,27 @@ pub record EndsRefused (call : Call) (status : Exit) : Type 0 where
   pub out : GainsNothing call.out
   pub err : Gains call.err text
 
+-- what a run printed is written on `out`, and why it does not come to its end on `err`
+pub record EndsHalted (call : Call) (status : Exit) : Type 0 where
+  pub printed : List ℕ
+  pub text : List ℕ
+  pub owed : OwesHalt call status printed text
+  pub out : Gains call.out printed
+  pub err : Gains call.err text
+
 -- the text that is due on `out`, and the one that is due on `err`
 abbrev pub IsDueOnOut : Call → List ℕ → Type 0
-IsDueOnOut call text = (status : Exit) × OwesReply call status text
+IsDueOnOut call text = (status : Exit) × (OwesReply call status text ⊎ ((told : List ℕ) × OwesHalt call status text told))
 
 abbrev pub IsDueOnErr : Call → List ℕ → Type 0
-IsDueOnErr call text = (status : Exit) × OwesRefusal call status text
+IsDueOnErr call text = (status : Exit) × (OwesRefusal call status text ⊎ ((printed : List ℕ) × OwesHalt call status printed text))
 
--- `out` is as it was, or, where it found no memory while a reply was written, has a prefix of the reply
+-- `out` is as it was; or, where it found no memory while a text was written, has a prefix of the text; or has all that a run printed
 abbrev pub KeepsOut : Call → Type 0
-KeepsOut call = GainsNothing call.out ⊎ ((text : List ℕ) × IsDueOnOut call text × GainsPrefix call.out text)
+KeepsOut call = GainsNothing call.out ⊎ (((text : List ℕ) × IsDueOnOut call text × GainsPrefix call.out text)
+    ⊎ ((status : Exit) × (printed : List ℕ) × (told : List ℕ) × OwesHalt call status printed told × Gains call.out printed))
 
--- `out` failed while a reply was written, and `err` holds what it took of the text for that
+-- `out` failed while a text was written, and `err` holds what it took of the text for that
 pub record EndsByOut (call : Call) : Type 0 where
   pub text : List ℕ
   pub due : IsDueOnOut call text
@@ -71,6 +86,7 @@ pub record EndsMemory (call : Call) : Type 0 where
 pub data Ends (call : Call) (status : Exit) : Type 0 where
   replied : EndsReplied call status → Ends call status
   refused : EndsRefused call status → Ends call status
+  halted : EndsHalted call status → Ends call status
   by_out : status ≡ WriteFault → EndsByOut call → Ends call status
   by_err : status ≡ WriteFault → EndsByErr call → Ends call status
   no_memory : status ≡ Memory → EndsMemory call → Ends call status

@@ -4,10 +4,12 @@ use Rattle.phpsa_tasks.specs.Call.{Call}
 use Rattle.phpsa_tasks.specs.Endings.{Ends}
 use Rattle.phpsa_tasks.specs.Answered.{IsAnswered}
 use Rattle.phpsa_tasks.specs.Sound.{IsSound}
+use Rattle.phpsa_tasks.specs.Written.{IsWritten}
 use Rattle.phpsa_tasks.specs.Counted.{IsCounted}
 
 pub record Keeps (call : Call) (status : Exit) : Type 0 where
   pub ends : Ends call status
   pub answered : IsAnswered call status
   pub sound : IsSound call status
+  pub written : IsWritten call status
   pub counted : IsCounted call status

@@ -1,6 +1,7 @@
 pub mod Tasks
 pub mod Views
 pub mod Call
+pub mod Requests
 pub mod Subjects
 pub mod Replies
 pub mod Causes
@@ -9,4 +10,6 @@ pub mod Outcomes
 pub mod Endings
 pub mod Answered
 pub mod Sound
+pub mod Written
 pub mod Keeps
+pub mod Joined

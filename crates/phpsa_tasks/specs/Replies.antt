@@ -1,6 +1,14 @@
--- What a task replies: a status, and a text on `out`.
-use Rattle.std.specs.Prelude.{◌≡◌, ℕ, Bool, true, false, List, length}
+-- What a task replies: a status, and a text on `out`; and what it leaves there where a run does not come to its end, with a text on `err`.
+use Rattle.std.specs.Prelude.{◌≡◌, ◌<◌, ◌⊎◌, ℕ, Bool, true, false, List, [], length, ⊤}
+use Rattle.text_base.specs.declared.numbers.Nt as nt
+use Rattle.cfg_grammar.specs.declared.production.Production.{Production}
+use Rattle.grammar_writing.specs.Text.{grammar_text}
 use Rattle.script_meaning.specs.Programs.{PlainProgram}
+use Rattle.script_meaning.specs.Runs as runs
+use Rattle.script_meaning.specs.Meaning.{Outcome, meaning}
+use Rattle.loose_grammar.specs.Pages.{DerivePages}
+use Rattle.loose_grammar.specs.Refusals.{HasLargeImage}
+use Rattle.loose_grammar.specs.declared.refusal.TheConstants.{ITEM_LIMIT}
 use Rattle.dtd_model.specs.Table.{Table}
 use Rattle.page_model.specs.Valid.{Valid}
 use Rattle.page_goals.specs.declared.goal.Goal.{Goal}
@@ -9,16 +17,17 @@ use Rattle.shown_answers.specs.declared.answer.ShownAnswer.{ShownAnswer}
 use Rattle.shown_answers.specs.Shown.{IsShownAnswer, ShownSaysOfRuns}
 use Rattle.script_maker.specs.Made.{made, IsSize}
 use Rattle.phpsa_texts.specs.declared.exit.Exit.{Exit}
-use Rattle.phpsa_texts.specs.declared.exit.Exit.TheVariants.{Done}
+use Rattle.phpsa_texts.specs.declared.exit.Exit.TheVariants.{Done, Undecided}
+use Rattle.phpsa_texts.specs.declared.exit.Exit.TheVariants as exit
 use Rattle.phpsa_texts.specs.declared.answers.AnswerForm.{AnswerForm}
 use Rattle.phpsa_texts.specs.declared.answers.Conclusion.{Conclusion}
 use Rattle.phpsa_texts.specs.declared.answers.Conclusion.TheVariants as conclusion
 use Rattle.phpsa_texts.specs.declared.answers.PassedCount.TheVariants as passed
-use Rattle.phpsa_texts.specs.Statuses.{conclusion_status, judgment_status}
-use Rattle.phpsa_texts.specs.Texts.{yes_answer, no_answer, passed_answer, summary_text, judgment_text}
+use Rattle.phpsa_texts.specs.Statuses.{conclusion_status, judgment_status, fault_status}
+use Rattle.phpsa_texts.specs.Texts.{yes_answer, no_answer, passed_answer, passed_text, summary_text, judgment_text, fault_text, spent_text, deep_text}
 use Rattle.phpsa_tasks.specs.declared.task.TheConstants.{PAIR_LIMIT}
-use Rattle.phpsa_tasks.specs.Tasks.{Task, script_check, page_check, script_making, made_check, unbuilt, usage}
-use Rattle.phpsa_tasks.specs.Subjects.{Subject, Finds}
+use Rattle.phpsa_tasks.specs.Tasks.{Task, script_check, page_check, script_making, made_check, script_run, grammar_making, usage}
+use Rattle.phpsa_tasks.specs.Subjects.{ProgramFor, Subject, Finds}
 
 -- how a script is decided by each answer for its program, and the text of the answer
 abbrev pub conclusion_of : ShownAnswer → Conclusion
@@ -47,7 +56,42 @@ abbrev pub IsJudged : Table → List ℕ → Bool → Type 0
 IsJudged table page true = Valid table page
 IsJudged table page false = Valid table page → ⊥
 
--- what each task replies of what it speaks of: nothing where it is not built, or nothing is asked for
+-- what a run of a program comes to
+abbrev pub outcome_for : ProgramFor → ℕ → Outcome
+outcome_for subject steps = meaning subject.program subject.request steps
+
+-- the status of a run by its end, and the text on `err` where that is not the end of the script
+abbrev pub end_status : runs.End → Exit
+end_status runs.Ended = Done
+end_status (runs.Faulted fault) = fault_status fault
+end_status runs.Spent = exit.Spent
+end_status runs.Deep = exit.Deep
+
+abbrev pub end_text : ℕ → runs.End → List ℕ
+end_text steps runs.Ended = []
+end_text steps (runs.Faulted fault) = fault_text fault
+end_text steps runs.Spent = spent_text steps
+end_text steps runs.Deep = deep_text
+
+-- a run does not come to the end of the script
+abbrev pub IsEarly : runs.End → Type 0
+IsEarly runs.Ended = ⊥
+IsEarly other = ⊤
+
+-- the text is that of productions that derive exactly the loose pages of a program
+abbrev pub IsGrammarText : PlainProgram → List ℕ → Type 0
+IsGrammarText program text = (productions : List Production) × (start : nt.Nt) × DerivePages program productions start × (text ≡ grammar_text start.0 productions)
+
+-- the image of an operation of a program has so many items, over the limit
+abbrev pub HasManyItems : PlainProgram → ℕ → Type 0
+HasManyItems program count = (ITEM_LIMIT < count) × HasLargeImage program count
+
+-- the grammar of a program is written, or a count is told that was passed
+abbrev pub IsGrammarReply : PlainProgram → Exit → List ℕ → Type 0
+IsGrammarReply program status text =
+    (IsGrammarText program text × (status ≡ Done)) ⊎ ((count : ℕ) × HasManyItems program count × (status ≡ Undecided) × (text ≡ passed_text (passed.Items count)))
+
+-- what each task replies of what it speaks of: a run, where it came to its end; and nothing where nothing is asked for
 abbrev pub IsReplyOf : (task : Task) → Subject task → Exit → List ℕ → Type 0
 IsReplyOf (script_check file document_type goal limit form) subject status text =
     (answer : ShownAnswer) × IsAnswer goal subject.table subject.program limit answer × (status ≡ answer_status answer) × (text ≡ answer_text form answer)
@@ -57,11 +101,25 @@ IsReplyOf (script_making functions) subject status text = IsSize functions × (s
 IsReplyOf (made_check functions) subject status text =
     (answer : ShownAnswer) × IsAnswer Goal.Valid subject.table subject.program PAIR_LIMIT answer × (status ≡ answer_status answer)
     × (text ≡ summary_text functions (length (made functions)) (conclusion_of answer))
-IsReplyOf (unbuilt part) subject status text = ⊥
+IsReplyOf (script_run file request steps) subject status text =
+    ((outcome_for subject steps).end ≡ runs.Ended) × (status ≡ Done) × (text ≡ (outcome_for subject steps).printed)
+IsReplyOf (grammar_making file) subject status text = IsGrammarReply subject status text
 IsReplyOf usage subject status text = ⊥
+
+-- what a run leaves that does not come to the end of the script: its status, what it printed, and the text on `err`
+abbrev pub IsHaltOf : (task : Task) → Subject task → Exit → List ℕ → List ℕ → Type 0
+IsHaltOf (script_run file request steps) subject status printed text = IsEarly (outcome_for subject steps).end × (status ≡ end_status (outcome_for subject steps).end)
+    × (printed ≡ (outcome_for subject steps).printed) × (text ≡ end_text steps (outcome_for subject steps).end)
+IsHaltOf task subject status printed text = ⊥
 
 -- the reply to a task
 pub record Replies (files : SourceCall) (task : Task) (status : Exit) (text : List ℕ) : Type 0 where
   pub subject : Subject task
   pub found : Finds files.content task subject
   pub says : IsReplyOf task subject status text
+
+-- a task that leaves this
+pub record Halts (files : SourceCall) (task : Task) (status : Exit) (printed text : List ℕ) : Type 0 where
+  pub subject : Subject task
+  pub found : Finds files.content task subject
+  pub says : IsHaltOf task subject status printed text

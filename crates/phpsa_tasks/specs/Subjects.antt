@@ -1,14 +1,16 @@
 -- What a task speaks of: a program, or a page, that stands under the name of a file, and the table of a definition.
-use Rattle.std.specs.Prelude.{◌≡◌, ◌≤◌, ℕ, List, length, Option, None, Some, if◌then◌else◌, bytes_eq, codes, ⊤}
+use Rattle.std.specs.Prelude.{◌≡◌, ◌≤◌, ℕ, List, length, None, Some, if◌then◌else◌, bytes_eq, codes, ⊤}
 use Rattle.text_base.specs.declared.limits.TheConstants.{FILE_LIMIT}
 use Rattle.io_edge.specs.Told.{Tells}
 use Rattle.script_meaning.specs.Programs.{PlainProgram}
+use Rattle.script_meaning.specs.Requests.{PlainRequest, Admitted}
 use Rattle.told_programs.specs.Told.{Content, IsLoaded, HoldsProgram, AreShort}
 use Rattle.dtd_model.specs.Table.{Table}
 use Rattle.document_types.specs.DocumentTypes.{NamedType, strict_type, HasTable, NamesAreTold, NamesAreShort, IsTooLarge}
 use Rattle.script_decision.specs.Decision.{HasManyStates}
 use Rattle.script_maker.specs.Made.{made, IsSize}
-use Rattle.phpsa_tasks.specs.Tasks.{Task, script_check, page_check, script_making, made_check, unbuilt, usage}
+use Rattle.phpsa_tasks.specs.Requests.{FindsRequest, HoldsRequest}
+use Rattle.phpsa_tasks.specs.Tasks.{Task, script_check, page_check, script_making, made_check, script_run, grammar_making, usage}
 
 -- a program, and the table of the definition that its pages are held against
 pub record ProgramBy : Type 0 where
@@ -19,6 +21,11 @@ pub record ProgramBy : Type 0 where
 pub record PageBy : Type 0 where
   pub page : List ℕ
   pub table : Table
+
+-- a program, and the request that it is run for
+pub record ProgramFor : Type 0 where
+  pub program : PlainProgram
+  pub request : PlainRequest
 
 -- the name under which a generated script is loaded, and a source that has a file of this name alone: with this text, with so many functions
 abbrev pub made_name : List ℕ
@@ -36,18 +43,21 @@ Subject (script_check file document_type goal limit form) = ProgramBy
 Subject (page_check file document_type) = PageBy
 Subject (script_making functions) = ⊤
 Subject (made_check functions) = ProgramBy
-Subject (unbuilt part) = ⊤
+Subject (script_run file request steps) = ProgramFor
+Subject (grammar_making file) = PlainProgram
 Subject usage = ⊤
 
--- what a task finds, whatever the source tells: under the file's name its program, with all that it includes, or its bytes, and a table of the document type; of a generated
--- script, that it can be made, and its program, by the built-in definition
+-- what a task finds, whatever the source tells: under the file's name its program, with all that it includes, or its bytes, and a table of the document type, or the request
+-- that the program is run for, which is admitted; of a generated script, that it can be made, and its program, by the built-in definition
 abbrev pub Finds : Content → (task : Task) → Subject task → Type 0
 Finds content (script_check file document_type goal limit form) subject = IsLoaded content file subject.program × HasTable content document_type subject.table
 Finds content (page_check file document_type) subject = Tells (content file) (Some subject.page) × HasTable content document_type subject.table
 Finds content (script_making functions) subject = ⊤
 Finds content (made_check functions) subject =
     IsSize functions × IsLoaded (only_made functions) made_name subject.program × HasTable (only_made functions) strict_type subject.table
-Finds content (unbuilt part) subject = ⊤
+Finds content (script_run file request steps) subject =
+    IsLoaded content file subject.program × FindsRequest content request subject.request × Admitted subject.request
+Finds content (grammar_making file) subject = IsLoaded content file subject
 Finds content usage subject = ⊤
 
 -- the source tells of each name that the program reads, and each is within the limit of a file
@@ -72,7 +82,8 @@ Holds content (page_check file document_type) subject = HoldsShortPage content f
 Holds content (script_making functions) subject = ⊤
 Holds content (made_check functions) subject =
     IsSize functions × HoldsShortProgram (only_made functions) made_name subject.program × HoldsTable (only_made functions) strict_type subject.table
-Holds content (unbuilt part) subject = ⊤
+Holds content (script_run file request steps) subject = HoldsShortProgram content file subject.program × HoldsRequest content request subject.request
+Holds content (grammar_making file) subject = HoldsShortProgram content file subject
 Holds content usage subject = ⊤
 
 -- the names that a definition asks for are within the limit of a file, and the definition and its content models within theirs
@@ -87,18 +98,20 @@ IsWithin content (script_check file document_type goal limit form) subject = IsS
 IsWithin content (page_check file document_type) subject = IsSmall content document_type subject.table
 IsWithin content (script_making functions) subject = ⊤
 IsWithin content (made_check functions) subject = IsSmall (only_made functions) strict_type subject.table
-IsWithin content (unbuilt part) subject = ⊤
+IsWithin content (script_run file request steps) subject = ⊤
+IsWithin content (grammar_making file) subject = ⊤
 IsWithin content usage subject = ⊤
 
 -- the document type has a table, within its limits
 abbrev pub HoldsDefinition : Content → NamedType → Type 0
 HoldsDefinition content document_type = (table : Table) × HoldsTable content document_type table × IsSmall content document_type table
 
--- the document type has a table, and under the file's name nothing is found; or there is no generated script of this size
+-- the document type has a table, where there is one to ask for, and under the file's name nothing is found; or there is no generated script of this size
 abbrev pub LacksFile : Content → Task → Type 0
 LacksFile content (script_check file document_type goal limit form) = HoldsDefinition content document_type × ((program : PlainProgram) → IsLoaded content file program → ⊥)
 LacksFile content (page_check file document_type) = HoldsDefinition content document_type × ((page : List ℕ) → Tells (content file) (Some page) → ⊥)
 LacksFile content (script_making functions) = ⊥
 LacksFile content (made_check functions) = IsSize functions → ⊥
-LacksFile content (unbuilt part) = ⊥
+LacksFile content (script_run file request steps) = (program : PlainProgram) → IsLoaded content file program → ⊥
+LacksFile content (grammar_making file) = (program : PlainProgram) → IsLoaded content file program → ⊥
 LacksFile content usage = ⊥

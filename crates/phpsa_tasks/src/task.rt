@@ -5,19 +5,20 @@ ghost use Rattle.command_words.specs.Views.{asked_as};
 ghost use Rattle.phpsa_tasks.specs.Tasks as spec;
 ghost use Rattle.phpsa_tasks.specs.Views.{task_as};
 
-use crate::part::Part;
 use command_words::CommandLine;
 use document_types::DocumentType;
 use page_goals::Goal;
 use phpsa_texts::AnswerForm;
 
-/// The most different sums of the sentences of one nonterminal for which a generated script is decided.
+/// The most different sums of the sentences of one nonterminal for which a generated script is
+/// decided.
 pub const PAIR_LIMIT: u64 = 10_000;
 
 /// What is to be done.
 #[derive(Clone, Copy, Debug)]
 pub enum Task<'a> {
-    /// The script of a file is decided, with all that it includes: by this goal, and with at most so many different sums of the sentences of one nonterminal.
+    /// The script of a file is decided, with all that it includes: by this goal, and with at most
+    /// so many different sums of the sentences of one nonterminal.
     ScriptCheck {
         file: &'a str,
         document_type: DocumentType<'a>,
@@ -38,8 +39,17 @@ pub enum Task<'a> {
     MadeCheck {
         functions: u32,
     },
-    /// What is asked for is not built.
-    Unbuilt(Part),
+    /// The script of a file is run, with all that it includes: for the request of a file, or for
+    /// one of five empty arrays, within so many units.
+    ScriptRun {
+        file: &'a str,
+        request: Option<&'a str>,
+        steps: u64,
+    },
+    /// The grammar of the pages of the script of a file is written.
+    GrammarMaking {
+        file: &'a str,
+    },
     /// The words ask for nothing: the usage is told.
     Usage,
 }
@@ -84,12 +94,20 @@ pub(crate) fn task_of<'a>(line: CommandLine<'a>) -> Task<'a>
             limit: u64::from(limit),
             form: form_of(as_json),
         },
-        CommandLine::Run { .. } => Task::Unbuilt(Part::Run),
+        CommandLine::Run {
+            file,
+            request,
+            steps,
+        } => Task::ScriptRun {
+            file,
+            request,
+            steps: u64::from(steps),
+        },
         CommandLine::Page { file, definition } => Task::PageCheck {
             file,
             document_type: DocumentType::named(definition),
         },
-        CommandLine::Grammar { .. } => Task::Unbuilt(Part::Grammar),
+        CommandLine::Grammar { file } => Task::GrammarMaking { file },
         CommandLine::Make {
             functions,
             is_checked: true,

@@ -1,7 +1,7 @@
 -- The statuses and texts on examples.
 use Rattle.std.proofs.Common.{◌≡◌, ◌++◌, [], ◌∷◌, true, false, codes, refl}
 use Rattle.std.specs.Fmt.{digits}
-use Rattle.phpsa_texts.specs.declared.exit.Exit.TheVariants.{Done, Undecided, Script, Missing, ReadFault, Usage, Dtd, Input}
+use Rattle.phpsa_texts.specs.declared.exit.Exit.TheVariants.{Done, Undecided, Script, Spent, Missing, ReadFault, Usage, Dtd, Input}
 use Rattle.phpsa_texts.specs.declared.answers.AnswerForm.TheVariants.{Plain, Json}
 use Rattle.phpsa_texts.specs.declared.answers.Conclusion.TheVariants as conclusion
 use Rattle.phpsa_texts.specs.declared.answers.PassedCount.TheVariants as passed
@@ -11,8 +11,10 @@ use Rattle.program_files.specs.declared.refusal.ScriptRefusal.TheVariants.{Parse
 use Rattle.program_files.specs.declared.refusal.LoadRefusal.TheVariants as load
 use Rattle.dtd_reader.specs.declared.refusal.DtdRefusal.TheVariants as dtd
 use Rattle.document_types.specs.declared.refusal.DefinitionRefusal.TheVariants as definition
+use Rattle.request_reading.specs.declared.refusal.RequestRefusal.TheVariants as request
+use Rattle.plain_values.specs.declared.fault.Fault.TheVariants as fault
 use Rattle.phpsa_texts.specs.Statuses.{status_of, conclusion_status, judgment_status, load_status, definition_status}
-use Rattle.phpsa_texts.specs.Texts.{yes_answer, no_answer, passed_answer, summary_text, long_text, judgment_text, load_text, file_text, definition_text, states_text, not_built_text, size_text, usage_text, write_fault_text}
+use Rattle.phpsa_texts.specs.Texts.{yes_answer, no_answer, passed_answer, summary_text, long_text, judgment_text, load_text, file_text, definition_text, states_text, request_text, fault_text, spent_text, deep_text, size_text, usage_text, write_fault_text}
 
 a_yes : yes_answer Plain ≡ 121 ∷ 101 ∷ 115 ∷ 10 ∷ []
 a_yes = refl
@@ -96,12 +98,27 @@ many_states : states_text 4097 ≡ codes "phpsa: Dtd Limit 4097" ++ 10 ∷ []
 unfolding digits
 many_states = refl
 
-a_part : not_built_text (codes "run") ≡ codes "phpsa: NotBuilt run" ++ 10 ∷ []
-a_part = refl
+a_stray_text : request_text (request.NotAdmitted (codes "get.q")) ≡ codes "phpsa: NotAdmitted get.q" ++ 10 ∷ []
+a_stray_text = refl
 
 a_size : size_text 1001 ≡ codes "phpsa: Size 1001" ++ 10 ∷ []
 unfolding digits
 a_size = refl
+
+a_float : fault_text fault.Float ≡ codes "phpsa: Fault 1 Float" ++ 10 ∷ []
+unfolding digits
+a_float = refl
+
+no_units : spent_text 100 ≡ codes "phpsa: Spent 100" ++ 10 ∷ []
+unfolding digits
+no_units = refl
+
+a_deep_run : deep_text ≡ codes "phpsa: Deep 256" ++ 10 ∷ []
+unfolding digits
+a_deep_run = refl
+
+no_units_status : status_of Spent ≡ 5
+no_units_status = refl
 
 a_fault : write_fault_text ≡ codes "phpsa: WriteFault" ++ 10 ∷ []
 a_fault = refl

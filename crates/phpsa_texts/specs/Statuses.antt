@@ -1,13 +1,18 @@
 -- The statuses that calls end with; this project's own.
 use Rattle.std.specs.Prelude.{ℕ, Bool, true, false}
 use Rattle.phpsa_texts.specs.declared.exit.Exit.{Exit}
-use Rattle.phpsa_texts.specs.declared.exit.Exit.TheVariants.{Done, No, Undecided, NotBuilt, Script, Missing, ReadFault, WriteFault, Usage, Dtd, Input, Memory}
+use Rattle.phpsa_texts.specs.declared.exit.Exit.TheVariants.{Done, No, Undecided, Script, Spent, Missing, ReadFault, WriteFault, Usage, Dtd, Input, Memory, Deep}
+use Rattle.phpsa_texts.specs.declared.exit.Exit.TheVariants as exit
+use Rattle.plain_values.specs.declared.fault.Fault.{Fault}
+use Rattle.plain_values.specs.declared.fault.Fault.TheVariants as fault
 use Rattle.phpsa_texts.specs.declared.answers.Conclusion.{Conclusion}
 use Rattle.phpsa_texts.specs.declared.answers.Conclusion.TheVariants as conclusion
 use Rattle.program_files.specs.declared.refusal.LoadRefusal.{LoadRefusal}
 use Rattle.program_files.specs.declared.refusal.LoadRefusal.TheVariants as load
 use Rattle.io_edge.specs.declared.files.FileFault.{FileFault}
 use Rattle.io_edge.specs.declared.files.FileFault.TheVariants as file
+use Rattle.request_reading.specs.declared.refusal.RequestRefusal.{RequestRefusal}
+use Rattle.request_reading.specs.declared.refusal.RequestRefusal.TheVariants as request
 use Rattle.dtd_reader.specs.declared.refusal.DtdRefusal.{DtdRefusal}
 use Rattle.dtd_reader.specs.declared.refusal.DtdRefusal.TheVariants as dtd
 use Rattle.document_types.specs.declared.refusal.DefinitionRefusal.{DefinitionRefusal}
@@ -18,8 +23,9 @@ abbrev pub status_of : Exit → ℕ
 status_of Done = 0
 status_of No = 1
 status_of Undecided = 2
-status_of NotBuilt = 3
 status_of Script = 3
+status_of exit.Fault = 4
+status_of Spent = 5
 status_of Missing = 6
 status_of ReadFault = 7
 status_of WriteFault = 8
@@ -27,6 +33,7 @@ status_of Usage = 9
 status_of Dtd = 10
 status_of Input = 11
 status_of Memory = 12
+status_of Deep = 13
 
 -- where a script is decided
 abbrev pub conclusion_status : Conclusion → Exit
@@ -38,6 +45,11 @@ conclusion_status conclusion.Undecided = Undecided
 abbrev pub judgment_status : Bool → Exit
 judgment_status true = Done
 judgment_status false = No
+
+-- where a run has met a fault; want of memory is told as that
+abbrev pub fault_status : Fault → Exit
+fault_status fault.Memory = Memory
+fault_status other = exit.Fault
 
 -- where a program is not loaded
 abbrev pub load_status : LoadRefusal → Exit
@@ -58,6 +70,11 @@ file_status file.Missing = Missing
 file_status file.Failed = ReadFault
 file_status (file.TooLong len) = Input
 file_status file.Memory = Memory
+
+-- where a file holds no request
+abbrev pub request_status : RequestRefusal → Exit
+request_status request.Memory = Memory
+request_status other = Input
 
 -- where files spell no definition
 abbrev pub dtd_status : DtdRefusal → Exit

@@ -11,10 +11,14 @@ use Rattle.program_files.specs.declared.refusal.LoadRefusal.{LoadRefusal}
 use Rattle.program_files.specs.declared.refusal.LoadRefusal.TheVariants as load
 use Rattle.io_edge.specs.declared.files.FileFault.{FileFault}
 use Rattle.io_edge.specs.declared.files.FileFault.TheVariants as file
+use Rattle.request_reading.specs.declared.refusal.RequestRefusal.{RequestRefusal}
+use Rattle.request_reading.specs.declared.refusal.RequestRefusal.TheVariants as request
 use Rattle.dtd_reader.specs.declared.refusal.DtdRefusal.{DtdRefusal}
 use Rattle.dtd_reader.specs.declared.refusal.DtdRefusal.TheVariants as dtd
 use Rattle.document_types.specs.declared.refusal.DefinitionRefusal.{DefinitionRefusal}
 use Rattle.document_types.specs.declared.refusal.DefinitionRefusal.TheVariants as definition
+use Rattle.plain_values.specs.declared.fault.Fault.{Fault}
+use Rattle.plain_values.specs.declared.fault.Fault.TheVariants as fault
 use Rattle.json_answers.specs.JsonAnswers.{yes_json, no_json, sums_json, items_json}
 use Rattle.phpsa_texts.specs.declared.exit.Exit.{Exit}
 use Rattle.phpsa_texts.specs.declared.message.Message.{Message}
@@ -144,6 +148,13 @@ file_text file.Failed name = named_text (codes "ReadFault") name
 file_text (file.TooLong len) name = counted_text (codes "TooLong") name len
 file_text file.Memory name = memory_text
 
+-- on `err`, where a file holds no request: with the path to a text or a name that is not admitted
+abbrev pub request_text : RequestRefusal → List ℕ
+request_text request.NotJson = codes "phpsa: NotJson" ++ 10 ∷ []
+request_text request.NotRequest = codes "phpsa: NotRequest" ++ 10 ∷ []
+request_text (request.NotAdmitted path) = named_text (codes "NotAdmitted") path
+request_text request.Memory = memory_text
+
 -- on `err`, for a definition in files: with the name of the file where one is not read
 abbrev pub dtd_refusal_text : DtdRefusal → List ℕ
 dtd_refusal_text (dtd.Missing name) = named_text (codes "Missing") name
@@ -176,9 +187,47 @@ states_text count = dtd_text (codes "Limit") (decimal count)
 abbrev pub long_text : List ℕ → List ℕ
 long_text file = named_text (codes "LongText") file
 
--- on `err`, where what has this name is not built
-abbrev pub not_built_text : List ℕ → List ℕ
-not_built_text name = named_text (codes "NotBuilt") name
+-- the number and the name of a fault of a run
+abbrev pub fault_number : Fault → ℕ
+fault_number fault.Float = 1
+fault_number fault.NotNumber = 2
+fault_number fault.BadIndex = 3
+fault_number fault.Compare = 4
+fault_number fault.Full = 5
+fault_number fault.NotUtf8 = 6
+fault_number fault.ZeroDivisor = 7
+fault_number fault.WrongType = 8
+fault_number fault.Long = 9
+fault_number fault.Memory = 0
+
+abbrev pub fault_kind : Fault → List ℕ
+fault_kind fault.Float = codes "Float"
+fault_kind fault.NotNumber = codes "NotNumber"
+fault_kind fault.BadIndex = codes "BadIndex"
+fault_kind fault.Compare = codes "Compare"
+fault_kind fault.Full = codes "Full"
+fault_kind fault.NotUtf8 = codes "NotUtf8"
+fault_kind fault.ZeroDivisor = codes "ZeroDivisor"
+fault_kind fault.WrongType = codes "WrongType"
+fault_kind fault.Long = codes "Long"
+fault_kind fault.Memory = codes "Memory"
+
+-- `phpsa: Fault NUMBER KIND`
+abbrev pub numbered_fault : ℕ → List ℕ → List ℕ
+numbered_fault number kind = codes "phpsa: Fault " ++ decimal number ++ codes " " ++ kind ++ 10 ∷ []
+
+-- on `err`, where a run has met a fault
+abbrev pub fault_text : Fault → List ℕ
+fault_text fault.Memory = memory_text
+fault_text other = numbered_fault (fault_number other) (fault_kind other)
+
+-- on `err`, where a run had none of so many units left
+abbrev pub spent_text : ℕ → List ℕ
+spent_text steps = named_text (codes "Spent") (decimal steps)
+
+-- on `err`, where a run would have had one more call open at once than 256
+abbrev pub deep_text : List ℕ
+deep_text = named_text (codes "Deep") (decimal 256)
 
 -- on `err`, where a script cannot have so many functions
 abbrev pub size_text : ℕ → List ℕ

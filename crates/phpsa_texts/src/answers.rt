@@ -57,7 +57,8 @@ impl Conclusion {
 /// A stated count that was passed.
 #[derive(Clone, Copy, Debug, PartialEq, Eq)]
 pub enum PassedCount {
-    /// Of the different sums of the sentences of one nonterminal, by derivations of at most this height.
+    /// Of the different sums of the sentences of one nonterminal, by derivations of at most this
+    /// height.
     Pairs { count: u64, height: u64 },
     /// Of the unmatched tags of a sentence, by a derivation of at most this height.
     Tags { count: u64, height: u64 },
@@ -79,7 +80,8 @@ pub fn yes_message(alloc: Global, form: AnswerForm) -> Result<Message, NoMemory>
     })
 }
 
-/// That a script may print a page that is not good: the length that is shown of it, and its first bytes.
+/// That a script may print a page that is not good: the length that is shown of it, and its first
+/// bytes.
 pub fn no_message(
     alloc: Global,
     form: AnswerForm,
@@ -190,7 +192,8 @@ pub fn summary_message(
     bytes: u64,
     answer: Conclusion,
 ) -> Result<Message, NoMemory>
-    ensures { IfOk result (λ message. Says message (conclusion_status answer) (summary_text functions bytes answer)) }
+    ensures { IfOk result
+        (λ message. Says message (conclusion_status answer) (summary_text functions bytes answer)) }
 {
     let text = summary_text(alloc, functions, bytes, answer)?;
     Ok(Message {
@@ -201,7 +204,8 @@ pub fn summary_message(
 
 /// Whether a page is valid.
 pub fn judgment_message(alloc: Global, is_valid: bool) -> Result<Message, NoMemory>
-    ensures { IfOk result (λ message. Says message (judgment_status is_valid) (judgment_text is_valid)) }
+    ensures { IfOk result
+        (λ message. Says message (judgment_status is_valid) (judgment_text is_valid)) }
 {
     let (status, text) = if is_valid {
         (Exit::Done, b"valid\n".as_slice())

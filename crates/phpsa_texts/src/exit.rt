@@ -3,20 +3,25 @@
 ghost use Rattle.std.specs.Prelude.{◌≡◌};
 ghost use Rattle.phpsa_texts.specs.Statuses.{status_of};
 
-/// How a call ended: a variant for each status, and two for the status 3.
+/// How a call ended: a variant for each status.
 #[derive(Clone, Copy, Debug, PartialEq, Eq)]
 pub enum Exit {
-    /// 0: every loose page is good, or the page is valid, or the script is written.
+    /// 0: every loose page is good, or the page is valid, or the script or the grammar is written,
+    /// or the run has come to its end.
     Done,
     /// 1: a loose page is not good, or the page is not valid.
     No,
     /// 2: a stated count was passed, and the script is not decided.
     Undecided,
-    /// 3: what the words ask for is not built.
-    NotBuilt,
-    /// 3: a file is no script of the language, or too deep, or includes itself, or a rule on functions is broken.
+    /// 3: a file is no script of the language, or too deep, or includes itself, or a rule on
+    /// functions is broken.
     Script,
-    /// 6: there is no file of this name, or none of a name that the script includes or the definition asks for.
+    /// 4: the run has met a fault.
+    Fault,
+    /// 5: the run had no unit left.
+    Spent,
+    /// 6: there is no file of this name, or none of a name that the script includes or the
+    /// definition asks for.
     Missing,
     /// 7: the source of the files failed.
     ReadFault,
@@ -26,10 +31,13 @@ pub enum Exit {
     Usage,
     /// 10: there is no document type definition, or it is over a limit.
     Dtd,
-    /// 11: a file is over the limit of 1,048,576 bytes, the program is too large, a text in it is too long, or a script cannot have so many functions.
+    /// 11: a file is over the limit of 1,048,576 bytes, the program is too large, a text in it is
+    /// too long, a file holds no request, or a script cannot have so many functions.
     Input,
     /// 12: no memory was left.
     Memory,
+    /// 13: the run would have had 257 calls open at once.
+    Deep,
 }
 
 impl Exit {
@@ -41,8 +49,9 @@ impl Exit {
             Exit::Done => 0,
             Exit::No => 1,
             Exit::Undecided => 2,
-            Exit::NotBuilt => 3,
             Exit::Script => 3,
+            Exit::Fault => 4,
+            Exit::Spent => 5,
             Exit::Missing => 6,
             Exit::ReadFault => 7,
             Exit::WriteFault => 8,
@@ -50,6 +59,7 @@ impl Exit {
             Exit::Dtd => 10,
             Exit::Input => 11,
             Exit::Memory => 12,
+            Exit::Deep => 13,
         }
     }
 }

@@ -1,14 +1,16 @@
-//! Of a page that is not read, of a script that has a long text or is not made, of what is not built, and of words that ask for nothing.
+//! Of a page that is not read, of a script that has a long text or is not made, of a file that
+//! holds no request, and of words that ask for nothing.
 
 ghost use Rattle.std.specs.Prelude.{◌≡◌, IfOk};
-ghost use Rattle.phpsa_texts.specs.Statuses.{file_status};
-ghost use Rattle.phpsa_texts.specs.Texts.{IsTold, file_text, long_text, not_built_text, size_text, usage_text};
-ghost use Rattle.phpsa_texts.specs.declared.exit.Exit.TheVariants.{Input, NotBuilt, Usage};
+ghost use Rattle.phpsa_texts.specs.Statuses.{file_status, request_status};
+ghost use Rattle.phpsa_texts.specs.Texts.{IsTold, file_text, long_text, request_text, size_text, usage_text};
+ghost use Rattle.phpsa_texts.specs.declared.exit.Exit.TheVariants.{Input, Usage};
 
 use crate::exit::Exit;
 use crate::lines::{NO_MEMORY, count_text, counted_text, named_text};
 use crate::message::{Message, Refusal};
 use io_edge::FileFault;
+use request_reading::RequestRefusal;
 use std::alloc::Global;
 use text_base::{Bytes, NoMemory};
 
@@ -60,13 +62,34 @@ pub fn long_text_refusal(alloc: Global, file: &[u8]) -> Refusal
     }
 }
 
-/// That the part of the program that this word names is not built.
-pub fn not_built_refusal(alloc: Global, name: &[u8]) -> Refusal
-    ensures { IsTold result NotBuilt (not_built_text name.now) }
+fn request_text(alloc: Global, refusal: &RequestRefusal) -> Result<Bytes, NoMemory>
+    ensures { IfOk result (λ text. text ≡ request_text refusal.now) }
 {
-    match named_text(alloc, b"NotBuilt", name) {
+    match refusal {
+        RequestRefusal::NotJson => Bytes::from_slice(alloc, b"phpsa: NotJson\n"),
+        RequestRefusal::NotRequest => Bytes::from_slice(alloc, b"phpsa: NotRequest\n"),
+        RequestRefusal::NotAdmitted { path } => named_text(alloc, b"NotAdmitted", path.as_slice()),
+        RequestRefusal::Memory => Bytes::from_slice(alloc, NO_MEMORY),
+    }
+}
+
+fn request_status(refusal: &RequestRefusal) -> Exit
+    ensures { result ≡ request_status refusal.now }
+{
+    match refusal {
+        RequestRefusal::NotJson | RequestRefusal::NotRequest => Exit::Input,
+        RequestRefusal::NotAdmitted { .. } => Exit::Input,
+        RequestRefusal::Memory => Exit::Memory,
+    }
+}
+
+/// Why a file holds no request.
+pub fn request_refusal(alloc: Global, refusal: &RequestRefusal) -> Refusal
+    ensures { IsTold result (request_status refusal.now) (request_text refusal.now) }
+{
+    match request_text(alloc, refusal) {
         Ok(text) => Refusal::Told(Message {
-            status: Exit::NotBuilt,
+            status: request_status(refusal),
             text,
         }),
         Err(NoMemory) => Refusal::Memory,

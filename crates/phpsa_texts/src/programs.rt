@@ -48,7 +48,8 @@ fn parsed(refusal: ParseRefusal) -> (&'static [u8], u64)
     }
 }
 
-/// What is wrong with a script: its name, and the place or the length that is written behind the name of the file.
+/// What is wrong with a script: its name, and the place or the length that is written behind the
+/// name of the file.
 fn said_of(refusal: ScriptRefusal) -> (&'static [u8], u64)
     ensures name { result.0.now ≡ (said_of refusal).0 }
     ensures number { result.1 ≡ (said_of refusal).1 }
@@ -60,7 +61,8 @@ fn said_of(refusal: ScriptRefusal) -> (&'static [u8], u64)
 }
 
 fn script_text(alloc: Global, name: &[u8], refusal: ScriptRefusal) -> Result<Bytes, NoMemory>
-    ensures { IfOk result (λ text. text ≡ counted_text (said_of refusal).0 name.now (said_of refusal).1) }
+    ensures { IfOk result
+        (λ text. text ≡ counted_text (said_of refusal).0 name.now (said_of refusal).1) }
 {
     let (kind, number) = said_of(refusal);
     counted_text(alloc, kind, name, number)

@@ -13,14 +13,15 @@ use system_writing::write_system;
 use text_base::NoMemory;
 
 /// The system whose first nonterminals have exactly the sets of the table, and its operations in
-/// cycles. It has at most 32 nonterminals beside the sets and the bytes of the texts, and at most 65
-/// productions and rules beside the rows and these bytes. The time is linear in the table.
+/// cycles. It has at most 32 nonterminals beside the sets and the bytes of the texts, and at most
+/// 65 productions and rules beside the rows and these bytes. The time is linear in the table.
 pub fn plain_system(alloc: Global, table: &SetTable) -> Result<OpSystem, NoMemory>
     ensures sets { IfOk result (λ s. HasSets (cells_of table.now.rows.items) table.now.count
         s.grammar.productions.items s.ops.items) }
     ensures cycles { IfOk result (λ s. HasCycles (cells_of table.now.rows.items) table.now.count
         s.grammar.productions.items s.ops.items) }
-    ensures rules { IfOk result (λ s. AreOfRows (cells_of table.now.rows.items) table.now.count s.ops.items) }
+    ensures rules { IfOk result
+        (λ s. AreOfRows (cells_of table.now.rows.items) table.now.count s.ops.items) }
     ensures start { IfOk result (λ s. s.start.0 ≡ table.now.start) }
     ensures numbers { IfOk result (λ s. s.grammar.count
         ≤ table.now.count + 32 + bytes_in table.now.rows.items) }

@@ -7,4 +7,5 @@ pub mod SignLemmas
 pub mod NumberLemmas
 pub mod NumericLaws
 mod Examples
-mod IdentityLemmas
+pub mod IdentityLemmas
+pub mod SameKeys

@@ -11,7 +11,8 @@ ghost use Rattle.plain_values.specs.Grammar.{IsIntegerText, IsFloatText};
 /// The texts that read as integers are the integer texts of the manual's grammar with a number in
 /// range, and those that read as floats are its float texts and its other integer texts.
 pub fn numeric_texts()
-    ensures integer { (text : List ℕ) (z : ℤ) → (numeric text ≡ Integer z) ↔ (IsIntegerText text z × (is_in_range z ≡ true)) }
+    ensures integer { (text : List ℕ) (z : ℤ)
+        → (numeric text ≡ Integer z) ↔ (IsIntegerText text z × (is_in_range z ≡ true)) }
     ensures float { (text : List ℕ) → (numeric text ≡ Float) ↔ (IsFloatText text
         ⊎ ((z : ℤ) × IsIntegerText text z × (is_in_range z ≡ false))) }
 {}

@@ -107,7 +107,8 @@ fn is_numeral(digits: &[u8]) -> bool
 
 // What stands before and after the first dot.
 fn around_dot(text: &[u8]) -> Option<(&[u8], &[u8])>
-    ensures { MatchOption result (IsWhole spec.is_dot text.now) (λ parts. AreAround spec.is_dot text.now parts.0.now parts.1.now) }
+    ensures { MatchOption result (IsWhole spec.is_dot text.now)
+        (λ parts. AreAround spec.is_dot text.now parts.0.now parts.1.now) }
 {
     match dot_in(text) {
         None => None,

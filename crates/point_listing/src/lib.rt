@@ -1,6 +1,7 @@
-//! The forms of the sets that belong to points, to versions of slots and to functions, in memory. The contracts cite the lists of set_listing (Points,
-//! Printed) and version_listing (Versions, Functions); one function has one list, and puts its forms behind others. Below stand text_base, op_system,
-//! flow_code, set_names, told_keys and source_listing.
+//! The forms of the sets that belong to points, to versions of slots and to functions, in memory.
+//! The contracts cite the lists of set_listing (Points, Printed) and version_listing (Versions,
+//! Functions); one function has one list, and puts its forms behind others. Below stand text_base,
+//! op_system, flow_code, set_names, told_keys and source_listing.
 #![tactic(auto)]
 
 mod parts;

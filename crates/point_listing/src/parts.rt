@@ -1,4 +1,5 @@
-//! What a point works on: the source to which it sets its slot, and the slots that the source joins, or whose texts it changes.
+//! What a point works on: the source to which it sets its slot, and the slots that the source
+//! joins, or whose texts it changes.
 
 ghost use Rattle.std.specs.Prelude.{◌≡◌, ◌∷◌, map, Some, None, MatchOption};
 ghost use Rattle.flow_code.specs.View.{plain_point, plain_source, slot_number, maybe_slot};
@@ -35,7 +36,8 @@ pub(crate) fn source_at(point: &FlowPoint) -> Option<&Source>
 #[tactic(auto, unfolding(set_listing::specs::Points::joined_slots))]
 pub(crate) fn joined_slots(source: &Source) -> Option<&[Slot]>
     ensures { MatchOption result (points.joined_slots (Some (plain_source source.now)) ≡ None)
-        (λ parts. points.joined_slots (Some (plain_source source.now)) ≡ Some (map slot_number parts.now)) }
+        (λ parts. points.joined_slots (Some (plain_source source.now))
+        ≡ Some (map slot_number parts.now)) }
 {
     match source {
         Source::Concat(parts) => Some(parts.as_slice()),
@@ -58,7 +60,8 @@ pub(crate) fn joined_slots(source: &Source) -> Option<&[Slot]>
 #[tactic(auto, unfolding(set_listing::specs::Points::imploded_slots))]
 pub(crate) fn imploded_slots(source: &Source) -> Option<(Slot, Slot)>
     ensures { MatchOption result (points.imploded_slots (Some (plain_source source.now)) ≡ None)
-        (λ slots. points.imploded_slots (Some (plain_source source.now)) ≡ Some (slots.0.0, slots.1.0)) }
+        (λ slots. points.imploded_slots (Some (plain_source source.now))
+        ≡ Some (slots.0.0, slots.1.0)) }
 {
     match source {
         Source::Implode { sep, from, .. } => Some((*sep, *from)),
@@ -77,7 +80,8 @@ pub(crate) fn imploded_slots(source: &Source) -> Option<(Slot, Slot)>
     }
 }
 
-/// The operation of a source, and the slots whose texts it reads: the text that it changes, and the replacement where it reads that too.
+/// The operation of a source, and the slots whose texts it reads: the text that it changes, and the
+/// replacement where it reads that too.
 #[derive(Clone, Copy)]
 pub(crate) struct Operation<'a> {
     pub op: &'a Op,
@@ -124,7 +128,8 @@ fn replaced_by(op: &Op, args: &[Slot]) -> Option<Slot>
 #[tactic(auto, unfolding(set_listing::specs::Points::operation_of))]
 pub(crate) fn operation_of(source: &Source) -> Option<Operation<'_>>
     ensures { MatchOption result (points.operation_of (Some (plain_source source.now)) ≡ None)
-        (λ work. points.operation_of (Some (plain_source source.now)) ≡ Some (work.op.now, work.from.0 ∷ listed (maybe_slot work.with))) }
+        (λ work. points.operation_of (Some (plain_source source.now))
+        ≡ Some (work.op.now, work.from.0 ∷ listed (maybe_slot work.with))) }
 {
     match source {
         Source::Apply { op, from, args, .. } => Some(Operation {

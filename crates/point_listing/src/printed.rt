@@ -14,7 +14,8 @@ use text_base::{NoMemory, Point, Slot};
 
 // Goes on at a point.
 fn push_onward(forms: &mut Vec<NamedForm>, next: Point, leaving: Leaving) -> Result<(), NoMemory>
-    ensures { OnOk result (Adds forms.old.items forms.new.items (printed.onward leaving next.0 ∷ [])) }
+    ensures { OnOk result
+        (Adds forms.old.items forms.new.items (printed.onward leaving next.0 ∷ [])) }
 {
     push_form(forms, NamedForm::Same(SetName::Out(next.0, leaving)))
 }
@@ -37,7 +38,8 @@ fn push_on_exit(
     form: NamedForm,
     leaving: Leaving,
 ) -> Result<(), NoMemory>
-    ensures { OnOk result (Adds forms.old.items forms.new.items (printed.on_exit (form_seen form) leaving)) }
+    ensures { OnOk result
+        (Adds forms.old.items forms.new.items (printed.on_exit (form_seen form) leaving)) }
 {
     match leaving {
         Leaving::Return => Ok(()),
@@ -55,7 +57,8 @@ fn push_quit(
     leaving: Leaving,
 ) -> Result<(), NoMemory>
     ensures { OnOk result (Adds forms.old.items forms.new.items
-        (printed.on_exit (printed.quit_form (at_of place.now) place.now.point (maybe_slot slot)) leaving)) }
+        (printed.on_exit (printed.quit_form (at_of place.now) place.now.point (maybe_slot slot))
+        leaving)) }
 {
     match leaving {
         Leaving::Return => Ok(()),
@@ -69,7 +72,8 @@ fn push_quit(
 /// The function of a number, if there is one. In constant time.
 fn function_of(functions: &[FlowFunction], number: u64) -> Option<&FlowFunction>
     ensures { MatchOption result (slice_get (map plain_flow_function functions.now) number ≡ None)
-        (λ function. slice_get (map plain_flow_function functions.now) number ≡ Some (plain_flow_function function.now)) }
+        (λ function. slice_get (map plain_flow_function functions.now) number
+        ≡ Some (plain_flow_function function.now)) }
 {
     functions.get(number as usize)
 }
@@ -84,7 +88,8 @@ fn push_call(
     leaving: Leaving,
 ) -> Result<(), NoMemory>
     ensures { OnOk result (Adds forms.old.items forms.new.items
-        (printed.call_forms next.0 leaving (slice_get (map plain_flow_function functions.now) function))) }
+        (printed.call_forms next.0 leaving
+        (slice_get (map plain_flow_function functions.now) function))) }
 {
     let Some(called) = function_of(functions, function) else {
         return Ok(());
@@ -109,7 +114,8 @@ pub fn push_out(
     leaving: Leaving,
 ) -> Result<(), NoMemory>
     ensures { OnOk result (Adds forms.old.items forms.new.items
-        (printed.out_forms (map plain_flow_function functions.now) (at_of place.now) place.now.point (plain_point point.now) leaving)) }
+        (printed.out_forms (map plain_flow_function functions.now) (at_of place.now) place.now.point
+        (plain_point point.now) leaving)) }
 {
     match point {
         FlowPoint::Call { function, next, .. } => {

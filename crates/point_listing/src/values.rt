@@ -15,7 +15,8 @@ use text_base::{NoMemory, Slot};
 // A member where a walk stands.
 #[tactic(auto, unfolding(set_listing::specs::Points::walk_forms))]
 fn walked(place: &Place<'_>, from: Slot, aspect: Aspect) -> NamedForm
-    ensures { form_seen result ∷ [] ≡ points.walk_forms (at_of place.now) place.now.point from.0 aspect }
+    ensures { form_seen result ∷ []
+        ≡ points.walk_forms (at_of place.now) place.now.point from.0 aspect }
 {
     match aspect {
         Aspect::Own(half) => place.all_used(half, from),
@@ -35,7 +36,8 @@ pub fn push_value(
     aspect: Aspect,
 ) -> Result<(), NoMemory>
     ensures { OnOk result (Adds forms.old.items forms.new.items
-        (points.value_forms (told_of place.now) (at_of place.now) place.now.point (plain_point point.now) aspect)) }
+        (points.value_forms (told_of place.now) (at_of place.now) place.now.point
+        (plain_point point.now) aspect)) }
 {
     match point {
         FlowPoint::Set { source, .. } => push_source(alloc, forms, place, source, aspect),

@@ -62,7 +62,8 @@ pub fn push_link(
     aspect: Aspect,
     version: SetVersion,
 ) -> Result<(), NoMemory>
-    ensures { OnOk result (Adds forms.old.items forms.new.items (spec.link_form aspect version ∷ [])) }
+    ensures { OnOk result
+        (Adds forms.old.items forms.new.items (spec.link_form aspect version ∷ [])) }
 {
     push_form(forms, NamedForm::Same(SetName::Value(aspect, version)))
 }
@@ -85,7 +86,8 @@ pub fn push_pairs(
     Ok(())
 }
 
-/// A slot at the entry of a function: what is handed in for it by pairs of a point and a slot, and null where it is no parameter.
+/// A slot at the entry of a function: what is handed in for it by pairs of a point and a slot, and
+/// null where it is no parameter.
 #[tactic(auto, using(source_listing::proofs::PlaceLemmas::ends), unfolding(set_listing::specs::Uses::where_so))]
 pub fn push_entry(
     alloc: Global,

@@ -24,7 +24,8 @@ fn push_joined_parts(
     number: u64,
 ) -> Result<(), NoMemory>
     ensures { OnOk result (Adds forms.old.items forms.new.items
-        (points.joined_from_place (at_of place.now) place.now.point number (length (map slot_number parts.now)) (slice_get (map slot_number parts.now) number))) }
+        (points.joined_from_place (at_of place.now) place.now.point number
+        (length (map slot_number parts.now)) (slice_get (map slot_number parts.now) number))) }
 {
     match parts.get(number as usize) {
         Some(slot) => {
@@ -51,7 +52,8 @@ pub fn push_joined(
     number: u64,
 ) -> Result<(), NoMemory>
     ensures { OnOk result (Adds forms.old.items forms.new.items
-        (points.joined_forms (at_of place.now) place.now.point (points.joined_slots (points.source_at (plain_point point.now))) number)) }
+        (points.joined_forms (at_of place.now) place.now.point
+        (points.joined_slots (points.source_at (plain_point point.now))) number)) }
 {
     let Some(source) = source_at(point) else {
         return Ok(());
@@ -65,8 +67,10 @@ pub fn push_joined(
 // The slots that the source of a point joins, a separator and an array.
 #[tactic(auto, unfolding(set_listing::specs::Points::imploded_slots))]
 fn imploded_at(point: &FlowPoint) -> Option<(Slot, Slot)>
-    ensures { MatchOption result (points.imploded_slots (points.source_at (plain_point point.now)) ≡ None)
-        (λ slots. points.imploded_slots (points.source_at (plain_point point.now)) ≡ Some (slots.0.0, slots.1.0)) }
+    ensures { MatchOption result
+        (points.imploded_slots (points.source_at (plain_point point.now)) ≡ None)
+        (λ slots. points.imploded_slots (points.source_at (plain_point point.now))
+        ≡ Some (slots.0.0, slots.1.0)) }
 {
     match source_at(point) {
         Some(source) => imploded_slots(source),
@@ -83,7 +87,8 @@ pub fn push_piece(
     point: &FlowPoint,
 ) -> Result<(), NoMemory>
     ensures { OnOk result (Adds forms.old.items forms.new.items
-        (points.piece_forms (at_of place.now) place.now.point (points.imploded_slots (points.source_at (plain_point point.now))))) }
+        (points.piece_forms (at_of place.now) place.now.point
+        (points.imploded_slots (points.source_at (plain_point point.now))))) }
 {
     let Some((_, from)) = imploded_at(point) else {
         return Ok(());
@@ -104,7 +109,8 @@ pub fn push_further(
     point: &FlowPoint,
 ) -> Result<(), NoMemory>
     ensures { OnOk result (Adds forms.old.items forms.new.items
-        (points.further_forms (at_of place.now) place.now.point (points.imploded_slots (points.source_at (plain_point point.now))))) }
+        (points.further_forms (at_of place.now) place.now.point
+        (points.imploded_slots (points.source_at (plain_point point.now))))) }
 {
     let Some((separator, _)) = imploded_at(point) else {
         return Ok(());
@@ -122,7 +128,8 @@ pub fn push_any_further(
     point: &FlowPoint,
 ) -> Result<(), NoMemory>
     ensures { OnOk result (Adds forms.old.items forms.new.items
-        (points.any_further_forms number (points.imploded_slots (points.source_at (plain_point point.now))))) }
+        (points.any_further_forms number
+        (points.imploded_slots (points.source_at (plain_point point.now))))) }
 {
     let Some(_) = imploded_at(point) else {
         return Ok(());
@@ -138,8 +145,10 @@ pub fn push_any_further(
 // The operation of the source of a point.
 #[tactic(auto, unfolding(set_listing::specs::Points::operation_of))]
 fn operation_at(point: &FlowPoint) -> Option<Operation<'_>>
-    ensures { MatchOption result (points.operation_of (points.source_at (plain_point point.now)) ≡ None)
-        (λ work. points.operation_of (points.source_at (plain_point point.now)) ≡ Some (work.op.now, work.from.0 ∷ listed (maybe_slot work.with))) }
+    ensures { MatchOption result
+        (points.operation_of (points.source_at (plain_point point.now)) ≡ None)
+        (λ work. points.operation_of (points.source_at (plain_point point.now))
+        ≡ Some (work.op.now, work.from.0 ∷ listed (maybe_slot work.with))) }
 {
     match source_at(point) {
         Some(source) => operation_of(source),
@@ -155,7 +164,8 @@ pub fn push_inputs(
     point: &FlowPoint,
 ) -> Result<(), NoMemory>
     ensures { OnOk result (Adds forms.old.items forms.new.items
-        (points.input_forms (at_of place.now) place.now.point (points.operation_of (points.source_at (plain_point point.now))))) }
+        (points.input_forms (at_of place.now) place.now.point
+        (points.operation_of (points.source_at (plain_point point.now))))) }
 {
     let Some(work) = operation_at(point) else {
         return Ok(());
@@ -176,7 +186,8 @@ pub fn push_outputs(
     point: &FlowPoint,
 ) -> Result<(), NoMemory>
     ensures { OnOk result (Adds forms.old.items forms.new.items
-        (points.output_forms number (points.operation_of (points.source_at (plain_point point.now))))) }
+        (points.output_forms number
+        (points.operation_of (points.source_at (plain_point point.now))))) }
 {
     let Some(work) = operation_at(point) else {
         return Ok(());

@@ -33,7 +33,8 @@ fn put_functions<'a>(
     functions: &'a [FlowFunction],
 ) -> Result<(), NoMemory>
     ensures { OnOk result (map (λ r. plain_point r.now) row.new.items
-        ≡ map (λ r. plain_point r.now) row.old.items ++ points_in (map plain_flow_function functions.now)) }
+        ≡ map (λ r. plain_point r.now) row.old.items
+        ++ points_in (map plain_flow_function functions.now)) }
 {
     for function in functions {
         put_points(row, &function.points)?;
@@ -46,7 +47,8 @@ impl<'a> PointRow<'a> {
 
     /// The points of a program. Linear in the program.
     pub fn new(alloc: Global, flow: &'a FlowProgram) -> Result<PointRow<'a>, NoMemory>
-        ensures { IfOk result (λ row. points_seen row ≡ points_in (plain_flow flow.now).functions_of) }
+        ensures { IfOk result
+            (λ row. points_seen row ≡ points_in (plain_flow flow.now).functions_of) }
     {
         let mut points = Vec::new(alloc);
         put_functions(&mut points, &flow.functions)?;

@@ -108,7 +108,8 @@ fn positions_in(parts: &[Particle]) -> Result<usize, NoMemory>
 #[cycle(beginning)]
 #[tactic(auto, using(dtd_model::proofs::Views::views), unfolding(content_positions::specs::Positions::firsts))]
 fn push_firsts(particle: &Particle, base: usize, out: &mut Vec<usize>) -> Result<(), NoMemory>
-    ensures { OnOk result (out.new.items ≡ out.old.items ++ spec.firsts base (model_of particle.now)) }
+    ensures { OnOk result
+        (out.new.items ≡ out.old.items ++ spec.firsts base (model_of particle.now)) }
 {
     match particle {
         Particle::One(_) => Ok(out.push(base)?),
@@ -127,7 +128,8 @@ fn push_firsts_in_turn(
     base: usize,
     out: &mut Vec<usize>,
 ) -> Result<(), NoMemory>
-    ensures { OnOk result (out.new.items ≡ out.old.items ++ spec.firsts_in_turn base (models_in parts.now)) }
+    ensures { OnOk result
+        (out.new.items ≡ out.old.items ++ spec.firsts_in_turn base (models_in parts.now)) }
 {
     let mut at = base;
     for part in parts {
@@ -147,7 +149,8 @@ fn push_firsts_of_each(
     base: usize,
     out: &mut Vec<usize>,
 ) -> Result<(), NoMemory>
-    ensures { OnOk result (out.new.items ≡ out.old.items ++ spec.firsts_of_each base (models_in parts.now)) }
+    ensures { OnOk result
+        (out.new.items ≡ out.old.items ++ spec.firsts_of_each base (models_in parts.now)) }
 {
     let mut at = base;
     for part in parts {
@@ -174,7 +177,8 @@ fn before_all(
     base: usize,
     next: &Behind,
 ) -> Result<Behind, NoMemory>
-    ensures { IfOk result (λ b. next_of b ≡ spec.before_all base (models_in parts.now) (next_of next.now)) }
+    ensures { IfOk result
+        (λ b. next_of b ≡ spec.before_all base (models_in parts.now) (next_of next.now)) }
 {
     let mut positions = Vec::new(alloc);
     push_firsts_in_turn(parts, base, &mut positions)?;
@@ -205,7 +209,8 @@ fn before_end(alloc: Global, particle: &Particle) -> Result<Behind, NoMemory>
 
 // What may come next behind a particle that may come again.
 fn again(alloc: Global, particle: &Particle, base: usize, next: &Behind) -> Result<Behind, NoMemory>
-    ensures { IfOk result (λ b. next_of b ≡ spec.again base (model_of particle.now) (next_of next.now)) }
+    ensures { IfOk result
+        (λ b. next_of b ≡ spec.again base (model_of particle.now) (next_of next.now)) }
 {
     let mut positions = Vec::new(alloc);
     push_firsts(particle, base, &mut positions)?;
@@ -316,7 +321,8 @@ pub fn first_of(alloc: Global, particle: &Particle) -> Result<Behind, NoMemory>
 
 /// The positions of a content model, from left to right.
 pub fn places_of(alloc: Global, particle: &Particle) -> Result<Vec<Place>, NoMemory>
-    ensures { IfOk result (λ places. positions_of places.items ≡ spec.places_of (model_of particle.now)) }
+    ensures { IfOk result
+        (λ places. positions_of places.items ≡ spec.places_of (model_of particle.now)) }
 {
     let end = Behind {
         positions: Vec::new(alloc),

@@ -81,7 +81,9 @@ fn place_of(places: &[Place], position: usize) -> &Place
 
 // Puts what may come behind a position to what may come behind its element.
 fn gather(alloc: Global, place: &Place, slots: &mut Vec<Option<Behind>>) -> Result<(), NoMemory>
-    ensures { OnOk result (map slot_of slots.new.items ≡ put_behind (map slot_of slots.old.items) (position_of place.now)) }
+    ensures { OnOk result
+        (map slot_of slots.new.items
+        ≡ put_behind (map slot_of slots.old.items) (position_of place.now)) }
 {
     if place.element >= slots.len() {
         return Ok(());
@@ -133,7 +135,8 @@ pub fn steps(
     set: &Flags,
 ) -> Result<Vec<Option<Flags>>, NoMemory>
     requires { length set.now ≡ length places.now + 1 }
-    ensures { IfOk result (λ v. v.items ≡ map (step_of (positions_of places.now) set.now) (range_with_len 0 elements)) }
+    ensures { IfOk result
+        (λ v. v.items ≡ map (step_of (positions_of places.now) set.now) (range_with_len 0 elements)) }
 {
     let slots = gathered(alloc, elements, places, set.members())?;
     let mut sets = Vec::new(alloc);

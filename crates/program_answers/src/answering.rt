@@ -34,11 +34,15 @@ fn verdict_by<M: Machine>(
     sums: &PageSums,
     pairs: u64,
 ) -> Result<Verdict, ImageRefusal>
-    requires grammar { DerivePages (program_of program.now) grammar.now.productions.items grammar.now.start }
-    requires machine { IsPageMachine (table_of dtd.now) (M.first machine.now) (M.steps machine.now) (M.ends machine.now) }
+    requires grammar { DerivePages (program_of program.now) grammar.now.productions.items
+        grammar.now.start }
+    requires machine { IsPageMachine (table_of dtd.now) (M.first machine.now) (M.steps machine.now)
+        (M.ends machine.now) }
     requires sums { AreSumsOf goal (table_of dtd.now) sums.now }
-    ensures verdict { IfOk result (IsPageVerdict (table_of dtd.now) (IsLoosePage (program_of program.now)) goal pairs) }
-    ensures cause { IfErr result (IsItemCause (M.first machine.now) (M.steps machine.now) (program_of program.now)) }
+    ensures verdict { IfOk result
+        (IsPageVerdict (table_of dtd.now) (IsLoosePage (program_of program.now)) goal pairs) }
+    ensures cause { IfErr result
+        (IsItemCause (M.first machine.now) (M.steps machine.now) (program_of program.now)) }
 {
     let _ = program;
     decide_grammar(alloc, grammar, dtd, goal, machine, sums, pairs)
@@ -61,10 +65,14 @@ pub fn answer_by<M: Machine>(
     sums: &PageSums,
     pairs: u64,
 ) -> Result<Answer, NoMemory>
-    requires grammar { DerivePages (program_of program.now) grammar.now.productions.items grammar.now.start }
-    requires machine { IsPageMachine (table_of dtd.now) (M.first machine.now) (M.steps machine.now) (M.ends machine.now) }
+    requires grammar { DerivePages (program_of program.now) grammar.now.productions.items
+        grammar.now.start }
+    requires machine { IsPageMachine (table_of dtd.now) (M.first machine.now) (M.steps machine.now)
+        (M.ends machine.now) }
     requires sums { AreSumsOf goal (table_of dtd.now) sums.now }
-    ensures { IfOk result (IsAnswerBy (M.first machine.now) (M.steps machine.now) goal (table_of dtd.now) (program_of program.now) pairs) }
+    ensures { IfOk result
+        (IsAnswerBy (M.first machine.now) (M.steps machine.now) goal (table_of dtd.now)
+        (program_of program.now) pairs) }
 {
     match verdict_by(alloc, program, grammar, dtd, goal, machine, sums, pairs) {
         Ok(verdict) => Ok(verdict_answer(verdict)),

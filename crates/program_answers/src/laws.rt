@@ -12,7 +12,8 @@ use loose_runs::laws::ended_runs_print_loose_pages;
 /// Where each loose page of a lawful program is good, whose text literals are texts of a run, every
 /// run of it that ends prints a good page.
 pub fn good_loose_pages_make_good_runs()
-    ensures { (goal : goals.Goal) (table : Table) (program : PlainProgram) → IsLawful program → TextsFit program
+    ensures { (goal : goals.Goal) (table : Table) (program : PlainProgram) → IsLawful program
+        → TextsFit program
         → EachIsGood goal table program → RunsAreGood goal table program }
 {
     ended_runs_print_loose_pages();

@@ -57,12 +57,15 @@ pub(crate) fn decide_grammar<M: Machine>(
     sums: &PageSums,
     pairs: u64,
 ) -> Result<Verdict, ImageRefusal>
-    requires machine { IsPageMachine (table_of dtd.now) (M.first machine.now) (M.steps machine.now) (M.ends machine.now) }
+    requires machine { IsPageMachine (table_of dtd.now) (M.first machine.now) (M.steps machine.now)
+        (M.ends machine.now) }
     requires sums { AreSumsOf goal (table_of dtd.now) sums.now }
     ensures verdict { IfOk result (IsPageVerdict (table_of dtd.now)
-        (DerivesText grammar.now.productions.items (symbols.Symbol.Nt grammar.now.start)) goal pairs) }
+        (DerivesText grammar.now.productions.items (symbols.Symbol.Nt grammar.now.start)) goal
+        pairs) }
     ensures cause { IfErr result
-        (IsCause grammar.now.productions.items (M.steps machine.now) grammar.now.start (M.first machine.now) ITEM_LIMIT) }
+        (IsCause grammar.now.productions.items (M.steps machine.now) grammar.now.start
+        (M.first machine.now) ITEM_LIMIT) }
 {
     match find_broken_page(alloc, grammar, dtd, goal) {
         Ok(Some(derivation)) => Ok(Verdict::No(derivation)),

@@ -40,7 +40,9 @@ fn in_boxed(
     middle: &Option<Box<Expr>>,
     found: &mut Vec<Call>,
 ) -> Result<(), NoMemory>
-    ensures { OnOk result (calls_seen found.new.items ≡ calls_seen found.old.items ++ calls.maybe_calls (boxed_of middle.now)) }
+    ensures { OnOk result
+        (calls_seen found.new.items ≡ calls_seen found.old.items
+        ++ calls.maybe_calls (boxed_of middle.now)) }
 {
     match middle {
         Some(expr) => in_expr(alloc, expr, found),
@@ -56,7 +58,9 @@ pub(crate) fn in_maybe(
     expr: &Option<Expr>,
     found: &mut Vec<Call>,
 ) -> Result<(), NoMemory>
-    ensures { OnOk result (calls_seen found.new.items ≡ calls_seen found.old.items ++ calls.maybe_calls (maybe_of expr.now)) }
+    ensures { OnOk result
+        (calls_seen found.new.items ≡ calls_seen found.old.items
+        ++ calls.maybe_calls (maybe_of expr.now)) }
 {
     match expr {
         Some(expr) => in_expr(alloc, expr, found),
@@ -68,7 +72,9 @@ pub(crate) fn in_maybe(
 #[cycle(expressions)]
 #[tactic(auto, unfolding(program_rules::specs::Calls::calls_in))]
 pub(crate) fn in_exprs(alloc: Global, exprs: &[Expr], found: &mut Vec<Call>) -> Result<(), NoMemory>
-    ensures { OnOk result (calls_seen found.new.items ≡ calls_seen found.old.items ++ calls.part_calls (exprs_of exprs.now)) }
+    ensures { OnOk result
+        (calls_seen found.new.items ≡ calls_seen found.old.items
+        ++ calls.part_calls (exprs_of exprs.now)) }
 {
     for expr in exprs {
         in_expr(alloc, expr, found)?;
@@ -84,7 +90,9 @@ fn in_items(
     items: &[(Option<Expr>, Expr)],
     found: &mut Vec<Call>,
 ) -> Result<(), NoMemory>
-    ensures { OnOk result (calls_seen found.new.items ≡ calls_seen found.old.items ++ calls.item_calls (items_of items.now)) }
+    ensures { OnOk result
+        (calls_seen found.new.items ≡ calls_seen found.old.items
+        ++ calls.item_calls (items_of items.now)) }
 {
     for item in items {
         in_maybe(alloc, &item.0, found)?;
@@ -97,7 +105,9 @@ fn in_items(
 #[cycle(expressions)]
 #[tactic(auto, unfolding(program_rules::specs::Calls::calls_in))]
 fn in_path(alloc: Global, keys: &[Option<Expr>], found: &mut Vec<Call>) -> Result<(), NoMemory>
-    ensures { OnOk result (calls_seen found.new.items ≡ calls_seen found.old.items ++ calls.path_calls (path_of keys.now)) }
+    ensures { OnOk result
+        (calls_seen found.new.items ≡ calls_seen found.old.items
+        ++ calls.path_calls (path_of keys.now)) }
 {
     for key in keys {
         in_maybe(alloc, key, found)?;
@@ -131,7 +141,8 @@ fn in_call(
     found: &mut Vec<Call>,
 ) -> Result<(), NoMemory>
     ensures { OnOk result (calls_seen found.new.items ≡ calls_seen found.old.items
-        ++ (record { name_of = name.now; arguments = calls.number_of (exprs_of arguments.now) } ∷ calls.part_calls (exprs_of arguments.now))) }
+        ++ (record { name_of = name.now; arguments = calls.number_of (exprs_of arguments.now) }
+        ∷ calls.part_calls (exprs_of arguments.now))) }
 {
     put(alloc, name, arguments.len(), found)?;
     in_exprs(alloc, arguments, found)
@@ -141,7 +152,9 @@ fn in_call(
 #[cycle(expressions)]
 #[tactic(auto, using(php_syntax::proofs::Views::views, crate::proofs::CallLemmas::ends), unfolding(program_rules::specs::Calls::calls_in))]
 pub(crate) fn in_expr(alloc: Global, expr: &Expr, found: &mut Vec<Call>) -> Result<(), NoMemory>
-    ensures { OnOk result (calls_seen found.new.items ≡ calls_seen found.old.items ++ calls.calls_in (plain_expr expr.now)) }
+    ensures { OnOk result
+        (calls_seen found.new.items ≡ calls_seen found.old.items
+        ++ calls.calls_in (plain_expr expr.now)) }
 {
     match expr {
         Expr::Null => Ok(()),

@@ -15,7 +15,9 @@ use text_base::NoMemory;
 #[cycle(statements)]
 #[tactic(auto, unfolding(program_rules::specs::Calls::calls_of))]
 fn in_stmts(alloc: Global, stmts: &[Stmt], found: &mut Vec<Call>) -> Result<(), NoMemory>
-    ensures { OnOk result (calls_seen found.new.items ≡ calls_seen found.old.items ++ calls.statement_calls (stmts_of stmts.now)) }
+    ensures { OnOk result
+        (calls_seen found.new.items ≡ calls_seen found.old.items
+        ++ calls.statement_calls (stmts_of stmts.now)) }
 {
     for stmt in stmts {
         in_stmt(alloc, stmt, found)?;
@@ -28,7 +30,8 @@ fn in_stmts(alloc: Global, stmts: &[Stmt], found: &mut Vec<Call>) -> Result<(), 
 #[tactic(auto, using(crate::proofs::CallLemmas::ends))]
 fn in_arm(alloc: Global, arm: &(Expr, Vec<Stmt>), found: &mut Vec<Call>) -> Result<(), NoMemory>
     ensures { OnOk result (calls_seen found.new.items ≡ calls_seen found.old.items
-        ++ (calls.calls_in (plain_expr arm.now.0) ++ calls.statement_calls (stmts_of arm.now.1.items))) }
+        ++ (calls.calls_in (plain_expr arm.now.0)
+        ++ calls.statement_calls (stmts_of arm.now.1.items))) }
 {
     in_expr(alloc, &arm.0, found)?;
     in_stmts(alloc, arm.1.as_slice(), found)
@@ -38,7 +41,9 @@ fn in_arm(alloc: Global, arm: &(Expr, Vec<Stmt>), found: &mut Vec<Call>) -> Resu
 #[cycle(statements)]
 #[tactic(auto, using(crate::proofs::CallLemmas::ends), unfolding(program_rules::specs::Calls::calls_of))]
 fn in_arms(alloc: Global, arms: &[(Expr, Vec<Stmt>)], found: &mut Vec<Call>) -> Result<(), NoMemory>
-    ensures { OnOk result (calls_seen found.new.items ≡ calls_seen found.old.items ++ calls.arm_calls (arms_of arms.now)) }
+    ensures { OnOk result
+        (calls_seen found.new.items ≡ calls_seen found.old.items
+        ++ calls.arm_calls (arms_of arms.now)) }
 {
     for arm in arms {
         in_arm(alloc, arm, found)?;
@@ -56,7 +61,8 @@ fn in_head(
     found: &mut Vec<Call>,
 ) -> Result<(), NoMemory>
     ensures { OnOk result (calls_seen found.new.items ≡ calls_seen found.old.items
-        ++ (calls.part_calls (exprs_of begin.now) ++ (calls.maybe_calls (maybe_of test.now) ++ calls.part_calls (exprs_of next.now)))) }
+        ++ (calls.part_calls (exprs_of begin.now)
+        ++ (calls.maybe_calls (maybe_of test.now) ++ calls.part_calls (exprs_of next.now)))) }
 {
     in_exprs(alloc, begin, found)?;
     in_maybe(alloc, test, found)?;
@@ -67,7 +73,9 @@ fn in_head(
 #[cycle(statements)]
 #[tactic(auto, using(php_syntax::proofs::Views::views, crate::proofs::CallLemmas::ends), unfolding(program_rules::specs::Calls::calls_of))]
 fn in_stmt(alloc: Global, stmt: &Stmt, found: &mut Vec<Call>) -> Result<(), NoMemory>
-    ensures { OnOk result (calls_seen found.new.items ≡ calls_seen found.old.items ++ calls.calls_of (plain_stmt stmt.now)) }
+    ensures { OnOk result
+        (calls_seen found.new.items ≡ calls_seen found.old.items
+        ++ calls.calls_of (plain_stmt stmt.now)) }
 {
     match stmt {
         Stmt::Echo(exprs) => in_exprs(alloc, exprs.as_slice(), found),
@@ -108,7 +116,9 @@ fn in_functions(
     functions: &[FunctionDef],
     found: &mut Vec<Call>,
 ) -> Result<(), NoMemory>
-    ensures { OnOk result (calls_seen found.new.items ≡ calls_seen found.old.items ++ calls.function_calls (functions_of_list functions.now)) }
+    ensures { OnOk result
+        (calls_seen found.new.items ≡ calls_seen found.old.items
+        ++ calls.function_calls (functions_of_list functions.now)) }
 {
     for function in functions {
         in_stmts(alloc, function.body.as_slice(), found)?;
@@ -116,11 +126,13 @@ fn in_functions(
     Ok(())
 }
 
-/// The calls in a file, those outside functions first, put behind those found before. A default is a literal and has none.
+/// The calls in a file, those outside functions first, put behind those found before. A default is
+/// a literal and has none.
 #[tactic(auto, using(crate::proofs::CallLemmas::ends))]
 pub fn find_calls(alloc: Global, tree: &FileTree, found: &mut Vec<Call>) -> Result<(), NoMemory>
     ensures { OnOk result (calls_seen found.new.items ≡ calls_seen found.old.items
-        ++ (calls.statement_calls (stmts_of tree.now.body.items) ++ calls.function_calls (functions_of_list tree.now.functions.items))) }
+        ++ (calls.statement_calls (stmts_of tree.now.body.items)
+        ++ calls.function_calls (functions_of_list tree.now.functions.items))) }
 {
     in_stmts(alloc, tree.body.as_slice(), found)?;
     in_functions(alloc, tree.functions.as_slice(), found)

@@ -20,7 +20,8 @@ fn put(found: &mut Vec<Bytes>, path: Bytes) -> Result<(), NoMemory>
 #[cycle(includes)]
 #[tactic(auto, unfolding(program_rules::specs::Includes::includes_in))]
 fn find_in(alloc: Global, stmts: &[Stmt], found: &mut Vec<Bytes>) -> Result<(), NoMemory>
-    ensures { OnOk result (found.new.items ≡ found.old.items ++ includes.includes_in (stmts_of stmts.now)) }
+    ensures { OnOk result
+        (found.new.items ≡ found.old.items ++ includes.includes_in (stmts_of stmts.now)) }
 {
     for stmt in stmts {
         find_of(alloc, stmt, found)?;
@@ -36,7 +37,8 @@ fn find_in_arms(
     arms: &[(Expr, Vec<Stmt>)],
     found: &mut Vec<Bytes>,
 ) -> Result<(), NoMemory>
-    ensures { OnOk result (found.new.items ≡ found.old.items ++ includes.includes_in_arms (arms_of arms.now)) }
+    ensures { OnOk result
+        (found.new.items ≡ found.old.items ++ includes.includes_in_arms (arms_of arms.now)) }
 {
     for arm in arms {
         find_in(alloc, arm.1.as_slice(), found)?;
@@ -48,7 +50,8 @@ fn find_in_arms(
 #[cycle(includes)]
 #[tactic(auto, using(php_syntax::proofs::Views::views, crate::proofs::IncludeLemmas::ends), unfolding(program_rules::specs::Includes::includes_in))]
 fn find_of(alloc: Global, stmt: &Stmt, found: &mut Vec<Bytes>) -> Result<(), NoMemory>
-    ensures { OnOk result (found.new.items ≡ found.old.items ++ includes.includes_of (plain_stmt stmt.now)) }
+    ensures { OnOk result
+        (found.new.items ≡ found.old.items ++ includes.includes_of (plain_stmt stmt.now)) }
 {
     match stmt {
         Stmt::If(arms, otherwise) => {
@@ -77,7 +80,9 @@ fn find_in_functions(
     functions: &[FunctionDef],
     found: &mut Vec<Bytes>,
 ) -> Result<(), NoMemory>
-    ensures { OnOk result (found.new.items ≡ found.old.items ++ includes.includes_in_functions (functions_of_list functions.now)) }
+    ensures { OnOk result
+        (found.new.items ≡ found.old.items
+        ++ includes.includes_in_functions (functions_of_list functions.now)) }
 {
     for function in functions {
         find_in(alloc, function.body.as_slice(), found)?;
@@ -85,10 +90,12 @@ fn find_in_functions(
     Ok(())
 }
 
-/// The paths that a file includes, those of its body first and then those of its functions, put behind those found before.
+/// The paths that a file includes, those of its body first and then those of its functions, put
+/// behind those found before.
 #[tactic(auto, using(crate::proofs::IncludeLemmas::ends), unfolding(program_rules::specs::Includes::includes_of_file))]
 pub fn find_includes(alloc: Global, tree: &FileTree, found: &mut Vec<Bytes>) -> Result<(), NoMemory>
-    ensures { OnOk result (found.new.items ≡ found.old.items ++ includes.includes_of_file (plain_file tree.now)) }
+    ensures { OnOk result
+        (found.new.items ≡ found.old.items ++ includes.includes_of_file (plain_file tree.now)) }
 {
     find_in(alloc, tree.body.as_slice(), found)?;
     find_in_functions(alloc, tree.functions.as_slice(), found)?;

@@ -1,7 +1,9 @@
-//! The files of a program: a script and all that it includes, each read once and turned to its tree.
+//! The files of a program: a script and all that it includes, each read once and turned to its
+//! tree.
 //!
-//! `specs/Order.antt` says in which order files are read, `specs/Causes.antt` why reading is refused and what the counts of the source
-//! say then. Below stand `io_edge` with sources of files, `php_lexer` and `php_parser`.
+//! `specs/Order.antt` says in which order files are read, `specs/Causes.antt` why reading is
+//! refused and what the counts of the source say then. Below stand `io_edge` with sources of files,
+//! `php_lexer` and `php_parser`.
 #![tactic(auto)]
 
 mod files;

@@ -24,22 +24,29 @@ use stacks::Stack;
 use std::alloc::Global;
 use text_base::{Bytes, NoMemory};
 
-/// Reads the file of a name and all that it includes, directly or through others, each once: a file where it is first included, depth
-/// first, the includes of its body before those of its functions. Takes time linear in the files.
+/// Reads the file of a name and all that it includes, directly or through others, each once: a file
+/// where it is first included, depth first, the includes of its body before those of its functions.
+/// Takes time linear in the files.
 ///
 /// # Errors
 ///
-/// `Missing`, `ReadFault`, `TooLong` and `Script` with the name of the file at which reading stopped; `TooMany` with 257 where a 257th
-/// included name is met, which is not read; and `Memory`.
+/// `Missing`, `ReadFault`, `TooLong` and `Script` with the name of the file at which reading
+/// stopped; `TooMany` with 257 where a 257th included name is met, which is not read; and `Memory`.
 pub fn read_files<F: Files>(
     alloc: Global,
     source: &mut F,
     name: &str,
 ) -> Result<ScriptFiles, LoadRefusal>
-    ensures ok { IfOk result (λ files. ReadsAll (source_call (F.content source.old) (F.faults source.old) (F.faults source.new)
-        (F.misses source.old) (F.misses source.new) (F.reads source.old) (F.reads source.new)) name.now (files_of files)) }
-    ensures err { IfErr result (λ refusal. IsReadCause (source_call (F.content source.old) (F.faults source.old) (F.faults source.new)
-        (F.misses source.old) (F.misses source.new) (F.reads source.old) (F.reads source.new)) name.now refusal) }
+    ensures ok { IfOk result
+        (λ files. ReadsAll (source_call (F.content source.old) (F.faults source.old)
+        (F.faults source.new)
+        (F.misses source.old) (F.misses source.new) (F.reads source.old) (F.reads source.new))
+        name.now (files_of files)) }
+    ensures err { IfErr result
+        (λ refusal. IsReadCause
+        (source_call (F.content source.old) (F.faults source.old) (F.faults source.new)
+        (F.misses source.old) (F.misses source.new) (F.reads source.old) (F.reads source.new))
+        name.now refusal) }
     ensures same { F.content source.new ≡ F.content source.old }
 {
     let mut files = ScriptFiles::new(alloc);
@@ -71,7 +78,8 @@ fn first_path(alloc: Global, name: &str) -> Result<Stack<Bytes>, NoMemory>
 // Takes the first path that is not read off the others, with those before it.
 fn next_path(files: &ScriptFiles, paths: &mut Stack<Bytes>) -> Option<Bytes>
     ensures { MatchOption result ((skip (files_of files.now) paths.old ≡ []) × (paths.new ≡ []))
-        (λ path. (skip (files_of files.now) paths.old ≡ path ∷ paths.new) × (is_read (files_of files.now) path ≡ false)) }
+        (λ path. (skip (files_of files.now) paths.old ≡ path ∷ paths.new)
+        × (is_read (files_of files.now) path ≡ false)) }
 {
     while let Some(path) = paths.pop() {
         if !files.has(&path) {
@@ -101,11 +109,17 @@ fn read_one<F: Files>(
 ) -> Result<ScriptFiles, LoadRefusal>
     requires text { rules.is_utf8 path ≡ true }
     requires new { is_read (files_of files) path ≡ false }
-    ensures ok { IfOk result (λ more. ReadsOne (source_call (F.content source.old) (F.faults source.old) (F.faults source.new)
-        (F.misses source.old) (F.misses source.new) (F.reads source.old) (F.reads source.new)) path (files_of files) paths.old
+    ensures ok { IfOk result
+        (λ more. ReadsOne (source_call (F.content source.old) (F.faults source.old)
+        (F.faults source.new)
+        (F.misses source.old) (F.misses source.new) (F.reads source.old) (F.reads source.new)) path
+        (files_of files) paths.old
         (files_of more) paths.new) }
-    ensures err { IfErr result (λ refusal. IsOneCause (source_call (F.content source.old) (F.faults source.old) (F.faults source.new)
-        (F.misses source.old) (F.misses source.new) (F.reads source.old) (F.reads source.new)) path refusal) }
+    ensures err { IfErr result
+        (λ refusal. IsOneCause
+        (source_call (F.content source.old) (F.faults source.old) (F.faults source.new)
+        (F.misses source.old) (F.misses source.new) (F.reads source.old) (F.reads source.new)) path
+        refusal) }
     ensures same { F.content source.new ≡ F.content source.old }
 {
     let (name, tree) = read_tree(alloc, source, path)?;
@@ -123,10 +137,16 @@ fn read_tree<F: Files>(
     path: Bytes,
 ) -> Result<(Bytes, FileTree), LoadRefusal>
     requires { rules.is_utf8 path ≡ true }
-    ensures ok { IfOk result (λ read. ReadsTree (source_call (F.content source.old) (F.faults source.old) (F.faults source.new)
-        (F.misses source.old) (F.misses source.new) (F.reads source.old) (F.reads source.new)) path read.0 (plain_file read.1)) }
-    ensures err { IfErr result (λ refusal. IsOneCause (source_call (F.content source.old) (F.faults source.old) (F.faults source.new)
-        (F.misses source.old) (F.misses source.new) (F.reads source.old) (F.reads source.new)) path refusal) }
+    ensures ok { IfOk result
+        (λ read. ReadsTree (source_call (F.content source.old) (F.faults source.old)
+        (F.faults source.new)
+        (F.misses source.old) (F.misses source.new) (F.reads source.old) (F.reads source.new)) path
+        read.0 (plain_file read.1)) }
+    ensures err { IfErr result
+        (λ refusal. IsOneCause
+        (source_call (F.content source.old) (F.faults source.old) (F.faults source.new)
+        (F.misses source.old) (F.misses source.new) (F.reads source.old) (F.reads source.new)) path
+        refusal) }
     ensures same { F.content source.new ≡ F.content source.old }
 {
     match read_bytes(alloc, source, &path) {
@@ -151,7 +171,8 @@ fn read_bytes<F: Files>(alloc: Global, source: &mut F, path: &Bytes) -> Result<B
     ensures content { IfOk result (λ bytes. Tells (F.content source.old path.now) (Some bytes)) }
     ensures limit { IfOk result (λ bytes. length bytes ≤ FILE_LIMIT) }
     ensures reason { IfErr result (λ fault. HasReason (F.content source.old path.now)
-        (F.faults source.old) (F.faults source.new) (F.misses source.old) (F.misses source.new) fault) }
+        (F.faults source.old) (F.faults source.new) (F.misses source.old) (F.misses source.new)
+        fault) }
     ensures same { F.content source.new ≡ F.content source.old }
     ensures unfailed { result ≢ Err fault.Failed → F.faults source.new ≡ F.faults source.old }
     ensures unmissed { result ≢ Err fault.Missing → F.misses source.new ≡ F.misses source.old }

@@ -16,8 +16,9 @@ pub enum ScriptRefusal {
     Parse(ParseRefusal),
 }
 
-/// Why no program is loaded. The first that holds is told, in this order: `Missing` to `Script` of each file as it is read; the rules
-/// `IncludeCycle` to `Arity` once all files are read; and `TooMany`, but for a 257th included name, which is told at once.
+/// Why no program is loaded. The first that holds is told, in this order: `Missing` to `Script` of
+/// each file as it is read; the rules `IncludeCycle` to `Arity` once all files are read; and
+/// `TooMany`, but for a 257th included name, which is told at once.
 #[derive(Debug, PartialEq, Eq, Drop, Error)]
 pub enum LoadRefusal {
     /// The source has no such file.
@@ -44,8 +45,8 @@ pub enum LoadRefusal {
     /// A function of this name is called with too few or too many arguments.
     #[error("a function is called with too few or too many arguments")]
     Arity { name: Bytes },
-    /// A limit is passed: `count` is that limit and one more. There are 256 places of includes at most, 200,000 nodes, and a height of
-    /// 1,000, with each include replaced.
+    /// A limit is passed: `count` is that limit and one more. There are 256 places of includes at
+    /// most, 200,000 nodes, and a height of 1,000, with each include replaced.
     #[error("the program is too large")]
     TooMany { count: u64 },
     /// No memory was left.

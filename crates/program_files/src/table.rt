@@ -46,14 +46,16 @@ impl ScriptFiles {
 
     /// The name of the file at a place.
     pub fn name(&self, place: usize) -> Option<&Bytes>
-        ensures { option_map (λ name. name.now) result ≡ option_map (λ file. file.name) (slice_get (files_of self.now) place) }
+        ensures { option_map (λ name. name.now) result
+            ≡ option_map (λ file. file.name) (slice_get (files_of self.now) place) }
     {
         self.names.get_index(place)
     }
 
     /// The tree of the file at a place.
     pub fn tree(&self, place: usize) -> Option<&FileTree>
-        ensures { option_map (λ tree. plain_file tree.now) result ≡ option_map (λ file. file.tree) (slice_get (files_of self.now) place) }
+        ensures { option_map (λ tree. plain_file tree.now) result
+            ≡ option_map (λ file. file.tree) (slice_get (files_of self.now) place) }
     {
         let trees = self.trees.as_slice();
         if place < trees.len() {
@@ -66,7 +68,9 @@ impl ScriptFiles {
     /// The files and one more, of a name that is new.
     pub fn with(self, name: Bytes, tree: FileTree) -> Result<ScriptFiles, NoMemory>
         requires { is_read (files_of self) name ≡ false }
-        ensures { IfOk result (λ more. files_of more ≡ files_of self ++ record { name = name; tree = plain_file tree } ∷ []) }
+        ensures { IfOk result
+            (λ more. files_of more ≡ files_of self ++ record { name = name; tree = plain_file tree }
+            ∷ []) }
     {
         let ScriptFiles {
             mut names,

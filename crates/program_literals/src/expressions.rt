@@ -66,7 +66,8 @@ pub(crate) fn short_in_exprs(exprs: &[Expr]) -> bool
 #[cycle(expressions)]
 #[tactic(auto, using(crate::proofs::ShortLemmas::shorts))]
 fn short_in_item(item: &(Option<Expr>, Expr)) -> bool
-    ensures { result ≡ all_short (maybe_texts (maybe_of item.now.0) ++ texts_in (plain_expr item.now.1)) }
+    ensures { result ≡ all_short
+        (maybe_texts (maybe_of item.now.0) ++ texts_in (plain_expr item.now.1)) }
 {
     short_in_maybe(&item.0) && short_in_expr(&item.1)
 }
@@ -101,7 +102,8 @@ fn short_in_path(keys: &[Option<Expr>]) -> bool
 #[cycle(expressions)]
 #[tactic(auto, using(crate::proofs::ShortLemmas::shorts))]
 fn short_in_assignment(target: &Target, value: &Expr) -> bool
-    ensures { result ≡ all_short (path_texts (target_path target.now) ++ texts_in (plain_expr value.now)) }
+    ensures { result ≡ all_short
+        (path_texts (target_path target.now) ++ texts_in (plain_expr value.now)) }
 {
     short_in_path(target.path.as_slice()) && short_in_expr(value)
 }

@@ -1,6 +1,7 @@
 //! Whether each text literal of a program is a text of a run: at most 16,777,216 bytes.
 //!
-//! The clauses cite `TextsFit` of program_points, and `HasLongText` of `specs/Short.antt`. Below stand php_program and program_points.
+//! The clauses cite `TextsFit` of program_points, and `HasLongText` of `specs/Short.antt`. Below
+//! stand php_program and program_points.
 #![tactic(auto)]
 
 mod expressions;

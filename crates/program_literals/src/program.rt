@@ -8,8 +8,8 @@ ghost use Rattle.program_literals.specs.Short.{HasLongText};
 use crate::statements::{short_in_functions, short_in_stmts};
 use php_program::Program;
 
-/// Whether each text literal of a program has at most 16,777,216 bytes. Takes time linear in the program, and calls itself as deep as the program
-/// is high.
+/// Whether each text literal of a program has at most 16,777,216 bytes. Takes time linear in the
+/// program, and calls itself as deep as the program is high.
 pub fn literals_are_short(program: &Program) -> bool
     ensures short { result ≡ true → TextsFit (program_of program.now) }
     ensures long { result ≡ false → HasLongText (program_of program.now) }

@@ -25,7 +25,8 @@ pub(crate) fn short_in_stmts(stmts: &[Stmt]) -> bool
 #[cycle(statements)]
 #[tactic(auto, using(crate::proofs::ShortLemmas::shorts))]
 fn short_in_arm(test: &Expr, body: &[Stmt]) -> bool
-    ensures { result ≡ all_short (texts_in (plain_expr test.now) ++ statement_texts (stmts_of body.now)) }
+    ensures { result ≡ all_short
+        (texts_in (plain_expr test.now) ++ statement_texts (stmts_of body.now)) }
 {
     short_in_expr(test) && short_in_stmts(body)
 }
@@ -47,7 +48,8 @@ fn short_in_arms(arms: &[(Expr, Vec<Stmt>)]) -> bool
 #[cycle(statements)]
 #[tactic(auto, using(crate::proofs::ShortLemmas::shorts))]
 fn short_in_if(arms: &[(Expr, Vec<Stmt>)], otherwise: &[Stmt]) -> bool
-    ensures { result ≡ all_short (arm_texts (arms_of arms.now) ++ statement_texts (stmts_of otherwise.now)) }
+    ensures { result ≡ all_short
+        (arm_texts (arms_of arms.now) ++ statement_texts (stmts_of otherwise.now)) }
 {
     short_in_arms(arms) && short_in_stmts(otherwise)
 }
@@ -56,7 +58,8 @@ fn short_in_if(arms: &[(Expr, Vec<Stmt>)], otherwise: &[Stmt]) -> bool
 #[cycle(statements)]
 #[tactic(auto, using(crate::proofs::ShortLemmas::shorts))]
 fn short_in_do(body: &[Stmt], test: &Expr) -> bool
-    ensures { result ≡ all_short (statement_texts (stmts_of body.now) ++ texts_in (plain_expr test.now)) }
+    ensures { result ≡ all_short
+        (statement_texts (stmts_of body.now) ++ texts_in (plain_expr test.now)) }
 {
     short_in_stmts(body) && short_in_expr(test)
 }
@@ -65,7 +68,8 @@ fn short_in_do(body: &[Stmt], test: &Expr) -> bool
 #[cycle(statements)]
 #[tactic(auto, using(crate::proofs::ShortLemmas::shorts))]
 fn short_in_for(begin: &[Expr], test: &Option<Expr>, next: &[Expr], body: &[Stmt]) -> bool
-    ensures { result ≡ all_short (part_texts (exprs_of begin.now) ++ (maybe_texts (maybe_of test.now)
+    ensures { result ≡ all_short
+        (part_texts (exprs_of begin.now) ++ (maybe_texts (maybe_of test.now)
         ++ (part_texts (exprs_of next.now) ++ statement_texts (stmts_of body.now)))) }
 {
     short_in_exprs(begin) && short_in_maybe(test) && short_in_exprs(next) && short_in_stmts(body)

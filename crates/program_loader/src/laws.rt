@@ -17,12 +17,16 @@ use reading_laws::{files_of_the_program, names_looked_at, what_was_held};
 
 /// What is read and made is loaded, and why reading or making stops is why loading does.
 pub fn what_is_made_is_loaded()
-    ensures ready { (call : SourceCall) (name : List ℕ) (files : List ReadFile) → ReadsAll call name files → AreReady files name }
-    ensures ok { (call : SourceCall) (name : List ℕ) (files : List ReadFile) (program : PlainProgram) →
+    ensures ready { (call : SourceCall) (name : List ℕ) (files : List ReadFile)
+        → ReadsAll call name files → AreReady files name }
+    ensures ok { (call : SourceCall) (name : List ℕ) (files : List ReadFile)
+        (program : PlainProgram) →
         ReadsAll call name files → Make files name program → Loads call name program }
-    ensures err { (call : SourceCall) (name : List ℕ) (files : List ReadFile) (refusal : LoadRefusal) →
+    ensures err { (call : SourceCall) (name : List ℕ) (files : List ReadFile)
+        (refusal : LoadRefusal) →
         ReadsAll call name files → IsMakeCause files name refusal → IsLoadCause call name refusal }
-    ensures unread { (call : SourceCall) (name : List ℕ) (refusal : LoadRefusal) → IsReadCause call name refusal → IsLoadCause call name refusal }
+    ensures unread { (call : SourceCall) (name : List ℕ) (refusal : LoadRefusal)
+        → IsReadCause call name refusal → IsLoadCause call name refusal }
 {
     each_has_one_tree();
     what_was_held();

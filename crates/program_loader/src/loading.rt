@@ -13,21 +13,29 @@ use program_files::{LoadRefusal, read_files};
 use std::alloc::Global;
 use text_base::Bytes;
 
-/// The program of a name (PHP manual, "include"): its file and all that it includes, directly or through others, each read once, where it is
-/// first included, with every include replaced by the statements of its file and the functions of all files in one table. Takes time linear in the files
-/// and in the program.
+/// The program of a name (PHP manual, "include"): its file and all that it includes, directly or
+/// through others, each read once, where it is first included, with every include replaced by the
+/// statements of its file and the functions of all files in one table. Takes time linear in the
+/// files and in the program.
 ///
 /// # Errors
 ///
-/// The first of these. While files are read: `Missing`, `ReadFault`, `TooLong` and `Script` with the name of the file at which reading stopped, and
-/// `TooMany` with 257 where a 257th included name is met. Once all are read: `IncludeCycle` with a file that includes itself; `DoubleFunction`,
-/// `UnknownFunction` and `Arity` with the name of a function; and `TooMany` with the limit that is passed and one more: of 256 places of
-/// includes, 200,000 nodes, or a height of 1,000, in this order. `Memory` may come at any time.
+/// The first of these. While files are read: `Missing`, `ReadFault`, `TooLong` and `Script` with
+/// the name of the file at which reading stopped, and `TooMany` with 257 where a 257th included
+/// name is met. Once all are read: `IncludeCycle` with a file that includes itself;
+/// `DoubleFunction`, `UnknownFunction` and `Arity` with the name of a function; and `TooMany` with
+/// the limit that is passed and one more: of 256 places of includes, 200,000 nodes, or a height of
+/// 1,000, in this order. `Memory` may come at any time.
 pub fn load<F: Files>(alloc: Global, source: &mut F, name: &str) -> Result<Program, LoadRefusal>
-    ensures ok { IfOk result (λ program. Loads (source_call (F.content source.old) (F.faults source.old) (F.faults source.new)
-        (F.misses source.old) (F.misses source.new) (F.reads source.old) (F.reads source.new)) name.now (program_of program)) }
-    ensures err { IfErr result (IsLoadCause (source_call (F.content source.old) (F.faults source.old) (F.faults source.new)
-        (F.misses source.old) (F.misses source.new) (F.reads source.old) (F.reads source.new)) name.now) }
+    ensures ok { IfOk result
+        (λ program. Loads (source_call (F.content source.old) (F.faults source.old)
+        (F.faults source.new)
+        (F.misses source.old) (F.misses source.new) (F.reads source.old) (F.reads source.new))
+        name.now (program_of program)) }
+    ensures err { IfErr result
+        (IsLoadCause (source_call (F.content source.old) (F.faults source.old) (F.faults source.new)
+        (F.misses source.old) (F.misses source.new) (F.reads source.old) (F.reads source.new))
+        name.now) }
     ensures same { F.content source.new ≡ F.content source.old }
 {
     what_is_made_is_loaded();

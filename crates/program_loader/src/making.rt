@@ -23,8 +23,10 @@ use text_base::{Bytes, NoMemory};
 
 // The tree of the file of a name.
 fn tree_of<'a>(files: &'a ScriptFiles, name: &Bytes) -> Option<&'a FileTree>
-    ensures { MatchOption result (is_read (files_of files.now) name.now ≡ false) (λ tree. (plain_file tree.now ≡ tree_named (files_of files.now) name.now)
-        × ((file : ReadFile) × Contains (files_of files.now) file × (file.tree ≡ plain_file tree.now))) }
+    ensures { MatchOption result (is_read (files_of files.now) name.now ≡ false)
+        (λ tree. (plain_file tree.now ≡ tree_named (files_of files.now) name.now)
+        × ((file : ReadFile) × Contains (files_of files.now) file
+        × (file.tree ≡ plain_file tree.now))) }
 {
     match files.place_of(name) {
         Some(place) => files.tree(place),
@@ -40,7 +42,9 @@ fn expand(
     tree: &FileTree,
 ) -> Result<Program, NoMemory>
     requires { AreChecked (files_of files.now) nesting (plain_file tree.now) }
-    ensures { IfOk result (λ program. program_of program ≡ program_within (files_of files.now) nesting (plain_file tree.now)) }
+    ensures { IfOk result
+        (λ program. program_of program
+        ≡ program_within (files_of files.now) nesting (plain_file tree.now)) }
 {
     made_programs_are_lawful();
     let main = expand_statements(alloc, files, nesting, tree.body.as_slice())?;
@@ -48,7 +52,8 @@ fn expand(
     Ok(Program { main, functions })
 }
 
-/// The program that files make of the one with this name. The order of the tests is that of the refusals: cycles of includes, functions and calls, sizes.
+/// The program that files make of the one with this name. The order of the tests is that of the
+/// refusals: cycles of includes, functions and calls, sizes.
 pub(crate) fn make_program(
     alloc: Global,
     files: &ScriptFiles,

@@ -28,22 +28,28 @@ use program_points::{
 };
 use std::alloc::Global;
 
-/// The points of a program (`flat` of flow_code), numbered through all its functions: at most 8 for a node of the program, 4 for a function, and
-/// two for each argument that a call leaves out. Where a run of the program ended, the points have a run that printed the same.
+/// The points of a program (`flat` of flow_code), numbered through all its functions: at most 8 for
+/// a node of the program, 4 for a function, and two for each argument that a call leaves out. Where
+/// a run of the program ended, the points have a run that printed the same.
 ///
-/// Takes time linear in the program but for the look-up of names and functions, and calls itself as deep as the program is high, which is at most 1,000.
+/// Takes time linear in the program but for the look-up of names and functions, and calls itself as
+/// deep as the program is high, which is at most 1,000.
 ///
 /// # Errors
 ///
-/// `LongText` exactly where a text literal of the program has more than 16,777,216 bytes. `Memory` may come at any time.
+/// `LongText` exactly where a text literal of the program has more than 16,777,216 bytes. `Memory`
+/// may come at any time.
 pub fn lower(alloc: Global, program: &Program) -> Result<FlowProgram, LoweringError>
     ensures flat { IfOk result (λ flow. plain_flow flow ≡ flat (program_of program.now)) }
     ensures form { IfOk result (λ flow. IsFlow (plain_flow flow)) }
     ensures few { IfOk result (λ flow. length (points_in (plain_flow flow).functions_of)
-        ≤ 8 * file_nodes (as_file (program_of program.now)) + 4 * (1 + length (program_of program.now).functions_of)
-        + 2 * left_out (program_of program.now).functions_of (calls_of_program (program_of program.now))) }
+        ≤ 8 * file_nodes (as_file (program_of program.now)) + 4 * (1 + length
+        (program_of program.now).functions_of)
+        + 2 * left_out (program_of program.now).functions_of
+        (calls_of_program (program_of program.now))) }
     ensures runs { IfOk result (λ flow. (r : PlainRequest) (n : ℕ) (w : List ℕ) →
-        meaning (program_of program.now) r n ≡ record { printed = w; end = Ended } → FlatRun (plain_flow flow) r w) }
+        meaning (program_of program.now) r n ≡ record { printed = w; end = Ended }
+        → FlatRun (plain_flow flow) r w) }
     ensures texts { IfOk result (λ flow. TextsFit (program_of program.now)) }
     ensures long { IfErr result (λ error. error ≡ LongText → HasLongText (program_of program.now)) }
 {

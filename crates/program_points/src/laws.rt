@@ -28,12 +28,14 @@ pub fn lawful_runs_are_runs_of_points()
 
 /// The points of a lawful program keep what is asked of points, where its texts are texts of a run.
 pub fn lawful_points_are_of_their_form()
-    ensures { (program : PlainProgram) → IsLawful program → TextsFit program → IsFlow (flat program) }
+    ensures { (program : PlainProgram) → IsLawful program → TextsFit program
+        → IsFlow (flat program) }
 {
     points_are_of_their_form();
 }
 
-/// A lawful program has at most 8 points for a node, 4 for a function, and two for each argument that a call leaves out.
+/// A lawful program has at most 8 points for a node, 4 for a function, and two for each argument
+/// that a call leaves out.
 pub fn lawful_points_are_few()
     ensures { (program : PlainProgram) → IsLawful program →
         length (points_in (flat program).functions_of)

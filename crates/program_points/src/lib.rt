@@ -1,5 +1,6 @@
-//! The points of lawful programs: laws alone. What a lawful program keeps stands in php_program, and what points ask of a program in
-//! flow_runs; the texts that stand in a program are listed by specs/Texts.antt.
+//! The points of lawful programs: laws alone. What a lawful program keeps stands in php_program,
+//! and what points ask of a program in flow_runs; the texts that stand in a program are listed by
+//! specs/Texts.antt.
 #![tactic(auto)]
 
 mod laws;

@@ -19,7 +19,8 @@ fn over_one(operand: &Expr) -> Size
 // Over two operands.
 #[cycle(expressions)]
 fn over_two(left: &Expr, right: &Expr) -> Size
-    ensures { result ≡ sizes.capped (sizes.of (1 + nodes (plain_expr left.now) + nodes (plain_expr right.now))
+    ensures { result ≡ sizes.capped
+        (sizes.of (1 + nodes (plain_expr left.now) + nodes (plain_expr right.now))
         (1 + max (height (plain_expr left.now)) (height (plain_expr right.now)))) }
 {
     size_of_expr(left).beside(size_of_expr(right)).above()
@@ -29,8 +30,10 @@ fn over_two(left: &Expr, right: &Expr) -> Size
 #[cycle(expressions)]
 fn over_three(middle: &Option<Box<Expr>>, left: &Expr, right: &Expr) -> Size
     ensures { result ≡ sizes.capped (sizes.of
-        (1 + nodes (plain_expr left.now) + maybe_nodes (boxed_of middle.now) + nodes (plain_expr right.now))
-        (1 + max (height (plain_expr left.now)) (max (maybe_height (boxed_of middle.now)) (height (plain_expr right.now))))) }
+        (1 + nodes (plain_expr left.now) + maybe_nodes (boxed_of middle.now) + nodes
+        (plain_expr right.now))
+        (1 + max (height (plain_expr left.now))
+        (max (maybe_height (boxed_of middle.now)) (height (plain_expr right.now))))) }
 {
     let first = size_of_expr(left).beside(size_of_boxed(middle));
     first.beside(size_of_expr(right)).above()
@@ -39,7 +42,8 @@ fn over_three(middle: &Option<Box<Expr>>, left: &Expr, right: &Expr) -> Size
 // Over a target, which is a node over its keys, and a value.
 #[cycle(expressions)]
 fn over_assignment(keys: &[Option<Expr>], value: &Expr) -> Size
-    ensures { result ≡ sizes.capped (sizes.of (2 + path_nodes (path_of keys.now) + nodes (plain_expr value.now))
+    ensures { result ≡ sizes.capped
+        (sizes.of (2 + path_nodes (path_of keys.now) + nodes (plain_expr value.now))
         (1 + max (1 + path_height (path_of keys.now)) (height (plain_expr value.now)))) }
 {
     let target = size_of_path(keys).above();

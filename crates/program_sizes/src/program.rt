@@ -19,9 +19,10 @@ use program_files::{LoadRefusal, ScriptFiles};
 use program_rules::limits::{NODE_LIMIT, PLACE_LIMIT, PROGRAM_HEIGHT_LIMIT};
 use std::alloc::Global;
 
-/// Whether the program that files stand for is within the limits: at most 256 places of includes, 200,000 nodes, and a height of 1,000, with each
-/// include replaced. `order` has the places of all files, each behind those that it includes, and `main` is the tree of the program.
-/// Takes time linear in the files.
+/// Whether the program that files stand for is within the limits: at most 256 places of includes,
+/// 200,000 nodes, and a height of 1,000, with each include replaced. `order` has the places of all
+/// files, each behind those that it includes, and `main` is the tree of the program. Takes time
+/// linear in the files.
 ///
 /// # Errors
 ///
@@ -34,10 +35,13 @@ pub fn check_sizes(
 ) -> Result<(), LoadRefusal>
     requires whole { AreWhole (files_of files.now) }
     requires order { IsFileOrder (files_of files.now) order.now }
-    requires main { (file : ReadFile) × Contains (files_of files.now) file × (file.tree ≡ plain_file main.now) }
-    ensures ok { OnOk result (IsWithin (program_places (files_of files.now) (length order.now) (plain_file main.now))
+    requires main { (file : ReadFile) × Contains (files_of files.now) file
+        × (file.tree ≡ plain_file main.now) }
+    ensures ok { OnOk result
+        (IsWithin (program_places (files_of files.now) (length order.now) (plain_file main.now))
         (program_within (files_of files.now) (length order.now) (plain_file main.now))) }
-    ensures err { IfErr result (IsSizeCause (program_places (files_of files.now) (length order.now) (plain_file main.now))
+    ensures err { IfErr result
+        (IsSizeCause (program_places (files_of files.now) (length order.now) (plain_file main.now))
         (program_within (files_of files.now) (length order.now) (plain_file main.now))) }
 {
     let table = table_of(alloc, files, order)?;
@@ -63,8 +67,10 @@ pub fn check_sizes(
 // The size of the program, by a table of the sizes of what files stand for.
 fn size_of_program(files: &ScriptFiles, table: &[Size], main: &FileTree) -> Size
     ensures { result ≡ sizes.capped (sizes.above (sizes.beside
-        (sizes.of_stmts (sizes.size_at (files_of files.now) table.now) (stmts_of main.now.body.items))
-        (sizes.of_functions (sizes.size_at (files_of files.now) table.now) (functions_in (files_of files.now))))) }
+        (sizes.of_stmts (sizes.size_at (files_of files.now) table.now)
+        (stmts_of main.now.body.items))
+        (sizes.of_functions (sizes.size_at (files_of files.now) table.now)
+        (functions_in (files_of files.now))))) }
 {
     let body = size_of_stmts(files, table, main.body.as_slice());
     body.beside(size_of_all(files, table)).above()
@@ -72,7 +78,9 @@ fn size_of_program(files: &ScriptFiles, table: &[Size], main: &FileTree) -> Size
 
 // The functions of all files.
 fn size_of_all(files: &ScriptFiles, table: &[Size]) -> Size
-    ensures { result ≡ sizes.capped (sizes.of_functions (sizes.size_at (files_of files.now) table.now) (functions_in (files_of files.now))) }
+    ensures { result ≡ sizes.capped
+        (sizes.of_functions (sizes.size_at (files_of files.now) table.now)
+        (functions_in (files_of files.now))) }
 {
     let mut size = Size::none();
     for place in 0..files.len() {

@@ -3,8 +3,8 @@
 ghost use Rattle.std.specs.Prelude.{◌≡◌};
 ghost use Rattle.program_sizes.specs.Sizes as sizes;
 
-/// How many places of includes were replaced in statements, how many nodes they have, and how high they are; where a number would be
-/// larger than the largest 64-bit number, it is that.
+/// How many places of includes were replaced in statements, how many nodes they have, and how high
+/// they are; where a number would be larger than the largest 64-bit number, it is that.
 #[derive(Clone, Copy, Debug)]
 pub(crate) struct Size {
     pub(crate) places: u64,
@@ -26,7 +26,8 @@ impl Size {
 
     /// Both, side by side.
     pub(crate) fn beside(self, other: Size) -> Size
-        ensures { (a b : Size) → self ≡ sizes.capped a → other ≡ sizes.capped b → result ≡ sizes.capped (sizes.beside a b) }
+        ensures { (a b : Size) → self ≡ sizes.capped a → other ≡ sizes.capped b → result
+            ≡ sizes.capped (sizes.beside a b) }
     {
         Size {
             places: self.places.saturating_add(other.places),

@@ -37,7 +37,8 @@ fn zero() -> Size
 
 // The statements of an include.
 fn size_of_include(files: &ScriptFiles, table: &[Size], path: &Bytes) -> Size
-    ensures { result ≡ sizes.capped (sizes.included (sizes.size_at (files_of files.now) table.now path.now)) }
+    ensures { result ≡ sizes.capped
+        (sizes.included (sizes.size_at (files_of files.now) table.now path.now)) }
 {
     size_at(files, table, path).included()
 }
@@ -45,7 +46,8 @@ fn size_of_include(files: &ScriptFiles, table: &[Size], path: &Bytes) -> Size
 /// The size of statements, by a table of the sizes of what files stand for.
 #[cycle(statements)]
 pub(crate) fn size_of_stmts(files: &ScriptFiles, table: &[Size], stmts: &[Stmt]) -> Size
-    ensures { result ≡ sizes.capped (sizes.of_stmts (sizes.size_at (files_of files.now) table.now) (stmts_of stmts.now)) }
+    ensures { result ≡ sizes.capped
+        (sizes.of_stmts (sizes.size_at (files_of files.now) table.now) (stmts_of stmts.now)) }
 {
     let mut size = Size::none();
     for stmt in stmts {
@@ -57,7 +59,8 @@ pub(crate) fn size_of_stmts(files: &ScriptFiles, table: &[Size], stmts: &[Stmt])
 // Of the arms of an `if`.
 #[cycle(statements)]
 fn size_of_arms(files: &ScriptFiles, table: &[Size], arms: &[(Expr, Vec<Stmt>)]) -> Size
-    ensures { result ≡ sizes.capped (sizes.of_arms (sizes.size_at (files_of files.now) table.now) (arms_of arms.now)) }
+    ensures { result ≡ sizes.capped
+        (sizes.of_arms (sizes.size_at (files_of files.now) table.now) (arms_of arms.now)) }
 {
     let mut size = Size::none();
     for arm in arms {
@@ -107,7 +110,8 @@ fn size_of_do(files: &ScriptFiles, table: &[Size], body: &[Stmt], test: &Expr) -
 
 // Of what stands before the body of a `for`.
 fn size_of_head(begin: &[Expr], test: &Option<Expr>, next: &[Expr]) -> Size
-    ensures { result ≡ sizes.capped (sizes.beside (sizes.beside (sizes.of_exprs (exprs_of begin.now))
+    ensures { result ≡ sizes.capped
+        (sizes.beside (sizes.beside (sizes.of_exprs (exprs_of begin.now))
         (sizes.of_maybe (maybe_of test.now))) (sizes.of_exprs (exprs_of next.now))) }
 {
     let first = size_of_exprs(begin).beside(size_of_maybe(test));
@@ -124,7 +128,8 @@ fn size_of_for(
     next: &[Expr],
     body: &[Stmt],
 ) -> Size
-    ensures { result ≡ sizes.capped (sizes.above (sizes.beside (sizes.beside (sizes.beside (sizes.of_exprs (exprs_of begin.now))
+    ensures { result ≡ sizes.capped
+        (sizes.above (sizes.beside (sizes.beside (sizes.beside (sizes.of_exprs (exprs_of begin.now))
         (sizes.of_maybe (maybe_of test.now))) (sizes.of_exprs (exprs_of next.now)))
         (sizes.of_stmts (sizes.size_at (files_of files.now) table.now) (stmts_of body.now)))) }
 {
@@ -164,7 +169,8 @@ fn size_over_maybe(expr: &Option<Expr>) -> Size
 #[cycle(statements)]
 #[tactic(auto, using(php_syntax::proofs::Views::views), unfolding(crate::specs::Sizes::of_stmts))]
 fn size_of_stmt(files: &ScriptFiles, table: &[Size], stmt: &Stmt) -> Size
-    ensures { result ≡ sizes.capped (sizes.of_stmt (sizes.size_at (files_of files.now) table.now) (plain_stmt stmt.now)) }
+    ensures { result ≡ sizes.capped
+        (sizes.of_stmt (sizes.size_at (files_of files.now) table.now) (plain_stmt stmt.now)) }
 {
     match stmt {
         Stmt::Inline(_) => plain_size(),
@@ -207,7 +213,9 @@ pub(crate) fn size_of_functions(
     table: &[Size],
     functions: &[FunctionDef],
 ) -> Size
-    ensures { result ≡ sizes.capped (sizes.of_functions (sizes.size_at (files_of files.now) table.now) (functions_of_list functions.now)) }
+    ensures { result ≡ sizes.capped
+        (sizes.of_functions (sizes.size_at (files_of files.now) table.now)
+        (functions_of_list functions.now)) }
 {
     let mut size = Size::none();
     for function in functions {

@@ -12,7 +12,8 @@ use program_files::ScriptFiles;
 use std::alloc::Global;
 use text_base::NoMemory;
 
-/// For each file, by its place, the size of what its statements stand for. Each file is measured where it stands in the order.
+/// For each file, by its place, the size of what its statements stand for. Each file is measured
+/// where it stands in the order.
 pub(crate) fn table_of(
     alloc: Global,
     files: &ScriptFiles,

@@ -1,4 +1,5 @@
-//! What it says that files were read in the order of their includes. Each function stands for the law that its contract states.
+//! What it says that files were read in the order of their includes. Each function stands for the
+//! law that its contract states.
 #![tactic(auto)]
 
 ghost use Rattle.std.specs.Prelude.{ℕ, List, [], Option};
@@ -9,10 +10,11 @@ ghost use Rattle.program_rules.specs.Programs.{ReadFile, AreRead};
 ghost use Rattle.program_files.specs.Order.{Reached};
 ghost use Rattle.program_files.specs.Source.{HasTold};
 
-/// Whatever a source told while files were read, each once, there is what it held: the bytes of each file that was read, and all that the
-/// source tells of other names.
+/// Whatever a source told while files were read, each once, there is what it held: the bytes of
+/// each file that was read, and all that the source tells of other names.
 pub fn what_was_held()
-    ensures { (content : List ℕ → Option (Option (List ℕ))) (name : List ℕ) (files : List ReadFile) (paths : List (List ℕ)) →
+    ensures { (content : List ℕ → Option (Option (List ℕ))) (name : List ℕ) (files : List ReadFile)
+        (paths : List (List ℕ)) →
         Reached (HasTold content) name files paths →
         (held : Held) × Agrees content held × Reached (HasTree held) name files paths }
 {}
@@ -25,6 +27,7 @@ pub fn files_of_the_program()
 
 /// Each name that is looked at is one that the program reads.
 pub fn names_looked_at()
-    ensures { (held : Held) (name : List ℕ) (files : List ReadFile) (paths : List (List ℕ)) (path : List ℕ) →
+    ensures { (held : Held) (name : List ℕ) (files : List ReadFile) (paths : List (List ℕ))
+        (path : List ℕ) →
         Reached (HasTree held) name files paths → Contains paths path → Reads held name path }
 {}

@@ -1,4 +1,5 @@
-//! Tests of reading and writing scripts, over `php_lexer`, `php_parser`, `php_writer` and `round_trip`.
+//! Tests of reading and writing scripts, over `php_lexer`, `php_parser`, `php_writer` and
+//! `round_trip`.
 #![tactic(auto)]
 
 #[cfg(test)]

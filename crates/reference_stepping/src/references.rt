@@ -15,13 +15,15 @@ use std::alloc::Global;
 use text_base::NoMemory;
 use value_rules::{is_character_code, is_name, is_predefined};
 
-/// One character more in a reference, behind its `&` and before its `;` (XML 1.0, 4.1); none where no reference goes on so.
+/// One character more in a reference, behind its `&` and before its `;` (XML 1.0, 4.1); none where
+/// no reference goes on so.
 pub fn reference_step(
     alloc: Global,
     reference: &OpenReference,
     c: char,
 ) -> Result<Option<OpenReference>, NoMemory>
-    ensures { IfOk result (λ next. plain_next next ≡ steps.reference_step (plain_reference reference.now) c) }
+    ensures { IfOk result
+        (λ next. plain_next next ≡ steps.reference_step (plain_reference reference.now) c) }
 {
     match reference {
         OpenReference::Entity(name) => entity_step(alloc, name, c),
@@ -86,9 +88,11 @@ fn hexadecimal_step(number: u32, c: char) -> Option<OpenReference>
     }
 }
 
-/// Whether the reference may end there: it names a character, or an entity that is declared or one of the five of XML.
+/// Whether the reference may end there: it names a character, or an entity that is declared or one
+/// of the five of XML.
 pub fn reference_good(indexed: &IndexedDtd<'_>, reference: &OpenReference) -> bool
-    ensures { result ≡ steps.reference_good (table_of indexed.now.dtd.now).entities (plain_reference reference.now) }
+    ensures { result ≡ steps.reference_good (table_of indexed.now.dtd.now).entities
+        (plain_reference reference.now) }
 {
     match reference {
         OpenReference::Entity(name) => entity_good(indexed, name.as_slice()),
@@ -100,7 +104,8 @@ pub fn reference_good(indexed: &IndexedDtd<'_>, reference: &OpenReference) -> bo
 }
 
 fn entity_good(indexed: &IndexedDtd<'_>, name: &[char]) -> bool
-    ensures { result ≡ steps.reference_good (table_of indexed.now.dtd.now).entities (value.in_entity name.now) }
+    ensures { result ≡ steps.reference_good (table_of indexed.now.dtd.now).entities
+        (value.in_entity name.now) }
 {
     is_name(name) && (is_predefined(name) || indexed.has_entity(name))
 }

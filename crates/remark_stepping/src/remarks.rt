@@ -25,7 +25,8 @@ pub fn comment_move(dashes: u8, c: char) -> PageMove
     }
 }
 
-/// In a section, of which so many `]` are the last characters, two standing for all above (XML 1.0, 2.7).
+/// In a section, of which so many `]` are the last characters, two standing for all above (XML 1.0,
+/// 2.7).
 pub fn section_move(brackets: u8, c: char) -> PageMove
     ensures { plain_move result ≡ steps.section_move brackets c }
 {

@@ -14,7 +14,8 @@ pub fn any_is_done(s: &OpSystem)
     ensures { AnyIsDone s.now }
 {}
 
-/// An operation in no cycle is done by the image of its operand, where all that its operand depends on is done.
+/// An operation in no cycle is done by the image of its operand, where all that its operand depends
+/// on is done.
 pub fn image_is_done(s: &OpSystem)
     ensures { ImageIsDone s.now }
 {}

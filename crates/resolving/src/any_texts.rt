@@ -53,7 +53,8 @@ fn put_bytes(draft: &mut Draft, texts: Nt, set: &ByteSet) -> Result<(), NoMemory
     Ok(())
 }
 
-/// Adds all texts over the bytes of a set to those of a nonterminal: one nonterminal, and at most 258 productions.
+/// Adds all texts over the bytes of a set to those of a nonterminal: one nonterminal, and at most
+/// 258 productions.
 pub fn add_any_texts(
     alloc: Global,
     draft: &mut Draft,

@@ -10,8 +10,8 @@ use op_system::OpSystem;
 use std::alloc::Global;
 use text_base::NoMemory;
 
-/// Productions, and for each nonterminal the places of its productions among them. The nonterminals are the numbers
-/// below the length of `places`.
+/// Productions, and for each nonterminal the places of its productions among them. The nonterminals
+/// are the numbers below the length of `places`.
 #[derive(Drop)]
 pub struct Draft {
     pub productions: Vec<Production>,

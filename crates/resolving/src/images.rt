@@ -55,7 +55,8 @@ fn put_moved(
     requires room { base + count ≤ length draft.old.places.items }
     requires fits { base + count < 18446744073709551616 }
     requires below { AreBelow count productions.now }
-    ensures { OnOk result (AddsProductions base productions.now (length productions.now) draft.old draft.new) }
+    ensures { OnOk result
+        (AddsProductions base productions.now (length productions.now) draft.old draft.new) }
 {
     for production in productions {
         if !production.is_without_token() {
@@ -85,7 +86,8 @@ pub fn add_grammar(
     Ok(())
 }
 
-/// The image of the texts that a draft derives for the operand of a rule, under the machine of its operation.
+/// The image of the texts that a draft derives for the operand of a rule, under the machine of its
+/// operation.
 pub fn image_of(
     alloc: Global,
     draft: &Draft,

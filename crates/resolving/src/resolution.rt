@@ -51,13 +51,16 @@ fn add_rules(
     Ok(())
 }
 
-/// One grammar whose sentences are exactly the texts of the start's set. An operation in a cycle stands there as all
-/// texts over its bytes, any other as the image of its operand. `Large` comes only where the image of an operation in no
-/// cycle has more items than the limit, so many that it says. No page token stands in the grammar; nonterminals that the
-/// start does not come to may stand there. Each operation is added once, in time and memory of its image; the rest is
-/// linear in the system, but for byte sets, which are passed on at most 256 times, and for the sort of the rules.
+/// One grammar whose sentences are exactly the texts of the start's set. An operation in a cycle
+/// stands there as all texts over its bytes, any other as the image of its operand. `Large` comes
+/// only where the image of an operation in no cycle has more items than the limit, so many that it
+/// says. No page token stands in the grammar; nonterminals that the start does not come to may
+/// stand there. Each operation is added once, in time and memory of its image; the rest is linear
+/// in the system, but for byte sets, which are passed on at most 256 times, and for the sort of the
+/// rules.
 pub fn resolve(alloc: Global, s: &OpSystem, limit: u64) -> Result<Grammar, ImageRefusal>
-    ensures exact { IfOk result (λ g. (w : List Letter) → Derives g.productions.items (symbols.Symbol.Nt g.start) w
+    ensures exact { IfOk result
+        (λ g. (w : List Letter) → Derives g.productions.items (symbols.Symbol.Nt g.start) w
         ↔ HasLetters s.now (symbols.Symbol.Nt s.now.start) w) }
     ensures plain { IfOk result (λ g. HaveNoToken g.productions.items) }
     ensures cause { IfErr result (IsCause s.now limit) }

@@ -18,7 +18,8 @@ use op_system::{OpRule, OpSystem};
 use std::alloc::Global;
 use text_base::ByteSet;
 
-/// Adds what the operation of a rule gives, where all rules are added whose left sides have lower numbers.
+/// Adds what the operation of a rule gives, where all rules are added whose left sides have lower
+/// numbers.
 pub fn add_rule(
     alloc: Global,
     s: &OpSystem,

@@ -38,7 +38,8 @@ fn replaced_in_a_loop(alloc: Global) -> Result<Option<OpSystem>, NoMemory> {
     Ok(OpSystem::new(grammar, ops, Nt(0)))
 }
 
-/// The texts of 0 are any number of `a` and a `<`, those of 1 are these escaped, and those of 2 these in capitals.
+/// The texts of 0 are any number of `a` and a `<`, those of 1 are these escaped, and those of 2
+/// these in capitals.
 fn escaped_in_capitals(alloc: Global, start: u64) -> Result<Option<OpSystem>, NoMemory> {
     let mut productions = Vec::new(alloc);
     productions.push(Production {

@@ -5,7 +5,8 @@ use indexmap::IndexSet;
 use std::alloc::Global;
 use text_base::{NoMemory, Nt};
 
-/// A nonterminal that derives the bytes from one place up to another, by its number and these places.
+/// A nonterminal that derives the bytes from one place up to another, by its number and these
+/// places.
 type Spans = IndexSet<(u64, usize, usize)>;
 
 /// Whether a symbol derives the bytes from one place up to another, by what has been found.

@@ -13,14 +13,16 @@ use php_syntax::tree::FileTree;
 use php_writer::write_tree;
 use std::alloc::Global;
 
-/// Writes a tree, cuts what is written into tokens and reads their tree: the tree again, where some file spells it. It calls
-/// itself as deep as the tree is high.
+/// Writes a tree, cuts what is written into tokens and reads their tree: the tree again, where some
+/// file spells it. It calls itself as deep as the tree is high.
 pub fn read_back(alloc: Global, tree: &FileTree) -> Result<FileTree, Unread>
     // The tree that is read is the tree that was written.
-    ensures same { IfOk result (λ again. IsSpelled (plain_file tree.now) → plain_file again ≡ plain_file tree.now) }
+    ensures same { IfOk result
+        (λ again. IsSpelled (plain_file tree.now) → plain_file again ≡ plain_file tree.now) }
 
     // It is not read only where the file is too long or too deep, or for want of memory.
-    ensures refused { IfErr result (λ e. IsSpelled (plain_file tree.now) → IsCauseOf (plain_file tree.now) e) }
+    ensures refused { IfErr result
+        (λ e. IsSpelled (plain_file tree.now) → IsCauseOf (plain_file tree.now) e) }
 {
     never_both();
     one_token_list();

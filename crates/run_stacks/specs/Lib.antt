@@ -1,4 +1,3 @@
-pub mod Bindings
 pub mod Rest
 pub mod Weights
 pub mod Moves

@@ -38,7 +38,8 @@ fn set_pair<'a>(
     key: Key,
     value: Value,
 ) -> Result<(), NoMemory>
-    ensures { OnOk result (SetsPair walk.now (plain_key key) (plain_of value) variables.old variables.new) }
+    ensures { OnOk result
+        (SetsPair walk.now (plain_key key) (plain_of value) variables.old variables.new) }
 {
     match walk.key {
         None => {

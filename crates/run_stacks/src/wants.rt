@@ -13,7 +13,8 @@ pub enum Wanted<'a> {
     Turn(Looping<'a>),
     /// A turn of a walk, with this key and this value.
     Step(Key, Value, Walking<'a>),
-    /// A call of a function with these arguments, and what waits for the value of the expression that it stands in.
+    /// A call of a function with these arguments, and what waits for the value of the expression
+    /// that it stands in.
     Call(&'a FunctionDef, Vec<Value>, Wait<'a>),
 }
 

@@ -1,4 +1,5 @@
-//! Calls of functions of a script (PHP manual, "User-defined functions", "Function parameters and arguments").
+//! Calls of functions of a script (PHP manual, "User-defined functions", "Function parameters and
+//! arguments").
 
 use crate::scripts::prints;
 use std::test::Fail;

@@ -25,23 +25,27 @@ fn check_indexed(
     goal: Goal,
     pairs: u64,
 ) -> Result<Answer, CheckRefusal>
-    ensures answer { IfOk result (IsAnswerOf goal (table_of indexed.now.dtd.now) (program_of program.now) pairs) }
-    ensures sound { IfOk result (SaysOfRuns goal (table_of indexed.now.dtd.now) (program_of program.now)) }
-    ensures refusal { IfErr result (IsCheckRefusal (table_of indexed.now.dtd.now) (program_of program.now)) }
+    ensures answer { IfOk result
+        (IsAnswerOf goal (table_of indexed.now.dtd.now) (program_of program.now) pairs) }
+    ensures sound { IfOk result
+        (SaysOfRuns goal (table_of indexed.now.dtd.now) (program_of program.now)) }
+    ensures refusal { IfErr result
+        (IsCheckRefusal (table_of indexed.now.dtd.now) (program_of program.now)) }
 {
     reads_pages(indexed.dtd);
     let reader = MergedReader { indexed };
     check_by(alloc, program, indexed.dtd, goal, reader, pairs)
 }
 
-/// Whether each loose page of the program is good by the goal and the definition, with at most `pairs`
-/// different sums of sentences a nonterminal. A yes says that each run that ends prints a good page, for
-/// every admitted request and every number of units.
+/// Whether each loose page of the program is good by the goal and the definition, with at most
+/// `pairs` different sums of sentences a nonterminal. A yes says that each run that ends prints a
+/// good page, for every admitted request and every number of units.
 ///
 /// # Errors
 ///
-/// `LongText` only where a text literal of the program has over 16,777,216 bytes; `Limit` only where the
-/// content models of the definition have over 4,096 states. `Memory` may come at any time.
+/// `LongText` only where a text literal of the program has over 16,777,216 bytes; `Limit` only
+/// where the content models of the definition have over 4,096 states. `Memory` may come at any
+/// time.
 pub fn check(
     alloc: Global,
     program: &Program,

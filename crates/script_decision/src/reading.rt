@@ -39,10 +39,13 @@ fn answer_grammar<R: ByteReader + Drop>(
     pairs: u64,
 ) -> Result<Answer, NoMemory>
     requires texts { TextsFit (program_of program.now) }
-    requires grammar { DerivePages (program_of program.now) grammar.now.productions.items grammar.now.start }
-    requires reads { ReadsPages (table_of dtd.now) (R.next reader) (R.puts reader) (R.lasts reader) (R.first reader) }
+    requires grammar { DerivePages (program_of program.now) grammar.now.productions.items
+        grammar.now.start }
+    requires reads { ReadsPages (table_of dtd.now) (R.next reader) (R.puts reader) (R.lasts reader)
+        (R.first reader) }
     requires sums { AreSumsOf goal (table_of dtd.now) sums.now }
-    ensures answer { IfOk result (IsAnswerBy (R.first reader) (EchoStep (R.next reader) (R.puts reader) (R.lasts reader))
+    ensures answer { IfOk result
+        (IsAnswerBy (R.first reader) (EchoStep (R.next reader) (R.puts reader) (R.lasts reader))
         goal (table_of dtd.now) (program_of program.now) pairs) }
     ensures sound { IfOk result (SaysOfRuns goal (table_of dtd.now) (program_of program.now)) }
 {
@@ -62,9 +65,11 @@ fn decide_program<R: ByteReader + Drop>(
     sums: &PageSums,
     pairs: u64,
 ) -> Result<Answer, CheckRefusal>
-    requires reads { ReadsPages (table_of dtd.now) (R.next reader) (R.puts reader) (R.lasts reader) (R.first reader) }
+    requires reads { ReadsPages (table_of dtd.now) (R.next reader) (R.puts reader) (R.lasts reader)
+        (R.first reader) }
     requires sums { AreSumsOf goal (table_of dtd.now) sums.now }
-    ensures answer { IfOk result (IsAnswerBy (R.first reader) (EchoStep (R.next reader) (R.puts reader) (R.lasts reader))
+    ensures answer { IfOk result
+        (IsAnswerBy (R.first reader) (EchoStep (R.next reader) (R.puts reader) (R.lasts reader))
         goal (table_of dtd.now) (program_of program.now) pairs) }
     ensures sound { IfOk result (SaysOfRuns goal (table_of dtd.now) (program_of program.now)) }
     ensures refusal { IfErr result (IsCheckRefusal (table_of dtd.now) (program_of program.now)) }
@@ -82,13 +87,14 @@ fn decide_program<R: ByteReader + Drop>(
     }
 }
 
-/// Whether each loose page of the program is good by the goal and the definition, by a reader that has
-/// the tokens of each page. A yes says that each run that ends prints a good page.
+/// Whether each loose page of the program is good by the goal and the definition, by a reader that
+/// has the tokens of each page. A yes says that each run that ends prints a good page.
 ///
 /// # Errors
 ///
-/// `LongText` only where a text literal of the program has over 16,777,216 bytes; `Limit` only where the
-/// content models of the definition have over 4,096 states. `Memory` may come at any time.
+/// `LongText` only where a text literal of the program has over 16,777,216 bytes; `Limit` only
+/// where the content models of the definition have over 4,096 states. `Memory` may come at any
+/// time.
 pub fn check_by<R: ByteReader + Drop>(
     alloc: Global,
     program: &Program,
@@ -97,8 +103,10 @@ pub fn check_by<R: ByteReader + Drop>(
     reader: R,
     pairs: u64,
 ) -> Result<Answer, CheckRefusal>
-    requires { ReadsPages (table_of dtd.now) (R.next reader) (R.puts reader) (R.lasts reader) (R.first reader) }
-    ensures answer { IfOk result (IsAnswerBy (R.first reader) (EchoStep (R.next reader) (R.puts reader) (R.lasts reader))
+    requires { ReadsPages (table_of dtd.now) (R.next reader) (R.puts reader) (R.lasts reader)
+        (R.first reader) }
+    ensures answer { IfOk result
+        (IsAnswerBy (R.first reader) (EchoStep (R.next reader) (R.puts reader) (R.lasts reader))
         goal (table_of dtd.now) (program_of program.now) pairs) }
     ensures sound { IfOk result (SaysOfRuns goal (table_of dtd.now) (program_of program.now)) }
     ensures refusal { IfErr result (IsCheckRefusal (table_of dtd.now) (program_of program.now)) }

@@ -1,4 +1,5 @@
-//! The words of the language that no function may have as its name (PHP manual, "List of Keywords").
+//! The words of the language that no function may have as its name (PHP manual, "List of
+//! Keywords").
 
 ghost use Rattle.std.specs.Prelude.{◌≡◌, Option, Some, None};
 ghost use Rattle.script_grammar.specs.Terminals.{keyword_of, find_word, cased_word, first_of_two, loop_words, branch_words, jump_words, value_words};

@@ -8,7 +8,8 @@ ghost use Rattle.script_grammar.specs.Operators.{binary_operator, prefix_operato
 use php_syntax::token::Sign;
 use php_syntax::tree::{ArithSign, CompareSign, UpdateSign};
 
-/// A level of precedence of the operators that stand between operands, from the loosest to the tightest.
+/// A level of precedence of the operators that stand between operands, from the loosest to the
+/// tightest.
 #[derive(Clone, Copy, Debug, PartialEq, Eq)]
 pub enum Level {
     /// `||`

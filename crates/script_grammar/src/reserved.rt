@@ -48,8 +48,8 @@ pub fn is_request(name: &[u8]) -> bool
     request_named(name).is_some()
 }
 
-/// Whether a variable of this name stands in the language: `$this`, `$GLOBALS`, `$_FILES`, `$_SESSION`, `$_ENV`,
-/// `$argv` and `$argc` do not.
+/// Whether a variable of this name stands in the language: `$this`, `$GLOBALS`, `$_FILES`,
+/// `$_SESSION`, `$_ENV`, `$argv` and `$argc` do not.
 pub fn is_known(name: &[u8]) -> bool
     ensures { result ≡ rule.is_known name.now }
 {

@@ -7,8 +7,9 @@ ghost use Rattle.script_grammar.specs.Statements as form;
 
 use php_syntax::tree::Expr;
 
-/// Whether an expression is a variable with subscripts, as an operand of `isset` and of `empty` has to be.
-#[tactic(auto, using(php_syntax::proofs::Views::views))]
+/// Whether an expression is a variable with subscripts, as an operand of `isset` and of `empty` has
+/// to be.
+#[tactic(auto, unfolding(php_syntax::specs::Trees::plain_expr))]
 pub fn is_place(expr: &Expr) -> bool
     ensures { result ≡ rule.is_place (plain_expr expr.now) }
 {
@@ -24,7 +25,7 @@ pub fn is_place(expr: &Expr) -> bool
 }
 
 // Whether an expression is an integer literal whose negation is an integer too.
-#[tactic(auto, using(php_syntax::proofs::Views::views))]
+#[tactic(auto, unfolding(php_syntax::specs::Trees::plain_expr))]
 fn is_negatable(expr: &Expr) -> bool
     ensures { result ≡ form.is_negatable (plain_expr expr.now) }
 {
@@ -39,8 +40,9 @@ fn is_negatable(expr: &Expr) -> bool
     }
 }
 
-/// Whether an expression is an integer or a negated one, which `exit` takes as its status and does not print.
-#[tactic(auto, using(php_syntax::proofs::Views::views))]
+/// Whether an expression is an integer or a negated one, which `exit` takes as its status and does
+/// not print.
+#[tactic(auto, unfolding(php_syntax::specs::Trees::plain_expr))]
 pub fn is_status(expr: &Expr) -> bool
     ensures { result ≡ form.is_status (plain_expr expr.now) }
 {

@@ -1,5 +1,6 @@
-//! Generated scripts, whose functions call one another inside loops, for tests and figures. `make` gives the script with
-//! so many functions; its contract cites `made` of specs/. Below stands text_base.
+//! Generated scripts, whose functions call one another inside loops, for tests and figures. `make`
+//! gives the script with so many functions; its contract cites `made` of specs/. Below stands
+//! text_base.
 #![tactic(auto)]
 
 mod lines;
@@ -27,15 +28,17 @@ fn script_up_to(alloc: Global, last: u32) -> Result<Bytes, NoMemory>
     Ok(Bytes::from_vec(script))
 }
 
-/// The script with so many functions, of which each but the first calls the one before it in a loop, and a page of XHTML
-/// 1.0 Strict with what the last one prints. It has 318 bytes for 1 and 17,904 for 200.
+/// The script with so many functions, of which each but the first calls the one before it in a
+/// loop, and a page of XHTML 1.0 Strict with what the last one prints. It has 318 bytes for 1 and
+/// 17,904 for 200.
 ///
 /// # Errors
 ///
 /// `Size` exactly where `functions` is 0 or over 1,000, and `Memory`.
 pub fn make(alloc: Global, functions: u32) -> Result<Bytes, MakeRefusal>
     ensures ok { IfOk result (λ script. IsSize functions × (script ≡ made functions)) }
-    ensures err { IfErr result (λ refusal. (refusal ≡ Memory) ⊎ (refusal ≡ Size functions) × ¬ (IsSize functions)) }
+    ensures err { IfErr result
+        (λ refusal. (refusal ≡ Memory) ⊎ (refusal ≡ Size functions) × ¬ (IsSize functions)) }
 {
     if functions == 0 || functions > FUNCTION_LIMIT {
         return Err(MakeRefusal::Size { functions });

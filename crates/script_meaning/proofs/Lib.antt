@@ -5,4 +5,4 @@ mod LaterRuns
 mod More
 mod MoreRuns
 mod Keeps
-mod Loops
+pub mod Loops

@@ -5,7 +5,7 @@ use Rattle.php_syntax.specs.Trees.{PlainExpr, MaybeExpr, PlainExprs, PlainStmts,
 use Rattle.plain_values.specs.Plain.{Plain}
 use Rattle.script_meaning.specs.Requests.{PlainRequest}
 use Rattle.script_meaning.specs.Runs.{State, Run, Going, Over, Spent, ◌then_do◌, unit_at}
-use Rattle.script_meaning.specs.Expressions.{values}
+use Rattle.script_meaning.specs.Expressions.{Environment, values}
 use Rattle.script_meaning.specs.Statements.{Flow, goes_on, breaks, continues, returns, turn_after, turn, turns, loop, nothing, condition, for_condition, statements}
 use Rattle.script_meaning.specs.Meaning.{call_within}
 use Rattle.script_meaning.proofs.Later.{After}
@@ -79,3 +79,7 @@ pub while_turns : (r : PlainRequest) (fs : List PlainFunction) (room : ℕ) (e :
 while_turns r fs room e body =
     let g = calls_go_on r fs room in
     record { tests = after_condition _ g e; bodies = after_statements _ g body; nexts = after_nothing }
+
+-- any loop of a script: the test, and where it holds a turn, what stands behind it, and the loop again
+pub by_turns : (r : PlainRequest) (fs : List PlainFunction) (room : ℕ) (e : MaybeExpr) (next : PlainExprs) (body : PlainStmts) (s : State) → let w : Environment = record { request = r; call = call_within r fs room } in loop (for_condition w e) (statements w body) (values w next) s ≡ (for_condition w e s then_do λ holds t. (if holds then turn (statements w body) t (λ u. (values w next u then_do λ vs v. loop (for_condition w e) (statements w body) (values w next) v)) else Going goes_on t))
+by_turns r fs room e next body s = loop_turns _ _ _ (for_turns r fs room e next body) s

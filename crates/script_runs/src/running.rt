@@ -32,7 +32,8 @@ fn finish<'a>(
 ) -> Result<End, NoMemory>
     requires { IsReady pending.old first }
     ensures { IfOk result (λ end. record { printed = pending.new.printed; end = plain_end end }
-        ≡ outcome request.now (functions_of_list functions.now.all.now) pending.old first.entry steps) }
+        ≡ outcome request.now (functions_of_list functions.now.all.now) pending.old first.entry
+        steps) }
 {
     let mut next = first;
     let mut left = steps;
@@ -50,15 +51,16 @@ fn finish<'a>(
     }
 }
 
-/// Runs a program for a request within so many units: a statement takes one, a turn of a loop one, and a call of one of its
-/// functions one.
+/// Runs a program for a request within so many units: a statement takes one, a turn of a loop one,
+/// and a call of one of its functions one.
 pub fn run(
     alloc: Global,
     program: &Program,
     request: &Request,
     steps: u64,
 ) -> Result<Ended, NoMemory>
-    ensures { IfOk result (λ ended. plain_outcome ended ≡ meaning (program_of program.now) request.now steps) }
+    ensures { IfOk result
+        (λ ended. plain_outcome ended ≡ meaning (program_of program.now) request.now steps) }
 {
     let functions = Functions {
         all: &program.functions,

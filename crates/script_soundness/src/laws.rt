@@ -13,8 +13,10 @@ ghost use Rattle.loose_sets.specs.Loose.{Loose};
 /// For every admitted request and every number of units: where the run of a program ends, what it
 /// printed is a loose page of the program's points.
 pub fn ended_runs_print_loose_pages()
-    ensures { (program : PlainProgram) (r : PlainRequest) (n : ℕ) (w : List ℕ) → HaveDefaults program.functions_of → ProgramFits program
-        → Admitted r → meaning program r n ≡ record { printed = w; end = Ended } → Loose (flat program) w }
+    ensures { (program : PlainProgram) (r : PlainRequest) (n : ℕ) (w : List ℕ)
+        → HaveDefaults program.functions_of → ProgramFits program
+        → Admitted r → meaning program r n ≡ record { printed = w; end = Ended }
+        → Loose (flat program) w }
 {
     flow_runs::ended_runs_are_runs_of_points();
     flow_runs::points_are_of_their_form();

@@ -137,7 +137,8 @@ fn join_closers(
     second: &[Option<u16>],
     openers: &[u16],
 ) -> Result<SegmentSum, NoMemory>
-    ensures { IfOk result (λ sum. sum ≡ meet closers.now first.now [] (closer.now ∷ more.now) second.now openers.now) }
+    ensures { IfOk result
+        (λ sum. sum ≡ meet closers.now first.now [] (closer.now ∷ more.now) second.now openers.now) }
 {
     let states = leading_into(alloc, first, closer)?;
     if !has_state(&states) {
@@ -168,7 +169,8 @@ fn join_openers(
     second: &[Option<u16>],
     inner: &[u16],
 ) -> Result<SegmentSum, NoMemory>
-    ensures { IfOk result (λ sum. sum ≡ meet closers.now first.now (opener ∷ outer.now) [] second.now inner.now) }
+    ensures { IfOk result
+        (λ sum. sum ≡ meet closers.now first.now (opener ∷ outer.now) [] second.now inner.now) }
 {
     let state = match target(second, opener) {
         Some(state) => state,
@@ -202,7 +204,8 @@ fn join_rest(
     inner: &[u16],
 ) -> Result<SegmentSum, NoMemory>
     requires { (outer.now ≡ []) ⊎ (more.now ≡ []) }
-    ensures { IfOk result (λ sum. sum ≡ meet closers.now first.now outer.now more.now second.now inner.now) }
+    ensures { IfOk result
+        (λ sum. sum ≡ meet closers.now first.now outer.now more.now second.now inner.now) }
 {
     match outer.split_first() {
         Some((opener, rest)) => join_openers(alloc, closers, first, *opener, rest, second, inner),

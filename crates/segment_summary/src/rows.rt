@@ -45,7 +45,8 @@ pub fn mark_row(
     segments: &Segments,
     mark: Mark,
 ) -> Result<Vec<Option<u16>>, NoMemory>
-    ensures { IfOk result (λ m. m.items ≡ by_label (automaton_of segments.now) (other (mark_of mark))) }
+    ensures { IfOk result
+        (λ m. m.items ≡ by_label (automaton_of segments.now) (other (mark_of mark))) }
 {
     let mut moves = Vec::new(alloc);
     for state in 0..segments.count() {
@@ -60,7 +61,9 @@ pub fn closing_states(
     segments: &Segments,
     element: Elem,
 ) -> Result<StateSet, NoMemory>
-    ensures { IfOk result (λ s. s ≡ by_state (automaton_of segments.now) ((automaton_of segments.now).closes element.0)) }
+    ensures { IfOk result
+        (λ s. s ≡ by_state (automaton_of segments.now)
+        ((automaton_of segments.now).closes element.0)) }
 {
     let mut bits = Vec::new(alloc);
     for state in 0..segments.count() {

@@ -33,7 +33,8 @@ fn besides_of(content: &Content) -> Besides
 
 /// What may stand in each element.
 pub fn besides_of_all(alloc: Global, elements: &[ElementRule]) -> Result<Vec<Besides>, NoMemory>
-    ensures { IfOk result (λ v. v.items ≡ map (λ (r : Rule). spec.besides_of r.holding) (map rule_of elements.now)) }
+    ensures { IfOk result
+        (λ v. v.items ≡ map (λ (r : Rule). spec.besides_of r.holding) (map rule_of elements.now)) }
 {
     let mut besides = Vec::new(alloc);
     for element in elements {

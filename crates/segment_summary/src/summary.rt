@@ -20,7 +20,8 @@ use tag_sums::Summary;
 use text_base::{Elem, NoMemory, PageToken};
 
 fn sum_of_start(alloc: Global, segments: &Segments, element: Elem) -> Result<SegmentSum, NoMemory>
-    ensures { IfOk result (λ s. s ≡ opening (automaton_of segments.now) ((automaton_of segments.now).init element.0)) }
+    ensures { IfOk result
+        (λ s. s ≡ opening (automaton_of segments.now) ((automaton_of segments.now).init element.0)) }
 {
     let state = match segments.init(element) {
         Some(state) => state,

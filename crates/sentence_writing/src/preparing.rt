@@ -33,7 +33,8 @@ fn piece_of(pieces: &[Option<Piece>], part: Part) -> Option<Piece>
 
 /// Puts a fork behind the others.
 fn push_fork(forks: &mut Vec<Fork>, first: Piece, second: Piece) -> Result<Piece, NoMemory>
-    ensures { IfOk result (λ made. Joins forks.old.items forks.new.items (Some first) (Some second) (Some made)) }
+    ensures { IfOk result
+        (λ made. Joins forks.old.items forks.new.items (Some first) (Some second) (Some made)) }
 {
     let place = forks.len() as u64;
     forks.push(Fork { first, second })?;
@@ -100,10 +101,11 @@ fn last_piece(pieces: &[Option<Piece>]) -> Option<Piece>
     pieces[pieces.len() - 1]
 }
 
-/// Makes a derivation ready to be written: all the memory that this needs is taken here. The time is
-/// linear in the nodes.
+/// Makes a derivation ready to be written: all the memory that this needs is taken here. The time
+/// is linear in the nodes.
 pub fn prepare(alloc: Global, derivation: &Derivation) -> Result<Walk, NoMemory>
-    ensures { IfOk result (λ walk. (ps : List productions.Production) (left : nt.Nt) (w : List Letter) →
+    ensures { IfOk result
+        (λ walk. (ps : List productions.Production) (left : nt.Nt) (w : List Letter) →
         IsDerivation ps derivation.now.nodes.nodes.items left w → sentence_in walk ≡ bytes_in w) }
 {
     let mut forks = Vec::new(alloc);

@@ -61,9 +61,11 @@ pub(crate) fn fill(forks: &[Fork], stack: &mut Vec<Piece>, most: u64, chunk: &mu
     requires stacked { AreStacked (length forks.now) 0 stack.old.items }
     requires room { length forks.now < vec_capacity stack.old }
     requires wide { 4096 ≤ vec_capacity chunk.old }
-    ensures made { chunk.new.items ++ pending forks.now stack.new.items ≡ pending forks.now stack.old.items }
+    ensures made { chunk.new.items ++ pending forks.now stack.new.items
+        ≡ pending forks.now stack.old.items }
     ensures few { length chunk.new.items ≤ most }
-    ensures full { (length chunk.new.items ≡ min most 4096) ⊎ (pending forks.now stack.new.items ≡ []) }
+    ensures full { (length chunk.new.items ≡ min most 4096)
+        ⊎ (pending forks.now stack.new.items ≡ []) }
     ensures stacked { AreStacked (length forks.now) 0 stack.new.items }
     ensures room { length forks.now < vec_capacity stack.new }
     ensures wide { 4096 ≤ vec_capacity chunk.new }

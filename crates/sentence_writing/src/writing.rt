@@ -25,9 +25,14 @@ fn put_first<S: Sink>(
     requires stacked { AreStacked (length forks.now) 0 stack.old.items }
     requires room { length forks.now < vec_capacity stack.old }
     requires wide { 4096 ≤ vec_capacity chunk.old }
-    ensures ok { OnOk result (Appends (S.written sink.old) (S.written sink.new) (take most (pending forks.now stack.old.items))) }
-    ensures err { OnErr result (AppendsPrefix (S.written sink.old) (S.written sink.new) (take most (pending forks.now stack.old.items))) }
-    ensures failed { IsErrOf result SinkFault.Failed → Rises (S.faults sink.old) (S.faults sink.new) }
+    ensures ok { OnOk result
+        (Appends (S.written sink.old) (S.written sink.new)
+        (take most (pending forks.now stack.old.items))) }
+    ensures err { OnErr result
+        (AppendsPrefix (S.written sink.old) (S.written sink.new)
+        (take most (pending forks.now stack.old.items))) }
+    ensures failed { IsErrOf result SinkFault.Failed
+        → Rises (S.faults sink.old) (S.faults sink.new) }
     ensures faults { S.faults sink.old ≤ S.faults sink.new }
     ensures unfailed { result ≢ Err SinkFault.Failed → S.faults sink.new ≡ S.faults sink.old }
     ensures room { length forks.now < vec_capacity stack.new }
@@ -46,16 +51,20 @@ fn put_first<S: Sink>(
 }
 
 /// Puts the first bytes of the sentence into the sink, at most so many. It begins at the first byte
-/// each time. No memory is taken but what the sink takes, and the time is that of what is written and
-/// of the forks above it.
+/// each time. No memory is taken but what the sink takes, and the time is that of what is written
+/// and of the forks above it.
 ///
 /// # Errors
 ///
-/// Those of the sink: `Failed` where it failed, and `Memory`. A prefix of the bytes may then be written.
+/// Those of the sink: `Failed` where it failed, and `Memory`. A prefix of the bytes may then be
+/// written.
 pub fn yield_into<S: Sink>(walk: &mut Walk, most: u64, sink: &mut S) -> Result<(), SinkFault>
-    ensures ok { OnOk result (Appends (S.written sink.old) (S.written sink.new) (take most (sentence_in walk.old))) }
-    ensures err { OnErr result (AppendsPrefix (S.written sink.old) (S.written sink.new) (take most (sentence_in walk.old))) }
-    ensures failed { IsErrOf result SinkFault.Failed → Rises (S.faults sink.old) (S.faults sink.new) }
+    ensures ok { OnOk result
+        (Appends (S.written sink.old) (S.written sink.new) (take most (sentence_in walk.old))) }
+    ensures err { OnErr result
+        (AppendsPrefix (S.written sink.old) (S.written sink.new) (take most (sentence_in walk.old))) }
+    ensures failed { IsErrOf result SinkFault.Failed
+        → Rises (S.faults sink.old) (S.faults sink.new) }
     ensures faults { S.faults sink.old ≤ S.faults sink.new }
     ensures unfailed { result ≢ Err SinkFault.Failed → S.faults sink.new ≡ S.faults sink.old }
     ensures same { sentence_in walk.new ≡ sentence_in walk.old }

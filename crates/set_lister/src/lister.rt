@@ -10,7 +10,8 @@ use set_names::{NamedForm, SetName};
 use std::alloc::Global;
 use text_base::NoMemory;
 
-/// Has for each name of which it may be asked a list of forms: all ways in which the texts of the set are made.
+/// Has for each name of which it may be asked a list of forms: all ways in which the texts of the
+/// set are made.
 pub trait Lister {
     /// The names of which it may be asked.
     ghost asks: { Self → plain.SetName → Type 0 };

@@ -5,7 +5,7 @@ use Rattle.std.specs.List.{list_any}
 use Rattle.std.proofs.Common.{arith}
 use Rattle.plain_values.specs.Plain.{PlainKey, int_key}
 use Rattle.plain_values.specs.Keys.{same_key, canonical_integer, canonical_key}
-use Rattle.set_listing.proofs.KeyLemmas.{same_is}
+use Rattle.plain_values.proofs.SameKeys.{same_is}
 use Rattle.flow_code.specs.Points.{PlainKeyRef, int_ref, text_ref, read_ref, member_source, PlainFlow}
 use Rattle.least_sets.specs.Forms.{Form, text_form, same_form}
 use Rattle.loose_sets.specs.Keys.{literal_key, told_keys, is_among}

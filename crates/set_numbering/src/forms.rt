@@ -21,7 +21,8 @@ pub fn number_name(names: &mut IndexSet<SetName>, name: SetName) -> Result<u64, 
 
 /// The form by the numbers of its names.
 pub fn number_form(names: &mut IndexSet<SetName>, form: NamedForm) -> Result<RowForm, NoMemory>
-    ensures { IfOk result (λ row. IsFormNumbered names.old.keys names.new.keys (form_seen form) (form_of row)) }
+    ensures { IfOk result
+        (λ row. IsFormNumbered names.old.keys names.new.keys (form_seen form) (form_of row)) }
 {
     match form {
         NamedForm::Text(text) => Ok(RowForm::Text(text)),

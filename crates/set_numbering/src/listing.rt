@@ -63,15 +63,16 @@ fn take_up<L: Lister>(
     Ok(())
 }
 
-/// The rows of all these names, and of those that they name, and so on, which are numbered behind them.
-/// Linear in the rows, beside what the lister takes for them.
+/// The rows of all these names, and of those that they name, and so on, which are numbered behind
+/// them. Linear in the rows, beside what the lister takes for them.
 pub fn list_all<L: Lister>(
     alloc: Global,
     lister: &L,
     names: &mut IndexSet<SetName>,
 ) -> Result<Vec<Row>, NoMemory>
     requires { (n : plain.SetName) → Contains names.old.keys n → L.asks lister.now n }
-    ensures rows { IfOk result (λ rows. AreListed (L.asks lister.now) (L.lists lister.now) names.new.keys
+    ensures rows { IfOk result
+        (λ rows. AreListed (L.asks lister.now) (L.lists lister.now) names.new.keys
         (length names.new.keys) (cells_of rows.items)) }
     ensures keeps { OnOk result (Keeps names.old.keys names.new.keys) }
 {

@@ -31,7 +31,8 @@ fn number_all(
     names: &mut IndexSet<SetName>,
     some: &[SetName],
 ) -> Result<Vec<u64>, NoMemory>
-    ensures { IfOk result (λ numbers. AreNumbersOf names.old.keys names.new.keys some.now numbers.items) }
+    ensures { IfOk result
+        (λ numbers. AreNumbersOf names.old.keys names.new.keys some.now numbers.items) }
 {
     let mut numbers = Vec::new(alloc);
     for name in some {
@@ -43,7 +44,8 @@ fn number_all(
 
 /// Adds rows by which a set takes over others.
 fn take_over(rows: &mut Vec<Row>, set: u64, others: &[u64]) -> Result<(), NoMemory>
-    ensures { OnOk result (cells_of rows.new.items ≡ cells_of rows.old.items ++ map (start_cell set) others.now) }
+    ensures { OnOk result
+        (cells_of rows.new.items ≡ cells_of rows.old.items ++ map (start_cell set) others.now) }
 {
     for other in others {
         rows.push(Row {
@@ -54,17 +56,18 @@ fn take_over(rows: &mut Vec<Row>, set: u64, others: &[u64]) -> Result<(), NoMemo
     Ok(())
 }
 
-/// The sets of these names, and of all names that their rows name, and so on, as a table by numbers. Each
-/// name has one number, the rows of a number are exactly those that the lister lists for its name, and the
-/// start is one set more that takes over those of the names to begin with. Linear in the rows, beside what
-/// the lister takes for them.
+/// The sets of these names, and of all names that their rows name, and so on, as a table by
+/// numbers. Each name has one number, the rows of a number are exactly those that the lister lists
+/// for its name, and the start is one set more that takes over those of the names to begin with.
+/// Linear in the rows, beside what the lister takes for them.
 pub fn number_sets<L: Lister>(
     alloc: Global,
     lister: &L,
     starts: &[SetName],
 ) -> Result<Numbered, NoMemory>
     requires { (n : plain.SetName) → Contains starts.now n → L.asks lister.now n }
-    ensures { IfOk result (λ n. AreNumbered (L.asks lister.now) (L.lists lister.now) starts.now n.names.keys
+    ensures { IfOk result
+        (λ n. AreNumbered (L.asks lister.now) (L.lists lister.now) starts.now n.names.keys
         n.table.start n.table.count (cells_of n.table.rows.items)) }
 {
     let mut names = IndexSet::new(alloc);

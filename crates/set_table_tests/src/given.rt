@@ -1,4 +1,5 @@
-//! The grammar of given texts, on words and near misses (The Unicode Standard, table 3-7; XML 1.0, 2.2).
+//! The grammar of given texts, on words and near misses (The Unicode Standard, table 3-7; XML 1.0,
+//! 2.2).
 
 use crate::words::derives;
 use given_texts::given_texts;

@@ -9,9 +9,10 @@ use std::test::Fail;
 use system_writing::write_system;
 use text_base::{Bytes, NoMemory};
 
-/// The rows of the table, each by its set, its kind, a text, and other sets: 0 is `<p` before 1, or `?` where 4 says yes, or `!` where 5
-/// does; 1 is a text of 2 twice; 2 is `a` or nothing; 3 is an integer, or the request; 4 says what 6 says, which says yes; 5 has a text
-/// alone; 7 has the outputs of `Html` on 2.
+/// The rows of the table, each by its set, its kind, a text, and other sets: 0 is `<p` before 1, or
+/// `?` where 4 says yes, or `!` where 5 does; 1 is a text of 2 twice; 2 is `a` or nothing; 3 is an
+/// integer, or the request; 4 says what 6 says, which says yes; 5 has a text alone; 7 has the
+/// outputs of `Html` on 2.
 const ROWS: [(u64, u8, &[u8], u64, u64); 12] = [
     (0, b'b', b"<p", 1, 0),
     (0, b'w', b"?", 4, 0),
@@ -87,7 +88,8 @@ fn texts_of_sets(rt: HostRuntime) -> Result<(), Fail> {
     Ok(())
 }
 
-/// One rule: the outputs of `Html` on 2 are in 7. Each byte of a text but the last has a nonterminal.
+/// One rule: the outputs of `Html` on 2 are in 7. Each byte of a text but the last has a
+/// nonterminal.
 #[test]
 fn rules_and_counts(rt: HostRuntime) -> Result<(), Fail> {
     let alloc = rt.alloc();

@@ -68,7 +68,8 @@ fn add(found: &mut Vec<bool>, word: &[u8], production: Production) -> bool {
     is_more
 }
 
-/// Whether the productions, over nonterminals below 100, lead from a nonterminal to the word, in up to 100 rounds.
+/// Whether the productions, over nonterminals below 100, lead from a nonterminal to the word, in up
+/// to 100 rounds.
 pub fn derives(
     alloc: Global,
     productions: &[Production],

@@ -6,7 +6,8 @@ ghost use Rattle.set_tables.specs.Below.{row_below, RowsAreBelow};
 
 use crate::rows::Row;
 
-/// A table of sets. The sets are the numbers below `count`; the type keeps that each number in it is one of them.
+/// A table of sets. The sets are the numbers below `count`; the type keeps that each number in it
+/// is one of them.
 #[derive(Debug, Drop)]
 pub struct SetTable {
     pub start: u64,
@@ -17,9 +18,11 @@ pub struct SetTable {
 }
 
 impl SetTable {
-    /// The table of these rows; None exactly where the start or a number in a row is not below the count.
+    /// The table of these rows; None exactly where the start or a number in a row is not below the
+    /// count.
     pub fn new(start: u64, count: u64, rows: Vec<Row>) -> Option<SetTable>
-        ensures kept { IfSome result (λ t. (t.start ≡ start) × (t.count ≡ count) × (t.rows.items ≡ rows.items)) }
+        ensures kept { IfSome result
+            (λ t. (t.start ≡ start) × (t.count ≡ count) × (t.rows.items ≡ rows.items)) }
         ensures variant { IsSome result ↔ ((start < count) × RowsAreBelow count rows.items) }
     {
         if start < count && are_below(count, &rows) {

@@ -1,5 +1,7 @@
-//! The versions of slots by names of sets: which version a point reads, by numbers alone, for every point and slot. Where a point reads a slot it is the
-//! one that ssa_form has, so that versions are exact for the rows by versions (`AreExact` of version_rows, in proofs/). Below stand ssa_form and set_names.
+//! The versions of slots by names of sets: which version a point reads, by numbers alone, for every
+//! point and slot. Where a point reads a slot it is the one that ssa_form has, so that versions are
+//! exact for the rows by versions (`AreExact` of version_rows, in proofs/). Below stand ssa_form
+//! and set_names.
 #![tactic(auto)]
 
 ghost use Rattle.std.specs.Prelude.{◌≡◌};
@@ -21,7 +23,8 @@ pub fn by_numbers(version: Version) -> SetVersion
     }
 }
 
-/// The version of a slot at a point; a join there where the point does not read it. In constant time.
+/// The version of a slot at a point; a join there where the point does not read it. In constant
+/// time.
 pub fn version_read(versions: &Versions, point: u64, slot: Slot) -> SetVersion
     ensures { result ≡ read_at versions.now point slot.0 }
 {

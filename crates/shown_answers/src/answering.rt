@@ -22,9 +22,11 @@ use text_base::NoMemory;
 
 /// An answer as it is shown.
 fn show(alloc: Global, answer: Answer) -> Result<ShownAnswer, NoMemory>
-    ensures answer { IfOk result (λ shown. (goal : goals.Goal) (table : Table) (program : PlainProgram) (limit : ℕ)
+    ensures answer { IfOk result
+        (λ shown. (goal : goals.Goal) (table : Table) (program : PlainProgram) (limit : ℕ)
         → IsAnswerOf goal table program limit answer → IsShownAnswer goal table program limit shown) }
-    ensures runs { IfOk result (λ shown. (goal : goals.Goal) (table : Table) (program : PlainProgram)
+    ensures runs { IfOk result
+        (λ shown. (goal : goals.Goal) (table : Table) (program : PlainProgram)
         → SaysOfRuns goal table program answer → ShownSaysOfRuns goal table program shown) }
 {
     Ok(match answer {
@@ -36,14 +38,15 @@ fn show(alloc: Global, answer: Answer) -> Result<ShownAnswer, NoMemory>
     })
 }
 
-/// Whether each loose page of the program is good by the goal and the definition, with at most `pairs`
-/// different sums of sentences a nonterminal, as it is shown. A yes says that each run that ends prints a
-/// good page, for every admitted request and every number of units.
+/// Whether each loose page of the program is good by the goal and the definition, with at most
+/// `pairs` different sums of sentences a nonterminal, as it is shown. A yes says that each run that
+/// ends prints a good page, for every admitted request and every number of units.
 ///
 /// # Errors
 ///
-/// `LongText` only where a text literal of the program has over 16,777,216 bytes; `Limit` only where the
-/// content models of the definition have over 4,096 states. `Memory` may come at any time.
+/// `LongText` only where a text literal of the program has over 16,777,216 bytes; `Limit` only
+/// where the content models of the definition have over 4,096 states. `Memory` may come at any
+/// time.
 pub fn check_shown(
     alloc: Global,
     program: &Program,
@@ -51,7 +54,8 @@ pub fn check_shown(
     goal: Goal,
     pairs: u64,
 ) -> Result<ShownAnswer, CheckRefusal>
-    ensures answer { IfOk result (IsShownAnswer goal (table_of dtd.now) (program_of program.now) pairs) }
+    ensures answer { IfOk result
+        (IsShownAnswer goal (table_of dtd.now) (program_of program.now) pairs) }
     ensures sound { IfOk result (ShownSaysOfRuns goal (table_of dtd.now) (program_of program.now)) }
     ensures refusal { IfErr result (IsCheckRefusal (table_of dtd.now) (program_of program.now)) }
 {

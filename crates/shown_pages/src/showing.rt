@@ -28,8 +28,10 @@ pub struct ShownPage {
 
 /// The first bytes of the page of a derivation.
 fn front_of(alloc: Global, derivation: &Derivation) -> Result<Bytes, NoMemory>
-    ensures { IfOk result (λ front. (ps : List productions.Production) (left : nt.Nt) (w : List Letter) →
-        IsDerivation ps derivation.now.nodes.nodes.items left w → front ≡ take PAGE_LIMIT (bytes_in w)) }
+    ensures { IfOk result
+        (λ front. (ps : List productions.Production) (left : nt.Nt) (w : List Letter) →
+        IsDerivation ps derivation.now.nodes.nodes.items left w → front
+        ≡ take PAGE_LIMIT (bytes_in w)) }
 {
     let mut walk = prepare(alloc, derivation)?;
     let mut sink = MemSink::new(alloc, None);
@@ -47,7 +49,8 @@ fn front_of(alloc: Global, derivation: &Derivation) -> Result<Bytes, NoMemory>
 ///
 /// Want of memory.
 pub fn show_page(alloc: Global, derivation: &Derivation) -> Result<ShownPage, NoMemory>
-    ensures { IfOk result (λ shown. (ps : List productions.Production) (left : nt.Nt) (w : List Letter) →
+    ensures { IfOk result
+        (λ shown. (ps : List productions.Production) (left : nt.Nt) (w : List Letter) →
         IsDerivation ps derivation.now.nodes.nodes.items left w → Shows (bytes_in w) shown) }
 {
     lengths_are_right();

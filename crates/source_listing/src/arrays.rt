@@ -25,7 +25,8 @@ pub(crate) fn may_be_at(
     key: &Option<KeyRef>,
     number: u64,
 ) -> Result<bool, NoMemory>
-    ensures { IfOk result (λ r. r ≡ uses.may_be_at (told_of place.now) (plain_maybe_key key.now) number) }
+    ensures { IfOk result
+        (λ r. r ≡ uses.may_be_at (told_of place.now) (plain_maybe_key key.now) number) }
 {
     match place.told_key(number) {
         Some(told) => may_be(alloc, key, told),
@@ -41,7 +42,8 @@ pub(crate) fn is_exactly_at(
     key: &Option<KeyRef>,
     number: u64,
 ) -> Result<bool, NoMemory>
-    ensures { IfOk result (λ r. r ≡ arrays.is_exactly_at (told_of place.now) (plain_maybe_key key.now) number) }
+    ensures { IfOk result
+        (λ r. r ≡ arrays.is_exactly_at (told_of place.now) (plain_maybe_key key.now) number) }
 {
     match place.told_key(number) {
         Some(told) => is_exactly(alloc, key, told),
@@ -69,7 +71,8 @@ fn push_read_key(
     slot: Slot,
 ) -> Result<(), NoMemory>
     ensures { OnOk result (Adds forms.old.items forms.new.items
-        (arrays.key_forms (at_of place.now) place.now.point (plain_maybe_key (Some (KeyRef.Read slot))))) }
+        (arrays.key_forms (at_of place.now) place.now.point
+        (plain_maybe_key (Some (KeyRef.Read slot))))) }
 {
     push_form(forms, place.used(Aspect::Own(Half::Text), slot))?;
     push_text(alloc, forms, b"0")
@@ -108,7 +111,8 @@ fn push_item_under(
     item: &(Option<KeyRef>, Slot),
 ) -> Result<(), NoMemory>
     ensures { OnOk result (Adds forms.old.items forms.new.items
-        (arrays.item_under (told_of place.now) (at_of place.now) place.now.point number half (plain_item item.now))) }
+        (arrays.item_under (told_of place.now) (at_of place.now) place.now.point number half
+        (plain_item item.now))) }
 {
     let may_be = may_be_at(alloc, place, &item.0, number)?;
     push_where(forms, may_be, place.used(Aspect::Own(half), item.1))
@@ -124,7 +128,8 @@ fn push_item_elsewhere(
     item: &(Option<KeyRef>, Slot),
 ) -> Result<(), NoMemory>
     ensures { OnOk result (Adds forms.old.items forms.new.items
-        (arrays.item_elsewhere (told_of place.now) (at_of place.now) place.now.point half (plain_item item.now))) }
+        (arrays.item_elsewhere (told_of place.now) (at_of place.now) place.now.point half
+        (plain_item item.now))) }
 {
     let is_other = may_be_other(alloc, &item.0, place.told)?;
     push_where(forms, is_other, place.used(Aspect::Own(half), item.1))?;
@@ -157,7 +162,8 @@ fn push_items_under(
     items: &[(Option<KeyRef>, Slot)],
 ) -> Result<(), NoMemory>
     ensures { OnOk result (Adds forms.old.items forms.new.items
-        (flat_map (arrays.item_under (told_of place.now) (at_of place.now) place.now.point number half) (map plain_item items.now))) }
+        (flat_map (arrays.item_under (told_of place.now) (at_of place.now) place.now.point number
+        half) (map plain_item items.now))) }
 {
     for item in items {
         push_item_under(alloc, forms, place, number, half, item)?;
@@ -175,7 +181,8 @@ fn push_items_elsewhere(
     items: &[(Option<KeyRef>, Slot)],
 ) -> Result<(), NoMemory>
     ensures { OnOk result (Adds forms.old.items forms.new.items
-        (flat_map (arrays.item_elsewhere (told_of place.now) (at_of place.now) place.now.point half) (map plain_item items.now))) }
+        (flat_map (arrays.item_elsewhere (told_of place.now) (at_of place.now) place.now.point half)
+        (map plain_item items.now))) }
 {
     for item in items {
         push_item_elsewhere(alloc, forms, place, half, item)?;
@@ -210,7 +217,8 @@ pub(crate) fn push_array(
     aspect: Aspect,
 ) -> Result<(), NoMemory>
     ensures { OnOk result (Adds forms.old.items forms.new.items
-        (arrays.array_forms (told_of place.now) (at_of place.now) place.now.point (map plain_item items.now) aspect)) }
+        (arrays.array_forms (told_of place.now) (at_of place.now) place.now.point
+        (map plain_item items.now) aspect)) }
 {
     match aspect {
         Aspect::Own(half) => push_array_own(forms, half),

@@ -1,6 +1,7 @@
-//! The forms of what a source gives to its slot, for each aspect of it, in memory. The contracts cite the lists of set_listing (Uses, Arrays, Sources);
-//! one function has one kind of source, and puts its forms behind others. Below stand text_base, plain_values, value_operations, flow_code, ssa_form,
-//! set_names, told_keys and set_versions.
+//! The forms of what a source gives to its slot, for each aspect of it, in memory. The contracts
+//! cite the lists of set_listing (Uses, Arrays, Sources); one function has one kind of source, and
+//! puts its forms behind others. Below stand text_base, plain_values, value_operations, flow_code,
+//! ssa_form, set_names, told_keys and set_versions.
 #![tactic(auto)]
 
 mod arrays;

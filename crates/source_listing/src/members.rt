@@ -74,7 +74,8 @@ fn push_member_own(
     half: Half,
 ) -> Result<(), NoMemory>
     ensures { OnOk result (Adds forms.old.items forms.new.items
-        (arrays.member_forms (told_of place.now) (at_of place.now) place.now.point slot.0 (plain_key_ref key.now) (Aspect.Own half))) }
+        (arrays.member_forms (told_of place.now) (at_of place.now) place.now.point slot.0
+        (plain_key_ref key.now) (Aspect.Own half))) }
 {
     let name = member_name(alloc, place, half, key, slot)?;
     push_form(forms, NamedForm::Same(name))?;
@@ -92,7 +93,8 @@ pub(crate) fn push_member(
     aspect: Aspect,
 ) -> Result<(), NoMemory>
     ensures { OnOk result (Adds forms.old.items forms.new.items
-        (arrays.member_forms (told_of place.now) (at_of place.now) place.now.point slot.0 (plain_key_ref key.now) aspect)) }
+        (arrays.member_forms (told_of place.now) (at_of place.now) place.now.point slot.0
+        (plain_key_ref key.now) aspect)) }
 {
     match aspect {
         Aspect::Own(half) => push_member_own(alloc, forms, place, slot, key, half),

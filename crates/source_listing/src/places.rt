@@ -11,7 +11,8 @@ use ssa_form::Versions;
 use text_base::Slot;
 use told_keys::ToldKey;
 
-/// A point whose forms are listed, with the keys that are told apart and the versions that points read.
+/// A point whose forms are listed, with the keys that are told apart and the versions that points
+/// read.
 #[derive(Clone, Copy)]
 pub struct Place<'a> {
     pub told: &'a [ToldKey],

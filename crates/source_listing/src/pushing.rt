@@ -21,7 +21,8 @@ pub fn push_form(forms: &mut Vec<NamedForm>, form: NamedForm) -> Result<(), NoMe
 /// Puts a form behind the others, where the test holds.
 #[tactic(auto, using(crate::proofs::PlaceLemmas::ends), unfolding(set_listing::specs::Uses::where_so))]
 pub fn push_where(forms: &mut Vec<NamedForm>, holds: bool, form: NamedForm) -> Result<(), NoMemory>
-    ensures { OnOk result (Adds forms.old.items forms.new.items (where_so holds (form_seen form ∷ []))) }
+    ensures { OnOk result
+        (Adds forms.old.items forms.new.items (where_so holds (form_seen form ∷ []))) }
 {
     if holds {
         push_form(forms, form)

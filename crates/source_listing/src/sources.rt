@@ -193,7 +193,8 @@ fn push_truth(alloc: Global, forms: &mut Vec<NamedForm>, aspect: Aspect) -> Resu
     push_text(alloc, forms, b"")
 }
 
-/// The forms of what a source gives to its slot, behind the others. Its time is linear in the source for each key that stands in it, and in the keys that are told apart.
+/// The forms of what a source gives to its slot, behind the others. Its time is linear in the
+/// source for each key that stands in it, and in the keys that are told apart.
 #[tactic(auto, unfolding(set_listing::specs::Sources::source_forms))]
 pub fn push_source(
     alloc: Global,
@@ -203,7 +204,8 @@ pub fn push_source(
     aspect: Aspect,
 ) -> Result<(), NoMemory>
     ensures { OnOk result (Adds forms.old.items forms.new.items
-        (spec.source_forms (told_of place.now) (at_of place.now) place.now.point (plain_source source.now) aspect)) }
+        (spec.source_forms (told_of place.now) (at_of place.now) place.now.point
+        (plain_source source.now) aspect)) }
 {
     let own = is_own_text(aspect);
     match source {

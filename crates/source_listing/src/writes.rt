@@ -22,7 +22,8 @@ pub(crate) struct Write {
     pub value: Slot,
 }
 
-// Under one key, the member of a number: the old one where the key may be another, and the new one where it may be this one.
+// Under one key, the member of a number: the old one where the key may be another, and the new one
+// where it may be this one.
 #[tactic(auto, using(crate::proofs::PlaceLemmas::ends), unfolding(set_listing::specs::Arrays::put_under))]
 fn push_put_under(
     alloc: Global,
@@ -34,7 +35,8 @@ fn push_put_under(
     half: Half,
 ) -> Result<(), NoMemory>
     ensures { OnOk result (Adds forms.old.items forms.new.items
-        (arrays.put_under (told_of place.now) (at_of place.now) place.now.point write.from.0 (plain_maybe_key key.now) write.value.0 number half)) }
+        (arrays.put_under (told_of place.now) (at_of place.now) place.now.point write.from.0
+        (plain_maybe_key key.now) write.value.0 number half)) }
 {
     let is_this = is_exactly_at(alloc, place, key, number)?;
     push_where(
@@ -57,7 +59,8 @@ fn push_put_elsewhere(
     half: Half,
 ) -> Result<(), NoMemory>
     ensures { OnOk result (Adds forms.old.items forms.new.items
-        (arrays.put_elsewhere (told_of place.now) (at_of place.now) place.now.point write.from.0 (plain_maybe_key key.now) write.value.0 half)) }
+        (arrays.put_elsewhere (told_of place.now) (at_of place.now) place.now.point write.from.0
+        (plain_maybe_key key.now) write.value.0 half)) }
 {
     push_form(forms, place.used(Aspect::Others(half), write.from))?;
     push_form(forms, place.all_used(half, write.value))?;
@@ -77,7 +80,8 @@ fn push_deep_under(
     half: Half,
 ) -> Result<(), NoMemory>
     ensures { OnOk result (Adds forms.old.items forms.new.items
-        (arrays.deep_under (told_of place.now) (at_of place.now) place.now.point from.0 (plain_maybe_key key.now) number half)) }
+        (arrays.deep_under (told_of place.now) (at_of place.now) place.now.point from.0
+        (plain_maybe_key key.now) number half)) }
 {
     push_form(forms, place.used(Aspect::Member(number, half), from))?;
     if may_be_at(alloc, place, key, number)? {
@@ -113,7 +117,8 @@ fn push_path_keys(
     path: &[Option<KeyRef>],
 ) -> Result<(), NoMemory>
     ensures { OnOk result (Adds forms.old.items forms.new.items
-        (flat_map (arrays.key_forms (at_of place.now) place.now.point) (map plain_maybe_key path.now))) }
+        (flat_map (arrays.key_forms (at_of place.now) place.now.point)
+        (map plain_maybe_key path.now))) }
 {
     for key in path {
         push_key(alloc, forms, place, key)?;
@@ -131,7 +136,8 @@ fn push_put_keys(
     path: &[Option<KeyRef>],
 ) -> Result<(), NoMemory>
     ensures { OnOk result (Adds forms.old.items forms.new.items
-        (arrays.put_keys (at_of place.now) place.now.point write.from.0 (map plain_maybe_key path.now) write.value.0)) }
+        (arrays.put_keys (at_of place.now) place.now.point write.from.0
+        (map plain_maybe_key path.now) write.value.0)) }
 {
     push_form(forms, place.used(Aspect::Keys, write.from))?;
     push_form(forms, place.used(Aspect::Keys, write.value))?;
@@ -148,7 +154,8 @@ fn push_put_own(
     half: Half,
 ) -> Result<(), NoMemory>
     ensures { OnOk result (Adds forms.old.items forms.new.items
-        (arrays.put_forms (told_of place.now) (at_of place.now) place.now.point write.from.0 (map plain_maybe_key path.now) write.value.0 (Aspect.Own half))) }
+        (arrays.put_forms (told_of place.now) (at_of place.now) place.now.point write.from.0
+        (map plain_maybe_key path.now) write.value.0 (Aspect.Own half))) }
 {
     match path.split_first() {
         None => Ok(()),
@@ -168,7 +175,8 @@ fn push_put_member(
     half: Half,
 ) -> Result<(), NoMemory>
     ensures { OnOk result (Adds forms.old.items forms.new.items
-        (arrays.put_forms (told_of place.now) (at_of place.now) place.now.point write.from.0 (map plain_maybe_key path.now) write.value.0 (Aspect.Member number half))) }
+        (arrays.put_forms (told_of place.now) (at_of place.now) place.now.point write.from.0
+        (map plain_maybe_key path.now) write.value.0 (Aspect.Member number half))) }
 {
     let Some((key, rest)) = path.split_first() else {
         return Ok(());
@@ -191,7 +199,8 @@ fn push_put_others(
     half: Half,
 ) -> Result<(), NoMemory>
     ensures { OnOk result (Adds forms.old.items forms.new.items
-        (arrays.put_forms (told_of place.now) (at_of place.now) place.now.point write.from.0 (map plain_maybe_key path.now) write.value.0 (Aspect.Others half))) }
+        (arrays.put_forms (told_of place.now) (at_of place.now) place.now.point write.from.0
+        (map plain_maybe_key path.now) write.value.0 (Aspect.Others half))) }
 {
     let Some((key, rest)) = path.split_first() else {
         return Ok(());
@@ -213,7 +222,8 @@ fn push_put_all_keys(
     path: &[Option<KeyRef>],
 ) -> Result<(), NoMemory>
     ensures { OnOk result (Adds forms.old.items forms.new.items
-        (arrays.put_forms (told_of place.now) (at_of place.now) place.now.point write.from.0 (map plain_maybe_key path.now) write.value.0 Aspect.Keys)) }
+        (arrays.put_forms (told_of place.now) (at_of place.now) place.now.point write.from.0
+        (map plain_maybe_key path.now) write.value.0 Aspect.Keys)) }
 {
     match path.split_first() {
         None => Ok(()),
@@ -231,7 +241,8 @@ pub(crate) fn push_put(
     aspect: Aspect,
 ) -> Result<(), NoMemory>
     ensures { OnOk result (Adds forms.old.items forms.new.items
-        (arrays.put_forms (told_of place.now) (at_of place.now) place.now.point write.from.0 (map plain_maybe_key path.now) write.value.0 aspect)) }
+        (arrays.put_forms (told_of place.now) (at_of place.now) place.now.point write.from.0
+        (map plain_maybe_key path.now) write.value.0 aspect)) }
 {
     match aspect {
         Aspect::Own(half) => push_put_own(forms, place, write, path, half),

@@ -44,15 +44,18 @@ fn next_row(
     asks: &mut IndexSet<(u64, u64)>,
     rows: &mut Vec<Vec<Version>>,
 ) -> Result<(), NoMemory>
-    requires places { ArePlaces (map target found_out.arrivals.now.all.items) found_out.arrivals.now.at.items }
+    requires places { ArePlaces (map target found_out.arrivals.now.all.items)
+        found_out.arrivals.now.at.items }
     requires heads { length found_out.heads.now ≡ vec_len found_out.arrivals.now.at }
     requires next { vec_len rows.old < length asks.old.keys }
     ensures keeps { OnOk result (Keeps asks.old.keys asks.new.keys) }
     ensures more { OnOk result (vec_len rows.new ≡ vec_len rows.old + 1) }
     ensures rows { OnOk result (AreFirst found_out.entry.heads.now
-        → AreRows (map plain_flow_function found_out.entry.functions.now) found_out.entry.heads.now found_out.entry.last.now
+        → AreRows (map plain_flow_function found_out.entry.functions.now) found_out.entry.heads.now
+        found_out.entry.last.now
         found_out.entry.arrivals.now.all.items asks.old.keys rows.old.items
-        → AreRows (map plain_flow_function found_out.entry.functions.now) found_out.entry.heads.now found_out.entry.last.now
+        → AreRows (map plain_flow_function found_out.entry.functions.now) found_out.entry.heads.now
+        found_out.entry.last.now
         found_out.entry.arrivals.now.all.items asks.new.keys rows.new.items) }
 {
     let (point, slot) = join_of(asks, rows.len());
@@ -62,19 +65,23 @@ fn next_row(
     Ok(())
 }
 
-/// What each join joins that is asked for, and then each that another one asks for: each is taken up once.
+/// What each join joins that is asked for, and then each that another one asks for: each is taken
+/// up once.
 pub fn rows_of(
     alloc: Global,
     found_out: Found<'_>,
     asks: &mut IndexSet<(u64, u64)>,
 ) -> Result<Vec<Vec<Version>>, NoMemory>
-    requires places { ArePlaces (map target found_out.arrivals.now.all.items) found_out.arrivals.now.at.items }
+    requires places { ArePlaces (map target found_out.arrivals.now.all.items)
+        found_out.arrivals.now.at.items }
     requires heads { length found_out.heads.now ≡ vec_len found_out.arrivals.now.at }
     ensures keeps { OnOk result (Keeps asks.old.keys asks.new.keys) }
     ensures len { IfOk result (λ rows. vec_len rows ≡ length asks.new.keys) }
     ensures rows { IfOk result (λ rows. AreFirst found_out.entry.heads.now
-        → ((h x : ℕ) → Contains asks.old.keys (h, x) → slice_get found_out.entry.heads.now h ≡ Some h)
-        → AreRows (map plain_flow_function found_out.entry.functions.now) found_out.entry.heads.now found_out.entry.last.now
+        → ((h x : ℕ) → Contains asks.old.keys (h, x) → slice_get found_out.entry.heads.now h
+        ≡ Some h)
+        → AreRows (map plain_flow_function found_out.entry.functions.now) found_out.entry.heads.now
+        found_out.entry.last.now
         found_out.entry.arrivals.now.all.items asks.new.keys rows.items) }
 {
     let mut rows = Vec::new(alloc);

@@ -106,7 +106,8 @@ fn read_all(marks: &mut Marks, head: u64, point: u64, slots: &[Slot]) -> Result<
 
 // One point.
 fn mark(marks: &mut Marks, head: u64, point: u64, step: &Step) -> Result<(), NoMemory>
-    ensures { OnOk result ((flow : PlainFlow) (heads : List ℕ) → IsPoint flow heads head point (step_seen step.now)
+    ensures { OnOk result
+        ((flow : PlainFlow) (heads : List ℕ) → IsPoint flow heads head point (step_seen step.now)
         → AreMarked flow heads marks.old point → AreMarked flow heads marks.new (suc point)) }
 {
     read_all(marks, head, point, &step.reads)?;
@@ -120,7 +121,8 @@ fn mark(marks: &mut Marks, head: u64, point: u64, step: &Step) -> Result<(), NoM
 pub fn marks_of(alloc: Global, steps: &[Step], heads: &[u64]) -> Result<Marks, NoMemory>
     requires { length heads.now ≡ length steps.now }
     ensures { IfOk result (λ marks. (flow : PlainFlow) (all : List (ℕ × Arrival))
-        → IsGraph flow (steps_seen steps.now) all heads.now → AreMarked flow heads.now marks (length steps.now)) }
+        → IsGraph flow (steps_seen steps.now) all heads.now
+        → AreMarked flow heads.now marks (length steps.now)) }
 {
     let mut marks = Marks {
         last: IndexMap::new(alloc),

@@ -44,7 +44,8 @@ fn put_link(
     row: &mut Vec<Version>,
 ) -> Result<(), NoMemory>
     ensures { OnOk result (versions_seen row.new.items ≡ versions_seen row.old.items
-        ++ link_of (map plain_flow_function found_out.entry.functions.now) found_out.entry.heads.now found_out.entry.last.now slot arrival) }
+        ++ link_of (map plain_flow_function found_out.entry.functions.now) found_out.entry.heads.now
+        found_out.entry.last.now slot arrival) }
 {
     match arrival {
         Arrival::Edge(from) => {
@@ -75,7 +76,8 @@ fn put_link_at(
     row: &mut Vec<Version>,
 ) -> Result<(), NoMemory>
     ensures { OnOk result (versions_seen row.new.items ≡ versions_seen row.old.items
-        ++ link_at (map plain_flow_function found_out.entry.functions.now) found_out.entry.heads.now found_out.entry.last.now
+        ++ link_at (map plain_flow_function found_out.entry.functions.now) found_out.entry.heads.now
+        found_out.entry.last.now
         slot found_out.entry.arrivals.now.all.items place) }
 {
     match found_out.arrivals.all.get(place) {
@@ -93,7 +95,8 @@ fn put_links(
     row: &mut Vec<Version>,
 ) -> Result<(), NoMemory>
     ensures { OnOk result (versions_seen row.new.items ≡ versions_seen row.old.items
-        ++ flat_map (link_at (map plain_flow_function found_out.entry.functions.now) found_out.entry.heads.now found_out.entry.last.now
+        ++ flat_map (link_at (map plain_flow_function found_out.entry.functions.now)
+        found_out.entry.heads.now found_out.entry.last.now
         slot found_out.entry.arrivals.now.all.items) places.now) }
 {
     for place in places {
@@ -109,9 +112,11 @@ pub fn row_of(
     point: u64,
     slot: u64,
 ) -> Result<Vec<Version>, NoMemory>
-    requires { ArePlaces (map target found_out.arrivals.now.all.items) found_out.arrivals.now.at.items }
+    requires { ArePlaces (map target found_out.arrivals.now.all.items)
+        found_out.arrivals.now.at.items }
     ensures { IfOk result (λ row. point < vec_len found_out.entry.arrivals.now.at
-        → IsRow (map plain_flow_function found_out.entry.functions.now) found_out.entry.heads.now found_out.entry.last.now
+        → IsRow (map plain_flow_function found_out.entry.functions.now) found_out.entry.heads.now
+        found_out.entry.last.now
         found_out.entry.arrivals.now.all.items point slot (versions_seen row.items)) }
 {
     let mut row = Vec::new(alloc);

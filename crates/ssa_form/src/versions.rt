@@ -43,7 +43,8 @@ fn row_number(asks: &IndexSet<(u64, u64)>, point: Point, slot: Slot) -> Option<u
 }
 
 impl Versions {
-    /// The version of a slot where a point reads it; None where the point does not read it. In constant time.
+    /// The version of a slot where a point reads it; None where the point does not read it. In
+    /// constant time.
     pub fn version_at(&self, point: Point, slot: Slot) -> Option<Version>
         ensures { option_map version_seen result ≡ version_of self.now point.0 slot.0 }
     {
@@ -52,7 +53,9 @@ impl Versions {
 
     /// The versions that a join joins; none where the version is a definition. In constant time.
     pub fn links(&self, version: Version) -> &[Version]
-        ensures exact { (v : PlainVersion) → Contains (versions_seen result.now) v ↔ IsLinked (joins_of self.now) (version_seen version) v }
+        ensures exact { (v : PlainVersion)
+            → Contains (versions_seen result.now) v ↔ IsLinked (joins_of self.now)
+            (version_seen version) v }
         ensures list { versions_seen result.now ≡ links_of self.now (version_seen version) }
     {
         let Version::Join { point, slot } = version else {
@@ -63,7 +66,8 @@ impl Versions {
 
     // The versions that the join of a slot at a point joins.
     fn joined(&self, point: Point, slot: Slot) -> &[Version]
-        ensures exact { (v : PlainVersion) → Contains (versions_seen result.now) v ↔ linked_in (joins_of self.now) point.0 slot.0 v }
+        ensures exact { (v : PlainVersion)
+            → Contains (versions_seen result.now) v ↔ linked_in (joins_of self.now) point.0 slot.0 v }
         ensures list { versions_seen result.now ≡ joined_by self.now point.0 slot.0 }
     {
         let _count = count(&self.asks);
@@ -88,8 +92,10 @@ fn versions_of(
     requires places { ArePlaces (map target arrivals.now.all.items) arrivals.now.at.items }
     requires heads { length heads.now ≡ length steps.now }
     requires at { length heads.now ≡ vec_len arrivals.now.at }
-    ensures { IfOk result (λ versions. (flow : PlainFlow) → map plain_flow_function functions.now ≡ flow.functions_of
-        → IsGraph flow (steps_seen steps.now) arrivals.now.all.items heads.now → IsExact flow versions) }
+    ensures { IfOk result
+        (λ versions. (flow : PlainFlow) → map plain_flow_function functions.now ≡ flow.functions_of
+        → IsGraph flow (steps_seen steps.now) arrivals.now.all.items heads.now
+        → IsExact flow versions) }
 {
     let mut marks = marks_of(alloc, steps, heads)?;
     let found_out = Found {
@@ -116,8 +122,9 @@ fn exact_versions(alloc: Global, flow: &FlowProgram) -> Result<Versions, NoMemor
     versions_of(alloc, &flow.functions, &steps, &arrivals, &heads)
 }
 
-/// The versions of a program of points: one for each slot that a point reads, and the definitions behind it are exactly those that
-/// reach the point. Its time is linear in the points, in what they read, and for each join in the edges into its point.
+/// The versions of a program of points: one for each slot that a point reads, and the definitions
+/// behind it are exactly those that reach the point. Its time is linear in the points, in what they
+/// read, and for each join in the edges into its point.
 pub fn ssa(alloc: Global, flow: &FlowProgram) -> Result<Versions, NoMemory>
     ensures exact { IfOk result (IsExact (plain_flow flow.now)) }
     ensures once { IfOk result AreOnce }

@@ -44,14 +44,16 @@ impl<T> Stack<T> {
 
     /// Takes the last value off the stack.
     pub fn pop(&mut self) -> Option<T>
-        ensures { MatchOption result ((self.old ≡ []) × (self.new ≡ [])) (λ value. self.old ≡ value ∷ self.new) }
+        ensures { MatchOption result ((self.old ≡ []) × (self.new ≡ []))
+            (λ value. self.old ≡ value ∷ self.new) }
     {
         self.values.pop()
     }
 
     /// The last value, which stays on the stack.
     pub fn last(&self) -> Option<&T>
-        ensures { MatchOption result (self.now ≡ []) (λ value. (rest : List T) × (self.now ≡ value.now ∷ rest)) }
+        ensures { MatchOption result (self.now ≡ [])
+            (λ value. (rest : List T) × (self.now ≡ value.now ∷ rest)) }
     {
         self.values.last()
     }

@@ -50,9 +50,11 @@ fn value_passes(testing: Testing<'_>, name: &[char], value: &OpenValue) -> bool
     }
 }
 
-/// Whether attributes may still come of what is open among them (XML 1.0, 3.1). That a name has stood already is not asked.
+/// Whether attributes may still come of what is open among them (XML 1.0, 3.1). That a name has
+/// stood already is not asked.
 pub fn attribute_passes(testing: Testing<'_>, attribute: &OpenAttribute) -> bool
-    ensures { result ≡ passing.attribute_passes (plain_testing testing.entry) (plain_attribute attribute.now) }
+    ensures { result ≡ passing.attribute_passes (plain_testing testing.entry)
+        (plain_attribute attribute.now) }
 {
     match attribute {
         OpenAttribute::Between(_) => true,

@@ -24,7 +24,8 @@ pub fn begins(whole: &[u8], front: &[char]) -> bool
     true
 }
 
-/// Whether the characters, with their letters of ASCII in lower case, are the first of the ASCII text.
+/// Whether the characters, with their letters of ASCII in lower case, are the first of the ASCII
+/// text.
 pub fn begins_lowercased(whole: &[u8], front: &[char]) -> bool
     ensures { result ≡ steps.begins whole.now (str_to_ascii_lowercase front.now) }
 {

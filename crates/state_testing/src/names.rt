@@ -35,7 +35,8 @@ pub fn some_begins(names: &Vec<Bytes>, front: &[char]) -> bool
 }
 
 fn any_element_begins(elements: &Vec<ElementRule>, front: &[char]) -> bool
-    ensures { result ≡ list_any (begins_so front.now) (names_of_elements (map rule_of elements.now.items)) }
+    ensures { result ≡ list_any (begins_so front.now)
+        (names_of_elements (map rule_of elements.now.items)) }
 {
     for rule in elements {
         if begins(rule.name.as_slice(), front) {
@@ -47,7 +48,8 @@ fn any_element_begins(elements: &Vec<ElementRule>, front: &[char]) -> bool
 
 /// Whether the name of one of the elements begins so, or nothing is read of it.
 pub fn some_element_begins(elements: &Vec<ElementRule>, front: &[char]) -> bool
-    ensures { result ≡ passing.some_begins (names_of_elements (map rule_of elements.now.items)) front.now }
+    ensures { result ≡ passing.some_begins (names_of_elements (map rule_of elements.now.items))
+        front.now }
 {
     match front {
         [] => true,
@@ -56,7 +58,8 @@ pub fn some_element_begins(elements: &Vec<ElementRule>, front: &[char]) -> bool
 }
 
 fn any_attribute_begins(rules: &Vec<AttrRule>, front: &[char]) -> bool
-    ensures { result ≡ list_any (begins_so front.now) (passing.names_of (map declared_of rules.now.items)) }
+    ensures { result ≡ list_any (begins_so front.now)
+        (passing.names_of (map declared_of rules.now.items)) }
 {
     for rule in rules {
         if begins(rule.name.as_slice(), front) {
@@ -68,7 +71,8 @@ fn any_attribute_begins(rules: &Vec<AttrRule>, front: &[char]) -> bool
 
 /// Whether the name of one of the attributes begins so, or nothing is read of it.
 pub fn some_attribute_begins(rules: &Vec<AttrRule>, front: &[char]) -> bool
-    ensures { result ≡ passing.some_begins (passing.names_of (map declared_of rules.now.items)) front.now }
+    ensures { result ≡ passing.some_begins (passing.names_of (map declared_of rules.now.items))
+        front.now }
 {
     match front {
         [] => true,
@@ -76,7 +80,8 @@ pub fn some_attribute_begins(rules: &Vec<AttrRule>, front: &[char]) -> bool
     }
 }
 
-/// Whether one of the words of an XML declaration begins so (XML 1.0, 2.8), or nothing is read of it.
+/// Whether one of the words of an XML declaration begins so (XML 1.0, 2.8), or nothing is read of
+/// it.
 pub fn some_word_begins(front: &[char]) -> bool
     ensures { result ≡ passing.some_begins passing.declaration_words front.now }
 {
@@ -93,7 +98,8 @@ fn any_entity_begins(entities: &Vec<Bytes>, front: &[char]) -> bool
                     || (begins(b"apos", front) || any_begins(entities, front)))))
 }
 
-/// Whether an entity begins so, one of the declared ones or of the five of XML, or nothing is read of it.
+/// Whether an entity begins so, one of the declared ones or of the five of XML, or nothing is read
+/// of it.
 fn some_entity_begins(entities: &Vec<Bytes>, front: &[char]) -> bool
     ensures { result ≡ passing.some_begins (known_entities ++ entities.now.items) front.now }
 {
@@ -103,8 +109,8 @@ fn some_entity_begins(entities: &Vec<Bytes>, front: &[char]) -> bool
     }
 }
 
-/// Whether a reference may still come, where these are the declared entities: one of them, or of the five of XML, begins so, and a number
-/// is not over those of characters (XML 1.0, 4.1).
+/// Whether a reference may still come, where these are the declared entities: one of them, or of
+/// the five of XML, begins so, and a number is not over those of characters (XML 1.0, 4.1).
 pub fn reference_passes(entities: &Vec<Bytes>, reference: &OpenReference) -> bool
     ensures { result ≡ passing.reference_passes entities.now.items (plain_reference reference.now) }
 {

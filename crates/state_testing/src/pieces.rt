@@ -15,7 +15,9 @@ use open_pieces::{OpenAttribute, OpenDoctype, OpenPiece};
 use tag_rules::element;
 
 fn tag_passes(indexed: &IndexedDtd<'_>, name: &[char], attribute: &OpenAttribute) -> bool
-    ensures { result ≡ passing.tag_passes (table_of indexed.now.dtd.now).entities (attributes.find_rule (table_of indexed.now.dtd.now).elements name.now) (plain_attribute attribute.now) }
+    ensures { result ≡ passing.tag_passes (table_of indexed.now.dtd.now).entities
+        (attributes.find_rule (table_of indexed.now.dtd.now).elements name.now)
+        (plain_attribute attribute.now) }
 {
     let Some(element) = element(indexed, name) else {
         return false;
@@ -47,7 +49,8 @@ fn doctype_passes(doctype: &OpenDoctype) -> bool
     }
 }
 
-/// Whether a piece may still come of the open one, as far as the beginnings of names, values and numbers tell. Time is linear in what is declared.
+/// Whether a piece may still come of the open one, as far as the beginnings of names, values and
+/// numbers tell. Time is linear in what is declared.
 pub fn open_passes(indexed: &IndexedDtd<'_>, piece: &OpenPiece) -> bool
     ensures { result ≡ passing.open_passes (table_of indexed.now.dtd.now) (plain_open piece.now) }
 {

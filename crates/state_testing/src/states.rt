@@ -10,8 +10,8 @@ use crate::several::takes_several;
 use dtd_index::IndexedDtd;
 use open_pieces::HeldState;
 
-/// Whether a piece may still come of what is open, as far as the beginnings of names, values, numbers and characters tell. Time is linear in what
-/// is declared.
+/// Whether a piece may still come of what is open, as far as the beginnings of names, values,
+/// numbers and characters tell. Time is linear in what is declared.
 pub fn passes(indexed: &IndexedDtd<'_>, held: &HeldState) -> bool
     ensures { result ≡ passing.passes (table_of indexed.now.dtd.now) (plain_held held.now) }
 {

@@ -47,7 +47,8 @@ fn choice_passes(kind: &AttrKind, word: &[char]) -> bool
 }
 
 fn value_passes(entities: &Vec<Bytes>, rule: &AttrRule, value: &OpenValue) -> bool
-    ensures { result ≡ passing.value_passes entities.now.items (declared_of rule.now) (plain_value value.now) }
+    ensures { result ≡ passing.value_passes entities.now.items (declared_of rule.now)
+        (plain_value value.now) }
 {
     match value {
         OpenValue::Text | OpenValue::Words(_, _) => true,
@@ -57,9 +58,11 @@ fn value_passes(entities: &Vec<Bytes>, rule: &AttrRule, value: &OpenValue) -> bo
     }
 }
 
-/// Whether a value may still come, where these are the declared entities and its attribute is declared so, if it is.
+/// Whether a value may still come, where these are the declared entities and its attribute is
+/// declared so, if it is.
 pub fn declared_passes(entities: &Vec<Bytes>, rule: Option<&AttrRule>, value: &OpenValue) -> bool
-    ensures { result ≡ passing.declared_passes entities.now.items (plain_declared rule.entry) (plain_value value.now) }
+    ensures { result ≡ passing.declared_passes entities.now.items (plain_declared rule.entry)
+        (plain_value value.now) }
 {
     match rule {
         None => false,

@@ -29,7 +29,9 @@ pub(crate) fn lower_inline(
     bytes: &Bytes,
     points: &mut PointBuilder,
 ) -> Result<(), LoweringError>
-    ensures { OnOk result (Lays (progress points.old) (progress points.new) (ending no_code (λ none to p. print_point bytes.now (p + 1)))) }
+    ensures { OnOk result
+        (Lays (progress points.old) (progress points.new)
+        (ending no_code (λ none to p. print_point bytes.now (p + 1)))) }
 {
     let next = points.ahead(1);
     let bytes = bytes.copy(alloc)?;
@@ -60,7 +62,9 @@ pub(crate) fn lower_echo(
     exprs: &[Expr],
     points: &mut PointBuilder,
 ) -> Result<(), LoweringError>
-    ensures { OnOk result (Lays (progress points.old) (progress points.new) (echo_block (scope_in scope.now) (exprs_of exprs.now))) }
+    ensures { OnOk result
+        (Lays (progress points.old) (progress points.new)
+        (echo_block (scope_in scope.now) (exprs_of exprs.now))) }
 {
     for expr in exprs {
         lower_printed(alloc, scope, expr, points)?;
@@ -75,7 +79,9 @@ pub(crate) fn lower_run(
     expr: &Expr,
     points: &mut PointBuilder,
 ) -> Result<(), LoweringError>
-    ensures { OnOk result (Lays (progress points.old) (progress points.new) (run_code (code (scope_in scope.now) (plain_expr expr.now)))) }
+    ensures { OnOk result
+        (Lays (progress points.old) (progress points.new)
+        (run_code (code (scope_in scope.now) (plain_expr expr.now)))) }
 {
     lower_expr(alloc, scope, expr, points)?;
     Ok(())
@@ -88,7 +94,9 @@ pub(crate) fn lower_return(
     value: &Option<Expr>,
     points: &mut PointBuilder,
 ) -> Result<(), LoweringError>
-    ensures { OnOk result (Lays (progress points.old) (progress points.new) (return_block (scope_in scope.now) (maybe_of value.now))) }
+    ensures { OnOk result
+        (Lays (progress points.old) (progress points.new)
+        (return_block (scope_in scope.now) (maybe_of value.now))) }
 {
     match value {
         Some(expr) => {
@@ -111,7 +119,9 @@ pub(crate) fn lower_quit(
     value: &Option<Expr>,
     points: &mut PointBuilder,
 ) -> Result<(), LoweringError>
-    ensures { OnOk result (Lays (progress points.old) (progress points.new) (quit_block (scope_in scope.now) (maybe_of value.now))) }
+    ensures { OnOk result
+        (Lays (progress points.old) (progress points.new)
+        (quit_block (scope_in scope.now) (maybe_of value.now))) }
 {
     match value {
         Some(expr) => {
@@ -133,7 +143,9 @@ pub(crate) fn lower_test(
     test: &Expr,
     points: &mut PointBuilder,
 ) -> Result<Head, LoweringError>
-    ensures { IfOk result (λ head. Opens (progress points.old) (progress points.new) head (test_of (code (scope_in scope.now) (plain_expr test.now)))) }
+    ensures { IfOk result
+        (λ head. Opens (progress points.old) (progress points.new) head
+        (test_of (code (scope_in scope.now) (plain_expr test.now)))) }
 {
     let slot = lower_expr(alloc, scope, test, points)?;
     let head = begin_test(slot, points)?;
@@ -147,7 +159,9 @@ pub(crate) fn lower_maybe_test(
     test: &Option<Expr>,
     points: &mut PointBuilder,
 ) -> Result<Head, LoweringError>
-    ensures { IfOk result (λ head. Opens (progress points.old) (progress points.new) head (test_code (scope_in scope.now) (maybe_of test.now))) }
+    ensures { IfOk result
+        (λ head. Opens (progress points.old) (progress points.new) head
+        (test_code (scope_in scope.now) (maybe_of test.now))) }
 {
     match test {
         Some(test) => {

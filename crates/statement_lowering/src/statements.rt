@@ -27,8 +27,8 @@ use php_syntax::tree::{Expr, Stmt};
 use std::alloc::Global;
 use text_base::{Bytes, Point};
 
-/// Statements, one behind the other. Their `break` and `continue` outside loops of their own are put behind the exits so far, and are to be
-/// replaced once it is known where they lead.
+/// Statements, one behind the other. Their `break` and `continue` outside loops of their own are
+/// put behind the exits so far, and are to be replaced once it is known where they lead.
 #[cycle(statements)]
 pub fn lower_stmts(
     alloc: Global,
@@ -37,7 +37,9 @@ pub fn lower_stmts(
     points: &mut PointBuilder,
     exits: &mut Vec<Exit>,
 ) -> Result<(), LoweringError>
-    ensures { OnOk result (Drafts (progress points.old) (progress points.new) exits.old.items exits.new.items (block (scope_in scope.now) (stmts_of stmts.now))) }
+    ensures { OnOk result
+        (Drafts (progress points.old) (progress points.new) exits.old.items exits.new.items
+        (block (scope_in scope.now) (stmts_of stmts.now))) }
 {
     for stmt in stmts {
         lower_stmt(alloc, scope, stmt, points, exits)?;
@@ -45,7 +47,8 @@ pub fn lower_stmts(
     Ok(())
 }
 
-// An arm of an `if`. Its point that jumps over what stands behind the arm has this place, and is to be replaced.
+// An arm of an `if`. Its point that jumps over what stands behind the arm has this place, and is to
+// be replaced.
 #[cycle(statements)]
 fn lower_arm(
     alloc: Global,
@@ -55,9 +58,12 @@ fn lower_arm(
     points: &mut PointBuilder,
     exits: &mut Vec<Exit>,
 ) -> Result<usize, LoweringError>
-    ensures { IfOk result (λ jump. (s : Progress) (last : List Exit) (rest : Block) → Drafts (progress points.new) s exits.new.items last rest
+    ensures { IfOk result
+        (λ jump. (s : Progress) (last : List Exit) (rest : Block)
+        → Drafts (progress points.new) s exits.new.items last rest
         → Drafts (progress points.old) (replaced s jump (jump_point (place s))) exits.old.items last
-        (either (code (scope_in scope.now) (plain_expr test.now)) (block (scope_in scope.now) (stmts_of body.now)) rest)) }
+        (either (code (scope_in scope.now) (plain_expr test.now))
+        (block (scope_in scope.now) (stmts_of body.now)) rest)) }
 {
     let slot = lower_expr(alloc, scope, test, points)?;
     let branch = points.reserve()?;
@@ -79,8 +85,10 @@ fn lower_if(
     points: &mut PointBuilder,
     exits: &mut Vec<Exit>,
 ) -> Result<(), LoweringError>
-    ensures { OnOk result (Drafts (progress points.old) (progress points.new) exits.old.items exits.new.items
-        (arms_block (scope_in scope.now) (arms_of arms.now) (block (scope_in scope.now) (stmts_of otherwise.now)))) }
+    ensures { OnOk result
+        (Drafts (progress points.old) (progress points.new) exits.old.items exits.new.items
+        (arms_block (scope_in scope.now) (arms_of arms.now)
+        (block (scope_in scope.now) (stmts_of otherwise.now)))) }
 {
     let mut jumps = Vec::new(alloc);
     for arm in arms {
@@ -104,8 +112,12 @@ fn lower_turns(
     next: &[Expr],
     points: &mut PointBuilder,
 ) -> Result<(), LoweringError>
-    ensures { OnOk result ((start : Progress) (test : Test) → Opens start (progress points.old) head test → back.0 ≡ place start
-        → Lays start (progress points.new) (looping test (block (scope_in scope.now) (stmts_of body.now)) (run_code (codes (scope_in scope.now) (exprs_of next.now))))) }
+    ensures { OnOk result
+        ((start : Progress) (test : Test) → Opens start (progress points.old) head test → back.0
+        ≡ place start
+        → Lays start (progress points.new)
+        (looping test (block (scope_in scope.now) (stmts_of body.now))
+        (run_code (codes (scope_in scope.now) (exprs_of next.now))))) }
 {
     let mut exits = Vec::new(alloc);
     lower_stmts(alloc, scope, body, points, &mut exits)?;
@@ -125,7 +137,8 @@ fn lower_while(
     points: &mut PointBuilder,
 ) -> Result<(), LoweringError>
     ensures { OnOk result (Lays (progress points.old) (progress points.new)
-        (looping (test_of (code (scope_in scope.now) (plain_expr test.now))) (block (scope_in scope.now) (stmts_of body.now)) no_block)) }
+        (looping (test_of (code (scope_in scope.now) (plain_expr test.now)))
+        (block (scope_in scope.now) (stmts_of body.now)) no_block)) }
 {
     let back = points.place();
     let head = lower_test(alloc, scope, test, points)?;
@@ -144,8 +157,12 @@ fn lower_for(
     body: &[Stmt],
     points: &mut PointBuilder,
 ) -> Result<(), LoweringError>
-    ensures { OnOk result (Lays (progress points.old) (progress points.new) (run_code (codes (scope_in scope.now) (exprs_of begin.now))
-        before looping (test_code (scope_in scope.now) (maybe_of test.now)) (block (scope_in scope.now) (stmts_of body.now)) (run_code (codes (scope_in scope.now) (exprs_of next.now))))) }
+    ensures { OnOk result
+        (Lays (progress points.old) (progress points.new)
+        (run_code (codes (scope_in scope.now) (exprs_of begin.now))
+        before looping (test_code (scope_in scope.now) (maybe_of test.now))
+        (block (scope_in scope.now) (stmts_of body.now))
+        (run_code (codes (scope_in scope.now) (exprs_of next.now))))) }
 {
     lower_exprs(alloc, scope, begin, points)?;
     let back = points.place();
@@ -164,7 +181,8 @@ fn lower_do(
     points: &mut PointBuilder,
 ) -> Result<(), LoweringError>
     ensures { OnOk result (Lays (progress points.old) (progress points.new)
-        (repeating (block (scope_in scope.now) (stmts_of body.now)) (code (scope_in scope.now) (plain_expr test.now)))) }
+        (repeating (block (scope_in scope.now) (stmts_of body.now))
+        (code (scope_in scope.now) (plain_expr test.now)))) }
 {
     let yes = points.place();
     let mut exits = Vec::new(alloc);
@@ -193,8 +211,11 @@ fn lower_each(
     body: &[Stmt],
     points: &mut PointBuilder,
 ) -> Result<(), LoweringError>
-    ensures { OnOk result (Lays (progress points.old) (progress points.new) (walking (code (scope_in scope.now) (plain_expr array.now))
-        (key_variable (scope_in scope.now) key.now) (variable (scope_in scope.now) value.now) (block (scope_in scope.now) (stmts_of body.now)))) }
+    ensures { OnOk result
+        (Lays (progress points.old) (progress points.new)
+        (walking (code (scope_in scope.now) (plain_expr array.now))
+        (key_variable (scope_in scope.now) key.now) (variable (scope_in scope.now) value.now)
+        (block (scope_in scope.now) (stmts_of body.now)))) }
 {
     let from = lower_expr(alloc, scope, array, points)?;
     let key = key_slot(scope, key);
@@ -216,7 +237,9 @@ fn lower_stmt(
     points: &mut PointBuilder,
     exits: &mut Vec<Exit>,
 ) -> Result<(), LoweringError>
-    ensures { OnOk result (Drafts (progress points.old) (progress points.new) exits.old.items exits.new.items (stmt_block (scope_in scope.now) (plain_stmt stmt.now))) }
+    ensures { OnOk result
+        (Drafts (progress points.old) (progress points.new) exits.old.items exits.new.items
+        (stmt_block (scope_in scope.now) (plain_stmt stmt.now))) }
 {
     match stmt {
         Stmt::Inline(bytes) => {

@@ -18,7 +18,7 @@ use Rattle.script_meaning.specs.Statements as meaning
 use Rattle.script_meaning.specs.Statements.{echo, condition, for_condition, statements, arms_in, walk}
 use Rattle.expr_evaluator.specs.Frames.{maybe_plain}
 use Rattle.expr_evaluator.proofs.Runs.{assoc, same_then}
-use Rattle.loop_laws.proofs.Loops.{by_turns}
+use Rattle.script_meaning.proofs.Loops.{by_turns}
 use Rattle.statement_machine.specs.declared.frames.Flow.TheVariants as flow
 use Rattle.statement_machine.specs.declared.frames.Looping.{Looping}
 use Rattle.statement_machine.specs.declared.frames.Walking.{Walking}

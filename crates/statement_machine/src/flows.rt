@@ -14,7 +14,8 @@ use text_base::NoMemory;
 
 // Goes on with the next statements, unless the one before them was left otherwise than at its end.
 fn rest_next<'a>(rest: &'a [Stmt], flow: Flow) -> Next<'a>
-    ensures { Means result (λ w s. next_after (plain_flow flow) s (statements w (stmts_of rest.now)))
+    ensures { Means result
+        (λ w s. next_after (plain_flow flow) s (statements w (stmts_of rest.now)))
         (task_weight (Task.Rest rest.entry)) }
 {
     match flow {
@@ -25,7 +26,8 @@ fn rest_next<'a>(rest: &'a [Stmt], flow: Flow) -> Next<'a>
 
 // Whether a loop goes on behind a turn; else how the loop is left.
 fn behind_turn(flow: Flow) -> Result<(), Flow>
-    ensures { MatchResult result (λ _. StaysInLoop (plain_flow flow)) (λ left. LeavesLoop (plain_flow flow) (plain_flow left)) }
+    ensures { MatchResult result (λ _. StaysInLoop (plain_flow flow))
+        (λ left. LeavesLoop (plain_flow flow) (plain_flow left)) }
 {
     match flow {
         Flow::GoesOn => Ok(()),
@@ -37,7 +39,8 @@ fn behind_turn(flow: Flow) -> Result<(), Flow>
 
 // Goes on behind a turn of a loop.
 fn loop_behind<'a>(again: Looping<'a>, flow: Flow) -> Next<'a>
-    ensures { Means result (λ w. task_after w (Task.Loop again.entry) (plain_flow flow)) (task_weight (Task.Loop again.entry)) }
+    ensures { Means result (λ w. task_after w (Task.Loop again.entry) (plain_flow flow))
+        (task_weight (Task.Loop again.entry)) }
 {
     match behind_turn(flow) {
         Ok(()) => before_loop(again.behind, again),
@@ -61,7 +64,8 @@ fn walk_behind<'a>(walk: Walking<'a>, flow: Flow) -> Result<Next<'a>, NoMemory>
 
 /// Hands on how a statement was left to what waited for its end.
 pub fn hand_on<'a>(task: Task<'a>, flow: Flow) -> Result<Next<'a>, NoMemory>
-    ensures { IfOk result (λ n. Means n (λ w. task_after w task.entry (plain_flow flow)) (task_weight task.entry)) }
+    ensures { IfOk result
+        (λ n. Means n (λ w. task_after w task.entry (plain_flow flow)) (task_weight task.entry)) }
 {
     match task {
         Task::Rest(rest) => Ok(rest_next(rest, flow)),

@@ -1,5 +1,6 @@
-//! What a run of statements has still to do. A body is referred to by its vector, and not as a slice: a type may reach only so many
-//! fields through references, and a vector's items do not count.
+//! What a run of statements has still to do. A body is referred to by its vector, and not as a
+//! slice: a type may reach only so many fields through references, and a vector's items do not
+//! count.
 
 use php_syntax::tree::{Expr, Stmt};
 use php_values::{Key, Value, Walk};
@@ -63,13 +64,15 @@ pub enum Wait<'a> {
     Echo(&'a [Expr]),
     /// Lets the value go.
     Run,
-    /// Runs the statements where the value is true, and else goes on with these arms, behind which the last statements stand.
+    /// Runs the statements where the value is true, and else goes on with these arms, behind which
+    /// the last statements stand.
     Arm(&'a Vec<Stmt>, &'a [(Expr, Vec<Stmt>)], &'a Vec<Stmt>),
     /// Begins a turn of the loop where the value is true.
     Test(Looping<'a>),
     /// Goes on with these, and then with the test of the loop.
     Before(&'a [Expr], Looping<'a>),
-    /// Walks over the value, with these variables of the key and of the value, and these statements in each turn.
+    /// Walks over the value, with these variables of the key and of the value, and these statements
+    /// in each turn.
     Each(Option<&'a Bytes>, &'a Bytes, &'a Vec<Stmt>),
     /// Leaves the function with the value.
     Return,

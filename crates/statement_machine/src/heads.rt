@@ -27,7 +27,8 @@ pub(crate) fn echo_next<'a>(rest: &'a [Expr]) -> Next<'a>
 
 /// The arms of an `if` that are left.
 pub(crate) fn arms_next<'a>(arms: &'a [(Expr, Vec<Stmt>)], otherwise: &'a Vec<Stmt>) -> Next<'a>
-    ensures { Means result (λ w. arms_in w (arms_of arms.now) (statements w (stmts_of otherwise.now.items)))
+    ensures { Means result
+        (λ w. arms_in w (arms_of arms.now) (statements w (stmts_of otherwise.now.items)))
         (arms_weight arms.now otherwise.now.items) }
 {
     match arms.split_first() {
@@ -48,7 +49,8 @@ pub(crate) fn loop_next<'a>(again: Looping<'a>) -> Next<'a>
 
 /// The expressions that are left before the test of a loop.
 pub(crate) fn before_loop<'a>(rest: &'a [Expr], again: Looping<'a>) -> Next<'a>
-    ensures { Means result (λ w. values_before w (exprs_of rest.now) again.entry) (row_weight rest.now) }
+    ensures { Means result (λ w. values_before w (exprs_of rest.now) again.entry)
+        (row_weight rest.now) }
 {
     match rest.split_first() {
         None => loop_next(again),
@@ -69,7 +71,8 @@ pub(crate) fn walk_next<'a>(walk: Walking<'a>) -> Result<Next<'a>, NoMemory>
 
 // The array that a value is, if it is one.
 fn array_in(value: &Value) -> Option<&Array>
-    ensures { MatchOption result (walked (plain_of value.now) ≡ empty) (λ a. plain_of value.now ≡ Plain.array a.now) }
+    ensures { MatchOption result (walked (plain_of value.now) ≡ empty)
+        (λ a. plain_of value.now ≡ Plain.array a.now) }
 {
     match value {
         Value::Array(array) => Some(array),
@@ -84,7 +87,8 @@ pub(crate) fn walk_over<'a>(
     name: &'a Bytes,
     body: &'a Vec<Stmt>,
 ) -> Result<Next<'a>, NoMemory>
-    ensures { IfOk result (λ n. Means n (λ w. each_value w key.entry name.entry body.entry (plain_of value.now)) 1) }
+    ensures { IfOk result
+        (λ n. Means n (λ w. each_value w key.entry name.entry body.entry (plain_of value.now)) 1) }
 {
     match array_in(value) {
         None => Ok(Next::Left(Flow::GoesOn)),

@@ -1,7 +1,8 @@
-//! The moves of a run of statements (PHP manual, "Control structures"), with what is still to be done kept as values in place of
-//! calls: what waits for the value of an expression ([`Wait`]), what waits for the end of a statement ([`Task`]), and what is done
-//! next ([`Next`]). Each contract is one equation: what is to come after a move is what was to come before it, by the meaning of
-//! script_meaning. Below stand the values, the trees and script_meaning.
+//! The moves of a run of statements (PHP manual, "Control structures"), with what is still to be
+//! done kept as values in place of calls: what waits for the value of an expression ([`Wait`]),
+//! what waits for the end of a statement ([`Task`]), and what is done next ([`Next`]). Each
+//! contract is one equation: what is to come after a move is what was to come before it, by the
+//! meaning of script_meaning. Below stand the values, the trees and script_meaning.
 #![tactic(auto)]
 
 mod flows;

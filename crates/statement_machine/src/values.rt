@@ -16,7 +16,8 @@ use value_operations::{text_of, truth};
 
 // The text that a value is, if it is one.
 fn text_in(value: &Value) -> Option<&Text>
-    ensures { MatchOption result (is_text (plain_of value.now) ≡ false) (λ t. plain_of value.now ≡ Plain.text t.now) }
+    ensures { MatchOption result (is_text (plain_of value.now) ≡ false)
+        (λ t. plain_of value.now ≡ Plain.text t.now) }
 {
     match value {
         Value::Text(text) => Some(text),

@@ -1,8 +1,8 @@
 //! Each file is read by the machine of `stmt_machine`.
 //!
-//! `files_are_read` carries it as its contract: the terminals of a derivation in which each `else` belongs to the nearest
-//! `if` are read to their end, and the actions are those of the derivation. Below stand `stmt_machine`, `expr_completeness`,
-//! `expr_machine` and `script_grammar`.
+//! `files_are_read` carries it as its contract: the terminals of a derivation in which each `else`
+//! belongs to the nearest `if` are read to their end, and the actions are those of the derivation.
+//! Below stand `stmt_machine`, `expr_completeness`, `expr_machine` and `script_grammar`.
 #![tactic(auto)]
 
 ghost use Rattle.std.specs.Prelude.{◌≡◌, true, Some};
@@ -12,7 +12,8 @@ ghost use Rattle.stmt_machine.specs.Reading.{file_at};
 
 /// Each file is read, with its actions.
 pub fn files_are_read()
-    ensures { (f : FileForm) → file_nearest f ≡ true → file_at (file_terminals f) ≡ Some (file_actions f) }
+    ensures { (f : FileForm) → file_nearest f ≡ true → file_at (file_terminals f)
+        ≡ Some (file_actions f) }
 {
     expr_completeness::expressions_are_read();
     expr_machine::laws::what_is_read_is_shorter();

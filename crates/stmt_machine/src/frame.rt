@@ -7,7 +7,8 @@ use text_base::Bytes;
 pub enum Loop {
     /// `while`
     While,
-    /// `for`, with so many expressions that begin it, a condition or none, and so many that end a turn.
+    /// `for`, with so many expressions that begin it, a condition or none, and so many that end a
+    /// turn.
     For {
         begin: usize,
         condition: bool,

@@ -18,7 +18,8 @@ pub fn moves_get_lighter()
     expr_machine::laws::what_is_read_is_shorter();
 }
 
-/// What a run makes of what was made before is what its next move makes of it, and then the run from there.
+/// What a run makes of what was made before is what its next move makes of it, and then the run
+/// from there.
 pub fn runs_go_on()
     ensures { (f : Focus) (fs : List Frame) (ts : List Terminal) (m : Made) →
         makes_on f fs ts m ≡ makes_next m (move f fs ts) }

@@ -82,7 +82,8 @@ pub fn take_rows(
 ) -> Result<Option<Stack<Option<Row>>>, NoMemory>
     ensures { IfOk result (λ found. MatchOption found
         (plain.take_bodies count [] (map plain_body bodies.old) ≡ None)
-        (λ rows. plain.take_bodies count [] (map plain_body bodies.old) ≡ Some (rows_of rows, map plain_body bodies.new))) }
+        (λ rows. plain.take_bodies count [] (map plain_body bodies.old)
+        ≡ Some (rows_of rows, map plain_body bodies.new))) }
 {
     let mut rows = Stack::new(alloc);
     let mut left = count;

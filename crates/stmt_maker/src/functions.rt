@@ -68,7 +68,9 @@ impl Parameters {
         ensures { IfOk result (λ found. MatchOption found
             (is_new_name name.now (params_of_list self) ≡ false)
             (λ more. (is_new_name name.now (params_of_list self) ≡ true)
-            × (params_of_list more ≡ plain.add_param (params_of_list self) (with_default name.now (maybe_of default))))) }
+            × (params_of_list more
+            ≡ plain.add_param (params_of_list self)
+            (with_default name.now (maybe_of default))))) }
     {
         let Parameters {
             mut params,

@@ -1,7 +1,8 @@
 //! Reads statements, functions and files from tokens to trees.
 //!
-//! `read_file` runs the machine of `stmt_machine` over the tokens of a script, with each expression read by
-//! `expr_parser` and each action done by `stmt_maker`; its contract says that it makes what `makes_file` says.
+//! `read_file` runs the machine of `stmt_machine` over the tokens of a script, with each expression
+//! read by `expr_parser` and each action done by `stmt_maker`; its contract says that it makes what
+//! `makes_file` says.
 #![tactic(auto)]
 
 mod arms;

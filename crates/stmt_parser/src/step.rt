@@ -18,7 +18,8 @@ pub(crate) enum Step<'a> {
     Go(Focus, &'a [Token]),
     /// The whole file was read.
     Finished,
-    /// No file goes on so: the tokens from the first that nothing goes on with, or fewer where an expression went on.
+    /// No file goes on so: the tokens from the first that nothing goes on with, or fewer where an
+    /// expression went on.
     Stuck(&'a [Token]),
 }
 

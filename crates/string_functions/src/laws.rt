@@ -20,12 +20,14 @@ pub fn pieces(sep: &[u8], text: &[u8])
 
 /// Each piece is a part of the text.
 pub fn pieces_are_parts(sep: &[u8], text: &[u8])
-    ensures { (piece : List ℕ) → Contains (pieces_of sep.now text.now) piece → IsFactor text.now piece }
+    ensures { (piece : List ℕ) → Contains (pieces_of sep.now text.now) piece
+        → IsFactor text.now piece }
 {}
 
 /// What replacing leaves has bytes of the text and of the replacement alone.
 pub fn bytes_of_replaced(search: &[u8], with: &[u8], text: &[u8])
-    ensures { (byte : ℕ) → Contains (replaced_text search.now with.now text.now) byte → Contains text.now byte ⊎ Contains with.now byte }
+    ensures { (byte : ℕ) → Contains (replaced_text search.now with.now text.now) byte
+        → Contains text.now byte ⊎ Contains with.now byte }
 {}
 
 /// Each occurrence that is replaced takes away the length of the search and adds that of the

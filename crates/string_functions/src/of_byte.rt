@@ -40,7 +40,8 @@ pub fn is_line_end_byte(byte: u8) -> bool
 /// The reference that `htmlspecialchars` writes for the byte; None exactly where it writes the
 /// byte itself.
 pub fn html_reference(byte: u8) -> Option<&'static str>
-    ensures { MatchOption result (html_of_byte byte ≡ byte ∷ []) (λ reference. html_of_byte byte ≡ reference.now) }
+    ensures { MatchOption result (html_of_byte byte ≡ byte ∷ [])
+        (λ reference. html_of_byte byte ≡ reference.now) }
 {
     match byte {
         b'&' => Some("&amp;"),

@@ -146,7 +146,8 @@ fn slashes_outs(alloc: Global, byte: u8) -> Result<Vec<Out>, NoMemory>
 
 /// The machine of an operation that writes each byte by itself.
 pub(crate) fn bytewise_machine(alloc: Global, kind: Bytewise) -> Result<Table, NoMemory>
-    ensures { IfOk result (λ table. IsMachine table 0 (λ input output. output ≡ bytewise_of kind input)) }
+    ensures { IfOk result
+        (λ table. IsMachine table 0 (λ input output. output ≡ bytewise_of kind input)) }
 {
     let table = table_of(alloc, &kind)?;
     Ok(table)

@@ -78,7 +78,9 @@ fn size(len: Option<i64>) -> u64
 /// The machine of a cut with a start that is not negative.
 fn front_machine(alloc: Global, start: u64, len: Option<i64>) -> Result<Table, NoMemory>
     requires { start ≤ 2 ^ 63 }
-    ensures { IfOk result (λ table. IsMachine table (start + size_of_length len) (λ input output. output ≡ part_of input (pos start) len)) }
+    ensures { IfOk result
+        (λ table. IsMachine table (start + size_of_length len)
+        (λ input output. output ≡ part_of input (pos start) len)) }
 {
     if is_rest(len) {
         return rest_machine(alloc, start);
@@ -93,7 +95,8 @@ fn front_machine(alloc: Global, start: u64, len: Option<i64>) -> Result<Table, N
 /// The rest of the text from a start on.
 pub(crate) fn rest_machine(alloc: Global, start: u64) -> Result<Table, NoMemory>
     requires { start ≤ 2 ^ 63 }
-    ensures { IfOk result (λ table. IsMachine table start (λ input output. output ≡ part_of input (pos start) None)) }
+    ensures { IfOk result
+        (λ table. IsMachine table start (λ input output. output ≡ part_of input (pos start) None)) }
 {
     let table = front_table(alloc, start, start, true)?;
     Ok(table)
@@ -101,7 +104,9 @@ pub(crate) fn rest_machine(alloc: Global, start: u64) -> Result<Table, NoMemory>
 
 /// So many bytes from a start on.
 pub(crate) fn next_machine(alloc: Global, start: u64, len: u64) -> Result<Table, NoMemory>
-    ensures { IfOk result (λ table. IsMachine table (start + len) (λ input output. output ≡ part_of input (pos start) (Some (pos len)))) }
+    ensures { IfOk result
+        (λ table. IsMachine table (start + len)
+        (λ input output. output ≡ part_of input (pos start) (Some (pos len)))) }
 {
     if start >= MOST || len >= MOST {
         return Err(NoMemory);
@@ -125,7 +130,8 @@ pub(crate) fn inner_machine(alloc: Global, start: u64, below: u64) -> Result<Tab
 /// A state for each count of bytes.
 fn front_table(alloc: Global, count: u64, from: u64, rest: bool) -> Result<Table, NoMemory>
     requires { count + 1 < 2 ^ 64 }
-    ensures { IfOk result (λ table. IsListed table (count + 1) (front_rows count from rest) (front_lasts count)) }
+    ensures { IfOk result
+        (λ table. IsListed table (count + 1) (front_rows count from rest) (front_lasts count)) }
 {
     let mut table = Table::new(alloc, count + 1, 0);
     add_counts(alloc, &mut table, count, from)?;
@@ -138,7 +144,9 @@ fn front_table(alloc: Global, count: u64, from: u64, rest: bool) -> Result<Table
 /// one, and one for each count of bytes that are left of it.
 fn inner_table(alloc: Global, start: u64, last: u64) -> Result<Table, NoMemory>
     requires { start + last + last + 3 < 2 ^ 64 }
-    ensures { IfOk result (λ table. IsListed table (start + last + last + 3) (inner_rows start last) (inner_lasts start last)) }
+    ensures { IfOk result
+        (λ table. IsListed table (start + last + last + 3) (inner_rows start last)
+        (inner_lasts start last)) }
 {
     let count = start + last;
     let middle = count + 1;
@@ -159,7 +167,8 @@ fn inner_table(alloc: Global, start: u64, last: u64) -> Result<Table, NoMemory>
 /// state on.
 fn add_counts(alloc: Global, table: &mut Table, count: u64, from: u64) -> Result<(), NoMemory>
     requires { count < table.old.states }
-    ensures moves { OnOk result (AddsSearch table.old.moves.items table.new.moves.items 0 count (count_turn from)) }
+    ensures moves { OnOk result
+        (AddsSearch table.old.moves.items table.new.moves.items 0 count (count_turn from)) }
     ensures states { table.new.states ≡ table.old.states }
     ensures start { table.new.start ≡ table.old.start }
     ensures ends { table.new.ends.items ≡ table.old.ends.items }
@@ -174,7 +183,8 @@ fn add_counts(alloc: Global, table: &mut Table, count: u64, from: u64) -> Result
 fn add_downs(alloc: Global, table: &mut Table, base: u64, count: u64) -> Result<(), NoMemory>
     requires room { base + count < table.old.states }
     requires fits { base + count + 1 < 2 ^ 64 }
-    ensures moves { OnOk result (AddsSearch table.old.moves.items table.new.moves.items (base + 1) count (down_turn base)) }
+    ensures moves { OnOk result
+        (AddsSearch table.old.moves.items table.new.moves.items (base + 1) count (down_turn base)) }
     ensures states { table.new.states ≡ table.old.states }
     ensures start { table.new.start ≡ table.old.start }
     ensures ends { table.new.ends.items ≡ table.old.ends.items }

@@ -123,7 +123,8 @@ fn state_at(phase: u64, k: u64) -> u64
 
 /// To a state, with the byte that is read or with nothing.
 fn go(alloc: Global, to: u64, keeps: bool) -> Result<Option<Action>, NoMemory>
-    ensures { IfOk result (λ action. choice_in action ≡ Some (to, if keeps then Out.Same ∷ [] else [])) }
+    ensures { IfOk result
+        (λ action. choice_in action ≡ Some (to, if keeps then Out.Same ∷ [] else [])) }
 {
     let out = if keeps {
         one(alloc, Out::Same)?
@@ -135,7 +136,8 @@ fn go(alloc: Global, to: u64, keeps: bool) -> Result<Option<Action>, NoMemory>
 
 /// The choices of the first byte.
 fn at_front(alloc: Global, cut: CutBack, turn: usize) -> Result<Option<Action>, NoMemory>
-    ensures { IfOk result (λ action. choice_in action ≡ slice_get (back_choices cut.last cut.len 0 0) turn) }
+    ensures { IfOk result
+        (λ action. choice_in action ≡ slice_get (back_choices cut.last cut.len 0 0) turn) }
 {
     let counts = counted(cut.len);
     let drops = dropped(cut.len);
@@ -154,7 +156,8 @@ fn at_front(alloc: Global, cut: CutBack, turn: usize) -> Result<Option<Action>, 
 
 /// The choices where some bytes are passed over.
 fn at_pass(alloc: Global, cut: CutBack, turn: usize) -> Result<Option<Action>, NoMemory>
-    ensures { IfOk result (λ action. choice_in action ≡ slice_get (back_choices cut.last cut.len 1 0) turn) }
+    ensures { IfOk result
+        (λ action. choice_in action ≡ slice_get (back_choices cut.last cut.len 1 0) turn) }
 {
     if turn == 0 {
         go(alloc, state_at(1, 0), false)
@@ -175,7 +178,8 @@ fn at_last(
 ) -> Result<Option<Action>, NoMemory>
     requires phase { phase < 5 }
     requires number { 8 * k + 7 < 2 ^ 64 }
-    ensures { IfOk result (λ action. choice_in action ≡ slice_get (last_choices cut.last cut.len phase k) turn) }
+    ensures { IfOk result
+        (λ action. choice_in action ≡ slice_get (last_choices cut.last cut.len phase k) turn) }
 {
     if turn == 0 && k > 0 && k < cut.last {
         go(alloc, state_at(phase, k - 1), kept(cut, k) > 0)
@@ -187,7 +191,8 @@ fn at_last(
 /// The choices in a short text of which all but some bytes are kept.
 fn at_short(alloc: Global, cut: CutBack, k: u64, turn: usize) -> Result<Option<Action>, NoMemory>
     requires { 8 * k + 7 < 2 ^ 64 }
-    ensures { IfOk result (λ action. choice_in action ≡ slice_get (back_choices cut.last cut.len 3 k) turn) }
+    ensures { IfOk result
+        (λ action. choice_in action ≡ slice_get (back_choices cut.last cut.len 3 k) turn) }
 {
     let drops = dropped(cut.len);
     if k == 0 || k >= cut.last {
@@ -222,7 +227,8 @@ fn chosen(
     turn: usize,
 ) -> Result<Option<Action>, NoMemory>
     requires { 8 * k + 7 < 2 ^ 64 }
-    ensures { IfOk result (λ action. choice_in action ≡ slice_get (back_choices cut.last cut.len phase k) turn) }
+    ensures { IfOk result
+        (λ action. choice_in action ≡ slice_get (back_choices cut.last cut.len phase k) turn) }
 {
     match phase {
         0 => at_front(alloc, cut, turn),

@@ -70,7 +70,8 @@ impl Plan for First {
 
 /// The machine of `Op::First`.
 pub(crate) fn first_machine(alloc: Global) -> Result<Table, NoMemory>
-    ensures { IfOk result (λ table. IsMachine table 0 (λ input output. output ≡ first_upper_of input)) }
+    ensures { IfOk result
+        (λ table. IsMachine table 0 (λ input output. output ≡ first_upper_of input)) }
 {
     let table = table_of(alloc, &First)?;
     Ok(table)

@@ -140,7 +140,8 @@ fn put(alloc: Global, byte: u8) -> Result<Vec<Out>, NoMemory>
 
 /// The machine of `Op::Html`.
 pub(crate) fn html_machine(alloc: Global) -> Result<Table, NoMemory>
-    ensures { IfOk result (λ table. IsMachine table 0 (λ input output. IsUtf8 input × (output ≡ html_of input))) }
+    ensures { IfOk result
+        (λ table. IsMachine table 0 (λ input output. IsUtf8 input × (output ≡ html_of input))) }
 {
     let table = table_of(alloc, &Html)?;
     Ok(table)

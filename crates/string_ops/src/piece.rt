@@ -14,7 +14,9 @@ use text_search::failures;
 
 /// The machine of `Op::Piece`; one that relates nothing where the separator is empty.
 pub(crate) fn piece_machine(alloc: Global, sep: &[u8]) -> Result<Table, NoMemory>
-    ensures { IfOk result (λ table. IsMachine table (length sep.now) (λ input output. Contains (pieces_of sep.now input) output)) }
+    ensures { IfOk result
+        (λ table. IsMachine table (length sep.now)
+        (λ input output. Contains (pieces_of sep.now input) output)) }
 {
     if sep.is_empty() {
         return Ok(Table::new(alloc, 1, 0));
@@ -27,7 +29,9 @@ pub(crate) fn piece_machine(alloc: Global, sep: &[u8]) -> Result<Table, NoMemory
 /// and one behind it.
 fn piece_table(alloc: Global, sep: &[u8]) -> Result<Table, NoMemory>
     requires { 0 < length sep.now }
-    ensures { IfOk result (λ table. IsListed table (2 + length sep.now + length sep.now) (piece_rows sep.now) (piece_lasts sep.now)) }
+    ensures { IfOk result
+        (λ table. IsListed table (2 + length sep.now + length sep.now) (piece_rows sep.now)
+        (piece_lasts sep.now)) }
 {
     let failures = failures(alloc, sep)?;
     let count = sep.len() as u64;
@@ -63,7 +67,8 @@ fn piece_table(alloc: Global, sep: &[u8]) -> Result<Table, NoMemory>
 /// Lets a state read all that is left, and put out nothing.
 fn add_rest(alloc: Global, table: &mut Table, state: u64) -> Result<(), NoMemory>
     requires { state < table.old.states }
-    ensures moves { OnOk result (AddsTurns table.old.moves.items table.new.moves.items state (λ byte. (state, []))) }
+    ensures moves { OnOk result
+        (AddsTurns table.old.moves.items table.new.moves.items state (λ byte. (state, []))) }
     ensures states { table.new.states ≡ table.old.states }
     ensures start { table.new.start ≡ table.old.start }
     ensures ends { table.new.ends.items ≡ table.old.ends.items }

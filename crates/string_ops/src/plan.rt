@@ -52,12 +52,14 @@ pub trait Plan {
         turn: usize,
     ) -> Result<Option<Action>, NoMemory>
         requires { state < states self.now }
-        ensures { IfOk result (λ action. choice_in action ≡ slice_get (rows self.now state byte) turn) };
+        ensures { IfOk result
+            (λ action. choice_in action ≡ slice_get (rows self.now state byte) turn) };
 
     /// What a state may put out at the end.
     fn last(&self, alloc: Global, state: u64) -> Result<Option<Vec<Out>>, NoMemory>
         requires { state < states self.now }
-        ensures { IfOk result (λ out. option_map (λ o. o.items) out ≡ slice_get (lasts self.now state) 0) };
+        ensures { IfOk result
+            (λ out. option_map (λ o. o.items) out ≡ slice_get (lasts self.now state) 0) };
 }
 
 /// What a state does at one turn: for each byte a place in the list of actions, past which there
@@ -106,7 +108,9 @@ fn is_same_out(a: Out, b: Out) -> bool
 /// The place of an action in the list, to which it is added unless the last one is the same.
 fn place_of(actions: &mut Vec<Action>, action: Action) -> Result<usize, NoMemory>
     ensures extends { OnOk result (Extends actions.old.items actions.new.items) }
-    ensures placed { IfOk result (λ place. choice_in (slice_get actions.new.items place) ≡ Some (action.to, action.out.items)) }
+    ensures placed { IfOk result
+        (λ place. choice_in (slice_get actions.new.items place)
+        ≡ Some (action.to, action.out.items)) }
     ensures below { OnOk result ((states : ℕ) → action.to < states →
         LeadBelow states actions.old.items → LeadBelow states actions.new.items) }
 {
@@ -195,7 +199,8 @@ fn add_state<P: Plan>(
 ) -> Result<(), NoMemory>
     requires state { state < P.states plan.now }
     requires all { table.old.states ≡ P.states plan.now }
-    ensures { OnOk result (AddsState table.old table.new state (P.rows plan.now state) (P.lasts plan.now state)) }
+    ensures { OnOk result
+        (AddsState table.old table.new state (P.rows plan.now state) (P.lasts plan.now state)) }
 {
     add_turn(alloc, table, plan, state, 0)?;
     add_turn(alloc, table, plan, state, 1)?;
@@ -206,7 +211,8 @@ fn add_state<P: Plan>(
 
 /// The table of a machine that is written down.
 pub fn table_of<P: Plan>(alloc: Global, plan: &P) -> Result<Table, NoMemory>
-    ensures { IfOk result (λ table. IsListed table (P.states plan.now) (P.rows plan.now) (P.lasts plan.now)) }
+    ensures { IfOk result
+        (λ table. IsListed table (P.states plan.now) (P.rows plan.now) (P.lasts plan.now)) }
 {
     let states = plan.states();
     let mut table = Table::new(alloc, states, 0);

@@ -24,7 +24,9 @@ pub(crate) fn replace_machine(alloc: Global, pattern: &[u8], with: &[u8]) -> Res
 /// A state for each front of the pattern but the whole.
 fn replace_table(alloc: Global, pattern: &[u8], with: &[u8]) -> Result<Table, NoMemory>
     requires { 0 < length pattern.now }
-    ensures { IfOk result (λ table. IsListed table (length pattern.now) (replace_rows pattern.now with.now) (replace_lasts pattern.now)) }
+    ensures { IfOk result
+        (λ table. IsListed table (length pattern.now) (replace_rows pattern.now with.now)
+        (replace_lasts pattern.now)) }
 {
     let failures = failures(alloc, pattern)?;
     let full_out = bytes_out(alloc, with)?;

@@ -43,7 +43,8 @@ pub(crate) fn bytes_out(alloc: Global, bytes: &[u8]) -> Result<Vec<Out>, NoMemor
 fn let_go(alloc: Global, pattern: &[u8], at: usize, part: usize) -> Result<Vec<Out>, NoMemory>
     requires at { at < length pattern.now }
     requires part { part ≤ at + 1 }
-    ensures { IfOk result (λ out. out.items ≡ Rattle.string_ops.specs.Search.let_go pattern.now at part) }
+    ensures { IfOk result
+        (λ out. out.items ≡ Rattle.string_ops.specs.Search.let_go pattern.now at part) }
 {
     if part == 0 {
         let mut out = bytes_out(alloc, &pattern[..at])?;
@@ -142,7 +143,8 @@ pub(crate) fn add_state(
     requires room { search.now.base + length search.now.pattern.now ≤ table.old.states }
     requires fits { search.now.base + length search.now.pattern.now < 2 ^ 64 }
     requires at { at < length search.now.pattern.now }
-    requires failures { AreFailures search.now.pattern.now search.now.failures.now (length search.now.pattern.now) }
+    requires failures { AreFailures search.now.pattern.now search.now.failures.now
+        (length search.now.pattern.now) }
     ensures moves { OnOk result (AddsTurns table.old.moves.items table.new.moves.items from
         (turn_by search.now.pattern.now search.now.base
         (search.now.full_to, search.now.full_out.now) search.now.shown at)) }
@@ -170,7 +172,9 @@ fn add_first(
     requires from { from < table.old.states }
     requires row { length row.now ≡ 256 }
     requires to { nothing.to < table.old.states }
-    ensures moves { OnOk result (AddsFirst table.old.moves.items table.new.moves.items from row.now (nothing.to, nothing.out.items)) }
+    ensures moves { OnOk result
+        (AddsFirst table.old.moves.items table.new.moves.items from row.now
+        (nothing.to, nothing.out.items)) }
     ensures states { table.new.states ≡ table.old.states }
     ensures start { table.new.start ≡ table.old.start }
     ensures ends { table.new.ends.items ≡ table.old.ends.items }
@@ -186,7 +190,8 @@ pub(crate) fn add_states(alloc: Global, table: &mut Table, search: &Search) -> R
     requires full { search.now.full_to < table.old.states }
     requires room { search.now.base + length search.now.pattern.now ≤ table.old.states }
     requires fits { search.now.base + length search.now.pattern.now < 2 ^ 64 }
-    requires failures { AreFailures search.now.pattern.now search.now.failures.now (length search.now.pattern.now) }
+    requires failures { AreFailures search.now.pattern.now search.now.failures.now
+        (length search.now.pattern.now) }
     ensures moves { OnOk result
         (AddsSearch table.old.moves.items table.new.moves.items search.now.base
         (length search.now.pattern.now) (turn_by search.now.pattern.now search.now.base
@@ -211,7 +216,8 @@ pub(crate) fn add_ends(
 ) -> Result<(), NoMemory>
     requires room { base + length pattern.now ≤ table.old.states }
     requires fits { base + length pattern.now < 2 ^ 64 }
-    ensures ends { OnOk result (AddsEnds table.old.ends.items table.new.ends.items base (length pattern.now) pattern.now) }
+    ensures ends { OnOk result
+        (AddsEnds table.old.ends.items table.new.ends.items base (length pattern.now) pattern.now) }
     ensures states { table.new.states ≡ table.old.states }
     ensures start { table.new.start ≡ table.old.start }
     ensures moves { table.new.moves.items ≡ table.old.moves.items }

@@ -109,7 +109,8 @@ fn chosen(
     turn: usize,
 ) -> Result<Option<Action>, NoMemory>
     requires { state < 4 }
-    ensures { IfOk result (λ action. choice_in action ≡ slice_get (trim_by trim.left trim.right state stripped) turn) }
+    ensures { IfOk result
+        (λ action. choice_in action ≡ slice_get (trim_by trim.left trim.right state stripped) turn) }
 {
     if state == 1 || (state == 0 && !trim.left) {
         return kept(alloc, trim.right, stripped, turn);
@@ -128,7 +129,8 @@ fn chosen(
 
 /// The machine of `Op::Trim`.
 pub(crate) fn trim_machine(alloc: Global, left: bool, right: bool) -> Result<Table, NoMemory>
-    ensures { IfOk result (λ table. IsMachine table 0 (λ input output. output ≡ trim_of left right input)) }
+    ensures { IfOk result
+        (λ table. IsMachine table 0 (λ input output. output ≡ trim_of left right input)) }
 {
     let table = table_of(alloc, &Trim { left, right })?;
     Ok(table)

@@ -25,7 +25,8 @@ fn close_path(marks: &mut Vec<Mark>, path: &mut Vec<usize>, start: usize, number
 /// Closes the group of the path that begins at its place, the last one: it is a component.
 pub fn close(search: &mut Search, start: usize) -> Result<(), NoMemory>
     requires start { start < length search.old.path.items }
-    requires within { (p u : ℕ) → slice_get search.old.path.items p ≡ Some u → u < length search.old.marks.items }
+    requires within { (p u : ℕ) → slice_get search.old.path.items p ≡ Some u
+        → u < length search.old.marks.items }
     requires last { slice_get search.old.starts 0 ≡ Some start }
     ensures { OnOk result (Shuts start search.old search.new) }
 {

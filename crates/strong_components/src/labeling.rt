@@ -13,7 +13,8 @@ use crate::search::Search;
 use std::alloc::Global;
 use text_base::NoMemory;
 
-/// Follows the next edge from the last group of the path, which begins at the place, or closes that group.
+/// Follows the next edge from the last group of the path, which begins at the place, or closes that
+/// group.
 fn step(search: &mut Search, edges: &[Vec<usize>], start: usize) -> Result<(), NoMemory>
     requires within { AreWithin edges.now }
     requires keeps { Keeps edges.now search.old }
@@ -67,8 +68,9 @@ fn numbers_of(alloc: Global, marks: &[Mark]) -> Result<Vec<usize>, NoMemory>
     Ok(numbers)
 }
 
-/// The number of each node's component. Nodes have one number exactly where edges lead from each to the other, and an edge leads to no
-/// higher number. `edges` lists for each node, by its number from 0, which nodes its edges lead to.
+/// The number of each node's component. Nodes have one number exactly where edges lead from each to
+/// the other, and an edge leads to no higher number. `edges` lists for each node, by its number
+/// from 0, which nodes its edges lead to.
 ///
 /// Takes time and memory linear in the number of nodes and edges.
 pub fn components(alloc: Global, edges: &[Vec<usize>]) -> Result<Vec<usize>, NoMemory>

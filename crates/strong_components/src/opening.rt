@@ -22,7 +22,9 @@ pub fn top(starts: &Stack<usize>) -> Option<usize>
 pub fn next_edge(waiting: &mut Stack<Waiting>, start: usize) -> Option<Waiting>
     ensures some { IfSome result (λ w. (waiting.old ≡ w ∷ waiting.new) × (start ≤ w.from)) }
     ensures none { IfNone result (waiting.new ≡ waiting.old) }
-    ensures before { IfNone result ((w : waiting_edge.Waiting) (rest : List waiting_edge.Waiting) → waiting.old ≡ w ∷ rest → w.from < start) }
+    ensures before { IfNone result
+        ((w : waiting_edge.Waiting) (rest : List waiting_edge.Waiting) → waiting.old ≡ w ∷ rest
+        → w.from < start) }
 {
     match waiting.last() {
         Some(edge) => {

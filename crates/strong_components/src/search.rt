@@ -8,8 +8,8 @@ use stacks::Stack;
 use std::alloc::Global;
 use text_base::NoMemory;
 
-/// A search: the marks of nodes, the path of open nodes, where the groups of the path begin, the edges that are still to be followed, and a
-/// node of each component that is found.
+/// A search: the marks of nodes, the path of open nodes, where the groups of the path begin, the
+/// edges that are still to be followed, and a node of each component that is found.
 #[derive(Debug, Drop)]
 pub struct Search {
     pub marks: Vec<Mark>,
@@ -33,7 +33,9 @@ fn new_marks(alloc: Global, edges: &[Vec<usize>]) -> Result<Vec<Mark>, NoMemory>
 impl Search {
     /// A search that has met no node.
     pub fn new(alloc: Global, edges: &[Vec<usize>]) -> Result<Search, NoMemory>
-        ensures { IfOk result (λ s. AreNew edges.now s.marks.items × (s.path.items ≡ []) × (s.starts ≡ []) × (s.waiting ≡ []) × (s.roots.items ≡ [])) }
+        ensures { IfOk result
+            (λ s. AreNew edges.now s.marks.items × (s.path.items ≡ []) × (s.starts ≡ [])
+            × (s.waiting ≡ []) × (s.roots.items ≡ [])) }
     {
         let marks = new_marks(alloc, edges)?;
         Ok(Search {

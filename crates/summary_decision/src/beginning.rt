@@ -21,13 +21,17 @@ fn begin_empty<S: Summary>(
     table: &mut Table<S::Sum>,
     place: usize,
 ) -> Result<(), Halt>
-    requires table { IsTable (S.sum_of question.now.summary.now) (S.composed question.now.summary.now)
+    requires table { IsTable (S.sum_of question.now.summary.now)
+        (S.composed question.now.summary.now)
         (S.is_whole question.now.summary.now) question.now.grammar.now.productions.items
         question.now.grammar.now.start question.now.grammar.now.count table.old }
-    requires stands { StandsAt question.now.grammar.now.productions.items question.now.grammar.now.start place (plain.Right.Empty) }
-    ensures ok { OnOk result (Begins (S.sum_of question.now.summary.now) (S.composed question.now.summary.now)
+    requires stands { StandsAt question.now.grammar.now.productions.items
+        question.now.grammar.now.start place (plain.Right.Empty) }
+    ensures ok { OnOk result
+        (Begins (S.sum_of question.now.summary.now) (S.composed question.now.summary.now)
         (S.is_whole question.now.summary.now) question.now.grammar.now.productions.items
-        question.now.grammar.now.start question.now.grammar.now.count table.old table.new (λ k. k ≡ place)) }
+        question.now.grammar.now.start question.now.grammar.now.count table.old table.new
+        (λ k. k ≡ place)) }
     ensures err { IfErr result (λ h. Explains (S.sum_of question.now.summary.now)
         (S.is_whole question.now.summary.now) (S.tag_count question.now.summary.now)
         question.now.grammar.now.productions.items question.now.grammar.now.start question.now.limit
@@ -44,13 +48,17 @@ fn begin_one<S: Summary>(
     place: usize,
     symbol: Symbol,
 ) -> Result<(), Halt>
-    requires table { IsTable (S.sum_of question.now.summary.now) (S.composed question.now.summary.now)
+    requires table { IsTable (S.sum_of question.now.summary.now)
+        (S.composed question.now.summary.now)
         (S.is_whole question.now.summary.now) question.now.grammar.now.productions.items
         question.now.grammar.now.start question.now.grammar.now.count table.old }
-    requires stands { StandsAt question.now.grammar.now.productions.items question.now.grammar.now.start place (plain.Right.One symbol) }
-    ensures ok { OnOk result (Begins (S.sum_of question.now.summary.now) (S.composed question.now.summary.now)
+    requires stands { StandsAt question.now.grammar.now.productions.items
+        question.now.grammar.now.start place (plain.Right.One symbol) }
+    ensures ok { OnOk result
+        (Begins (S.sum_of question.now.summary.now) (S.composed question.now.summary.now)
         (S.is_whole question.now.summary.now) question.now.grammar.now.productions.items
-        question.now.grammar.now.start question.now.grammar.now.count table.old table.new (λ k. k ≡ place)) }
+        question.now.grammar.now.start question.now.grammar.now.count table.old table.new
+        (λ k. k ≡ place)) }
     ensures err { IfErr result (λ h. Explains (S.sum_of question.now.summary.now)
         (S.is_whole question.now.summary.now) (S.tag_count question.now.summary.now)
         question.now.grammar.now.productions.items question.now.grammar.now.start question.now.limit
@@ -71,13 +79,17 @@ fn begin_two<S: Summary>(
     first: Symbol,
     second: Symbol,
 ) -> Result<(), Halt>
-    requires table { IsTable (S.sum_of question.now.summary.now) (S.composed question.now.summary.now)
+    requires table { IsTable (S.sum_of question.now.summary.now)
+        (S.composed question.now.summary.now)
         (S.is_whole question.now.summary.now) question.now.grammar.now.productions.items
         question.now.grammar.now.start question.now.grammar.now.count table.old }
-    requires stands { StandsAt question.now.grammar.now.productions.items question.now.grammar.now.start place (plain.Right.Two first second) }
-    ensures ok { OnOk result (Begins (S.sum_of question.now.summary.now) (S.composed question.now.summary.now)
+    requires stands { StandsAt question.now.grammar.now.productions.items
+        question.now.grammar.now.start place (plain.Right.Two first second) }
+    ensures ok { OnOk result
+        (Begins (S.sum_of question.now.summary.now) (S.composed question.now.summary.now)
         (S.is_whole question.now.summary.now) question.now.grammar.now.productions.items
-        question.now.grammar.now.start question.now.grammar.now.count table.old table.new (λ k. k ≡ place)) }
+        question.now.grammar.now.start question.now.grammar.now.count table.old table.new
+        (λ k. k ≡ place)) }
     ensures err { IfErr result (λ h. Explains (S.sum_of question.now.summary.now)
         (S.is_whole question.now.summary.now) (S.tag_count question.now.summary.now)
         question.now.grammar.now.productions.items question.now.grammar.now.start question.now.limit
@@ -106,13 +118,17 @@ fn begin_at<S: Summary>(
     place: usize,
     right: Right,
 ) -> Result<(), Halt>
-    requires table { IsTable (S.sum_of question.now.summary.now) (S.composed question.now.summary.now)
+    requires table { IsTable (S.sum_of question.now.summary.now)
+        (S.composed question.now.summary.now)
         (S.is_whole question.now.summary.now) question.now.grammar.now.productions.items
         question.now.grammar.now.start question.now.grammar.now.count table.old }
-    requires stands { StandsAt question.now.grammar.now.productions.items question.now.grammar.now.start place (right) }
-    ensures ok { OnOk result (Begins (S.sum_of question.now.summary.now) (S.composed question.now.summary.now)
+    requires stands { StandsAt question.now.grammar.now.productions.items
+        question.now.grammar.now.start place (right) }
+    ensures ok { OnOk result
+        (Begins (S.sum_of question.now.summary.now) (S.composed question.now.summary.now)
         (S.is_whole question.now.summary.now) question.now.grammar.now.productions.items
-        question.now.grammar.now.start question.now.grammar.now.count table.old table.new (λ k. k ≡ place)) }
+        question.now.grammar.now.start question.now.grammar.now.count table.old table.new
+        (λ k. k ≡ place)) }
     ensures err { IfErr result (λ h. Explains (S.sum_of question.now.summary.now)
         (S.is_whole question.now.summary.now) (S.tag_count question.now.summary.now)
         question.now.grammar.now.productions.items question.now.grammar.now.start question.now.limit
@@ -133,14 +149,19 @@ fn begin_useful<S: Summary>(
     place: usize,
     production: Production,
 ) -> Result<(), Halt>
-    requires table { IsTable (S.sum_of question.now.summary.now) (S.composed question.now.summary.now)
+    requires table { IsTable (S.sum_of question.now.summary.now)
+        (S.composed question.now.summary.now)
         (S.is_whole question.now.summary.now) question.now.grammar.now.productions.items
         question.now.grammar.now.start question.now.grammar.now.count table.old }
     requires placed { slice_get question.now.grammar.now.productions.items place ≡ Some production }
-    requires useful { (a : nt.Nt) → IsMarked useful.now a.0 ↔ IsUseful question.now.grammar.now.productions.items question.now.grammar.now.start a }
-    ensures ok { OnOk result (Begins (S.sum_of question.now.summary.now) (S.composed question.now.summary.now)
+    requires useful { (a : nt.Nt)
+        → IsMarked useful.now a.0 ↔ IsUseful question.now.grammar.now.productions.items
+        question.now.grammar.now.start a }
+    ensures ok { OnOk result
+        (Begins (S.sum_of question.now.summary.now) (S.composed question.now.summary.now)
         (S.is_whole question.now.summary.now) question.now.grammar.now.productions.items
-        question.now.grammar.now.start question.now.grammar.now.count table.old table.new (λ k. k ≡ place)) }
+        question.now.grammar.now.start question.now.grammar.now.count table.old table.new
+        (λ k. k ≡ place)) }
     ensures err { IfErr result (λ h. Explains (S.sum_of question.now.summary.now)
         (S.is_whole question.now.summary.now) (S.tag_count question.now.summary.now)
         question.now.grammar.now.productions.items question.now.grammar.now.start question.now.limit
@@ -159,13 +180,18 @@ pub fn begin<S: Summary>(
     table: &mut Table<S::Sum>,
     useful: &[bool],
 ) -> Result<(), Halt>
-    requires table { IsTable (S.sum_of question.now.summary.now) (S.composed question.now.summary.now)
+    requires table { IsTable (S.sum_of question.now.summary.now)
+        (S.composed question.now.summary.now)
         (S.is_whole question.now.summary.now) question.now.grammar.now.productions.items
         question.now.grammar.now.start question.now.grammar.now.count table.old }
-    requires useful { (a : nt.Nt) → IsMarked useful.now a.0 ↔ IsUseful question.now.grammar.now.productions.items question.now.grammar.now.start a }
-    ensures ok { OnOk result (Begins (S.sum_of question.now.summary.now) (S.composed question.now.summary.now)
+    requires useful { (a : nt.Nt)
+        → IsMarked useful.now a.0 ↔ IsUseful question.now.grammar.now.productions.items
+        question.now.grammar.now.start a }
+    ensures ok { OnOk result
+        (Begins (S.sum_of question.now.summary.now) (S.composed question.now.summary.now)
         (S.is_whole question.now.summary.now) question.now.grammar.now.productions.items
-        question.now.grammar.now.start question.now.grammar.now.count table.old table.new (λ k. k < length question.now.grammar.now.productions.items)) }
+        question.now.grammar.now.start question.now.grammar.now.count table.old table.new
+        (λ k. k < length question.now.grammar.now.productions.items)) }
     ensures err { IfErr result (λ h. Explains (S.sum_of question.now.summary.now)
         (S.is_whole question.now.summary.now) (S.tag_count question.now.summary.now)
         question.now.grammar.now.productions.items question.now.grammar.now.start question.now.limit

@@ -1,5 +1,5 @@
-//! Taking up a pair: it meets the pairs that are taken up, at the productions in which its nonterminal
-//! stands.
+//! Taking up a pair: it meets the pairs that are taken up, at the productions in which its
+//! nonterminal stands.
 
 ghost use Rattle.std.specs.Prelude.{◌≡◌, ◌+◌, ◌<◌, ◌≤◌, ℕ, [], ◌∷◌, ◌++◌, Some, slice_get, Contains, IfErr, IfSome, OnOk, length};
 ghost use Rattle.cfg_grammar.specs.declared.production.Right as plain;
@@ -28,16 +28,21 @@ fn take_alone<S: Summary>(
     taken: &Taken,
     symbol: Symbol,
 ) -> Result<(), Halt>
-    requires table { IsTable (S.sum_of question.now.summary.now) (S.composed question.now.summary.now)
+    requires table { IsTable (S.sum_of question.now.summary.now)
+        (S.composed question.now.summary.now)
         (S.is_whole question.now.summary.now) question.now.grammar.now.productions.items
         question.now.grammar.now.start question.now.grammar.now.count table.old }
     requires at { IsAt (S.sum_of question.now.summary.now) (S.composed question.now.summary.now)
         (S.is_whole question.now.summary.now) question.now.grammar.now.productions.items
         question.now.grammar.now.start table.old joint sum.now }
-    requires right { (p : productions.Production) → slice_get question.now.grammar.now.productions.items joint.place ≡ Some p → p.right ≡ plain.Right.One symbol }
-    ensures ok { OnOk result (Gives (S.sum_of question.now.summary.now) (S.composed question.now.summary.now)
+    requires right { (p : productions.Production)
+        → slice_get question.now.grammar.now.productions.items joint.place ≡ Some p → p.right
+        ≡ plain.Right.One symbol }
+    ensures ok { OnOk result
+        (Gives (S.sum_of question.now.summary.now) (S.composed question.now.summary.now)
         (S.is_whole question.now.summary.now) question.now.grammar.now.productions.items
-        question.now.grammar.now.start question.now.grammar.now.count table.old table.new joint.side sum.now taken.now.count (λ k. k ≡ joint.place)) }
+        question.now.grammar.now.start question.now.grammar.now.count table.old table.new joint.side
+        sum.now taken.now.count (λ k. k ≡ joint.place)) }
     ensures err { IfErr result (λ h. Explains (S.sum_of question.now.summary.now)
         (S.is_whole question.now.summary.now) (S.tag_count question.now.summary.now)
         question.now.grammar.now.productions.items question.now.grammar.now.start question.now.limit
@@ -68,19 +73,24 @@ fn take_beside<S: Summary>(
     first: Symbol,
     second: Symbol,
 ) -> Result<(), Halt>
-    requires table { IsTable (S.sum_of question.now.summary.now) (S.composed question.now.summary.now)
+    requires table { IsTable (S.sum_of question.now.summary.now)
+        (S.composed question.now.summary.now)
         (S.is_whole question.now.summary.now) question.now.grammar.now.productions.items
         question.now.grammar.now.start question.now.grammar.now.count table.old }
     requires at { IsAt (S.sum_of question.now.summary.now) (S.composed question.now.summary.now)
         (S.is_whole question.now.summary.now) question.now.grammar.now.productions.items
         question.now.grammar.now.start table.old joint sum.now }
-    requires right { (p : productions.Production) → slice_get question.now.grammar.now.productions.items joint.place ≡ Some p → p.right ≡ plain.Right.Two first second }
+    requires right { (p : productions.Production)
+        → slice_get question.now.grammar.now.productions.items joint.place ≡ Some p → p.right
+        ≡ plain.Right.Two first second }
     requires taken { AreTaken (known table.old) taken.now.count taken.now.lists.items }
     requires spread { length taken.now.lists.items ≡ question.now.grammar.now.count }
     requires within { taken.now.count ≤ table.old.bound }
-    ensures ok { OnOk result (Gives (S.sum_of question.now.summary.now) (S.composed question.now.summary.now)
+    ensures ok { OnOk result
+        (Gives (S.sum_of question.now.summary.now) (S.composed question.now.summary.now)
         (S.is_whole question.now.summary.now) question.now.grammar.now.productions.items
-        question.now.grammar.now.start question.now.grammar.now.count table.old table.new joint.side sum.now taken.now.count (λ k. k ≡ joint.place)) }
+        question.now.grammar.now.start question.now.grammar.now.count table.old table.new joint.side
+        sum.now taken.now.count (λ k. k ≡ joint.place)) }
     ensures err { IfErr result (λ h. Explains (S.sum_of question.now.summary.now)
         (S.is_whole question.now.summary.now) (S.tag_count question.now.summary.now)
         question.now.grammar.now.productions.items question.now.grammar.now.start question.now.limit
@@ -104,7 +114,8 @@ fn take_at<S: Summary>(
     sum: &S::Sum,
     taken: &Taken,
 ) -> Result<(), Halt>
-    requires table { IsTable (S.sum_of question.now.summary.now) (S.composed question.now.summary.now)
+    requires table { IsTable (S.sum_of question.now.summary.now)
+        (S.composed question.now.summary.now)
         (S.is_whole question.now.summary.now) question.now.grammar.now.productions.items
         question.now.grammar.now.start question.now.grammar.now.count table.old }
     requires at { IsAt (S.sum_of question.now.summary.now) (S.composed question.now.summary.now)
@@ -113,9 +124,11 @@ fn take_at<S: Summary>(
     requires taken { AreTaken (known table.old) taken.now.count taken.now.lists.items }
     requires spread { length taken.now.lists.items ≡ question.now.grammar.now.count }
     requires within { taken.now.count ≤ table.old.bound }
-    ensures ok { OnOk result (Gives (S.sum_of question.now.summary.now) (S.composed question.now.summary.now)
+    ensures ok { OnOk result
+        (Gives (S.sum_of question.now.summary.now) (S.composed question.now.summary.now)
         (S.is_whole question.now.summary.now) question.now.grammar.now.productions.items
-        question.now.grammar.now.start question.now.grammar.now.count table.old table.new joint.side sum.now taken.now.count (λ k. k ≡ joint.place)) }
+        question.now.grammar.now.start question.now.grammar.now.count table.old table.new joint.side
+        sum.now taken.now.count (λ k. k ≡ joint.place)) }
     ensures err { IfErr result (λ h. Explains (S.sum_of question.now.summary.now)
         (S.is_whole question.now.summary.now) (S.tag_count question.now.summary.now)
         question.now.grammar.now.productions.items question.now.grammar.now.start question.now.limit
@@ -138,7 +151,8 @@ fn take_side<S: Summary>(
     taken: &Taken,
     places: &[usize],
 ) -> Result<(), Halt>
-    requires table { IsTable (S.sum_of question.now.summary.now) (S.composed question.now.summary.now)
+    requires table { IsTable (S.sum_of question.now.summary.now)
+        (S.composed question.now.summary.now)
         (S.is_whole question.now.summary.now) question.now.grammar.now.productions.items
         question.now.grammar.now.start question.now.grammar.now.count table.old }
     requires uses { UsesAt (S.sum_of question.now.summary.now) (S.composed question.now.summary.now)
@@ -147,9 +161,11 @@ fn take_side<S: Summary>(
     requires taken { AreTaken (known table.old) taken.now.count taken.now.lists.items }
     requires spread { length taken.now.lists.items ≡ question.now.grammar.now.count }
     requires within { taken.now.count ≤ table.old.bound }
-    ensures ok { OnOk result (Gives (S.sum_of question.now.summary.now) (S.composed question.now.summary.now)
+    ensures ok { OnOk result
+        (Gives (S.sum_of question.now.summary.now) (S.composed question.now.summary.now)
         (S.is_whole question.now.summary.now) question.now.grammar.now.productions.items
-        question.now.grammar.now.start question.now.grammar.now.count table.old table.new side sum.now taken.now.count (λ k. Contains places.now k)) }
+        question.now.grammar.now.start question.now.grammar.now.count table.old table.new side
+        sum.now taken.now.count (λ k. Contains places.now k)) }
     ensures err { IfErr result (λ h. Explains (S.sum_of question.now.summary.now)
         (S.is_whole question.now.summary.now) (S.tag_count question.now.summary.now)
         question.now.grammar.now.productions.items question.now.grammar.now.start question.now.limit
@@ -203,13 +219,17 @@ pub fn take<S: Summary>(
         question.now.grammar.now.start question.now.grammar.now.count table.old taken.old }
     requires more { taken.old.count < table.old.bound }
     requires small { taken.old.count < 9223372036854775808 }
-    requires firsts { AreUses Side.First question.now.grammar.now.productions.items question.now.grammar.now.start question.now.grammar.now.count uses.now.firsts.items }
-    requires seconds { AreUses Side.Second question.now.grammar.now.productions.items question.now.grammar.now.start question.now.grammar.now.count uses.now.seconds.items }
+    requires firsts { AreUses Side.First question.now.grammar.now.productions.items
+        question.now.grammar.now.start question.now.grammar.now.count uses.now.firsts.items }
+    requires seconds { AreUses Side.Second question.now.grammar.now.productions.items
+        question.now.grammar.now.start question.now.grammar.now.count uses.now.seconds.items }
     requires many { question.now.grammar.now.count < length uses.now.firsts.items }
     requires as_many { question.now.grammar.now.count < length uses.now.seconds.items }
-    ensures ok { OnOk result (Takes (S.sum_of question.now.summary.now) (S.composed question.now.summary.now)
+    ensures ok { OnOk result
+        (Takes (S.sum_of question.now.summary.now) (S.composed question.now.summary.now)
         (S.is_whole question.now.summary.now) question.now.grammar.now.productions.items
-        question.now.grammar.now.start question.now.grammar.now.count table.old table.new taken.old taken.new) }
+        question.now.grammar.now.start question.now.grammar.now.count table.old table.new taken.old
+        taken.new) }
     ensures err { IfErr result (λ h. Explains (S.sum_of question.now.summary.now)
         (S.is_whole question.now.summary.now) (S.tag_count question.now.summary.now)
         question.now.grammar.now.productions.items question.now.grammar.now.start question.now.limit

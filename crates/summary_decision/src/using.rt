@@ -57,7 +57,8 @@ fn number_on(side: Side, right: Right) -> Option<u64>
 
 /// The number under which a production is listed: the count, where it is not to be found.
 fn key(side: Side, count: u64, useful: &[bool], production: Production) -> u64
-    ensures { result ≡ key_of count (get_or useful.now production.left.0 false) (number_by side production.right) }
+    ensures { result ≡ key_of count (get_or useful.now production.left.0 false)
+        (number_by side production.right) }
 {
     if !is_marked(useful, production.left.0) {
         return count;
@@ -77,7 +78,8 @@ fn all_keys(
     productions: &[Production],
 ) -> Result<Vec<u64>, NoMemory>
     ensures { IfOk result (λ keys. keys.items ≡
-        map (λ p. key_of count (get_or useful.now p.left.0 false) (number_by side p.right)) productions.now) }
+        map (λ p. key_of count (get_or useful.now p.left.0 false) (number_by side p.right))
+        productions.now) }
 {
     let mut keys = Vec::new(alloc);
     for production in productions {
@@ -94,9 +96,11 @@ pub fn uses_on(
     grammar: &Grammar,
     useful: &[bool],
 ) -> Result<Vec<Vec<usize>>, NoMemory>
-    requires { (a : nt.Nt) → IsMarked useful.now a.0 ↔ IsUseful grammar.now.productions.items grammar.now.start a }
+    requires { (a : nt.Nt)
+        → IsMarked useful.now a.0 ↔ IsUseful grammar.now.productions.items grammar.now.start a }
     ensures len { IfOk result (λ lists. length lists.items ≡ grammar.now.count + 1) }
-    ensures exact { IfOk result (λ lists. AreUses side grammar.now.productions.items grammar.now.start
+    ensures exact { IfOk result
+        (λ lists. AreUses side grammar.now.productions.items grammar.now.start
         grammar.now.count lists.items) }
 {
     let Some(lists) = grammar.count.checked_add(1) else {

@@ -45,13 +45,16 @@ pub fn add<S: Summary>(
     parts: Parts,
     sum: S::Sum,
 ) -> Result<(), Halt>
-    requires table { IsTable (S.sum_of question.now.summary.now) (S.composed question.now.summary.now)
+    requires table { IsTable (S.sum_of question.now.summary.now)
+        (S.composed question.now.summary.now)
         (S.is_whole question.now.summary.now) question.now.grammar.now.productions.items
         question.now.grammar.now.start question.now.grammar.now.count table.old }
-    requires makes { MakesAt (S.sum_of question.now.summary.now) (S.composed question.now.summary.now)
+    requires makes { MakesAt (S.sum_of question.now.summary.now)
+        (S.composed question.now.summary.now)
         (S.is_whole question.now.summary.now) question.now.grammar.now.productions.items
         question.now.grammar.now.start table.old place parts sum }
-    ensures ok { OnOk result (Adds (S.sum_of question.now.summary.now) (S.composed question.now.summary.now)
+    ensures ok { OnOk result
+        (Adds (S.sum_of question.now.summary.now) (S.composed question.now.summary.now)
         (S.is_whole question.now.summary.now) question.now.grammar.now.productions.items
         question.now.grammar.now.start question.now.grammar.now.count table.old table.new place sum) }
     ensures err { IfErr result (λ h. Explains (S.sum_of question.now.summary.now)

@@ -41,7 +41,8 @@ pub fn compose<S: Summary>(
     own: &S::Sum,
     other: &S::Sum,
 ) -> Result<S::Sum, NoMemory>
-    ensures { IfOk result (λ s. s ≡ composed_by (S.composed question.now.summary.now) side own.now other.now) }
+    ensures { IfOk result
+        (λ s. s ≡ composed_by (S.composed question.now.summary.now) side own.now other.now) }
 {
     match side {
         Side::First => {
@@ -64,18 +65,23 @@ fn meet_pairs<S: Summary>(
     partner: Nt,
     pairs: &[usize],
 ) -> Result<(), Halt>
-    requires table { IsTable (S.sum_of question.now.summary.now) (S.composed question.now.summary.now)
+    requires table { IsTable (S.sum_of question.now.summary.now)
+        (S.composed question.now.summary.now)
         (S.is_whole question.now.summary.now) question.now.grammar.now.productions.items
         question.now.grammar.now.start question.now.grammar.now.count table.old }
-    requires beside { IsBeside (S.sum_of question.now.summary.now) (S.composed question.now.summary.now)
+    requires beside { IsBeside (S.sum_of question.now.summary.now)
+        (S.composed question.now.summary.now)
         (S.is_whole question.now.summary.now) question.now.grammar.now.productions.items
         question.now.grammar.now.start table.old joint sum.now (symbols.Symbol.Nt partner) }
-    requires partners { ArePartners (S.sum_of question.now.summary.now) (S.composed question.now.summary.now)
+    requires partners { ArePartners (S.sum_of question.now.summary.now)
+        (S.composed question.now.summary.now)
         (S.is_whole question.now.summary.now) question.now.grammar.now.productions.items
         question.now.grammar.now.start table.old partner.0 pairs.now }
-    ensures ok { OnOk result (MeetsPairs (S.sum_of question.now.summary.now) (S.composed question.now.summary.now)
+    ensures ok { OnOk result
+        (MeetsPairs (S.sum_of question.now.summary.now) (S.composed question.now.summary.now)
         (S.is_whole question.now.summary.now) question.now.grammar.now.productions.items
-        question.now.grammar.now.start question.now.grammar.now.count table.old table.new joint sum.now partner.0
+        question.now.grammar.now.start question.now.grammar.now.count table.old table.new joint
+        sum.now partner.0
         (λ j. Contains pairs.now j)) }
     ensures err { IfErr result (λ h. Explains (S.sum_of question.now.summary.now)
         (S.is_whole question.now.summary.now) (S.tag_count question.now.summary.now)
@@ -106,16 +112,20 @@ fn meet_letter<S: Summary>(
     symbol: Symbol,
     n: usize,
 ) -> Result<(), Halt>
-    requires table { IsTable (S.sum_of question.now.summary.now) (S.composed question.now.summary.now)
+    requires table { IsTable (S.sum_of question.now.summary.now)
+        (S.composed question.now.summary.now)
         (S.is_whole question.now.summary.now) question.now.grammar.now.productions.items
         question.now.grammar.now.start question.now.grammar.now.count table.old }
-    requires beside { IsBeside (S.sum_of question.now.summary.now) (S.composed question.now.summary.now)
+    requires beside { IsBeside (S.sum_of question.now.summary.now)
+        (S.composed question.now.summary.now)
         (S.is_whole question.now.summary.now) question.now.grammar.now.productions.items
         question.now.grammar.now.start table.old joint sum.now symbol }
     requires letter { (a : nt.Nt) → symbol ≡ symbols.Symbol.Nt a → ⊥ }
-    ensures ok { OnOk result (MeetsSymbol (S.sum_of question.now.summary.now) (S.composed question.now.summary.now)
+    ensures ok { OnOk result
+        (MeetsSymbol (S.sum_of question.now.summary.now) (S.composed question.now.summary.now)
         (S.is_whole question.now.summary.now) question.now.grammar.now.productions.items
-        question.now.grammar.now.start question.now.grammar.now.count table.old table.new joint sum.now n symbol) }
+        question.now.grammar.now.start question.now.grammar.now.count table.old table.new joint
+        sum.now n symbol) }
     ensures err { IfErr result (λ h. Explains (S.sum_of question.now.summary.now)
         (S.is_whole question.now.summary.now) (S.tag_count question.now.summary.now)
         question.now.grammar.now.productions.items question.now.grammar.now.start question.now.limit
@@ -144,18 +154,22 @@ pub fn meet<S: Summary>(
     symbol: Symbol,
     taken: &Taken,
 ) -> Result<(), Halt>
-    requires table { IsTable (S.sum_of question.now.summary.now) (S.composed question.now.summary.now)
+    requires table { IsTable (S.sum_of question.now.summary.now)
+        (S.composed question.now.summary.now)
         (S.is_whole question.now.summary.now) question.now.grammar.now.productions.items
         question.now.grammar.now.start question.now.grammar.now.count table.old }
-    requires beside { IsBeside (S.sum_of question.now.summary.now) (S.composed question.now.summary.now)
+    requires beside { IsBeside (S.sum_of question.now.summary.now)
+        (S.composed question.now.summary.now)
         (S.is_whole question.now.summary.now) question.now.grammar.now.productions.items
         question.now.grammar.now.start table.old joint sum.now symbol }
     requires taken { AreTaken (known table.old) taken.now.count taken.now.lists.items }
     requires spread { length taken.now.lists.items ≡ question.now.grammar.now.count }
     requires within { taken.now.count ≤ table.old.bound }
-    ensures ok { OnOk result (MeetsSymbol (S.sum_of question.now.summary.now) (S.composed question.now.summary.now)
+    ensures ok { OnOk result
+        (MeetsSymbol (S.sum_of question.now.summary.now) (S.composed question.now.summary.now)
         (S.is_whole question.now.summary.now) question.now.grammar.now.productions.items
-        question.now.grammar.now.start question.now.grammar.now.count table.old table.new joint sum.now taken.now.count symbol) }
+        question.now.grammar.now.start question.now.grammar.now.count table.old table.new joint
+        sum.now taken.now.count symbol) }
     ensures err { IfErr result (λ h. Explains (S.sum_of question.now.summary.now)
         (S.is_whole question.now.summary.now) (S.tag_count question.now.summary.now)
         question.now.grammar.now.productions.items question.now.grammar.now.start question.now.limit

@@ -12,8 +12,9 @@ mod tests {
     use tag_sums::Summary;
     use text_base::{Elem, NoMemory, PageToken};
 
-    // One letter a token: `h b p` start `html`, `body` and `p`, which are the elements 0, 1 and 2, `H B P` end them,
-    // `_` is white space, `t` text, `c` a comment, `d` a document type declaration, `u` a tag that is not declared.
+    // One letter a token: `h b p` start `html`, `body` and `p`, which are the elements 0, 1 and 2,
+    // `H B P` end them, `_` is white space, `t` text, `c` a comment, `d` a document type
+    // declaration, `u` a tag that is not declared.
     fn token(letter: u8) -> PageToken {
         match letter {
             b'h' => PageToken::Start(Elem(0)),
@@ -41,7 +42,8 @@ mod tests {
         Ok(sum)
     }
 
-    // What docs/pages.md says of pages of `html`, `body` and `p`: whether they are valid, and whether they are nested.
+    // What docs/pages.md says of pages of `html`, `body` and `p`: whether they are valid, and
+    // whether they are nested.
     #[test]
     fn pages(rt: HostRuntime) -> Result<(), Fail> {
         let alloc = rt.alloc();

@@ -10,7 +10,8 @@ use op_system::OpSystem;
 
 /// The bytes of a text of a set are bytes of that set.
 pub fn bytes_of_texts(s: &OpSystem)
-    ensures { (symbol : symbols.Symbol) (text : List ℕ) → TextOf s.now symbol text → (byte : ℕ) → Contains text byte → ByteOf s.now symbol byte }
+    ensures { (symbol : symbols.Symbol) (text : List ℕ) → TextOf s.now symbol text → (byte : ℕ)
+        → Contains text byte → ByteOf s.now symbol byte }
 {}
 
 /// They are below 256.

@@ -42,11 +42,11 @@ fn finished(start: u64, draft: Draft) -> OpSystem
     }
 }
 
-/// The system whose first nonterminals have the sets of the table, where the given texts are those of
-/// the request and of integers: a nonterminal for each set, for each of the given grammar, and for at
-/// most each byte of a text; a production or a rule for at most each row, each such byte, and each
-/// given production. The time is linear in the table and the given grammar. It is refused for want of
-/// memory alone, which a count of nonterminals beyond 64 bits is too.
+/// The system whose first nonterminals have the sets of the table, where the given texts are those
+/// of the request and of integers: a nonterminal for each set, for each of the given grammar, and
+/// for at most each byte of a text; a production or a rule for at most each row, each such byte,
+/// and each given production. The time is linear in the table and the given grammar. It is refused
+/// for want of memory alone, which a count of nonterminals beyond 64 bits is too.
 pub fn write_system(
     alloc: Global,
     table: &SetTable,

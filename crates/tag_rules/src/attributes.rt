@@ -10,7 +10,8 @@ use value_rules::is_named;
 
 /// The declaration of the attribute of this name; none where none is declared (XML 1.0, 3.3).
 pub fn find_declared<'d>(rules: &'d Vec<AttrRule>, name: &[char]) -> Option<&'d AttrRule>
-    ensures { plain_declared result ≡ fronts.find_declared (map declared_of rules.now.items) name.now }
+    ensures { plain_declared result
+        ≡ fronts.find_declared (map declared_of rules.now.items) name.now }
 {
     for rule in rules {
         if is_named(&rule.name, name) {

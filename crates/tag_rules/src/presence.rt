@@ -7,7 +7,8 @@ ghost use Rattle.page_model.specs.Attributes as spec;
 use dtd_model::{AttrRule, Need};
 use value_rules::is_word;
 
-/// Whether the attribute has to stand in a tag of this name: it is required, or the `xmlns` of `html` (XHTML 1.0, 3.1.1).
+/// Whether the attribute has to stand in a tag of this name: it is required, or the `xmlns` of
+/// `html` (XHTML 1.0, 3.1.1).
 pub fn must_stand(name: &[char], rule: &AttrRule) -> bool
     ensures { result ≡ spec.must_stand name.now (declared_of rule.now) }
 {

@@ -22,7 +22,8 @@ pub fn declaration_move(
     c: char,
 ) -> Result<PageMove, NoMemory>
     ensures { IfOk result (λ m. plain_move m
-        ≡ steps.declaration_by names.now c (attribute_move of_declaration names.now (plain_attribute inside.now) c)) }
+        ≡ steps.declaration_by names.now c
+        (attribute_move of_declaration names.now (plain_attribute inside.now) c)) }
 {
     let moved = attribute_move(alloc, &Allowing::Declaration, names, inside, c)?;
     declaration_by(alloc, names, c, moved)
@@ -34,7 +35,8 @@ fn declaration_by(
     c: char,
     moved: AttributeMove,
 ) -> Result<PageMove, NoMemory>
-    ensures { IfOk result (λ m. plain_move m ≡ steps.declaration_by names.now c (attributes.plain_move moved)) }
+    ensures { IfOk result
+        (λ m. plain_move m ≡ steps.declaration_by names.now c (attributes.plain_move moved)) }
 {
     match moved {
         AttributeMove::Stays(inside) => {

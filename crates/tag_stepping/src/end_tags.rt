@@ -24,7 +24,8 @@ pub fn end_tag_move(
     is_spaced: bool,
     c: char,
 ) -> Result<PageMove, NoMemory>
-    ensures { IfOk result (λ m. plain_move m ≡ steps.end_tag_move (table_of indexed.now.dtd.now) name.now is_spaced c) }
+    ensures { IfOk result
+        (λ m. plain_move m ≡ steps.end_tag_move (table_of indexed.now.dtd.now) name.now is_spaced c) }
 {
     match name.as_slice() {
         [] if begins_name(c) && !is_spaced => {
@@ -47,7 +48,8 @@ fn end_name_move(
     name: &Characters,
     c: char,
 ) -> Result<PageMove, NoMemory>
-    ensures { IfOk result (λ m. plain_move m ≡ steps.end_name_move (table_of indexed.now.dtd.now) name.now c) }
+    ensures { IfOk result
+        (λ m. plain_move m ≡ steps.end_name_move (table_of indexed.now.dtd.now) name.now c) }
 {
     if !is_name(name.as_slice()) {
         return Ok(PageMove::Fail);

@@ -18,7 +18,8 @@ use tag_rules::{element, must_stand};
 /// The declared element of this name.
 pub fn declared<'a>(indexed: &'a IndexedDtd<'_>, name: &[char]) -> Option<TagElement<'a>>
     ensures rule { plain_rule result ≡ find_rule (table_of indexed.now.dtd.now).elements name.now }
-    ensures place { IfSome result (λ found. found.element ≡ element_of (table_of indexed.now.dtd.now) name.now) }
+    ensures place { IfSome result
+        (λ found. found.element ≡ element_of (table_of indexed.now.dtd.now) name.now) }
 {
     let element = element(indexed, name)?;
     Some(TagElement {

@@ -1,6 +1,7 @@
-//! One character more in a tag or in the XML declaration of a page, in memory: each call is the function of page_steps that it is named after. Below
-//! stand text_base, dtd_model, dtd_index, byte_readers, page_cutting, value_rules, tag_rules, page_steps, open_pieces, attribute_stepping and
-//! remark_stepping.
+//! One character more in a tag or in the XML declaration of a page, in memory: each call is the
+//! function of page_steps that it is named after. Below stand text_base, dtd_model, dtd_index,
+//! byte_readers, page_cutting, value_rules, tag_rules, page_steps, open_pieces, attribute_stepping
+//! and remark_stepping.
 #![tactic(auto)]
 
 mod declarations;

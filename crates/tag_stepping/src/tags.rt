@@ -28,7 +28,8 @@ pub fn tag_name_move(
     name: &Characters,
     c: char,
 ) -> Result<PageMove, NoMemory>
-    ensures { IfOk result (λ m. plain_move m ≡ steps.tag_name_move (table_of indexed.now.dtd.now) name.now c) }
+    ensures { IfOk result
+        (λ m. plain_move m ≡ steps.tag_name_move (table_of indexed.now.dtd.now) name.now c) }
 {
     if in_name(c) {
         let more = name.with(alloc, c)?;
@@ -48,7 +49,9 @@ pub fn tag_move(
     inside: &OpenAttribute,
     c: char,
 ) -> Result<PageMove, NoMemory>
-    ensures { IfOk result (λ m. plain_move m ≡ steps.tag_move (table_of indexed.now.dtd.now) name.now names.now (plain_attribute inside.now) c
+    ensures { IfOk result
+        (λ m. plain_move m ≡ steps.tag_move (table_of indexed.now.dtd.now) name.now names.now
+        (plain_attribute inside.now) c
         (find_rule (table_of indexed.now.dtd.now).elements name.now)) }
 {
     match declared(indexed, name.as_slice()) {
@@ -69,8 +72,10 @@ fn tag_by(
     c: char,
     moved: AttributeMove,
 ) -> Result<PageMove, NoMemory>
-    ensures { (table : Table) → found.entry.element ≡ element_of table name.now → IfOk result (λ m. plain_move m
-        ≡ steps.tag_by table name.now (rule_of found.entry.rule.now) names.now c (attributes.plain_move moved)) }
+    ensures { (table : Table) → found.entry.element ≡ element_of table name.now
+        → IfOk result (λ m. plain_move m
+        ≡ steps.tag_by table name.now (rule_of found.entry.rule.now) names.now c
+        (attributes.plain_move moved)) }
 {
     match moved {
         AttributeMove::Stays(inside) => {
@@ -96,7 +101,8 @@ fn end_move(
     names: &NameList,
     c: char,
 ) -> Result<PageMove, NoMemory>
-    ensures { (table : Table) → found.entry.element ≡ element_of table name.now → IfOk result (λ m. plain_move m
+    ensures { (table : Table) → found.entry.element ≡ element_of table name.now
+        → IfOk result (λ m. plain_move m
         ≡ steps.end_move table name.now (rule_of found.entry.rule.now) names.now c) }
 {
     if c == '>' && are_all(name.as_slice(), &found.rule.attributes, names) {
@@ -119,7 +125,8 @@ pub fn empty_move(
     names: &NameList,
     c: char,
 ) -> PageMove
-    ensures { plain_move result ≡ steps.empty_move (table_of indexed.now.dtd.now) name.now names.now c
+    ensures { plain_move result
+        ≡ steps.empty_move (table_of indexed.now.dtd.now) name.now names.now c
         (find_rule (table_of indexed.now.dtd.now).elements name.now) }
 {
     match declared(indexed, name.as_slice()) {

@@ -16,14 +16,16 @@ use std::alloc::Global;
 use text_base::NoMemory;
 use value_rules::{is_word, is_word_in_any_case};
 
-/// One character more behind `<?` and so much of a target that may still become `xml` (XML 1.0, 2.6 and 2.8).
+/// One character more behind `<?` and so much of a target that may still become `xml` (XML 1.0, 2.6
+/// and 2.8).
 pub fn target_move(
     alloc: Global,
     place: PagePlace,
     target: &Characters,
     c: char,
 ) -> Result<PageMove, NoMemory>
-    ensures { IfOk result (λ to. plain_move to ≡ steps.target_move (plain_place place) (Some target.now) c) }
+    ensures { IfOk result
+        (λ to. plain_move to ≡ steps.target_move (plain_place place) (Some target.now) c) }
 {
     match target.as_slice() {
         [] => first_move(alloc, c),
@@ -82,7 +84,8 @@ fn kept_target(target: Characters) -> OpenPiece
 
 // Whether `xml` begins so, in any case.
 fn begins_xml(cs: &[char]) -> bool
-    ensures { result ≡ (nat_le (length cs.now) 3 && str_eq_ignore_ascii_case cs.now (take (length cs.now) (codes "xml"))) }
+    ensures { result ≡ (nat_le (length cs.now) 3 && str_eq_ignore_ascii_case cs.now
+        (take (length cs.now) (codes "xml"))) }
 {
     cs.len() <= 3 && is_word_in_any_case(cs, &b"xml"[..cs.len()])
 }

@@ -1,6 +1,7 @@
-//! Bytes, sets and ranges of bytes, the numbers that name things, the tokens of a page, the letters of
-//! sentences and outputs, and the limits of the project: what every other crate speaks in. Contracts see [`Bytes`] as the list of its bytes, and a
-//! [`ByteSet`] as 256 truth values. Nothing of the repository stands below this crate.
+//! Bytes, sets and ranges of bytes, the numbers that name things, the tokens of a page, the letters
+//! of sentences and outputs, and the limits of the project: what every other crate speaks in.
+//! Contracts see [`Bytes`] as the list of its bytes, and a [`ByteSet`] as 256 truth values. Nothing
+//! of the repository stands below this crate.
 #![tactic(auto)]
 
 mod byte_range;

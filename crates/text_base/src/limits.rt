@@ -1,4 +1,5 @@
-//! The limits that the project sets to what it takes and makes. Every clause that speaks of one cites it here.
+//! The limits that the project sets to what it takes and makes. Every clause that speaks of one
+//! cites it here.
 
 /// The most bytes of a file that is read: a script, a definition or a request.
 pub const FILE_LIMIT: usize = 1_048_576;

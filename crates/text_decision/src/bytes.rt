@@ -18,7 +18,8 @@ fn byte_fits(byte: u8)
 
 /// The bytes of a range.
 fn symbol_fits(symbol: Symbol)
-    ensures { (range : byte_range.ByteRange) → symbol ≡ symbols.Symbol.Range range → range.hi < 256 }
+    ensures { (range : byte_range.ByteRange) → symbol ≡ symbols.Symbol.Range range
+        → range.hi < 256 }
 {
     match symbol {
         Symbol::Range(range) => byte_fits(range.hi),
@@ -53,7 +54,8 @@ fn productions_fit(productions: &[Production])
 /// The texts that a grammar derives are of bytes, as contracts see numbers. It goes over the
 /// productions and does nothing.
 pub fn texts_fit(grammar: &Grammar)
-    ensures { (text : List ℕ) → DerivesText grammar.now.productions.items (symbols.Symbol.Nt grammar.now.start) text
+    ensures { (text : List ℕ)
+        → DerivesText grammar.now.productions.items (symbols.Symbol.Nt grammar.now.start) text
         → All (λ byte. byte < 256) text }
 {
     productions_fit(grammar.productions.as_slice());

@@ -26,10 +26,14 @@ fn echo<M: Machine>(
     items: u64,
 ) -> Result<Grammar, ImageRefusal>
     requires { IsEchoing (M.first machine.now) (M.steps machine.now) (M.ends machine.now) }
-    ensures echo { IfOk result (λ echo. EchoTexts (DerivesText grammar.now.productions.items (symbols.Symbol.Nt grammar.now.start))
-        (PutsTokens (M.first machine.now) (M.steps machine.now) (M.ends machine.now)) echo.productions.items echo.start) }
+    ensures echo { IfOk result
+        (λ echo. EchoTexts (DerivesText grammar.now.productions.items
+        (symbols.Symbol.Nt grammar.now.start))
+        (PutsTokens (M.first machine.now) (M.steps machine.now) (M.ends machine.now))
+        echo.productions.items echo.start) }
     ensures cause { IfErr result
-        (IsCause grammar.now.productions.items (M.steps machine.now) grammar.now.start (M.first machine.now) items) }
+        (IsCause grammar.now.productions.items (M.steps machine.now) grammar.now.start
+        (M.first machine.now) items) }
 {
     texts_fit(grammar);
     image(alloc, grammar, grammar.start, machine, items)
@@ -52,11 +56,14 @@ pub fn decide_texts<M: Machine, S: Summary>(
     pairs: u64,
 ) -> Result<Verdict, ImageRefusal>
     requires { IsEchoing (M.first machine.now) (M.steps machine.now) (M.ends machine.now) }
-    ensures verdict { IfOk result (IsTextVerdict (DerivesText grammar.now.productions.items (symbols.Symbol.Nt grammar.now.start))
+    ensures verdict { IfOk result
+        (IsTextVerdict (DerivesText grammar.now.productions.items
+        (symbols.Symbol.Nt grammar.now.start))
         (PutsTokens (M.first machine.now) (M.steps machine.now) (M.ends machine.now))
         (S.sum_of summary.now) (S.is_whole summary.now) (S.tag_count summary.now) pairs) }
     ensures cause { IfErr result
-        (IsCause grammar.now.productions.items (M.steps machine.now) grammar.now.start (M.first machine.now) items) }
+        (IsCause grammar.now.productions.items (M.steps machine.now) grammar.now.start
+        (M.first machine.now) items) }
 {
     let echo = echo(alloc, grammar, machine, items)?;
     derivations_derive();
@@ -83,7 +90,8 @@ pub fn find_wrong<M: Machine, S: Summary>(
     requires { IsEchoing (M.first machine.now) (M.steps machine.now) (M.ends machine.now) }
     ensures { IfOk result (λ found. IfSome found (IsNotWhole
         (DerivesText grammar.now.productions.items (symbols.Symbol.Nt grammar.now.start))
-        (PutsTokens (M.first machine.now) (M.steps machine.now) (M.ends machine.now)) (S.sum_of summary.now) (S.is_whole summary.now))) }
+        (PutsTokens (M.first machine.now) (M.steps machine.now) (M.ends machine.now))
+        (S.sum_of summary.now) (S.is_whole summary.now))) }
 {
     match decide_texts(alloc, grammar, machine, summary, items, pairs) {
         Ok(Verdict::No(derivation)) => Ok(Some(derivation)),

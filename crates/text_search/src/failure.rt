@@ -65,7 +65,9 @@ pub fn next_row(
     requires at { at < length pattern.now }
     requires failures { AreFailures pattern.now failures.now (length pattern.now) }
     ensures len { IfOk result (λ row. length row.items ≡ 256) }
-    ensures exact { IfOk result (λ row. (byte : ℕ) → byte < 256 → slice_index row.items byte ≡ next_length pattern.now at byte) }
+    ensures exact { IfOk result
+        (λ row. (byte : ℕ) → byte < 256 → slice_index row.items byte
+        ≡ next_length pattern.now at byte) }
 {
     let mut row = vec![in alloc; 0usize; 256]?;
     let mut part = at;

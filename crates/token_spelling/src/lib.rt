@@ -29,19 +29,22 @@ pub fn variables_are_cut()
 /// An integer literal is cut as its number.
 pub fn integers_are_cut()
     ensures { (digits rest : List ℕ) → IsInteger digits → EndsInteger rest →
-        step inside (digits ++ rest) ≡ goes (Some (integer (pos (value_of digits)))) (length digits) inside }
+        step inside (digits ++ rest)
+        ≡ goes (Some (integer (pos (value_of digits)))) (length digits) inside }
 {}
 
 /// A text in single quotes is cut as the bytes that it was written for, whatever stands behind it.
 pub fn texts_are_cut()
     ensures { (bytes rest : List ℕ) →
-        step inside (39 ∷ (quoted bytes ++ rest)) ≡ goes (Some (text bytes)) (1 + length (quoted bytes)) inside }
+        step inside (39 ∷ (quoted bytes ++ rest))
+        ≡ goes (Some (text bytes)) (1 + length (quoted bytes)) inside }
 {}
 
 /// A sign before a space is cut as that sign, and a `(` where no cast begins there.
 pub fn signs_are_cut()
     ensures spaced { (x : Sign) (rest : List ℕ) → x ≢ signs.OpenParen →
-        step inside (spelling_of x ++ 32 ∷ rest) ≡ goes (Some (sign x)) (length (spelling_of x)) inside }
+        step inside (spelling_of x ++ 32 ∷ rest)
+        ≡ goes (Some (sign x)) (length (spelling_of x)) inside }
     ensures bracket { (rest : List ℕ) → cast_step (40 ∷ rest) ≡ None →
         step inside (40 ∷ rest) ≡ goes (Some (sign signs.OpenParen)) 1 inside }
 {}

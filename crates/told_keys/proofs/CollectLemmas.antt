@@ -8,7 +8,7 @@ use Rattle.std.proofs.lemmas.Bool.{leb-true, leb-false, le-leb, lt-leb}
 use Rattle.std.proofs.lemmas.List.{drop_more, append-nil, map-append, length-append, take_all, take-append-le}
 use Rattle.plain_values.specs.Plain.{PlainKey, int_key}
 use Rattle.plain_values.specs.Keys.{same_key, canonical_integer, canonical_key}
-use Rattle.set_listing.proofs.KeyLemmas.{same_is, same_back}
+use Rattle.plain_values.proofs.SameKeys.{same_is, same_back}
 use Rattle.flow_code.specs.Points.{PlainKeyRef, int_ref, text_ref, read_ref, points_in}
 use Rattle.flow_code.specs.View.{plain_point, plain_flow_function}
 use Rattle.flow_code.specs.declared.program.FlowFunction.{FlowFunction}

@@ -85,7 +85,8 @@ pub(crate) fn place_of_text_key(
     }
 }
 
-/// Where a written key stands among those that are told apart: None where it is no literal, and None inside where it is none of them.
+/// Where a written key stands among those that are told apart: None where it is no literal, and
+/// None inside where it is none of them.
 #[tactic(auto, unfolding(loose_sets::specs::Keys::literal_key))]
 pub fn place_of_key(
     alloc: Global,

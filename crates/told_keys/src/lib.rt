@@ -1,5 +1,7 @@
-//! The keys of arrays that an analysis tells apart: the first 64 literal keys of a program, and which of them a written key may be. The contracts cite the
-//! definitions of loose_sets (Keys) and of set_listing (Uses). Below stand text_base, plain_values, flow_code, loose_sets and set_listing.
+//! The keys of arrays that an analysis tells apart: the first 64 literal keys of a program, and
+//! which of them a written key may be. The contracts cite the definitions of loose_sets (Keys) and
+//! of set_listing (Uses). Below stand text_base, plain_values, flow_code, loose_sets and
+//! set_listing.
 #![tactic(auto)]
 
 mod collecting;

@@ -1,5 +1,6 @@
-//! Where a source of files tells of each name that a program reads, there is one program of the name, and `load` is refused for want of memory alone. Each function stands for the
-//! law that its contract states.
+//! Where a source of files tells of each name that a program reads, there is one program of the
+//! name, and `load` is refused for want of memory alone. Each function stands for the law that its
+//! contract states.
 #![tactic(auto)]
 
 ghost use Rattle.std.specs.Prelude.{◌≡◌, ℕ, List};
@@ -16,9 +17,11 @@ use loading_laws::each_has_one_tree;
 use program_rules::laws::{one_expansion, one_number_of_places};
 use reading_laws::{names_looked_at, what_was_held};
 
-/// What `load` gives is the program of the name, with the functions of its files in the order of first include.
+/// What `load` gives is the program of the name, with the functions of its files in the order of
+/// first include.
 pub fn loads_are_loaded()
-    ensures { (call : SourceCall) (name : List ℕ) (program : PlainProgram) → Loads call name program → IsLoaded call.content name program }
+    ensures { (call : SourceCall) (name : List ℕ) (program : PlainProgram) → Loads call name program
+        → IsLoaded call.content name program }
 {}
 
 /// And where the source tells of each name that the program reads, no other program is loaded.
@@ -32,7 +35,8 @@ pub fn one_program_is_loaded()
     names_looked_at();
 }
 
-/// A program that is held, in files within their limit, is refused for want of memory alone, where the source does not fail.
+/// A program that is held, in files within their limit, is refused for want of memory alone, where
+/// the source does not fail.
 pub fn held_programs_are_loaded()
     ensures { (call : SourceCall) (name : List ℕ) (program : PlainProgram) (refusal : LoadRefusal) →
         (h : HoldsProgram call.content name program) → AreShort h.held name →

@@ -101,7 +101,7 @@ fn copy_target(alloc: Global, target: &Target) -> Result<Target, NoMemory>
 
 // `-` before an operand.
 #[cycle(copies)]
-#[tactic(auto, using(php_syntax::proofs::Views::views))]
+#[tactic(auto, unfolding(php_syntax::specs::Trees::plain_expr))]
 fn copy_neg(alloc: Global, operand: &Expr) -> Result<Expr, NoMemory>
     ensures { IfOk result (λ copy. plain_expr copy ≡ neg_expr (plain_expr operand.now)) }
 {
@@ -111,7 +111,7 @@ fn copy_neg(alloc: Global, operand: &Expr) -> Result<Expr, NoMemory>
 
 // `!` before an operand.
 #[cycle(copies)]
-#[tactic(auto, using(php_syntax::proofs::Views::views))]
+#[tactic(auto, unfolding(php_syntax::specs::Trees::plain_expr))]
 fn copy_not(alloc: Global, operand: &Expr) -> Result<Expr, NoMemory>
     ensures { IfOk result (λ copy. plain_expr copy ≡ not_expr (plain_expr operand.now)) }
 {
@@ -121,7 +121,7 @@ fn copy_not(alloc: Global, operand: &Expr) -> Result<Expr, NoMemory>
 
 // `empty` of an operand.
 #[cycle(copies)]
-#[tactic(auto, using(php_syntax::proofs::Views::views))]
+#[tactic(auto, unfolding(php_syntax::specs::Trees::plain_expr))]
 fn copy_empty(alloc: Global, operand: &Expr) -> Result<Expr, NoMemory>
     ensures { IfOk result (λ copy. plain_expr copy ≡ empty_expr (plain_expr operand.now)) }
 {
@@ -131,9 +131,10 @@ fn copy_empty(alloc: Global, operand: &Expr) -> Result<Expr, NoMemory>
 
 // A member.
 #[cycle(copies)]
-#[tactic(auto, using(php_syntax::proofs::Views::views))]
+#[tactic(auto, unfolding(php_syntax::specs::Trees::plain_expr))]
 fn copy_member(alloc: Global, left: &Expr, right: &Expr) -> Result<Expr, NoMemory>
-    ensures { IfOk result (λ copy. plain_expr copy ≡ member_expr (plain_expr left.now) (plain_expr right.now)) }
+    ensures { IfOk result
+        (λ copy. plain_expr copy ≡ member_expr (plain_expr left.now) (plain_expr right.now)) }
 {
     let left = copy_box(alloc, left)?;
     let right = copy_box(alloc, right)?;
@@ -142,9 +143,10 @@ fn copy_member(alloc: Global, left: &Expr, right: &Expr) -> Result<Expr, NoMemor
 
 // `&&`
 #[cycle(copies)]
-#[tactic(auto, using(php_syntax::proofs::Views::views))]
+#[tactic(auto, unfolding(php_syntax::specs::Trees::plain_expr))]
 fn copy_and(alloc: Global, left: &Expr, right: &Expr) -> Result<Expr, NoMemory>
-    ensures { IfOk result (λ copy. plain_expr copy ≡ and_expr (plain_expr left.now) (plain_expr right.now)) }
+    ensures { IfOk result
+        (λ copy. plain_expr copy ≡ and_expr (plain_expr left.now) (plain_expr right.now)) }
 {
     let left = copy_box(alloc, left)?;
     let right = copy_box(alloc, right)?;
@@ -153,9 +155,10 @@ fn copy_and(alloc: Global, left: &Expr, right: &Expr) -> Result<Expr, NoMemory>
 
 // `||`
 #[cycle(copies)]
-#[tactic(auto, using(php_syntax::proofs::Views::views))]
+#[tactic(auto, unfolding(php_syntax::specs::Trees::plain_expr))]
 fn copy_or(alloc: Global, left: &Expr, right: &Expr) -> Result<Expr, NoMemory>
-    ensures { IfOk result (λ copy. plain_expr copy ≡ or_expr (plain_expr left.now) (plain_expr right.now)) }
+    ensures { IfOk result
+        (λ copy. plain_expr copy ≡ or_expr (plain_expr left.now) (plain_expr right.now)) }
 {
     let left = copy_box(alloc, left)?;
     let right = copy_box(alloc, right)?;
@@ -164,9 +167,10 @@ fn copy_or(alloc: Global, left: &Expr, right: &Expr) -> Result<Expr, NoMemory>
 
 // `??`
 #[cycle(copies)]
-#[tactic(auto, using(php_syntax::proofs::Views::views))]
+#[tactic(auto, unfolding(php_syntax::specs::Trees::plain_expr))]
 fn copy_coalesce(alloc: Global, left: &Expr, right: &Expr) -> Result<Expr, NoMemory>
-    ensures { IfOk result (λ copy. plain_expr copy ≡ coalesce_expr (plain_expr left.now) (plain_expr right.now)) }
+    ensures { IfOk result
+        (λ copy. plain_expr copy ≡ coalesce_expr (plain_expr left.now) (plain_expr right.now)) }
 {
     let left = copy_box(alloc, left)?;
     let right = copy_box(alloc, right)?;
@@ -175,9 +179,10 @@ fn copy_coalesce(alloc: Global, left: &Expr, right: &Expr) -> Result<Expr, NoMem
 
 // An arithmetic operation.
 #[cycle(copies)]
-#[tactic(auto, using(php_syntax::proofs::Views::views))]
+#[tactic(auto, unfolding(php_syntax::specs::Trees::plain_expr))]
 fn copy_arith(alloc: Global, sign: ArithSign, left: &Expr, right: &Expr) -> Result<Expr, NoMemory>
-    ensures { IfOk result (λ copy. plain_expr copy ≡ arith_expr sign (plain_expr left.now) (plain_expr right.now)) }
+    ensures { IfOk result
+        (λ copy. plain_expr copy ≡ arith_expr sign (plain_expr left.now) (plain_expr right.now)) }
 {
     let left = copy_box(alloc, left)?;
     let right = copy_box(alloc, right)?;
@@ -186,14 +191,15 @@ fn copy_arith(alloc: Global, sign: ArithSign, left: &Expr, right: &Expr) -> Resu
 
 // A comparison.
 #[cycle(copies)]
-#[tactic(auto, using(php_syntax::proofs::Views::views))]
+#[tactic(auto, unfolding(php_syntax::specs::Trees::plain_expr))]
 fn copy_compare(
     alloc: Global,
     sign: CompareSign,
     left: &Expr,
     right: &Expr,
 ) -> Result<Expr, NoMemory>
-    ensures { IfOk result (λ copy. plain_expr copy ≡ compare_expr sign (plain_expr left.now) (plain_expr right.now)) }
+    ensures { IfOk result
+        (λ copy. plain_expr copy ≡ compare_expr sign (plain_expr left.now) (plain_expr right.now)) }
 {
     let left = copy_box(alloc, left)?;
     let right = copy_box(alloc, right)?;

@@ -99,7 +99,8 @@ fn conclude(
 ) -> Result<(), NoMemory>
     requires below { All (IsRuleBelow (length marks.old.items)) rules.now }
     requires noted { IsNoted marks.old.items order.old.items }
-    ensures { OnOk result (Concludes rules.now (λ k. Contains places.now k) marks.old.items order.old.items
+    ensures { OnOk result
+        (Concludes rules.now (λ k. Contains places.now k) marks.old.items order.old.items
         marks.new.items order.new.items) }
 {
     for place in places {
@@ -133,7 +134,8 @@ pub fn closure(
     requires facts { All (λ n. n < count) facts.now }
     requires rules { All (IsRuleBelow count) rules.now }
     ensures len { IfOk result (λ marks. length marks.items ≡ count) }
-    ensures exact { IfOk result (λ marks. (n : ℕ) → IsMarked marks.items n ↔ Follows facts.now rules.now n) }
+    ensures exact { IfOk result
+        (λ marks. (n : ℕ) → IsMarked marks.items n ↔ Follows facts.now rules.now n) }
 {
     let firsts = by_first(alloc, count, rules)?;
     let seconds = by_second(alloc, count, rules)?;

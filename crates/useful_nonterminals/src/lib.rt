@@ -1,5 +1,5 @@
-//! Which nonterminals of a grammar stand in some derivation from its start (`IsUseful` of specs/). Below stand text_base,
-//! cfg_grammar and numbered_sets.
+//! Which nonterminals of a grammar stand in some derivation from its start (`IsUseful` of specs/).
+//! Below stand text_base, cfg_grammar and numbered_sets.
 #![tactic(auto)]
 
 mod drawing;

@@ -52,8 +52,12 @@ fn add_production(
     rules: &mut Vec<Rule>,
     production: Production,
 ) -> Result<(), NoMemory>
-    ensures facts { OnOk result (facts.new.items ≡ facts.old.items ++ fact_for production.left.0 (numbers_in production.right)) }
-    ensures rules { OnOk result (rules.new.items ≡ rules.old.items ++ rule_for production.left.0 (numbers_in production.right)) }
+    ensures facts { OnOk result
+        (facts.new.items ≡ facts.old.items
+        ++ fact_for production.left.0 (numbers_in production.right)) }
+    ensures rules { OnOk result
+        (rules.new.items ≡ rules.old.items
+        ++ rule_for production.left.0 (numbers_in production.right)) }
 {
     match premises(production.right) {
         None => facts.push(production.left.0)?,
@@ -84,7 +88,9 @@ fn add_productions(
 /// For each nonterminal, whether it derives something.
 pub fn productive(alloc: Global, grammar: &Grammar) -> Result<Vec<bool>, NoMemory>
     ensures len { IfOk result (λ marks. length marks.items ≡ grammar.now.count) }
-    ensures exact { IfOk result (λ marks. (a : nt.Nt) → IsMarked marks.items a.0 ↔ IsProductive grammar.now.productions.items a) }
+    ensures exact { IfOk result
+        (λ marks. (a : nt.Nt)
+        → IsMarked marks.items a.0 ↔ IsProductive grammar.now.productions.items a) }
 {
     let mut facts = Vec::new(alloc);
     let mut rules = Vec::new(alloc);

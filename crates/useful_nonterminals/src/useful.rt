@@ -36,7 +36,9 @@ fn start_facts(alloc: Global, marks: &[bool], start: u64) -> Result<Vec<u64>, No
 
 /// Adds the steps from the left of a production to what stands on its right.
 fn add_step(marks: &[bool], steps: &mut Vec<Rule>, production: Production) -> Result<(), NoMemory>
-    ensures { OnOk result (steps.new.items ≡ steps.old.items ++ step_for marks.now production.left.0 (numbers_in production.right)) }
+    ensures { OnOk result
+        (steps.new.items ≡ steps.old.items
+        ++ step_for marks.now production.left.0 (numbers_in production.right)) }
 {
     let Some((a, b)) = premises(production.right) else {
         return Ok(());
@@ -77,7 +79,9 @@ fn all_steps(
 /// in the nonterminals and productions.
 pub fn useful_nonterminals(alloc: Global, grammar: &Grammar) -> Result<Vec<bool>, NoMemory>
     ensures len { IfOk result (λ marks. length marks.items ≡ grammar.now.count) }
-    ensures exact { IfOk result (λ marks. (a : nt.Nt) → IsMarked marks.items a.0 ↔ IsUseful grammar.now.productions.items grammar.now.start a) }
+    ensures exact { IfOk result
+        (λ marks. (a : nt.Nt)
+        → IsMarked marks.items a.0 ↔ IsUseful grammar.now.productions.items grammar.now.start a) }
 {
     let marks = productive(alloc, grammar)?;
     let facts = start_facts(alloc, marks.as_slice(), grammar.start.0)?;

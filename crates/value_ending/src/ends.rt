@@ -15,7 +15,8 @@ use std::alloc::Global;
 use text_base::NoMemory;
 use value_rules::{has_value, is_one_of, is_some, refers, refers_to_known};
 
-/// Whether a value may end there, by how its attribute is declared (XML 1.0, 3.3). Takes memory for a fixed value alone.
+/// Whether a value may end there, by how its attribute is declared (XML 1.0, 3.3). Takes memory for
+/// a fixed value alone.
 pub fn value_good(
     alloc: Global,
     indexed: &IndexedDtd<'_>,
@@ -23,7 +24,8 @@ pub fn value_good(
     value: &OpenValue,
 ) -> Result<bool, NoMemory>
     ensures { IfOk result (λ good. good
-        ≡ steps.value_good (table_of indexed.now.dtd.now).entities (declared_of rule.now) (plain_value value.now)) }
+        ≡ steps.value_good (table_of indexed.now.dtd.now).entities (declared_of rule.now)
+        (plain_value value.now)) }
 {
     match value {
         OpenValue::Text => Ok(true),
@@ -41,7 +43,8 @@ fn fixed_good(
     value: &[char],
 ) -> Result<bool, NoMemory>
     ensures { IfOk result (λ good. good
-        ≡ steps.value_good (table_of indexed.now.dtd.now).entities (declared_of rule.now) (in_fixed value.now)) }
+        ≡ steps.value_good (table_of indexed.now.dtd.now).entities (declared_of rule.now)
+        (in_fixed value.now)) }
 {
     if refers(value) && refers_to_known(indexed, value) {
         has_value(alloc, rule, value)

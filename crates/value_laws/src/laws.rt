@@ -17,7 +17,8 @@ pub fn arithmetic()
     ensures sum { (a b v : Plain) → sum_of a b ≡ Ok v → IsValue v }
     ensures difference { (a b v : Plain) → difference_of a b ≡ Ok v → IsValue v }
     ensures product { (a b v : Plain) → product_of a b ≡ Ok v → IsValue v }
-    ensures remainder { (a b v : Plain) → IsValue a → IsValue b → remainder_of a b ≡ Ok v → IsValue v }
+    ensures remainder { (a b v : Plain) → IsValue a → IsValue b → remainder_of a b ≡ Ok v
+        → IsValue v }
     ensures quotient { (a b v : Plain) → quotient_of a b ≡ Ok v → IsValue v }
     ensures negation { (a v : Plain) → negation_of a ≡ Ok v → IsValue v }
     ensures increment { (a v : Plain) → increment_of a ≡ Ok v → IsValue v }
@@ -39,12 +40,15 @@ pub fn members()
 
 /// Array literals and writes give values.
 pub fn writes()
-    ensures literal { (items : List (Option Plain × Plain)) (v : Plain) → All IsItem items → literal_of items ≡ Ok v → IsValue v }
-    ensures write { (ks : List (Option Plain)) (path : List Step) (new old v : Plain) → All IsMaybeValue ks → path_of ks ≡ Ok path
+    ensures literal { (items : List (Option Plain × Plain)) (v : Plain) → All IsItem items
+        → literal_of items ≡ Ok v → IsValue v }
+    ensures write { (ks : List (Option Plain)) (path : List Step) (new old v : Plain)
+        → All IsMaybeValue ks → path_of ks ≡ Ok path
         → IsValue new → IsValue old → write path new old ≡ Ok v → IsValue v }
 {}
 
 /// The functions of PHP give values.
 pub fn functions()
-    ensures { (f : Builtin) (args : List Plain) (v : Plain) → All IsValue args → builtin_value f args ≡ Ok v → IsValue v }
+    ensures { (f : Builtin) (args : List Plain) (v : Plain) → All IsValue args
+        → builtin_value f args ≡ Ok v → IsValue v }
 {}

@@ -103,8 +103,10 @@ pub fn sum(a: &Value, b: &Value) -> Result<Value, Fault>
 
 /// `a - b` (PHP manual, "Arithmetic operators"). Faults as [`sum`].
 pub fn difference(a: &Value, b: &Value) -> Result<Value, Fault>
-    ensures ok { IfOk result (λ v. spec.difference_of (plain_of a.now) (plain_of b.now) ≡ Ok (plain_of v)) }
-    ensures err { IfErr result (λ fault. spec.difference_of (plain_of a.now) (plain_of b.now) ≡ Err fault) }
+    ensures ok { IfOk result
+        (λ v. spec.difference_of (plain_of a.now) (plain_of b.now) ≡ Ok (plain_of v)) }
+    ensures err { IfErr result
+        (λ fault. spec.difference_of (plain_of a.now) (plain_of b.now) ≡ Err fault) }
 {
     let x = number_of(a)?;
     let y = number_of(b)?;
@@ -113,8 +115,10 @@ pub fn difference(a: &Value, b: &Value) -> Result<Value, Fault>
 
 /// `a * b` (PHP manual, "Arithmetic operators"). Faults as [`sum`].
 pub fn product(a: &Value, b: &Value) -> Result<Value, Fault>
-    ensures ok { IfOk result (λ v. spec.product_of (plain_of a.now) (plain_of b.now) ≡ Ok (plain_of v)) }
-    ensures err { IfErr result (λ fault. spec.product_of (plain_of a.now) (plain_of b.now) ≡ Err fault) }
+    ensures ok { IfOk result
+        (λ v. spec.product_of (plain_of a.now) (plain_of b.now) ≡ Ok (plain_of v)) }
+    ensures err { IfErr result
+        (λ fault. spec.product_of (plain_of a.now) (plain_of b.now) ≡ Err fault) }
 {
     let x = number_of(a)?;
     let y = number_of(b)?;
@@ -125,8 +129,10 @@ pub fn product(a: &Value, b: &Value) -> Result<Value, Fault>
 /// Faults as [`number_of`] at the left operand, then at the right one, and ZeroDivisor exactly
 /// where the divisor is 0.
 pub fn remainder(a: &Value, b: &Value) -> Result<Value, Fault>
-    ensures ok { IfOk result (λ v. spec.remainder_of (plain_of a.now) (plain_of b.now) ≡ Ok (plain_of v)) }
-    ensures err { IfErr result (λ fault. spec.remainder_of (plain_of a.now) (plain_of b.now) ≡ Err fault) }
+    ensures ok { IfOk result
+        (λ v. spec.remainder_of (plain_of a.now) (plain_of b.now) ≡ Ok (plain_of v)) }
+    ensures err { IfErr result
+        (λ fault. spec.remainder_of (plain_of a.now) (plain_of b.now) ≡ Err fault) }
 {
     let x = number_of(a)?;
     let y = number_of(b)?;
@@ -136,8 +142,10 @@ pub fn remainder(a: &Value, b: &Value) -> Result<Value, Fault>
 /// `intdiv(a, b)` (PHP manual): the quotient is cut towards zero. Faults as [`remainder`], and
 /// Float exactly where the quotient is no integer of 64 bits.
 pub fn integer_quotient(a: &Value, b: &Value) -> Result<Value, Fault>
-    ensures ok { IfOk result (λ v. spec.quotient_of (plain_of a.now) (plain_of b.now) ≡ Ok (plain_of v)) }
-    ensures err { IfErr result (λ fault. spec.quotient_of (plain_of a.now) (plain_of b.now) ≡ Err fault) }
+    ensures ok { IfOk result
+        (λ v. spec.quotient_of (plain_of a.now) (plain_of b.now) ≡ Ok (plain_of v)) }
+    ensures err { IfErr result
+        (λ fault. spec.quotient_of (plain_of a.now) (plain_of b.now) ≡ Err fault) }
 {
     let x = number_of(a)?;
     let y = number_of(b)?;

@@ -16,7 +16,9 @@ use std::cmp::Ordering;
 /// with a float among them, and an integer against a float text, fault Float.
 pub fn compare(alloc: Global, a: &Value, b: &Value) -> Result<Ordering, Fault>
     ensures ok { IfOk result (λ order. spec.compare (plain_of a.now) (plain_of b.now) ≡ Ok order) }
-    ensures err { IfErr result (λ fault. (fault ≡ Fault.Memory) ⊎ (spec.compare (plain_of a.now) (plain_of b.now) ≡ Err fault)) }
+    ensures err { IfErr result
+        (λ fault. (fault ≡ Fault.Memory)
+        ⊎ (spec.compare (plain_of a.now) (plain_of b.now) ≡ Err fault)) }
 {
     match (a, b) {
         (Value::Array(_), _) | (_, Value::Array(_)) => Err(Fault::Compare),
@@ -51,8 +53,11 @@ fn compare_texts(s: &[u8], t: &[u8]) -> Result<Ordering, Fault>
 
 // An integer against a text.
 fn compare_integer(alloc: Global, number: i64, text: &[u8]) -> Result<Ordering, Fault>
-    ensures ok { IfOk result (λ order. spec.compare_integer number (numeric text.now) text.now ≡ Ok order) }
-    ensures err { IfErr result (λ fault. (fault ≡ Fault.Memory) ⊎ (spec.compare_integer number (numeric text.now) text.now ≡ Err fault)) }
+    ensures ok { IfOk result
+        (λ order. spec.compare_integer number (numeric text.now) text.now ≡ Ok order) }
+    ensures err { IfErr result
+        (λ fault. (fault ≡ Fault.Memory)
+        ⊎ (spec.compare_integer number (numeric text.now) text.now ≡ Err fault)) }
 {
     match numeric_of(text) {
         Numeric::Integer(other) => Ok(number.cmp(&other)),
@@ -66,8 +71,11 @@ fn compare_integer(alloc: Global, number: i64, text: &[u8]) -> Result<Ordering, 
 
 /// What `==` answers (PHP manual, "Comparison operators"). It faults as [`compare`] does.
 pub fn loose_equal(alloc: Global, a: &Value, b: &Value) -> Result<bool, Fault>
-    ensures ok { IfOk result (λ answer. spec.loose_equal (plain_of a.now) (plain_of b.now) ≡ Ok answer) }
-    ensures err { IfErr result (λ fault. (fault ≡ Fault.Memory) ⊎ (spec.loose_equal (plain_of a.now) (plain_of b.now) ≡ Err fault)) }
+    ensures ok { IfOk result
+        (λ answer. spec.loose_equal (plain_of a.now) (plain_of b.now) ≡ Ok answer) }
+    ensures err { IfErr result
+        (λ fault. (fault ≡ Fault.Memory)
+        ⊎ (spec.loose_equal (plain_of a.now) (plain_of b.now) ≡ Err fault)) }
 {
     Ok(compare(alloc, a, b)?.is_eq())
 }
@@ -75,7 +83,9 @@ pub fn loose_equal(alloc: Global, a: &Value, b: &Value) -> Result<bool, Fault>
 /// What `<` answers (PHP manual, "Comparison operators"). It faults as [`compare`] does.
 pub fn less(alloc: Global, a: &Value, b: &Value) -> Result<bool, Fault>
     ensures ok { IfOk result (λ answer. spec.less (plain_of a.now) (plain_of b.now) ≡ Ok answer) }
-    ensures err { IfErr result (λ fault. (fault ≡ Fault.Memory) ⊎ (spec.less (plain_of a.now) (plain_of b.now) ≡ Err fault)) }
+    ensures err { IfErr result
+        (λ fault. (fault ≡ Fault.Memory)
+        ⊎ (spec.less (plain_of a.now) (plain_of b.now) ≡ Err fault)) }
 {
     Ok(compare(alloc, a, b)?.is_lt())
 }

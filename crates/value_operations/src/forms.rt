@@ -65,7 +65,8 @@ fn text_truth(text: &[u8]) -> bool
 /// The key that a text is: the integer whose decimal form it is, or the text itself, whose bytes
 /// are not copied.
 pub fn key_of_text(alloc: Global, text: &Text) -> Result<Key, NoMemory>
-    ensures { IfOk result (λ key. plain_key key ≡ keys.canonical_key text.now (keys.canonical_integer text.now)) }
+    ensures { IfOk result
+        (λ key. plain_key key ≡ keys.canonical_key text.now (keys.canonical_integer text.now)) }
 {
     match canonical_integer(alloc, text.as_slice())? {
         Some(number) => Ok(Key::Int(number)),
@@ -80,7 +81,8 @@ pub fn key_of_text(alloc: Global, text: &Text) -> Result<Key, NoMemory>
 /// BadIndex.
 pub fn key_of(alloc: Global, value: &Value) -> Result<Key, Fault>
     ensures ok { IfOk result (λ key. keys.key_of (plain_of value.now) ≡ Ok (plain_key key)) }
-    ensures err { IfErr result (λ fault. (fault ≡ Fault.Memory) ⊎ (keys.key_of (plain_of value.now) ≡ Err fault)) }
+    ensures err { IfErr result
+        (λ fault. (fault ≡ Fault.Memory) ⊎ (keys.key_of (plain_of value.now) ≡ Err fault)) }
 {
     match value {
         Value::Null => Ok(empty_key(alloc)?),

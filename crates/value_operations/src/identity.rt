@@ -39,7 +39,8 @@ fn same_pairs(a: &[(Key, Value)], b: &[(Key, Value)]) -> bool
 
 #[cycle(same)]
 fn same_pair(a: &(Key, Value), b: &(Key, Value)) -> bool
-    ensures { IsTrue result ↔ ((plain_key a.now.0 ≡ plain_key b.now.0) × (plain_of a.now.1 ≡ plain_of b.now.1)) }
+    ensures { IsTrue result ↔
+        ((plain_key a.now.0 ≡ plain_key b.now.0) × (plain_of a.now.1 ≡ plain_of b.now.1)) }
 {
     a.0 == b.0 && same(&a.1, &b.1)
 }

@@ -36,7 +36,8 @@ pub fn length_of(alloc: Global, value: &Value) -> Result<usize, NoMemory>
 /// is built.
 pub fn join(alloc: Global, parts: &[Value]) -> Result<Value, Fault>
     ensures ok { IfOk result (λ v. join_of (plain_list parts.now) ≡ Ok (plain_of v)) }
-    ensures err { IfErr result (λ fault. (fault ≡ Fault.Memory) ⊎ (join_of (plain_list parts.now) ≡ Err fault)) }
+    ensures err { IfErr result
+        (λ fault. (fault ≡ Fault.Memory) ⊎ (join_of (plain_list parts.now) ≡ Err fault)) }
 {
     let mut total: usize = 0;
     for part in parts {
@@ -67,12 +68,14 @@ fn joined(alloc: Global, parts: &[Value]) -> Result<Vec<u8>, NoMemory>
 /// exactly where both are longer than 16,777,216 bytes together.
 pub fn append_to(alloc: Global, old: Value, more: &Value) -> Result<Value, Fault>
     ensures ok { IfOk result (λ v. appended_to (plain_of old) (plain_of more.now) ≡ Ok (plain_of v)) }
-    ensures err { IfErr result (λ fault. (fault ≡ Fault.Memory) ⊎ (appended_to (plain_of old) (plain_of more.now) ≡ Err fault)) }
+    ensures err { IfErr result
+        (λ fault. (fault ≡ Fault.Memory)
+        ⊎ (appended_to (plain_of old) (plain_of more.now) ≡ Err fault)) }
 {
     let form = text_of(alloc, more)?;
-    match old {
-        Value::Text(text) => append_form(text, &form),
-        other => {
+    match old.into_text() {
+        Ok(text) => append_form(text, &form),
+        Err(other) => {
             let text = text_of(alloc, &other)?;
             append_form(text, &form)
         }
@@ -81,7 +84,8 @@ pub fn append_to(alloc: Global, old: Value, more: &Value) -> Result<Value, Fault
 
 fn append_form(text: Text, form: &Text) -> Result<Value, Fault>
     ensures ok { IfOk result (λ v. within_length (text ++ form.now) ≡ Ok (plain_of v)) }
-    ensures err { IfErr result (λ fault. (fault ≡ Fault.Memory) ⊎ (within_length (text ++ form.now) ≡ Err fault)) }
+    ensures err { IfErr result
+        (λ fault. (fault ≡ Fault.Memory) ⊎ (within_length (text ++ form.now) ≡ Err fault)) }
 {
     let mut text = text;
     text.append(form.as_slice())?;

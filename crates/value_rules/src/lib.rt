@@ -1,5 +1,6 @@
-//! What XML and a document type definition ask of the value of an attribute, and of words and references in it, as code over characters. Contracts
-//! cite page_model and dtd_model. Below stand text_base, xml_text, dtd_model, dtd_index, page_model, page_reading and page_cutting.
+//! What XML and a document type definition ask of the value of an attribute, and of words and
+//! references in it, as code over characters. Contracts cite page_model and dtd_model. Below stand
+//! text_base, xml_text, dtd_model, dtd_index, page_model, page_reading and page_cutting.
 #![tactic(auto)]
 
 mod numbers;

@@ -73,7 +73,8 @@ pub fn refers(cs: &[char]) -> bool
 
 // Whether a reference of XML stands behind `&`.
 fn begins_reference(cs: &[char]) -> bool
-    ensures { result ≡ (parts.has_semicolon cs.now && spec.is_reference (parts.reference_of (parts.up_to_semicolon cs.now))) }
+    ensures { result ≡ (parts.has_semicolon cs.now && spec.is_reference
+        (parts.reference_of (parts.up_to_semicolon cs.now))) }
 {
     let (body, end) = split(cs, Class::Other(';'));
     is_ended(body, end)
@@ -87,7 +88,8 @@ fn is_ended(body: &[char], end: &[char]) -> bool
 
 /// Whether each `&` begins a reference to a known entity, or to a character.
 pub fn refers_to_known(indexed: &IndexedDtd<'_>, cs: &[char]) -> bool
-    ensures { result ≡ parts.refers_by (spec.is_known (table_of indexed.now.dtd.now).entities) cs.now }
+    ensures { result ≡ parts.refers_by (spec.is_known (table_of indexed.now.dtd.now).entities)
+        cs.now }
 {
     let mut left = cs;
     while let Some((c, rest)) = left.split_first() {
@@ -100,14 +102,16 @@ pub fn refers_to_known(indexed: &IndexedDtd<'_>, cs: &[char]) -> bool
 }
 
 fn begins_known(indexed: &IndexedDtd<'_>, cs: &[char]) -> bool
-    ensures { result ≡ (parts.has_semicolon cs.now && spec.is_known (table_of indexed.now.dtd.now).entities (parts.reference_of (parts.up_to_semicolon cs.now))) }
+    ensures { result ≡ (parts.has_semicolon cs.now && spec.is_known
+        (table_of indexed.now.dtd.now).entities (parts.reference_of (parts.up_to_semicolon cs.now))) }
 {
     let (body, end) = split(cs, Class::Other(';'));
     is_ended_known(indexed, body, end)
 }
 
 fn is_ended_known(indexed: &IndexedDtd<'_>, body: &[char], end: &[char]) -> bool
-    ensures { result ≡ (spec.is_some end.now && spec.is_known (table_of indexed.now.dtd.now).entities (parts.reference_of body.now)) }
+    ensures { result ≡ (spec.is_some end.now && spec.is_known
+        (table_of indexed.now.dtd.now).entities (parts.reference_of body.now)) }
 {
     is_some(end) && is_known(indexed, reference_of(body))
 }
@@ -115,7 +119,8 @@ fn is_ended_known(indexed: &IndexedDtd<'_>, body: &[char], end: &[char]) -> bool
 /// Whether the reference is to a character, or to an entity that is declared or one of the five
 /// of XML (XML 1.0, 4.6).
 pub fn is_known(indexed: &IndexedDtd<'_>, reference: Reference<'_>) -> bool
-    ensures { result ≡ spec.is_known (table_of indexed.now.dtd.now).entities (views.reference_of reference.entry) }
+    ensures { result ≡ spec.is_known (table_of indexed.now.dtd.now).entities
+        (views.reference_of reference.entry) }
 {
     match reference {
         Reference::Decimal(_) | Reference::Hexadecimal(_) => true,

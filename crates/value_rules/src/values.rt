@@ -95,7 +95,8 @@ fn all_words(test: WordTest<'_>, value: &[char]) -> bool
     true
 }
 
-/// Whether the value is one that the declaration of its attribute allows (XML 1.0, 3.3), references aside.
+/// Whether the value is one that the declaration of its attribute allows (XML 1.0, 3.3), references
+/// aside.
 pub fn has_value(alloc: Global, rule: &AttrRule, value: &[char]) -> Result<bool, NoMemory>
     ensures { IfOk result (λ fit. fit ≡ allowed.has_value (declared_of rule.now) value.now) }
 {

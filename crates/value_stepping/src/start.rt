@@ -9,7 +9,8 @@ use dtd_model::{AttrKind, AttrRule, Need};
 use open_pieces::{Characters, OpenValue};
 use std::alloc::Global;
 
-/// What is open directly behind the quote of a value, by how its attribute is declared (XML 1.0, 3.3). Takes no memory.
+/// What is open directly behind the quote of a value, by how its attribute is declared (XML 1.0,
+/// 3.3). Takes no memory.
 pub fn value_start(alloc: Global, rule: &AttrRule) -> OpenValue
     ensures { plain_value result ≡ steps.value_start (declared_of rule.now) }
 {

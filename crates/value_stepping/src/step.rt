@@ -23,7 +23,8 @@ pub fn may_stand(c: char) -> bool
     is_character(c) && c != '<'
 }
 
-/// One character more in the quotes of a value, by how its attribute is declared (XML 1.0, 3.3); none where no value goes on so.
+/// One character more in the quotes of a value, by how its attribute is declared (XML 1.0, 3.3);
+/// none where no value goes on so.
 pub fn value_step(
     alloc: Global,
     indexed: &IndexedDtd<'_>,
@@ -32,7 +33,8 @@ pub fn value_step(
     c: char,
 ) -> Result<Option<OpenValue>, NoMemory>
     ensures { IfOk result (λ next. plain_next next
-        ≡ steps.value_step (table_of indexed.now.dtd.now).entities (declared_of rule.now) (plain_value value.now) c) }
+        ≡ steps.value_step (table_of indexed.now.dtd.now).entities (declared_of rule.now)
+        (plain_value value.now) c) }
 {
     if may_stand(c) {
         kept_step(alloc, indexed, &rule.kind, value, c)
@@ -49,7 +51,8 @@ fn kept_step(
     c: char,
 ) -> Result<Option<OpenValue>, NoMemory>
     ensures { IfOk result (λ next. plain_next next
-        ≡ steps.kept_step (table_of indexed.now.dtd.now).entities (kind_of kind.now) (plain_value value.now) c) }
+        ≡ steps.kept_step (table_of indexed.now.dtd.now).entities (kind_of kind.now)
+        (plain_value value.now) c) }
 {
     match value {
         OpenValue::Text => Ok(Some(text_step(alloc, c))),
@@ -77,7 +80,8 @@ fn semicolon_step(
     c: char,
 ) -> Result<Option<OpenValue>, NoMemory>
     ensures { IfOk result (λ next. plain_next next
-        ≡ steps.semicolon_step (table_of indexed.now.dtd.now).entities (plain_reference reference.now) c) }
+        ≡ steps.semicolon_step (table_of indexed.now.dtd.now).entities
+        (plain_reference reference.now) c) }
 {
     if c == ';' {
         return Ok(reference_end(indexed, reference));
@@ -90,7 +94,8 @@ fn semicolon_step(
 
 // What is open behind the `;` of a reference.
 fn reference_end(indexed: &IndexedDtd<'_>, reference: &OpenReference) -> Option<OpenValue>
-    ensures { plain_next result ≡ reference_ended (table_of indexed.now.dtd.now).entities (plain_reference reference.now) }
+    ensures { plain_next result
+        ≡ reference_ended (table_of indexed.now.dtd.now).entities (plain_reference reference.now) }
 {
     if reference_good(indexed, reference) {
         Some(OpenValue::Text)

@@ -117,7 +117,8 @@ true|-5|=
 
 fn has_key(alloc: Global, it: &Value, word: &str) -> Result<bool, Fault> {
     let wanted = value(alloc, word.as_bytes())?;
-    match (key_of(alloc, it)?, wanted) {
+    let key = key_of(alloc, it)?;
+    match (&key, &wanted) {
         (Key::Int(found), Value::Int(number)) => Ok(found == number),
         (Key::Text(found), Value::Text(text)) => Ok(found.as_slice() == text.as_slice()),
         _ => Ok(false),

@@ -1,7 +1,7 @@
-//! The functions of the language. Each row is a function, what it gives and its arguments: a text in
-//! hexadecimal behind `s`, an integer behind `i`, or null; the pieces of `explode` are joined with a
-//! bar. The first table was made by PHP 8.2.36. In the second PHP warns, refuses or gives a float,
-//! and a function here faults.
+//! The functions of the language. Each row is a function, what it gives and its arguments: a text
+//! in hexadecimal behind `s`, an integer behind `i`, or null; the pieces of `explode` are joined
+//! with a bar. The first table was made by PHP 8.2.36. In the second PHP warns, refuses or gives a
+//! float, and a function here faults.
 
 use builtin_meaning::Builtin;
 use php_builtins::{apply, implode};
@@ -58,10 +58,10 @@ fn values(alloc: Global, words: &str) -> Result<Vec<Value>, Fault> {
 }
 
 fn shown(alloc: Global, found: Value) -> Result<Value, Fault> {
-    match found {
-        Value::Array(array) => Ok(Value::Text(implode(alloc, b"|", &array)?)),
-        other => Ok(other),
+    if let Value::Array(array) = &found {
+        return Ok(Value::Text(implode(alloc, b"|", array)?));
     }
+    Ok(found)
 }
 
 fn called(alloc: Global, name: &str, words: &str) -> Result<Value, Fault> {

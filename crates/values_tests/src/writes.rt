@@ -49,8 +49,8 @@ fn order_append_and_walk(rt: HostRuntime) -> Result<(), Fail> {
     let copy = value.share()?;
     value.write(rt.alloc(), &[Some(Key::Int(9)), None], Value::Null)?;
     assert!(rt; !same(&value, &wanted));
-    if let Value::Array(array) = copy {
-        assert!(rt; same(&Value::Array(walked(rt.alloc(), &array)?), &wanted));
+    if let Value::Array(array) = &copy {
+        assert!(rt; same(&Value::Array(walked(rt.alloc(), array)?), &wanted));
     }
     Ok(())
 }

@@ -1,7 +1,8 @@
-//! The entities of XHTML 1.0: the characters of Latin-1 from 160 on, special characters, and symbols.
+//! The entities of XHTML 1.0: the characters of Latin-1 from 160 on, special characters, and
+//! symbols.
 
-/// Their declarations. Only the names of entities matter to whether a page is valid, so those that are not of
-/// Latin-1 have the value `?`.
+/// Their declarations. Only the names of entities matter to whether a page is valid, so those that
+/// are not of Latin-1 have the value `?`.
 pub const ENTITIES: &str = r#"<!ENTITY nbsp "&#160;">
 <!ENTITY iexcl "&#161;">
 <!ENTITY cent "&#162;">

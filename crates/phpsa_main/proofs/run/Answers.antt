@@ -13,12 +13,12 @@ returns-in-Err-clause-counted g c = wanting_counts _ _ refl c.refuse.ensures.rep
 
 pub returns-in-Ok-outcome_of-clause-ends : goal.returns-in-Ok-outcome_of-clause-ends
 returns-in-Ok-outcome_of-clause-ends g c =
-    replied_ends _ (task_as c.in-Ok.task) c.in-Ok-outcome_of.message _
+    replied_ends _ (task_as c.in-Ok.task) c.in-Ok-outcome_of.reply _
     (subst (λ words. AsksFor (map string_bytes words) (task_as c.in-Ok.task)) c.deref.ensures.value c.in-Ok.ensures) c.in-Ok-outcome_of.ensures c.report.ensures.reports
 
 pub returns-in-Ok-outcome_of-clause-counted : goal.returns-in-Ok-outcome_of-clause-counted
 returns-in-Ok-outcome_of-clause-counted g c =
-    replied_counts c.words_ask_for_one_task.ensures _ (task_as c.in-Ok.task) c.in-Ok-outcome_of.message _
+    replied_counts c.words_ask_for_one_task.ensures _ (task_as c.in-Ok.task) c.in-Ok-outcome_of.reply _
     (subst (λ words. AsksFor (map string_bytes words) (task_as c.in-Ok.task)) c.deref.ensures.value c.in-Ok.ensures) c.in-Ok-outcome_of.ensures c.report.ensures.reports
     c.report.ensures.told_out c.report.ensures.told_err
 

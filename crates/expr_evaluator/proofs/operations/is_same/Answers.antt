@@ -1,7 +1,7 @@
 use Rattle.std.proofs.Common.{◌≡◌, Bool, true, false, refl, sym, ◌∙◌}
 use Rattle.std.specs.Prelude.{IsTrue, ◌↔◌}
 use Rattle.std.specs.Bool.{Decides}
-use Rattle.expr_evaluator.proofs.IdentityLemmas.{identity}
+use Rattle.plain_values.proofs.IdentityLemmas.{identity}
 use Rattle.expr_evaluator.proofs.operations.is_same.Goals as goal
 
 same_test : (r d : Bool) (P : Type 0) → (IsTrue r ↔ P) → Decides d P → r ≡ d

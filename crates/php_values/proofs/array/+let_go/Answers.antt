@@ -1,4 +1,4 @@
-use Rattle.std.proofs.Common.{◌≡◌, ◌<◌, ◌≤◌, ℕ, Some, get_or, set, length, sym, subst, arith}
+use Rattle.std.proofs.Common.{rules, ◌≡◌, ◌<◌, ◌≤◌, ℕ, Some, get_or, set, length, sym, subst, arith}
 use Rattle.plain_values.specs.Plain.{Pairs, keys, depth, deepest}
 use Rattle.php_values.specs.View.{plain_of, plain_key, pairs_of, plain_path}
 use Rattle.php_values.specs.Writes.{KeepsMember}
@@ -22,7 +22,7 @@ Members::let_go-invariant_of-self t c =
     let old_shallow : depth (plain_of c.index_mut.result.now.1) < 1000 =
     rw c.index_mut.ensures.value (deepest_at c.self.inside.pairs.items c.in-Some.place 1000 c.index_mut.result.now (subst (λ (n : ℕ). n < 1000) c.self.invariant.depth c.self.invariant.shallow) within) in
     let new_shallow : depth (plain_of c.let_go.new.self) < 1000 = let low = c.let_go.ensures.shallow in omega (arith, old_shallow, low) in
-    indexed_changed c.self.inside.pairs.items c.self.inside.places c.self.inside.largest c.self.inside.deepest (plain_key c.args.key.now) c.let_go.new.self c.in-Some.place c.index_mut.result.now c.depth-before.result c.depth-after.result c.deepest_after-self-inside.result c.deref.result.now c.self.invariant at new_shallow c.index_mut.ensures.value c.depth-before.ensures.depth c.depth-after.ensures.depth c.deref.ensures.value c.deepest_after-self-inside.ensures
+    indexed_changed c.self.inside.pairs.items c.self.inside.places c.self.inside.largest c.self.inside.deepest.depth c.self.inside.deepest.count c.deepest_after-self-inside.result.depth c.deepest_after-self-inside.result.count (plain_key c.args.key.now) c.let_go.new.self c.in-Some.place c.index_mut.result.now c.depth-before.result c.depth-after.result c.deref.result.now c.self.invariant at new_shallow (search rules) c.index_mut.ensures.value c.depth-before.ensures.depth c.depth-after.ensures.depth c.deref.ensures.value c.deepest_after-self-inside.ensures
 
 pub Members::let_go-returns-in-Some-clause-writes : goal.Members::let_go-returns-in-Some-clause-writes
 Members::let_go-returns-in-Some-clause-writes t c =

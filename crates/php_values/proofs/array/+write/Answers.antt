@@ -1,4 +1,4 @@
-use Rattle.std.proofs.Common.{◌≡◌, ◌<◌, ℕ, Some, Ok, sym, ◌∙◌, ap, subst, length, arith}
+use Rattle.std.proofs.Common.{rules, ◌≡◌, ◌<◌, ℕ, Some, Ok, sym, ◌∙◌, ap, subst, length, arith}
 use Rattle.std.proofs.lemmas.Result.{err_from_is_err_and}
 use Rattle.plain_values.specs.Plain.{Pairs, null, array, keys, depth}
 use Rattle.php_values.specs.View.{plain_of, plain_key, pairs_of, plain_path}
@@ -23,7 +23,7 @@ Members::write-invariant_of-self-in-Some t c =
     let old_shallow : depth (plain_of c.index_mut.result.now.1) < 1000 =
     rw c.index_mut.ensures.value (deepest_at c.self.inside.pairs.items c.in-Some.place 1000 c.index_mut.result.now (subst (λ (n : ℕ). n < 1000) c.self.invariant.depth c.self.invariant.shallow) within) in
     let new_shallow : depth (plain_of c.write_if.new.self) < 1000 = written_fits c.args.fits (plain_path c.args.rest.now) (plain_of c.args.new) (plain_of c.index_mut.result.now.1) (plain_of c.write_if.new.self) c.requires old_shallow c.in_ok-write_if-in-Some.ensures.ok in
-    indexed_changed c.self.inside.pairs.items c.self.inside.places c.self.inside.largest c.self.inside.deepest (plain_key c.args.key.now) c.write_if.new.self c.in-Some.place c.index_mut.result.now c.depth-before.result c.depth-after.result c.deepest_after-self-inside.result c.deref.result.now c.self.invariant at new_shallow c.index_mut.ensures.value c.depth-before.ensures.depth c.depth-after.ensures.depth c.deref.ensures.value c.deepest_after-self-inside.ensures
+    indexed_changed c.self.inside.pairs.items c.self.inside.places c.self.inside.largest c.self.inside.deepest.depth c.self.inside.deepest.count c.deepest_after-self-inside.result.depth c.deepest_after-self-inside.result.count (plain_key c.args.key.now) c.write_if.new.self c.in-Some.place c.index_mut.result.now c.depth-before.result c.depth-after.result c.deref.result.now c.self.invariant at new_shallow (search rules) c.index_mut.ensures.value c.depth-before.ensures.depth c.depth-after.ensures.depth c.deref.ensures.value c.deepest_after-self-inside.ensures
 
 pub Members::write-returns-in_ok-write_if-in-Some-clause-ok : goal.Members::write-returns-in_ok-write_if-in-Some-clause-ok
 Members::write-returns-in_ok-write_if-in-Some-clause-ok t c =

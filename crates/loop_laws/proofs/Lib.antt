@@ -1,4 +1,0 @@
-mod Later
-mod LaterParts
-mod LaterRuns
-pub mod Loops

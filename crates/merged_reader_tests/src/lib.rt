@@ -1,7 +1,0 @@
-//! Tests of merged_reader.
-#![tactic(auto)]
-
-#[cfg(test)]
-mod reading;
-#[cfg(test)]
-mod rows;

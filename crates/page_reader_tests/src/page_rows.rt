@@ -1,0 +1,128 @@
+//! Pages with their tokens.
+
+use crate::reading::{both_say, definition};
+use std::test::Fail;
+
+const DEFINITION: &[u8] = b"<!ELEMENT html (body)>
+<!ELEMENT body (p | br)*>
+<!ELEMENT p (#PCDATA)>
+<!ELEMENT br EMPTY>
+<!ATTLIST p id ID #IMPLIED class CDATA #IMPLIED align (left | right) #IMPLIED lang CDATA #FIXED 'en'>
+<!ENTITY nbsp '&#160;'>
+";
+
+#[test]
+fn content(rt: HostRuntime) -> Result<(), Fail> {
+    let dtd = definition(rt.alloc(), DEFINITION)?;
+    for (page, words) in [
+        (b"".as_slice(), b"".as_slice()),
+        (
+            b"<html><body><p>x</p></body></html>".as_slice(),
+            b"<html <body <p text /p /body /html ".as_slice(),
+        ),
+        (
+            b"<p> a<!-- b --><?c d?>&amp;&#65;&nbsp;<![CDATA[<e>]]></p >".as_slice(),
+            b"<p _ text misc misc text text text text /p ".as_slice(),
+        ),
+        (
+            b"<br/><br /><br></br\n>".as_slice(),
+            b"<br /br <br /br <br /br ".as_slice(),
+        ),
+        (
+            b"a]] >]".as_slice(),
+            b"text text text _ text text ".as_slice(),
+        ),
+        (b"a]]>b".as_slice(), b"text text text bad ".as_slice()),
+        (
+            b"\xE2\x82\xAC\t\xF0\x9F\x98\x80".as_slice(),
+            b"text _ text ".as_slice(),
+        ),
+        (
+            b"<p>&#x10FFFF;<![CDATA[]]]]></p>".as_slice(),
+            b"<p text text /p ".as_slice(),
+        ),
+    ] {
+        assert!(rt; both_say(rt.alloc(), &dtd, page, words)?);
+    }
+    Ok(())
+}
+
+#[test]
+fn prologs(rt: HostRuntime) -> Result<(), Fail> {
+    let dtd = definition(rt.alloc(), DEFINITION)?;
+    for (page, words) in [
+        (
+            b"\xEF\xBB\xBF<?xml version=\"1.0\"?>\n<!DOCTYPE html>\n<!-- a --><html/>".as_slice(),
+            b"_ doctype _ misc <html /html ".as_slice(),
+        ),
+        (
+            b"<?xml version='1.0' encoding='utf-8' standalone = \"no\" ?><br/>".as_slice(),
+            b"<br /br ".as_slice(),
+        ),
+        (
+            b"<!DOCTYPE html PUBLIC '-//a//b' \"c\" > <?xmla b?>".as_slice(),
+            b"doctype _ misc ".as_slice(),
+        ),
+        (b" <?xml version=\"1.0\"?>".as_slice(), b"_ bad ".as_slice()),
+        (
+            b"<?xml version='1.0'?><?xml version='1.0'?>".as_slice(),
+            b"bad ".as_slice(),
+        ),
+        (b"<?XML a?>".as_slice(), b"bad ".as_slice()),
+        (b"\xEF\xBB\xBF\xEF\xBB\xBF".as_slice(), b"text ".as_slice()),
+        (b"<!doctype html>".as_slice(), b"bad ".as_slice()),
+        (b"<!DOCTYPE p>".as_slice(), b"bad ".as_slice()),
+    ] {
+        assert!(rt; both_say(rt.alloc(), &dtd, page, words)?);
+    }
+    Ok(())
+}
+
+#[test]
+fn attributes(rt: HostRuntime) -> Result<(), Fail> {
+    let dtd = definition(rt.alloc(), DEFINITION)?;
+    for (page, words) in [
+        (
+            b"<p id=\"a\" class = 'b>&lt;\xC3\xA9' align=' left ' lang='en'>".as_slice(),
+            b"<p ".as_slice(),
+        ),
+        (b"<p id='a' id='b'>x".as_slice(), b"bad ".as_slice()),
+        (b"<p class='a'class='b'>".as_slice(), b"bad ".as_slice()),
+        (b"<p id='a b'>".as_slice(), b"bad ".as_slice()),
+        (b"<p align='top'>".as_slice(), b"bad ".as_slice()),
+        (b"<p lang='de'>".as_slice(), b"bad ".as_slice()),
+        (b"<p class='<'>".as_slice(), b"bad ".as_slice()),
+        (b"<p class='&b;'>".as_slice(), b"bad ".as_slice()),
+        (b"<p style='a'>".as_slice(), b"bad ".as_slice()),
+        (b"<br id='a'/>".as_slice(), b"bad ".as_slice()),
+        (b"<p / >".as_slice(), b"bad ".as_slice()),
+    ] {
+        assert!(rt; both_say(rt.alloc(), &dtd, page, words)?);
+    }
+    Ok(())
+}
+
+#[test]
+fn faults(rt: HostRuntime) -> Result<(), Fail> {
+    let dtd = definition(rt.alloc(), DEFINITION)?;
+    for (page, words) in [
+        (b"x<p".as_slice(), b"text bad ".as_slice()),
+        (b"x&am".as_slice(), b"text bad ".as_slice()),
+        (b"x<!-- a --".as_slice(), b"text bad ".as_slice()),
+        (b"<!-- a -- b -->".as_slice(), b"bad ".as_slice()),
+        (b"a\xFFb".as_slice(), b"text bad ".as_slice()),
+        (b"a\xC3".as_slice(), b"text bad ".as_slice()),
+        (b"a\xED\xA0\x80".as_slice(), b"text bad ".as_slice()),
+        (b"a\x00b".as_slice(), b"text bad ".as_slice()),
+        (b"<b>".as_slice(), b"bad ".as_slice()),
+        (b"</b>".as_slice(), b"bad ".as_slice()),
+        (b"< p>".as_slice(), b"bad ".as_slice()),
+        (b"&copy;".as_slice(), b"bad ".as_slice()),
+        (b"&#0;&#65;".as_slice(), b"bad ".as_slice()),
+        (b"&#x110000;".as_slice(), b"bad ".as_slice()),
+        (b"&".as_slice(), b"bad ".as_slice()),
+    ] {
+        assert!(rt; both_say(rt.alloc(), &dtd, page, words)?);
+    }
+    Ok(())
+}

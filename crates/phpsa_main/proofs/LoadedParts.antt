@@ -1,0 +1,170 @@
+-- What the parts of the commands find that ask for a program alone makes what doing the task comes to.
+use Rattle.std.proofs.Common.{◌≡◌, ◌∙◌, ℕ, List, Contains, Option, None, Some, inl, inr, refl, sym, subst, lit<}
+use Rattle.std.specs.Prelude.{◌⊎◌, Result, Ok, Err}
+use Rattle.io_edge.specs.Told.{Tells}
+use Rattle.io_edge.specs.Reasons.{HasReason}
+use Rattle.io_edge.specs.declared.files.FileFault.{FileFault}
+use Rattle.io_edge.specs.declared.files.FileFault.TheVariants as reading
+use Rattle.script_meaning.specs.Programs.{PlainProgram}
+use Rattle.script_meaning.specs.Requests.{PlainRequest, Admitted}
+use Rattle.program_files.specs.Source.{SourceCall, source_call}
+use Rattle.program_files.specs.declared.refusal.LoadRefusal.{LoadRefusal}
+use Rattle.program_loader.specs.Causes.{Loads, IsLoadCause}
+use Rattle.request_reading.specs.Outcome.{outcome}
+use Rattle.request_reading.specs.Causes.{IsCause}
+use Rattle.request_reading.specs.declared.refusal.RequestRefusal.{RequestRefusal}
+use Rattle.request_reading.specs.declared.refusal.RequestRefusal.TheVariants as asking
+use Rattle.told_programs.specs.Told.{Content, IsLoaded}
+use Rattle.phpsa_texts.specs.declared.exit.Exit.{Exit}
+use Rattle.phpsa_texts.specs.declared.exit.Exit.TheVariants.{ReadFault}
+use Rattle.phpsa_texts.specs.declared.message.Refusal.{Refusal}
+use Rattle.phpsa_texts.specs.Statuses.{load_status, file_status, request_status}
+use Rattle.phpsa_texts.specs.Texts.{IsTold, load_text, file_text, request_text}
+use Rattle.phpsa_tasks.specs.declared.reply.Reply.{Reply}
+use Rattle.phpsa_tasks.specs.declared.reply.Reply.TheVariants as reply
+use Rattle.phpsa_tasks.specs.Tasks.{script_run, grammar_making}
+use Rattle.phpsa_tasks.specs.Requests.{unread, no_request_in, RefusesRequest}
+use Rattle.phpsa_tasks.specs.Counted.{unloaded, ReadsItsFiles, ReadsForRun}
+use Rattle.phpsa_tasks.specs.Outcomes.{Outcome, Does}
+use Rattle.phpsa_tasks.proofs.Faults.{told_faults, wanted_faults}
+use Rattle.phpsa_main.specs.Loaded.{ReadsRequest, HasRequest, IsReplyOfRun, HasGrammarReply}
+use Rattle.phpsa_main.proofs.ScriptParts.{load_unloaded, load_faults}
+
+-- what was loaded read its files
+own_files : (files : SourceCall) (file : List ℕ) (program : PlainProgram) → Loads files file program → ReadsItsFiles files file
+own_files files file program l =
+    record { held = l.source.held; agrees = l.source.agrees; own = l.source.files; read = l.source.read; counted = l.source.counted }
+
+-- no memory was left
+pub wanting_grammar : (files : SourceCall) (file : List ℕ) → Does files (grammar_making file) (Err Refusal.Memory)
+wanting_grammar files file = record { due = tt; read = inl (5, lit< tt, refl); faults = wanted_faults files }
+
+pub wanting_run : (files : SourceCall) (file : List ℕ) (request : Option (List ℕ)) (steps : ℕ) → Does files (script_run file request steps) (Err Refusal.Memory)
+wanting_run files file request steps = record { due = tt; read = inl (5, lit< tt, refl); faults = wanted_faults files }
+
+-- the program is not loaded
+pub unloaded_grammar : (files : SourceCall) (file : List ℕ) (cause : LoadRefusal) (refusal : Refusal) → IsLoadCause files file cause
+    → IsTold refusal (load_status cause) (load_text cause) → Does files (grammar_making file) (Err refusal)
+unloaded_grammar files file cause (Refusal.Told message) why (status_is, text_is) = record {
+  due = inl (cause, why, status_is, text_is);
+  read = inl (subst (Contains unloaded) (sym status_is) (load_unloaded cause));
+  faults = told_faults files (load_status cause) message.status status_is (load_faults files file cause why);
+}
+unloaded_grammar files file cause Refusal.Memory why says = wanting_grammar files file
+
+pub unloaded_run : (files : SourceCall) (file : List ℕ) (request : Option (List ℕ)) (steps : ℕ) (cause : LoadRefusal) (refusal : Refusal) → IsLoadCause files file cause
+    → IsTold refusal (load_status cause) (load_text cause) → Does files (script_run file request steps) (Err refusal)
+unloaded_run files file request steps cause (Refusal.Told message) why (status_is, text_is) = record {
+  due = inl (cause, why, status_is, text_is);
+  read = inl (subst (Contains unloaded) (sym status_is) (load_unloaded cause));
+  faults = told_faults files (load_status cause) message.status status_is (load_faults files file cause why);
+}
+unloaded_run files file request steps cause Refusal.Memory why says = wanting_run files file request steps
+
+-- the grammar of the program is made, or not
+pub grammar_does : (files : SourceCall) (file : List ℕ) (program : PlainProgram) (outcome : Outcome) → Loads files file program → IsLoaded files.content file program
+    → HasGrammarReply program file outcome → Does files (grammar_making file) outcome
+grammar_does files file program (Ok (reply.Text message)) l loaded says = record {
+  due = record { subject = program; found = loaded; says = says };
+  read = inr (own_files files file program l);
+  faults = inr l.source.unfailed;
+}
+grammar_does files file program (Ok (reply.Grammar grammar)) l loaded says = record {
+  due = record { subject = program; found = loaded; says = inl ((grammar.productions.items, grammar.start, says, refl), refl) };
+  read = inr (own_files files file program l);
+  faults = inr l.source.unfailed;
+}
+grammar_does files file program (Ok (reply.Halted printed message)) l loaded says = absurd says
+grammar_does files file program (Err (Refusal.Told message)) l loaded (long, (status_is, text_is)) = record {
+  due = inr (program, loaded, long, status_is, text_is);
+  read = inr (own_files files file program l);
+  faults = inr l.source.unfailed;
+}
+grammar_does files file program (Err Refusal.Memory) l loaded says = wanting_grammar files file
+
+-- the file of a request is not read
+file_among : (fault : FileFault) → Contains unloaded (file_status fault)
+file_among reading.Missing = (1, lit< tt, refl)
+file_among reading.Failed = (2, lit< tt, refl)
+file_among (reading.TooLong len) = (3, lit< tt, refl)
+file_among reading.Memory = (5, lit< tt, refl)
+
+asking_among : (refusal : RequestRefusal) → Contains unloaded (request_status refusal)
+asking_among asking.NotJson = (3, lit< tt, refl)
+asking_among asking.NotRequest = (3, lit< tt, refl)
+asking_among (asking.NotAdmitted path) = (3, lit< tt, refl)
+asking_among asking.Memory = (5, lit< tt, refl)
+
+pub file_unread : (files : SourceCall) (name : List ℕ) (fault : FileFault) (refusal : Refusal)
+    → HasReason (files.content name) files.faults files.faults' files.misses files.misses' fault → (file_status fault ≡ ReadFault) ⊎ (files.faults' ≡ files.faults)
+    → IsTold refusal (file_status fault) (file_text fault name) → HasRequest files (Some name) (Err refusal)
+file_unread files name fault (Refusal.Told message) why faults (status_is, text_is) =
+    (unread fault why status_is text_is, subst (Contains unloaded) (sym status_is) (file_among fault), told_faults files (file_status fault) message.status status_is faults)
+file_unread files name fault Refusal.Memory why faults says = tt
+
+-- or holds none
+pub file_refused : (files : SourceCall) (name bytes : List ℕ) (cause : RequestRefusal) (refusal : Refusal) → Tells (files.content name) (Some bytes) → IsCause cause (outcome bytes)
+    → files.faults' ≡ files.faults → IsTold refusal (request_status cause) (request_text cause) → HasRequest files (Some name) (Err refusal)
+file_refused files name bytes cause (Refusal.Told message) told why calm (status_is, text_is) =
+    (no_request_in bytes cause told why status_is text_is, subst (Contains unloaded) (sym status_is) (asking_among cause), inr calm)
+file_refused files name bytes cause Refusal.Memory told why calm says = tt
+
+-- what the source tells, and its counts of faults and misses, are as they were before the program was loaded
+pub moved : (files : SourceCall) (content : Content) (faults misses reads : ℕ) (request : Option (List ℕ)) (found : Result PlainRequest Refusal) → content ≡ files.content
+    → faults ≡ files.faults → misses ≡ files.misses → HasRequest (source_call content faults files.faults' misses files.misses' reads files.reads') request found
+    → HasRequest (source_call files.content files.faults files.faults' files.misses files.misses' reads files.reads') request found
+moved files content faults misses reads request found a b e has =
+    subst (λ (c : Content). HasRequest (source_call c files.faults files.faults' files.misses files.misses' reads files.reads') request found) a
+    (subst (λ (k : ℕ). HasRequest (source_call content k files.faults' files.misses files.misses' reads files.reads') request found) b
+    (subst (λ (k : ℕ). HasRequest (source_call content faults files.faults' k files.misses' reads files.reads') request found) e has))
+
+-- why there is no request says nothing of how often names were asked for
+refuses : (files : SourceCall) (reads : ℕ) (request : Option (List ℕ)) (status : Exit) (text : List ℕ)
+    → RefusesRequest (source_call files.content files.faults files.faults' files.misses files.misses' reads files.reads') request status text
+    → RefusesRequest files request status text
+refuses files reads None status text why = why
+refuses files reads (Some name) status text (unread fault why status_is text_is) = unread fault why status_is text_is
+refuses files reads (Some name) status text (no_request_in bytes cause told why status_is text_is) = no_request_in bytes cause told why status_is text_is
+
+-- there is no request
+pub lacks_request : (files : SourceCall) (file : List ℕ) (request : Option (List ℕ)) (steps reads : ℕ) (program : PlainProgram) (refusal : Refusal)
+    → IsLoaded files.content file program → HasRequest (source_call files.content files.faults files.faults' files.misses files.misses' reads files.reads') request (Err refusal)
+    → Does files (script_run file request steps) (Err refusal)
+lacks_request files file request steps reads program (Refusal.Told message) loaded (why, among, told) =
+    record { due = inr (program, loaded, refuses files reads request message.status message.text why); read = inl among; faults = told }
+lacks_request files file request steps reads program Refusal.Memory loaded has = wanting_run files file request steps
+
+-- the files of the program, and that of the request
+run_reads : (files : SourceCall) (file : List ℕ) (request : Option (List ℕ)) (program : PlainProgram) (faults misses reads : ℕ)
+    → Loads (source_call files.content files.faults faults files.misses misses files.reads reads) file program
+    → ReadsRequest (source_call files.content files.faults files.faults' files.misses files.misses' reads files.reads') request → ReadsForRun files file request
+run_reads files file None program faults misses reads l counted =
+    record { held = l.source.held; agrees = l.source.agrees; own = l.source.files; read = l.source.read; counted = counted ∙ l.source.counted }
+run_reads files file (Some name) program faults misses reads l counted =
+    (reads, record { held = l.source.held; agrees = l.source.agrees; own = l.source.files; read = l.source.read; counted = l.source.counted }, counted)
+
+-- the program was run
+pub run_does : (files : SourceCall) (file : List ℕ) (request : Option (List ℕ)) (steps faults misses reads : ℕ) (program : PlainProgram) (asked : PlainRequest) (own : Reply)
+    → Loads (source_call files.content files.faults faults files.misses misses files.reads reads) file program → IsLoaded files.content file program
+    → HasRequest (source_call files.content files.faults files.faults' files.misses files.misses' reads files.reads') request (Ok asked) → Admitted asked
+    → IsReplyOfRun program asked steps own → Does files (script_run file request steps) (Ok own)
+run_does files file request steps faults misses reads program asked (reply.Text message) l loaded (finds, counted, calm) admitted (ended, (status_is, text_is)) = record {
+  due = record {
+    subject = record { program = program; request = asked };
+    found = (loaded, finds, admitted);
+    says = (ended, status_is, text_is);
+  };
+  read = inr (run_reads files file request program faults misses reads l counted);
+  faults = inr calm;
+}
+run_does files file request steps faults misses reads program asked (reply.Grammar grammar) l loaded has admitted says = absurd says
+run_does files file request steps faults misses reads program asked (reply.Halted printed message) l loaded (finds, counted, calm) admitted (early, (status_is, text_is), printed_is) =
+    record {
+      due = record {
+        subject = record { program = program; request = asked };
+        found = (loaded, finds, admitted);
+        says = (early, status_is, printed_is, text_is);
+      };
+      read = inr (run_reads files file request program faults misses reads l counted);
+      faults = inr calm;
+    }

@@ -1,0 +1,128 @@
+-- What the parts of the command find makes what doing the task comes to.
+use Rattle.std.proofs.Common.{◌≡◌, ◌∙◌, ℕ, List, [], ◌∷◌, length, Contains, inl, inr, refl, sym, ap, subst, lit<}
+use Rattle.std.specs.Prelude.{◌⊎◌, Ok, Err}
+use Rattle.script_meaning.specs.Programs.{PlainProgram}
+use Rattle.program_files.specs.Source.{SourceCall, source_call, so_many_more}
+use Rattle.program_files.specs.declared.refusal.LoadRefusal.{LoadRefusal}
+use Rattle.program_files.specs.declared.refusal.LoadRefusal.TheVariants as load
+use Rattle.program_loader.specs.Causes.{Loads, IsLoadCause}
+use Rattle.told_programs.specs.Told.{Content, IsLoaded}
+use Rattle.dtd_model.specs.Table.{Table}
+use Rattle.document_types.specs.DocumentTypes.{NamedType, HasTable, IsBuiltIn, IsDefinitionRefusal}
+use Rattle.document_types.specs.declared.refusal.DefinitionRefusal.{DefinitionRefusal}
+use Rattle.page_goals.specs.declared.goal.Goal.{Goal}
+use Rattle.shown_answers.specs.declared.answer.ShownAnswer.{ShownAnswer}
+use Rattle.phpsa_texts.specs.declared.exit.Exit.TheVariants.{ReadFault}
+use Rattle.phpsa_texts.specs.declared.message.Message.{Message}
+use Rattle.phpsa_texts.specs.declared.answers.AnswerForm.{AnswerForm}
+use Rattle.phpsa_texts.specs.declared.message.Refusal.{Refusal}
+use Rattle.phpsa_texts.specs.Statuses.{load_status, definition_status}
+use Rattle.phpsa_texts.specs.Texts.{Says, IsTold, load_text, definition_text}
+use Rattle.phpsa_tasks.specs.declared.reply.Reply.TheVariants as reply
+use Rattle.phpsa_tasks.specs.Tasks.{script_check}
+use Rattle.phpsa_tasks.specs.Replies.{answer_status, answer_text}
+use Rattle.phpsa_tasks.specs.Causes.{definition_call, RefusesScript, not_defined, many_states, not_loaded, lacks_definition, has_long_text}
+use Rattle.phpsa_tasks.specs.Counted.{unloaded, ReadsItsFiles}
+use Rattle.phpsa_tasks.specs.Outcomes.{Outcome, Does}
+use Rattle.phpsa_tasks.proofs.Faults.{told_faults, wanted_faults}
+use Rattle.phpsa_tasks.proofs.Defining.{definition_faults}
+use Rattle.phpsa_main.specs.Decided.{Decision, IsRefusedBy, IsDecidedAs, Decides, IsProgramRefused, IsProgramDecided}
+
+pub load_unloaded : (cause : LoadRefusal) → Contains unloaded (load_status cause)
+load_unloaded (load.Missing name) = (1, lit< tt, refl)
+load_unloaded (load.ReadFault name) = (2, lit< tt, refl)
+load_unloaded (load.TooLong name len) = (3, lit< tt, refl)
+load_unloaded (load.Script name fault) = (0, lit< tt, refl)
+load_unloaded (load.IncludeCycle name) = (0, lit< tt, refl)
+load_unloaded (load.DoubleFunction name) = (0, lit< tt, refl)
+load_unloaded (load.UnknownFunction name) = (0, lit< tt, refl)
+load_unloaded (load.Arity name) = (0, lit< tt, refl)
+load_unloaded (load.TooMany count) = (3, lit< tt, refl)
+load_unloaded load.Memory = (5, lit< tt, refl)
+
+pub load_faults : (call : SourceCall) (name : List ℕ) (cause : LoadRefusal) → IsLoadCause call name cause → (load_status cause ≡ ReadFault) ⊎ (call.faults' ≡ call.faults)
+load_faults call name (load.Missing path) (named, (stops, rises, none, same)) = inr same
+load_faults call name (load.ReadFault path) why = inl refl
+load_faults call name (load.TooLong path len) (named, (stops, over, least, same, others)) = inr same
+load_faults call name (load.Script path fault) (named, (stops, broken, same, others)) = inr same
+load_faults call name (load.IncludeCycle path) why = inr why.source.unfailed
+load_faults call name (load.DoubleFunction function) why = inr why.source.unfailed
+load_faults call name (load.UnknownFunction function) why = inr why.source.unfailed
+load_faults call name (load.Arity function) why = inr why.source.unfailed
+load_faults call name (load.TooMany count) (inl (many, same, others)) = inr same
+load_faults call name (load.TooMany count) (inr large) = inr large.source.unfailed
+load_faults call name load.Memory (same, others) = inr same
+
+-- the program is not loaded
+pub load_decides : (files : SourceCall) (file : List ℕ) (d : NamedType) (goal : Goal) (limit : ℕ) (cause : LoadRefusal) (refusal : Refusal) → IsLoadCause files file cause
+    → IsTold refusal (load_status cause) (load_text cause) → Decides files file d goal limit (Err refusal)
+load_decides files file d goal limit cause (Refusal.Told message) why (status_is, text_is) = record {
+  why = not_loaded cause why status_is text_is;
+  read = λ built_in. inl (subst (Contains unloaded) (sym status_is) (load_unloaded cause));
+  faults = told_faults files (load_status cause) message.status status_is (load_faults files file cause why);
+}
+load_decides files file d goal limit cause Refusal.Memory why says = tt
+
+-- there is no definition
+pub definition_decides : (files : SourceCall) (file : List ℕ) (d : NamedType) (goal : Goal) (limit : ℕ) (cause : DefinitionRefusal) (refusal : Refusal)
+    → IsDefinitionRefusal (definition_call files) d cause → (IsBuiltIn d → ReadsItsFiles files file)
+    → IsTold refusal (definition_status cause) (definition_text cause) → Decides files file d goal limit (Err refusal)
+definition_decides files file d goal limit cause (Refusal.Told message) why read (status_is, text_is) = record {
+  why = lacks_definition (not_defined cause why status_is text_is);
+  read = λ built_in. inr (read built_in);
+  faults = told_faults files (definition_status cause) message.status status_is (definition_faults (definition_call files) d cause why);
+}
+definition_decides files file d goal limit cause Refusal.Memory why read says = tt
+
+program_refused : (files : SourceCall) (file : List ℕ) (d : NamedType) (table : Table) (program : PlainProgram) (message : Message) → HasTable files.content d table
+    → IsLoaded files.content file program → IsProgramRefused table program file message → RefusesScript files file d message.status message.text
+program_refused files file d table program message has loaded (inl (long, (status_is, text_is))) = has_long_text program loaded long status_is text_is
+program_refused files file d table program message has loaded (inr (count, many, (status_is, text_is))) = lacks_definition (many_states table count has many status_is text_is)
+
+-- the program is decided, or not
+pub program_decides : (files : SourceCall) (file : List ℕ) (d : NamedType) (goal : Goal) (limit : ℕ) (table : Table) (program : PlainProgram) (decision : Decision)
+    → HasTable files.content d table → IsLoaded files.content file program → (IsBuiltIn d → ReadsItsFiles files file) → files.faults' ≡ files.faults
+    → IsProgramDecided table program file goal limit decision → Decides files file d goal limit decision
+program_decides files file d goal limit table program (Ok answer) has loaded read calm is =
+    record { program = program; table = table; loaded = loaded; has = has; is_answer = is; read = read; calm = calm }
+program_decides files file d goal limit table program (Err (Refusal.Told message)) has loaded read calm says = record {
+  why = program_refused files file d table program message has loaded says;
+  read = λ built_in. inr (read built_in);
+  faults = inr calm;
+}
+program_decides files file d goal limit table program (Err Refusal.Memory) has loaded read calm says = tt
+
+-- the files of what was loaded are all that was read
+pub reads_its_files : (call : SourceCall) (faults misses reads : ℕ) (name : List ℕ) (p : PlainProgram) → Loads call name p → reads ≡ call.reads'
+    → ReadsItsFiles (source_call call.content call.faults faults call.misses misses call.reads reads) name
+reads_its_files call faults misses reads name p l same = record {
+  held = l.source.held;
+  agrees = l.source.agrees;
+  own = l.source.files;
+  read = l.source.read;
+  counted = subst (λ (n : ℕ). n ≡ so_many_more (length l.source.files) call.reads) (sym same) l.source.counted;
+}
+
+-- no memory was left
+pub wanting_does : (files : SourceCall) (file : List ℕ) (d : NamedType) (goal : Goal) (limit : ℕ) (form : AnswerForm)
+    → Does files (script_check file d goal limit form) (Err Refusal.Memory)
+wanting_does files file d goal limit form = record { due = tt; read = λ built_in. inl (5, lit< tt, refl); faults = wanted_faults files }
+
+-- there is an answer
+pub answered_does : (files : SourceCall) (file : List ℕ) (d : NamedType) (goal : Goal) (limit : ℕ) (form : AnswerForm) (answer : ShownAnswer) (message : Message)
+    → IsDecidedAs files file d goal limit answer → Says message (answer_status answer) (answer_text form answer) → Does files (script_check file d goal limit form) (Ok (reply.Text message))
+answered_does files file d goal limit form answer message is (status_is, text_is) = record {
+  due = record {
+    subject = record { program = is.program; table = is.table };
+    found = (is.loaded, is.has);
+    says = (answer, is.is_answer, status_is, text_is);
+  };
+  read = λ built_in. inr (is.read built_in);
+  faults = inr is.calm;
+}
+
+-- and there is none
+pub refused_does : (files : SourceCall) (file : List ℕ) (d : NamedType) (goal : Goal) (limit : ℕ) (form : AnswerForm) (refusal : Refusal)
+    → Decides files file d goal limit (Err refusal) → Does files (script_check file d goal limit form) (Err refusal)
+refused_does files file d goal limit form (Refusal.Told message) is = record { due = is.why; read = is.read; faults = is.faults }
+refused_does files file d goal limit form Refusal.Memory is = wanting_does files file d goal limit form

@@ -1,0 +1,42 @@
+use Rattle.std.proofs.Common.{◌∙◌}
+use Rattle.dtd_model.specs.TableOf.{table_of}
+use Rattle.php_program.specs.View.{program_of}
+use Rattle.program_files.specs.Source.{source_call}
+use Rattle.document_types.specs.DocumentTypes.{type_of}
+use Rattle.phpsa_tasks.proofs.Defining.{has_table, definition_cause}
+use Rattle.phpsa_main.proofs.ScriptParts.{load_decides, definition_decides, program_decides, reads_its_files}
+use Rattle.phpsa_main.proofs.deciding.decide_script.Goals as goal
+
+pub returns-in-Err : goal.returns-in-Err
+returns-in-Err g c =
+    load_decides
+    (source_call (g.F.Files.content c.args.files.now) (g.F.Files.faults c.args.files.now) (g.F.Files.faults c.load.new.source) (g.F.Files.misses c.args.files.now) (g.F.Files.misses c.load.new.source) (g.F.Files.reads c.args.files.now) (g.F.Files.reads c.load.new.source))
+    c.args.file.now (type_of c.args.document_type) c.args.goal c.args.limit c.in-Err.refusal c.load_refusal.result c.in-Err.ensures.err c.load_refusal.ensures
+
+pub returns-in-Err-definition : goal.returns-in-Err-definition
+returns-in-Err-definition g c =
+    let files =
+    source_call (g.F.Files.content c.args.files.now) (g.F.Files.faults c.args.files.now) (g.F.Files.faults c.definition.new.files) (g.F.Files.misses c.args.files.now) (g.F.Files.misses c.definition.new.files) (g.F.Files.reads c.args.files.now) (g.F.Files.reads c.definition.new.files) in
+    let loaded = c.in-Ok.ensures.ok in
+    definition_decides files c.args.file.now (type_of c.args.document_type) c.args.goal c.args.limit c.in-Err-definition.refusal c.definition_refusal.result
+    (definition_cause files (type_of c.args.document_type) (g.F.Files.content c.load.new.source) (g.F.Files.faults c.load.new.source) (g.F.Files.misses c.load.new.source) c.in-Err-definition.refusal
+    c.load.ensures.same loaded.source.unfailed loaded.source.unmissed c.in-Err-definition.ensures.err)
+    (λ built_in. reads_its_files
+    (source_call (g.F.Files.content c.args.files.now) (g.F.Files.faults c.args.files.now) (g.F.Files.faults c.load.new.source) (g.F.Files.misses c.args.files.now) (g.F.Files.misses c.load.new.source) (g.F.Files.reads c.args.files.now) (g.F.Files.reads c.load.new.source))
+    (g.F.Files.faults c.definition.new.files) (g.F.Files.misses c.definition.new.files) (g.F.Files.reads c.definition.new.files) c.args.file.now (program_of c.in-Ok.program) loaded (c.definition.ensures.reads built_in))
+    c.definition_refusal.ensures
+
+pub returns : goal.returns
+returns g c =
+    let files =
+    source_call (g.F.Files.content c.args.files.now) (g.F.Files.faults c.args.files.now) (g.F.Files.faults c.definition.new.files) (g.F.Files.misses c.args.files.now) (g.F.Files.misses c.definition.new.files) (g.F.Files.reads c.args.files.now) (g.F.Files.reads c.definition.new.files) in
+    let loaded = c.in-Ok.ensures.ok in
+    program_decides files c.args.file.now (type_of c.args.document_type) c.args.goal c.args.limit (table_of c.in-Ok-definition.dtd) (program_of c.in-Ok.program) c.decided.result
+    (has_table (g.F.Files.content c.args.files.now) (g.F.Files.content c.load.new.source) (type_of c.args.document_type) (table_of c.in-Ok-definition.dtd) c.load.ensures.same c.in-Ok-definition.ensures.ok)
+    (c.loads_are_loaded.ensures
+    (source_call (g.F.Files.content c.args.files.now) (g.F.Files.faults c.args.files.now) (g.F.Files.faults c.load.new.source) (g.F.Files.misses c.args.files.now) (g.F.Files.misses c.load.new.source) (g.F.Files.reads c.args.files.now) (g.F.Files.reads c.load.new.source))
+    c.args.file.now (program_of c.in-Ok.program) loaded)
+    (λ built_in. reads_its_files
+    (source_call (g.F.Files.content c.args.files.now) (g.F.Files.faults c.args.files.now) (g.F.Files.faults c.load.new.source) (g.F.Files.misses c.args.files.now) (g.F.Files.misses c.load.new.source) (g.F.Files.reads c.args.files.now) (g.F.Files.reads c.load.new.source))
+    (g.F.Files.faults c.definition.new.files) (g.F.Files.misses c.definition.new.files) (g.F.Files.reads c.definition.new.files) c.args.file.now (program_of c.in-Ok.program) loaded (c.definition.ensures.reads built_in))
+    (c.in-Ok-definition.ensures.calm.0 ∙ loaded.source.unfailed) c.decided.ensures

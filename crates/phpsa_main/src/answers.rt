@@ -1,0 +1,57 @@
+//! From the answer for a program to what is written: the one table of them.
+
+ghost use Rattle.std.specs.Prelude.{◌≡◌, IfOk};
+ghost use Rattle.phpsa_texts.specs.Texts.{Says};
+ghost use Rattle.phpsa_tasks.specs.Replies.{answer_status, answer_text, conclusion_of};
+
+use phpsa_texts::{
+    AnswerForm, Conclusion, Message, PassedCount, no_message, passed_message, yes_message,
+};
+use shown_answers::ShownAnswer;
+use std::alloc::Global;
+use text_base::NoMemory;
+
+/// How a script is decided by an answer.
+pub(crate) fn conclusion_of(answer: &ShownAnswer) -> Conclusion
+    ensures { result ≡ conclusion_of answer.now }
+{
+    match answer {
+        ShownAnswer::Yes => Conclusion::Yes,
+        ShownAnswer::No(_) => Conclusion::No,
+        ShownAnswer::Pairs { .. } => Conclusion::Undecided,
+        ShownAnswer::Tags { .. } => Conclusion::Undecided,
+        ShownAnswer::Items { .. } => Conclusion::Undecided,
+    }
+}
+
+/// The text and the status of an answer.
+pub(crate) fn answer_message(
+    alloc: Global,
+    form: AnswerForm,
+    answer: &ShownAnswer,
+) -> Result<Message, NoMemory>
+    ensures { IfOk result
+        (λ message. Says message (answer_status answer.now) (answer_text form answer.now)) }
+{
+    match answer {
+        ShownAnswer::Yes => yes_message(alloc, form),
+        ShownAnswer::No(page) => no_message(alloc, form, page.length, page.front.as_slice()),
+        ShownAnswer::Pairs { count, height } => {
+            let passed = PassedCount::Pairs {
+                count: *count,
+                height: *height,
+            };
+            passed_message(alloc, form, passed)
+        }
+        ShownAnswer::Tags { count, height } => {
+            let passed = PassedCount::Tags {
+                count: *count,
+                height: *height,
+            };
+            passed_message(alloc, form, passed)
+        }
+        ShownAnswer::Items { count } => {
+            passed_message(alloc, form, PassedCount::Items { count: *count })
+        }
+    }
+}

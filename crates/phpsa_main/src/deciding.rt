@@ -1,0 +1,72 @@
+//! The answer for the script of a file.
+
+ghost use Rattle.dtd_model.specs.TableOf.{table_of};
+ghost use Rattle.document_types.specs.DocumentTypes.{type_of};
+ghost use Rattle.php_program.specs.View.{program_of};
+ghost use Rattle.program_files.specs.Source.{source_call};
+ghost use Rattle.phpsa_main.specs.Decided.{Decides, IsProgramDecided};
+
+use document_types::DocumentType;
+use dtd_model::Dtd;
+use io_edge::Files;
+use page_goals::Goal;
+use php_program::Program;
+use phpsa_texts::{Refusal, definition_refusal, load_refusal, long_text_refusal, states_refusal};
+use program_loader::load;
+use script_decision::CheckRefusal;
+use shown_answers::{ShownAnswer, check_shown};
+use std::alloc::Global;
+use told_programs::loads_are_loaded;
+
+/// The answer for the program of the file of this name, or why there is none.
+fn decided(
+    alloc: Global,
+    name: &str,
+    program: &Program,
+    dtd: &Dtd,
+    goal: Goal,
+    limit: u64,
+) -> Result<ShownAnswer, Refusal>
+    ensures { IsProgramDecided (table_of dtd.now) (program_of program.now) name.now goal limit
+        result }
+{
+    match check_shown(alloc, program, dtd, goal, limit) {
+        Ok(answer) => Ok(answer),
+        Err(CheckRefusal::Limit { count }) => Err(states_refusal(alloc, count)),
+        Err(CheckRefusal::LongText) => Err(long_text_refusal(alloc, name.as_bytes())),
+        Err(CheckRefusal::Memory) => Err(Refusal::Memory),
+    }
+}
+
+/// Decides the script of the file, with all that it includes: whether each loose page is good by
+/// the goal and the definition of the document type, with at most `limit` different sums of the
+/// sentences of one nonterminal. The script is read first, and then what the document type asks
+/// for.
+///
+/// # Errors
+///
+/// What is told where the program is not loaded, there is no definition, or a text of the program
+/// is over the limit of a run; and `Memory`.
+pub(crate) fn decide_script<F: Files>(
+    alloc: Global,
+    file: &str,
+    document_type: DocumentType<'_>,
+    goal: Goal,
+    limit: u64,
+    files: &mut F,
+) -> Result<ShownAnswer, Refusal>
+    ensures { Decides (source_call (F.content files.old) (F.faults files.old) (F.faults files.new)
+        (F.misses files.old) (F.misses files.new) (F.reads files.old) (F.reads files.new))
+        file.now (type_of document_type.entry) goal limit result }
+{
+    loads_are_loaded();
+    let program = match load(alloc, files, file) {
+        Ok(program) => program,
+        Err(refusal) => return Err(load_refusal(alloc, &refusal)),
+    };
+    let dtd = match document_type.definition(alloc, files) {
+        Ok(dtd) => dtd,
+        Err(refusal) => return Err(definition_refusal(alloc, &refusal)),
+    };
+    decided(alloc, file, &program, &dtd, goal, limit)
+}

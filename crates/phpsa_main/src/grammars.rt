@@ -1,0 +1,60 @@
+//! The grammar of the pages of the script of a file.
+
+ghost use Rattle.std.specs.Prelude.{◌≡◌};
+ghost use Rattle.php_program.specs.View.{program_of};
+ghost use Rattle.program_files.specs.Source.{source_call};
+ghost use Rattle.phpsa_tasks.specs.Tasks.{grammar_making};
+ghost use Rattle.phpsa_tasks.specs.Outcomes.{Does};
+ghost use Rattle.phpsa_main.specs.Loaded.{HasGrammarReply};
+
+use io_edge::Files;
+use loose_grammar::{GrammarRefusal, loose_grammar};
+use php_program::Program;
+use phpsa_tasks::Reply;
+use phpsa_texts::{
+    AnswerForm, PassedCount, Refusal, load_refusal, long_text_refusal, passed_message,
+};
+use program_loader::load;
+use std::alloc::Global;
+use told_programs::loads_are_loaded;
+
+/// What is written of the program of the file of this name, or why there is nothing to write.
+fn grammar_reply(alloc: Global, name: &str, program: &Program) -> Result<Reply, Refusal>
+    ensures { HasGrammarReply (program_of program.now) name.now result }
+{
+    match loose_grammar(alloc, program) {
+        Ok(grammar) => Ok(Reply::Grammar(grammar)),
+        Err(GrammarRefusal::LongText) => Err(long_text_refusal(alloc, name.as_bytes())),
+        Err(GrammarRefusal::Items { count }) => {
+            let passed = PassedCount::Items { count };
+            let message = passed_message(alloc, AnswerForm::Plain, passed)?;
+            Ok(Reply::Text(message))
+        }
+        Err(GrammarRefusal::Memory) => Err(Refusal::Memory),
+    }
+}
+
+/// Makes the grammar of the loose pages of the script of the file, with all that it includes, which
+/// is written line by line; or tells the count where the image of a string operation has over
+/// 8,000,000 items.
+///
+/// # Errors
+///
+/// What is told where the program is not loaded, or a text of it is over the limit of a run; and
+/// `Memory`.
+pub(crate) fn make_grammar<F: Files>(
+    alloc: Global,
+    file: &str,
+    files: &mut F,
+) -> Result<Reply, Refusal>
+    ensures { Does (source_call (F.content files.old) (F.faults files.old) (F.faults files.new)
+        (F.misses files.old) (F.misses files.new) (F.reads files.old) (F.reads files.new))
+        (grammar_making file.now) result }
+{
+    loads_are_loaded();
+    let program = match load(alloc, files, file) {
+        Ok(program) => program,
+        Err(refusal) => return Err(load_refusal(alloc, &refusal)),
+    };
+    grammar_reply(alloc, file, &program)
+}

@@ -1,0 +1,72 @@
+//! A generated script is decided.
+
+ghost use Rattle.std.specs.Prelude.{◌≡◌, ℕ};
+ghost use Rattle.program_files.specs.Source.{SourceCall, source_call};
+ghost use Rattle.document_types.specs.DocumentTypes.{strict_type};
+ghost use Rattle.page_goals.specs.declared.goal.Goal.TheVariants.{Valid};
+ghost use Rattle.phpsa_tasks.specs.declared.task.TheConstants as task;
+ghost use Rattle.phpsa_tasks.specs.Tasks.{made_check};
+ghost use Rattle.phpsa_tasks.specs.Subjects.{made_name, only_script};
+ghost use Rattle.phpsa_tasks.specs.Counted.{ReadsNothing};
+ghost use Rattle.phpsa_tasks.specs.Outcomes.{Does};
+ghost use Rattle.phpsa_main.specs.Decided.{Decides};
+
+use crate::answers::conclusion_of;
+use crate::deciding::decide_script;
+use crate::one_script::{MADE_NAME, OneScript};
+use document_types::DocumentType;
+use page_goals::Goal;
+use phpsa_tasks::{PAIR_LIMIT, Reply};
+use phpsa_texts::{Refusal, size_refusal, summary_message};
+use script_maker::{MakeRefusal, make};
+use shown_answers::ShownAnswer;
+use std::alloc::Global;
+use text_base::{Bytes, NoMemory};
+
+/// The answer for this script, by the built-in definition.
+fn decided(alloc: Global, script: Bytes) -> Result<ShownAnswer, Refusal>
+    ensures { (misses reads : ℕ) × Decides (source_call (only_script script) 0 0 0 misses 0 reads)
+        made_name strict_type Valid task.PAIR_LIMIT result }
+{
+    let mut files = OneScript {
+        text: script,
+        misses: 0,
+        reads: 0,
+    };
+    decide_script(
+        alloc,
+        MADE_NAME,
+        DocumentType::Strict,
+        Goal::Valid,
+        PAIR_LIMIT,
+        &mut files,
+    )
+}
+
+/// Decides the generated script with so many functions, by the built-in definition: how many
+/// functions and bytes it has and how it is decided, and the status of that. It reads no file,
+/// whatever source there is.
+///
+/// # Errors
+///
+/// What is told where a script cannot have so many functions, which are 0 or over 1,000, and where
+/// the script is refused, as the file `made.php`; and `Memory`.
+pub(crate) fn check_made(alloc: Global, functions: u32) -> Result<Reply, Refusal>
+    ensures { (files : SourceCall) → ReadsNothing files → files.faults' ≡ files.faults
+        → Does files (made_check functions) result }
+{
+    let script = match make(alloc, functions) {
+        Ok(script) => script,
+        Err(MakeRefusal::Size { functions }) => return Err(size_refusal(alloc, functions)),
+        Err(MakeRefusal::Memory) => return Err(Refusal::Memory),
+    };
+    let bytes = script.len() as u64;
+    let answer = match decided(alloc, script) {
+        Ok(answer) => answer,
+        Err(refusal) => return Err(refusal),
+    };
+    match summary_message(alloc, u64::from(functions), bytes, conclusion_of(&answer)) {
+        Ok(message) => Ok(Reply::Text(message)),
+        Err(NoMemory) => Err(Refusal::Memory),
+    }
+}

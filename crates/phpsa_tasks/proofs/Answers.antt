@@ -1,0 +1,139 @@
+-- How a call ends says how it is answered.
+use Rattle.std.proofs.Common.{◌≡◌, ◌∙◌, ℕ, List, [], ◌∷◌, Contains, refl, sym, subst, inl, inr, lit<}
+use Rattle.std.specs.Prelude.{◌⊎◌}
+use Rattle.told_programs.specs.Told.{Content}
+use Rattle.command_words.specs.Asked.{Asked, Asks, AsksNothing}
+use Rattle.command_words.specs.Canonical.{IsCanonical}
+use Rattle.phpsa_texts.specs.declared.exit.Exit.{Exit}
+use Rattle.phpsa_texts.specs.declared.exit.Exit.TheVariants.{WriteFault, Usage, Memory}
+use Rattle.phpsa_tasks.specs.Tasks.{Task, script_check, page_check, script_making, made_check, script_run, grammar_making, usage, task_of, AsksFor, asks, asks_nothing}
+use Rattle.phpsa_tasks.specs.Call.{Call}
+use Rattle.phpsa_tasks.specs.Subjects.{Subject, Finds, Holds, IsWithin, LacksFile}
+use Rattle.phpsa_tasks.specs.Replies.{Replies, Halts}
+use Rattle.phpsa_tasks.specs.Causes.{Refuses}
+use Rattle.phpsa_tasks.specs.Endings.{OwesReply, OwesRefusal, of_task, wants_memory, OwesHalt, Ends, replied, refused, halted, by_out, by_err, no_memory}
+use Rattle.phpsa_tasks.specs.Answered.{IsUndisturbed, IsVerdict, IsStopped, statuses_of_nothing, IsAnswered}
+use Rattle.phpsa_tasks.proofs.Verdicts.{one_verdict}
+use Rattle.phpsa_tasks.proofs.Held.{ProgramLaws, held_reply, held_halt, held_refusal}
+use Rattle.phpsa_tasks.proofs.Never.{told_usage, no_reply, no_halt, asks_more}
+use Rattle.phpsa_tasks.proofs.Nothing.{of_memory, of_refusal}
+
+abbrev pub OneTask : Type 0
+OneTask = (words : List (List ℕ)) (task other : Task) → AsksFor words task → AsksFor words other → task ≡ other
+
+-- the laws that are used
+pub record Laws : Type 0 where
+  pub one_task : OneTask
+  pub programs : ProgramLaws
+  pub apart : (words : List (List ℕ)) (for : Asked) → Asks words for → AsksNothing words → ⊥
+  pub canonical : (words : List (List ℕ)) (for : Asked) → IsCanonical words for → Asks words for
+
+-- the reply that is owed, and the refusal, are those of what the words ask for
+pub the_reply : OneTask → (call : Call) (status : Exit) (text : List ℕ) → OwesReply call status text → (task : Task) → AsksFor call.words task → Replies call.files task status text
+the_reply one call status text owed task asked = subst (λ (t : Task). Replies call.files t status text) (one call.words owed.task task owed.asked asked) owed.replies
+
+pub the_refusal : OneTask → (call : Call) (status : Exit) (text : List ℕ) → OwesRefusal call status text → (task : Task) → AsksFor call.words task
+    → Refuses call.files task status text ⊎ (status ≡ Memory)
+the_refusal one call status text (of_task own asked refuses) task asked' =
+    inl (subst (λ (t : Task). Refuses call.files t status text) (one call.words own task asked asked') refuses)
+the_refusal one call status text (wants_memory is text_is) task asked' = inr is
+
+pub the_halt : OneTask → (call : Call) (status : Exit) (printed text : List ℕ) → OwesHalt call status printed text → (task : Task) → AsksFor call.words task
+    → Halts call.files task status printed text
+the_halt one call status printed text owed task asked =
+    subst (λ (t : Task). Halts call.files t status printed text) (one call.words owed.task task owed.asked asked) owed.halts
+
+verdict_of : Laws → (call : Call) (status : Exit) (text : List ℕ) (task : Task) (x : Subject task) → IsUndisturbed call → Holds call.files.content task x → IsWithin call.files.content task x
+    → Refuses call.files task status text ⊎ (status ≡ Memory) → IsVerdict task x status ⊎ IsStopped task x status
+verdict_of laws call status text task x u h w (inl refuses) = held_refusal laws.programs call.files task x status text u.files h w refuses
+verdict_of laws call status text task x u h w (inr is) = inr (inr is)
+
+answered : Laws → (call : Call) (status : Exit) → Ends call status → (task : Task) (x : Subject task) → AsksFor call.words task → IsUndisturbed call
+    → Holds call.files.content task x → IsWithin call.files.content task x → IsVerdict task x status ⊎ IsStopped task x status
+answered laws call status (replied e) task x asked u h w =
+    let r : Replies call.files task status e.text = the_reply laws.one_task call status e.text e.owed task asked in
+    held_reply laws.programs.one_program call.files.content task x r.subject status e.text h r.found r.says
+answered laws call status (refused e) task x asked u h w = verdict_of laws call status e.text task x u h w (the_refusal laws.one_task call status e.text e.owed task asked)
+answered laws call status (halted e) task x asked u h w =
+    let r : Halts call.files task status e.printed e.text = the_halt laws.one_task call status e.printed e.text e.owed task asked in
+    held_halt laws.programs.one_program call.files.content task x r.subject status e.printed e.text h r.found r.says
+answered laws call status (by_out is e) task x asked u h w = absurd (u.out e.failed)
+answered laws call status (by_err is e) task x asked u h w = absurd (u.err e.failed)
+answered laws call status (no_memory is e) task x asked u h w = inr (inr is)
+
+exact_from : (task : Task) (x : Subject task) (status verdict : Exit) → IsVerdict task x verdict → IsVerdict task x status ⊎ IsStopped task x status
+    → (status ≡ verdict) ⊎ IsStopped task x status
+exact_from task x status verdict v (inl is) = inl (one_verdict task x status verdict is v)
+exact_from task x status verdict v (inr stopped) = inr stopped
+
+-- a task that finds something does not lack it
+found_nothing : (content : Content) (task : Task) (x : Subject task) → LacksFile content task → Finds content task x → ⊥
+found_nothing content (script_check file d goal limit form) x (defined, none) (found, has) = none x.program found
+found_nothing content (page_check file d) x (defined, none) (found, has) = none x.page found
+found_nothing content (script_making n) x lacks found = lacks
+found_nothing content (made_check n) x lacks (size, found, has) = lacks size
+found_nothing content (script_run file request steps) x lacks (found, finds, admitted) = lacks x.program found
+found_nothing content (grammar_making file) x lacks found = lacks x found
+found_nothing content usage x lacks found = lacks
+
+nothing_of : (call : Call) (status : Exit) (text : List ℕ) (task : Task) → IsUndisturbed call → LacksFile call.files.content task → Refuses call.files task status text ⊎ (status ≡ Memory)
+    → Contains (statuses_of_nothing task) status
+nothing_of call status text task u lacks (inl refuses) = of_refusal call.files task status text u.files lacks refuses
+nothing_of call status text task u lacks (inr is) = of_memory call.files task status lacks is
+
+nothing : Laws → (call : Call) (status : Exit) → Ends call status → (task : Task) → AsksFor call.words task → IsUndisturbed call → LacksFile call.files.content task
+    → Contains (statuses_of_nothing task) status
+nothing laws call status (replied e) task asked u lacks =
+    let r : Replies call.files task status e.text = the_reply laws.one_task call status e.text e.owed task asked in
+    absurd (found_nothing call.files.content task r.subject lacks r.found)
+nothing laws call status (refused e) task asked u lacks = nothing_of call status e.text task u lacks (the_refusal laws.one_task call status e.text e.owed task asked)
+nothing laws call status (halted e) task asked u lacks =
+    let r : Halts call.files task status e.printed e.text = the_halt laws.one_task call status e.printed e.text e.owed task asked in
+    absurd (found_nothing call.files.content task r.subject lacks r.found)
+nothing laws call status (by_out is e) task asked u lacks = absurd (u.out e.failed)
+nothing laws call status (by_err is e) task asked u lacks = absurd (u.err e.failed)
+nothing laws call status (no_memory is e) task asked u lacks = of_memory call.files task status lacks is
+
+-- words that ask for nothing
+abbrev Unasked : Exit → Type 0
+Unasked status = Contains (Usage ∷ WriteFault ∷ Memory ∷ []) status
+
+unasked_of : (call : Call) (status : Exit) (text : List ℕ) → Refuses call.files usage status text ⊎ (status ≡ Memory) → Unasked status
+unasked_of call status text (inl (is, text_is)) = subst Unasked (sym is) (0, lit< tt, refl)
+unasked_of call status text (inr is) = subst Unasked (sym is) (2, lit< tt, refl)
+
+unasked : Laws → (call : Call) (status : Exit) → Ends call status → AsksNothing call.words → Unasked status
+unasked laws call status (replied e) none =
+    let r : Replies call.files usage status e.text = the_reply laws.one_task call status e.text e.owed usage (asks_nothing none refl) in absurd r.says
+unasked laws call status (refused e) none = unasked_of call status e.text (the_refusal laws.one_task call status e.text e.owed usage (asks_nothing none refl))
+unasked laws call status (halted e) none =
+    let r : Halts call.files usage status e.printed e.text = the_halt laws.one_task call status e.printed e.text e.owed usage (asks_nothing none refl) in absurd r.says
+unasked laws call status (by_out is e) none = subst Unasked (sym is) (1, lit< tt, refl)
+unasked laws call status (by_err is e) none = subst Unasked (sym is) (1, lit< tt, refl)
+unasked laws call status (no_memory is e) none = subst Unasked (sym is) (2, lit< tt, refl)
+
+-- words that ask for something are not told the usage
+taken_of : (call : Call) (status : Exit) (text : List ℕ) (for : Asked) → Refuses call.files (task_of for) status text ⊎ (status ≡ Memory) → status ≡ Usage → ⊥
+taken_of call status text for (inl refuses) is = asks_more for (sym (told_usage call.files (task_of for) status text refuses is))
+taken_of call status text for (inr wants) is = let same : Memory ≡ Usage = sym wants ∙ is in cc
+
+taken : Laws → (call : Call) (status : Exit) → Ends call status → (for : Asked) → Asks call.words for → status ≡ Usage → ⊥
+taken laws call status (replied e) for asked is =
+    let r : Replies call.files (task_of for) status e.text = the_reply laws.one_task call status e.text e.owed (task_of for) (asks for asked refl) in
+    no_reply (task_of for) r.subject status e.text r.says is
+taken laws call status (refused e) for asked is = taken_of call status e.text for (the_refusal laws.one_task call status e.text e.owed (task_of for) (asks for asked refl)) is
+taken laws call status (halted e) for asked is =
+    let r : Halts call.files (task_of for) status e.printed e.text = the_halt laws.one_task call status e.printed e.text e.owed (task_of for) (asks for asked refl) in
+    no_halt (task_of for) r.subject status e.printed e.text r.says is
+taken laws call status (by_out fault e) for asked is = let same : WriteFault ≡ Usage = sym fault ∙ is in cc
+taken laws call status (by_err fault e) for asked is = let same : WriteFault ≡ Usage = sym fault ∙ is in cc
+taken laws call status (no_memory wants e) for asked is = let same : Memory ≡ Usage = sym wants ∙ is in cc
+
+pub answers : Laws → (call : Call) (status : Exit) → Ends call status → IsAnswered call status
+answers laws call status e = record {
+  answered = answered laws call status e;
+  exact = λ task x verdict asked u h w v. exact_from task x status verdict v (answered laws call status e task x asked u h w);
+  nothing = nothing laws call status e;
+  refused = unasked laws call status e;
+  taken = λ for canonical. taken laws call status e for (laws.canonical call.words for canonical);
+}

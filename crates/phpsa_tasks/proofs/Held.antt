@@ -1,0 +1,236 @@
+-- What the source tells all of is what a task finds, and a reply and a refusal say its verdict.
+use Rattle.std.proofs.Common.{◌≡◌, ◌≤◌, ◌<◌, ◌∙◌, ℕ, List, length, Bool, true, false, None, Some, Option, refl, sym, ap, subst, inl, inr, arith}
+use Rattle.std.specs.Prelude.{◌⊎◌}
+use Rattle.std.proofs.lemmas.Option.{same_Some}
+use Rattle.text_base.specs.declared.limits.TheConstants.{FILE_LIMIT}
+use Rattle.io_edge.specs.Counts.{Rises}
+use Rattle.io_edge.specs.Told.{Tells, HasAtLeast}
+use Rattle.io_edge.specs.Reasons.{HasReason}
+use Rattle.io_edge.specs.declared.files.FileFault.{FileFault}
+use Rattle.io_edge.specs.declared.files.FileFault.TheVariants as reading
+use Rattle.script_meaning.specs.Programs.{PlainProgram}
+use Rattle.script_meaning.specs.Requests.{PlainRequest}
+use Rattle.script_meaning.specs.Runs.{Ended}
+use Rattle.script_meaning.specs.Meaning.{meaning}
+use Rattle.program_files.specs.Source.{SourceCall, source_call}
+use Rattle.program_files.specs.declared.refusal.LoadRefusal.{LoadRefusal}
+use Rattle.program_files.specs.declared.refusal.LoadRefusal.TheVariants as load
+use Rattle.program_loader.specs.Causes.{IsLoadCause}
+use Rattle.told_programs.specs.Told.{Content, IsLoaded, HoldsProgram, AreShort}
+use Rattle.dtd_model.specs.Table.{Table}
+use Rattle.request_reading.specs.Outcome.{Outcome, not_json, not_request, not_admitted, asked, outcome}
+use Rattle.request_reading.specs.Causes.{IsCause}
+use Rattle.request_reading.specs.declared.refusal.RequestRefusal.{RequestRefusal}
+use Rattle.request_reading.specs.declared.refusal.RequestRefusal.TheVariants as asking
+use Rattle.dtd_reader.specs.declared.refusal.DtdRefusal.{DtdRefusal}
+use Rattle.document_types.specs.DocumentTypes.{NamedType, strict_type, HasTable}
+use Rattle.document_types.specs.declared.refusal.DefinitionRefusal.{DefinitionRefusal}
+use Rattle.document_types.specs.declared.refusal.DefinitionRefusal.TheVariants as definition
+use Rattle.document_types.proofs.OneTable.{same_table}
+use Rattle.document_types.proofs.ForMemory.{IsWant, for_memory}
+use Rattle.page_goals.specs.declared.goal.Goal.{Goal}
+use Rattle.program_literals.specs.Short.{HasLongText}
+use Rattle.script_decision.specs.Decision.{HasManyStates}
+use Rattle.shown_answers.specs.declared.answer.ShownAnswer.{ShownAnswer}
+use Rattle.shown_answers.specs.Shown.{IsShownAnswer}
+use Rattle.phpsa_texts.specs.declared.exit.Exit.{Exit}
+use Rattle.phpsa_texts.specs.declared.exit.Exit.TheVariants.{Memory}
+use Rattle.phpsa_texts.specs.Statuses.{judgment_status, load_status, file_status, request_status, definition_status}
+use Rattle.phpsa_tasks.specs.Tasks.{Task, script_check, page_check, script_making, made_check, script_run, grammar_making, usage}
+use Rattle.phpsa_tasks.specs.Requests.{no_request, FindsRequest, HoldsRequest, unread, no_request_in, RefusesRequest}
+use Rattle.phpsa_tasks.specs.Subjects.{ProgramBy, PageBy, ProgramFor, Subject, made_name, only_made, Finds, HoldsShortProgram, HoldsShortPage, HoldsTable, Holds, IsSmall, IsWithin}
+use Rattle.phpsa_tasks.specs.Replies.{answer_status, end_status, HasManyItems, IsJudged, IsReplyOf, IsHaltOf}
+use Rattle.phpsa_tasks.specs.Causes.{definition_call, RefusesDefinition, not_defined, many_states, RefusesScript, not_loaded, lacks_definition, has_long_text, not_read, page_lacks_definition, no_size, made_refused, Refuses}
+use Rattle.phpsa_tasks.specs.Answered.{IsScriptVerdict, PassesScriptLimit, PassesGrammarLimit, IsVerdict, PassesLimit, IsStopped}
+use Rattle.phpsa_tasks.specs.declared.task.TheConstants.{PAIR_LIMIT}
+
+-- a source that tells of each name that a program reads holds one, which is not refused but for want of memory
+pub record ProgramLaws : Type 0 where
+  pub one_program : (content : Content) (name : List ℕ) (program other : PlainProgram) → HoldsProgram content name program → IsLoaded content name other → program ≡ other
+  pub not_refused : (call : SourceCall) (name : List ℕ) (program : PlainProgram) (refusal : LoadRefusal) → (h : HoldsProgram call.content name program) → AreShort h.held name
+      → (Rises call.faults call.faults' → ⊥) → IsLoadCause call name refusal → refusal ≡ load.Memory
+
+abbrev pub OneProgram : Type 0
+OneProgram = (content : Content) (name : List ℕ) (program other : PlainProgram) → HoldsProgram content name program → IsLoaded content name other → program ≡ other
+
+one_content : (content : Content) (file bytes other : List ℕ) → content file ≡ Some (Some bytes) → Tells (content file) (Some other) → bytes ≡ other
+one_content content file bytes other held told =
+    let same : Tells (Some (Some bytes)) (Some other) = subst (λ (x : Option (Option (List ℕ))). Tells x (Some other)) held told in
+    same_Some bytes other same
+
+-- the status of an answer is the verdict of the program, or says that a count was passed
+answer_verdict : (goal : Goal) (table : Table) (program : PlainProgram) (limit : ℕ) (answer : ShownAnswer) → IsShownAnswer goal table program limit answer
+    → IsScriptVerdict goal table program (answer_status answer) ⊎ PassesScriptLimit goal table program limit (answer_status answer)
+answer_verdict goal table program limit ShownAnswer.Yes is = inl is
+answer_verdict goal table program limit (ShownAnswer.No shown) is = inl (is.page, is.loose, is.bad)
+answer_verdict goal table program limit (ShownAnswer.Pairs count height) is = inr (ShownAnswer.Pairs count height, is, refl)
+answer_verdict goal table program limit (ShownAnswer.Tags count height) is = inr (ShownAnswer.Tags count height, is, refl)
+answer_verdict goal table program limit (ShownAnswer.Items count) is = inr (ShownAnswer.Items count, is, refl)
+
+script_verdict : (goal : Goal) (table : Table) (program : PlainProgram) (limit : ℕ) (answer : ShownAnswer) (status : Exit) → status ≡ answer_status answer
+    → IsShownAnswer goal table program limit answer → IsScriptVerdict goal table program status ⊎ PassesScriptLimit goal table program limit status
+script_verdict goal table program limit answer status status_is is =
+    subst (λ (s : Exit). IsScriptVerdict goal table program s ⊎ PassesScriptLimit goal table program limit s) (sym status_is) (answer_verdict goal table program limit answer is)
+
+judgment_verdict : (file : List ℕ) (d : NamedType) (x : PageBy) (valid : Bool) → IsJudged x.table x.page valid → IsVerdict (page_check file d) x (judgment_status valid)
+judgment_verdict file d x true is = is
+judgment_verdict file d x false is = is
+
+-- what is so of the program and the table that are found is so of those that are held
+pub own_program : OneProgram → (content : Content) (file : List ℕ) (d : NamedType) (x y : ProgramBy) → HoldsShortProgram content file x.program → HoldsTable content d x.table
+    → IsLoaded content file y.program → HasTable content d y.table → (P : PlainProgram → Table → Type 0) → P y.program y.table → P x.program x.table
+own_program one content file d x y h t found has P is =
+    subst (λ (p : PlainProgram). P p x.table) (sym (one content file x.program y.program h.holds found))
+    (subst (λ (s : Table). P y.program s) (sym (same_table content d x.table y.table t.told t.has has)) is)
+
+-- and so of the page
+pub own_page : (content : Content) (file : List ℕ) (d : NamedType) (x y : PageBy) → HoldsShortPage content file x.page → HoldsTable content d x.table
+    → Tells (content file) (Some y.page) → HasTable content d y.table → (P : List ℕ → Table → Type 0) → P y.page y.table → P x.page x.table
+own_page content file d x y h t found has P is =
+    subst (λ (p : List ℕ). P p x.table) (sym (one_content content file x.page y.page h.told found))
+    (subst (λ (s : Table). P y.page s) (sym (same_table content d x.table y.table t.told t.has has)) is)
+
+-- the request of an outcome
+abbrev asked_of : Outcome → PlainRequest
+asked_of not_json = no_request
+asked_of not_request = no_request
+asked_of (not_admitted path) = no_request
+asked_of (asked request) = request
+
+-- and so of the program and the request of a run
+pub own_request : (content : Content) (request : Option (List ℕ)) (x y : PlainRequest) → HoldsRequest content request x → FindsRequest content request y → x ≡ y
+own_request content None x y held found = held ∙ sym found
+own_request content (Some name) x y held (bytes, told, is) =
+    let same : held.bytes ≡ bytes = one_content content name held.bytes bytes held.told told in
+    ap asked_of (sym held.is ∙ ap outcome same ∙ is)
+
+pub own_run : OneProgram → (content : Content) (file : List ℕ) (request : Option (List ℕ)) (x y : ProgramFor) → HoldsShortProgram content file x.program
+    → HoldsRequest content request x.request → IsLoaded content file y.program → FindsRequest content request y.request
+    → (P : PlainProgram → PlainRequest → Type 0) → P y.program y.request → P x.program x.request
+own_run one content file request x y h r found finds P is =
+    subst (λ (p : PlainProgram). P p x.request) (sym (one content file x.program y.program h.holds found))
+    (subst (λ (q : PlainRequest). P y.program q) (sym (own_request content request x.request y.request r finds)) is)
+
+-- a limit that is passed stops the task
+stopped : (task : Task) (x : Subject task) (status : Exit) → IsVerdict task x status ⊎ PassesLimit task x status → IsVerdict task x status ⊎ IsStopped task x status
+stopped task x status (inl is) = inl is
+stopped task x status (inr is) = inr (inl is)
+
+-- a reply says the verdict of what the source holds, or that a limit was passed
+pub held_reply : OneProgram → (content : Content) (task : Task) (x y : Subject task) (status : Exit) (text : List ℕ) → Holds content task x → Finds content task y
+    → IsReplyOf task y status text → IsVerdict task x status ⊎ IsStopped task x status
+held_reply one content (script_check file d goal limit form) x y status text (h, t) (found, has) (answer, is, status_is, text_is) =
+    stopped (script_check file d goal limit form) x status
+    (script_verdict goal x.table x.program limit answer status status_is
+    (own_program one content file d x y h t found has (λ (p : PlainProgram) (s : Table). IsShownAnswer goal s p limit answer) is.0))
+held_reply one content (page_check file d) x y status text (h, t) (found, has) (valid, is, status_is, text_is) =
+    inl (subst (IsVerdict (page_check file d) x) (sym status_is)
+    (judgment_verdict file d x valid (own_page content file d x y h t found has (λ (p : List ℕ) (s : Table). IsJudged s p valid) is)))
+held_reply one content (script_making n) x y status text h f (size, status_is, text_is) = inl (subst (IsVerdict (script_making n) tt) (sym status_is) size)
+held_reply one content (made_check n) x y status text (size, h, t) (size', found, has) (answer, is, status_is, text_is) =
+    stopped (made_check n) x status
+    (script_verdict Goal.Valid x.table x.program PAIR_LIMIT answer status status_is
+    (own_program one (only_made n) made_name strict_type x y h t found has (λ (p : PlainProgram) (s : Table). IsShownAnswer Goal.Valid s p PAIR_LIMIT answer) is.0))
+held_reply one content (script_run file request steps) x y status text (h, r) (found, finds, admitted) (ended, status_is, text_is) =
+    inl (status_is ∙ ap end_status (sym (own_run one content file request x y h r found finds (λ (p : PlainProgram) (q : PlainRequest). (meaning p q steps).end ≡ Ended) ended)))
+held_reply one content (grammar_making file) x y status text h found (inl (written, status_is)) = inl (subst (IsVerdict (grammar_making file) x) (sym status_is) tt)
+held_reply one content (grammar_making file) x y status text h found (inr (count, many, status_is, text_is)) =
+    let own : HasManyItems x count = subst (λ (p : PlainProgram). HasManyItems p count) (sym (one content file x y h.holds found)) many in
+    inr (inl (subst (PassesGrammarLimit x) (sym status_is) (count, own)))
+held_reply one content usage x y status text h f r = absurd r
+
+-- and so does a run that does not come to its end
+pub held_halt : OneProgram → (content : Content) (task : Task) (x y : Subject task) (status : Exit) (printed text : List ℕ) → Holds content task x → Finds content task y
+    → IsHaltOf task y status printed text → IsVerdict task x status ⊎ IsStopped task x status
+held_halt one content (script_check file d goal limit form) x y status printed text h f r = absurd r
+held_halt one content (page_check file d) x y status printed text h f r = absurd r
+held_halt one content (script_making n) x y status printed text h f r = absurd r
+held_halt one content (made_check n) x y status printed text h f r = absurd r
+held_halt one content (script_run file request steps) x y status printed text (h, r) (found, finds, admitted) (early, status_is, printed_is, text_is) =
+    inl (own_run one content file request x y h r found finds (λ (p : PlainProgram) (q : PlainRequest). status ≡ end_status (meaning p q steps).end) status_is)
+held_halt one content (grammar_making file) x y status printed text h f r = absurd r
+held_halt one content usage x y status printed text h f r = absurd r
+
+-- a page that is told of and short is read
+not_missing : (content : Content) (file page : List ℕ) → content file ≡ Some (Some page) → Tells (content file) None → ⊥
+not_missing content file page told none =
+    let same : Tells (Some (Some page)) None = subst (λ (x : Option (Option (List ℕ))). Tells x None) told none in
+    cc
+
+not_long : (content : Content) (file page : List ℕ) (len : ℕ) → content file ≡ Some (Some page) → length page ≤ FILE_LIMIT → FILE_LIMIT < len → HasAtLeast (content file) len → ⊥
+not_long content file page len told short over least =
+    let at : HasAtLeast (Some (Some page)) len = subst (λ (x : Option (Option (List ℕ))). HasAtLeast x len) told least in
+    omega (arith, at, over, short)
+
+file_memory : (files : SourceCall) (file page : List ℕ) (f : FileFault) → HoldsShortPage files.content file page → (Rises files.faults files.faults' → ⊥)
+    → HasReason (files.content file) files.faults files.faults' files.misses files.misses' f → file_status f ≡ Memory
+file_memory files file page reading.Missing h calm (rises, none) = absurd (not_missing files.content file page h.told none)
+file_memory files file page reading.Failed h calm rises = absurd (calm rises)
+file_memory files file page (reading.TooLong len) h calm (over, least) = absurd (not_long files.content file page len h.told h.short over least)
+file_memory files file page reading.Memory h calm free = refl
+
+-- a request that is held is refused for want of memory alone
+asked_memory : (refusal : RequestRefusal) (o : Outcome) (x : PlainRequest) → o ≡ asked x → IsCause refusal o → request_status refusal ≡ Memory
+asked_memory asking.NotJson o x is why = let same : not_json ≡ asked x = sym why ∙ is in absurd cc
+asked_memory asking.NotRequest o x is why = let same : not_request ≡ asked x = sym why ∙ is in absurd cc
+asked_memory (asking.NotAdmitted path) o x is why = let same : not_admitted path ≡ asked x = sym why ∙ is in absurd cc
+asked_memory asking.Memory o x is why = refl
+
+request_memory : (files : SourceCall) (request : Option (List ℕ)) (x : PlainRequest) (status : Exit) (text : List ℕ) → HoldsRequest files.content request x
+    → (Rises files.faults files.faults' → ⊥) → RefusesRequest files request status text → status ≡ Memory
+request_memory files None x status text held calm why = absurd why
+request_memory files (Some name) x status text held calm (unread fault why is text_is) =
+    is ∙ file_memory files name held.bytes fault (record { told = held.told; short = held.short }) calm why
+request_memory files (Some name) x status text held calm (no_request_in bytes refusal told why is text_is) =
+    let same : bytes ≡ held.bytes = sym (one_content files.content name held.bytes bytes held.told told) in
+    is ∙ asked_memory refusal (outcome bytes) x (ap outcome same ∙ held.is) why
+
+want_status : (cause : DefinitionRefusal) → IsWant cause → definition_status cause ≡ Memory
+want_status (definition.File fault) is = ap (λ (f : DtdRefusal). definition_status (definition.File f)) is
+want_status (definition.BuiltIn fault) is = ap (λ (f : DtdRefusal). definition_status (definition.BuiltIn f)) is
+want_status definition.Memory is = refl
+
+-- a definition that is held within its limits is refused for want of memory alone
+pub definition_memory : (files : SourceCall) (d : NamedType) (table : Table) (status : Exit) (text : List ℕ) → HoldsTable files.content d table → IsSmall files.content d table
+    → (Rises files.faults files.faults' → ⊥) → RefusesDefinition files d status text → status ≡ Memory
+definition_memory files d table status text t w calm (not_defined cause why status_is text_is) =
+    status_is ∙ want_status cause (for_memory (definition_call files) d table cause t.told w.short w.small t.has calm why)
+definition_memory files d table status text t w calm (many_states found count has many status_is text_is) =
+    absurd (w.few count (subst (λ (s : Table). HasManyStates s count) (same_table files.content d found table t.told has t.has) many))
+
+-- a count of 0 has not risen
+never : Rises 0 0 → ⊥
+never rises = let one : 1 ≤ 0 = rises in omega (arith, one)
+
+-- a script that is held is refused for a long text, or for want of memory
+held_script : ProgramLaws → (files : SourceCall) (file : List ℕ) (d : NamedType) (goal : Goal) (limit : ℕ) (x : ProgramBy) (status : Exit) (text : List ℕ)
+    → (Rises files.faults files.faults' → ⊥) → HoldsShortProgram files.content file x.program → HoldsTable files.content d x.table → IsSmall files.content d x.table
+    → RefusesScript files file d status text → PassesScriptLimit goal x.table x.program limit status ⊎ (status ≡ Memory)
+held_script laws files file d goal limit x status text calm h t w (not_loaded cause why status_is text_is) =
+    inr (status_is ∙ ap load_status (laws.not_refused files file x.program cause h.holds h.short calm why))
+held_script laws files file d goal limit x status text calm h t w (lacks_definition why) = inr (definition_memory files d x.table status text t w calm why)
+held_script laws files file d goal limit x status text calm h t w (has_long_text program found long status_is text_is) =
+    let own : HasLongText x.program = subst HasLongText (sym (laws.one_program files.content file x.program program h.holds found)) long in
+    inl (subst (PassesScriptLimit goal x.table x.program limit) (sym status_is) own)
+
+-- a refusal says the verdict of what the source holds, that a limit was passed, or want of memory
+pub held_refusal : ProgramLaws → (files : SourceCall) (task : Task) (x : Subject task) (status : Exit) (text : List ℕ) → (Rises files.faults files.faults' → ⊥)
+    → Holds files.content task x → IsWithin files.content task x → Refuses files task status text → IsVerdict task x status ⊎ IsStopped task x status
+held_refusal laws files (script_check file d goal limit form) x status text calm (h, t) w why = inr (held_script laws files file d goal limit x status text calm h t w why)
+held_refusal laws files (page_check file d) x status text calm (h, t) w (not_read fault why status_is text_is) =
+    inr (inr (status_is ∙ file_memory files file x.page fault h calm why))
+held_refusal laws files (page_check file d) x status text calm (h, t) w (page_lacks_definition why) = inr (inr (definition_memory files d x.table status text t w calm why))
+held_refusal laws files (script_making n) x status text calm h w (size, status_is, text_is) = inl (subst (IsVerdict (script_making n) tt) (sym status_is) size)
+held_refusal laws files (made_check n) x status text calm (size, h, t) w (no_size none status_is text_is) = absurd (none size)
+held_refusal laws files (made_check n) x status text calm (size, h, t) w (made_refused size' misses reads why) =
+    inr (held_script laws (source_call (only_made n) 0 0 0 misses 0 reads) made_name strict_type Goal.Valid PAIR_LIMIT x status text never h t w why)
+held_refusal laws files (script_run file request steps) x status text calm (h, r) w (inl (cause, why, status_is, text_is)) =
+    inr (inr (status_is ∙ ap load_status (laws.not_refused files file x.program cause h.holds h.short calm why)))
+held_refusal laws files (script_run file request steps) x status text calm (h, r) w (inr (program, found, why)) =
+    inr (inr (request_memory files request x.request status text r calm why))
+held_refusal laws files (grammar_making file) x status text calm h w (inl (cause, why, status_is, text_is)) =
+    inr (inr (status_is ∙ ap load_status (laws.not_refused files file x cause h.holds h.short calm why)))
+held_refusal laws files (grammar_making file) x status text calm h w (inr (program, found, long, status_is, text_is)) =
+    let own : HasLongText x = subst HasLongText (sym (laws.one_program files.content file x program h.holds found)) long in
+    inr (inl (subst (PassesGrammarLimit x) (sym status_is) own))
+held_refusal laws files usage x status text calm h w (status_is, text_is) = inl (subst (IsVerdict usage tt) (sym status_is) tt)

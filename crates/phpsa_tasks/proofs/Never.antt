@@ -1,0 +1,194 @@
+-- No refusal has the status of a task that is done, and the usage is told of words that ask for nothing alone.
+use Rattle.std.proofs.Common.{◌≡◌, ◌∙◌, ℕ, List, Option, None, Some, true, false, inl, inr, refl, sym, subst}
+use Rattle.plain_values.specs.declared.fault.Fault.{Fault}
+use Rattle.plain_values.specs.declared.fault.Fault.TheVariants as fault
+use Rattle.script_meaning.specs.Runs as runs
+use Rattle.io_edge.specs.declared.files.FileFault.{FileFault}
+use Rattle.io_edge.specs.declared.files.FileFault.TheVariants as reading
+use Rattle.program_files.specs.Source.{SourceCall, source_call}
+use Rattle.program_files.specs.declared.refusal.LoadRefusal.{LoadRefusal}
+use Rattle.program_files.specs.declared.refusal.LoadRefusal.TheVariants as load
+use Rattle.request_reading.specs.declared.refusal.RequestRefusal.{RequestRefusal}
+use Rattle.request_reading.specs.declared.refusal.RequestRefusal.TheVariants as asking
+use Rattle.dtd_reader.specs.declared.refusal.DtdRefusal.{DtdRefusal}
+use Rattle.dtd_reader.specs.declared.refusal.DtdRefusal.TheVariants as dtd
+use Rattle.document_types.specs.DocumentTypes.{NamedType, strict_type}
+use Rattle.document_types.specs.declared.refusal.DefinitionRefusal.{DefinitionRefusal}
+use Rattle.document_types.specs.declared.refusal.DefinitionRefusal.TheVariants as definition
+use Rattle.shown_answers.specs.declared.answer.ShownAnswer.{ShownAnswer}
+use Rattle.command_words.specs.Asked.{Asked, check, run, page, grammar, make}
+use Rattle.phpsa_texts.specs.declared.exit.Exit.{Exit}
+use Rattle.phpsa_texts.specs.declared.exit.Exit.TheVariants.{Done, Usage}
+use Rattle.phpsa_texts.specs.declared.exit.Exit.TheVariants as exit
+use Rattle.phpsa_texts.specs.Statuses.{judgment_status, fault_status, load_status, file_status, request_status, dtd_status, built_in_status, definition_status}
+use Rattle.phpsa_tasks.specs.Tasks.{Task, script_check, page_check, script_making, made_check, script_run, grammar_making, usage, task_of}
+use Rattle.phpsa_tasks.specs.Requests.{unread, no_request_in, RefusesRequest}
+use Rattle.phpsa_tasks.specs.Subjects.{Subject, made_name, only_made}
+use Rattle.phpsa_tasks.specs.Replies.{answer_status, end_status, IsReplyOf, IsHaltOf}
+use Rattle.phpsa_tasks.specs.Written.{IsDone}
+use Rattle.phpsa_tasks.specs.Causes.{RefusesDefinition, not_defined, many_states, RefusesScript, not_loaded, lacks_definition, has_long_text, RefusesPage, not_read, page_lacks_definition, RefusesMade, no_size, made_refused, Refuses}
+
+-- neither status of a task that is done, nor that of the usage
+abbrev pub IsOther : Exit → Type 0
+IsOther Done = ⊥
+IsOther exit.Fault = ⊥
+IsOther exit.Spent = ⊥
+IsOther exit.Deep = ⊥
+IsOther Usage = ⊥
+IsOther status = Unit {0}
+
+of_load : (cause : LoadRefusal) → IsOther (load_status cause)
+of_load (load.Missing name) = tt
+of_load (load.ReadFault name) = tt
+of_load (load.TooLong name len) = tt
+of_load (load.Script name fault) = tt
+of_load (load.IncludeCycle name) = tt
+of_load (load.DoubleFunction name) = tt
+of_load (load.UnknownFunction name) = tt
+of_load (load.Arity name) = tt
+of_load (load.TooMany count) = tt
+of_load load.Memory = tt
+
+of_file : (f : FileFault) → IsOther (file_status f)
+of_file reading.Missing = tt
+of_file reading.Failed = tt
+of_file (reading.TooLong len) = tt
+of_file reading.Memory = tt
+
+of_dtd : (refusal : DtdRefusal) → IsOther (dtd_status refusal)
+of_dtd (dtd.Missing name) = tt
+of_dtd (dtd.ReadFault name) = tt
+of_dtd (dtd.TooLong name len) = tt
+of_dtd dtd.Memory = tt
+of_dtd (dtd.NotDtd at) = tt
+of_dtd (dtd.Entity name) = tt
+of_dtd (dtd.Twice name) = tt
+of_dtd (dtd.Undeclared name) = tt
+of_dtd (dtd.LeftOut at) = tt
+of_dtd (dtd.Limit count) = tt
+
+of_built_in : (refusal : DtdRefusal) → IsOther (built_in_status refusal)
+of_built_in dtd.Memory = tt
+of_built_in _ = tt
+
+of_defining : (cause : DefinitionRefusal) → IsOther (definition_status cause)
+of_defining (definition.File fault) = of_dtd fault
+of_defining (definition.BuiltIn fault) = of_built_in fault
+of_defining definition.Memory = tt
+
+of_definition : (files : SourceCall) (d : NamedType) (status : Exit) (text : List ℕ) → RefusesDefinition files d status text → IsOther status
+of_definition files d status text (not_defined cause why is text_is) = subst IsOther (sym is) (of_defining cause)
+of_definition files d status text (many_states table count has many is text_is) = subst IsOther (sym is) tt
+
+of_script : (files : SourceCall) (file : List ℕ) (d : NamedType) (status : Exit) (text : List ℕ) → RefusesScript files file d status text → IsOther status
+of_script files file d status text (not_loaded cause why is text_is) = subst IsOther (sym is) (of_load cause)
+of_script files file d status text (lacks_definition why) = of_definition files d status text why
+of_script files file d status text (has_long_text program found long is text_is) = subst IsOther (sym is) tt
+
+of_page : (files : SourceCall) (file : List ℕ) (d : NamedType) (status : Exit) (text : List ℕ) → RefusesPage files file d status text → IsOther status
+of_page files file d status text (not_read fault why is text_is) = subst IsOther (sym is) (of_file fault)
+of_page files file d status text (page_lacks_definition why) = of_definition files d status text why
+
+of_made : (n : ℕ) (status : Exit) (text : List ℕ) → RefusesMade n status text → IsOther status
+of_made n status text (no_size size is text_is) = subst IsOther (sym is) tt
+of_made n status text (made_refused size misses reads why) = of_script (source_call (only_made n) 0 0 0 misses 0 reads) made_name strict_type status text why
+
+of_asking : (refusal : RequestRefusal) → IsOther (request_status refusal)
+of_asking asking.NotJson = tt
+of_asking asking.NotRequest = tt
+of_asking (asking.NotAdmitted path) = tt
+of_asking asking.Memory = tt
+
+of_request : (files : SourceCall) (request : Option (List ℕ)) (status : Exit) (text : List ℕ) → RefusesRequest files request status text → IsOther status
+of_request files None status text why = absurd why
+of_request files (Some name) status text (unread fault why is text_is) = subst IsOther (sym is) (of_file fault)
+of_request files (Some name) status text (no_request_in bytes refusal told why is text_is) = subst IsOther (sym is) (of_asking refusal)
+
+not_done : (status : Exit) → IsOther status → IsDone status → ⊥
+not_done Done other done = other
+not_done exit.Fault other done = other
+not_done exit.Spent other done = other
+not_done exit.Deep other done = other
+not_done _ other done = done
+
+not_usage : (status : Exit) → IsOther status → status ≡ Usage → ⊥
+not_usage status is e = subst IsOther e is
+
+pub never_done : (files : SourceCall) (task : Task) (status : Exit) (text : List ℕ) → Refuses files task status text → IsDone status → ⊥
+never_done files (script_check file d goal limit form) status text why e = not_done status (of_script files file d status text why) e
+never_done files (page_check file d) status text why e = not_done status (of_page files file d status text why) e
+never_done files (script_making n) status text (size, is, text_is) e = subst IsDone is e
+never_done files (made_check n) status text why e = not_done status (of_made n status text why) e
+never_done files (script_run file request steps) status text (inl (cause, why, is, text_is)) e = not_done status (subst IsOther (sym is) (of_load cause)) e
+never_done files (script_run file request steps) status text (inr (program, found, why)) e = not_done status (of_request files request status text why) e
+never_done files (grammar_making file) status text (inl (cause, why, is, text_is)) e = not_done status (subst IsOther (sym is) (of_load cause)) e
+never_done files (grammar_making file) status text (inr (program, found, long, is, text_is)) e = subst IsDone is e
+never_done files usage status text (is, text_is) e = subst IsDone is e
+
+pub told_usage : (files : SourceCall) (task : Task) (status : Exit) (text : List ℕ) → Refuses files task status text → status ≡ Usage → task ≡ usage
+told_usage files (script_check file d goal limit form) status text why e = absurd (not_usage status (of_script files file d status text why) e)
+told_usage files (page_check file d) status text why e = absurd (not_usage status (of_page files file d status text why) e)
+told_usage files (script_making n) status text (size, is, text_is) e = let same : exit.Input ≡ Usage = sym is ∙ e in absurd cc
+told_usage files (made_check n) status text why e = absurd (not_usage status (of_made n status text why) e)
+told_usage files (script_run file request steps) status text (inl (cause, why, is, text_is)) e = absurd (not_usage status (subst IsOther (sym is) (of_load cause)) e)
+told_usage files (script_run file request steps) status text (inr (program, found, why)) e = absurd (not_usage status (of_request files request status text why) e)
+told_usage files (grammar_making file) status text (inl (cause, why, is, text_is)) e = absurd (not_usage status (subst IsOther (sym is) (of_load cause)) e)
+told_usage files (grammar_making file) status text (inr (program, found, long, is, text_is)) e = let same : exit.Input ≡ Usage = sym is ∙ e in absurd cc
+told_usage files usage status text why e = refl
+
+no_answer : (answer : ShownAnswer) → answer_status answer ≡ Usage → ⊥
+no_answer ShownAnswer.Yes e = cc
+no_answer (ShownAnswer.No shown) e = cc
+no_answer (ShownAnswer.Pairs count height) e = cc
+no_answer (ShownAnswer.Tags count height) e = cc
+no_answer (ShownAnswer.Items count) e = cc
+
+no_judgment : (valid : _) → judgment_status valid ≡ Usage → ⊥
+no_judgment true e = cc
+no_judgment false e = cc
+
+pub no_reply : (task : Task) (x : Subject task) (status : Exit) (text : List ℕ) → IsReplyOf task x status text → status ≡ Usage → ⊥
+no_reply (script_check file d goal limit form) x status text (answer, says, is, text_is) e = no_answer answer (sym is ∙ e)
+no_reply (page_check file d) x status text (valid, says, is, text_is) e = no_judgment valid (sym is ∙ e)
+no_reply (script_making n) x status text (size, is, text_is) e = let same : Done ≡ Usage = sym is ∙ e in cc
+no_reply (made_check n) x status text (answer, says, is, text_is) e = no_answer answer (sym is ∙ e)
+no_reply (script_run file request steps) x status text (ended, is, text_is) e = let same : Done ≡ Usage = sym is ∙ e in cc
+no_reply (grammar_making file) x status text (inl (written, is)) e = let same : Done ≡ Usage = sym is ∙ e in cc
+no_reply (grammar_making file) x status text (inr (count, many, is, text_is)) e = let same : exit.Undecided ≡ Usage = sym is ∙ e in cc
+no_reply usage x status text r e = r
+
+no_fault : (f : Fault) → fault_status f ≡ Usage → ⊥
+no_fault fault.Float e = cc
+no_fault fault.NotNumber e = cc
+no_fault fault.BadIndex e = cc
+no_fault fault.Compare e = cc
+no_fault fault.Full e = cc
+no_fault fault.NotUtf8 e = cc
+no_fault fault.ZeroDivisor e = cc
+no_fault fault.WrongType e = cc
+no_fault fault.Long e = cc
+no_fault fault.Memory e = cc
+
+no_end : (how : runs.End) → end_status how ≡ Usage → ⊥
+no_end runs.Ended e = cc
+no_end (runs.Faulted f) e = no_fault f e
+no_end runs.Spent e = cc
+no_end runs.Deep e = cc
+
+pub no_halt : (task : Task) (x : Subject task) (status : Exit) (printed text : List ℕ) → IsHaltOf task x status printed text → status ≡ Usage → ⊥
+no_halt (script_check file d goal limit form) x status printed text r e = r
+no_halt (page_check file d) x status printed text r e = r
+no_halt (script_making n) x status printed text r e = r
+no_halt (made_check n) x status printed text r e = r
+no_halt (script_run file request steps) x status printed text (early, is, printed_is, text_is) e = no_end _ (sym is ∙ e)
+no_halt (grammar_making file) x status printed text r e = r
+no_halt usage x status printed text r e = r
+
+-- what words ask for is more than the usage
+pub asks_more : (for : Asked) → usage ≡ task_of for → ⊥
+asks_more (check file definition limit by_nesting as_json) e = cc
+asks_more (run file request steps) e = cc
+asks_more (page file definition) e = cc
+asks_more (grammar file) e = cc
+asks_more (make functions true) e = cc
+asks_more (make functions false) e = cc

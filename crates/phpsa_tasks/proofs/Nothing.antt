@@ -1,0 +1,73 @@
+-- The statuses of a task that finds nothing under the file's name.
+use Rattle.std.proofs.Common.{◌≡◌, ℕ, List, [], ◌∷◌, inl, inr, refl, sym, subst, lit<, Contains}
+use Rattle.io_edge.specs.Counts.{Rises}
+use Rattle.io_edge.specs.Reasons.{HasReason}
+use Rattle.io_edge.specs.declared.files.FileFault.{FileFault}
+use Rattle.io_edge.specs.declared.files.FileFault.TheVariants as reading
+use Rattle.program_files.specs.Source.{SourceCall}
+use Rattle.program_files.specs.declared.refusal.LoadRefusal.{LoadRefusal}
+use Rattle.program_files.specs.declared.refusal.LoadRefusal.TheVariants as load
+use Rattle.program_loader.specs.Causes.{IsLoadCause}
+use Rattle.document_types.specs.DocumentTypes.{NamedType}
+use Rattle.phpsa_texts.specs.declared.exit.Exit.{Exit}
+use Rattle.phpsa_texts.specs.declared.exit.Exit.TheVariants.{Missing, Script, Input, Memory}
+use Rattle.phpsa_texts.specs.Statuses.{load_status, file_status}
+use Rattle.phpsa_tasks.specs.Tasks.{Task, script_check, page_check, script_making, made_check, script_run, grammar_making, usage}
+use Rattle.phpsa_tasks.specs.Subjects.{LacksFile}
+use Rattle.phpsa_tasks.specs.Causes.{not_loaded, lacks_definition, has_long_text, not_read, page_lacks_definition, no_size, made_refused, Refuses}
+use Rattle.phpsa_tasks.specs.Answered.{statuses_of_nothing}
+use Rattle.phpsa_tasks.proofs.Held.{definition_memory}
+
+abbrev pub Among : Task → Exit → Type 0
+Among task status = Contains (statuses_of_nothing task) status
+
+-- those of a program that is not loaded
+of_load : (files : SourceCall) (file : List ℕ) (cause : LoadRefusal) → (Rises files.faults files.faults' → ⊥) → IsLoadCause files file cause
+    → Contains (Missing ∷ Script ∷ Input ∷ Memory ∷ []) (load_status cause)
+of_load files file (load.Missing path) calm why = (0, lit< tt, refl)
+of_load files file (load.ReadFault path) calm (named, (stops, rises, misses)) = absurd (calm rises)
+of_load files file (load.TooLong path len) calm why = (2, lit< tt, refl)
+of_load files file (load.Script path fault) calm why = (1, lit< tt, refl)
+of_load files file (load.IncludeCycle path) calm why = (1, lit< tt, refl)
+of_load files file (load.DoubleFunction function) calm why = (1, lit< tt, refl)
+of_load files file (load.UnknownFunction function) calm why = (1, lit< tt, refl)
+of_load files file (load.Arity function) calm why = (1, lit< tt, refl)
+of_load files file (load.TooMany count) calm why = (2, lit< tt, refl)
+of_load files file load.Memory calm why = (3, lit< tt, refl)
+
+of_file : (files : SourceCall) (file : List ℕ) (d : NamedType) (f : FileFault) → (Rises files.faults files.faults' → ⊥)
+    → HasReason (files.content file) files.faults files.faults' files.misses files.misses' f → Among (page_check file d) (file_status f)
+of_file files file d reading.Missing calm why = (0, lit< tt, refl)
+of_file files file d reading.Failed calm rises = absurd (calm rises)
+of_file files file d (reading.TooLong len) calm why = (1, lit< tt, refl)
+of_file files file d reading.Memory calm why = (2, lit< tt, refl)
+
+-- want of memory is one of them
+pub of_memory : (files : SourceCall) (task : Task) (status : Exit) → LacksFile files.content task → status ≡ Memory → Among task status
+of_memory files (script_check file d goal limit form) status lacks is = subst (Among (script_check file d goal limit form)) (sym is) (3, lit< tt, refl)
+of_memory files (page_check file d) status lacks is = subst (Among (page_check file d)) (sym is) (2, lit< tt, refl)
+of_memory files (script_making n) status lacks is = absurd lacks
+of_memory files (made_check n) status lacks is = subst (Among (made_check n)) (sym is) (1, lit< tt, refl)
+of_memory files (script_run file request steps) status lacks is = subst (Among (script_run file request steps)) (sym is) (3, lit< tt, refl)
+of_memory files (grammar_making file) status lacks is = subst (Among (grammar_making file)) (sym is) (3, lit< tt, refl)
+of_memory files usage status lacks is = absurd lacks
+
+pub of_refusal : (files : SourceCall) (task : Task) (status : Exit) (text : List ℕ) → (Rises files.faults files.faults' → ⊥) → LacksFile files.content task → Refuses files task status text
+    → Among task status
+of_refusal files (script_check file d goal limit form) status text calm lacks (not_loaded cause why is text_is) =
+    subst (Among (script_check file d goal limit form)) (sym is) (of_load files file cause calm why)
+of_refusal files (script_check file d goal limit form) status text calm ((table, t, w), none) (lacks_definition why) =
+    of_memory files (script_check file d goal limit form) status ((table, t, w), none) (definition_memory files d table status text t w calm why)
+of_refusal files (script_check file d goal limit form) status text calm (defined, none) (has_long_text program found long is text_is) = absurd (none program found)
+of_refusal files (page_check file d) status text calm lacks (not_read fault why is text_is) = subst (Among (page_check file d)) (sym is) (of_file files file d fault calm why)
+of_refusal files (page_check file d) status text calm ((table, t, w), none) (page_lacks_definition why) =
+    of_memory files (page_check file d) status ((table, t, w), none) (definition_memory files d table status text t w calm why)
+of_refusal files (script_making n) status text calm lacks why = absurd lacks
+of_refusal files (made_check n) status text calm lacks (no_size size is text_is) = subst (Among (made_check n)) (sym is) (0, lit< tt, refl)
+of_refusal files (made_check n) status text calm lacks (made_refused size misses reads why) = absurd (lacks size)
+of_refusal files (script_run file request steps) status text calm lacks (inl (cause, why, is, text_is)) =
+    subst (Among (script_run file request steps)) (sym is) (of_load files file cause calm why)
+of_refusal files (script_run file request steps) status text calm lacks (inr (program, found, why)) = absurd (lacks program found)
+of_refusal files (grammar_making file) status text calm lacks (inl (cause, why, is, text_is)) = subst (Among (grammar_making file)) (sym is) (of_load files file cause calm why)
+of_refusal files (grammar_making file) status text calm lacks (inr (program, found, long, is, text_is)) = absurd (lacks program found)
+of_refusal files usage status text calm lacks why = absurd lacks

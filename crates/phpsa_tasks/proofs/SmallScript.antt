@@ -1,0 +1,87 @@
+-- The headline's own definitions on a script whose text comes from an included file.
+use Rattle.std.proofs.Common.{◌≡◌, ◌++◌, ap, ℕ, List, [], ◌∷◌, true, Some, codes, refl, subst}
+use Rattle.script_meaning.specs.Requests.{PlainRequest}
+use Rattle.script_meaning.specs.Runs.{◌then_do◌, Ended}
+use Rattle.script_meaning.specs.Programs.{function_named, arguments_of}
+use Rattle.script_meaning.specs.Expressions.{value, values}
+use Rattle.script_meaning.specs.Statements.{statements}
+use Rattle.script_meaning.specs.Meaning.{meaning}
+use Rattle.page_goals.specs.declared.goal.Goal.{Goal}
+use Rattle.page_model.specs.Valid.{Valid}
+use Rattle.dtd_model.specs.Mini.{mini_table}
+use Rattle.page_model.proofs.Examples.{paragraph}
+use Rattle.program_files.specs.Source.{source_call}
+use Rattle.told_programs.specs.Told.{IsLoaded}
+use Rattle.told_programs.proofs.SmallProgram.{content, program, inner}
+use Rattle.document_types.specs.DocumentTypes.{mini_type}
+use Rattle.shown_answers.specs.declared.answer.ShownAnswer.{ShownAnswer}
+use Rattle.phpsa_texts.specs.declared.exit.Exit.TheVariants.{Done}
+use Rattle.phpsa_texts.specs.declared.answers.AnswerForm.TheVariants.{Plain}
+use Rattle.phpsa_texts.specs.Texts.{yes_text}
+use Rattle.phpsa_tasks.specs.Tasks.{Task, script_check, page_check, AsksFor}
+use Rattle.phpsa_tasks.specs.Call.{Call, output_of, call_of, Gains}
+use Rattle.phpsa_tasks.specs.Requests.{no_request}
+use Rattle.phpsa_tasks.specs.Subjects.{ProgramBy, Holds}
+use Rattle.phpsa_tasks.proofs.EmptyRequest.{no_request_admitted}
+use Rattle.phpsa_tasks.specs.Replies.{IsAnswer}
+use Rattle.phpsa_tasks.specs.Endings.{OwesReply, EndsReplied}
+use Rattle.phpsa_tasks.specs.Sound.{IsSound}
+
+-- a run with one unit prints the text, on every request
+runs : (request : PlainRequest) → meaning program request 1 ≡ record { printed = inner; end = Ended }
+unfolding meaning statements ◌then_do◌ value values function_named arguments_of
+runs request = refl
+
+-- what the source holds, as a task speaks of it; that it holds the program, in files within their limit, stands in told_programs (SmallProgram)
+abbrev task : Task
+task = script_check (codes "t.php") mini_type Goal.Valid 10000 Plain
+
+abbrev subject : ProgramBy
+subject = record { program = program; table = mini_table }
+
+-- a call that is asked for it, reads both files once and writes `yes`
+abbrev words : List (List ℕ)
+words = codes "check" ∷ codes "t.php" ∷ codes "--dtd" ∷ codes "mini" ∷ []
+
+abbrev call_with : List ℕ → Call
+call_with written = call_of words (source_call content 0 0 0 0 0 2) (output_of (Some []) (Some written) 0 0) (output_of (Some []) (Some []) 0 0)
+
+owed : AsksFor words task → IsLoaded content (codes "t.php") program → IsAnswer Goal.Valid mini_table program 10000 ShownAnswer.Yes → OwesReply (call_with yes_text) Done yes_text
+owed asked loaded is = record {
+  task = task;
+  asked = asked;
+  replies = record { subject = subject; found = (loaded, refl); says = (ShownAnswer.Yes, is, refl, refl) };
+}
+
+ends : AsksFor words task → IsLoaded content (codes "t.php") program → IsAnswer Goal.Valid mini_table program 10000 ShownAnswer.Yes → EndsReplied (call_with yes_text) Done
+ends asked loaded is = record { text = yes_text; owed = owed asked loaded is; out = refl; err = refl }
+
+-- one that writes nothing has not written that text
+silent : (w : EndsReplied (call_with []) Done) → w.text ≡ yes_text → ⊥
+silent w is = let e : ◌≡◌ {A = List ℕ} [] yes_text = subst (λ (text : List ℕ). Gains (output_of (Some []) (Some []) 0 0) text) is w.out in cc
+
+-- what the headline says of it: what the run prints is valid
+says : AsksFor words task → Holds content task subject → IsSound (call_with yes_text) Done → Valid mini_table inner
+says asked held sound =
+    subst (λ (o : List ℕ). Valid mini_table o) (ap (λ o. o.printed) (runs no_request))
+    (sound refl task subject asked held no_request 1 no_request_admitted (ap (λ o. o.end) (runs no_request)))
+
+-- a text as a page
+abbrev page_words : List (List ℕ)
+page_words = codes "page" ∷ codes "p" ∷ codes "--dtd" ∷ codes "mini" ∷ []
+
+abbrev page_call : Call
+page_call = call_of page_words (source_call (λ name. Some (Some inner)) 0 0 0 0 0 1)
+    (output_of (Some []) (Some (codes "valid" ++ 10 ∷ [])) 0 0) (output_of (Some []) (Some []) 0 0)
+
+judged : AsksFor page_words (page_check (codes "p") mini_type) → EndsReplied page_call Done
+judged asked = record {
+  text = codes "valid" ++ 10 ∷ [];
+  owed = record {
+    task = page_check (codes "p") mini_type;
+    asked = asked;
+    replies = record { subject = record { page = inner; table = mini_table }; found = (refl, refl); says = (true, paragraph, refl, refl) };
+  };
+  out = refl;
+  err = refl;
+}

@@ -1,0 +1,5 @@
+pub mod Names
+pub mod RequestFile
+pub mod Admission
+pub mod Outcome
+pub mod Causes
