@@ -12,3 +12,4 @@ mod tests;
 pub use grammar::Grammar;
 pub use production::{Production, Right};
 pub use symbol::Symbol;
+pub use text_base::{ByteRange, Bytes, NoMemory, Nt, PageToken};

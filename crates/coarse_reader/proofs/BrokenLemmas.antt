@@ -5,7 +5,7 @@ use Rattle.std.proofs.Common.{ap, sym, subst, ◌∙◌}
 use Rattle.text_base.specs.declared.page_token.PageToken.{PageToken}
 use Rattle.text_base.specs.declared.page_token.PageToken.TheVariants.{Doctype, Start, End, Blank, Text, Misc, Bad}
 use Rattle.dtd_model.specs.Table.{Table}
-use Rattle.page_reads.specs.Laws.{IsLawfulTable, PageTokensRead}
+use Rattle.broken_pages.specs.ReadLaws.{IsLawfulTable, PageTokensRead}
 use Rattle.tag_sums.specs.Nesting.{Nest, torn, nest, join, nest_of, is_balanced}
 use Rattle.dyck_balance.specs.Laws.{WholeIsNested}
 use Rattle.sentence_writing.specs.Bytes.{bytes_in}

@@ -13,6 +13,6 @@ pub fn finds_broken()
 {
     broken_pages::laws::broken_is_bad();
     broken_pages::laws::broken_not_valid();
-    page_reads::laws::page_tokens_read();
+    broken_pages::laws::page_tokens_read();
     dyck_balance::whole_is_nested();
 }

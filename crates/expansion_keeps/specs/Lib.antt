@@ -1,1 +1,2 @@
 pub mod FileCalls
+pub use Rattle.expansion_laws.specs.Within

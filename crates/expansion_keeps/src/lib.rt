@@ -13,6 +13,10 @@ ghost use Rattle.expansion_laws.specs.Within.{tree_named, program_within};
 ghost use Rattle.program_rules.specs.Expansion.{with_bodies};
 ghost use Rattle.expansion_keeps.specs.FileCalls.{calls_in_files};
 
+pub use expansion_laws::{
+    no_include_is_left, none_includes_itself, statements_have_places, statements_stand_for,
+};
+
 /// Each call of a program is a call in one of its files.
 pub fn calls_are_in_files()
     ensures { (files : List ReadFile) (n : ℕ) (name : List ℕ) (call : PlainCall) →

@@ -12,6 +12,8 @@ ghost use Rattle.program_rules.specs.Limits.{HasPlaces, one_each};
 ghost use Rattle.program_rules.specs.Programs.{ReadFile};
 ghost use Rattle.expansion_laws.specs.Within.{tree_named, bodies_within, places_within, IsIncludeOrder, AreHeld};
 
+pub use program_files::{LoadRefusal, ScriptFiles, find_includes};
+
 /// Statements whose includes stand among the first of an order stand for themselves with these
 /// replaced so many times over.
 pub fn statements_stand_for()

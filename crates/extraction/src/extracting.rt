@@ -7,9 +7,8 @@ ghost use Rattle.loose_sets.specs.Loose.{Loose};
 ghost use Rattle.op_cycles.specs.Texts.{TextOf};
 
 use flow_code::FlowProgram;
-use flow_listing::FlowLister;
+use flow_listing::{FlowLister, extract_by};
 use op_system::OpSystem;
-use page_extraction::extract_by;
 use std::alloc::Global;
 use text_base::NoMemory;
 

@@ -9,7 +9,7 @@ use Rattle.std.proofs.lemmas.Option.{same_Some}
 use Rattle.include_order.proofs.ListLemmas.{push_cases}
 use Rattle.program_rules.specs.Includes.{includes_of_file}
 use Rattle.program_rules.specs.Programs.{ReadFile}
-use Rattle.program_files.specs.Order.{place_of}
+use Rattle.expansion_laws.specs.Order.{place_of}
 use Rattle.file_order.specs.FileEdges.{with_place, places_of, AreEdges}
 
 later : {X : Type 0} (x y : X) (xs : List X) → Contains xs y → Contains (x ∷ xs) y

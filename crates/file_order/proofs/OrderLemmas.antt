@@ -11,9 +11,9 @@ use Rattle.php_syntax.specs.Trees.{PlainFile}
 use Rattle.program_rules.specs.Files.{Held, HasTree}
 use Rattle.program_rules.specs.Includes.{includes_of_file, LeadsTo, directly, through}
 use Rattle.program_rules.specs.Programs.{ReadFile}
-use Rattle.program_files.specs.declared.refusal.LoadRefusal.{LoadRefusal}
-use Rattle.program_files.specs.declared.refusal.LoadRefusal.TheVariants.{IncludeCycle, Memory}
-use Rattle.program_files.specs.Order.{is_read, place_of}
+use Rattle.expansion_laws.specs.refusal.LoadRefusal.{LoadRefusal}
+use Rattle.expansion_laws.specs.refusal.LoadRefusal.TheVariants.{IncludeCycle, Memory}
+use Rattle.expansion_laws.specs.Order.{is_read, place_of}
 use Rattle.expansion_laws.specs.Within.{tree_named, AreHeld}
 use Rattle.file_order.specs.FileOrder.{AreWhole, name_or_none, names_at, IsFileOrder, IsOrderCause}
 use Rattle.file_order.specs.FileEdges.{AreEdges}

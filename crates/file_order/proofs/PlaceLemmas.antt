@@ -6,7 +6,7 @@ use Rattle.std.specs.Cmp.Lexicographic.{bytes_decides}
 use Rattle.std.proofs.lemmas.Option.{same_Some, slice_get-map, slice_get-get_or, slice_get_within}
 use Rattle.std.proofs.lemmas.List.Quantifiers.{position-Some}
 use Rattle.program_rules.specs.Programs.{ReadFile}
-use Rattle.program_files.specs.Order.{names_of, is_read, place_of}
+use Rattle.expansion_laws.specs.Order.{names_of, is_read, place_of}
 use Rattle.expansion_laws.specs.Within.{tree_named}
 
 first_within : {X : Type 0} (p : X → Bool) (xs : List X) → list_any p xs ≡ true → position_or_len p xs < length xs

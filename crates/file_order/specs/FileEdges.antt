@@ -4,7 +4,7 @@ use Rattle.std.specs.declared.vec.Vec.{Vec}
 use Rattle.std.specs.declared.alloc.Global.{Global}
 use Rattle.program_rules.specs.Includes.{includes_of_file}
 use Rattle.program_rules.specs.Programs.{ReadFile}
-use Rattle.program_files.specs.Order.{place_of}
+use Rattle.expansion_laws.specs.Order.{place_of}
 
 abbrev pub with_place : Option ℕ → List ℕ → List ℕ
 with_place None places = places

@@ -4,9 +4,9 @@ use Rattle.std.specs.List.{Contains}
 use Rattle.program_rules.specs.Files.{Held}
 use Rattle.program_rules.specs.Includes.{includes_of_file, LeadsTo}
 use Rattle.program_rules.specs.Programs.{ReadFile}
-use Rattle.program_files.specs.declared.refusal.LoadRefusal.{LoadRefusal}
-use Rattle.program_files.specs.declared.refusal.LoadRefusal.TheVariants.{Missing, ReadFault, TooLong, Script, IncludeCycle, DoubleFunction, UnknownFunction, Arity, TooMany, Memory}
-use Rattle.program_files.specs.Order.{is_read, place_of}
+use Rattle.expansion_laws.specs.refusal.LoadRefusal.{LoadRefusal}
+use Rattle.expansion_laws.specs.refusal.LoadRefusal.TheVariants.{Missing, ReadFault, TooLong, Script, IncludeCycle, DoubleFunction, UnknownFunction, Arity, TooMany, Memory}
+use Rattle.expansion_laws.specs.Order.{is_read, place_of}
 use Rattle.expansion_laws.specs.Within.{IsIncludeOrder, AreHeld}
 
 -- files under names of their own, with each file that one of them includes

@@ -1,2 +1,3 @@
 pub mod FileOrder
 pub mod FileEdges
+pub use Rattle.expansion_laws.specs.Within

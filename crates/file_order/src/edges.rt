@@ -3,11 +3,11 @@
 ghost use Rattle.std.specs.Prelude.{◌≡◌, IfOk};
 ghost use Rattle.php_syntax.specs.Trees.{plain_file};
 ghost use Rattle.program_rules.specs.Includes.{includes_of_file};
-ghost use Rattle.program_files.specs.View.{files_of};
+ghost use Rattle.expansion_laws.specs.View.{files_of};
 ghost use Rattle.file_order.specs.FileEdges.{places_of, AreEdges};
 
+use expansion_laws::{ScriptFiles, find_includes};
 use php_syntax::tree::FileTree;
-use program_files::{ScriptFiles, find_includes};
 use std::alloc::Global;
 use text_base::{Bytes, NoMemory};
 

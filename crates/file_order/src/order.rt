@@ -2,13 +2,13 @@
 
 ghost use Rattle.std.specs.Prelude.{◌≡◌, ◌⊎◌, ◌<◌, length, IfOk, IfErr, Some, slice_get};
 ghost use Rattle.program_rules.specs.Programs.{ReadFile};
-ghost use Rattle.program_files.specs.declared.refusal.LoadRefusal.TheVariants.{IncludeCycle, Memory};
-ghost use Rattle.program_files.specs.View.{files_of};
+ghost use Rattle.expansion_laws.specs.refusal.LoadRefusal.TheVariants.{IncludeCycle, Memory};
+ghost use Rattle.expansion_laws.specs.View.{files_of};
 ghost use Rattle.file_order.specs.FileOrder.{AreWhole, IsFileOrder, IsOrderCause};
 
 use crate::edges::edges_of;
+use expansion_laws::{LoadRefusal, ScriptFiles};
 use include_order::{OrderRefusal, order_of};
-use program_files::{LoadRefusal, ScriptFiles};
 use std::alloc::Global;
 
 /// The places of all files, from 0, each behind those of the files that it includes, directly or

@@ -14,7 +14,7 @@ use Rattle.version_listing.specs.Lists.{Lists}
 use Rattle.version_listing.specs.Used.{ReadsVersion, IsUsed}
 use Rattle.set_names.specs.declared.name.SetName.{SetName}
 use Rattle.set_names.specs.Stands.{StandsFor}
-use Rattle.set_lister.specs.Asked.{all_names}
+use Rattle.page_extraction.specs.Asked.{all_names}
 use Rattle.pair_laws.proofs.Returned.{none_in, only_one}
 
 module _ (flow : PlainFlow) (linked : Linked) (at : Versioned) where

@@ -14,7 +14,7 @@ use Rattle.set_names.specs.declared.name.SetName.{SetName}
 use Rattle.set_names.specs.declared.name.SetName.TheVariants.{Out}
 use Rattle.set_names.specs.Stands.{IsLeaving, StandsFor}
 use Rattle.set_listing.specs.Uses.{seen_at}
-use Rattle.set_lister.specs.Asked.{AreAsked}
+use Rattle.page_extraction.specs.Asked.{AreAsked}
 use Rattle.page_extraction.specs.Ends.{IsExactLister}
 use Rattle.flow_tables.specs.declared.tables.FlowTables.{FlowTables}
 use Rattle.flow_tables.specs.Tables.{flow_of, at_in, lists_of, AreTables}

@@ -7,3 +7,4 @@
 mod lister;
 
 pub use lister::FlowLister;
+pub use page_extraction::extract_by;

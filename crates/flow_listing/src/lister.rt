@@ -8,7 +8,7 @@ ghost use Rattle.flow_listing.specs.Asked.{IsAsked};
 
 use flow_code::FlowProgram;
 use flow_tables::{FlowTables, forms_by, tables_of};
-use set_lister::Lister;
+use page_extraction::Lister;
 use set_names::{NamedForm, SetName};
 use std::alloc::Global;
 use text_base::NoMemory;

@@ -10,14 +10,14 @@ use Rattle.set_names.specs.declared.name.SetName.{SetName}
 use Rattle.set_names.specs.declared.name.SetName.TheVariants.{Value, Members, Shown, Result, Input, Output, Joined, Piece, FurtherPiece, FurtherPieces, Out}
 use Rattle.set_listing.specs.Uses.{At}
 use Rattle.set_listing.specs.Arrays.{Forms}
-use Rattle.set_versions.specs.Reading.{read_at}
+use Rattle.name_listing.specs.Reading.{read_at}
 use Rattle.told_keys.specs.Views.{keys_seen}
 use Rattle.point_rows.specs.Rows.{points_seen}
 use Rattle.function_pairs.specs.Returned.{returned_pairs}
 use Rattle.function_pairs.specs.Handed.{handings_from, AreGroups}
 use Rattle.function_pairs.specs.Found.{pairs_under}
 use Rattle.function_pairs.specs.Tables.{pairs_seen}
-use Rattle.link_laws.specs.Links.{links_seen}
+use Rattle.name_listing.specs.Links.{links_seen}
 use Rattle.version_listing.specs.Functions.{used_pairs, entry_forms}
 use Rattle.version_listing.specs.Versions.{members_forms, shown_forms, link_forms}
 use Rattle.version_listing.specs.Names.{point_of, forms_from, forms_there}

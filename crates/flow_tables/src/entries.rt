@@ -3,12 +3,12 @@
 ghost use Rattle.std.specs.Prelude.{◌≡◌, OnOk, slice_get};
 ghost use Rattle.function_pairs.specs.Tables.{pairs_seen};
 ghost use Rattle.version_listing.specs.Functions.{used_pairs, entry_forms};
-ghost use Rattle.source_listing.specs.Places.{Adds};
+ghost use Rattle.name_listing.specs.Places.{Adds};
 ghost use Rattle.flow_tables.specs.Tables as spec;
 
 use crate::params::is_null;
 use crate::tables::FlowTables;
-use point_listing::{push_entry, push_pairs};
+use name_listing::{push_entry, push_pairs};
 use set_names::{Aspect, NamedForm};
 use std::alloc::Global;
 use text_base::NoMemory;

@@ -3,15 +3,13 @@
 ghost use Rattle.std.specs.Prelude.{◌≡◌, IfOk, OnOk};
 ghost use Rattle.set_names.specs.Forms.{forms_seen};
 ghost use Rattle.version_listing.specs.Names as names;
-ghost use Rattle.source_listing.specs.Places.{Adds};
+ghost use Rattle.name_listing.specs.Places.{Adds};
 ghost use Rattle.flow_tables.specs.Tables.{lists_of, further_forms};
 
 use crate::entries::{push_entered, push_results};
 use crate::tables::FlowTables;
-use name_listing::{push_links, push_named};
-use point_listing::{push_members, push_shown};
+use name_listing::{Place, push_links, push_members, push_named, push_shown};
 use set_names::{NamedForm, SetName, SetVersion};
-use source_listing::Place;
 use std::alloc::Global;
 use text_base::NoMemory;
 
@@ -37,7 +35,7 @@ fn point_of(name: SetName) -> Option<u64>
 }
 
 // Of a set that belongs to a version or a function.
-#[tactic(auto, using(source_listing::proofs::PlaceLemmas::ends), unfolding(crate::specs::Tables::further_forms))]
+#[tactic(auto, using(name_listing::proofs::PlaceLemmas::ends), unfolding(crate::specs::Tables::further_forms))]
 fn push_further(
     alloc: Global,
     forms: &mut Vec<NamedForm>,

@@ -1,1 +1,2 @@
 pub mod Arguments
+pub use Rattle.expansion_keeps.specs.FileCalls

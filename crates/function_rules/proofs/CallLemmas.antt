@@ -11,7 +11,7 @@ use Rattle.program_calls.specs.declared.call.Call.{Call}
 use Rattle.program_calls.specs.Seen.{plain_call, calls_seen}
 use Rattle.program_files.specs.declared.refusal.LoadRefusal.{LoadRefusal}
 use Rattle.program_files.specs.declared.refusal.LoadRefusal.TheVariants.{Missing, ReadFault, TooLong, Script, IncludeCycle, DoubleFunction, UnknownFunction, Arity, TooMany, Memory}
-use Rattle.expansion_keeps.specs.FileCalls.{calls_in_files}
+use Rattle.function_calls.specs.FileCalls.{calls_in_files}
 use Rattle.loading_laws.specs.FileRules.{AreOnce, AreKnown, AreServed, KeepFunctionRules}
 use Rattle.function_rules.specs.Causes.{NoneIs, IsFirst, is_unknown, is_misused, IsUnknownCause, IsArityCause, IsFunctionCause}
 

@@ -7,7 +7,7 @@ use Rattle.program_rules.specs.Programs.{ReadFile, functions_in}
 use Rattle.program_rules.specs.Rules.{DefinesTwice, is_known, serves_call}
 use Rattle.program_files.specs.declared.refusal.LoadRefusal.{LoadRefusal}
 use Rattle.program_files.specs.declared.refusal.LoadRefusal.TheVariants.{Missing, ReadFault, TooLong, Script, IncludeCycle, DoubleFunction, UnknownFunction, Arity, TooMany, Memory}
-use Rattle.expansion_keeps.specs.FileCalls.{calls_in_files}
+use Rattle.function_calls.specs.FileCalls.{calls_in_files}
 use Rattle.loading_laws.specs.FileRules.{AreOnce, AreKnown}
 
 -- a call of no function that there is

@@ -9,7 +9,7 @@ use Rattle.php_syntax.specs.Trees.{PlainStmts, no_stmts, PlainFunction, PlainFil
 use Rattle.program_rules.specs.Expansion.{followed_by, with_bodies, with_bodies_in}
 use Rattle.program_rules.specs.Programs.{ReadFile, functions_in}
 use Rattle.program_files.specs.Order.{is_read, place_of}
-use Rattle.expansion_laws.specs.Within.{tree_named, bodies_within}
+use Rattle.file_order.specs.Within.{tree_named, bodies_within}
 use Rattle.file_order.proofs.PlaceLemmas.{file_there, tree_there}
 use Rattle.include_expansion.proofs.Followed.{followed-none, followed-assoc}
 use Rattle.include_expansion.proofs.Measures.{tallest, below_tallest}

@@ -4,7 +4,7 @@ ghost use Rattle.std.specs.Prelude.{◌≡◌, ◌++◌, IfOk, OnOk, map};
 ghost use Rattle.php_syntax.specs.Trees.{plain_function, functions_of_list};
 ghost use Rattle.program_rules.specs.Programs.{functions_in};
 ghost use Rattle.program_files.specs.View.{files_of};
-ghost use Rattle.expansion_laws.specs.Within.{bodies_within, with_body};
+ghost use Rattle.file_order.specs.Within.{bodies_within, with_body};
 
 use crate::statements::expand_statements;
 use php_syntax::tree::FunctionDef;

@@ -4,7 +4,7 @@ ghost use Rattle.std.specs.Prelude.{◌≡◌, IfOk, OnOk};
 ghost use Rattle.php_syntax.specs.Trees.{plain_expr, plain_stmt, stmts_of, arms_of, exprs_of, maybe_of, if_stmt, while_stmt, do_while_stmt, for_stmt, each_stmt};
 ghost use Rattle.program_rules.specs.Expansion.{followed_by, with_bodies, with_bodies_in, with_bodies_in_arms};
 ghost use Rattle.program_files.specs.View.{files_of};
-ghost use Rattle.expansion_laws.specs.Within.{bodies_within};
+ghost use Rattle.file_order.specs.Within.{bodies_within};
 
 use crate::parts::{copy_echo, copy_inline, copy_quit, copy_return, copy_run, put};
 use php_syntax::tree::{Expr, Stmt};

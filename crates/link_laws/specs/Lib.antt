@@ -1,1 +1,2 @@
 pub mod Links
+pub use Rattle.set_versions.specs.Reading

@@ -17,7 +17,7 @@ use Rattle.program_rules.specs.Limits.{as_file, IsWithin}
 use Rattle.program_rules.specs.Programs.{ReadFile, functions_in}
 use Rattle.program_rules.specs.Rules.{is_there, DefinesTwice, serves, serves_builtin, is_known, serves_call, KeepsRules}
 use Rattle.php_program.specs.Lawful.{IsLawful}
-use Rattle.expansion_laws.specs.Within.{tree_named, bodies_within, with_body, program_within}
+use Rattle.expansion_keeps.specs.Within.{tree_named, bodies_within, with_body, program_within}
 use Rattle.expansion_keeps.specs.FileCalls.{calls_in_files}
 use Rattle.loading_laws.specs.FileRules.{KeepFunctionRules}
 use Rattle.program_sizes.specs.Limits.{program_places}

@@ -15,8 +15,8 @@ use Rattle.program_rules.specs.Limits.{one_each, HasPlaces, HavePlaces, IsWithin
 use Rattle.program_rules.specs.Limits as limits
 use Rattle.program_rules.specs.Programs.{ReadFile, AreRead, functions_in, TableStandsFor, HasNoCycle, IsProgram}
 use Rattle.program_rules.specs.Programs as programs
-use Rattle.program_files.specs.Order.{is_read, Reached}
-use Rattle.expansion_laws.specs.Within.{tree_named, bodies_within, places_within, with_body, program_within, IsIncludeOrder, AreHeld}
+use Rattle.reading_laws.specs.Order.{is_read, Reached}
+use Rattle.expansion_keeps.specs.Within.{tree_named, bodies_within, places_within, with_body, program_within, IsIncludeOrder, AreHeld}
 use Rattle.file_order.specs.FileOrder.{AreWhole}
 use Rattle.file_order.proofs.PlaceLemmas.{place_there, file_there, tree_there, read_here}
 use Rattle.php_writer.proofs.BackFiles.{spelled_is_spellable}

@@ -9,7 +9,7 @@ use Rattle.program_rules.specs.Files.{Held, HasTree}
 use Rattle.program_rules.specs.Expansion.{StandsFor}
 use Rattle.program_rules.specs.Limits.{HasPlaces, HavePlaces, IsWithin}
 use Rattle.program_rules.specs.Programs.{ReadFile, functions_in, TableStandsFor}
-use Rattle.expansion_laws.specs.Within.{tree_named, program_within, IsIncludeOrder}
+use Rattle.expansion_keeps.specs.Within.{tree_named, program_within, IsIncludeOrder}
 use Rattle.loading_laws.specs.FileRules.{KeepFunctionRules}
 use Rattle.program_sizes.specs.Limits.{program_places}
 

@@ -7,19 +7,20 @@ ghost use Rattle.script_meaning.specs.Programs.{PlainProgram};
 ghost use Rattle.program_rules.specs.Files.{Held, HasTree, HasOneTree};
 ghost use Rattle.program_rules.specs.Programs.{ReadFile, IsProgram, HasNoCycle};
 ghost use Rattle.php_program.specs.Lawful.{IsLawful};
-ghost use Rattle.program_files.specs.Order.{is_read, Reached};
+ghost use Rattle.reading_laws.specs.Order.{is_read, Reached};
 ghost use Rattle.file_order.specs.FileOrder.{AreWhole};
-ghost use Rattle.expansion_laws.specs.Within.{tree_named, program_within, IsIncludeOrder, AreHeld};
+ghost use Rattle.expansion_keeps.specs.Within.{tree_named, program_within, IsIncludeOrder, AreHeld};
 ghost use Rattle.program_sizes.specs.Limits.{program_places};
 ghost use Rattle.loading_laws.specs.Loaded.{AreScripts, MakeProgram, StandsForProgram};
 
-use expansion_keeps::{calls_are_in_files, forms_are_kept, rules_are_kept};
-use expansion_laws::{
-    no_include_is_left, none_includes_itself, statements_have_places, statements_stand_for,
+use expansion_keeps::{
+    calls_are_in_files, forms_are_kept, no_include_is_left, none_includes_itself, rules_are_kept,
+    statements_have_places, statements_stand_for,
 };
 use lexical_grammar::laws::one_token_list;
-use php_parser::laws::one_tree;
+pub use program_sizes::check_sizes;
 use reading_laws::files_of_the_program;
+use reading_laws::laws::one_tree;
 
 /// Each file has one tree at most.
 pub fn each_has_one_tree()

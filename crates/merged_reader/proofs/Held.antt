@@ -11,7 +11,7 @@ use Rattle.character_steps.specs.Bytes.{decoded, is_begun}
 use Rattle.character_steps.specs.Encoded.{Held, lifted, by_character, is_some_byte}
 use Rattle.page_fronts.specs.Fronts.{Open, nothing, in_reference, in_opener, in_tag_name, in_tag, at_empty_end, in_end_tag, in_comment, in_section, in_target, behind_target, in_instruction, in_declaration, at_declaration_end, in_doctype, kept_place}
 use Rattle.page_steps.specs.PageSteps.{PageState, page_reader, page_hold, is_inside}
-use Rattle.page_narrowing.specs.Passing.{passes, open_passes, takes_several, narrow_reader}
+use Rattle.page_reader.specs.Passing.{passes, open_passes, takes_several, narrow_reader}
 use Rattle.merged_reader.specs.Alike.{second_alike, alike, representative}
 use Rattle.merged_reader.specs.Merging.{open_alike, takes_all_alike, merged_held}
 use Rattle.merged_reader.proofs.Whole.{is_whole, none_decoded, is_several}

@@ -6,7 +6,7 @@ use Rattle.piece_steps.specs.Readers.{to_state}
 use Rattle.character_steps.specs.Encoded.{Held}
 use Rattle.page_model.specs.PageTokens.{PageTokens}
 use Rattle.page_steps.specs.PageSteps.{PageState}
-use Rattle.page_narrowing.specs.Passing.{narrow_reader}
+use Rattle.page_reader.specs.Passing.{narrow_reader}
 use Rattle.byte_readers.specs.Reading.{tokens_over}
 use Rattle.open_pieces.specs.Views.{plain_held}
 use Rattle.state_codes.proofs.OneToOne.{plain_coded_held}

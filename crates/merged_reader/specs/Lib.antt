@@ -2,3 +2,4 @@ pub mod Alike
 pub mod Merging
 pub mod States
 pub mod Laws
+pub use Rattle.page_reader.specs.States as ReaderStates

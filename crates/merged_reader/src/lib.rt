@@ -11,4 +11,5 @@ pub mod laws;
 mod merging;
 mod reader;
 
+pub use page_reader::PageReader;
 pub use reader::MergedReader;

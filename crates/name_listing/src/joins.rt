@@ -2,19 +2,19 @@
 
 ghost use Rattle.std.specs.Prelude.{◌≡◌, map, OnOk};
 ghost use Rattle.ssa_form.specs.Views.{version_seen};
-ghost use Rattle.set_versions.specs.Reading.{version_back};
+ghost use Rattle.link_laws.specs.Reading.{version_back};
 ghost use Rattle.version_listing.specs.Versions.{link_forms};
 ghost use Rattle.link_laws.specs.Links.{links_seen};
-ghost use Rattle.source_listing.specs.Places.{Adds};
+ghost use Rattle.point_listing.specs.Places.{Adds};
 
+use link_laws::by_numbers;
 use point_listing::push_link;
 use set_names::{Aspect, NamedForm};
-use set_versions::by_numbers;
 use ssa_form::{Version, Versions};
 use text_base::{NoMemory, Point, Slot};
 
 // Of versions, in turn.
-#[tactic(auto, using(source_listing::proofs::PlaceLemmas::ends))]
+#[tactic(auto, using(point_listing::proofs::PlaceLemmas::ends))]
 fn push_all(forms: &mut Vec<NamedForm>, links: &[Version], aspect: Aspect) -> Result<(), NoMemory>
     ensures { OnOk result (Adds forms.old.items forms.new.items
         (link_forms (map version_back (map version_seen links.now)) aspect)) }

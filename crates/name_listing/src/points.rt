@@ -4,22 +4,21 @@ ghost use Rattle.std.specs.Prelude.{map, slice_get, OnOk};
 ghost use Rattle.flow_code.specs.View.{plain_point, plain_flow_function};
 ghost use Rattle.point_rows.specs.Rows.{points_seen};
 ghost use Rattle.version_listing.specs.Names.{forms_from, forms_there};
-ghost use Rattle.source_listing.specs.Places.{told_of, at_of, Adds};
+ghost use Rattle.point_listing.specs.Places.{told_of, at_of, Adds};
 ghost use Rattle.name_listing.specs.Names.{IsAt};
 
 use flow_code::{FlowFunction, FlowPoint};
 use point_listing::{
-    push_any_further, push_further, push_inputs, push_joined, push_out, push_outputs, push_piece,
-    push_value,
+    Place, push_any_further, push_further, push_inputs, push_joined, push_out, push_outputs,
+    push_piece, push_value,
 };
 use point_rows::PointRow;
 use set_names::{NamedForm, SetName, SetVersion};
-use source_listing::Place;
 use std::alloc::Global;
 use text_base::NoMemory;
 
 // From the point, where the name belongs to it.
-#[tactic(auto, using(source_listing::proofs::PlaceLemmas::ends), unfolding(version_listing::specs::Names::forms_from, version_listing::specs::Names::point_of))]
+#[tactic(auto, using(point_listing::proofs::PlaceLemmas::ends), unfolding(version_listing::specs::Names::forms_from, version_listing::specs::Names::point_of))]
 fn push_from(
     alloc: Global,
     forms: &mut Vec<NamedForm>,
@@ -53,7 +52,7 @@ fn push_from(
 
 /// The forms of a set that belongs to the point of the place, behind the others; none where there
 /// is no such point.
-#[tactic(auto, using(source_listing::proofs::PlaceLemmas::ends))]
+#[tactic(auto, using(point_listing::proofs::PlaceLemmas::ends))]
 pub fn push_named(
     alloc: Global,
     forms: &mut Vec<NamedForm>,

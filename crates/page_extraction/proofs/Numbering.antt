@@ -21,7 +21,7 @@ use Rattle.set_names.specs.declared.name.Leaving.TheVariants as leaving
 use Rattle.set_names.specs.declared.name.SetName.{SetName}
 use Rattle.set_names.specs.declared.name.SetName.TheVariants.{Out}
 use Rattle.set_names.specs.Stands.{IsLeaving, StandsFor}
-use Rattle.set_lister.specs.Listers.{IsFlowLister}
+use Rattle.set_numbering.specs.Listers.{IsFlowLister}
 use Rattle.set_numbering.specs.Numbered.{IsAt, same_forms, AreNumbered}
 use Rattle.numbered_rows.specs.Numbered.{Numbers, IsNumbered}
 use Rattle.numbered_rows.proofs.Same as same

@@ -23,7 +23,7 @@ use Rattle.set_names.specs.Stands.{StandsFor}
 use Rattle.set_listing.specs.Uses.{seen_at}
 use Rattle.set_versions.specs.Reading.{read_at}
 use Rattle.set_versions.proofs.Exact.{are_exact}
-use Rattle.set_lister.specs.Listers.{IsFlowLister}
+use Rattle.set_numbering.specs.Listers.{IsFlowLister}
 use Rattle.set_numbering.specs.Numbered.{IsAt, AreNumbered}
 use Rattle.numbered_rows.specs.Numbered.{Numbers}
 use Rattle.numbered_rows.proofs.Same as same

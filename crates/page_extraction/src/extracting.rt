@@ -11,9 +11,8 @@ ghost use Rattle.page_extraction.specs.Rules.{AreLooseRules};
 use flow_code::FlowProgram;
 use op_system::OpSystem;
 use plain_systems::plain_system;
-use set_lister::Lister;
 use set_names::{Leaving, SetName};
-use set_numbering::number_sets;
+use set_numbering::{Lister, number_sets};
 use std::alloc::Global;
 use text_base::NoMemory;
 

@@ -7,3 +7,4 @@
 mod extracting;
 
 pub use extracting::extract_by;
+pub use set_numbering::Lister;

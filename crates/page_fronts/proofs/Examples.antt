@@ -8,10 +8,10 @@ use Rattle.std.proofs.lemmas.Bool.{and_parts}
 use Rattle.std.proofs.lemmas.Str.{encode_same, length-encode, len_utf8_bounds}
 use Rattle.xml_text.specs.Characters.{is_blank}
 use Rattle.xml_text.specs.Names.{begins_name, in_name, is_name}
-use Rattle.dtd_model.specs.declared.dtd.DoctypeRule.TheVariants.{Strict, Free}
-use Rattle.dtd_model.specs.Mini.{mini_table}
-use Rattle.dtd_model.specs.References.{decimal, hexadecimal, entity}
-use Rattle.dtd_model.specs.Table.{cdata, id, nmtokens, one_of, implied, fixed, Declared, text_and, Table}
+use Rattle.page_model.specs.dtd.DoctypeRule.TheVariants.{Strict, Free}
+use Rattle.page_model.specs.Mini.{mini_table}
+use Rattle.page_model.specs.References.{decimal, hexadecimal, entity}
+use Rattle.page_model.specs.Table.{cdata, id, nmtokens, one_of, implied, fixed, Declared, text_and, Table}
 use Rattle.page_model.specs.PageTokens.{IsLawful, NoPiece, piece_bytes}
 use Rattle.page_model.specs.Parts.{Attribute, Tag, character, reference, section, comment, instruction, is_plain, has_semicolon}
 use Rattle.page_model.specs.Pieces.{Piece, mark, declaration, doctype, start_tag, empty_tag, end_tag, leaf, may_follow}

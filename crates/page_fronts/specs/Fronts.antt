@@ -5,7 +5,7 @@ use Rattle.std.specs.Char.{encode_utf8}
 use Rattle.std.specs.Str.{encode_utf8_all, str_eq_ignore_ascii_case}
 use Rattle.xml_text.specs.Characters.{is_blank, is_character}
 use Rattle.xml_text.specs.Names.{in_name, is_name}
-use Rattle.dtd_model.specs.Table.{Declared, Rule, Table}
+use Rattle.page_model.specs.Table.{Declared, Rule, Table}
 use Rattle.page_model.specs.Attributes.{find_rule, stands}
 use Rattle.page_model.specs.PageTokens.{IsLawful, AreLawful, NoPiece, piece_bytes, bytes_then}
 use Rattle.page_model.specs.Parts.{Attribute, attributes_then, AreAttributes}

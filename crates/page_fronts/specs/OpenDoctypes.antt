@@ -2,8 +2,8 @@
 use Rattle.std.specs.Prelude.{◌≡◌, ◌≢◌, ℕ, Bool, true, not, ◌==◌, List, [], ◌∷◌, ◌++◌, codes, Option, None, Some}
 use Rattle.std.specs.List.{list_all}
 use Rattle.xml_text.specs.Characters.{is_blank}
-use Rattle.dtd_model.specs.declared.dtd.DoctypeRule.{DoctypeRule}
-use Rattle.dtd_model.specs.declared.dtd.DoctypeRule.TheVariants.{Strict, Free}
+use Rattle.page_model.specs.dtd.DoctypeRule.{DoctypeRule}
+use Rattle.page_model.specs.dtd.DoctypeRule.TheVariants.{Strict, Free}
 use Rattle.page_model.specs.Parts.{is_quote}
 use Rattle.page_fronts.specs.OpenTags.{IsGap, is_some_space}
 

@@ -4,8 +4,8 @@ use Rattle.std.specs.Char.{is_ascii_digit, is_ascii_hexdigit}
 use Rattle.std.specs.List.{list_all}
 use Rattle.xml_text.specs.Characters.{is_blank}
 use Rattle.xml_text.specs.Names.{in_name}
-use Rattle.dtd_model.specs.References.{number_written}
-use Rattle.dtd_model.specs.Table.{Kind, cdata, id, idref, idrefs, nmtoken, nmtokens, one_of, Presence, implied, required, with_default, fixed, Declared}
+use Rattle.page_model.specs.References.{number_written}
+use Rattle.page_model.specs.Table.{Kind, cdata, id, idref, idrefs, nmtoken, nmtokens, one_of, Presence, implied, required, with_default, fixed, Declared}
 use Rattle.page_model.specs.Attributes.{words_of}
 use Rattle.page_model.specs.Parts.{has_semicolon}
 

@@ -8,3 +8,7 @@ pub mod Places
 pub mod Prolog
 pub mod TokenTree
 pub mod Valid
+pub use Rattle.dtd_model.specs.Mini
+pub use Rattle.dtd_model.specs.References
+pub use Rattle.dtd_model.specs.Table
+pub use Rattle.dtd_model.specs.declared.dtd

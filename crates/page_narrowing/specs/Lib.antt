@@ -1,2 +1,3 @@
 pub mod Passing
 pub mod Laws
+pub use Rattle.page_reads.specs.Laws as ReadLaws

@@ -6,7 +6,7 @@ use Rattle.character_steps.specs.Encoded.{Held, at_state}
 use Rattle.page_steps.specs.PageSteps.{PageState}
 use Rattle.page_fronts.specs.Fronts.{nothing}
 use Rattle.page_model.specs.Places.{Place, at_beginning}
-use Rattle.page_narrowing.specs.Passing.{narrow_reader}
+use Rattle.page_stepping.specs.Passing.{narrow_reader}
 use Rattle.byte_readers.specs.Mirrors.{state_behind, put_at, put_last}
 use Rattle.open_pieces.specs.Views.{plain_held}
 use Rattle.state_codes.specs.Codes.{coded_held}

@@ -9,4 +9,5 @@ mod open_moves;
 mod states;
 
 pub use byte_steps::{byte_step, narrow_step};
+pub use state_testing::laws;
 pub use states::page_step;

@@ -4,7 +4,7 @@ use Rattle.std.specs.Prelude.{Ok, Err}
 use Rattle.program_files.specs.Source.{SourceCall, source_call}
 use Rattle.document_types.specs.DocumentTypes.{strict_type}
 use Rattle.page_goals.specs.declared.goal.Goal.{Goal}
-use Rattle.shown_answers.specs.declared.answer.ShownAnswer.{ShownAnswer}
+use Rattle.phpsa_tasks.specs.answer.ShownAnswer.{ShownAnswer}
 use Rattle.script_maker.specs.Made.{made, IsSize}
 use Rattle.phpsa_texts.specs.declared.exit.Exit.TheVariants.{Done, Input}
 use Rattle.phpsa_texts.specs.declared.message.Message.{Message}

@@ -5,10 +5,10 @@ use Rattle.dtd_model.specs.Table.{Table}
 use Rattle.page_goals.specs.declared.goal.Goal.{Goal}
 use Rattle.program_files.specs.Source.{SourceCall}
 use Rattle.program_literals.specs.Short.{HasLongText}
-use Rattle.told_programs.specs.Told.{IsLoaded}
+use Rattle.phpsa_tasks.specs.Told.{IsLoaded}
 use Rattle.document_types.specs.DocumentTypes.{NamedType, HasTable, IsBuiltIn}
-use Rattle.script_decision.specs.Decision.{HasManyStates}
-use Rattle.shown_answers.specs.declared.answer.ShownAnswer.{ShownAnswer}
+use Rattle.phpsa_tasks.specs.Decision.{HasManyStates}
+use Rattle.phpsa_tasks.specs.answer.ShownAnswer.{ShownAnswer}
 use Rattle.phpsa_texts.specs.declared.exit.Exit.TheVariants.{Dtd, Input}
 use Rattle.phpsa_texts.specs.declared.message.Message.{Message}
 use Rattle.phpsa_texts.specs.declared.message.Refusal.{Refusal}

@@ -11,12 +11,9 @@ use dtd_model::Dtd;
 use io_edge::Files;
 use page_goals::Goal;
 use php_program::Program;
+use phpsa_tasks::{CheckRefusal, ShownAnswer, check_shown, load, loads_are_loaded};
 use phpsa_texts::{Refusal, definition_refusal, load_refusal, long_text_refusal, states_refusal};
-use program_loader::load;
-use script_decision::CheckRefusal;
-use shown_answers::{ShownAnswer, check_shown};
 use std::alloc::Global;
-use told_programs::loads_are_loaded;
 
 /// The answer for the program of the file of this name, or why there is none.
 fn decided(

@@ -8,15 +8,12 @@ ghost use Rattle.phpsa_tasks.specs.Outcomes.{Does};
 ghost use Rattle.phpsa_main.specs.Loaded.{HasGrammarReply};
 
 use io_edge::Files;
-use loose_grammar::{GrammarRefusal, loose_grammar};
 use php_program::Program;
-use phpsa_tasks::Reply;
+use phpsa_tasks::{GrammarRefusal, Reply, load, loads_are_loaded, loose_grammar};
 use phpsa_texts::{
     AnswerForm, PassedCount, Refusal, load_refusal, long_text_refusal, passed_message,
 };
-use program_loader::load;
 use std::alloc::Global;
-use told_programs::loads_are_loaded;
 
 /// What is written of the program of the file of this name, or why there is nothing to write.
 fn grammar_reply(alloc: Global, name: &str, program: &Program) -> Result<Reply, Refusal>

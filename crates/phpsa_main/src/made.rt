@@ -16,10 +16,9 @@ use crate::deciding::decide_script;
 use crate::one_script::{MADE_NAME, OneScript};
 use document_types::DocumentType;
 use page_goals::Goal;
-use phpsa_tasks::{PAIR_LIMIT, Reply};
+use phpsa_tasks::{PAIR_LIMIT, Reply, ShownAnswer};
 use phpsa_texts::{Refusal, size_refusal, summary_message};
 use script_maker::{MakeRefusal, make};
-use shown_answers::ShownAnswer;
 use std::alloc::Global;
 use text_base::{Bytes, NoMemory};
 

@@ -13,18 +13,16 @@ use io_edge::Files;
 use php_program::Program;
 use php_requests::Request;
 use php_syntax::tree::SuperName;
-use phpsa_tasks::Reply;
+use phpsa_tasks::{Reply, load, loads_are_loaded};
 use phpsa_texts::{
     Exit, Message, Refusal, deep_message, fault_message, file_refusal, load_refusal,
     request_refusal, spent_message,
 };
-use program_loader::load;
 use request_reading::read_request;
 use script_runs::{Ended, run};
 use statement_machine::End;
 use std::alloc::Global;
 use text_base::NoMemory;
-use told_programs::loads_are_loaded;
 
 /// The request of the file of this name.
 fn read_file<F: Files>(alloc: Global, name: &str, files: &mut F) -> Result<Request, Refusal>

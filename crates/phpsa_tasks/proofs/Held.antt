@@ -15,7 +15,7 @@ use Rattle.script_meaning.specs.Meaning.{meaning}
 use Rattle.program_files.specs.Source.{SourceCall, source_call}
 use Rattle.program_files.specs.declared.refusal.LoadRefusal.{LoadRefusal}
 use Rattle.program_files.specs.declared.refusal.LoadRefusal.TheVariants as load
-use Rattle.program_loader.specs.Causes.{IsLoadCause}
+use Rattle.told_programs.specs.Causes.{IsLoadCause}
 use Rattle.told_programs.specs.Told.{Content, IsLoaded, HoldsProgram, AreShort}
 use Rattle.dtd_model.specs.Table.{Table}
 use Rattle.request_reading.specs.Outcome.{Outcome, not_json, not_request, not_admitted, asked, outcome}
@@ -30,7 +30,7 @@ use Rattle.document_types.proofs.OneTable.{same_table}
 use Rattle.document_types.proofs.ForMemory.{IsWant, for_memory}
 use Rattle.page_goals.specs.declared.goal.Goal.{Goal}
 use Rattle.program_literals.specs.Short.{HasLongText}
-use Rattle.script_decision.specs.Decision.{HasManyStates}
+use Rattle.shown_answers.specs.Decision.{HasManyStates}
 use Rattle.shown_answers.specs.declared.answer.ShownAnswer.{ShownAnswer}
 use Rattle.shown_answers.specs.Shown.{IsShownAnswer}
 use Rattle.phpsa_texts.specs.declared.exit.Exit.{Exit}

@@ -5,7 +5,7 @@ use Rattle.page_goals.specs.Goals.{IsGood}
 use Rattle.script_meaning.specs.Programs.{PlainProgram}
 use Rattle.script_meaning.specs.Requests.{Admitted}
 use Rattle.document_types.specs.DocumentTypes.{NamedType}
-use Rattle.program_answers.specs.Answers.{RunsAreGood}
+use Rattle.shown_answers.specs.Answers.{RunsAreGood}
 use Rattle.phpsa_texts.specs.declared.exit.Exit.TheVariants.{Done}
 use Rattle.phpsa_texts.specs.declared.answers.AnswerForm.{AnswerForm}
 use Rattle.phpsa_tasks.specs.Tasks.{script_check, script_run, AsksFor}

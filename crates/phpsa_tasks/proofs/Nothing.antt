@@ -7,7 +7,7 @@ use Rattle.io_edge.specs.declared.files.FileFault.TheVariants as reading
 use Rattle.program_files.specs.Source.{SourceCall}
 use Rattle.program_files.specs.declared.refusal.LoadRefusal.{LoadRefusal}
 use Rattle.program_files.specs.declared.refusal.LoadRefusal.TheVariants as load
-use Rattle.program_loader.specs.Causes.{IsLoadCause}
+use Rattle.told_programs.specs.Causes.{IsLoadCause}
 use Rattle.document_types.specs.DocumentTypes.{NamedType}
 use Rattle.phpsa_texts.specs.declared.exit.Exit.{Exit}
 use Rattle.phpsa_texts.specs.declared.exit.Exit.TheVariants.{Missing, Script, Input, Memory}

@@ -9,7 +9,7 @@ use Rattle.script_meaning.specs.Programs.{PlainProgram}
 use Rattle.dtd_model.specs.Table.{Table}
 use Rattle.page_model.specs.Valid.{Valid}
 use Rattle.page_goals.specs.declared.goal.Goal.{Goal}
-use Rattle.program_answers.specs.Answers.{RunsAreGood}
+use Rattle.shown_answers.specs.Answers.{RunsAreGood}
 use Rattle.shown_answers.specs.declared.answer.ShownAnswer.{ShownAnswer}
 use Rattle.shown_answers.specs.Shown.{ShownSaysOfRuns}
 use Rattle.told_programs.specs.Told.{Content}

@@ -7,8 +7,8 @@ use Rattle.io_edge.specs.Counts.{Rises}
 use Rattle.page_goals.specs.declared.goal.Goal.{Goal}
 use Rattle.page_goals.specs.Goals.{IsGood}
 use Rattle.program_literals.specs.Short.{HasLongText}
-use Rattle.loose_grammar.specs.Pages.{IsLoosePage}
-use Rattle.program_answers.specs.Answers.{EachIsGood}
+use Rattle.shown_answers.specs.Pages.{IsLoosePage}
+use Rattle.shown_answers.specs.Answers.{EachIsGood}
 use Rattle.shown_answers.specs.declared.answer.ShownAnswer.{ShownAnswer}
 use Rattle.shown_answers.specs.Shown.{IsShownAnswer}
 use Rattle.script_maker.specs.Made.{IsSize}

@@ -6,9 +6,9 @@ use Rattle.grammar_writing.specs.Text.{grammar_text}
 use Rattle.script_meaning.specs.Programs.{PlainProgram}
 use Rattle.script_meaning.specs.Runs as runs
 use Rattle.script_meaning.specs.Meaning.{Outcome, meaning}
-use Rattle.loose_grammar.specs.Pages.{DerivePages}
-use Rattle.loose_grammar.specs.Refusals.{HasLargeImage}
-use Rattle.loose_grammar.specs.declared.refusal.TheConstants.{ITEM_LIMIT}
+use Rattle.shown_answers.specs.Pages.{DerivePages}
+use Rattle.shown_answers.specs.Refusals.{HasLargeImage}
+use Rattle.shown_answers.specs.refusal.TheConstants.{ITEM_LIMIT}
 use Rattle.dtd_model.specs.Table.{Table}
 use Rattle.page_model.specs.Valid.{Valid}
 use Rattle.page_goals.specs.declared.goal.Goal.{Goal}

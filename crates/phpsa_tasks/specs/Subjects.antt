@@ -7,7 +7,7 @@ use Rattle.script_meaning.specs.Requests.{PlainRequest, Admitted}
 use Rattle.told_programs.specs.Told.{Content, IsLoaded, HoldsProgram, AreShort}
 use Rattle.dtd_model.specs.Table.{Table}
 use Rattle.document_types.specs.DocumentTypes.{NamedType, strict_type, HasTable, NamesAreTold, NamesAreShort, IsTooLarge}
-use Rattle.script_decision.specs.Decision.{HasManyStates}
+use Rattle.shown_answers.specs.Decision.{HasManyStates}
 use Rattle.script_maker.specs.Made.{made, IsSize}
 use Rattle.phpsa_tasks.specs.Requests.{FindsRequest, HoldsRequest}
 use Rattle.phpsa_tasks.specs.Tasks.{Task, script_check, page_check, script_making, made_check, script_run, grammar_making, usage}

@@ -12,5 +12,7 @@ mod task;
 mod words;
 
 pub use reply::Reply;
+pub use shown_answers::{CheckRefusal, GrammarRefusal, ShownAnswer, check_shown, loose_grammar};
 pub use task::{PAIR_LIMIT, Task};
+pub use told_programs::{load, loads_are_loaded};
 pub use words::asked_task;

@@ -2,14 +2,13 @@
 
 ghost use Rattle.std.specs.Prelude.{◌∷◌, [], OnOk};
 ghost use Rattle.told_keys.specs.Views.{keys_seen};
-ghost use Rattle.set_versions.specs.Reading.{read_at};
+ghost use Rattle.source_listing.specs.Reading.{read_at};
 ghost use Rattle.version_listing.specs.Versions as spec;
 ghost use Rattle.version_listing.specs.Functions.{used_pairs, entry_forms};
 ghost use Rattle.source_listing.specs.Places.{Adds};
 
 use set_names::{Aspect, Half, NamedForm, SetName, SetVersion};
-use set_versions::version_read;
-use source_listing::{push_form, push_text_alone};
+use source_listing::{push_form, push_text_alone, version_read};
 use ssa_form::Versions;
 use std::alloc::Global;
 use text_base::{Bytes, NoMemory, Slot};

@@ -11,3 +11,4 @@ mod pages;
 
 pub use answer::Answer;
 pub use answering::answer_by;
+pub use loose_grammar::{GrammarRefusal, loose_grammar};

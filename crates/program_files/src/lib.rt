@@ -15,5 +15,6 @@ mod tree;
 
 pub use files::ScriptFiles;
 pub use includes::find_includes;
+pub use php_parser::laws;
 pub use reading::read_files;
 pub use refusal::{LoadRefusal, ScriptRefusal};

@@ -13,9 +13,9 @@ use Rattle.program_files.specs.Order.{is_read, Reached}
 use Rattle.program_files.specs.Source.{SourceCall, HasTold}
 use Rattle.program_files.specs.Causes.{ReadsAll, StopsAt, IsReadCause}
 use Rattle.reading_laws.proofs.NameLemmas.{tree_there}
-use Rattle.expansion_laws.specs.Within.{tree_named, program_within, IsIncludeOrder, AreHeld}
+use Rattle.file_order.specs.Within.{tree_named, program_within, IsIncludeOrder, AreHeld}
 use Rattle.file_order.specs.FileOrder.{AreWhole, IsOrderCause}
-use Rattle.program_sizes.specs.Limits.{program_places}
+use Rattle.loading_laws.specs.Limits.{program_places}
 use Rattle.loading_laws.specs.Loaded.{AreScripts, MakeProgram, StandsForProgram}
 use Rattle.loading_laws.proofs.ProgramLemmas.{ReadsTheProgram}
 use Rattle.program_loader.specs.Causes.{HasFiles, Loads, IsNamed, IncludesItself, BreaksRule, IsTooLarge, IsLoadCause}

@@ -16,8 +16,8 @@ use Rattle.program_files.specs.Order.{is_read, place_of}
 use Rattle.file_order.specs.FileOrder.{name_or_none, names_at, IsFileOrder}
 use Rattle.file_order.proofs.PlaceLemmas.{file_there, tree_there}
 use Rattle.loading_laws.proofs.ProgramLemmas.{at_place}
-use Rattle.expansion_laws.specs.Within.{bodies_within, with_body, tree_named, program_within}
-use Rattle.program_sizes.specs.Limits.{program_places, IsSizeCause}
+use Rattle.file_order.specs.Within.{bodies_within, with_body, tree_named, program_within}
+use Rattle.loading_laws.specs.Limits.{program_places, IsSizeCause}
 use Rattle.loading_laws.specs.FileRules.{KeepFunctionRules}
 use Rattle.loading_laws.specs.Loaded.{MakeProgram}
 use Rattle.function_rules.specs.Causes.{IsFunctionCause}

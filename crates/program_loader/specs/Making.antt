@@ -6,9 +6,9 @@ use Rattle.program_rules.specs.Limits.{IsWithin}
 use Rattle.program_rules.specs.Programs.{ReadFile}
 use Rattle.program_files.specs.declared.refusal.LoadRefusal.{LoadRefusal}
 use Rattle.program_files.specs.Order.{is_read}
-use Rattle.expansion_laws.specs.Within.{tree_named, program_within, IsIncludeOrder}
+use Rattle.file_order.specs.Within.{tree_named, program_within, IsIncludeOrder}
 use Rattle.file_order.specs.FileOrder.{AreWhole, IsOrderCause}
-use Rattle.program_sizes.specs.Limits.{program_places, IsSizeCause}
+use Rattle.loading_laws.specs.Limits.{program_places, IsSizeCause}
 use Rattle.loading_laws.specs.FileRules.{KeepFunctionRules}
 use Rattle.loading_laws.specs.Loaded.{AreScripts, MakeProgram}
 use Rattle.function_rules.specs.Causes.{IsFunctionCause}

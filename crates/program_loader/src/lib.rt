@@ -12,3 +12,4 @@ mod loading;
 mod making;
 
 pub use loading::load;
+pub use loading_laws::each_has_one_tree;

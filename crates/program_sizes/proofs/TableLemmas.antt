@@ -17,7 +17,7 @@ use Rattle.program_rules.specs.Limits.{one_each, as_file, IsWithin}
 use Rattle.program_rules.specs.Expansion.{with_bodies}
 use Rattle.program_rules.specs.Programs.{ReadFile, functions_in}
 use Rattle.program_files.specs.Order.{is_read, place_of}
-use Rattle.expansion_laws.specs.Within.{tree_named, bodies_within, places_within, program_within}
+use Rattle.file_order.specs.Within.{tree_named, bodies_within, places_within, program_within}
 use Rattle.file_order.specs.FileOrder.{AreWhole, name_or_none, names_at, IsFileOrder}
 use Rattle.file_order.proofs.PlaceLemmas.{place_there, file_there, tree_there}
 use Rattle.program_sizes.specs.declared.size.Size.{Size}

@@ -5,7 +5,7 @@ use Rattle.php_syntax.specs.Trees.{PlainStmts}
 use Rattle.php_syntax.specs.Height.{stmts_nodes, stmts_height}
 use Rattle.program_rules.specs.Programs.{ReadFile}
 use Rattle.program_files.specs.Order.{is_read}
-use Rattle.expansion_laws.specs.Within.{bodies_within, places_within}
+use Rattle.file_order.specs.Within.{bodies_within, places_within}
 use Rattle.file_order.specs.FileOrder.{names_at}
 use Rattle.program_sizes.specs.declared.size.Size.{Size}
 use Rattle.program_sizes.specs.Sizes as sizes

@@ -2,7 +2,7 @@
 use Rattle.dtd_model.specs.Table.{Table}
 use Rattle.echoing_machine.specs.Echoes.{EchoStep, EchoEnd}
 use Rattle.page_decision.specs.Machines.{IsPageMachine}
-use Rattle.page_reader.specs.States.{first_state, tokens_at, tokens_behind}
+use Rattle.merged_reader.specs.ReaderStates.{first_state, tokens_at, tokens_behind}
 use Rattle.merged_reader.specs.States.{merged_next}
 
 -- it reads pages, by the definition with this table

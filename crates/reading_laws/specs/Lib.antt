@@ -1,0 +1,1 @@
+pub use Rattle.program_files.specs.Order

@@ -10,6 +10,8 @@ ghost use Rattle.program_rules.specs.Programs.{ReadFile, AreRead};
 ghost use Rattle.program_files.specs.Order.{Reached};
 ghost use Rattle.program_files.specs.Source.{HasTold};
 
+pub use program_files::laws;
+
 /// Whatever a source told while files were read, each once, there is what it held: the bytes of
 /// each file that was read, and all that the source tells of other names.
 pub fn what_was_held()

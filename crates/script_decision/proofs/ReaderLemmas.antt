@@ -5,7 +5,7 @@ use Rattle.script_meaning.specs.Programs.{PlainProgram}
 use Rattle.dtd_model.specs.Table.{Table}
 use Rattle.page_goals.specs.declared.goal.Goal.{Goal}
 use Rattle.echoing_machine.specs.Echoes.{EchoStep}
-use Rattle.page_reader.specs.States.{first_state, tokens_at, tokens_behind}
+use Rattle.merged_reader.specs.ReaderStates.{first_state, tokens_at, tokens_behind}
 use Rattle.merged_reader.specs.States.{merged_next}
 use Rattle.program_answers.specs.declared.answer.Answer.{Answer}
 use Rattle.program_answers.specs.Answers.{IsAnswerBy}

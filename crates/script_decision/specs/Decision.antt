@@ -8,11 +8,11 @@ use Rattle.content_automata.specs.Tables.{HasStates}
 use Rattle.page_goals.specs.declared.goal.Goal.{Goal}
 use Rattle.page_decision.specs.PageVerdicts.{HasManyPairs, HasManyOpenTags}
 use Rattle.echoing_machine.specs.Echoes.{EchoStep}
-use Rattle.page_reader.specs.States.{first_state, tokens_at, tokens_behind}
+use Rattle.merged_reader.specs.ReaderStates.{first_state, tokens_at, tokens_behind}
 use Rattle.merged_reader.specs.States.{merged_next}
 use Rattle.program_answers.specs.declared.answer.Answer.{Answer}
-use Rattle.loose_grammar.specs.declared.refusal.TheConstants.{ITEM_LIMIT}
-use Rattle.loose_grammar.specs.Pages.{IsLoosePage}
+use Rattle.program_answers.specs.refusal.TheConstants.{ITEM_LIMIT}
+use Rattle.program_answers.specs.Pages.{IsLoosePage}
 use Rattle.program_answers.specs.Answers as by_machine
 use Rattle.program_answers.specs.Answers.{EachIsGood, IsCounterexample}
 use Rattle.script_decision.specs.declared.refusal.CheckRefusal.{CheckRefusal}

@@ -1,1 +1,5 @@
 pub mod Decision
+pub use Rattle.program_answers.specs.Pages
+pub use Rattle.program_answers.specs.Refusals
+pub use Rattle.program_answers.specs.refusal
+pub use Rattle.program_answers.specs.Answers

@@ -14,5 +14,6 @@ mod reading;
 mod refusal;
 
 pub use deciding::check;
+pub use program_answers::{Answer, GrammarRefusal, loose_grammar};
 pub use reading::check_by;
 pub use refusal::CheckRefusal;

@@ -8,7 +8,7 @@ use Rattle.op_system.specs.declared.op.Op.TheVariants as op
 use Rattle.flow_code.specs.Points.{text_ref, read_ref, literal_source, concat_source, apply_source, set_point, branch_point, return_point, call_point}
 use Rattle.flow_code.specs.Lawful.{nexts}
 use Rattle.least_sets.specs.Forms.{text_form, same_form, join_form}
-use Rattle.loose_sets.specs.Keys.{literal_key, may_be, is_exactly}
+use Rattle.set_names.specs.Keys.{literal_key, may_be, is_exactly}
 use Rattle.set_names.specs.declared.name.Half.TheVariants.{Text, Array}
 use Rattle.set_names.specs.declared.name.Aspect.TheVariants.{Own, Member, Others}
 use Rattle.set_names.specs.declared.name.SetVersion.TheVariants.{Point}

@@ -8,10 +8,10 @@ use Rattle.plain_values.specs.Keys.{same_key, canonical_integer, canonical_key}
 use Rattle.plain_values.proofs.SameKeys.{same_is}
 use Rattle.flow_code.specs.Points.{PlainKeyRef, int_ref, text_ref, read_ref, member_source, PlainFlow}
 use Rattle.least_sets.specs.Forms.{Form, text_form, same_form}
-use Rattle.loose_sets.specs.Keys.{literal_key, told_keys, is_among}
-use Rattle.loose_sets.specs.Names as sets
-use Rattle.loose_sets.specs.Names.{text_half, array_half, member, others, keys_of, use_of}
-use Rattle.loose_sets.specs.Table.{SourceRow, member_at, deeper}
+use Rattle.set_names.specs.Keys.{literal_key, told_keys, is_among}
+use Rattle.set_names.specs.SetNames as sets
+use Rattle.set_names.specs.SetNames.{text_half, array_half, member, others, keys_of, use_of}
+use Rattle.set_names.specs.Table.{SourceRow, member_at, deeper}
 use Rattle.set_simulations.specs.Simulations.{Alike}
 use Rattle.set_names.specs.declared.name.Half.{Half}
 use Rattle.set_names.specs.declared.name.Half.TheVariants as half

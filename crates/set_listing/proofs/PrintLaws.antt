@@ -4,9 +4,9 @@ use Rattle.std.specs.Prelude.{Contains, map}
 use Rattle.flow_code.specs.Points.{PlainPoint, set_point, call_point, print_point, echo_point, branch_point, jump_point, begin_point, next_point, key_point, value_point, return_point, quit_point, PlainFlowFunction, PlainFlow, point_at, function_at}
 use Rattle.flow_code.specs.Lawful.{nexts}
 use Rattle.least_sets.specs.Forms.{Form, text_form, same_form, join_form, before_form}
-use Rattle.loose_sets.specs.Names as sets
-use Rattle.loose_sets.specs.Names.{text_half, own, by_return, by_exit, use_of, shown_at, out_of}
-use Rattle.loose_sets.specs.Table.{PrintsNothing, Row}
+use Rattle.set_names.specs.SetNames as sets
+use Rattle.set_names.specs.SetNames.{text_half, own, by_return, by_exit, use_of, shown_at, out_of}
+use Rattle.set_names.specs.Table.{PrintsNothing, Row}
 use Rattle.set_simulations.specs.Simulations.{Alike}
 use Rattle.set_names.specs.declared.name.Half.TheVariants as half
 use Rattle.set_names.specs.declared.name.Aspect.TheVariants.{Own}

@@ -5,10 +5,10 @@ use Rattle.string_functions.proofs.Members.{Contains-nil}
 use Rattle.plain_values.specs.Plain.{PlainKey}
 use Rattle.flow_code.specs.Points.{PlainKeyRef, put_source, PlainFlow}
 use Rattle.least_sets.specs.Forms.{Form, same_form, yes_form}
-use Rattle.loose_sets.specs.Keys.{told_keys, may_be_other, is_exactly}
-use Rattle.loose_sets.specs.Names as sets
-use Rattle.loose_sets.specs.Names.{text_half, array_half, own, member, others, keys_of, use_of, all_of}
-use Rattle.loose_sets.specs.Table.{SourceRow, KeyText}
+use Rattle.set_names.specs.Keys.{told_keys, may_be_other, is_exactly}
+use Rattle.set_names.specs.SetNames as sets
+use Rattle.set_names.specs.SetNames.{text_half, array_half, own, member, others, keys_of, use_of, all_of}
+use Rattle.set_names.specs.Table.{SourceRow, KeyText}
 use Rattle.set_simulations.specs.Simulations.{Alike}
 use Rattle.set_names.specs.declared.name.Half.{Half}
 use Rattle.set_names.specs.declared.name.Half.TheVariants as half

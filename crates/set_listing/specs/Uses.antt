@@ -4,8 +4,8 @@ use Rattle.plain_values.specs.Plain.{PlainKey}
 use Rattle.plain_values.specs.Keys.{same_key}
 use Rattle.flow_code.specs.Points.{PlainKeyRef}
 use Rattle.least_sets.specs.Forms.{Form, same_form}
-use Rattle.loose_sets.specs.Keys.{literal_key, may_be}
-use Rattle.slot_versions.specs.Versions.{PlainVersion}
+use Rattle.set_names.specs.Keys.{literal_key, may_be}
+use Rattle.set_names.specs.SlotVersions.{PlainVersion}
 use Rattle.set_names.specs.declared.name.SetVersion.{SetVersion}
 use Rattle.set_names.specs.Versions.{version_seen}
 use Rattle.set_names.specs.declared.name.Half.{Half}

@@ -1,6 +1,6 @@
 -- What a form in memory is: one of least_sets.
 use Rattle.std.specs.Prelude.{List, map}
-use Rattle.least_sets.specs.Forms.{Form, text_form, same_form, join_form, before_form, request_form, integer_form, apply_form, yes_form, where_form}
+use Rattle.version_rows.specs.Forms.{Form, text_form, same_form, join_form, before_form, request_form, integer_form, apply_form, yes_form, where_form}
 use Rattle.set_names.specs.declared.name.SetName.{SetName}
 use Rattle.set_names.specs.declared.form.NamedForm.{NamedForm}
 use Rattle.set_names.specs.declared.form.NamedForm.TheVariants.{Text, Same, Join, Before, Request, Integer, Apply, Yes, Where}

@@ -1,8 +1,8 @@
 -- What the names in memory stand for, where the keys that are told apart are these.
 use Rattle.std.specs.Prelude.{◌≡◌, ℕ, List, Some, slice_get}
 use Rattle.plain_values.specs.Plain.{PlainKey}
-use Rattle.loose_sets.specs.Names as sets
-use Rattle.slot_versions.specs.Versions.{PlainVersion}
+use Rattle.version_rows.specs.SetNames as sets
+use Rattle.version_rows.specs.Versions.{PlainVersion}
 use Rattle.version_rows.specs.Names.{VersionName, value_of, members_of, shown_of, unversioned}
 use Rattle.set_names.specs.declared.name.SetVersion.{SetVersion}
 use Rattle.set_names.specs.Versions.{version_seen}

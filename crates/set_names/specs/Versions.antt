@@ -1,7 +1,7 @@
 -- The version that a version in memory is.
 use Rattle.std.specs.Prelude.{List, map}
-use Rattle.loose_sets.specs.Reaching.{at_point, at_entry}
-use Rattle.slot_versions.specs.Versions.{PlainVersion, of_definition, join_at}
+use Rattle.version_rows.specs.Reaching.{at_point, at_entry}
+use Rattle.version_rows.specs.Versions.{PlainVersion, of_definition, join_at}
 use Rattle.set_names.specs.declared.name.SetVersion.{SetVersion}
 use Rattle.set_names.specs.declared.name.SetVersion.TheVariants.{Point, Entry, Join}
 

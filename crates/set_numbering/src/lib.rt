@@ -9,3 +9,4 @@ mod listing;
 mod numbering;
 
 pub use numbering::{Numbered, number_sets};
+pub use set_lister::Lister;

@@ -2,7 +2,7 @@
 use Rattle.std.proofs.Common.{inl, inr, ℕ, List, [], ◌∷◌, ◌++◌, refl, subst}
 use Rattle.std.specs.Prelude.{Contains}
 use Rattle.string_functions.proofs.Members.{Contains-nil, Contains-cons_cases, Contains-head, Contains-later}
-use Rattle.op_system.specs.declared.op.Op.{Op}
+use Rattle.least_sets.specs.op.Op.{Op}
 use Rattle.least_sets.specs.Forms.{Form, text_form, same_form, join_form, before_form, request_form, integer_form, apply_form, yes_form, where_form, names}
 use Rattle.least_sets.specs.Sets.{Says, DependsOn, Byte, In, IsCircular}
 use Rattle.set_simulations.specs.Simulations.{TakesOver, Holds, Alike, is_same, HasRow, Simulates, IsMonotone}

@@ -1,6 +1,6 @@
 -- Tables whose sets stand for those of another table.
 use Rattle.std.specs.Prelude.{◌≡◌, ℕ, Bool, true, false, List}
-use Rattle.op_system.specs.declared.op.Op.{Op}
+use Rattle.least_sets.specs.op.Op.{Op}
 use Rattle.least_sets.specs.Forms.{Form, text_form, same_form, join_form, before_form, request_form, integer_form, apply_form, yes_form, where_form}
 
 -- a set takes over the texts of another one: it is that set, or takes over one that does

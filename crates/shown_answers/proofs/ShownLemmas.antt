@@ -9,7 +9,7 @@ use Rattle.sentence_writing.specs.Bytes.{bytes_in}
 use Rattle.script_meaning.specs.Programs.{PlainProgram}
 use Rattle.dtd_model.specs.Table.{Table}
 use Rattle.page_goals.specs.declared.goal.Goal.{Goal}
-use Rattle.program_answers.specs.Answers.{IsCounterexample}
+use Rattle.script_decision.specs.Answers.{IsCounterexample}
 use Rattle.shown_pages.specs.declared.showing.ShownPage.{ShownPage}
 use Rattle.shown_pages.specs.Shows.{Shows}
 use Rattle.shown_answers.specs.Shown.{IsShownCounterexample}

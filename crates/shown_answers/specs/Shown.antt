@@ -5,9 +5,9 @@ use Rattle.dtd_model.specs.Table.{Table}
 use Rattle.page_goals.specs.declared.goal.Goal.{Goal}
 use Rattle.page_goals.specs.Goals.{IsGood}
 use Rattle.page_decision.specs.PageVerdicts.{HasManyPairs, HasManyOpenTags}
-use Rattle.loose_grammar.specs.declared.refusal.TheConstants.{ITEM_LIMIT}
-use Rattle.loose_grammar.specs.Pages.{IsLoosePage}
-use Rattle.program_answers.specs.Answers.{EachIsGood, RunsAreGood}
+use Rattle.script_decision.specs.refusal.TheConstants.{ITEM_LIMIT}
+use Rattle.script_decision.specs.Pages.{IsLoosePage}
+use Rattle.script_decision.specs.Answers.{EachIsGood, RunsAreGood}
 use Rattle.script_decision.specs.Decision.{HasManyItems}
 use Rattle.shown_pages.specs.declared.showing.ShownPage.{ShownPage}
 use Rattle.shown_pages.specs.Shows.{Shows}

@@ -6,7 +6,7 @@ ghost use Rattle.dtd_model.specs.TableOf.{table_of};
 ghost use Rattle.page_goals.specs.declared.goal.Goal as goals;
 ghost use Rattle.php_program.specs.View.{program_of};
 ghost use Rattle.script_meaning.specs.Programs.{PlainProgram};
-ghost use Rattle.program_answers.specs.Answers.{SaysOfRuns};
+ghost use Rattle.script_decision.specs.Answers.{SaysOfRuns};
 ghost use Rattle.script_decision.specs.Decision.{IsAnswerOf, IsCheckRefusal};
 ghost use Rattle.shown_answers.specs.Shown.{IsShownAnswer, ShownSaysOfRuns};
 
@@ -14,8 +14,7 @@ use crate::answer::ShownAnswer;
 use dtd_model::Dtd;
 use page_goals::Goal;
 use php_program::Program;
-use program_answers::Answer;
-use script_decision::{CheckRefusal, check};
+use script_decision::{Answer, CheckRefusal, check};
 use shown_pages::show_page;
 use std::alloc::Global;
 use text_base::NoMemory;

@@ -9,3 +9,4 @@ mod answering;
 
 pub use answer::ShownAnswer;
 pub use answering::check_shown;
+pub use script_decision::{CheckRefusal, GrammarRefusal, loose_grammar};

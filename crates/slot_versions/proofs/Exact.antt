@@ -1,8 +1,8 @@
 -- The definitions behind a version that stands for a slot at a point are those that reach it.
 use Rattle.std.proofs.Common.{◌≡◌, ℕ, ◌↔◌, Some, refl, sym, subst, ◌∙◌}
 use Rattle.std.specs.Prelude.{Contains}
-use Rattle.flow_code.specs.Points.{PlainFlowFunction, PlainFlow, function_at}
-use Rattle.flow_code.specs.Lawful.{sets, nexts, IsOwnSlot}
+use Rattle.loose_sets.specs.Points.{PlainFlowFunction, PlainFlow, function_at}
+use Rattle.loose_sets.specs.Lawful.{sets, nexts, IsOwnSlot}
 use Rattle.loose_sets.specs.Reaching.{Definition, at_point, at_entry, Reaches}
 use Rattle.slot_versions.specs.Versions.{PlainVersion, of_definition, join_at, Edge, Sets, Leaves, Stands, Link, Asked, Linked, IsKept, AreLinks, Behind}
 

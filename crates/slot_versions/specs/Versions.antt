@@ -1,8 +1,8 @@
 -- Versions of a slot at a point, and the definitions behind them (static single assignment: Cytron and others, 1991, but with a join at each
 -- point into which several edges lead, so that no dominators are needed).
 use Rattle.std.specs.Prelude.{◌≡◌, ◌≢◌, ⊤, ℕ, List, Some, Contains}
-use Rattle.flow_code.specs.Points.{PlainPoint, PlainFlowFunction, PlainFlow, point_at, function_at}
-use Rattle.flow_code.specs.Lawful.{sets, nexts, IsOwnSlot}
+use Rattle.loose_sets.specs.Points.{PlainPoint, PlainFlowFunction, PlainFlow, point_at, function_at}
+use Rattle.loose_sets.specs.Lawful.{sets, nexts, IsOwnSlot}
 use Rattle.loose_sets.specs.Reaching.{Definition, at_point, at_entry}
 
 -- a definition, or the join of the versions of a slot that come together at a point

@@ -1,7 +1,7 @@
 //! The law of versions.
 
 ghost use Rattle.std.specs.Prelude.{ℕ, List, ◌↔◌};
-ghost use Rattle.flow_code.specs.Points.{PlainFlow};
+ghost use Rattle.loose_sets.specs.Points.{PlainFlow};
 ghost use Rattle.loose_sets.specs.Reaching.{Definition, Reaches};
 ghost use Rattle.slot_versions.specs.Versions.{PlainVersion, PlainJoin, asked_in, linked_in, IsKept, AreLinks, Stands, Behind};
 

@@ -13,4 +13,5 @@ mod writes;
 
 pub use places::Place;
 pub use pushing::{push_form, push_text, push_where};
+pub use set_versions::version_read;
 pub use sources::{is_own_text, push_source, push_text_alone};

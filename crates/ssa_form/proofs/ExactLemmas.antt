@@ -14,7 +14,7 @@ use Rattle.flow_code.specs.Lawful.{sets, IsOwnSlot}
 use Rattle.flow_graph.specs.declared.arrivals.Arrival.{Arrival}
 use Rattle.flow_graph.specs.declared.arrivals.Arrival.TheVariants.{Edge as of_edge, Entry as of_entry}
 use Rattle.flow_graph.specs.Steps.{PlainStep}
-use Rattle.loose_sets.specs.Reaching.{Definition, at_point, at_entry, Reaches}
+use Rattle.slot_versions.specs.Reaching.{Definition, at_point, at_entry, Reaches}
 use Rattle.slot_versions.specs.Versions.{PlainVersion, of_definition, join_at, Edge, Sets, Leaves, Stands, Link, IsKept, AreLinks, PlainJoin, asked_in, linked_in, Behind}
 use Rattle.slot_versions.proofs.Exact.{exact}
 use Rattle.ssa_form.specs.declared.marks.Marks.{Marks}

@@ -4,7 +4,7 @@ use Rattle.indexmap.specs.IndexMap.{IndexMap}
 use Rattle.flow_code.specs.Points.{PlainFlowFunction}
 use Rattle.flow_graph.specs.declared.arrivals.Arrival.{Arrival}
 use Rattle.flow_graph.specs.declared.arrivals.Arrival.TheVariants.{Edge, Entry}
-use Rattle.loose_sets.specs.Reaching.{at_entry}
+use Rattle.slot_versions.specs.Reaching.{at_entry}
 use Rattle.slot_versions.specs.Versions.{PlainVersion, of_definition}
 use Rattle.ssa_form.specs.Marks.{found_in}
 

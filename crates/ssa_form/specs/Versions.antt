@@ -7,7 +7,7 @@ use Rattle.numbered_sets.specs.Numbers.{AreDifferent}
 use Rattle.function_pairs.specs.Found.{number_in}
 use Rattle.flow_code.specs.Points.{PlainPoint, PlainFlow, point_at}
 use Rattle.flow_code.specs.Lawful.{reads}
-use Rattle.loose_sets.specs.Reaching.{Definition, Reaches}
+use Rattle.slot_versions.specs.Reaching.{Definition, Reaches}
 use Rattle.slot_versions.specs.Versions.{PlainVersion, of_definition, join_at, PlainJoin, linked_in, Behind}
 use Rattle.ssa_form.specs.declared.version.Version.{Version}
 use Rattle.ssa_form.specs.declared.versions.Versions.{Versions}

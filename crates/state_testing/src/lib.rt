@@ -12,4 +12,5 @@ mod several;
 mod states;
 mod values;
 
+pub use page_narrowing::laws;
 pub use states::passes;

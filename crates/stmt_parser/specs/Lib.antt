@@ -3,3 +3,4 @@ pub mod Nexts
 pub mod Lasts
 pub mod Literals
 pub mod Readings
+pub use Rattle.expr_parser.specs.Heads

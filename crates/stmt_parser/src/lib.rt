@@ -18,3 +18,5 @@ pub mod reader;
 mod reads;
 mod rows;
 mod step;
+
+pub use expr_parser::head;

@@ -27,11 +27,11 @@ use Rattle.program_files.specs.declared.refusal.ScriptRefusal.{ScriptRefusal}
 use Rattle.program_files.specs.declared.refusal.ScriptRefusal.TheVariants.{Lex, Parse}
 use Rattle.program_files.specs.declared.refusal.LoadRefusal.{LoadRefusal}
 use Rattle.program_files.specs.declared.refusal.LoadRefusal.TheVariants.{Missing, ReadFault, TooLong, Script, IncludeCycle, DoubleFunction, UnknownFunction, Arity, TooMany, Memory}
-use Rattle.program_sizes.specs.Limits.{PassesLimit}
+use Rattle.program_loader.specs.Limits.{PassesLimit}
 use Rattle.expansion_keeps.specs.FileCalls.{calls_in_files}
-use Rattle.loading_laws.specs.FileRules.{KeepFunctionRules}
-use Rattle.loading_laws.specs.Loaded.{StandsForProgram}
-use Rattle.function_rules.specs.Causes.{is_unknown, is_misused, IsFunctionCause}
+use Rattle.program_loader.specs.FileRules.{KeepFunctionRules}
+use Rattle.program_loader.specs.Loaded.{StandsForProgram}
+use Rattle.program_loader.specs.FunctionCauses.{is_unknown, is_misused, IsFunctionCause}
 use Rattle.program_loader.specs.Causes.{HasFiles, Loads, IncludesItself, BreaksRule, IsTooLarge, IsLoadCause}
 use Rattle.told_programs.specs.Told.{Content, IsLoaded, AreShort, HoldsProgram}
 use Rattle.told_programs.proofs.Same.{AreSame, reads_here, leads_here, reached_here, stands_here, places_here, table_here, counts_here, functions_read, body_read, tree_here}

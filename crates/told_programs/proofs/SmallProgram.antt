@@ -31,7 +31,7 @@ use Rattle.program_rules.specs.Programs.{ReadFile, functions_in, HasNoCycle, IsP
 use Rattle.program_rules.specs.Programs as programs
 use Rattle.program_files.specs.Order.{Reached, begun, next}
 use Rattle.expansion_keeps.specs.FileCalls.{calls_in_files}
-use Rattle.loading_laws.specs.FileRules.{KeepFunctionRules}
+use Rattle.program_loader.specs.FileRules.{KeepFunctionRules}
 use Rattle.reading_laws.proofs.ReadLemmas.{are_read}
 use Rattle.told_programs.specs.Told.{Content, IsProgramInOrder, TellsAll, AreShort, HoldsProgram}
 

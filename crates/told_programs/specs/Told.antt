@@ -7,7 +7,7 @@ use Rattle.program_rules.specs.Files.{Held, Agrees, HasTree}
 use Rattle.program_rules.specs.Includes.{Reads}
 use Rattle.program_rules.specs.Programs.{IsProgram}
 use Rattle.program_files.specs.Order.{Reached}
-use Rattle.loading_laws.specs.FileRules.{KeepFunctionRules}
+use Rattle.program_loader.specs.FileRules.{KeepFunctionRules}
 
 -- what a source tells of each name
 abbrev pub Content : Type 0

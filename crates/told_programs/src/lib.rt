@@ -13,7 +13,8 @@ ghost use Rattle.program_loader.specs.Causes.{Loads, IsLoadCause};
 ghost use Rattle.told_programs.specs.Told.{Content, IsLoaded, HoldsProgram, AreShort};
 
 use lexical_grammar::laws::{never_both, one_token_list};
-use loading_laws::each_has_one_tree;
+use program_loader::each_has_one_tree;
+pub use program_loader::load;
 use program_rules::laws::{one_expansion, one_number_of_places};
 use reading_laws::{names_looked_at, what_was_held};
 

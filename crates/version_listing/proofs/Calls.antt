@@ -8,7 +8,7 @@ use Rattle.loose_sets.specs.Names.{text_half, own, set_of, use_of, result_of}
 use Rattle.loose_sets.specs.Table.{Row}
 use Rattle.slot_versions.specs.Versions.{Linked}
 use Rattle.set_simulations.specs.Simulations.{Alike}
-use Rattle.version_rows.specs.Names.{by_version}
+use Rattle.set_names.specs.RowNames.{by_version}
 use Rattle.set_names.specs.declared.name.Aspect.{Aspect}
 use Rattle.set_names.specs.declared.name.SetName.{SetName}
 use Rattle.set_names.specs.Stands.{IsHalf, IsAspect}

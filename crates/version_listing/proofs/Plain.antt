@@ -8,8 +8,8 @@ use Rattle.loose_sets.specs.Names.{Name, set_of, use_of, all_of, shown_at, resul
 use Rattle.loose_sets.specs.Table.{Row}
 use Rattle.slot_versions.specs.Versions.{PlainVersion, of_definition, join_at, Linked}
 use Rattle.set_simulations.specs.Simulations.{Alike}
-use Rattle.version_rows.specs.Names.{VersionName, value_of, members_of, shown_of, unversioned, Versioned, by_version, is_use, IsRead}
-use Rattle.version_rows.specs.Rows.{VersionRow}
+use Rattle.set_names.specs.RowNames.{VersionName, value_of, members_of, shown_of, unversioned, Versioned, by_version, is_use, IsRead}
+use Rattle.set_names.specs.Rows.{VersionRow}
 use Rattle.set_names.specs.declared.name.SetName.{SetName}
 use Rattle.set_names.specs.Stands.{StandsFor}
 use Rattle.set_listing.specs.Uses.{At, seen_at}

@@ -8,7 +8,7 @@ use Rattle.loose_sets.specs.Names as sets
 use Rattle.loose_sets.specs.Names.{set_of, input_of, output_of, joined_from, piece_of, further_piece_of, further_pieces_of, out_of}
 use Rattle.loose_sets.specs.Table.{Row}
 use Rattle.slot_versions.specs.Versions.{Linked}
-use Rattle.version_rows.specs.Names.{VersionName, value_of, by_version}
+use Rattle.set_names.specs.RowNames.{VersionName, value_of, by_version}
 use Rattle.set_names.specs.declared.name.SetVersion.TheVariants as version
 use Rattle.set_names.specs.declared.name.SetName.{SetName}
 use Rattle.set_names.specs.declared.name.SetName.TheVariants as name

@@ -11,8 +11,8 @@ use Rattle.loose_sets.specs.Names.{Name, set_of, use_of, all_of, shown_at, resul
 use Rattle.loose_sets.specs.Table.{Row, IsTold}
 use Rattle.slot_versions.specs.Versions.{PlainVersion, join_at, Linked}
 use Rattle.set_simulations.specs.Simulations.{Alike}
-use Rattle.version_rows.specs.Names.{VersionName, value_of, members_of, shown_of, Versioned, by_version, is_use, IsRead}
-use Rattle.version_rows.specs.Rows.{VersionRow}
+use Rattle.set_names.specs.RowNames.{VersionName, value_of, members_of, shown_of, Versioned, by_version, is_use, IsRead}
+use Rattle.set_names.specs.Rows.{VersionRow}
 use Rattle.set_names.specs.declared.name.SetVersion.{SetVersion}
 use Rattle.set_names.specs.Versions.{version_seen, versions_seen}
 use Rattle.set_names.specs.declared.name.Half.{Half}

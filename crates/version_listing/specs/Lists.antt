@@ -6,8 +6,8 @@ use Rattle.least_sets.specs.Forms.{Form}
 use Rattle.loose_sets.specs.Keys.{told_keys}
 use Rattle.slot_versions.specs.Versions.{Linked}
 use Rattle.set_simulations.specs.Simulations.{Alike}
-use Rattle.version_rows.specs.Names.{VersionName, Versioned}
-use Rattle.version_rows.specs.Rows.{VersionRow}
+use Rattle.set_names.specs.RowNames.{VersionName, Versioned}
+use Rattle.set_names.specs.Rows.{VersionRow}
 use Rattle.set_names.specs.declared.name.SetName.{SetName}
 use Rattle.set_names.specs.Stands.{StandsFor}
 

@@ -2,12 +2,12 @@
 use Rattle.std.proofs.Common.{◌≡◌, ◌↔◌, ℕ, Bool, true, false, List, Option, refl, sym, subst, ◌∙◌, codes}
 use Rattle.std.specs.Prelude.{⊤}
 use Rattle.op_system.specs.declared.op.Op.{Op}
-use Rattle.flow_code.specs.Points.{PlainKeyRef, PlainSource, PlainFlow}
+use Rattle.slot_versions.specs.Points.{PlainKeyRef, PlainSource, PlainFlow}
 use Rattle.least_sets.specs.Forms.{Form, text_form, same_form, join_form, before_form, request_form, integer_form, apply_form, yes_form, where_form, renamed}
 use Rattle.least_sets.specs.Sets.{In}
-use Rattle.loose_sets.specs.Reaching.{Definition, Reaches}
-use Rattle.loose_sets.specs.Names.{Half, text_half, array_half, Aspect, own, member, others, Name, set_of, use_of, all_of, shown_at, result_of, input_of, output_of, joined_from, piece_of, further_piece_of, further_pieces_of, out_of}
-use Rattle.loose_sets.specs.Table.{Row, SourceRow, KeyText, request_member}
+use Rattle.slot_versions.specs.Reaching.{Definition, Reaches}
+use Rattle.slot_versions.specs.Names.{Half, text_half, array_half, Aspect, own, member, others, Name, set_of, use_of, all_of, shown_at, result_of, input_of, output_of, joined_from, piece_of, further_piece_of, further_pieces_of, out_of}
+use Rattle.slot_versions.specs.Table.{Row, SourceRow, KeyText, request_member}
 use Rattle.slot_versions.specs.Versions.{PlainVersion, of_definition, join_at, Linked, Behind}
 use Rattle.set_simulations.specs.Simulations.{TakesOver, Holds, Alike, is_same, HasRow, Simulates, IsMonotone}
 use Rattle.set_simulations.proofs.Simulated as simulated

@@ -9,12 +9,12 @@ use Rattle.plain_values.specs.Keys.{canonical_integer, canonical_key}
 use Rattle.builtin_meaning.specs.declared.builtin.Builtin.{Builtin}
 use Rattle.op_system.specs.declared.op.Op.{Op}
 use Rattle.op_system.specs.declared.op.Op.TheVariants as op
-use Rattle.flow_code.specs.Points.{PlainKeyRef, int_ref, text_ref, read_ref, PlainSource, copy_source, member_source, array_source, put_source, concat_source, repeat_source, implode_source, explode_source, apply_source, PlainPoint, set_point, call_point, echo_point, begin_point, key_point, value_point, return_point, quit_point, PlainFlow, point_at}
-use Rattle.flow_code.specs.Lawful.{reads, source_reads, item_slots, maybe_key_slots, key_slots}
+use Rattle.slot_versions.specs.Points.{PlainKeyRef, int_ref, text_ref, read_ref, PlainSource, copy_source, member_source, array_source, put_source, concat_source, repeat_source, implode_source, explode_source, apply_source, PlainPoint, set_point, call_point, echo_point, begin_point, key_point, value_point, return_point, quit_point, PlainFlow, point_at}
+use Rattle.slot_versions.specs.Lawful.{reads, source_reads, item_slots, maybe_key_slots, key_slots}
 use Rattle.least_sets.specs.Forms.{Form, text_form, same_form, join_form, before_form, request_form, integer_form, apply_form, yes_form, where_form}
-use Rattle.loose_sets.specs.Keys.{literal_key, told_keys, is_among}
-use Rattle.loose_sets.specs.Names.{Half, text_half, array_half, Aspect, own, member, others, Name, set_of, use_of, all_of, shown_at, result_of, input_of, output_of, joined_from, piece_of, further_piece_of, further_pieces_of, out_of}
-use Rattle.loose_sets.specs.Table.{SetsTo, KeyText, Reads, SourceRow, Row, member_at, request_member}
+use Rattle.slot_versions.specs.Keys.{literal_key, told_keys, is_among}
+use Rattle.slot_versions.specs.Names.{Half, text_half, array_half, Aspect, own, member, others, Name, set_of, use_of, all_of, shown_at, result_of, input_of, output_of, joined_from, piece_of, further_piece_of, further_pieces_of, out_of}
+use Rattle.slot_versions.specs.Table.{SetsTo, KeyText, Reads, SourceRow, Row, member_at, request_member}
 use Rattle.version_rows.specs.Names.{ReadsSlot, IsRead}
 
 -- each set that the form names, also of one that only says yes or no

@@ -1,10 +1,10 @@
 -- The table of the sets by versions.
 use Rattle.std.specs.Prelude.{◌≡◌, ◌↔◌, ℕ, false}
-use Rattle.flow_code.specs.Points.{PlainFlow}
+use Rattle.slot_versions.specs.Points.{PlainFlow}
 use Rattle.least_sets.specs.Forms.{Form, same_form, renamed}
-use Rattle.loose_sets.specs.Names.{Aspect, Name}
-use Rattle.loose_sets.specs.Reaching.{Definition, Reaches}
-use Rattle.loose_sets.specs.Table.{Row}
+use Rattle.slot_versions.specs.Names.{Aspect, Name}
+use Rattle.slot_versions.specs.Reaching.{Definition, Reaches}
+use Rattle.slot_versions.specs.Table.{Row}
 use Rattle.slot_versions.specs.Versions.{PlainVersion, join_at, Linked, Behind}
 use Rattle.version_rows.specs.Names.{VersionName, value_of, Versioned, by_version, is_use, ReadsSlot, IsRead}
 

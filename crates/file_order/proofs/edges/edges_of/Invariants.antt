@@ -1,4 +1,4 @@
-use Rattle.program_files.specs.View.{files_of}
+use Rattle.expansion_laws.specs.View.{files_of}
 use Rattle.file_order.proofs.EdgeLemmas.{AreFirstEdges}
 use Rattle.file_order.proofs.edges.edges_of.Given as goal
 

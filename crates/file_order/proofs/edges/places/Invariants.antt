@@ -1,5 +1,5 @@
 use Rattle.std.proofs.Common.{◌≡◌, ◌++◌, drop}
-use Rattle.program_files.specs.View.{files_of}
+use Rattle.expansion_laws.specs.View.{files_of}
 use Rattle.file_order.specs.FileEdges.{places_of}
 use Rattle.file_order.proofs.edges.places.Given as goal
 

@@ -1,7 +1,7 @@
 use Rattle.std.proofs.Common.{List, ℕ, sym, subst}
 use Rattle.std.specs.declared.vec.Vec.{Vec}
 use Rattle.std.specs.declared.alloc.Global.{Global}
-use Rattle.program_files.specs.View.{files_of}
+use Rattle.expansion_laws.specs.View.{files_of}
 use Rattle.file_order.specs.FileEdges.{AreEdges}
 use Rattle.file_order.proofs.OrderLemmas.{edges_within, order_is, circle_within, cause_is}
 use Rattle.file_order.proofs.order.order_files.Goals as goal

@@ -1,7 +1,7 @@
 use Rattle.std.proofs.Common.{◌≡◌, ◌++◌, drop, map}
 use Rattle.set_names.specs.Forms.{forms_seen}
 use Rattle.ssa_form.specs.Views.{version_seen}
-use Rattle.set_versions.specs.Reading.{version_back}
+use Rattle.link_laws.specs.Reading.{version_back}
 use Rattle.version_listing.specs.Versions.{link_forms}
 use Rattle.name_listing.proofs.joins.push_all.Given as goal
 

@@ -1,6 +1,6 @@
 use Rattle.std.proofs.Common.{◌≡◌, ◌++◌, drop}
 use Rattle.set_names.specs.Forms.{forms_seen}
-use Rattle.set_versions.specs.Reading.{read_at}
+use Rattle.source_listing.specs.Reading.{read_at}
 use Rattle.version_listing.specs.Functions.{used_pairs}
 use Rattle.point_listing.proofs.versions.push_pairs.Given as goal
 
