@@ -10,11 +10,15 @@ mod decided;
 #[cfg(test)]
 mod definitions;
 #[cfg(test)]
+mod derivations;
+#[cfg(test)]
 mod ending;
 #[cfg(test)]
 mod grammars;
 #[cfg(test)]
 mod hostile;
+#[cfg(test)]
+mod passed;
 #[cfg(test)]
 mod programs;
 #[cfg(test)]

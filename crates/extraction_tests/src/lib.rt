@@ -5,3 +5,5 @@
 mod pages;
 #[cfg(test)]
 mod scripts;
+#[cfg(test)]
+mod sizes;

@@ -45,6 +45,11 @@ fn flow(rt: HostRuntime) -> Result<(), Fail> {
         ),
         ("<?php $x = 'a'; $x = 'b'; echo $x;", "b", "a||ab"),
         (
+            "<?php $x = 'a'; while (isset($_GET['b'])) { $x = $x . 'b'; } echo $x;",
+            "a|ab|abbb",
+            "|b|ba|aab",
+        ),
+        (
             "<?php if (isset($_GET['a'])) { echo 'a'; } else { echo 'b'; } echo 'c';",
             "ac|bc",
             "c|abc|a|b",
@@ -63,6 +68,36 @@ fn members(rt: HostRuntime) -> Result<(), Fail> {
             "<?php $a['t'] = '<b>'; $a['u'] = 'x'; echo $a['u'], '.';",
             "x.|.",
             "<b>.|<b>x.|x",
+        ),
+        (
+            "<?php $a['t'] = '<b>'; $a['t'] = 'a'; echo $a['t'], '.';",
+            "a.|.",
+            "<b>.|a",
+        ),
+        (
+            "<?php $a = ['t' => '<b>', 't' => 'a']; echo $a['t'], '.';",
+            "<b>.|a.|.",
+            "<b>a.|t.",
+        ),
+        (
+            "<?php $a = ['t' => 'a']; $a[$_GET['k'] ?? ''] = '<b>'; echo $a['t'], '.';",
+            "a.|<b>.|.",
+            "a<b>.|t.",
+        ),
+        (
+            "<?php $a['x']['y'] = 'b'; echo $a['x']['y'], '.';",
+            "b.|Array.|.",
+            "bb.|y.",
+        ),
+        (
+            "<?php $a['x']['y'] = 'b'; echo $a['x'], '.';",
+            "Array.|.",
+            "b.|y.",
+        ),
+        (
+            "<?php while (isset($_GET['b'])) { $a['t'] = $a['t'] . 'c'; } echo $a['t'], '.';",
+            ".|c.|ccc.",
+            "t.|ct.|",
         ),
         (
             "<?php $a = ['t' => 'c', 'd']; foreach ($a as $v) { echo $v; }",
@@ -101,6 +136,11 @@ fn functions(rt: HostRuntime) -> Result<(), Fail> {
             "abb|c",
         ),
         (
+            "<?php function f($x) { return $x; } function g($y) { echo f($y); } echo f('a'), '.';",
+            "a.|.",
+            "aa.|a",
+        ),
+        (
             "<?php function f($x) { if ($x) { echo 'a'; f($x); echo 'b'; } } f(1);",
             "|ab|aabb|aaabbb",
             "a|aab|abb|ba|abab",
@@ -130,6 +170,16 @@ fn operations(rt: HostRuntime) -> Result<(), Fail> {
             "<?php $x = 'a'; while (isset($_GET['b'])) { $x = strtoupper($x); } echo $x;",
             "a|A|AA|",
             "aa|b|aA",
+        ),
+        (
+            "<?php $s = 'a'; while (isset($_GET['n'])) { $s = str_replace('a', 'b', $s); } ?><p><?= $s ?></p>",
+            "<p>a</p>|<p>bb</p>|<p></p>|<p>abba</p>",
+            "<p>c</p>|<p><p></p>|bb",
+        ),
+        (
+            "<?php $s = 'a]]b'; while (isset($_GET['n'])) { $p = explode(']]', $s); $s = $p[0]; } echo $p[1], '>';",
+            ">|b>|]]>|a]]b>",
+            "c>|>>|]]",
         ),
         (
             "<?php echo str_repeat('ab', 3), implode('-', ['c', 'd']);",

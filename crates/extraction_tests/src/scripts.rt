@@ -39,3 +39,19 @@ pub fn pages_of(alloc: Global, text: &str) -> Result<Option<Grammar>, NoMemory> 
     };
     Ok(grammar_of(alloc, &flow))
 }
+
+/// How many nonterminals the system of a script has, and how many productions and operations
+/// together, where it is read and memory is ample.
+pub fn counts_of(alloc: Global, text: &str) -> Result<Option<(u64, usize)>, NoMemory> {
+    let mut source = script(alloc, text)?;
+    let Some(flow) = points_of(alloc, &mut source) else {
+        return Ok(None);
+    };
+    let system = extract(alloc, &flow)?;
+    let rules = system
+        .grammar
+        .productions
+        .len()
+        .saturating_add(system.ops.len());
+    Ok(Some((system.grammar.count, rules)))
+}

@@ -113,6 +113,68 @@ fn limits(rt: HostRuntime) -> Result<(), Fail> {
     Ok(())
 }
 
+// A grammar of this one production.
+fn one_production(alloc: Global, right: Right) -> Result<Option<Grammar>, NoMemory> {
+    let mut productions = Vec::new(alloc);
+    productions.push(Production { left: Nt(0), right })?;
+    Ok(Grammar::new(Nt(0), 1, productions))
+}
+
+/// A limit of nothing is passed by the one byte of a page.
+#[test]
+fn no_items_at_all(rt: HostRuntime) -> Result<(), Fail> {
+    let alloc = rt.alloc();
+    let Some(grammar) = one_production(alloc, Right::One(one(b'a')))? else {
+        assert!(rt; false);
+        return Ok(());
+    };
+    let table = machine_of(alloc, &Op::Lower)?;
+    assert!(rt;
+        match image(alloc, &grammar, grammar.start, &table, 0) {
+            Err(ImageRefusal::Large { items }) => items > 0,
+            _ => false,
+        }
+    );
+    Ok(())
+}
+
+/// The small letters go through a machine of one state, which puts out each byte as it is, as one
+/// range.
+#[test]
+fn one_range(rt: HostRuntime) -> Result<(), Fail> {
+    let alloc = rt.alloc();
+    let small = ByteRange { lo: b'a', hi: b'z' };
+    let Some(grammar) = one_production(alloc, Right::One(Symbol::Range(small)))? else {
+        assert!(rt; false);
+        return Ok(());
+    };
+    let table = machine_of(alloc, &Op::Same)?;
+    let Ok(image) = image(alloc, &grammar, grammar.start, &table, 100) else {
+        assert!(rt; false);
+        return Ok(());
+    };
+    assert!(rt; has_symbol(&image, Symbol::Range(small)));
+    assert!(rt; derives(alloc, &image, "m")?);
+    assert!(rt; !derives(alloc, &image, "A")?);
+    assert!(rt; !derives(alloc, &image, "mm")?);
+    Ok(())
+}
+
+// Whether a symbol stands in a production.
+fn has_symbol(grammar: &Grammar, symbol: Symbol) -> bool {
+    for production in &grammar.productions {
+        let stands = match &production.right {
+            Right::Empty => false,
+            Right::One(a) => *a == symbol,
+            Right::Two(a, b) => *a == symbol || *b == symbol,
+        };
+        if stands {
+            return true;
+        }
+    }
+    false
+}
+
 /// A range that the machine treats as one is kept as one.
 #[test]
 fn whole_ranges(rt: HostRuntime) -> Result<(), Fail> {

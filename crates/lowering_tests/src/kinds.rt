@@ -10,8 +10,8 @@ use std::alloc::{AllocError, Global};
 use std::test::Fail;
 use text_base::{Bytes, NoMemory};
 
-// A source of `t.php` with this text.
-fn script(alloc: Global, text: &str) -> Result<MemFiles, NoMemory> {
+/// A source of `t.php` with this text.
+pub fn script(alloc: Global, text: &str) -> Result<MemFiles, NoMemory> {
     let mut held = Vec::new(alloc);
     let name = Bytes::from_slice(alloc, b"t.php")?;
     let text = Bytes::from_slice(alloc, text.as_bytes())?;
@@ -29,8 +29,8 @@ fn lowered(alloc: Global, program: &Program) -> Option<FlowProgram> {
     lower(alloc, program).ok()
 }
 
-// The points of the script of a source.
-fn points_of(alloc: Global, source: &mut MemFiles) -> Option<FlowProgram> {
+/// The points of the script of a source.
+pub fn points_of(alloc: Global, source: &mut MemFiles) -> Option<FlowProgram> {
     let program = loaded(alloc, source)?;
     lowered(alloc, &program)
 }
@@ -73,6 +73,51 @@ fn statements(rt: HostRuntime) -> Result<(), Fail> {
         ("<?php function f($a, $b = 'c') {} f(5);", "sscsr sr "),
         ("<?php function f() { exit('a'); } echo f();", "cesr sqsr "),
         ("<?php function f($a) { echo $a; }", "sr sesr "),
+    ] {
+        assert!(rt; has_kinds(rt.alloc(), text, kinds)?, "{text}");
+    }
+    Ok(())
+}
+
+#[test]
+fn control(rt: HostRuntime) -> Result<(), Fail> {
+    for (text, kinds) in [
+        ("a", "psr "),
+        ("<?php if ($x) { echo 'a'; }", "sbsejsr "),
+        (
+            "<?php if ($x) { echo 'a'; } elseif ($y) { echo 'b'; } else { echo 'c'; }",
+            "sbsejsbsejsesr ",
+        ),
+        ("<?php do { echo 'a'; } while ($x);", "sesbsr "),
+        ("<?php for (;;) { break; }", "jjsr "),
+        ("<?php foreach ($a as $v) { continue; }", "swnvjjsr "),
+        ("<?php print $x; exit;", "seqsr "),
+        ("<?php exit(3);", "qsr "),
+        ("<?php function f() { return 1; } f();", "csr srsr "),
+    ] {
+        assert!(rt; has_kinds(rt.alloc(), text, kinds)?, "{text}");
+    }
+    Ok(())
+}
+
+#[test]
+fn expressions(rt: HostRuntime) -> Result<(), Fail> {
+    for (text, kinds) in [
+        ("<?php echo $x ? 'a' : 'b';", "sbssssesr "),
+        ("<?php echo $x ?: 'b';", "sbsssesr "),
+        ("<?php echo $x && $y;", "sbsssesr "),
+        ("<?php echo $x || $y;", "sbsssesr "),
+        ("<?php echo isset($x, $y['k']);", "ssssesr "),
+        ("<?php echo -$x + 2 * $y;", "ssssssesr "),
+        ("<?php echo \"a$x{$y['k']}\";", "sssssesr "),
+        ("<?php $a = ['k' => $x, $y];", "sssssr "),
+        ("<?php $a[$x]['k'][] = 'v';", "ssssr "),
+        ("<?php $a['k'] .= 'b';", "ssssssr "),
+        ("<?php ++$x;", "sssr "),
+        (
+            "<?php echo str_replace('a', 'b', $x), strlen($x);",
+            "ssssessesr ",
+        ),
     ] {
         assert!(rt; has_kinds(rt.alloc(), text, kinds)?, "{text}");
     }

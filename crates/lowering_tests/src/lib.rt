@@ -5,3 +5,5 @@
 mod kinds;
 #[cfg(test)]
 mod points;
+#[cfg(test)]
+mod versions;

@@ -1,6 +1,6 @@
 //! Pages with their tokens.
 
-use crate::reading::{both_say, definition};
+use crate::reading::{both_say, both_say_in_pieces, definition};
 use std::test::Fail;
 
 const DEFINITION: &[u8] = b"<!ELEMENT html (body)>
@@ -40,6 +40,10 @@ fn content(rt: HostRuntime) -> Result<(), Fail> {
         (
             b"<p>&#x10FFFF;<![CDATA[]]]]></p>".as_slice(),
             b"<p text text /p ".as_slice(),
+        ),
+        (
+            b"<!-- --><p>a &lt;</p>".as_slice(),
+            b"misc <p text _ text /p ".as_slice(),
         ),
     ] {
         assert!(rt; both_say(rt.alloc(), &dtd, page, words)?);
@@ -88,6 +92,10 @@ fn attributes(rt: HostRuntime) -> Result<(), Fail> {
         ),
         (b"<p id='a' id='b'>x".as_slice(), b"bad ".as_slice()),
         (b"<p class='a'class='b'>".as_slice(), b"bad ".as_slice()),
+        (
+            b"<p class=\"x\" class=\"x\">".as_slice(),
+            b"bad ".as_slice(),
+        ),
         (b"<p id='a b'>".as_slice(), b"bad ".as_slice()),
         (b"<p align='top'>".as_slice(), b"bad ".as_slice()),
         (b"<p lang='de'>".as_slice(), b"bad ".as_slice()),
@@ -123,6 +131,29 @@ fn faults(rt: HostRuntime) -> Result<(), Fail> {
         (b"&".as_slice(), b"bad ".as_slice()),
     ] {
         assert!(rt; both_say(rt.alloc(), &dtd, page, words)?);
+    }
+    Ok(())
+}
+
+/// Cut in two at any byte, within every kind of piece, a page has the tokens that it has as a whole.
+#[test]
+fn in_two_pieces(rt: HostRuntime) -> Result<(), Fail> {
+    let dtd = definition(rt.alloc(), DEFINITION)?;
+    for (page, words) in [
+        (
+            b"\xEF\xBB\xBF<?xml version='1.0'?><!DOCTYPE html PUBLIC '-//a' \"b\"><!-- c -->".as_slice(),
+            b"doctype misc ".as_slice(),
+        ),
+        (
+            b"<p class='a&lt;\xC3\xA9' id = \"b\" >c &#x41;&amp;<![CDATA[d]]>\xE2\x82\xAC<?e f?></p >".as_slice(),
+            b"<p text _ text text text text misc /p ".as_slice(),
+        ),
+        (
+            b"<br/>a]]<p id='a' id='b'>c</p>".as_slice(),
+            b"<br /br text text text bad ".as_slice(),
+        ),
+    ] {
+        assert!(rt; both_say_in_pieces(rt.alloc(), &dtd, page, words)?);
     }
     Ok(())
 }

@@ -45,6 +45,59 @@ fn read_words<R: ByteReader>(alloc: Global, reader: &R, page: &[u8]) -> Result<B
     Ok(words)
 }
 
+/// Whether both readers put out these tokens over a page, wherever it is cut in two: the second piece
+/// is read from a copy of the state behind the first.
+pub fn both_say_in_pieces(
+    alloc: Global,
+    dtd: &Dtd,
+    page: &[u8],
+    words: &[u8],
+) -> Result<bool, NoMemory> {
+    let indexed = IndexedDtd::new(alloc, dtd)?;
+    for cut in 0..page.len() {
+        let (first, second) = (&page[..cut], &page[cut..]);
+        let plain = words_of_two(alloc, &PageReader { indexed: &indexed }, first, second)?;
+        let merged = words_of_two(alloc, &MergedReader { indexed: &indexed }, first, second)?;
+        if plain.as_slice() != words || merged.as_slice() != words {
+            return Ok(false);
+        }
+    }
+    Ok(true)
+}
+
+// The tokens of two pieces, each as a word and a space.
+fn words_of_two<R: ByteReader>(
+    alloc: Global,
+    reader: &R,
+    first: &[u8],
+    second: &[u8],
+) -> Result<Bytes, NoMemory> {
+    let mut words = Bytes::new(alloc);
+    let start = reader.start(alloc)?;
+    let between = feed(alloc, reader, start, first, &mut words)?;
+    let copy = reader.copy(alloc, &between)?;
+    let end = feed(alloc, reader, copy, second, &mut words)?;
+    push_words(&mut words, reader.last(&end))?;
+    Ok(words)
+}
+
+// Reads a piece: its tokens go behind the words, and the state behind it is given back.
+fn feed<R: ByteReader>(
+    alloc: Global,
+    reader: &R,
+    from: R::State,
+    piece: &[u8],
+    words: &mut Bytes,
+) -> Result<R::State, NoMemory> {
+    let mut state = from;
+    for byte in piece {
+        let step = reader.step(alloc, &state, *byte)?;
+        push_words(words, step.emit)?;
+        state = step.to;
+    }
+    Ok(state)
+}
+
 /// Behind each byte of two texts of one length that follow the same bytes: `=` where the reader
 /// with few states is in one state behind both, and `.` where not.
 pub fn sameness(
