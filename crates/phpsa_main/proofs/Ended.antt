@@ -12,7 +12,7 @@ use Rattle.phpsa_tasks.specs.declared.reply.Reply.{Reply}
 use Rattle.phpsa_tasks.specs.declared.reply.Reply.TheVariants as reply
 use Rattle.phpsa_tasks.specs.Tasks.{Task, AsksFor}
 use Rattle.phpsa_tasks.specs.Call.{Call, Gains, GainsPrefix, GainsNothing, Fails}
-use Rattle.phpsa_tasks.specs.Outcomes.{Does}
+use Rattle.phpsa_tasks.specs.Results.{Does}
 use Rattle.phpsa_tasks.specs.Endings.{OwesReply, OwesRefusal, of_task, wants_memory, OwesHalt, IsDueOnOut, LeavesOut, at_refusal, at_halt, at_want, Ends, replied, refused, halted, by_out, by_err, no_memory}
 use Rattle.phpsa_main.specs.Steps.{Puts, FailsOnOut, WantsMemory, Reports, ReportsRefusal}
 
