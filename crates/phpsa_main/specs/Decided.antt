@@ -15,7 +15,7 @@ use Rattle.phpsa_texts.specs.declared.message.Refusal.{Refusal}
 use Rattle.phpsa_texts.specs.Texts.{Says, long_text, states_text}
 use Rattle.phpsa_tasks.specs.Replies.{IsAnswer}
 use Rattle.phpsa_tasks.specs.Causes.{RefusesScript}
-use Rattle.phpsa_tasks.specs.Counted.{unloaded, ReadsItsFiles, TellsFaults}
+use Rattle.phpsa_tasks.specs.Counted.{uncounted, ReadsItsFiles, TellsFaults}
 
 -- an answer, a message for `err`, or want of memory
 abbrev pub Decision : Type 0
@@ -34,7 +34,7 @@ pub record IsDecidedAs (files : SourceCall) (file : List ℕ) (document_type : N
 -- the script is refused by this message; its files were read once, unless it was not loaded, and a fault is told
 pub record IsRefusedBy (files : SourceCall) (file : List ℕ) (document_type : NamedType) (message : Message) : Type 0 where
   pub why : RefusesScript files file document_type message.status message.text
-  pub read : IsBuiltIn document_type → Contains unloaded message.status ⊎ ReadsItsFiles files file
+  pub read : IsBuiltIn document_type → Contains uncounted message.status ⊎ ReadsItsFiles files file
   pub faults : TellsFaults files message.status
 
 abbrev pub Decides : SourceCall → List ℕ → NamedType → Goal → ℕ → Decision → Type 0

@@ -6,7 +6,7 @@ use Rattle.phpsa_texts.specs.declared.message.Refusal.{Refusal}
 use Rattle.phpsa_texts.specs.Texts.{memory_text, write_fault_text}
 use Rattle.phpsa_tasks.specs.declared.reply.Reply.{Reply}
 use Rattle.phpsa_tasks.specs.declared.reply.Reply.TheVariants as reply
-use Rattle.phpsa_tasks.specs.Outcomes.{reply_text}
+use Rattle.phpsa_tasks.specs.Results.{reply_text}
 use Rattle.phpsa_tasks.specs.Call.{Output, Gains, GainsPrefix, GainsNothing, Fails}
 
 -- a text was put on an output, and the call ends with this status: the wanted one, or that of a fault

@@ -8,7 +8,7 @@ ghost use Rattle.phpsa_tasks.specs.declared.task.TheConstants as task;
 ghost use Rattle.phpsa_tasks.specs.Tasks.{made_check};
 ghost use Rattle.phpsa_tasks.specs.Subjects.{made_name, only_script};
 ghost use Rattle.phpsa_tasks.specs.Counted.{ReadsNothing};
-ghost use Rattle.phpsa_tasks.specs.Outcomes.{Does};
+ghost use Rattle.phpsa_tasks.specs.Results.{Does};
 ghost use Rattle.phpsa_main.specs.Decided.{Decides};
 
 use crate::answers::conclusion_of;

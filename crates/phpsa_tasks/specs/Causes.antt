@@ -21,6 +21,7 @@ use Rattle.phpsa_texts.specs.Texts.{load_text, file_text, definition_text, state
 use Rattle.phpsa_tasks.specs.Tasks.{Task, script_check, page_check, script_making, made_check, script_run, grammar_making, usage}
 use Rattle.phpsa_tasks.specs.Subjects.{made_name, only_made}
 use Rattle.phpsa_tasks.specs.Requests.{RefusesRequest}
+use Rattle.phpsa_tasks.specs.Counted.{ReadsForRun}
 
 -- a source of files as the reader of definitions sees it
 abbrev pub definition_call : SourceCall → definition.SourceCall
@@ -56,9 +57,10 @@ pub data RefusesMade (functions : ℕ) (status : Exit) (text : List ℕ) : Type 
 abbrev pub RefusesProgram : SourceCall → List ℕ → Exit → List ℕ → Type 0
 RefusesProgram files file status text = (cause : LoadRefusal) × IsLoadCause files file cause × (status ≡ load_status cause) × (text ≡ load_text cause)
 
--- the program is loaded, and there is no request for it
+-- the program is loaded, and there is no request for it; its files were read once each, and then that of the request
 abbrev pub LacksRequest : SourceCall → List ℕ → Option (List ℕ) → Exit → List ℕ → Type 0
-LacksRequest files file request status text = (program : PlainProgram) × IsLoaded files.content file program × RefusesRequest files request status text
+LacksRequest files file request status text =
+    (program : PlainProgram) × IsLoaded files.content file program × RefusesRequest files request status text × ReadsForRun files file request
 
 -- a text in the program of a file is over the limit of a run
 abbrev pub RefusesLongText : SourceCall → List ℕ → Exit → List ℕ → Type 0

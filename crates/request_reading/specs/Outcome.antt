@@ -11,7 +11,7 @@ pub data Outcome : Type 0 where
   not_json : Outcome
   not_request : Outcome
   not_admitted : List ℕ → Outcome
-  asked : PlainRequest → Outcome
+  stands_for : PlainRequest → Outcome
 
 -- the value of a file of JSON in UTF-8
 abbrev pub parsed : List ℕ → Option Data
@@ -19,7 +19,7 @@ parsed file = if is_utf8 file then read file else None
 
 abbrev pub admission : Data → Option (List ℕ) → Outcome
 admission d (Some path) = not_admitted path
-admission d None = asked (asked_request d)
+admission d None = stands_for (asked_request d)
 
 -- a value of another form is no request, whatever its texts are
 abbrev pub outcome_of : Option Data → Outcome
