@@ -6,6 +6,7 @@ use Rattle.page_model.specs.Parts.{is_quote}
 use Rattle.page_steps.specs.DoctypeSteps.{begins}
 use Rattle.page_steps.specs.PageSteps.{more_target, may_be_target, is_reserved, is_xml, is_started}
 
+-- what is open in a page, with no look at names, numbers and values
 pub data Coarse : Type 0 where
   content : Coarse
   -- behind `&`
@@ -32,6 +33,7 @@ pub data Coarse : Type 0 where
   doctype : Coarse
   doctype_quotes : ℕ → Coarse
 
+-- behind these characters from `<!` on: what they open, where they are whole, or more of it; none where they open nothing
 abbrev pub from_opener : List ℕ → Option Coarse
 from_opener cs =
     if bytes_eq cs (codes "<!--") then Some (comment 0)
@@ -46,6 +48,7 @@ from_less c =
     else (if c == 63 then Some (target (Some []))
     else (if c == 47 then Some end_tag else (if begins_name c then Some tag else None)))
 
+-- one character more behind `<?`; the XML declaration is begun by `xml` and white space
 abbrev pub from_target : Option (List ℕ) → ℕ → Option Coarse
 from_target o c =
     if may_be_target o c then Some (target (more_target o c))
@@ -77,12 +80,14 @@ coarse_step (doctype_quotes quote) c = if c == quote then Some doctype else Some
 
 -- Bytes. Those of a character of several bytes are passed over, each in the same way.
 
+-- the same behind a byte of a character of several bytes: it is neither `-` nor `]` nor `?`
 abbrev pub wide : Coarse → Coarse
 wide (comment dashes) = comment 0
 wide (section brackets) = section 0
 wide (instruction asked) = instruction false
 wide x = x
 
+-- one byte more: from 128 on it belongs to a character of several bytes
 abbrev pub coarse_byte : Coarse → ℕ → Option Coarse
 coarse_byte x b = if nat_le 128 b then Some (wide x) else coarse_step x b
 
@@ -92,6 +97,7 @@ coarse_after None bytes = None
 coarse_after (Some x) [] = Some x
 coarse_after (Some x) (b ∷ bytes) = coarse_after (coarse_byte x b) bytes
 
+-- the page ends outside pieces
 abbrev pub is_whole : Option Coarse → Bool
 is_whole (Some content) = true
 is_whole o = false

@@ -16,6 +16,7 @@ use Rattle.cfg_grammar.specs.declared.symbol.Symbol.TheVariants.{Range, Token, N
 use Rattle.chart_grammar.specs.declared.fronts.Front.{Front}
 use Rattle.cfg_grammar.specs.contracts.symbol.SymbolPartialEq.TheImpl as symbols
 
+-- fronts of the same number before them and the same last symbol are one
 pub exact_front : (a b : Front) → (nat_eq a.before b.before && (symbols.ghosts).eq a.last b.last) ≡ true → a ≡ b
 exact_front a b h =
     let e : a.before ≡ b.before = exact_unsigned_eq a.before b.before (first_so (nat_eq a.before b.before) ((symbols.ghosts).eq a.last b.last) h) in

@@ -22,6 +22,7 @@ use Rattle.chart_grammar.specs.declared.lifts.Last.{Last}
 use Rattle.chart_grammar.specs.Outs.{IsOutput}
 use Rattle.chart_grammar.specs.Fronts.{StandsFor}
 
+-- the nonterminal of this number, as a symbol
 abbrev pub nt_of : ℕ → Symbol
 nt_of n = Nt (record { 0 = n })
 
@@ -65,6 +66,7 @@ pub record ReadLift (fs : List Passage) (fr : List Front) (base : ℕ) (r : Read
   pub left : p.left ≡ record { 0 = suc number }
   pub right : p.right ≡ front_right front
 
+-- what stands for a front: the last symbol alone, or the front before it (its number less one) and that
 abbrev pub front_by : ℕ → Symbol → Right
 front_by zero last = One last
 front_by (suc n) last = Two (nt_of (suc n)) last
@@ -118,6 +120,7 @@ front_production base n f = record { left = record { 0 = base + n }; right = fro
 abbrev pub HasFronts : List Front → ℕ → List Production → Type 0
 HasFronts fr base qs = (n : ℕ) (f : Front) → slice_get fr n ≡ Some f → IsTrue (production_below (base + length fr) (front_production base n f)) → Contains qs (front_production base n f)
 
+-- where the machine may end, and a passage of the start leads there, the output has its production
 abbrev pub HasEnd : nt.Nt → List Passage → List Front → ℕ → Last → List Production → Type 0
 HasEnd from fs fr base l qs = Contains fs (record { symbol = Nt from; from = 0; to = l.state }) → (p : Production) × Contains qs p × EndLift from fs fr base l p
 

@@ -14,18 +14,23 @@ Row = Bool × List (Option ℕ)
 abbrev pub Table : Type 0
 Table = List ℕ × List Row × List ℕ
 
+-- the row of a state; where there is no such state, one of no end and no element
 abbrev pub row_at : Table → ℕ → Row
 row_at t s = slice_index_or t.1 s (false, [])
 
+-- the number of the state that an element begins in; 0 for one that is not declared
 abbrev pub first_at : Table → ℕ → ℕ
 first_at t e = slice_index_or t.0 e 0
 
+-- the number of the state behind an element, if a match goes on so
 abbrev pub next_at : Table → ℕ → ℕ → Option ℕ
 next_at t s e = slice_index_or (row_at t s).1 e None
 
+-- whether a match may end in the state
 abbrev pub ends_at : Table → ℕ → Bool
 ends_at t s = (row_at t s).0
 
+-- the element of a state; 0 where there is no such state
 abbrev pub owner_at : Table → ℕ → ℕ
 owner_at t s = slice_index_or t.2 s 0
 
@@ -47,6 +52,7 @@ AreElements count es = (e : ℕ) → Contains es e → e < count
 abbrev pub Key : Type 0
 Key = ℕ × List Bool
 
+-- the same element and the same set of positions
 abbrev pub key_eq : Key → Key → Bool
 key_eq a b = nat_eq a.0 b.0 && pointwise beq a.1 b.1
 

@@ -6,9 +6,11 @@ use Rattle.xml_text.specs.Characters.{is_blank, is_character}
 use Rattle.xml_text.specs.Names.{begins_name, in_name}
 use Rattle.dtd_model.specs.References.{number_written}
 
+-- `"` or `'`
 abbrev pub is_quote : ℕ → Bool
 is_quote b = b == 34 || b == 39
 
+-- the two texts are the same, byte by byte
 abbrev pub same : List ℕ → List ℕ → Bool
 same a b = bytes_eq a b
 
@@ -38,6 +40,7 @@ named_length sign bytes =
 abbrev pub reference_length : List ℕ → ℕ
 reference_length bytes = named_length 37 bytes
 
+-- the name in the parameter entity reference that stands there; empty where none does
 abbrev pub reference_name : List ℕ → List ℕ
 reference_name bytes = take (reference_length bytes) (drop 1 bytes)
 
@@ -55,6 +58,7 @@ digits_length class base opening bytes =
 abbrev pub hexadecimal_length : List ℕ → ℕ
 hexadecimal_length bytes = digits_length is_ascii_hexdigit 16 3 bytes
 
+-- how many digits a decimal character reference `&#..;` has; 0 where none of a character stands there
 abbrev pub decimal_length : List ℕ → ℕ
 decimal_length bytes = digits_length is_ascii_digit 10 2 bytes
 

@@ -49,10 +49,12 @@ unfoldable mutual
   path_cost (more_keys no_expr ks) = 4 + path_cost ks
   path_cost (more_keys (some_expr k) ks) = 4 + cost k + path_cost ks
 
+-- what is to do for the right side of a write
 unfoldable pub writing_cost : Writing → ℕ
 writing_cost (writing.Assign x e) = cost (plain_expr e.now)
 writing_cost (writing.Update sign x e) = cost (plain_expr e.now)
 
+-- what is to do for what a frame still holds, and for the frame itself
 unfoldable pub frame_cost : Frame → ℕ
 frame_cost (frame.Subscript k) = cost (plain_expr k.now) + 1
 frame_cost (frame.Container a) = 1
@@ -75,10 +77,12 @@ frame_cost (frame.Choice (Some a) b) = cost (plain_expr a.now) + cost (plain_exp
 frame_cost (frame.Assign x ks) = 1
 frame_cost (frame.Update sign x path old) = 1
 
+-- the same for all frames
 unfoldable pub stack_cost : List Frame → ℕ
 stack_cost [] = 0
 stack_cost (f ∷ k) = frame_cost f + stack_cost k
 
+-- what is to do for what is evaluated next; a call or a fault needs nothing more before the pause
 unfoldable pub focus_cost : Focus → ℕ
 focus_cost (focus.Eval e) = cost (plain_expr e.now)
 focus_cost (focus.Value v) = 2

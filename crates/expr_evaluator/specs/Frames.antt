@@ -44,6 +44,7 @@ abbrev pub plain_maybe : Option Value → Option Plain
 plain_maybe None = None
 plain_maybe (Some v) = Some (plain_of v)
 
+-- the plain form of subscripts in their order
 abbrev pub plain_maybes : List (Option Value) → List (Option Plain)
 plain_maybes [] = []
 plain_maybes (v ∷ vs) = plain_maybe v ∷ plain_maybes vs
@@ -56,6 +57,7 @@ step_in x up before s = result_of (stepped up (value_in s.variables x)) s then_d
 unfoldable pub assign_in : List ℕ → List (Option Plain) → Plain → State → Run Plain
 assign_in x ks v s = result_of (assigned ks v (value_in s.variables x)) s then_do λ whole s. Going v (with_variable s x whole)
 
+-- an assignment with an operator, from the old value of the target and the value of the right side
 unfoldable pub update_in : UpdateSign → List ℕ → List paths.Step → Plain → Plain → State → Run Plain
 update_in sign x path old v s = result_of (updated sign old v) s then_do λ new s. store x path new s
 

@@ -12,14 +12,17 @@ keys_count no_key_form = 0
 keys_count (open_key_form ks) = 1 + keys_count ks
 keys_count (key_form e ks) = 1 + keys_count ks
 
+-- how many subscripts there are
 abbrev pub subscripts_count : SubscriptsForm → ℕ
 subscripts_count no_subscript = 0
 subscripts_count (subscript_form e ks) = 1 + subscripts_count ks
 
+-- how many further expressions there are, that before them not counted
 abbrev pub exprs_count : MoreExprsForm → ℕ
 exprs_count no_more_exprs = 0
 exprs_count (one_more_expr e es) = 1 + exprs_count es
 
+-- how many further items there are, that before them not counted
 abbrev pub items_count : MoreItemsForm → ℕ
 items_count end_of_items = 0
 items_count last_comma = 0

@@ -22,6 +22,7 @@ pub record Scope : Type 0 where
   pub names : List Name
   pub functions : List PlainFunction
 
+-- the slot of a variable of the function
 unfoldable pub variable : Scope → Name → ℕ
 unfolding place_of
 variable w x = w.base + place_of x w.names
@@ -35,9 +36,11 @@ function_in n (f ∷ fs) name = if bytes_eq f.name_of name then Some (n, f) else
 abbrev pub literal : Plain → Code ℕ
 literal v = from_source (literal_source v)
 
+-- a fresh slot set to an operation on one value
 abbrev pub of_one : Work → (Work → List ℕ → PlainSource) → Code ℕ → Code ℕ
 of_one sign source a = computed a (λ x. source sign (x ∷ []))
 
+-- a fresh slot set to an operation on two values; that of the first is computed before that of the second
 abbrev pub of_two : Work → (Work → List ℕ → PlainSource) → Code ℕ → Code ℕ → Code ℕ
 of_two sign source a b = computed (both a b (λ x y. x ∷ y ∷ [])) (source sign)
 
@@ -137,6 +140,7 @@ abbrev pub member_at : ℕ → Option PlainKeyRef → PlainSource
 member_at x None = literal_source null
 member_at x (Some k) = member_source x k
 
+-- from point p and slot t on: the member at the first key, then in that member the one at the second, and so on, a point and a slot each
 unfoldable pub members_along : ℕ → List (Option PlainKeyRef) → ℕ → ℕ → List PlainPoint
 members_along x [] p t = []
 members_along x (k ∷ ks) p t = set_point t (member_at x k) (p + 1) ∷ members_along t ks (p + 1) (t + 1)
@@ -188,11 +192,13 @@ filled x a b = record {
   gives = λ t. t + a.slots + 1 + b.slots;
 }
 
+-- an assignment with an operator: `??=` writes only where the old value is null, and the other signs always
 unfoldable pub update_code : UpdateSign → ℕ → Code (List (Option PlainKeyRef) × ℕ) → Code ℕ → Code ℕ
 unfolding updating members_along
 update_code update.Coalesce x old right = filled x old right
 update_code sign x old right = updated_at sign x old right
 
+-- the change by one: up for `++`, down for `--`
 abbrev pub step_work : Bool → Work
 step_work true = work.Up
 step_work false = work.Down
@@ -219,6 +225,7 @@ default_code no_expr = literal null
 default_code (some_expr (neg_expr (int_expr z))) = of_one work.Neg number_source (literal (int z))
 default_code (some_expr e) = literal (literal_value e)
 
+-- the defaults of these parameters, in their order; null for a parameter without one
 unfoldable pub default_codes : List PlainParam → Code (List ℕ)
 unfolding default_code
 default_codes [] = known []
@@ -235,20 +242,24 @@ called function params args defaults =
       gives = λ t. t + values.slots;
     }
 
+-- a call of a function of the script, with so many arguments: parameters beyond them have their defaults; null where none has the name
 unfoldable pub call_own : Option (ℕ × PlainFunction) → ℕ → Code (List ℕ) → Code ℕ
 unfolding default_codes
 call_own None number args = computed args (λ xs. literal_source null)
 call_own (Some found) number args = called found.0 (length (found.1).params_of) args (default_codes (drop number (found.1).params_of))
 
+-- how many expressions there are
 unfoldable pub number_of : PlainExprs → ℕ
 number_of no_exprs = 0
 number_of (more_exprs e es) = suc (number_of es)
 
+-- a call by what its name stands for: one of PHP's functions where it is the name of one, and else a function of the script
 unfoldable pub call_code : Option Builtin → Option (ℕ × PlainFunction) → PlainExprs → Code (List ℕ) → Code ℕ
 unfolding builtin_source call_own number_of
 call_code (Some f) own trees args = computed args (builtin_source f trees)
 call_code None own trees args = call_own own (number_of trees) args
 
+-- how many keys a path has, each `[]` counted
 unfoldable pub length_of_path : PlainPath → ℕ
 length_of_path no_keys = 0
 length_of_path (more_keys k ks) = suc (length_of_path ks)

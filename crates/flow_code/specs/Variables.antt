@@ -79,6 +79,7 @@ unfoldable mutual
   names_of_arms no_arms = []
   names_of_arms (more_arms e body arms) = names_in e ++ (names_of body ++ names_of_arms arms)
 
+-- the names in their order, with this one left out wherever it stands
 unfoldable pub without : Name → List Name → List Name
 without x [] = []
 without x (y ∷ ys) = if bytes_eq x y then without x ys else y ∷ without x ys
@@ -89,9 +90,11 @@ unfolding without
 once [] = []
 once (x ∷ xs) = x ∷ without x (once xs)
 
+-- the variable of a parameter
 abbrev pub name_of_param : PlainParam → Name
 name_of_param p = p.name_of
 
+-- the names of a function's variables, each once: those of its parameters first, and then those that its body alone names
 unfoldable pub variables_of : PlainFunction → List Name
 unfolding once
 variables_of f = once (map name_of_param f.params_of ++ names_of f.body_of)

@@ -60,6 +60,7 @@ pub record IsVisited (ps : List Production) (es : List Entry) (vs : List Visit) 
 abbrev pub WaitsAt : List Entry → List Visit → Begun → Entry → Type 0
 WaitsAt es vs b e = (q : ℕ) × (slice_get es q ≡ Some e) × (v : Visit) × (slice_get vs q ≡ Some v) × Contains v.waiting.items b
 
+-- a begun production waits at the entry of its next symbol, or, where all is read, its passage is listed
 abbrev pub IsTakenUp : List Production → List Entry → List Visit → List Passage → Begun → Type 0
 IsTakenUp ps es vs fs b = MatchOption (awaited_of ps b) (MatchOption (passage_of ps b) (Unit {0}) (λ f. Contains fs f)) (λ e. WaitsAt es vs b e)
 

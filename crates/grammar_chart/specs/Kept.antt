@@ -12,6 +12,7 @@ use Rattle.grammar_chart.specs.declared.turns.Turn.{Turn}
 use Rattle.grammar_chart.specs.declared.turns.Turn.TheVariants.{Went, Asks, Done}
 use Rattle.grammar_chart.specs.Charts.{IsChart}
 
+-- the lists of the chart keep what a chart of these productions keeps
 abbrev pub IsChartOf : List Production → Chart → Type 0
 IsChartOf ps c = IsChart ps c.from c.entries.keys c.visits.items c.begun.keys c.passages.keys c.readings.items c.opened c.taken c.left
 
@@ -50,6 +51,7 @@ pub record IsDone (c : Chart) : Type 0 where
   pub taken : length c.begun.keys ≤ c.taken
   pub left : length c.passages.keys ≤ c.left
 
+-- what a turn did: one step; or the next entry is a range, whose readings the machine is asked for; or all is done
 abbrev pub IsTurn : List Production → Chart → Chart → Turn → Type 0
 IsTurn ps old new Went = Goes ps old new
 IsTurn ps old new (Asks range s) = (new ≡ old) × (slice_get old.entries.keys old.opened ≡ Some (record { symbol = Range range; state = s })) × (old.opened < 9223372036854775808)

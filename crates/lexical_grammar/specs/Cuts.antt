@@ -20,6 +20,7 @@ abbrev pub blank_behind : List ℕ → Option ℕ
 blank_behind [] = Some 0
 blank_behind (b ∷ bytes) = if is_gap b then Some 1 else if is_line_end b then Some (newline_length (b ∷ bytes)) else None
 
+-- `<?php` and so many bytes of blank behind it are passed over; no step where no blank could be read
 abbrev pub opened : Option ℕ → Option Step
 opened None = None
 opened (Some n) = passes (5 + n)
@@ -28,9 +29,11 @@ opened (Some n) = passes (5 + n)
 abbrev pub php_opener : List ℕ → Option Step
 php_opener bytes = if bytes_eq (map lower (take 5 bytes)) (codes "<?php") then opened (blank_behind (drop 5 bytes)) else None
 
+-- the tag that enters PHP: `<?=` or `<?php`
 unfoldable pub opener_step : List ℕ → Option Step
 opener_step bytes = or_else (echo_opener bytes) (php_opener bytes)
 
+-- whether a tag that enters PHP stands at the head
 abbrev pub is_opener : List ℕ → Bool
 is_opener bytes = is_some (opener_step bytes)
 
@@ -83,6 +86,7 @@ mark_step bytes = or_else (cast_step bytes) (sign_step bytes)
 unfoldable pub lexeme_step : List ℕ → Option Step
 lexeme_step bytes = or_else (between_step bytes) (or_else (word_step bytes) (or_else (text_step bytes) (mark_step bytes)))
 
+-- the step that was found; where there is none, the byte at the head is refused
 abbrev pub or_bad_byte : Option Step → Step
 or_bad_byte None = refuses BadByte 0
 or_bad_byte (Some step) = step

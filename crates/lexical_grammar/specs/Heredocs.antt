@@ -68,6 +68,7 @@ heredoc_token head n (Some k) (whole units m) = faults Escape (head + k)
 heredoc_token head n (Some k) (broken m) = faults Escape (head + min k m)
 heredoc_token head n (Some k) endless = faults Unclosed 0
 
+-- the text of a nowdoc as it stands, refused where PHP would end it early; the head's length, all bytes taken, such a place, the body
 abbrev pub nowdoc_token : ℕ → ℕ → Option ℕ → List ℕ → Option Step
 nowdoc_token head n None body = gives (text body) n
 nowdoc_token head n (Some k) body = faults Escape (head + k)

@@ -45,6 +45,7 @@ exact_attribute_value a0 a1 a2 (attribute.BehindName b0) e = cc
 exact_attribute_value a0 a1 a2 (attribute.BehindEquals b0) e = cc
 exact_attribute_value a0 a1 a2 (attribute.Value b0 b1 b2) e = ap (λ (z : List ℕ × (ℕ × OpenValue)). attribute.Value z.0 z.1.0 z.1.1) (three exact_bytes exact_unsigned_eq exact_value a0 b0 a1 b1 a2 b2 e)
 
+-- open attributes that are found equal are one
 pub exact_attribute : (a b : OpenAttribute) → (attributes.ghosts).eq a b ≡ true → a ≡ b
 exact_attribute (attribute.Between a0) q e = exact_attribute_between a0 q e
 exact_attribute (attribute.Name a0) q e = exact_attribute_name a0 q e

@@ -134,6 +134,7 @@ exact_doctype_behind_system (doctype.BehindPublic b0) e = cc
 exact_doctype_behind_system (doctype.System b0) e = cc
 exact_doctype_behind_system doctype.BehindSystem e = refl
 
+-- open document type declarations that are found equal are one
 pub exact_doctype : (a b : OpenDoctype) → (doctypes.ghosts).eq a b ≡ true → a ≡ b
 exact_doctype (doctype.BeforeRoot a0) q e = exact_doctype_before_root a0 q e
 exact_doctype (doctype.Root a0) q e = exact_doctype_root a0 q e

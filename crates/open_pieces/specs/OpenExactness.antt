@@ -302,6 +302,7 @@ exact_piece_doctype a0 (piece.Declaration b0 b1) e = cc
 exact_piece_doctype a0 piece.DeclarationEnd e = cc
 exact_piece_doctype a0 (piece.Doctype b0) e = ap (λ (z : OpenDoctype). piece.Doctype z) (exact_doctype a0 b0 e)
 
+-- open pieces that are found equal are one
 pub exact_piece : (a b : OpenPiece) → (pieces.ghosts).eq a b ≡ true → a ≡ b
 exact_piece piece.Nothing q e = exact_piece_nothing q e
 exact_piece (piece.Reference a0) q e = exact_piece_reference a0 q e

@@ -46,6 +46,7 @@ exact_reference_hexadecimal a0 (reference.Decimal b0) e = cc
 exact_reference_hexadecimal a0 reference.HexadecimalBegin e = cc
 exact_reference_hexadecimal a0 (reference.Hexadecimal b0) e = ap (λ (z : ℕ). reference.Hexadecimal z) (exact_unsigned_eq a0 b0 e)
 
+-- open references that are found equal are one
 pub exact_reference : (a b : OpenReference) → (references.ghosts).eq a b ≡ true → a ≡ b
 exact_reference (reference.Entity a0) q e = exact_reference_entity a0 q e
 exact_reference reference.Number q e = exact_reference_number q e
@@ -88,6 +89,7 @@ exact_value_words a0 a1 (value.Fixed b0) e = cc
 exact_value_words a0 a1 (value.Choice b0 b1) e = cc
 exact_value_words a0 a1 (value.Words b0 b1) e = ap (λ (z : Bool × Bool). value.Words z.0 z.1) (both exact_bool exact_bool a0 b0 a1 b1 e)
 
+-- open values that are found equal are one
 pub exact_value : (a b : OpenValue) → (values.ghosts).eq a b ≡ true → a ≡ b
 exact_value value.Text q e = exact_value_text q e
 exact_value (value.Reference a0) q e = exact_value_reference a0 q e

@@ -10,6 +10,7 @@ use Rattle.tag_sums.specs.Automaton.{Automaton}
 use Rattle.tag_sums.specs.Sum.{Sum, broken, reduced, target, sum_of}
 use Rattle.page_automata.specs.PageAutomaton.{parts_of, page_automaton}
 
+-- the list is empty
 abbrev pub no_list : {X : Type 0} → List X → Bool
 no_list [] = true
 no_list (x ∷ xs) = false

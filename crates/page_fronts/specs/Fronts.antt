@@ -49,6 +49,7 @@ abbrev pub last_from : ℕ → ℕ → List ℕ → ℕ
 last_from c n [] = n
 last_from c n (d ∷ ds) = last_from c (if d == c then min 2 (suc n) else 0) ds
 
+-- how many of the last characters are this one, at most two, from nothing on
 abbrev pub last : ℕ → List ℕ → ℕ
 last c cs = last_from c 0 cs
 
@@ -153,6 +154,7 @@ abbrev pub CanGoOn : Table → Place → List ℕ → Type 0
 CanGoOn table place bytes =
     (more : List ℕ) × (p : Piece) × (behind : List ℕ) × IsLawful table place p × (piece_bytes p ++ behind ≡ bytes ++ more)
 
+-- the front of bytes that begin no lawful piece: bad where no bytes behind them make one, and else what is open at their end
 abbrev pub FrontStands : Table → Place → List ℕ → Front → Type 0
 FrontStands table place bytes bad = CanGoOn table place bytes → ⊥
 FrontStands table place bytes (front seen o begun) = CanGoOn table place bytes

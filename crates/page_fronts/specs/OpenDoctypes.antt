@@ -12,10 +12,12 @@ pub data Word : Type 0 where
   system_word : Word
   public_word : Word
 
+-- the letters of the word
 abbrev pub letters : Word → List ℕ
 letters system_word = codes "SYSTEM"
 letters public_word = codes "PUBLIC"
 
+-- what is open, by what is reached of the declaration
 pub data OpenDoctype : Type 0 where
   -- nothing, or white space (true)
   before_root : Bool → OpenDoctype
@@ -67,6 +69,7 @@ abbrev pub kept : DoctypeRule → List ℕ → Option (List ℕ)
 kept Strict text = Some text
 kept Free text = None
 
+-- the characters behind `<!DOCTYPE` are so much of a declaration, by what is open
 abbrev pub DoctypeStands : DoctypeRule → OpenDoctype → List ℕ → Type 0
 DoctypeStands rule (before_root spaced) cs = (list_all is_blank cs ≡ true) × (spaced ≡ is_some_space cs)
 DoctypeStands rule (in_root name) cs = (gap : List ℕ) × (cs ≡ gap ++ name) × IsGap gap × (name ≢ []) × ((more : List ℕ) × (codes "html" ≡ name ++ more))

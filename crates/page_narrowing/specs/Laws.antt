@@ -29,12 +29,15 @@ NarrowTokensRead = (table : Table) → IsLawfulTable table → (bytes : List ℕ
 abbrev pub IsKept : Table → Held PageState → Type 0
 IsKept table h = passes table h ≡ true
 
+-- the state before a piece is one that passes
 abbrev pub FirstKept : Type 0
 FirstKept = (table : Table) (place : Place) → IsKept table ((narrow_reader table).first place)
 
+-- each state that a step of the narrowed reader leads to passes
 abbrev pub StepsKeep : Type 0
 StepsKeep = (table : Table) (h g : Held PageState) (b : ℕ) → (narrow_reader table).step h b ≡ go g → IsKept table g
 
+-- each state that the narrowed reader is in behind some bytes of a page passes
 abbrev pub MetKept : Type 0
 MetKept = (table : Table) (bytes : List ℕ) (h : Held PageState) → state_after (narrow_reader table) (Some (at_state beginning)) bytes ≡ Some h → IsKept table h
 

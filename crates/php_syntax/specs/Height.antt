@@ -69,14 +69,17 @@ unfoldable mutual
   arms_height no_arms = 0
   arms_height (more_arms e ss a) = max (height e) (max (stmts_height ss) (arms_height a))
 
+-- the height of the highest parameter: 1 without a default, and else one more than that of the default; 0 where there is none
 abbrev pub params_height : List PlainParam → ℕ
 params_height [] = 0
 params_height (p ∷ ps) = max (1 + maybe_height p.default_of) (params_height ps)
 
+-- the height of the highest function, one more than that of its highest parameter or statement; 0 where there is none
 abbrev pub functions_height : List PlainFunction → ℕ
 functions_height [] = 0
 functions_height (f ∷ fs) = max (1 + max (params_height f.params_of) (stmts_height f.body_of)) (functions_height fs)
 
+-- the height of a file's tree, one more than that of its highest statement or function
 abbrev pub file_height : PlainFile → ℕ
 file_height t = 1 + max (stmts_height t.body_of) (functions_height t.functions_of)
 
@@ -146,13 +149,16 @@ unfoldable mutual
   arms_nodes no_arms = 0
   arms_nodes (more_arms e ss a) = nodes e + stmts_nodes ss + arms_nodes a
 
+-- the nodes of parameters and their defaults
 abbrev pub params_nodes : List PlainParam → ℕ
 params_nodes [] = 0
 params_nodes (p ∷ ps) = 1 + maybe_nodes p.default_of + params_nodes ps
 
+-- the nodes of functions, of their parameters and of their bodies
 abbrev pub functions_nodes : List PlainFunction → ℕ
 functions_nodes [] = 0
 functions_nodes (f ∷ fs) = 1 + params_nodes f.params_of + stmts_nodes f.body_of + functions_nodes fs
 
+-- the nodes of a file's tree, the file itself among them
 abbrev pub file_nodes : PlainFile → ℕ
 file_nodes t = 1 + stmts_nodes t.body_of + functions_nodes t.functions_of

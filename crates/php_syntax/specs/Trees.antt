@@ -94,6 +94,7 @@ pub record PlainParam : Type 0 where
   pub name_of : List ℕ
   pub default_of : MaybeExpr
 
+-- a function: its name, its parameters in order, and its body
 pub record PlainFunction : Type 0 where
   pub name_of : List ℕ
   pub params_of : List PlainParam
@@ -155,18 +156,22 @@ abbrev pub exprs_of : List Expr → PlainExprs
 exprs_of [] = no_exprs
 exprs_of (e ∷ es) = more_exprs (plain_expr e) (exprs_of es)
 
+-- an expression that may be left out
 abbrev pub maybe_of : Option Expr → MaybeExpr
 maybe_of None = no_expr
 maybe_of (Some e) = some_expr (plain_expr e)
 
+-- the same, where the expression stands in a box
 abbrev pub boxed_of : Option (Box Expr Global) → MaybeExpr
 boxed_of None = no_expr
 boxed_of (Some e) = some_expr (plain_expr e.value)
 
+-- the items of an array literal, as a vector shows them
 abbrev pub items_of : List (Option Expr × Expr) → PlainItems
 items_of [] = no_items
 items_of (e ∷ es) = more_items (maybe_of e.0) (plain_expr e.1) (items_of es)
 
+-- the keys of a target, as a vector shows them
 abbrev pub path_of : List (Option Expr) → PlainPath
 path_of [] = no_keys
 path_of (k ∷ ks) = more_keys (maybe_of k) (path_of ks)
@@ -175,6 +180,7 @@ path_of (k ∷ ks) = more_keys (maybe_of k) (path_of ks)
 abbrev pub target_name : Target → List ℕ
 target_name t = (out-Target t).name
 
+-- the path of keys of a target, the outermost first
 abbrev pub target_path : Target → PlainPath
 target_path t = path_of (out-Target t).path.items
 
@@ -212,19 +218,24 @@ abbrev pub arms_of : List (Expr × Vec Stmt Global) → PlainArms
 arms_of [] = no_arms
 arms_of (a ∷ rest) = more_arms (plain_expr a.0) (stmts_of a.1.items) (arms_of rest)
 
+-- the plain form of a parameter
 abbrev pub plain_param : Param → PlainParam
 plain_param p = record { name_of = p.name; default_of = maybe_of p.default }
 
+-- a list of parameters, as a vector shows it
 abbrev pub params_of_list : List Param → List PlainParam
 params_of_list [] = []
 params_of_list (p ∷ ps) = plain_param p ∷ params_of_list ps
 
+-- the plain form of a function
 abbrev pub plain_function : FunctionDef → PlainFunction
 plain_function f = record { name_of = f.name; params_of = params_of_list f.params.items; body_of = stmts_of f.body.items }
 
+-- a list of functions, as a vector shows it
 abbrev pub functions_of_list : List FunctionDef → List PlainFunction
 functions_of_list [] = []
 functions_of_list (f ∷ fs) = plain_function f ∷ functions_of_list fs
 
+-- the plain form of the tree of a file
 abbrev pub plain_file : FileTree → PlainFile
 plain_file t = record { body_of = stmts_of t.body.items; functions_of = functions_of_list t.functions.items }

@@ -8,6 +8,7 @@ use Rattle.plain_values.specs.Plain.{Plain, PlainKey, Pairs, int_key, text_key, 
 abbrev pub KeyWord : Type 0
 KeyWord = ℤ ⊎ List ℕ
 
+-- a value that is no array: null, a truth value, an integer or a text
 abbrev pub Flat : Type 0
 Flat = Option (Bool ⊎ KeyWord)
 
@@ -15,14 +16,17 @@ Flat = Option (Bool ⊎ KeyWord)
 abbrev pub Step : Type 0
 Step = Option (KeyWord × Option Flat)
 
+-- a key as it is written in a step
 abbrev pub key_word : PlainKey → KeyWord
 key_word (int_key z) = inl z
 key_word (text_key t) = inr t
 
+-- the key that is written in a step
 abbrev pub word_key : KeyWord → PlainKey
 word_key (inl z) = int_key z
 word_key (inr t) = text_key t
 
+-- the value that is written in a step
 abbrev pub flat_value : Flat → Plain
 flat_value None = null
 flat_value (Some (inl b)) = flag b
@@ -41,24 +45,29 @@ abbrev mutual
   steps_of k (text t) = Some (k, Some (Some (inr (inr t)))) ∷ []
   steps_of k (array qs) = steps qs ++ Some (k, None) ∷ []
 
+-- a pair with a value that is no array, put before those of the array begun last; nothing where none is begun
 abbrev pub add_flat : KeyWord → Flat → List Pairs → List Pairs
 add_flat k f [] = []
 add_flat k f (ps ∷ s) = pair (word_key k) (flat_value f) ps ∷ s
 
+-- the array begun last is whole, and is put under this key before the pairs of the one begun before it; nothing where there are not two
 abbrev pub add_array : KeyWord → List Pairs → List Pairs
 add_array k [] = []
 add_array k (qs ∷ []) = []
 add_array k (qs ∷ (ps ∷ s)) = pair (word_key k) (array qs) ps ∷ s
 
+-- what a step does to the arrays that are begun, the last one first
 abbrev pub step : Step → List Pairs → List Pairs
 step None s = empty ∷ s
 step (Some (k, None)) s = add_array k s
 step (Some (k, Some f)) s = add_flat k f s
 
+-- the steps one after another
 abbrev pub run : List Step → List Pairs → List Pairs
 run [] s = s
 run (x ∷ xs) s = run xs (step x s)
 
+-- the array begun last; an empty one where none is begun
 abbrev pub top : List Pairs → Pairs
 top [] = empty
 top (ps ∷ s) = ps
@@ -81,6 +90,7 @@ mutual
   run_value k (array qs) ps rest s =
       ap (λ (xs : List Step). run xs (ps ∷ s)) (append_assoc (steps qs) (Some (key_word k, None) ∷ []) rest) ∙ run_back qs (Some (key_word k, None) ∷ rest) (ps ∷ s) ∙ ap (λ (j : PlainKey). run rest (pair j (array qs) ps ∷ s)) (key_back k)
 
+-- an array is read back from the steps that it is written as
 pub read_back : (ps : Pairs) → top (run (steps ps) []) ≡ ps
 read_back ps = ap (λ (xs : List Step). top (run xs [])) (sym (append_nil (steps ps))) ∙ ap top (run_back ps [] [])
   where

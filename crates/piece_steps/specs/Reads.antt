@@ -11,6 +11,7 @@ pub record Begins {P Q T : Type 0} (l : Language P Q T) (place : P) (text : List
   pub leads : l.after place piece ≡ behind
   pub gives : l.tokens piece ≡ tokens
 
+-- the reader reads the pieces of the language and nothing else
 pub record Reads {P Q T S : Type 0} (l : Language P Q T) (r : Reader P T S) : Type 0 where
   -- nothing is open where a piece begins, and something behind its first symbol
   pub closed : (place : P) → r.is_open (r.first place) ≡ false

@@ -27,11 +27,13 @@ moved_symbol base (Range range) = Range range
 moved_symbol base (Token token) = Token token
 moved_symbol base (Nt a) = Nt (record { 0 = base + a.0 })
 
+-- a right side with each number so much higher
 abbrev pub moved_right : ℕ → Right → Right
 moved_right base Empty = Empty
 moved_right base (One a) = One (moved_symbol base a)
 moved_right base (Two a b) = Two (moved_symbol base a) (moved_symbol base b)
 
+-- a production with each number so much higher
 abbrev pub moved : ℕ → Production → Production
 moved base p = record { left = record { 0 = base + p.left.0 }; right = moved_right base p.right }
 

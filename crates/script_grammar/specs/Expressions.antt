@@ -135,6 +135,7 @@ mutual
     value_item : ExprForm → ItemForm
     keyed_item : ExprForm → ExprForm → ItemForm
 
+-- the terminals of the arguments of `htmlspecialchars` behind its text, before those that follow them
 abbrev pub quotes_terminals : QuotesForm → List Terminal → List Terminal
 quotes_terminals only_quotes r = name_terminal (codes "ENT_QUOTES") ∷ r
 quotes_terminals (quotes_and_charset t is) r = name_terminal (codes "ENT_QUOTES") ∷ sign_terminal sign.Comma ∷ text_terminal t ∷ r
@@ -228,6 +229,7 @@ abbrev pub request_or : Option SuperName → List ℕ → PlainExpr
 request_or None x = var_expr x
 request_or (Some s) x = super_expr s
 
+-- a read of the variable of this name: one of the request's five, or one of the script
 abbrev pub variable_tree : List ℕ → PlainExpr
 variable_tree x = request_or (request_named x) x
 
@@ -237,14 +239,17 @@ key_tree (text_key t) = text_expr t
 key_tree (int_key z) = int_expr z
 key_tree (var_key x) = variable_tree x
 
+-- the member at the first key, of that the one at the second, and so on
 abbrev pub read_tree : PlainExpr → List PlainKey → PlainExpr
 read_tree e [] = e
 read_tree e (k ∷ ks) = read_tree (member_expr e (key_tree k)) ks
 
+-- a part of a template: its text, or the variable with its keys
 abbrev pub part_tree : PlainPart → PlainExpr
 part_tree (plain_part t) = text_expr t
 part_tree (read_part x ks) = read_tree (variable_tree x) ks
 
+-- the parts of a template in their order
 abbrev pub part_trees : List PlainPart → PlainExprs
 part_trees [] = no_exprs
 part_trees (p ∷ ps) = more_exprs (part_tree p) (part_trees ps)
@@ -269,6 +274,7 @@ pub data Links : Type 0 where
   no_links : Links
   more_links : Operator → PlainExpr → Links → Links
 
+-- the operands behind the operators of a chain, in their order
 abbrev pub link_operands : Links → PlainExprs
 link_operands no_links = no_exprs
 link_operands (more_links o b ls) = more_exprs b (link_operands ls)
@@ -283,6 +289,7 @@ abbrev pub flat_join : PlainExpr → Links → PlainExpr
 flat_join a no_links = a
 flat_join a (more_links o b ls) = join_expr (more_exprs a (more_exprs b (link_operands ls)))
 
+-- the tree of a chain of one level: at that of `.` one flat join, and at the others leaning left
 abbrev pub chain_tree_of : Level → PlainExpr → Links → PlainExpr
 chain_tree_of level.Join a ls = flat_join a ls
 chain_tree_of _ a ls = lean_left a ls

@@ -22,6 +22,7 @@ request_named x =
     else (if same_bytes x (request_name request.Server) then Some request.Server
     else None))))
 
+-- whether a name is one of the request's five variables
 abbrev pub is_request : List ℕ → Bool
 is_request x = is_some (request_named x)
 
@@ -36,6 +37,7 @@ is_place (super_expr s) = true
 is_place (member_expr a k) = is_place a
 is_place _ = false
 
+-- whether each of the operands is a variable with subscripts
 abbrev pub all_places : PlainExprs → Bool
 all_places no_exprs = true
 all_places (more_exprs e es) = is_place e && all_places es
@@ -139,6 +141,7 @@ abbrev pub params_fit : List PlainParam → Bool
 params_fit [] = true
 params_fit (p ∷ ps) = is_writable p.name_of && (is_new_name p.name_of ps && params_fit ps)
 
+-- whether each function keeps the rules, in its parameters and in its body, which stands in no loop
 abbrev pub functions_fit : List PlainFunction → Bool
 functions_fit [] = true
 functions_fit (f ∷ fs) = params_fit f.params_of && (stmts_fit false true f.body_of && functions_fit fs)

@@ -18,10 +18,12 @@ pub data MaybeForm : Type 0 where
   nothing_form : MaybeForm
   something_form : ExprForm → MaybeForm
 
+-- the terminals of an expression that may be left out, before those that follow it
 abbrev pub maybe_terminals : MaybeForm → List Terminal → List Terminal
 maybe_terminals nothing_form r = r
 maybe_terminals (something_form e) r = expr_terminals e r
 
+-- the tree of an expression that may be left out
 abbrev pub maybe_tree : MaybeForm → MaybeExpr
 maybe_tree nothing_form = no_expr
 maybe_tree (something_form e) = some_expr (expr_tree e)
@@ -31,14 +33,17 @@ pub data VariablesForm : Type 0 where
   value_form : List ℕ → VariablesForm
   key_value_form : List ℕ → List ℕ → VariablesForm
 
+-- the terminals of the variables of a `foreach`, before those that follow them
 abbrev pub variables_terminals : VariablesForm → List Terminal → List Terminal
 variables_terminals (value_form x) r = variable_terminal x ∷ r
 variables_terminals (key_value_form k x) r = variable_terminal k ∷ sign_terminal sign.DoubleArrow ∷ variable_terminal x ∷ r
 
+-- the variable of the key, if one is named
 abbrev pub key_variable : VariablesForm → Option (List ℕ)
 key_variable (value_form x) = None
 key_variable (key_value_form k x) = Some k
 
+-- the variable of the value
 abbrev pub value_variable : VariablesForm → List ℕ
 value_variable (value_form x) = x
 value_variable (key_value_form k x) = x
@@ -58,6 +63,7 @@ is_status _ = false
 abbrev pub printed : PlainExpr → MaybeExpr
 printed e = if is_status e then no_expr else some_expr e
 
+-- what `exit` prints, by its operand, if it has one
 abbrev pub printed_tree : MaybeForm → MaybeExpr
 printed_tree nothing_form = no_expr
 printed_tree (something_form e) = printed (expr_tree e)
@@ -304,6 +310,7 @@ pub data LiteralForm : Type 0 where
   false_literal : LiteralForm
   null_literal : LiteralForm
 
+-- the terminals of a literal, before those that follow it
 abbrev pub literal_terminals : LiteralForm → List Terminal → List Terminal
 literal_terminals (int_literal z) r = int_terminal z ∷ r
 literal_terminals (negated_literal z) r = sign_terminal sign.Minus ∷ int_terminal z ∷ r
@@ -312,6 +319,7 @@ literal_terminals true_literal r = word_terminal word.True ∷ r
 literal_terminals false_literal r = word_terminal word.False ∷ r
 literal_terminals null_literal r = word_terminal word.Null ∷ r
 
+-- the tree of a literal; a minus sign stays an operator
 abbrev pub literal_tree : LiteralForm → PlainExpr
 literal_tree (int_literal z) = int_expr z
 literal_tree (negated_literal z) = neg_expr (int_expr z)
@@ -325,10 +333,12 @@ pub data ParamForm : Type 0 where
   param_form : List ℕ → ParamForm
   default_form : List ℕ → LiteralForm → ParamForm
 
+-- the terminals of a parameter, before those that follow it
 abbrev pub param_terminals : ParamForm → List Terminal → List Terminal
 param_terminals (param_form x) r = variable_terminal x ∷ r
 param_terminals (default_form x l) r = variable_terminal x ∷ sign_terminal sign.Assign ∷ literal_terminals l r
 
+-- a parameter by its name, with the tree of its default, if it has one
 abbrev pub param_tree : ParamForm → PlainParam
 param_tree (param_form x) = record { name_of = x; default_of = no_expr }
 param_tree (default_form x l) = record { name_of = x; default_of = some_expr (literal_tree l) }
@@ -338,10 +348,12 @@ abbrev pub more_params_terminals : List ParamForm → List Terminal → List Ter
 more_params_terminals [] r = r
 more_params_terminals (p ∷ ps) r = sign_terminal sign.Comma ∷ param_terminals p (more_params_terminals ps r)
 
+-- the terminals of the parameters with commas between them, before those that follow them
 abbrev pub params_terminals : List ParamForm → List Terminal → List Terminal
 params_terminals [] r = r
 params_terminals (p ∷ ps) r = param_terminals p (more_params_terminals ps r)
 
+-- the parameters in their order
 abbrev pub params_trees : List ParamForm → List PlainParam
 params_trees [] = []
 params_trees (p ∷ ps) = param_tree p ∷ params_trees ps
@@ -350,13 +362,16 @@ params_trees (p ∷ ps) = param_tree p ∷ params_trees ps
 pub data FunctionForm : Type 0 where
   function_form : List ℕ → List ParamForm → StmtsForm → FunctionForm
 
+-- the terminals of a function, before those that follow it
 abbrev pub function_terminals : FunctionForm → List Terminal → List Terminal
 function_terminals (function_form f ps ss) r =
     word_terminal word.Function ∷ name_terminal f ∷ sign_terminal sign.OpenParen ∷ params_terminals ps (sign_terminal sign.CloseParen ∷ sign_terminal sign.OpenBrace ∷ stmts_terminals ss (sign_terminal sign.CloseBrace ∷ r))
 
+-- a function by its name in lower case, since names of functions have no case, with its parameters and its body
 abbrev pub function_tree : FunctionForm → PlainFunction
 function_tree (function_form f ps ss) = record { name_of = str_to_ascii_lowercase f; params_of = params_trees ps; body_of = stmts_trees ss no_stmts }
 
+-- whether each `else` in the function's body belongs to the nearest `if` that can take it
 abbrev pub function_nearest : FunctionForm → Bool
 function_nearest (function_form f ps ss) = all_nearest ss
 
@@ -366,6 +381,7 @@ pub data FileForm : Type 0 where
   function_part : FunctionForm → FileForm → FileForm
   stmt_part : StmtForm → FileForm → FileForm
 
+-- the terminals of a file, from its first to its last
 abbrev pub file_terminals : FileForm → List Terminal
 file_terminals end_of_file = []
 file_terminals (function_part f p) = function_terminals f (file_terminals p)
@@ -377,14 +393,17 @@ file_stmts end_of_file = no_stmts
 file_stmts (function_part f p) = file_stmts p
 file_stmts (stmt_part s p) = stmt_trees s (file_stmts p)
 
+-- the functions of a file in their order
 abbrev pub file_functions : FileForm → List PlainFunction
 file_functions end_of_file = []
 file_functions (function_part f p) = function_tree f ∷ file_functions p
 file_functions (stmt_part s p) = file_functions p
 
+-- the tree of a file: its statements outside functions, and its functions
 abbrev pub file_tree : FileForm → PlainFile
 file_tree f = record { body_of = file_stmts f; functions_of = file_functions f }
 
+-- whether each `else` of the file belongs to the nearest `if` that can take it
 abbrev pub file_nearest : FileForm → Bool
 file_nearest end_of_file = true
 file_nearest (function_part f p) = function_nearest f && file_nearest p

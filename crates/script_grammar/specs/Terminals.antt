@@ -46,6 +46,7 @@ cased_word w =
     else (if str_eq_ignore_ascii_case w eol_name || (str_eq_ignore_ascii_case w int_max_name || str_eq_ignore_ascii_case w int_min_name) then Some word.Miscased
     else None)))
 
+-- the first keyword, if there is one, and else the second
 abbrev pub first_of_two : Option Keyword → Option Keyword → Option Keyword
 first_of_two None other = other
 first_of_two (Some k) other = Some k
@@ -54,6 +55,7 @@ first_of_two (Some k) other = Some k
 abbrev pub keyword_of : List ℕ → Option Keyword
 keyword_of w = first_of_two (find_word loop_words w) (first_of_two (find_word branch_words w) (first_of_two (find_word jump_words w) (first_of_two (find_word value_words w) (cased_word w))))
 
+-- what a token is to the grammar: keywords apart from other names, and no place
 pub data Terminal : Type 0 where
   inline_terminal : List ℕ → Terminal
   variable_terminal : List ℕ → Terminal
@@ -64,10 +66,12 @@ pub data Terminal : Type 0 where
   template_terminal : List PlainPart → Terminal
   sign_terminal : Sign → Terminal
 
+-- a name as the keyword that it spells, if it spells one, and else as it stands
 abbrev pub word_or_name : Option Keyword → List ℕ → Terminal
 word_or_name (Some k) w = word_terminal k
 word_or_name None w = name_terminal w
 
+-- the terminal of a kind of token
 abbrev pub terminal_of : PlainKind → Terminal
 terminal_of (inline t) = inline_terminal t
 terminal_of (variable x) = variable_terminal x

@@ -194,6 +194,7 @@ out n l (name.FurtherPiece n2) e = cc
 out n l (name.FurtherPieces n2) e = cc
 out n l (name.Out n2 l2) e = ap (λ (z : ℕ × Leaving). name.Out z.0 z.1) (both exact_unsigned_eq exact_leaving n n2 l l2 e)
 
+-- names of sets that are found equal are one
 pub exact_name : (a b : SetName) → (names.ghosts).eq a b ≡ true → a ≡ b
 exact_name (name.Value a v) q e = value a v q e
 exact_name (name.Members h v) q e = members h v q e

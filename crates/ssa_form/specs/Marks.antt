@@ -18,6 +18,7 @@ abbrev pub found : Option ℕ → ℕ → ℕ → PlainVersion
 found (Some q) h x = of_definition (at_point q)
 found None h x = join_at h x
 
+-- the version of a slot by the last definitions that a map holds for a row of points, which is named by its first point
 abbrev pub found_in : {S : Type 0} → IndexMap (ℕ × ℕ) ℕ S → ℕ → ℕ → PlainVersion
 found_in last h x = found (held last h x) h x
 

@@ -98,6 +98,7 @@ each_value w key x body v s = walk (walked v) (name_of key) x.now (statements w 
 unfoldable pub returning : Environment → MaybeExpr → State → Run meaning.Flow
 returning w e s = maybe_value w e s then_do λ v s. Going (returned v) s
 
+-- `exit`, with a value or without
 unfoldable pub quitting : Environment → MaybeExpr → State → Run meaning.Flow
 quitting w e s = maybe_value w e s then_do λ v s. exit_with v s
 
@@ -142,5 +143,6 @@ pub record IsWhile (e : Bor Expr) (body : Bor (Vec Stmt Global)) (l : Looping) :
 abbrev pub StaysInLoop : meaning.Flow → Type 0
 StaysInLoop f = (s : State) (go : State → Run meaning.Flow) → turn_after f s go ≡ go s
 
+-- a loop that is left behind a turn, and goes on so behind it
 abbrev pub LeavesLoop : meaning.Flow → meaning.Flow → Type 0
 LeavesLoop f left = (s : State) (go : State → Run meaning.Flow) → turn_after f s go ≡ Going left s

@@ -11,22 +11,27 @@ use Rattle.stmt_machine.specs.Actions.{StmtAction, value_action, open_action, in
 abbrev pub value_actions : ExprForm → List StmtAction → List StmtAction
 value_actions e r = value_action (expr_actions e []) ∷ r
 
+-- the actions of the further expressions of a list, before those that follow
 abbrev pub more_values_actions : MoreExprsForm → List StmtAction → List StmtAction
 more_values_actions no_more_exprs r = r
 more_values_actions (one_more_expr e es) r = value_actions e (more_values_actions es r)
 
+-- the actions of a list of expressions, before those that follow
 abbrev pub list_values_actions : ListForm → List StmtAction → List StmtAction
 list_values_actions empty_list r = r
 list_values_actions (list_form e es) r = value_actions e (more_values_actions es r)
 
+-- how many expressions a list has
 abbrev pub list_count : ListForm → ℕ
 list_count empty_list = 0
 list_count (list_form e es) = exprs_count es + 1
 
+-- the actions of an expression that may be left out, before those that follow
 abbrev pub maybe_value_actions : MaybeForm → List StmtAction → List StmtAction
 maybe_value_actions nothing_form r = r
 maybe_value_actions (something_form e) r = value_actions e r
 
+-- whether the expression is there
 abbrev pub is_something : MaybeForm → Bool
 is_something nothing_form = false
 is_something (something_form e) = true
@@ -83,13 +88,16 @@ unfoldable mutual
 abbrev pub param_actions : PlainParam → List StmtAction → List StmtAction
 param_actions p r = parameter_action p.name_of p.default_of ∷ r
 
+-- the actions of parameters, before those that follow
 abbrev pub params_actions : List ParamForm → List StmtAction → List StmtAction
 params_actions [] r = r
 params_actions (p ∷ ps) r = param_actions (param_tree p) (params_actions ps r)
 
+-- the actions of a function, before those that follow
 abbrev pub function_actions : FunctionForm → List StmtAction → List StmtAction
 function_actions (function_form f ps ss) r = function_action f ∷ params_actions ps (function_body_action ∷ stmts_actions ss (function_end_action ∷ r))
 
+-- the actions of a file
 abbrev pub file_actions : FileForm → List StmtAction
 file_actions end_of_file = []
 file_actions (function_part f p) = function_actions f (file_actions p)

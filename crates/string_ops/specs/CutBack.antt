@@ -9,6 +9,7 @@ use Rattle.string_ops.specs.Plans.{rows_below, lasts_below}
 abbrev pub state_of : ℕ → ℕ → ℕ
 state_of phase k = 8 * k + phase
 
+-- the phase of a state: what is left over by 8; 5 for 6 and 7 too
 abbrev pub phase_of : ℕ → ℕ
 phase_of s = if nat_lt (s % 8) 5 then s % 8 else 5
 
@@ -62,14 +63,18 @@ back_ends last len phase k =
     else (if phase == 4 then (if nat_lt k last && is_counted len then [] ∷ [] else [])
     else [] ∷ []))))
 
+-- the choices of a state, by its phase and its number
 abbrev pub back_row : ℕ → Option ℤ → Rows
 back_row last len s b = back_choices last len (phase_of s) (s / 8)
 
+-- how a state may end, by its phase and its number
 abbrev pub back_last : ℕ → Option ℤ → Lasts
 back_last last len s = back_ends last len (phase_of s) (s / 8)
 
+-- the choices of so many states, and none elsewhere
 abbrev pub back_rows : ℕ → ℕ → Option ℤ → Rows
 back_rows states last len = rows_below states (back_row last len)
 
+-- the ends of so many states, and none elsewhere
 abbrev pub back_lasts : ℕ → ℕ → Option ℤ → Lasts
 back_lasts states last len = lasts_below states (back_last last len)

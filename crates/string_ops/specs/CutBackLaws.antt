@@ -8,6 +8,7 @@ use Rattle.fst_core.specs.Fits.{is_fixed}
 use Rattle.string_ops.specs.CutBack.{state_of, phase_of, kept_of_last, is_counted, dropped_of, put_of, back_choices, back_ends, back_row, back_last, back_rows, back_lasts}
 use Rattle.string_ops.specs.PlanLaws as plan
 
+-- a phase and a number have at most three choices by a byte
 pub choices_three : (last : ℕ) (len : Option ℤ) (phase k : ℕ) → length (back_choices last len phase k) ≤ 3
 choices_three last len phase k =
     let P : List (ℕ × List Out) → Type 0 = λ row. length row ≤ 3 in
@@ -18,6 +19,7 @@ choices_three last len phase k =
     (λ _. cond_both (phase == 4) _ _ P (λ _. cond_both (nat_lt 0 k && nat_lt k last) _ _ P (λ _. omega arith) (λ _. omega arith))
     (λ _. cond_both (nat_lt 0 k) _ _ P (λ _. omega arith) (λ _. omega arith))))))
 
+-- a state has at most three choices by a byte
 pub back_three : (states last : ℕ) (len : Option ℤ) (s b : ℕ) → length (back_rows states last len s b) ≤ 3
 back_three states last len s b = plan.three states (back_row last len) (λ n c. choices_three last len (phase_of n) (n / 8)) s b
 
@@ -52,6 +54,7 @@ choices_within states last len phase k some enough fits =
     (λ _. cond_both (nat_lt 0 k && nat_lt k last) _ _ P (λ e. lead_cons states (state_of 4 (k - 1)) kept [] (omega (arith, fits, ltb-true 0 k (and_parts (nat_lt 0 k) (nat_lt k last) e).0)) (lead_nil states)) (λ _. lead_nil states))
     (λ _. cond_both (nat_lt 0 k) _ _ P (λ e. lead_cons states (state_of 5 (k - 1)) [] [] (omega (arith, fits, ltb-true 0 k e)) (lead_nil states)) (λ _. lead_nil states))))))
 
+-- each choice leads to a state of the table, where the table has room for each phase of each number up to `last` plus the dropped bytes
 pub back_within : (states last : ℕ) (len : Option ℤ) → 0 < last → 8 * (last + dropped_of len + 1) ≤ states → (s b : ℕ) → s < states → list_all (λ choice. nat_lt choice.0 states) (back_rows states last len s b) ≡ true
 unfolding Lead
 back_within states last len some enough s b inside =
@@ -61,11 +64,14 @@ ends_by : (P : List (List Out) → Type 0) → P [] → P ([] ∷ []) → (last 
 ends_by P none one last len phase k =
     cond_both (phase == 0) _ _ P (λ _. one) (λ _. cond_both (phase == 1) _ _ P (λ _. none) (λ _. cond_both (phase == 2) _ _ P (λ _. cond_both (k == 0) _ _ P (λ _. one) (λ _. none)) (λ _. cond_both (phase == 3) _ _ P (λ _. cond_both ((dropped_of len == 0 && nat_lt k last) && not (is_counted len)) _ _ P (λ _. one) (λ _. none)) (λ _. cond_both (phase == 4) _ _ P (λ _. cond_both (nat_lt k last && is_counted len) _ _ P (λ _. one) (λ _. none)) (λ _. one)))))
 
+-- a state has at most one end
 pub back_one : (states last : ℕ) (len : Option ℤ) (s : ℕ) → length (back_lasts states last len s) ≤ 1
 back_one states last len s = plan.one states (back_last last len) (λ n. ends_by (λ os. length os ≤ 1) (omega arith) (omega arith) last len (phase_of n) (n / 8)) s
 
+-- what is put out at the end depends on no byte that is read
 pub back_fixed : (states last : ℕ) (len : Option ℤ) (s : ℕ) → list_all (λ out. list_all is_fixed out) (back_lasts states last len s) ≡ true
 back_fixed states last len s = plan.fixed states (back_last last len) (λ n. ends_by (λ os. list_all (λ out. list_all is_fixed out) os ≡ true) refl refl last len (phase_of n) (n / 8)) s
 
+-- a table with room for all phases has at least one state
 pub some_states : (states last : ℕ) (len : Option ℤ) → 8 * (last + dropped_of len + 1) ≤ states → 0 < states
 some_states states last len enough = omega (arith, enough)

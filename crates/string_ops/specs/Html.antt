@@ -38,14 +38,18 @@ abbrev pub html_choice : Option ℕ → List Out → List (ℕ × List Out)
 html_choice None out = []
 html_choice (Some to) out = (to, out) ∷ []
 
+-- the byte escaped, where it goes on with a character or begins one; no choice where it would break UTF-8
 abbrev pub html_row : Rows
 html_row s b = html_choice (utf8_after s b) (html_put b)
 
+-- the text may end where its last character is whole, with nothing more put out
 abbrev pub html_last : Lasts
 html_last s = if s == 0 then [] ∷ [] else []
 
+-- the choices of the eight states, and none elsewhere
 abbrev pub html_rows : Rows
 html_rows = rows_below 8 html_row
 
+-- the ends of the eight states, and none elsewhere
 abbrev pub html_lasts : Lasts
 html_lasts = lasts_below 8 html_last

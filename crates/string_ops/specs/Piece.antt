@@ -17,6 +17,7 @@ before_turn sep at byte = turn_by sep 1 (0, []) false at byte
 abbrev pub inside_turn : List ℕ → ℕ → ℕ → ℕ × List Out
 inside_turn sep at byte = turn_by sep (1 + length sep) (behind sep, []) true at byte
 
+-- at a separator or the beginning the next piece is passed over or given; before and in the piece the separator is searched for
 abbrev pub piece_rows : List ℕ → Rows
 piece_rows sep s byte =
     (if 0 == s then before_turn sep 0 byte ∷ [] else []) ++ (if 0 == s then inside_turn sep 0 byte ∷ [] else [])
@@ -24,6 +25,7 @@ piece_rows sep s byte =
     ++ (if is_within (1 + length sep) (length sep) s then inside_turn sep (s - (1 + length sep)) byte ∷ [] else [])
     ++ (if behind sep == s then (behind sep, []) ∷ [] else [])
 
+-- the text may end at a separator, in the piece, with the bytes of the separator that were held back, and behind the piece
 abbrev pub piece_lasts : List ℕ → Lasts
 piece_lasts sep s =
     (if 0 == s then [] ∷ [] else []) ++ (if is_within (1 + length sep) (length sep) s then map Byte (take (s - (1 + length sep)) sep) ∷ [] else [])

@@ -46,5 +46,6 @@ pub record AddsState (old new : Table) (from : ℕ) (row : ℕ → List (ℕ × 
 abbrev pub rows_below : ℕ → Rows → Rows
 rows_below states rows s byte = if nat_lt s states then rows s byte else []
 
+-- how the states below a number may end, as it is written down, and no end for the others
 abbrev pub lasts_below : ℕ → Lasts → Lasts
 lasts_below states lasts s = if nat_lt s states then lasts s else []

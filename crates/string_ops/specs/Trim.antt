@@ -10,6 +10,7 @@ use Rattle.string_ops.specs.Plans.{rows_below, lasts_below}
 abbrev pub kept_by : Bool → Bool → List (ℕ × List Out)
 kept_by right stripped = if right && stripped then (2, Same ∷ []) ∷ (3, []) ∷ [] else (1, Same ∷ []) ∷ []
 
+-- the choices of a state by a byte that is to be stripped or not; `left` and `right` say which ends are stripped
 abbrev pub trim_by : Bool → Bool → ℕ → Bool → List (ℕ × List Out)
 trim_by left right s stripped =
     if s == 0 then (if left then (if stripped then (0, []) ∷ [] else (1, Same ∷ []) ∷ []) else kept_by right stripped)
@@ -17,17 +18,22 @@ trim_by left right s stripped =
     else (if s == 2 then (if stripped then (2, Same ∷ []) ∷ [] else (1, Same ∷ []) ∷ [])
     else (if stripped then (3, []) ∷ [] else [])))
 
+-- the choices behind a byte that stays, by a byte
 abbrev pub kept_row : Bool → ℕ → List (ℕ × List Out)
 kept_row right b = kept_by right (is_stripped b)
 
+-- the choices of a state by a byte
 abbrev pub trim_row : Bool → Bool → Rows
 trim_row left right s b = trim_by left right s (is_stripped b)
 
+-- the text may end in each state but 2, which is owed a byte that stays; nothing more is put out
 abbrev pub trim_last : Lasts
 trim_last s = if s == 2 then [] else [] ∷ []
 
+-- the choices of the four states, and none elsewhere
 abbrev pub trim_rows : Bool → Bool → Rows
 trim_rows left right = rows_below 4 (trim_row left right)
 
+-- the ends of the four states, and none elsewhere
 abbrev pub trim_lasts : Lasts
 trim_lasts = lasts_below 4 trim_last

@@ -19,10 +19,12 @@ use Rattle.system_writing.specs.Drafts.{IsDraft, IsEndOf}
 abbrev pub IsByte : ℕ → Symbol → Type 0
 IsByte b s = (r : ByteRange) × (s ≡ Range r) × (r.lo ≡ b) × (r.hi ≡ b)
 
+-- one production more stands at the end, and nothing else has changed
 abbrev pub AddsProduction : Draft → Draft → ℕ → Right → Type 0
 AddsProduction old new set right =
     (new.count ≡ old.count) × (new.productions.items ≡ old.productions.items ++ (record { left = record { 0 = set }; right = right }) ∷ []) × (new.rules.items ≡ old.rules.items)
 
+-- one rule of an operation more stands at the end, and nothing else has changed
 abbrev pub AddsRule : Draft → Draft → ℕ → Op → ℕ → Type 0
 AddsRule old new set op operand =
     (new.count ≡ old.count) × (new.productions.items ≡ old.productions.items) × (new.rules.items ≡ old.rules.items ++ (record { left = record { 0 = set }; op = op; operand = record { 0 = operand } }) ∷ [])
@@ -31,6 +33,7 @@ AddsRule old new set op operand =
 abbrev pub GrowsBy : Draft → Draft → ℕ → Type 0
 GrowsBy old new n = (new.count ≡ old.count + n) × (length new.productions.items ≡ length old.productions.items + n) × (new.rules.items ≡ old.rules.items)
 
+-- the draft has what these rows say, with the sets as its first nonterminals
 abbrev pub Stands : List (ℕ × Form ℕ) → List Bool → Closed → ℕ → Draft → Type 0
 Stands rows flags closed sets draft = IsDraft rows flags closed sets draft.count draft.productions.items draft.rules.items
 
@@ -68,6 +71,7 @@ pub record WritesText (old new : Draft) (set : ℕ) (w : List ℕ) : Type 0 wher
   pub is_text : IsText old between w symbol
   pub adds : AddsProduction between new set (text_right symbol)
 
+-- a text was put, and a production of it before a set behind it
 pub record WritesBefore (old new : Draft) (set : ℕ) (w : List ℕ) (other : ℕ) : Type 0 where
   pub between : Draft
   pub symbol : Option Symbol
@@ -80,8 +84,10 @@ pub record AreRows (old new : Draft) (flags : List Bool) (closed : Closed) (sets
   pub numbers : new.count ≤ old.count + bytes
   pub sizes : length new.productions.items + length new.rules.items ≤ length old.productions.items + length old.rules.items + bytes + length cells
 
+-- one row was written
 abbrev pub IsRow : Draft → Draft → List Bool → Closed → ℕ → Row → Type 0
 IsRow old new flags closed sets row = AreRows old new flags closed sets (cell_of row ∷ []) (form_bytes row.form)
 
+-- these rows were written, one after another
 abbrev pub HasRows : Draft → Draft → List Bool → Closed → ℕ → List Row → Type 0
 HasRows old new flags closed sets rows = AreRows old new flags closed sets (cells_of rows) (bytes_in rows)
