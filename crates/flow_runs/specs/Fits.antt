@@ -83,14 +83,17 @@ unfoldable mutual
   ArmsFit no_arms = ⊤
   ArmsFit (more_arms e body arms) = ExprFits e × StmtsFit body × ArmsFit arms
 
+-- each default of these parameters keeps this
 abbrev pub ParamsFit : List PlainParam → Type 0
 ParamsFit [] = ⊤
 ParamsFit (p ∷ ps) = MaybeFits p.default_of × ParamsFit ps
 
+-- each function keeps this, in its defaults and in its body
 abbrev pub FunctionsFit : List PlainFunction → Type 0
 FunctionsFit [] = ⊤
 FunctionsFit (f ∷ fs) = ParamsFit f.params_of × StmtsFit f.body_of × FunctionsFit fs
 
+-- the program keeps this, outside functions and in them
 pub record ProgramFits (program : PlainProgram) : Type 0 where
   pub main : StmtsFit program.main_of
   pub functions : FunctionsFit program.functions_of
