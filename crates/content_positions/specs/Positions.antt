@@ -51,6 +51,7 @@ unfoldable mutual
 abbrev pub before : ℕ → Model → Next → Next
 before base m next = record { positions = firsts base m ++ (if may_be_empty m then next.positions else []); whole = may_be_empty m && next.whole }
 
+-- what may come next where models are to come in turn, and then what is given
 abbrev pub before_all : ℕ → Models → Next → Next
 before_all base ms next = record { positions = firsts_in_turn base ms ++ (if all_may_be_empty ms then next.positions else []); whole = all_may_be_empty ms && next.whole }
 
@@ -84,5 +85,6 @@ at_end = record { positions = []; whole = true }
 abbrev pub first_of : Model → Next
 first_of m = before 0 m at_end
 
+-- the positions of an element's content model in order, from 0 on
 abbrev pub places_of : Model → List Position
 places_of m = places 0 m at_end

@@ -28,6 +28,7 @@ use Rattle.flow_tables.specs.declared.tables.FlowTables.{FlowTables}
 abbrev pub flow_of : FlowTables → PlainFlow
 flow_of t = plain_flow t.flow.now
 
+-- the functions of the program of the tables
 abbrev pub functions_of : FlowTables → List PlainFlowFunction
 functions_of t = (flow_of t).functions_of
 

@@ -64,12 +64,14 @@ int_mark (negsuc n) = keyword word.PhpIntMin
 abbrev pub level_looseness : Level → ℕ
 level_looseness l = 2 + level_rank l
 
+-- the level of an operation: that of sums for `+` and `-`, that of products for `*` and `%`
 abbrev pub arith_level : ArithSign → Level
 arith_level arith.Add = level.Sum
 arith_level arith.Sub = level.Sum
 arith_level arith.Mul = level.Product
 arith_level arith.Rem = level.Product
 
+-- how loose an operation is
 abbrev pub arith_looseness : ArithSign → ℕ
 arith_looseness s = level_looseness (arith_level s)
 
@@ -81,6 +83,7 @@ compare_level compare.Greater = level.Order
 compare_level compare.GreaterEqual = level.Order
 compare_level _ = level.Equality
 
+-- how loose a comparison is
 abbrev pub compare_looseness : CompareSign → ℕ
 compare_looseness s = level_looseness (compare_level s)
 

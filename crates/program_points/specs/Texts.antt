@@ -73,10 +73,12 @@ unfoldable mutual
   arm_texts no_arms = []
   arm_texts (more_arms e body arms) = texts_in e ++ (statement_texts body ++ arm_texts arms)
 
+-- the text literals in the defaults of parameters, in their order
 abbrev pub param_texts : List PlainParam → List (List ℕ)
 param_texts [] = []
 param_texts (p ∷ ps) = maybe_texts p.default_of ++ param_texts ps
 
+-- the text literals in functions: for each those of its defaults, and then those of its body
 abbrev pub function_texts : List PlainFunction → List (List ℕ)
 function_texts [] = []
 function_texts (f ∷ fs) = param_texts f.params_of ++ (statement_texts f.body_of ++ function_texts fs)

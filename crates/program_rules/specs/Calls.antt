@@ -8,6 +8,7 @@ pub record PlainCall : Type 0 where
   pub name_of : List ℕ
   pub arguments : ℕ
 
+-- how many expressions there are
 unfoldable pub number_of : PlainExprs → ℕ
 number_of no_exprs = 0
 number_of (more_exprs e es) = suc (number_of es)
@@ -84,6 +85,7 @@ unfoldable mutual
   arm_calls no_arms = []
   arm_calls (more_arms e body arms) = calls_in e ++ (statement_calls body ++ arm_calls arms)
 
+-- the calls in the bodies of functions, in their order
 unfoldable pub function_calls : List PlainFunction → List PlainCall
 unfolding calls_of
 function_calls [] = []

@@ -29,6 +29,7 @@ unfoldable mutual
   includes_in_arms no_arms = []
   includes_in_arms (more_arms e body arms) = includes_in body ++ includes_in_arms arms
 
+-- the paths of the includes in the bodies of functions, in their order
 unfoldable pub includes_in_functions : List PlainFunction → List (List ℕ)
 unfolding includes_in
 includes_in_functions [] = []
