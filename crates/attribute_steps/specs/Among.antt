@@ -10,6 +10,7 @@ use Rattle.page_fronts.specs.OpenTags.{OpenAttribute, between}
 use Rattle.page_fronts.specs.OpenValues.{OpenValue}
 use Rattle.page_steps.specs.AttributeSteps.{Allowing, AttributeMove, stays, ends_with, leaves, stops, attribute_move}
 
+-- the move of the reader by that among attributes, with the one that it makes where the character is none of an attribute
 abbrev pub moved : {P T S : Type 0} → (List (List ℕ) → OpenAttribute → S) → List (List ℕ) → Move P T S → AttributeMove → Move P T S
 moved wrap names leave (stays o) = go (wrap names o)
 moved wrap names leave (ends_with more) = go (wrap more (between false))
@@ -37,10 +38,12 @@ pub record May (a : Allowing) (names : List (List ℕ)) (x : Attribute) : Type 0
   pub may : a.may names x.name ≡ true
   pub accepted : accepts (a.step x.name) (a.good x.name) (a.start x.name) x.value ≡ true
 
+-- each of the attributes may stand behind the names before it
 abbrev pub AllMay : Allowing → List (List ℕ) → List Attribute → Type 0
 AllMay a names [] = Unit {0}
 AllMay a names (x ∷ xs) = May a names x × AllMay a (a.added names x.name) xs
 
+-- the names that stand behind the attributes
 abbrev pub names_behind : Allowing → List (List ℕ) → List Attribute → List (List ℕ)
 names_behind a names [] = names
 names_behind a names (x ∷ xs) = names_behind a (a.added names x.name) xs

@@ -26,6 +26,7 @@ list_functions = (codes "explode", Explode) ∷ (codes "implode", Implode) ∷ (
 abbrev pub number_functions : List (List ℕ × Builtin)
 number_functions = (codes "strlen", Strlen) ∷ (codes "count", Count) ∷ (codes "intval", Intval) ∷ (codes "intdiv", Intdiv) ∷ (codes "strval", Strval) ∷ []
 
+-- the first function, if there is one, and else the second
 abbrev pub first_of : Option Builtin → Option Builtin → Option Builtin
 first_of None other = other
 first_of (Some b) other = Some b

@@ -9,10 +9,12 @@ abbrev pub state_behind : {P H : Type 0} → Reader P PageToken H → Option H �
 state_behind r None b = None
 state_behind r (Some h) b = to_state r (r.step h b)
 
+-- what is put out at a byte; nothing, where there is no state
 abbrev pub put_at : {P H : Type 0} → Reader P PageToken H → Option H → ℕ → List PageToken
 put_at r None b = []
 put_at r (Some h) b = put_out r (r.step h b)
 
+-- what is put out at the end of the text; nothing, where there is no state
 abbrev pub put_last : {P H : Type 0} → Reader P PageToken H → Option H → List PageToken
 put_last r None = []
 put_last r (Some h) = last_tokens r h

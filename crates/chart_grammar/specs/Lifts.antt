@@ -66,7 +66,7 @@ pub record ReadLift (fs : List Passage) (fr : List Front) (base : ℕ) (r : Read
   pub left : p.left ≡ record { 0 = suc number }
   pub right : p.right ≡ front_right front
 
--- what stands for a front: the last symbol alone, or the front before it (its number less one) and that
+-- what stands for a front: its last symbol, behind the nonterminal of what is before it, where that is not 0
 abbrev pub front_by : ℕ → Symbol → Right
 front_by zero last = One last
 front_by (suc n) last = Two (nt_of (suc n)) last

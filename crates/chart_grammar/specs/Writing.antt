@@ -20,7 +20,7 @@ use Rattle.chart_grammar.specs.Written.{WritesOne, WritesAll}
 abbrev pub WholeMade : List Production → List Passage → List Front → Begun → Production → Type 0
 WholeMade ps fs fr b p = (awaited_of ps b ≡ None) × WholeLift ps fs b p
 
--- that is written for each begun production that is read whole
+-- a begun production that is read whole has its production
 abbrev pub WholeHas : List Production → List Passage → List Front → Begun → List Production → Type 0
 WholeHas ps fs fr b qs = HasWhole ps fs b qs
 
@@ -28,7 +28,7 @@ WholeHas ps fs fr b qs = HasWhole ps fs b qs
 abbrev pub ReadMade : List Passage → ℕ → List Front → Reading → Production → Type 0
 ReadMade fs base fr r p = (part : ByteRange) × ReadLift fs fr base r part p
 
--- that is written for each byte of a reading
+-- a reading has a production for each of its bytes
 abbrev pub ReadHas : List Passage → ℕ → List Front → Reading → List Production → Type 0
 ReadHas fs base fr r qs = HasReading fs fr base r qs
 
@@ -36,7 +36,7 @@ ReadHas fs base fr r qs = HasReading fs fr base r qs
 abbrev pub EndMade : nt.Nt → List Passage → ℕ → List Front → Last → Production → Type 0
 EndMade from fs base fr l p = EndLift from fs fr base l p
 
--- that is written for each end where a passage of the start leads
+-- an end has the production of its output, where a passage of the start leads there
 abbrev pub EndHas : nt.Nt → List Passage → ℕ → List Front → Last → List Production → Type 0
 EndHas from fs base fr l qs = HasEnd from fs fr base l qs
 

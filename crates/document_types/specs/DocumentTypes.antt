@@ -20,6 +20,7 @@ pub data NamedType : Type 0 where
   mini_type : NamedType
   file_type : List ℕ → NamedType
 
+-- the plain form of a document type
 abbrev pub type_of : DocumentType → NamedType
 type_of Strict = strict_type
 type_of Mini = mini_type
@@ -63,6 +64,7 @@ IsTooLarge content (file_type name) count = PassesLimit content name count
 abbrev pub IsFileCause : SourceCall → NamedType → DtdRefusal → Type 0
 IsFileCause call named refusal = (name : List ℕ) × (named ≡ file_type name) × IsCause call name refusal
 
+-- why the built-in text has no table
 abbrev pub IsBuiltInCause : NamedType → DtdRefusal → Type 0
 IsBuiltInCause named refusal = (named ≡ strict_type) × IsRefused strict_bytes refusal
 

@@ -98,7 +98,7 @@ IsListCause rules list (LeftOut at) = ⊥
 IsListCause rules list (Limit count) = CrowdsRule rules list.name (map declared_of list.rules.items) (Limit count)
 IsListCause rules list Memory = Unit {0}
 
--- a list, behind which some have been put to the rules already, gives its element this many attributes, which are too many
+-- a list gives its element this many attributes, which are too many, once those before it have been put to the rules
 pub record AtList (rules : List Rule) (lists : List CodeList) (count : ℕ) : Type 0 where
   pub before : List CodeList
   pub one : CodeList

@@ -9,6 +9,7 @@ use Rattle.expr_evaluator.specs.declared.frame.Focus.{Focus}
 use Rattle.expr_evaluator.specs.declared.frame.Focus.TheVariants as focus
 
 unfoldable mutual
+  -- what is to do for an expression
   pub cost : PlainExpr → ℕ
   cost null_expr = 4
   cost (flag_expr b) = 4
@@ -35,15 +36,18 @@ unfoldable mutual
   cost (step_expr x up before) = 4
   cost (call_expr f es) = 4 + row_cost es
 
+  -- what is to do for expressions in a row
   pub row_cost : PlainExprs → ℕ
   row_cost no_exprs = 0
   row_cost (more_exprs e es) = 4 + cost e + row_cost es
 
+  -- what is to do for the items of an array literal
   pub items_cost : PlainItems → ℕ
   items_cost no_items = 0
   items_cost (more_items no_expr e is) = 4 + cost e + items_cost is
   items_cost (more_items (some_expr k) e is) = 4 + cost k + cost e + items_cost is
 
+  -- what is to do for the keys of a target
   pub path_cost : PlainPath → ℕ
   path_cost no_keys = 0
   path_cost (more_keys no_expr ks) = 4 + path_cost ks

@@ -6,6 +6,7 @@ use Rattle.program_rules.specs.Includes.{includes_of_file}
 use Rattle.program_rules.specs.Programs.{ReadFile}
 use Rattle.expansion_laws.specs.Order.{place_of}
 
+-- the place before the places, if there is one
 abbrev pub with_place : Option ℕ → List ℕ → List ℕ
 with_place None places = places
 with_place (Some place) places = place ∷ places

@@ -14,7 +14,7 @@ abbrev pub replacing : List ℕ → List ℕ → Op
 replacing [] with = op.Same
 replacing (b ∷ search) with = op.Replace (b ∷ search) with
 
--- `str_replace` by the trees of its search and replacement: any text at all where the two are not both text literals
+-- `str_replace` by the trees of its search and replacement; not both text literals: any text of the bytes of subject and replacement
 unfoldable pub replacement : PlainExpr → PlainExpr → Op
 replacement (text_expr search) (text_expr with) = replacing search with
 replacement _ _ = op.Any

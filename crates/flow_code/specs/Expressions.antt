@@ -273,6 +273,7 @@ key_code e a = left a read_ref
 unfoldable mutual
   unfolding key_code variable call_code update_code step_code function_in length_of_path
 
+  -- the points of an expression, which leave its value in a slot
   pub code : Scope → PlainExpr → Code ℕ
   code w null_expr = literal null
   code w (flag_expr b) = literal (flag b)
@@ -299,18 +300,22 @@ unfoldable mutual
   code w (step_expr x up before) = step_code (variable w x) up before
   code w (call_expr name args) = call_code (builtin_named name) (function_in 1 w.functions name) args (codes w args)
 
+  -- the points of expressions from the left to the right, and the slots of their values in the same order
   pub codes : Scope → PlainExprs → Code (List ℕ)
   codes w no_exprs = known []
   codes w (more_exprs e es) = both (code w e) (codes w es) (λ x xs. x ∷ xs)
 
+  -- the points of a key that may be left out
   pub maybe_key : Scope → MaybeExpr → Code (Option PlainKeyRef)
   maybe_key w no_expr = known None
   maybe_key w (some_expr e) = left (key_code e (code w e)) Some
 
+  -- the points of the keys of a target from the left to the right, and the keys
   pub path_code : Scope → PlainPath → Code (List (Option PlainKeyRef))
   path_code w no_keys = known []
   path_code w (more_keys k ks) = both (maybe_key w k) (path_code w ks) (λ first rest. first ∷ rest)
 
+  -- the points of the items of an array literal, a key before its value, and the keys and the slots of the values
   pub items_code : Scope → PlainItems → Code (List (Option PlainKeyRef × ℕ))
   items_code w no_items = known []
   items_code w (more_items k e is) = both (both (maybe_key w k) (code w e) (λ key x. (key, x))) (items_code w is) (λ item rest. item ∷ rest)

@@ -19,7 +19,7 @@ use Rattle.flow_code.specs.declared.source.Work.{Work}
 use Rattle.flow_code.specs.declared.source.Work.TheVariants as work
 use Rattle.flow_code.specs.Points.{PlainKeyRef, int_ref, text_ref, read_ref, PlainSource, literal_source, copy_source, super_source, member_source, array_source, put_source, concat_source, repeat_source, implode_source, explode_source, apply_source, number_source, truth_source, set_point, call_point, print_point, echo_point, branch_point, jump_point, begin_point, next_point, key_point, value_point, return_point, quit_point, PlainFlowFunction, PlainFlow, point_at, function_at}
 
--- the values of the slots by their numbers; a slot that was not set holds null
+-- the value of each slot, by its number
 abbrev pub Slots : Type 0
 Slots = ℕ → Plain
 

@@ -113,6 +113,7 @@ key_variable w (Some x) = Some (variable w x)
 unfoldable mutual
   unfolding code echo_block test_code return_block quit_block variable
 
+  -- the points of a statement
   pub stmt_block : Scope → PlainStmt → Block
   stmt_block w (inline_stmt bytes) = ending no_code (λ none to p. print_point bytes (p + 1))
   stmt_block w (echo_stmt es) = echo_block w es
@@ -129,6 +130,7 @@ unfoldable mutual
   stmt_block w (include_stmt path) = no_block
   stmt_block w (quit_stmt e) = quit_block w e
 
+  -- the points of statements in their order
   pub block : Scope → PlainStmts → Block
   block w no_stmts = no_block
   block w (more_stmts s ss) = stmt_block w s before block w ss

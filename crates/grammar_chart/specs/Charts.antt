@@ -37,6 +37,7 @@ module _ (ps : List Production) (from : nt.Nt) where
     pub entered : Enters ps (ReadingStep rs) from 0 (Nt production.left) b.from
     pub read : HasRead fs production.right b.from b.read
 
+  -- the machine comes to the entry's symbol in its state
   abbrev pub IsEntered : List Reading → Entry → Type 0
   IsEntered rs e = Enters ps (ReadingStep rs) from 0 e.symbol e.state
 

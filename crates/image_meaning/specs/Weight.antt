@@ -32,6 +32,7 @@ module _ {S : Type 0} (productions : List Production) (steps : S → ℕ → S �
     pub is_behind : slice_get it.after symbol ≡ Some behind
     pub step : steps before byte behind letters
 
+  -- a unit of the weight of an image: an item, a letter that is put out as an item reads a byte, or a letter that is put out at an end
   abbrev pub IsUnit : Unit_of_weight S → Type 0
   IsUnit (item it) = IsItem productions steps from first it
   IsUnit (read it symbol byte letters place) = ReadsRange it symbol byte letters × (place < length letters)

@@ -12,6 +12,7 @@ use Rattle.merged_reader.specs.Merging.{merged_begun}
 abbrev pub merged_state : HeldState → HeldState
 merged_state h = record { state = h.state; begun = merged_begun (plain_state h.state) h.begun }
 
+-- the state in memory that stands for this one, a failed reader for itself
 abbrev pub merged : ReaderState → ReaderState
 merged Failed = Failed
 merged (Reading h) = Reading (merged_state h)

@@ -57,11 +57,13 @@ uses_in left (Range range) = []
 uses_in left (Token token) = []
 uses_in left (Nt a) = record { from = a.0; to = left } ∷ []
 
+-- the nonterminals on a right side from the left, each with the left side
 abbrev pub uses_on : ℕ → Right → List Use
 uses_on left Empty = []
 uses_on left (One a) = uses_in left a
 uses_on left (Two a b) = uses_in left a ++ uses_in left b
 
+-- the same for all productions in their order
 abbrev pub uses_of : List Production → List Use
 uses_of ps = flat_map (λ p. uses_on p.left.0 p.right) ps
 
@@ -116,6 +118,7 @@ pub record HasRange (ps : List Production) (n a b : ℕ) : Type 0 where
   pub on : Contains (symbols_of production.right) (Range range)
   pub within : InRange range b
 
+-- one of the first n rules, of this left side, adds the byte by itself
 pub record HasLiteral (rules : List OpRule) (n a b : ℕ) : Type 0 where
   pub place : ℕ
   pub before : place < n

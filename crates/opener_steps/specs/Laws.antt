@@ -26,6 +26,7 @@ pub data Begun (table : Table) (place : Place) : List ℕ → Place → List Pag
   order_mark : (rest : List ℕ) → place ≡ at_beginning → Begun table place (0xFEFF ∷ rest) behind_mark [] rest
   text : (c : ℕ) (rest : List ℕ) → may_follow place (character c) ≡ true → is_plain c ≡ true → Begun table place (c ∷ rest) (behind_leaf place (character c)) (sort_token (sort_of (character c)) ∷ []) rest
 
+-- where a piece begins the reader goes on by `<`, by `&`, by the byte order mark or by a character, and in no other way
 pub record FirstRead : Type 0 where
   pub at_less : (table : Table) (place : Place) (cs : List ℕ) → read_first table place (60 ∷ cs) ≡ read table place (in_opener (codes "<")) cs
   pub at_ampersand : (table : Table) (place : Place) (cs : List ℕ) → read_first table place (38 ∷ cs) ≡ read table place (in_reference (in_entity [])) cs
@@ -40,11 +41,13 @@ pub data Bang : Type 0 where
   section_bang : Bang
   doctype_bang : Bang
 
+-- the characters that open it
 abbrev pub bang_word : Bang → List ℕ
 bang_word comment_bang = codes "<!--"
 bang_word section_bang = codes "<![CDATA["
 bang_word doctype_bang = codes "<!DOCTYPE"
 
+-- what is open behind these characters
 abbrev pub bang_open : Bang → Open
 bang_open comment_bang = in_comment 0
 bang_open section_bang = in_section 0
@@ -57,6 +60,7 @@ pub data Opened (table : Table) (place : Place) (out : Outcome Place PageToken P
   slash : (left : List ℕ) → read table place (in_end_tag [] false) left ≡ out → Opened table place out (47 ∷ left)
   name : (n : ℕ) (left : List ℕ) → begins_name n ≡ true → read table place (in_tag_name (n ∷ [])) left ≡ out → Opened table place out (n ∷ left)
 
+-- behind `<` the reader goes on by `!` and more, by `?`, by `/` or by the first character of a name, and in no other way
 pub record OpenersRead : Type 0 where
   pub at_bang : (table : Table) (place : Place) (b : Bang) (cs left : List ℕ) → 60 ∷ cs ≡ bang_word b ++ left → read table place (in_opener (codes "<")) cs ≡ read table place (bang_open b) left
   pub at_question : (table : Table) (place : Place) (left : List ℕ) → read table place (in_opener (codes "<")) (63 ∷ left) ≡ read table place (in_target (Some [])) left

@@ -50,17 +50,22 @@ pub record IsReferenceThen (table : Table) (cs rest : List ℕ) : Type 0 where
   pub free : list_all (is_none 59) body ≡ true
   pub right : is_right_reference table.entities (reference_of body) ≡ true
 
+-- behind `&` the reader comes to an end exactly behind a known reference and its `;`
 abbrev pub ReferencesRead : Type 0
 ReferencesRead = ReadsFrom (in_reference (in_entity [])) (token.Text ∷ []) (λ table cs rest. IsReferenceThen table cs rest)
 
+-- behind `<!--` the reader comes to an end exactly behind the text of a comment and `-->`
 abbrev pub CommentsRead : Type 0
 CommentsRead = ReadsFrom (in_comment 0) (token.Misc ∷ []) (λ table cs rest. IsLeft IsComment (codes "-->") cs rest)
 
+-- behind `<![CDATA[` the reader comes to an end exactly behind the text of a section and `]]>`
 abbrev pub SectionsRead : Type 0
 SectionsRead = ReadsFrom (in_section 0) (token.Text ∷ []) (λ table cs rest. IsLeft IsSection (codes "]]>") cs rest)
 
+-- behind a target and white space the reader comes to an end exactly behind characters without `?>` and this
 abbrev pub InstructionsRead : Type 0
 InstructionsRead = ReadsFrom (in_instruction false) (token.Misc ∷ []) (λ table cs rest. IsLeft IsData (codes "?>") cs rest)
 
+-- behind `<!DOCTYPE` the reader comes to an end exactly behind a document type declaration that the definition takes
 abbrev pub DoctypesRead : Type 0
 DoctypesRead = ReadsFrom (in_doctype (before_root false)) (token.Doctype ∷ []) (λ table cs rest. IsDoctypeThen table.doctype cs rest)

@@ -128,7 +128,7 @@ abbrev pub doctype_passes : OpenDoctype → Bool
 doctype_passes (in_public quote o) = public_passes o
 doctype_passes o = true
 
--- whether a lawful piece may still come of what is open
+-- whether what is open passes: each name and value in it may still become one that there is
 abbrev pub open_passes : Table → Open → Bool
 open_passes table (in_reference r) = reference_passes table.entities r
 open_passes table (in_tag_name name) = some_begins (element_names table) name
@@ -152,13 +152,13 @@ abbrev pub attribute_takes : OpenAttribute → Bool
 attribute_takes (in_value name quote v) = not (is_quote quote) || value_takes v
 attribute_takes o = false
 
--- whether it may stand in a document type declaration: in a system literal
+-- whether a character of several bytes may stand in a document type declaration: in a system literal
 abbrev pub doctype_takes : OpenDoctype → Bool
 doctype_takes (in_public quote o) = not (is_quote quote)
 doctype_takes (in_system quote) = true
 doctype_takes o = false
 
--- whether it may stand in what is open
+-- whether a character of several bytes may stand in what is open
 abbrev pub takes_several : Open → Bool
 takes_several nothing = true
 takes_several (in_tag name names o) = attribute_takes o

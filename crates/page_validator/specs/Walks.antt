@@ -48,6 +48,7 @@ pub data IsStuck (d : Table) (t : automata.Table) (place : places.Place) (state 
   no_piece : cut_at d place cs ≡ None → IsStuck d t place state cs
   no_move : (piece : Piece) (rest : List ℕ) → Reads d place cs piece rest → moved d t state (piece_tokens d piece) ≡ None → IsStuck d t place state cs
 
+-- a step of the pass: none exactly where it is stuck
 abbrev pub IsNext : Table → automata.Table → places.Place → State → List ℕ → State → Option (Place × Bor (List ℕ)) → Type 0
 IsNext d t place state cs new None = IsStuck d t place state cs
 IsNext d t place state cs new (Some z) = Follows d t place state cs new (place_of z.0) z.1.now

@@ -43,10 +43,12 @@ mutual
     step_expr : List ℕ → Bool → Bool → PlainExpr
     call_expr : List ℕ → PlainExprs → PlainExpr
 
+  -- an expression that may be left out
   pub data MaybeExpr : Type 0 where
     no_expr : MaybeExpr
     some_expr : PlainExpr → MaybeExpr
 
+  -- expressions in a row
   pub data PlainExprs : Type 0 where
     no_exprs : PlainExprs
     more_exprs : PlainExpr → PlainExprs → PlainExprs
@@ -80,6 +82,7 @@ mutual
     -- the end of the run, with what is printed before it, if anything is
     quit_stmt : MaybeExpr → PlainStmt
 
+  -- statements in a row
   pub data PlainStmts : Type 0 where
     no_stmts : PlainStmts
     more_stmts : PlainStmt → PlainStmts → PlainStmts
@@ -106,6 +109,7 @@ pub record PlainFile : Type 0 where
   pub functions_of : List PlainFunction
 
 unfoldable mutual
+  -- the plain form of an expression
   pub plain_expr : Expr → PlainExpr
   plain_expr Null = null_expr
   plain_expr (Flag b) = flag_expr b
@@ -131,22 +135,27 @@ unfoldable mutual
   plain_expr (Step x up before) = step_expr x up before
   plain_expr (Call' f shape args) = call_expr f (plain_row args)
 
+  -- the plain form of an expression that may be left out, in an array literal or a path
   pub plain_held : Held-Expr-ArrayOf-0-1 → MaybeExpr
   plain_held Expr-ArrayOf-0-1-None' = no_expr
   plain_held (Expr-ArrayOf-0-1-Some' e) = some_expr (plain_expr e)
 
+  -- the plain form of the middle of a choice, which may be left out
   pub plain_boxed : Held-Expr-Choice-1 → MaybeExpr
   plain_boxed Expr-Choice-1-None' = no_expr
   plain_boxed (Expr-Choice-1-Some' p e) = some_expr (plain_expr e)
 
+  -- the plain form of the items of an array literal, in their order
   pub plain_items : {n : _} → Row_of-Expr-ArrayOf-0-3 n → PlainItems
   plain_items end_of-Expr-ArrayOf-0-3 = no_items
   plain_items (more_of-Expr-ArrayOf-0-3 key value rest) = more_items (plain_held key) (plain_expr value) (plain_items rest)
 
+  -- the plain form of expressions, in their order
   pub plain_row : {n : _} → Row_of-Expr n → PlainExprs
   plain_row end_of-Expr = no_exprs
   plain_row (more_of-Expr e rest) = more_exprs (plain_expr e) (plain_row rest)
 
+  -- the plain form of the keys of a target, in their order
   pub plain_keys : {n : _} → Row_of-Target-path-1 n → PlainPath
   plain_keys end_of-Target-path-1 = no_keys
   plain_keys (more_of-Target-path-1 key rest) = more_keys (plain_held key) (plain_keys rest)
@@ -185,6 +194,7 @@ abbrev pub target_path : Target → PlainPath
 target_path t = path_of (out-Target t).path.items
 
 unfoldable mutual
+  -- the plain form of a statement
   pub plain_stmt : Stmt → PlainStmt
   plain_stmt (Inline t) = inline_stmt t
   plain_stmt (Echo es) = echo_stmt (exprs_of es.items)
@@ -200,10 +210,12 @@ unfoldable mutual
   plain_stmt (Include t) = include_stmt t
   plain_stmt (Quit e) = quit_stmt (maybe_of e)
 
+  -- the plain form of statements, in their order
   pub plain_stmts : {n : _} → Row_of-Stmt n → PlainStmts
   plain_stmts end_of-Stmt = no_stmts
   plain_stmts (more_of-Stmt s rest) = more_stmts (plain_stmt s) (plain_stmts rest)
 
+  -- the plain form of the arms of an `if`, in their order
   pub plain_arms : {n : _} → Row_of-Stmt-If-0-3 n → PlainArms
   plain_arms end_of-Stmt-If-0-3 = no_arms
   plain_arms (more_of-Stmt-If-0-3 e shape body rest) = more_arms (plain_expr e) (plain_stmts body) (plain_arms rest)

@@ -30,7 +30,7 @@ pub record HasDeepest (deep many : ℕ) (pairs : List (Key × Value)) : Type 0 w
   pub is_depth : deep ≡ deepest (pairs_of pairs)
   pub is_count : many ≡ how_many deep pairs
 
--- the index has the first place of each key; keys are distinct; and the largest integer key, the depth and its count, below 1000, are right
+-- the index has each key's place; the keys are distinct; the largest integer key, the depth, below 1000, and how many are so deep are right
 pub record IsIndexed (pairs : List (Key × Value)) (places : BTreeMap Key ℕ) (largest : Option ℤ) (deep many : ℕ) : Type 0 where
   pub indexed : (k : Key) → tree.get key_order.ghosts.cmp places k ≡ place (keys (pairs_of pairs)) (plain_key k)
   pub next : largest ≡ largest_key (pairs_of pairs)

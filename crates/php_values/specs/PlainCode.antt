@@ -34,10 +34,12 @@ flat_value (Some (inr (inl z))) = int z
 flat_value (Some (inr (inr t))) = text t
 
 abbrev mutual
+  -- the steps of an array: it is begun, and its pairs are added from the last to the first
   pub steps : Pairs → List Step
   steps empty = None ∷ []
   steps (pair k v ps) = steps ps ++ steps_of (key_word k) v
 
+  -- the steps that add a value under a key to the array begun last
   pub steps_of : KeyWord → Plain → List Step
   steps_of k null = Some (k, Some None) ∷ []
   steps_of k (flag b) = Some (k, Some (Some (inl b))) ∷ []

@@ -14,6 +14,7 @@ is_target x = is_name x && is_writable x
 
 -- expressions and lists of them
 unfoldable mutual
+  -- whether an expression is at most so high, can be written, and keeps the rules beside the grammar
   pub expr_good : PlainExpr → ℕ → Bool
   expr_good null_expr d = deep d true
   expr_good (flag_expr b) d = deep d true
@@ -39,18 +40,22 @@ unfoldable mutual
   expr_good (step_expr x up before) d = deep d (is_target x)
   expr_good (call_expr f es) d = deep d (is_call_name f && exprs_good es (d - 1))
 
+  -- the same of an expression, if there is one
   pub maybe_good : MaybeExpr → ℕ → Bool
   maybe_good no_expr d = true
   maybe_good (some_expr e) d = expr_good e d
 
+  -- the same of each of the expressions
   pub exprs_good : PlainExprs → ℕ → Bool
   exprs_good no_exprs d = true
   exprs_good (more_exprs e es) d = expr_good e d && exprs_good es d
 
+  -- the same of each key and each value of the items
   pub items_good : PlainItems → ℕ → Bool
   items_good no_items d = true
   items_good (more_items k e is) d = (maybe_good k d && expr_good e d) && items_good is d
 
+  -- the same of each key of a target
   pub path_good : PlainPath → ℕ → Bool
   path_good no_keys d = true
   path_good (more_keys k ks) d = maybe_good k d && path_good ks d
@@ -83,6 +88,7 @@ parts_good (call_expr f es) d = is_call_name f && exprs_good es d
 
 -- in a loop of the same body or not, and in a function or not
 unfoldable mutual
+  -- whether a statement is at most so high, can be written, and keeps the rules beside the grammar
   pub stmt_good : PlainStmt → Bool → Bool → ℕ → Bool
   stmt_good (inline_stmt t) in_loop in_function d = deep d (is_inline t)
   stmt_good (echo_stmt es) in_loop in_function d = deep d (is_some_exprs es && exprs_good es (d - 1))
@@ -98,10 +104,12 @@ unfoldable mutual
   stmt_good (include_stmt t) in_loop in_function d = deep d (is_utf8 t)
   stmt_good (quit_stmt e) in_loop in_function d = deep d (is_printed e && maybe_good e (d - 1))
 
+  -- the same of each of the statements
   pub stmts_good : PlainStmts → Bool → Bool → ℕ → Bool
   stmts_good no_stmts in_loop in_function d = true
   stmts_good (more_stmts s ss) in_loop in_function d = stmt_good s in_loop in_function d && stmts_good ss in_loop in_function d
 
+  -- the same of each condition and each statement in the arms of an `if`
   pub arms_good : PlainArms → Bool → Bool → ℕ → Bool
   arms_good no_arms in_loop in_function d = true
   arms_good (more_arms e ss a) in_loop in_function d = (expr_good e d && stmts_good ss in_loop in_function d) && arms_good a in_loop in_function d

@@ -64,12 +64,14 @@ int_mark (negsuc n) = keyword word.PhpIntMin
 abbrev pub level_looseness : Level → ℕ
 level_looseness l = 2 + level_rank l
 
+-- the level of an operation: that of sums for `+` and `-`, that of products for `*` and `%`
 abbrev pub arith_level : ArithSign → Level
 arith_level arith.Add = level.Sum
 arith_level arith.Sub = level.Sum
 arith_level arith.Mul = level.Product
 arith_level arith.Rem = level.Product
 
+-- how loose an operation is
 abbrev pub arith_looseness : ArithSign → ℕ
 arith_looseness s = level_looseness (arith_level s)
 
@@ -81,6 +83,7 @@ compare_level compare.Greater = level.Order
 compare_level compare.GreaterEqual = level.Order
 compare_level _ = level.Equality
 
+-- how loose a comparison is
 abbrev pub compare_looseness : CompareSign → ℕ
 compare_looseness s = level_looseness (compare_level s)
 
@@ -143,6 +146,7 @@ read_keys _ ks = ks
 
 -- expressions and lists of them
 unfoldable mutual
+  -- the marks of an expression
   pub expr_marks : PlainExpr → List Mark → List Mark
   expr_marks null_expr r = keyword word.Null ∷ r
   expr_marks (flag_expr b) r = keyword (flag_word b) ∷ r
@@ -169,6 +173,7 @@ unfoldable mutual
   expr_marks (step_expr x up false) r = variable x ∷ sign (sign_of_step up) ∷ r
   expr_marks (call_expr f es) r = name f ∷ sign signs.OpenParen ∷ list_marks es (sign signs.CloseParen ∷ r)
 
+  -- the marks of an expression that may be left out
   pub maybe_marks : MaybeExpr → List Mark → List Mark
   maybe_marks no_expr r = r
   maybe_marks (some_expr e) r = expr_marks e r
@@ -209,6 +214,7 @@ unfoldable mutual
   key_marks no_expr r = r
   key_marks (some_expr e) r = expr_marks e (sign signs.DoubleArrow ∷ r)
 
+  -- the marks of the keys of a target, each in square brackets
   pub path_marks : PlainPath → List Mark → List Mark
   path_marks no_keys r = r
   path_marks (more_keys k ks) r = sign signs.OpenBracket ∷ maybe_marks k (sign signs.CloseBracket ∷ path_marks ks r)
@@ -243,6 +249,7 @@ variables_marks (Some k) x r = variable k ∷ sign signs.DoubleArrow ∷ variabl
 
 -- statements, lists of them, and arms
 unfoldable mutual
+  -- the marks of a statement; a body stands in braces
   pub stmt_marks : PlainStmt → List Mark → List Mark
   stmt_marks (inline_stmt t) r = outside t ∷ r
   stmt_marks (echo_stmt es) r = keyword word.Echo ∷ list_marks es (sign signs.Semicolon ∷ r)
@@ -258,6 +265,7 @@ unfoldable mutual
   stmt_marks (include_stmt t) r = keyword word.Include ∷ text t ∷ sign signs.Semicolon ∷ r
   stmt_marks (quit_stmt e) r = keyword word.Exit ∷ argument_marks e (sign signs.Semicolon ∷ r)
 
+  -- the marks of statements, in their order
   pub stmts_marks : PlainStmts → List Mark → List Mark
   stmts_marks no_stmts r = r
   stmts_marks (more_stmts s ss) r = stmt_marks s (stmts_marks ss r)

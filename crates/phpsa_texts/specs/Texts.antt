@@ -57,7 +57,7 @@ passed_text (passed.Pairs count height) = sums_text (codes "pairs") count height
 passed_text (passed.Tags count height) = sums_text (codes "tags") count height
 passed_text (passed.Items count) = codes "undecided items " ++ decimal count ++ 10 ∷ []
 
--- the same as JSON
+-- on `out`, where a stated count was passed, as JSON
 abbrev pub passed_json : PassedCount → List ℕ
 passed_json (passed.Pairs count height) = sums_json (codes "pairs") count height
 passed_json (passed.Tags count height) = sums_json (codes "tags") count height

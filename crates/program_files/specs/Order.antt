@@ -6,6 +6,7 @@ use Rattle.php_syntax.specs.Trees.{PlainFile}
 use Rattle.program_rules.specs.Includes.{includes_of_file}
 use Rattle.program_rules.specs.Programs.{ReadFile}
 
+-- the names of files in the order in which they were read
 abbrev pub names_of : List ReadFile → List (List ℕ)
 names_of files = map (λ (file : ReadFile). file.name) files
 

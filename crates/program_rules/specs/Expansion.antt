@@ -18,6 +18,7 @@ unfoldable mutual
   with_bodies bodies no_stmts = no_stmts
   with_bodies bodies (more_stmts s ss) = followed_by (with_bodies_in bodies s) (with_bodies bodies ss)
 
+  -- what stands for one statement: for an include the statements of its path, and for any other itself, with its bodies so changed
   pub with_bodies_in : (List ℕ → PlainStmts) → PlainStmt → PlainStmts
   with_bodies_in bodies (inline_stmt bytes) = more_stmts (inline_stmt bytes) no_stmts
   with_bodies_in bodies (echo_stmt es) = more_stmts (echo_stmt es) no_stmts
@@ -33,6 +34,7 @@ unfoldable mutual
   with_bodies_in bodies (include_stmt path) = bodies path
   with_bodies_in bodies (quit_stmt e) = more_stmts (quit_stmt e) no_stmts
 
+  -- the arms of an `if`, with their bodies so changed
   pub with_bodies_in_arms : (List ℕ → PlainStmts) → PlainArms → PlainArms
   with_bodies_in_arms bodies no_arms = no_arms
   with_bodies_in_arms bodies (more_arms e body arms) = more_arms e (with_bodies bodies body) (with_bodies_in_arms bodies arms)

@@ -10,6 +10,7 @@ unfoldable mutual
   includes_in no_stmts = []
   includes_in (more_stmts s ss) = includes_of s ++ includes_in ss
 
+  -- the paths of the includes in a statement, from the left: of an include its own, and of any other those in its bodies
   pub includes_of : PlainStmt → List (List ℕ)
   includes_of (inline_stmt bytes) = []
   includes_of (echo_stmt es) = []
@@ -25,10 +26,12 @@ unfoldable mutual
   includes_of (include_stmt path) = path ∷ []
   includes_of (quit_stmt e) = []
 
+  -- the paths of the includes in the arms of an `if`, in their order
   pub includes_in_arms : PlainArms → List (List ℕ)
   includes_in_arms no_arms = []
   includes_in_arms (more_arms e body arms) = includes_in body ++ includes_in_arms arms
 
+-- the paths of the includes in the bodies of functions, in their order
 unfoldable pub includes_in_functions : List PlainFunction → List (List ℕ)
 unfolding includes_in
 includes_in_functions [] = []

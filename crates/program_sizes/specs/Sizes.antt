@@ -56,6 +56,7 @@ unfoldable mutual
   of_stmts sizes no_stmts = none
   of_stmts sizes (more_stmts s ss) = beside (of_stmt sizes s) (of_stmts sizes ss)
 
+  -- the size of a statement: for an include that of what stands for it, and one place more
   pub of_stmt : (List ℕ → Size) → PlainStmt → Size
   of_stmt sizes (inline_stmt t) = above none
   of_stmt sizes (echo_stmt es) = above (of_exprs es)
@@ -71,6 +72,7 @@ unfoldable mutual
   of_stmt sizes (include_stmt path) = included (sizes path)
   of_stmt sizes (quit_stmt e) = above (of_maybe e)
 
+  -- the size of the arms of an `if`
   pub of_arms : (List ℕ → Size) → PlainArms → Size
   of_arms sizes no_arms = none
   of_arms sizes (more_arms e body arms) = beside (beside (of_expr e) (of_stmts sizes body)) (of_arms sizes arms)

@@ -36,13 +36,13 @@ abbrev pub IsImage : List Production → nt.Nt → Table → Grammar → Type 0
 IsImage ps operand table image = (w : List Letter) → Derives image.productions.items (Nt image.start) w
     ↔ Outputs ps (Nt operand) table.start (TableStep table.moves.items) (TableStop table.ends.items) w
 
--- any other rule is done by the image of its operand under its machine, where all rules before it are done
+-- a rule in no cycle is done by the image of its operand under its machine, where all rules with lower numbers are done
 abbrev pub ImageIsDone : OpSystem → Type 0
 ImageIsDone s = (ps after : List Production) (count : ℕ) (rule : OpRule) (numbers : List ℕ) (k : ℕ) (table : Table) (image : Grammar) → HasBytes s → IsDraft s ps count → Contains s.ops.items rule → (IsInCycle s rule → ⊥)
     → AreNumbers s numbers → slice_get numbers rule.left.0 ≡ Some k → IsReady s numbers ps k → IsMachine table (size_of rule.op) (Rel rule.op) → IsImage ps rule.operand table image → AddsImage ps rule.left count image after
     → IsDraft s after (count + image.count) × IsDone s after rule
 
--- a draft derives from the operand of such a rule its texts and no other, where all rules before it are done
+-- from the operand of a rule in no cycle a draft derives its texts and no other, where all rules with lower numbers are done
 abbrev pub OperandIsExact : OpSystem → Type 0
 OperandIsExact s = (ps : List Production) (count : ℕ) (rule : OpRule) (numbers : List ℕ) (k : ℕ) → IsDraft s ps count → Contains s.ops.items rule → (IsInCycle s rule → ⊥)
     → AreNumbers s numbers → slice_get numbers rule.left.0 ≡ Some k → IsReady s numbers ps k → AreExact s ps (Nt rule.operand)

@@ -24,6 +24,7 @@ pub record AreRankedBelow (s : OpSystem) (numbers : List ℕ) (n : ℕ) (order :
   pub each : All (IsRanked s numbers) order
   pub all : (place : ℕ) → place < n → HasPlace order place
 
+-- each rule of the system is there, with its number
 abbrev pub AreRanked : OpSystem → List ℕ → List Ranked → Type 0
 AreRanked s numbers order = AreRankedBelow s numbers (length s.ops.items) order
 

@@ -49,6 +49,7 @@ MayTake p (wanted.Turn l) = IsIdle p
 MayTake p (wanted.Step k v l) = IsIdle p
 MayTake p (wanted.Call f args waits) = ⊤
 
+-- where a unit is wanted it may be taken; at an end nothing is asked
 abbrev pub IsSettled : Pending → Settled → Type 0
 IsSettled p (settled.Wants w) = MayTake p w
 IsSettled p (settled.Over how) = ⊤

@@ -106,23 +106,28 @@ mutual
     exit_form : StmtForm
     exit_parens_form : MaybeForm → StmtForm
 
+  -- { stmt }
   pub data StmtsForm : Type 0 where
     no_stmts_form : StmtsForm
     more_stmts_form : StmtForm → StmtsForm → StmtsForm
 
+  -- { ( "elseif" | "else" "if" ) "(" e ")" stmt }
   pub data ArmsForm : Type 0 where
     no_arms_form : ArmsForm
     elseif_form : ExprForm → StmtForm → ArmsForm → ArmsForm
     else_if_form : ExprForm → StmtForm → ArmsForm → ArmsForm
 
+  -- [ "else" stmt ]
   pub data ElseForm : Type 0 where
     no_else_form : ElseForm
     else_form : StmtForm → ElseForm
 
+  -- { "elseif" "(" e ")" ":" { stmt } }
   pub data ColonArmsForm : Type 0 where
     no_colon_arms : ColonArmsForm
     colon_arm : ExprForm → StmtsForm → ColonArmsForm → ColonArmsForm
 
+  -- [ "else" ":" { stmt } ]
   pub data ColonElseForm : Type 0 where
     no_colon_else : ColonElseForm
     colon_else : StmtsForm → ColonElseForm
@@ -134,6 +139,7 @@ mutual
 
 -- the terminals of a form, before those that follow it
 unfoldable mutual
+  -- the terminals of a statement
   pub stmt_terminals : StmtForm → List Terminal → List Terminal
   stmt_terminals semicolon_form r = sign_terminal sign.Semicolon ∷ r
   stmt_terminals (inline_form t) r = inline_terminal t ∷ r
@@ -155,23 +161,28 @@ unfoldable mutual
   stmt_terminals exit_form r = word_terminal word.Exit ∷ sign_terminal sign.Semicolon ∷ r
   stmt_terminals (exit_parens_form e) r = word_terminal word.Exit ∷ sign_terminal sign.OpenParen ∷ maybe_terminals e (sign_terminal sign.CloseParen ∷ sign_terminal sign.Semicolon ∷ r)
 
+  -- the terminals of statements
   pub stmts_terminals : StmtsForm → List Terminal → List Terminal
   stmts_terminals no_stmts_form r = r
   stmts_terminals (more_stmts_form s ss) r = stmt_terminals s (stmts_terminals ss r)
 
+  -- the terminals of the further arms of an `if`
   pub arms_terminals : ArmsForm → List Terminal → List Terminal
   arms_terminals no_arms_form r = r
   arms_terminals (elseif_form e s a) r = word_terminal word.ElseIf ∷ condition_terminals e (stmt_terminals s (arms_terminals a r))
   arms_terminals (else_if_form e s a) r = word_terminal word.Else ∷ word_terminal word.If ∷ condition_terminals e (stmt_terminals s (arms_terminals a r))
 
+  -- the terminals of an `else`
   pub else_terminals : ElseForm → List Terminal → List Terminal
   else_terminals no_else_form r = r
   else_terminals (else_form s) r = word_terminal word.Else ∷ stmt_terminals s r
 
+  -- the terminals of the further arms of an `if` in the form with `:`
   pub colon_arms_terminals : ColonArmsForm → List Terminal → List Terminal
   colon_arms_terminals no_colon_arms r = r
   colon_arms_terminals (colon_arm e ss a) r = word_terminal word.ElseIf ∷ condition_terminals e (sign_terminal sign.Colon ∷ stmts_terminals ss (colon_arms_terminals a r))
 
+  -- the terminals of an `else` in the form with `:`
   pub colon_else_terminals : ColonElseForm → List Terminal → List Terminal
   colon_else_terminals no_colon_else r = r
   colon_else_terminals (colon_else ss) r = word_terminal word.Else ∷ sign_terminal sign.Colon ∷ stmts_terminals ss r
@@ -183,6 +194,7 @@ unfoldable mutual
 
 -- The statements of a form, before those that follow it. An empty statement is none, and braces are their statements.
 unfoldable mutual
+  -- the statements that a statement is
   pub stmt_trees : StmtForm → PlainStmts → PlainStmts
   stmt_trees semicolon_form r = r
   stmt_trees (inline_form t) r = more_stmts (inline_stmt t) r
@@ -204,33 +216,40 @@ unfoldable mutual
   stmt_trees exit_form r = more_stmts (quit_stmt no_expr) r
   stmt_trees (exit_parens_form e) r = more_stmts (quit_stmt (printed_tree e)) r
 
+  -- the statements that statements are
   pub stmts_trees : StmtsForm → PlainStmts → PlainStmts
   stmts_trees no_stmts_form r = r
   stmts_trees (more_stmts_form s ss) r = stmt_trees s (stmts_trees ss r)
 
+  -- the further arms of an `if`, in their order
   pub arms_tree : ArmsForm → PlainArms
   arms_tree no_arms_form = no_arms
   arms_tree (elseif_form e s a) = more_arms (expr_tree e) (stmt_trees s no_stmts) (arms_tree a)
   arms_tree (else_if_form e s a) = more_arms (expr_tree e) (stmt_trees s no_stmts) (arms_tree a)
 
+  -- the statements behind `else`; none where it is left out
   pub else_tree : ElseForm → PlainStmts
   else_tree no_else_form = no_stmts
   else_tree (else_form s) = stmt_trees s no_stmts
 
+  -- the further arms of an `if` in the form with `:`, in their order
   pub colon_arms_tree : ColonArmsForm → PlainArms
   colon_arms_tree no_colon_arms = no_arms
   colon_arms_tree (colon_arm e ss a) = more_arms (expr_tree e) (stmts_trees ss no_stmts) (colon_arms_tree a)
 
+  -- the statements behind `else` in the form with `:`; none where it is left out
   pub colon_else_tree : ColonElseForm → PlainStmts
   colon_else_tree no_colon_else = no_stmts
   colon_else_tree (colon_else ss) = stmts_trees ss no_stmts
 
+  -- the statements of the body of a loop
   pub body_tree : BodyForm → PlainStmts
   body_tree (stmt_body s) = stmt_trees s no_stmts
   body_tree (colon_body ss) = stmts_trees ss no_stmts
 
 -- whether an `else` behind a statement could belong to an `if` at its end
 unfoldable mutual
+  -- whether an `else` behind a statement could belong to an `if` at its end
   pub takes_else : StmtForm → Bool
   takes_else (if_form e s a no_else_form) = true
   takes_else (if_form e s a (else_form b)) = takes_else b
@@ -239,6 +258,7 @@ unfoldable mutual
   takes_else (each_form e v b) = body_takes_else b
   takes_else _ = false
 
+  -- the same behind the body of a loop; the word that ends a body with `:` stands between
   pub body_takes_else : BodyForm → Bool
   body_takes_else (stmt_body s) = takes_else s
   body_takes_else (colon_body ss) = false
@@ -266,6 +286,7 @@ last_takes_else (more_stmts_form s (more_stmts_form t ss)) = last_takes_else (mo
 
 -- Whether each `else` and each `elseif` belongs to the nearest `if` that can take it, and each `else if` that can be one more arm is one.
 unfoldable mutual
+  -- whether in a statement each `else`, `elseif` and `else if` belongs to the nearest `if` that can take it
   pub nearest : StmtForm → Bool
   nearest (block_form ss) = all_nearest ss
   nearest (if_form e s a l) = nearest s && (not (takes_else s && goes_on a l) && (arms_nearest a l && else_nearest l))
@@ -276,27 +297,33 @@ unfoldable mutual
   nearest (each_form e v b) = body_nearest b
   nearest _ = true
 
+  -- the same in each of the statements
   pub all_nearest : StmtsForm → Bool
   all_nearest no_stmts_form = true
   all_nearest (more_stmts_form s ss) = nearest s && all_nearest ss
 
+  -- the same in the further arms of an `if`, before its `else`
   pub arms_nearest : ArmsForm → ElseForm → Bool
   arms_nearest no_arms_form l = true
   arms_nearest (elseif_form e s a) l = nearest s && (not (takes_else s && goes_on a l) && arms_nearest a l)
   arms_nearest (else_if_form e s a) l = nearest s && (not (takes_else s && goes_on a l) && arms_nearest a l)
 
+  -- the same in the statement of an `else`, which is itself no `if` in the form with words
   pub else_nearest : ElseForm → Bool
   else_nearest no_else_form = true
   else_nearest (else_form s) = nearest s && not (is_if s)
 
+  -- the same in the further arms of an `if` in the form with `:`
   pub colon_arms_nearest : ColonArmsForm → ColonElseForm → Bool
   colon_arms_nearest no_colon_arms l = true
   colon_arms_nearest (colon_arm e ss a) l = all_nearest ss && (not (last_takes_else ss && colon_goes_on a l) && colon_arms_nearest a l)
 
+  -- the same in the statements of an `else` in the form with `:`
   pub colon_else_nearest : ColonElseForm → Bool
   colon_else_nearest no_colon_else = true
   colon_else_nearest (colon_else ss) = all_nearest ss
 
+  -- the same in the body of a loop
   pub body_nearest : BodyForm → Bool
   body_nearest (stmt_body s) = nearest s
   body_nearest (colon_body ss) = all_nearest ss

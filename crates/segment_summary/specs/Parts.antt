@@ -4,7 +4,7 @@ use Rattle.segment_summary.specs.declared.segments.Segments.{Segments}
 use Rattle.page_automata.specs.PageAutomaton.{Parts, page_automaton}
 use Rattle.page_automata.proofs.StepLemmas.{lawful}
 
--- the parts of the automaton: its states, what may stand beside elements, the root, and whether the page needs no document type
+-- the parts of the automaton: its states, what may stand besides elements, the root, and whether that needs no document type declaration
 abbrev pub parts_in : Segments → Parts
 parts_in s = record { states = s.contents; besides = s.besides.items; root = s.root; free = s.is_free }
 

@@ -69,7 +69,7 @@ unfoldable pub is_exactly_at : List PlainKey → Option PlainKeyRef → ℕ → 
 unfolding of_told
 is_exactly_at told k i = of_told (is_exactly k) (slice_get told i)
 
--- a write under one key, by the member under the key of a number
+-- a write under one key, by the member of a number: the old one, unless the key is just its own, and the new value, where it may be
 unfoldable pub put_under : List PlainKey → At → ℕ → ℕ → Option PlainKeyRef → ℕ → ℕ → Half → Forms
 unfolding where_so may_be_at is_exactly_at
 put_under told at p x k v i h = where_so (not (is_exactly_at told k i)) (used at p (Member i h) x ∷ []) ++ where_so (may_be_at told k i) (used at p (Own h) v ∷ [])

@@ -32,7 +32,7 @@ unfoldable pub request_own : Half → Forms
 request_own Text = request_form ∷ []
 request_own Array = yes_form ∷ []
 
--- a variable of the request: an array, whose members are texts of the request or arrays, with any keys
+-- a variable of the request: an array whose keys are texts of the request and whose members are such texts or arrays
 unfoldable pub super_forms : Aspect → Forms
 unfolding array_own request_own
 super_forms (Own h) = array_own h

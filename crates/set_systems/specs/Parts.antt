@@ -11,6 +11,7 @@ use Rattle.cfg_grammar.specs.declared.production.Production.{Production}
 use Rattle.op_system.specs.declared.op.Op.{Op}
 use Rattle.least_sets.specs.Forms.{Form, text_form, same_form, join_form, before_form, request_form, integer_form, apply_form, where_form}
 
+-- what a nonterminal or a symbol of the system stands for
 pub data Part : Type 0 where
   set_part : ℕ → Part
   -- a text, or the end of one
@@ -20,6 +21,7 @@ pub data Part : Type 0 where
   -- a page token, which closed grammars do not have
   token_part : Part
 
+-- the part that a symbol of a closed grammar is
 unfoldable pub symbol_part : Symbol → Part
 symbol_part (Range r) = range_part r
 symbol_part (Token t) = token_part
@@ -35,6 +37,7 @@ pub record Closed : Type 0 where
   pub request : ℕ
   pub integer : ℕ
 
+-- the row of a part: what a set has by its cells, what an end of a text is, and the closed grammar as it is
 pub data PartRow (cells : Numbered) (says : ℕ → Type 0) (closed : Closed) : Part → Form Part → Type 0 where
   -- what a set has by its cells, where it is given which sets say yes
   nothing : (k : ℕ) → cells k (text_form []) → PartRow cells says closed (set_part k) (text_form [])

@@ -22,6 +22,7 @@ pub record Sets (flow : PlainFlow) (p x : ℕ) : Type 0 where
   pub there : point_at flow p ≡ Some point
   pub it : sets point ≡ Some x
 
+-- the point does not set the slot
 pub record Leaves (flow : PlainFlow) (p x : ℕ) : Type 0 where
   pub point : PlainPoint
   pub there : point_at flow p ≡ Some point
@@ -82,5 +83,6 @@ pub record PlainJoin : Type 0 where
 abbrev pub asked_in : List PlainJoin → Asked
 asked_in joins p x = (vs : List PlainVersion) × Contains joins (record { point = p; slot = x; versions = vs })
 
+-- the links of the joins of a list
 abbrev pub linked_in : List PlainJoin → Linked
 linked_in joins p x v = (vs : List PlainVersion) × Contains joins (record { point = p; slot = x; versions = vs }) × Contains vs v

@@ -143,6 +143,6 @@ pub record IsWhile (e : Bor Expr) (body : Bor (Vec Stmt Global)) (l : Looping) :
 abbrev pub StaysInLoop : meaning.Flow → Type 0
 StaysInLoop f = (s : State) (go : State → Run meaning.Flow) → turn_after f s go ≡ go s
 
--- a loop that is left behind a turn, and goes on so behind it
+-- behind a turn that was left in the first way the loop is over, and was left in the second way
 abbrev pub LeavesLoop : meaning.Flow → meaning.Flow → Type 0
 LeavesLoop f left = (s : State) (go : State → Run meaning.Flow) → turn_after f s go ≡ Going left s

@@ -37,6 +37,7 @@ is_something nothing_form = false
 is_something (something_form e) = true
 
 unfoldable mutual
+  -- the actions of a statement
   pub stmt_actions : StmtForm → List StmtAction → List StmtAction
   stmt_actions semicolon_form r = r
   stmt_actions (inline_form t) r = inline_action t ∷ r
@@ -58,6 +59,7 @@ unfoldable mutual
   stmt_actions exit_form r = exit_action false ∷ r
   stmt_actions (exit_parens_form e) r = maybe_value_actions e (exit_action (is_something e) ∷ r)
 
+  -- the actions of statements, in their order
   pub stmts_actions : StmtsForm → List StmtAction → List StmtAction
   stmts_actions no_stmts_form r = r
   stmts_actions (more_stmts_form s ss) r = stmt_actions s (stmts_actions ss r)
@@ -68,18 +70,22 @@ unfoldable mutual
   arms_actions (elseif_form e s a) n next = value_actions e (open_action false ∷ stmt_actions s (arms_actions a (n + 1) next))
   arms_actions (else_if_form e s a) n next = open_action false ∷ value_actions e (stmt_actions s (arms_actions a (n + 1) next))
 
+  -- the actions of an `else`, if there is one, and of the `if` of so many arms
   pub else_actions : ElseForm → ℕ → List StmtAction → List StmtAction
   else_actions no_else_form n r = if_action n false ∷ r
   else_actions (else_form s) n r = open_action false ∷ stmt_actions s (if_action n true ∷ r)
 
+  -- further arms in the form with `:` behind so many, and what follows all of them
   pub colon_arms_actions : ColonArmsForm → ℕ → (ℕ → List StmtAction) → List StmtAction
   colon_arms_actions no_colon_arms n next = next n
   colon_arms_actions (colon_arm e ss a) n next = value_actions e (open_action false ∷ stmts_actions ss (colon_arms_actions a (n + 1) next))
 
+  -- the actions of an `else` in the form with `:`, if there is one, and of the `if` of so many arms
   pub colon_else_actions : ColonElseForm → ℕ → List StmtAction → List StmtAction
   colon_else_actions no_colon_else n r = if_action n false ∷ r
   colon_else_actions (colon_else ss) n r = open_action false ∷ stmts_actions ss (if_action n true ∷ r)
 
+  -- the actions of the statements in the body of a loop
   pub body_actions : BodyForm → List StmtAction → List StmtAction
   body_actions (stmt_body s) r = stmt_actions s r
   body_actions (colon_body ss) r = stmts_actions ss r

@@ -28,14 +28,17 @@ abbrev pub right_by : Side → Symbol → Symbol → Right
 right_by First a b = Two a b
 right_by Second a b = Two b a
 
+-- a part on a side, and the other part
 abbrev pub parts_by : Side → Part → Part → Parts
 parts_by First p q = parts.Two p q
 parts_by Second p q = parts.Two q p
 
+-- the composition of the sum on a side with the other sum
 abbrev pub composed_by : {S : Type 0} → (S → S → S) → Side → S → S → S
 composed_by composed First s t = composed s t
 composed_by composed Second s t = composed t s
 
+-- of two symbols, the one that does not stand on the side
 abbrev pub other_by : Side → Symbol → Symbol → Symbol
 other_by First a b = b
 other_by Second a b = a

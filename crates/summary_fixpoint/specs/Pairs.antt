@@ -37,5 +37,6 @@ module _ {S : Type 0} (sum_of : List PageToken → S) where
   abbrev pub AreWholeBelow : (S → Bool) → List Production → nt.Nt → ℕ → Type 0
   AreWholeBelow whole productions start k = (w : List Letter) (h : ℕ) → h < k → DerivesIn productions (Nt start) w h → whole (sum_of (tokens_in w)) ≡ true
 
+  -- each sentence of the start is whole
   abbrev pub AreWhole : (S → Bool) → List Production → nt.Nt → Type 0
   AreWhole whole productions start = (w : List Letter) → Derives productions (Nt start) w → whole (sum_of (tokens_in w)) ≡ true

@@ -34,6 +34,7 @@ module _ {S : Type 0} where
   known_of sums [] = []
   known_of sums (entry ∷ entries) = with_sum entry.nonterminal (slice_get sums entry.sum) (known_of sums entries)
 
+  -- the pairs of a table, in the order in which they were found
   abbrev pub known : Table S → List (Pair S)
   known t = known_of t.sums.keys t.entries.keys
 

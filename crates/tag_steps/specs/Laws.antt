@@ -24,6 +24,7 @@ abbrev pub end_then : Bool → List ℕ → List ℕ
 end_then false rest = 62 ∷ rest
 end_then true rest = 47 ∷ 62 ∷ rest
 
+-- the tokens of a tag, by whether it is that of an empty element
 abbrev pub tag_tokens : Table → Bool → List ℕ → List PageToken
 tag_tokens table false name = token.Start (element_of table name) ∷ []
 tag_tokens table true name = token.Start (element_of table name) ∷ token.End (element_of table name) ∷ []
@@ -56,6 +57,7 @@ pub record IsEndThen (table : Table) (cs rest : List ℕ) (behind_it : Place) (g
   pub leads : behind_it ≡ behind 0
   pub gives : given ≡ token.End (element_of table name) ∷ []
 
+-- behind `</` the reader comes to an end exactly behind a name of a declared element, white space and `>`
 pub record EndTagsRead : Type 0 where
   pub complete : (table : Table) (place : Place) (name space rest : List ℕ) → is_name name ≡ true → list_all is_blank space ≡ true → is_some_rule (find_rule table.elements name) ≡ true
       → read table place (in_end_tag [] false) (name ++ (space ++ 62 ∷ rest)) ≡ ends_with (token.End (element_of table name) ∷ []) rest

@@ -4,7 +4,7 @@ use Rattle.text_base.specs.declared.page_token.PageToken.{PageToken}
 use Rattle.text_base.specs.declared.page_token.PageToken.TheVariants.{Doctype, Start, End, Blank, Text, Misc, Bad}
 use Rattle.tag_sums.specs.Trees.{Nodes, tokens_of}
 
--- what is left unmatched: end tags and start tags; or an end tag met a start tag of another element
+-- what is left unmatched, end tags and start tags; or torn, where an end tag met a start tag of another element or a token is bad
 pub data Nest : Type 0 where
   torn : Nest
   nest : List ℕ → List ℕ → Nest
@@ -21,7 +21,7 @@ join torn t = torn
 join (nest ca oa) torn = torn
 join (nest ca oa) (nest cb ob) = match_tags ca oa cb ob
 
--- the sum of one token: a start tag and an end tag are unmatched, and other tokens leave nothing
+-- the sum of one token: a start tag or an end tag is unmatched, a bad token is torn, and the others leave nothing
 abbrev pub nest_token : PageToken → Nest
 nest_token Doctype = nest [] []
 nest_token (Start e) = nest [] (e.0 ∷ [])

@@ -18,6 +18,7 @@ IsInteger (b ∷ more) = (is_digit b ≡ true) × (list_all is_digit more ≡ tr
 abbrev pub EndsName : List ℕ → Type 0
 EndsName rest = head_is is_name_byte rest ≡ false
 
+-- what may stand behind an integer: no byte of a name, no digit, and nothing by which it would go on as a float
 abbrev pub EndsInteger : List ℕ → Type 0
 EndsInteger rest = EndsName rest × (head_is is_digit rest ≡ false) × (goes_on_as_float rest ≡ false)
 
