@@ -1,29 +1,7 @@
 // Scripts that are run: what they print, how they end, and outputs of every room.
-use crate::ending::{Outside, QUIET, run};
+use crate::ending::{Outside, QUIET, ends_so, run};
 use phpsa_main::Exit;
-use std::alloc::Global;
 use std::test::Fail;
-
-// Whether the words, one behind each space, end so where the file `t.php` has this text.
-fn ends_so(
-    alloc: Global,
-    text: &str,
-    script: &str,
-    outside: Outside,
-    wanted: (Exit, &str, &str),
-) -> Result<bool, Fail> {
-    let mut words = Vec::new(alloc);
-    for word in text.split(' ') {
-        words.push(word)?;
-    }
-    let ending = run(alloc, words.as_slice(), script.as_bytes(), outside)?;
-    let (exit, out, err) = wanted;
-    Ok(
-        ending.exit == exit
-            && ending.out.written() == out.as_bytes()
-            && ending.err.written() == err.as_bytes(),
-    )
-}
 
 // What PHP 8.2 prints.
 #[test]

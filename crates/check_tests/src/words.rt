@@ -1,7 +1,6 @@
 // Words: their order, both forms of options, `--`, and what asks for nothing.
-use crate::ending::{Outside, QUIET, run};
+use crate::ending::{Outside, QUIET, ends_so, run};
 use phpsa_main::Exit;
-use std::alloc::Global;
 use std::test::Fail;
 
 /// A script whose pages are valid by the smallest document type, and which is such a page itself.
@@ -24,29 +23,6 @@ const FAILING: Outside = Outside {
     fails: Some(0),
     ..QUIET
 };
-
-/// Whether the words, one behind each space, end so where the file `t.php` has these bytes.
-fn ends_so(
-    alloc: Global,
-    text: &str,
-    script: &str,
-    outside: Outside,
-    wanted: (Exit, &str, &str),
-) -> Result<bool, Fail> {
-    let mut words = Vec::new(alloc);
-    for word in text.split(' ') {
-        if !word.is_empty() {
-            words.push(word)?;
-        }
-    }
-    let ending = run(alloc, words.as_slice(), script.as_bytes(), outside)?;
-    let (exit, out, err) = wanted;
-    Ok(
-        ending.exit == exit
-            && ending.out.written() == out.as_bytes()
-            && ending.err.written() == err.as_bytes(),
-    )
-}
 
 #[test]
 fn every_order_is_taken(rt: HostRuntime) -> Result<(), Fail> {
