@@ -230,52 +230,47 @@ fn every_room_of_err(rt: HostRuntime) -> Result<(), Fail> {
     Ok(())
 }
 
-// How a call ends whose outputs take so much: what is written on the error stream is why the run
-// does not come to its end, or, where the output took less than was printed, that.
-fn rooms_end_so(
-    alloc: Global,
-    room: usize,
-    err_room: usize,
-    printed: &str,
-    told: &str,
-) -> Result<bool, Fail> {
+// What an output with this room takes of a text.
+fn taken(text: &str, room: usize) -> &[u8] {
+    let bytes = text.as_bytes();
+    if room < bytes.len() {
+        &bytes[..room]
+    } else {
+        bytes
+    }
+}
+
+// Whether a run that prints `abc` and meets a fault ends as outputs with these rooms ask: the error
+// stream takes why the run does not come to its end, or, where the output took less than was
+// printed, that.
+fn ends_by_rooms(alloc: Global, room: usize, err_room: usize, fault: &str) -> Result<bool, Fail> {
     let narrow = Outside {
         out: Some(room as u64),
         err: Some(err_room as u64),
         ..QUIET
     };
-    let ending = run(
-        alloc,
-        &["run", "t.php"],
-        b"<?php echo 'abc', 1 % 0;",
-        narrow,
-    )?;
-    let is_cut = room < printed.len();
-    let text = if is_cut { "phpsa: WriteFault\n" } else { told };
-    let exit = if is_cut || err_room < text.len() {
-        Exit::WriteFault
+    let script = b"<?php echo 'abc', 1 % 0;";
+    let ending = run(alloc, &["run", "t.php"], script, narrow)?;
+    let (told, exit) = if room < 3 {
+        ("phpsa: WriteFault\n", Exit::WriteFault)
+    } else if err_room < fault.len() {
+        (fault, Exit::WriteFault)
     } else {
-        Exit::Fault
-    };
-    let out_end = if is_cut { room } else { printed.len() };
-    let err_end = if err_room < text.len() {
-        err_room
-    } else {
-        text.len()
+        (fault, Exit::Fault)
     };
     Ok(
         ending.exit == exit
-            && ending.out.written() == &printed.as_bytes()[..out_end]
-            && ending.err.written() == &text.as_bytes()[..err_end],
+            && ending.out.written() == taken("abc", room)
+            && ending.err.written() == taken(told, err_room),
     )
 }
 
 #[test]
 fn every_room_of_both(rt: HostRuntime) -> Result<(), Fail> {
-    let told = "phpsa: Fault 7 ZeroDivisor\n";
+    let fault = "phpsa: Fault 7 ZeroDivisor\n";
     for room in 0..=3 {
-        for err_room in 0..=told.len() {
-            let is_so = rooms_end_so(rt.alloc(), room, err_room, "abc", told)?;
+        for err_room in 0..=fault.len() {
+            let is_so = ends_by_rooms(rt.alloc(), room, err_room, fault)?;
             assert!(rt; is_so, "rooms {room} and {err_room}");
         }
     }
