@@ -50,7 +50,8 @@ fn a_usual_page(rt: HostRuntime) -> Result<(), Fail> {
 // What PHP 8.2 prints, where the five arrays are those of the request, in byte order of their names.
 #[test]
 fn each_array_of_a_request(rt: HostRuntime) -> Result<(), Fail> {
-    let rows = r#"<?php echo $_GET['a'], $_POST['a'], $_COOKIE['a'], $_REQUEST['a'], $_SERVER['a']; <= {"get":{"a":"1"},"post":{"a":"2"},"cookie":{"a":"3"},"request":{"a":"4"},"server":{"a":"5"}} => 12345
+    let rows =
+        r#"<?php echo $_GET['a'], $_POST['a'], $_COOKIE['a'], $_REQUEST['a'], $_SERVER['a']; <= {"get":{"a":"1"},"post":{"a":"2"},"cookie":{"a":"3"},"request":{"a":"4"},"server":{"a":"5"}} => 12345
 <?php function f() { return $_POST['a']['b'][1]; } echo f(); <= {"post":{"a":{"b":["x","y"]}}} => y
 <?php foreach ($_COOKIE as $k => $v) { echo $k, '=', $v, ';'; } <= {"cookie":{"b":"1","a":"2","10":"3","9":"4"}} => 10=3;9=4;a=2;b=1;
 <?php foreach ($_REQUEST as $k => $v) { echo $k === 7 ? 'i' : 's', count($v); } <= {"request":{"7":["x"],"07":["y","z"]}} => s2i1

@@ -202,9 +202,11 @@ strays_so file path e = by (parsed file) refl e
     by_path : (d : Data) → parsed file ≡ Some d → is_request d ≡ true → (o : Option (List ℕ)) → stray_path d ≡ o → admission d o ≡ not_admitted path
         → (r : PlainRequest) × HasForm file r × (HasMembers r → ⊥)
     by_path d is form None g e = absurd cc
-    by_path d is form (Some own) g e =
-        (asked_request d, record { value = d; is_value = is; form = form; is = refl },
-        λ m. let none : None ≡ Some own = sym (path_free file d is form m) ∙ g in cc)
+    by_path d is form (Some own) g e = (
+      asked_request d,
+      record { value = d; is_value = is; form = form; is = refl },
+      λ m. let none : None ≡ Some own = sym (path_free file d is form m) ∙ g in cc,
+    )
 
     by_form : (d : Data) → parsed file ≡ Some d → (b : Bool) → is_request d ≡ b → (if b then admission d (stray_path d) else not_request) ≡ not_admitted path
         → (r : PlainRequest) × HasForm file r × (HasMembers r → ⊥)
@@ -224,7 +226,10 @@ named_path file r h none = by (stray_path h.value) refl
 
 pub goes_by_members : GoesByMembers
 goes_by_members = record {
-  stands = λ file r. (stands_so file r, λ (h, m).
-      formed file h.value h.is_value h.form ∙ ap (admission h.value) (path_free file h.value h.is_value h.form (subst HasMembers h.is m)) ∙ ap stands_for (sym h.is));
+  stands = λ file r. (
+    stands_so file r,
+    λ (h, m).
+        formed file h.value h.is_value h.form ∙ ap (admission h.value) (path_free file h.value h.is_value h.form (subst HasMembers h.is m)) ∙ ap stands_for (sym h.is),
+  );
   strays = λ file. (λ (path, e). strays_so file path e, λ (r, h, none). named_path file r h none);
 }
