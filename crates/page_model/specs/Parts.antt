@@ -69,7 +69,7 @@ abbrev pub has_semicolon : List ℕ → Bool
 has_semicolon [] = false
 has_semicolon (c ∷ cs) = c == 59 || has_semicolon cs
 
--- the reference that this stands for between `&` and `;`: behind `#x` and `#` stands a number, else a name
+-- the reference whose characters between `&#` and `;` are these: hexadecimal digits behind `x`, and else decimal ones
 abbrev pub numbered : List ℕ → Reference
 numbered [] = decimal []
 numbered (c ∷ cs) = if c == 120 then hexadecimal cs else decimal (c ∷ cs)

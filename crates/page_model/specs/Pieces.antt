@@ -8,7 +8,7 @@ use Rattle.page_model.specs.Parts.{Tag, tag_then, IsTag, Leaf, character, refere
 use Rattle.page_model.specs.Prolog.{Declaration, declaration_then, IsDeclaration, Doctype, doctype_then, IsDoctype}
 use Rattle.page_model.specs.Places.{Place, at_beginning, behind_mark, behind, is_early, brackets}
 
--- one piece of a page: the mark, a declaration, a tag, or what is neither (a character, a reference, a section, a comment, an instruction)
+-- one piece of a page: the mark, a declaration, a tag, or a leaf (a character, a reference, a section, a comment or an instruction)
 pub data Piece : Type 0 where
   -- the byte order mark (XML 1.0, 4.3.3)
   mark : Piece
