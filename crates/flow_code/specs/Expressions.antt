@@ -40,7 +40,7 @@ literal v = from_source (literal_source v)
 abbrev pub of_one : Work → (Work → List ℕ → PlainSource) → Code ℕ → Code ℕ
 of_one sign source a = computed a (λ x. source sign (x ∷ []))
 
--- a fresh slot set to an operation on two values; that of the first is computed before that of the second
+-- a fresh slot set to an operation on two values, the first of which is computed before the second
 abbrev pub of_two : Work → (Work → List ℕ → PlainSource) → Code ℕ → Code ℕ → Code ℕ
 of_two sign source a b = computed (both a b (λ x y. x ∷ y ∷ [])) (source sign)
 

@@ -19,7 +19,7 @@ key_slots (int_ref z) = []
 key_slots (text_ref t) = []
 key_slots (read_ref x) = x ∷ []
 
--- the slots that a key reads, if there is one; `[]` reads none
+-- the slots that a key reads, if one is written; `[]` and an array item without a key read none
 abbrev pub maybe_key_slots : Option PlainKeyRef → List ℕ
 maybe_key_slots None = []
 maybe_key_slots (Some k) = key_slots k
@@ -199,7 +199,7 @@ pub record PointFits (fs : List PlainFlowFunction) (g : PlainFlowFunction) (i : 
   pub stays : All (IsOwnPoint g) (nexts i)
   pub parts : PartsFit fs i
 
--- the function is entered at a point of its own, its parameters are slots of its own, and each of its points is of its form
+-- the function is entered at a point of its own, its parameters are slots of its own, and each of its points fits in it
 pub record FunctionFits (fs : List PlainFlowFunction) (g : PlainFlowFunction) : Type 0 where
   pub entry : IsOwnPoint g g.entry_of
   pub params : All (IsOwnSlot g) g.params_of

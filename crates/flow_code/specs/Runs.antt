@@ -51,12 +51,12 @@ key_value f (int_ref z) = int z
 key_value f (text_ref t) = text t
 key_value f (read_ref x) = f x
 
--- the value of a key, if one is given; None for `[]`
+-- the value of a key, if one is written; None for `[]` and for an array item without a key
 abbrev pub maybe_key_value : Slots → Option PlainKeyRef → Option Plain
 maybe_key_value f None = None
 maybe_key_value f (Some k) = Some (key_value f k)
 
--- the value of an array item and that of its key, if it has one
+-- an array item with its values: that of its key, if it has one, and then its own
 abbrev pub item_value : Slots → (Option PlainKeyRef × ℕ) → (Option Plain × Plain)
 item_value f item = (maybe_key_value f item.0, f item.1)
 

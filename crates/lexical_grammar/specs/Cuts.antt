@@ -20,7 +20,7 @@ abbrev pub blank_behind : List ℕ → Option ℕ
 blank_behind [] = Some 0
 blank_behind (b ∷ bytes) = if is_gap b then Some 1 else if is_line_end b then Some (newline_length (b ∷ bytes)) else None
 
--- `<?php` and so many bytes of blank behind it are passed over; no step where no blank could be read
+-- `<?php` and so many bytes of blank behind it, 0 at the end of the file, are passed over; no step where another byte stands there
 abbrev pub opened : Option ℕ → Option Step
 opened None = None
 opened (Some n) = passes (5 + n)

@@ -190,7 +190,7 @@ kind_of_parts [] = text []
 kind_of_parts (plain_part t ∷ []) = text t
 kind_of_parts parts = template parts
 
--- the text or template of a row behind its first quote, which is counted with the bytes taken; no end is refused at the quote
+-- the text or template of a row behind its first quote, which is counted; a wrong place is refused there, and no end at the quote
 abbrev pub double_token : Row Unit_of → Option Step
 double_token (whole units n) = gives (kind_of_parts (parts_of units)) (1 + n)
 double_token (broken n) = faults Escape (1 + n)

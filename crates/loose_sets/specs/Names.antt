@@ -24,7 +24,7 @@ pub data Leaving : Type 0 where
   by_return : Leaving
   by_exit : Leaving
 
--- a set of the analysis
+-- the name of a set of the analysis
 pub data Name : Type 0 where
   -- of the value that a definition gives
   set_of : Aspect → Definition → Name

@@ -12,6 +12,7 @@ use Rattle.plain_values.specs.declared.fault.Fault.TheVariants as fault
 abbrev pub leading_digits : List ℕ → List ℕ
 leading_digits t = take_while is_ascii_digit t
 
+-- what stands behind the longest run of digits that a text begins with
 abbrev pub behind_digits : List ℕ → List ℕ
 behind_digits t = drop (length (leading_digits t)) t
 
@@ -30,6 +31,7 @@ abbrev pub behind_fraction : List ℕ → List ℕ
 behind_fraction [] = []
 behind_fraction (b ∷ bs) = if is_dot b then behind_digits bs else b ∷ bs
 
+-- whether the first byte is a decimal digit; the empty text has none
 abbrev pub begins_with_digit : List ℕ → Bool
 begins_with_digit [] = false
 begins_with_digit (b ∷ bs) = is_ascii_digit b

@@ -5,6 +5,7 @@ use Rattle.plain_values.specs.Plain.{Plain, PlainKey, Pairs, int_key, text_key, 
 use Rattle.plain_values.specs.Keys.{canonical_integer, are_distinct}
 use Rattle.plain_values.specs.Numeric.{is_in_range}
 
+-- an integer of 64 bits, or a text of at most 16,777,216 bytes that is not the decimal form of one
 abbrev pub IsKey : PlainKey → Type 0
 IsKey (int_key z) = is_in_range z ≡ true
 IsKey (text_key t) = (length t ≤ 16777216) × (canonical_integer t ≡ None)
@@ -18,6 +19,7 @@ abbrev mutual
   HasValues (text t) = length t ≤ 16777216
   HasValues (array ps) = (are_distinct (keys ps) ≡ true) × PairsHaveValues ps
 
+  -- each key is one that a run may have, and the parts of each value are values
   pub PairsHaveValues : Pairs → Type 0
   PairsHaveValues empty = ⊤
   PairsHaveValues (pair k v ps) = IsKey k × HasValues v × PairsHaveValues ps

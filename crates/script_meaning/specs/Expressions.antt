@@ -87,6 +87,7 @@ update_at sign x path right s =
 unfoldable mutual
   unfolding request_array arithmetic comparison stepped assigned update_at result_of
 
+  -- the value of an expression with the state behind it, or the end of the run within it
   pub value : Environment → PlainExpr → State → Run Plain
   value w null_expr s = Going null s
   value w (flag_expr b) s = Going (flag b) s
@@ -125,10 +126,12 @@ unfoldable mutual
   value w (step_expr x up before) s = result_of (stepped up (value_in s.variables x)) s then_do λ new s. Going (if before then new else value_in s.variables x) (with_variable s x new)
   value w (call_expr name args) s = values w args s then_do λ vs s. w.call name vs s
 
+  -- the values of expressions, which are evaluated from the left to the right
   pub values : Environment → PlainExprs → State → Run (List Plain)
   values w no_exprs s = Going [] s
   values w (more_exprs e es) s = value w e s then_do λ v s. (values w es s then_do λ vs s. Going (v ∷ vs) s)
 
+  -- the value of an expression, where one is written
   pub maybe_value : Environment → MaybeExpr → State → Run (Option Plain)
   maybe_value w no_expr s = Going None s
   maybe_value w (some_expr e) s = value w e s then_do λ v s. Going (Some v) s
@@ -138,6 +141,7 @@ unfoldable mutual
   items_in w no_items made s = Going made s
   items_in w (more_items k e is) made s = maybe_value w k s then_do λ key s. (value w e s then_do λ new s. (result_of (add_item made key new) s then_do λ made s. items_in w is made s))
 
+  -- the values of subscripts, which are evaluated from the left to the right; `[]` has none
   pub subscripts : Environment → PlainPath → State → Run (List (Option Plain))
   subscripts w no_keys s = Going [] s
   subscripts w (more_keys k ks) s = maybe_value w k s then_do λ v s. (subscripts w ks s then_do λ vs s. Going (v ∷ vs) s)

@@ -47,6 +47,7 @@ pub record Outcome : Type 0 where
   pub printed : List ℕ
   pub end : End
 
+-- statements outside functions that were left, at their end or by `return`, end the run as `exit` does; a run that was over keeps its end
 unfoldable pub outcome_of : Run Flow → Outcome
 outcome_of (Going flow s) = record { printed = s.printed; end = Ended }
 outcome_of (Over how printed) = record { printed = printed; end = how }

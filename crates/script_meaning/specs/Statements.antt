@@ -90,6 +90,7 @@ exit_with (Some _) s = Over (Faulted WrongType) s.printed
 unfoldable mutual
   unfolding unit_at next_after turn loop walk condition for_condition nothing echo returned exit_with
 
+  -- how a statement is left, with the state behind it, or the end of the run within it
   pub statement : Environment → PlainStmt → State → Run Flow
   -- text outside PHP
   statement w (inline_stmt bytes) s = with_unit s λ s. Going goes_on (printing bytes s)
@@ -110,6 +111,7 @@ unfoldable mutual
   -- none stands in a program: the statements of its file stand in its place
   statement w (include_stmt path) s = Going goes_on s
 
+  -- statements in turn, up to the first one that is not left at its end
   pub statements : Environment → PlainStmts → State → Run Flow
   statements w no_stmts s = Going goes_on s
   statements w (more_stmts st ss) s = statement w st s then_do λ flow s. next_after flow s (statements w ss)
