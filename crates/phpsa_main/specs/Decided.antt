@@ -37,6 +37,7 @@ pub record IsRefusedBy (files : SourceCall) (file : List ℕ) (document_type : N
   pub read : IsBuiltIn document_type → Contains uncounted message.status ⊎ ReadsItsFiles files file
   pub faults : TellsFaults files message.status
 
+-- what deciding the script of a file comes to, where it is loaded for this
 abbrev pub Decides : SourceCall → List ℕ → NamedType → Goal → ℕ → Decision → Type 0
 Decides files file document_type goal limit (Ok answer) = IsDecidedAs files file document_type goal limit answer
 Decides files file document_type goal limit (Err (Refusal.Told message)) = IsRefusedBy files file document_type message
@@ -47,6 +48,7 @@ abbrev pub IsProgramRefused : Table → PlainProgram → List ℕ → Message �
 IsProgramRefused table program name message =
     (HasLongText program × Says message Input (long_text name)) ⊎ ((count : ℕ) × HasManyStates table count × Says message Dtd (states_text count))
 
+-- what deciding a loaded program comes to, with the name of its file
 abbrev pub IsProgramDecided : Table → PlainProgram → List ℕ → Goal → ℕ → Decision → Type 0
 IsProgramDecided table program name goal limit (Ok answer) = IsAnswer goal table program limit answer
 IsProgramDecided table program name goal limit (Err (Refusal.Told message)) = IsProgramRefused table program name message

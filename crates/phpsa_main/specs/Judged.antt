@@ -10,6 +10,7 @@ use Rattle.phpsa_tasks.specs.Replies.{IsJudged}
 use Rattle.phpsa_tasks.specs.declared.reply.Reply.TheVariants as reply
 use Rattle.phpsa_tasks.specs.Results.{TaskResult}
 
+-- what judging a page by a definition comes to: whether it is valid, or content models with too many states
 abbrev pub IsJudgedAs : Table → List ℕ → TaskResult → Type 0
 IsJudgedAs table page (Ok (reply.Text message)) = (valid : Bool) × IsJudged table page valid × Says message (judgment_status valid) (judgment_text valid)
 IsJudgedAs table page (Ok other) = ⊥

@@ -35,6 +35,7 @@ IsRunReply outcome steps (reply.Text message) = (outcome.end ≡ Ended) × Says 
 IsRunReply outcome steps (reply.Grammar grammar) = ⊥
 IsRunReply outcome steps (reply.Halted printed message) = IsEarly outcome.end × Says message (end_status outcome.end) (end_text steps outcome.end) × (printed ≡ outcome.printed)
 
+-- the reply is that of the run of a program for a request within so many units
 abbrev pub IsReplyOfRun : PlainProgram → PlainRequest → ℕ → Reply → Type 0
 IsReplyOfRun program request steps reply = IsRunReply (meaning program request steps) steps reply
 

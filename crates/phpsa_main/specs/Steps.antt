@@ -20,6 +20,7 @@ EndsOnErr (reply.Text message) err status = (status ≡ message.status) × Gains
 EndsOnErr (reply.Grammar grammar) err status = (status ≡ Done) × GainsNothing err
 EndsOnErr (reply.Halted printed message) err status = Puts err message.text message.status status
 
+-- all of the text of a reply stands on `out`
 abbrev pub WritesReply : Reply → Output → Output → Exit → Type 0
 WritesReply reply out err status = Gains out (reply_text reply) × EndsOnErr reply err status
 
@@ -35,6 +36,7 @@ pub record WantsMemory (text : List ℕ) (out err : Output) (status : Exit) : Ty
   pub out_gains : GainsPrefix out text
   pub err_puts : Puts err memory_text Memory status
 
+-- a reply was written, or `out` failed, or memory was wanting on it
 abbrev pub Reports : Reply → Output → Output → Exit → Type 0
 Reports reply out err status = WritesReply reply out err status ⊎ (FailsOnOut (reply_text reply) out err status ⊎ WantsMemory (reply_text reply) out err status)
 

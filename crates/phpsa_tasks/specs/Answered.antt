@@ -70,6 +70,7 @@ PassesLimit (made_check functions) subject status = PassesScriptLimit Goal.Valid
 PassesLimit (grammar_making file) subject status = PassesGrammarLimit subject status
 PassesLimit task subject status = ⊥
 
+-- a limit of the task is passed, or memory was wanting
 abbrev pub IsStopped : (task : Task) → Subject task → Exit → Type 0
 IsStopped task subject status = PassesLimit task subject status ⊎ (status ≡ Memory)
 

@@ -29,7 +29,7 @@ use Rattle.phpsa_tasks.specs.declared.task.TheConstants.{PAIR_LIMIT}
 use Rattle.phpsa_tasks.specs.Tasks.{Task, script_check, page_check, script_making, made_check, script_run, grammar_making, usage}
 use Rattle.phpsa_tasks.specs.Subjects.{ProgramFor, Subject, Finds}
 
--- how a script is decided by each answer for its program, and the text of the answer
+-- how a script is decided by each answer for its program
 abbrev pub conclusion_of : ShownAnswer → Conclusion
 conclusion_of ShownAnswer.Yes = conclusion.Yes
 conclusion_of (ShownAnswer.No shown) = conclusion.No
@@ -37,9 +37,11 @@ conclusion_of (ShownAnswer.Pairs count height) = conclusion.Undecided
 conclusion_of (ShownAnswer.Tags count height) = conclusion.Undecided
 conclusion_of (ShownAnswer.Items count) = conclusion.Undecided
 
+-- the status of an answer
 abbrev pub answer_status : ShownAnswer → Exit
 answer_status answer = conclusion_status (conclusion_of answer)
 
+-- the text of an answer, in lines or as a JSON object
 abbrev pub answer_text : AnswerForm → ShownAnswer → List ℕ
 answer_text form ShownAnswer.Yes = yes_answer form
 answer_text form (ShownAnswer.No shown) = no_answer form shown.length shown.front
@@ -60,13 +62,14 @@ IsJudged table page false = Valid table page → ⊥
 abbrev pub outcome_for : ProgramFor → ℕ → Outcome
 outcome_for subject steps = meaning subject.program subject.request steps
 
--- the status of a run by its end, and the text on `err` where that is not the end of the script
+-- the status of a run by its end
 abbrev pub end_status : runs.End → Exit
 end_status runs.Ended = Done
 end_status (runs.Faulted fault) = fault_status fault
 end_status runs.Spent = exit.Spent
 end_status runs.Deep = exit.Deep
 
+-- what is told on `err` of a run that was allowed so many units, by its end; nothing where it came to the end of the script
 abbrev pub end_text : ℕ → runs.End → List ℕ
 end_text steps runs.Ended = []
 end_text steps (runs.Faulted fault) = fault_text fault

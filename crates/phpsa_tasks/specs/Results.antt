@@ -16,12 +16,13 @@ use Rattle.phpsa_tasks.specs.Counted.{ReadsFor, TellsFaults}
 abbrev pub TaskResult : Type 0
 TaskResult = Result Reply Refusal
 
--- the status of a reply, and its text on `out`
+-- the status of a reply
 abbrev pub reply_status : Reply → Exit
 reply_status (reply.Text message) = message.status
 reply_status (reply.Grammar grammar) = Done
 reply_status (reply.Halted printed message) = message.status
 
+-- the text of a reply on `out`
 abbrev pub reply_text : Reply → List ℕ
 reply_text (reply.Text message) = message.text
 reply_text (reply.Grammar grammar) = grammar_text grammar.start.0 grammar.productions.items

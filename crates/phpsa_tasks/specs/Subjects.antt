@@ -28,13 +28,15 @@ pub record ProgramFor : Type 0 where
   pub program : PlainProgram
   pub request : PlainRequest
 
--- the name under which a generated script is loaded, and a source that has a file of this name alone: with this text, with so many functions
+-- the name under which a generated script is loaded
 abbrev pub made_name : List ℕ
 made_name = codes "made.php"
 
+-- a source that has a file of this name alone, with this text
 abbrev pub only_script : List ℕ → Content
 only_script = file_alone made_name
 
+-- a source that has the generated script of so many functions alone
 abbrev pub only_made : ℕ → Content
 only_made functions = only_script (made functions)
 

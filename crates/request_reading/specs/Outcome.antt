@@ -7,6 +7,7 @@ use Rattle.serde_json.specs.Read.{read}
 use Rattle.request_reading.specs.RequestFile.{is_request, asked_request}
 use Rattle.request_reading.specs.Admission.{stray_path}
 
+-- no JSON text; a JSON value of another form; the path of the first text that is not admitted; a request
 pub data Outcome : Type 0 where
   not_json : Outcome
   not_request : Outcome
@@ -17,6 +18,7 @@ pub data Outcome : Type 0 where
 abbrev pub parsed : List ℕ → Option Data
 parsed file = if is_utf8 file then read file else None
 
+-- a value of the form of a request, by the path of its first text that is not admitted, if there is one
 abbrev pub admission : Data → Option (List ℕ) → Outcome
 admission d (Some path) = not_admitted path
 admission d None = stands_for (asked_request d)

@@ -71,6 +71,7 @@ abbrev mutual
   are_members no_members = true
   are_members (member name d ms) = fits_text name && (is_member d && are_members ms)
 
+-- a JSON object
 abbrev pub is_object : Data → Bool
 is_object (object ms) = true
 is_object _ = false
