@@ -18,8 +18,10 @@ moved wrap names leave leaves = leave
 moved wrap names leave stops = fail
 
 -- the reader follows the moves in these states, and fails at what is no character of XML, at which no value goes on
-pub record IsAmong {P T S : Type 0} (r : Reader P T S) (a : Allowing) (wrap : List (List ℕ) → OpenAttribute → S) (leave : List (List ℕ) → ℕ → Move P T S) : Type 0 where
-  pub steps : (names : List (List ℕ)) (o : OpenAttribute) (c : ℕ) → r.step (wrap names o) c ≡ (if is_character c then moved wrap names (leave names c) (attribute_move a names o c) else fail)
+pub record IsAmong {P T S : Type 0} (r : Reader P T S) (a : Allowing) (wrap : List (List ℕ) → OpenAttribute → S)
+    (leave : List (List ℕ) → ℕ → Move P T S) : Type 0 where
+  pub steps : (names : List (List ℕ)) (o : OpenAttribute) (c : ℕ)
+      → r.step (wrap names o) c ≡ (if is_character c then moved wrap names (leave names c) (attribute_move a names o c) else fail)
   pub strict : (name : List ℕ) (v : OpenValue) (c : ℕ) → is_character c ≡ false → a.step name v c ≡ None
 
 -- the quote does not stand in the value

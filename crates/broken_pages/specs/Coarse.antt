@@ -52,7 +52,8 @@ from_less c =
 abbrev pub from_target : Option (List ℕ) → ℕ → Option Coarse
 from_target o c =
     if may_be_target o c then Some (target (more_target o c))
-    else (if is_started o then (if is_reserved o then (if is_xml o && is_blank c then Some words else None) else (if is_blank c then Some (instruction false) else (if c == 63 then Some closing else None))) else None)
+    else (if is_started o then (if is_reserved o then (if is_xml o && is_blank c then Some words else None)
+    else (if is_blank c then Some (instruction false) else (if c == 63 then Some closing else None))) else None)
 
 -- in quotes, up to the quote: no `<` stands in a value
 abbrev pub in_quotes : Coarse → Coarse → ℕ → ℕ → Option Coarse
@@ -65,17 +66,23 @@ coarse_step reference c = if c == 59 then Some content else (if in_name c || c =
 coarse_step (opener []) c = None
 coarse_step (opener (a ∷ [])) c = from_less c
 coarse_step (opener (a ∷ b ∷ cs)) c = from_opener ((a ∷ b ∷ cs) ++ c ∷ [])
-coarse_step tag c = if c == 62 then Some content else (if is_quote c then Some (quotes c) else (if in_name c || is_blank c || c == 61 || c == 47 then Some tag else None))
+coarse_step tag c = if c == 62 then Some content else (if is_quote c then Some (quotes c)
+    else (if in_name c || is_blank c || c == 61 || c == 47 then Some tag else None))
 coarse_step (quotes quote) c = in_quotes (quotes quote) tag quote c
 coarse_step end_tag c = if c == 62 then Some content else (if in_name c || is_blank c then Some end_tag else None)
-coarse_step (comment dashes) c = if nat_le 2 dashes then (if c == 62 then Some content else None) else (if c == 45 then Some (comment (suc dashes)) else Some (comment 0))
-coarse_step (section brackets) c = if c == 62 && nat_le 2 brackets then Some content else (if c == 93 then Some (section (min 2 (suc brackets))) else Some (section 0))
+coarse_step (comment dashes) c =
+    if nat_le 2 dashes then (if c == 62 then Some content else None)
+    else (if c == 45 then Some (comment (suc dashes)) else Some (comment 0))
+coarse_step (section brackets) c =
+    if c == 62 && nat_le 2 brackets then Some content else (if c == 93 then Some (section (min 2 (suc brackets))) else Some (section 0))
 coarse_step (target o) c = from_target o c
 coarse_step (instruction asked) c = if c == 62 && asked then Some content else Some (instruction (c == 63))
-coarse_step words c = if c == 63 then Some closing else (if is_quote c then Some (word_quotes c) else (if in_name c || is_blank c || c == 61 then Some words else None))
+coarse_step words c = if c == 63 then Some closing else (if is_quote c then Some (word_quotes c)
+    else (if in_name c || is_blank c || c == 61 then Some words else None))
 coarse_step (word_quotes quote) c = in_quotes (word_quotes quote) words quote c
 coarse_step closing c = if c == 62 then Some content else None
-coarse_step doctype c = if c == 62 then Some content else (if is_quote c then Some (doctype_quotes c) else (if in_name c || is_blank c then Some doctype else None))
+coarse_step doctype c = if c == 62 then Some content else (if is_quote c then Some (doctype_quotes c)
+    else (if in_name c || is_blank c then Some doctype else None))
 coarse_step (doctype_quotes quote) c = if c == quote then Some doctype else Some (doctype_quotes quote)
 
 -- Bytes. Those of a character of several bytes are passed over, each in the same way.

@@ -56,7 +56,8 @@ is_right (word_quotes quote) = is_quote quote
 is_right (doctype_quotes quote) = is_quote quote
 is_right x = true
 
--- what the coarse reader makes of a byte answers the move of the reader: where this goes on, it leads to what is seen then, and the quotes are right;
+-- what the coarse reader makes of a byte answers the move of the reader: where this goes on, it leads to what is seen then, and the quotes
+-- are right;
 -- where a piece ends, to content
 abbrev pub SeesByte : Option Coarse → Move Place PageToken (Held PageState) → Type 0
 SeesByte o (go g) = (o ≡ Some (seen g)) × (is_right (seen_open g.state.inside) ≡ true)

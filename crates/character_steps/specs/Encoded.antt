@@ -41,7 +41,12 @@ is_some_byte (b ∷ bytes) = true
 
 -- the reader by bytes
 abbrev pub encoded : {P T S : Type 0} → Reader P T S → (S → S) → Reader P T (Held S)
-encoded r hold = record { first = λ place. at_state (r.first place); step = byte_step r hold; is_open = λ h. is_some_byte h.begun || r.is_open h.state; bad = r.bad }
+encoded r hold = record {
+  first = λ place. at_state (r.first place);
+  step = byte_step r hold;
+  is_open = λ h. is_some_byte h.begun || r.is_open h.state;
+  bad = r.bad;
+}
 
 -- what is asked of the reader of characters
 pub record ByCharacters {P T S : Type 0} (r : Reader P T S) (hold : S → S) : Type 0 where

@@ -42,7 +42,8 @@ EndHas from fs base fr l qs = HasEnd from fs fr base l qs
 
 -- a part of a reading has its production
 abbrev pub HasPart : List Passage → ℕ → Reading → List Front → ByteRange → List Production → Type 0
-HasPart fs base r fr part qs = Contains fs (record { symbol = Range r.asked; from = r.from; to = r.to }) → (p : Production) × Contains qs p × ReadLift fs fr base r part p
+HasPart fs base r fr part qs = Contains fs (record { symbol = Range r.asked; from = r.from; to = r.to })
+    → (p : Production) × Contains qs p × ReadLift fs fr base r part p
 
 -- what is written for a part of a reading: the production of its output
 abbrev pub PartMade : List Passage → ℕ → Reading → List Front → ByteRange → Production → Type 0
@@ -56,7 +57,8 @@ pub record WritesSome (fs : List Passage) (base : ℕ) (r : Reading) (w v : List
 
 -- some part with the byte has its production
 abbrev pub HasByte : List Passage → ℕ → Reading → List Front → ℕ → List Production → Type 0
-HasByte fs base r fr byte qs = Contains fs (record { symbol = Range r.asked; from = r.from; to = r.to }) → (part : ByteRange) × (p : Production) × InRange part byte × Contains qs p × ReadLift fs fr base r part p
+HasByte fs base r fr byte qs = Contains fs (record { symbol = Range r.asked; from = r.from; to = r.to })
+    → (part : ByteRange) × (p : Production) × InRange part byte × Contains qs p × ReadLift fs fr base r part p
 
 -- the production of a front is written, if its nonterminals are below the count
 pub record AddsFront (base count n : ℕ) (f : Front) (old new : List Production) : Type 0 where

@@ -1,4 +1,5 @@
--- What the states in memory stand for, and what the reader does in them: as the coarse reader of broken_pages, but that it goes on where it has failed.
+-- What the states in memory stand for, and what the reader does in them: as the coarse reader of broken_pages, but that it goes on where it
+-- has failed.
 use Rattle.std.specs.Prelude.{ℕ, if◌then◌else◌, List, [], ◌∷◌, Option, Some, None}
 use Rattle.text_base.specs.declared.page_token.PageToken.{PageToken}
 use Rattle.text_base.specs.declared.page_token.PageToken.TheVariants as token

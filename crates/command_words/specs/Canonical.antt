@@ -126,7 +126,8 @@ pub data IsCanonical (words : List Text) (for : Asked) : Type 0 where
       → asked_run (given (codes "FILE") parts last) ≡ Some for → IsCanonical words for
   of_page : (parts : List Part) (last : Option Text) → AreCanonical page_names parts last → words ≡ codes "page" ∷ all_words parts last
       → asked_page (given (codes "FILE") parts last) ≡ Some for → IsCanonical words for
-  of_grammar : (parts : List Part) (last : Option Text) → AreCanonical grammar_names parts last → words ≡ codes "grammar" ∷ all_words parts last
+  of_grammar : (parts : List Part) (last : Option Text) → AreCanonical grammar_names parts last
+      → words ≡ codes "grammar" ∷ all_words parts last
       → asked_grammar (given (codes "FILE") parts last) ≡ Some for → IsCanonical words for
   of_make : (parts : List Part) (last : Option Text) → AreCanonical make_names parts last → words ≡ codes "make" ∷ all_words parts last
       → asked_make (given (codes "N") parts last) ≡ Some for → IsCanonical words for

@@ -21,7 +21,8 @@ command name arguments = fold with_rule (new_app name) arguments
 
 -- `phpsa check`: the file, the document type, the limit on the grammar, and the flags for nesting alone and for JSON
 abbrev pub check : App
-check = command (codes "check") (place (codes "FILE") ∷ option (codes "dtd") ∷ option (codes "limit") ∷ flag (codes "nesting") ∷ flag (codes "json") ∷ [])
+check = command (codes "check")
+    (place (codes "FILE") ∷ option (codes "dtd") ∷ option (codes "limit") ∷ flag (codes "nesting") ∷ flag (codes "json") ∷ [])
 
 -- `phpsa run`: the file, the file of the request, and the most steps
 abbrev pub run : App

@@ -58,7 +58,8 @@ key_eq a b = nat_eq a.0 b.0 && pointwise beq a.1 b.1
 
 -- some children lead to the state
 abbrev pub IsReached : List Shape → Key → Type 0
-IsReached shapes k = (s : Shape) × (slice_get shapes k.0 ≡ Some s) × (es : List ℕ) × (states_walk (length shapes) s (first_state s) es ≡ Some k.1)
+IsReached shapes k = (s : Shape) × (slice_get shapes k.0 ≡ Some s) × (es : List ℕ)
+    × (states_walk (length shapes) s (first_state s) es ≡ Some k.1)
 
 -- there are at least so many states
 abbrev pub HasStates : List Shape → ℕ → Type 0
@@ -84,11 +85,13 @@ AddsFound old new element found = (k : Key) → Contains new k → Contains old 
 
 -- each state is one of the old ones, or one behind one of so many children
 abbrev pub Adds : List Key → List Key → ℕ → ℕ → (ℕ → Option (List Bool)) → Type 0
-Adds old new element count behind = (k : Key) → Contains new k → Contains old k ⊎ ((e : ℕ) × (e < count) × (k.0 ≡ element) × (behind e ≡ Some k.1))
+Adds old new element count behind = (k : Key) → Contains new k
+    → Contains old k ⊎ ((e : ℕ) × (e < count) × (k.0 ≡ element) × (behind e ≡ Some k.1))
 
 -- some children that are declared lead to the state
 abbrev pub IsLedTo : List Shape → Key → Type 0
-IsLedTo shapes k = (s : Shape) × (slice_get shapes k.0 ≡ Some s) × (es : List ℕ) × AreElements (length shapes) es × (states_walk (length shapes) s (first_state s) es ≡ Some k.1)
+IsLedTo shapes k = (s : Shape) × (slice_get shapes k.0 ≡ Some s) × (es : List ℕ) × AreElements (length shapes) es
+    × (states_walk (length shapes) s (first_state s) es ≡ Some k.1)
 
 -- and so to each state
 abbrev pub AllReached : List Shape → List Key → Type 0
@@ -109,7 +112,8 @@ pub record RowsFit (shapes : List Shape) (keys : List Key) (rows : List Row) (co
 -- the numbers are those of the states that so many elements begin in
 pub record FirstsFit (shapes : List Shape) (keys : List Key) (firsts : List ℕ) (count : ℕ) : Type 0 where
   pub long : length firsts ≡ count
-  pub fit : (e : ℕ) (s : Shape) → e < count → slice_get shapes e ≡ Some s → slice_get keys (slice_index_or firsts e 0) ≡ Some (e, first_state s)
+  pub fit : (e : ℕ) (s : Shape) → e < count → slice_get shapes e ≡ Some s
+      → slice_get keys (slice_index_or firsts e 0) ≡ Some (e, first_state s)
 
 -- the states that elements begin in have their flags
 abbrev pub AreSized : List Shape → Type 0

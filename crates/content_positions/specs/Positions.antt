@@ -53,11 +53,17 @@ unfoldable mutual
 
 -- what may come next where a model is to come, and then what is given
 abbrev pub before : ℕ → Model → Next → Next
-before base m next = record { positions = firsts base m ++ (if may_be_empty m then next.positions else []); whole = may_be_empty m && next.whole }
+before base m next = record {
+  positions = firsts base m ++ (if may_be_empty m then next.positions else []);
+  whole = may_be_empty m && next.whole;
+}
 
 -- what may come next where models are to come in turn, and then what is given
 abbrev pub before_all : ℕ → Models → Next → Next
-before_all base ms next = record { positions = firsts_in_turn base ms ++ (if all_may_be_empty ms then next.positions else []); whole = all_may_be_empty ms && next.whole }
+before_all base ms next = record {
+  positions = firsts_in_turn base ms ++ (if all_may_be_empty ms then next.positions else []);
+  whole = all_may_be_empty ms && next.whole;
+}
 
 -- what may come next behind a model that may come again
 abbrev pub again : ℕ → Model → Next → Next
@@ -77,7 +83,8 @@ unfoldable mutual
   -- of a sequence: behind a part come those behind it
   pub places_in_turn : ℕ → Models → Next → List Position
   places_in_turn base no_models next = []
-  places_in_turn base (more_models m ms) next = places base m (before_all (base + positions m) ms next) ++ places_in_turn (base + positions m) ms next
+  places_in_turn base (more_models m ms) next =
+      places base m (before_all (base + positions m) ms next) ++ places_in_turn (base + positions m) ms next
 
   -- of a choice: behind each part comes what may come behind the choice
   pub places_of_each : ℕ → Models → Next → List Position

@@ -21,11 +21,13 @@ wanted_turn text = if is_wanted (Some text) then on (doctype.behind_public false
 
 -- parts of `doctype_turn` that go by no rule
 abbrev pub before_next : Bool → ℕ → Turn doctype.OpenDoctype
-before_next spaced c = if is_blank c then on (doctype.before_root true) else (if c == 104 && spaced then on (doctype.in_root (codes "h")) else stop)
+before_next spaced c = if is_blank c then on (doctype.before_root true)
+    else (if c == 104 && spaced then on (doctype.in_root (codes "h")) else stop)
 
 -- behind a public literal: white space, or a quote behind some, which opens the system literal
 abbrev pub behind_public_next : Bool → ℕ → Turn doctype.OpenDoctype
-behind_public_next spaced c = if is_blank c then on (doctype.behind_public true) else (if is_quote c && spaced then on (doctype.in_system c) else stop)
+behind_public_next spaced c = if is_blank c then on (doctype.behind_public true)
+    else (if is_quote c && spaced then on (doctype.in_system c) else stop)
 
 -- in a system literal: its quote, or one more character
 abbrev pub system_next : ℕ → ℕ → Turn doctype.OpenDoctype

@@ -25,5 +25,6 @@ pub record IsDoctypeThen (rule : DoctypeRule) (cs rest : List ℕ) : Type 0 wher
 
 -- the machine of document type declarations leaves exactly behind one that is as the definition asks
 abbrev pub DoctypesLeft : Type 0
-DoctypesLeft = ((rule : DoctypeRule) (d : Doctype) (rest : List ℕ) → IsDoctype d → doctype_fits rule d ≡ true → past (turn rule) (before_root false) (inside_then d rest) ≡ Some rest)
+DoctypesLeft = ((rule : DoctypeRule) (d : Doctype) (rest : List ℕ) → IsDoctype d → doctype_fits rule d ≡ true
+    → past (turn rule) (before_root false) (inside_then d rest) ≡ Some rest)
     × ((rule : DoctypeRule) (cs rest : List ℕ) → past (turn rule) (before_root false) cs ≡ Some rest → IsDoctypeThen rule cs rest)

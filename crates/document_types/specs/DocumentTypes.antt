@@ -28,7 +28,8 @@ type_of (File name) = file_type name.now
 
 -- the document type that the word names: `strict`, `mini`, or else that of the file whose name it is
 abbrev pub named_type : List ℕ → NamedType
-named_type word = if bytes_eq word (codes "strict") then strict_type else (if bytes_eq word (codes "mini") then mini_type else file_type word)
+named_type word = if bytes_eq word (codes "strict") then strict_type else
+    (if bytes_eq word (codes "mini") then mini_type else file_type word)
 
 -- the document type has this table, where the source of files tells this
 abbrev pub HasTable : Content → NamedType → Table → Type 0

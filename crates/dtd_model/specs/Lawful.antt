@@ -100,7 +100,8 @@ is_lawful_kind (one_of tokens) = list_all is_name_token tokens
 -- at most 64 attributes, under names none of which stands twice, and each of a lawful type
 abbrev pub are_lawful_attributes : List Declared → Bool
 are_lawful_attributes ds =
-    nat_le (length ds) attribute_limit && are_names (map (λ (d : Declared). d.name) ds) && list_all (λ (d : Declared). is_lawful_kind d.kind) ds
+    nat_le (length ds) attribute_limit && are_names (map (λ (d : Declared). d.name) ds)
+    && list_all (λ (d : Declared). is_lawful_kind d.kind) ds
 
 -- an element with a lawful content model and lawful attributes, where so many elements are declared
 abbrev pub is_lawful_rule : ℕ → Rule → Bool
@@ -109,4 +110,5 @@ is_lawful_rule count rule = is_lawful_holding count rule.holding && are_lawful_a
 -- the elements and the names of the entities are those of a lawful definition
 unfoldable pub is_lawful : List Rule → List (List ℕ) → Bool
 is_lawful rules entities =
-    nat_le (length rules) element_limit && are_names (map (λ (r : Rule). r.name) rules) && list_all (is_lawful_rule (length rules)) rules && are_names entities
+    nat_le (length rules) element_limit && are_names (map (λ (r : Rule). r.name) rules) && list_all (is_lawful_rule (length rules)) rules
+    && are_names entities

@@ -42,7 +42,8 @@ unfoldable mutual
   -- of a sequence: the element stands in its first particle, or in a later one if those before may be empty
   pub after_first : ℕ → Models → Models
   after_first e no_models = no_models
-  after_first e (more_models m ms) = more_models (sequence (more_models (after e m) ms)) (if may_be_empty m then after_first e ms else no_models)
+  after_first e (more_models m ms) =
+      more_models (sequence (more_models (after e m) ms)) (if may_be_empty m then after_first e ms else no_models)
 
   -- of a choice: the derivative of each of its particles, in their order
   pub after_each : ℕ → Models → Models

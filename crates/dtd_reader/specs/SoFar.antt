@@ -37,9 +37,11 @@ RestReads content (f ∷ frames) s text last = Through content (names (f ∷ fra
 abbrev pub RestMeets : Content → List Frame → State → List ℕ → List (List ℕ) → State → List ℕ → Type 0
 RestMeets content [] s text outer' s' text' = Meets content [] s text outer' s' text'
 RestMeets content (f ∷ frames) s text outer' s' text' =
-    Meets content (names (f ∷ frames)) s text outer' s' text' ⊎ Through content (names (f ∷ frames)) s text (λ next. RestMeets content frames next f.rest outer' s' text')
+    Meets content (names (f ∷ frames)) s text outer' s' text'
+    ⊎ Through content (names (f ∷ frames)) s text (λ next. RestMeets content frames next f.rest outer' s' text')
 
 -- where what is left leads to a state, or one comes to one in reading it, so it is for the whole file
 pub record SoFar (content : Content) (file : List ℕ) (p : Position) : Type 0 where
   pub reads : (last : State) → RestReads content p.frames p.state p.text last → Reads content [] start file last
-  pub meets : (outer' : List (List ℕ)) (s' : State) (text' : List ℕ) → RestMeets content p.frames p.state p.text outer' s' text' → Meets content [] start file outer' s' text'
+  pub meets : (outer' : List (List ℕ)) (s' : State) (text' : List ℕ) → RestMeets content p.frames p.state p.text outer' s' text'
+      → Meets content [] start file outer' s' text'

@@ -18,7 +18,13 @@ pub record SourceCall : Type 0 where
 
 -- such a call by its parts
 abbrev pub source_call : Content → ℕ → ℕ → ℕ → ℕ → SourceCall
-source_call content faults faults' misses misses' = record { content = content; faults = faults; faults' = faults'; misses = misses; misses' = misses' }
+source_call content faults faults' misses misses' = record {
+  content = content;
+  faults = faults;
+  faults' = faults';
+  misses = misses;
+  misses' = misses';
+}
 
 -- neither count rose
 abbrev pub IsCalm : SourceCall → Type 0

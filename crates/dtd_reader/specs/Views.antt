@@ -39,7 +39,8 @@ Told content file (Unread name fault) old now = Asks content file name
 -- the text of an entity, where it is declared so far and not open
 abbrev pub IsFound : Content → State → List Frame → List ℕ → Found → Type 0
 IsFound content s frames name Nowhere = (is_among (names frames) name ≡ true) ⊎ (source_of s.parameters name ≡ None)
-IsFound content s frames name (NotRead system fault) = (is_among (names frames) name ≡ false) × (source_of s.parameters name ≡ Some (external system))
+IsFound content s frames name (NotRead system fault) =
+    (is_among (names frames) name ≡ false) × (source_of s.parameters name ≡ Some (external system))
 IsFound content s frames name (Text text) = (is_among (names frames) name ≡ false) × Stands content (source_of s.parameters name) text
 
 -- behind the beginning of an entity, whose reference has so many bytes

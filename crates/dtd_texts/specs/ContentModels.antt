@@ -58,7 +58,8 @@ element_named names w = if is_name w then numbered (number_of names w) w else re
 
 -- the content: `EMPTY`, `ANY`, or `(`, which opens text and elements or a group (3.2, contentspec)
 abbrev pub content_step : Token → Went Stage
-content_step (word w) = if same w (codes "EMPTY") then leads (done nothing) else if same w (codes "ANY") then leads (done anything) else refused
+content_step (word w) = if same w (codes "EMPTY") then leads (done nothing) else if same w (codes "ANY") then leads (done anything)
+    else refused
 content_step opening = leads at_first
 content_step _ = refused
 

@@ -34,7 +34,8 @@ name_length bytes = if head_is begins_name bytes then prefix_len in_name bytes e
 -- a sign, a name and a semicolon: how long the name is; 0 where they do not stand there
 unfoldable pub named_length : ℕ → List ℕ → ℕ
 named_length sign bytes =
-    if head_is (nat_eq sign) bytes then (if head_is (nat_eq 59) (drop (1 + name_length (drop 1 bytes)) bytes) then name_length (drop 1 bytes) else 0) else 0
+    if head_is (nat_eq sign) bytes
+    then (if head_is (nat_eq 59) (drop (1 + name_length (drop 1 bytes)) bytes) then name_length (drop 1 bytes) else 0) else 0
 
 -- the name in a parameter entity reference `%name;` (4.1, PEReference)
 abbrev pub reference_length : List ℕ → ℕ
@@ -48,7 +49,8 @@ reference_name bytes = take (reference_length bytes) (drop 1 bytes)
 abbrev pub entity_length : List ℕ → ℕ
 entity_length bytes = named_length 38 bytes
 
--- so many bytes, and then digits of a character reference and a semicolon: how many digits; 0 where it is none of a character (4.1, CharRef)
+-- so many bytes, and then digits of a character reference and a semicolon: how many digits; 0 where it is none of a character (4.1,
+-- CharRef)
 unfoldable pub digits_length : (ℕ → Bool) → ℕ → ℕ → List ℕ → ℕ
 digits_length class base opening bytes =
     let n = prefix_len class (drop opening bytes)

@@ -147,7 +147,8 @@ outside_of name (Some system) = if is_utf8 system.0 && is_end system.1 then decl
 -- the public literal of a parameter entity, of bytes of public identifiers alone (2.3, PubidLiteral), and then its system literal
 abbrev pub public_of : List ℕ → Option (List ℕ × List Token) → Step
 public_of name None = refuses
-public_of name (Some identifier) = if list_all in_public_identifier identifier.0 then outside_of name (next_literal identifier.1) else refuses
+public_of name (Some identifier) =
+    if list_all in_public_identifier identifier.0 then outside_of name (next_literal identifier.1) else refuses
 
 -- `SYSTEM` or `PUBLIC` behind the entity's name, and what stands behind that; a general entity with either is left out
 abbrev pub identified : Entity → Option (List ℕ × List Token) → Step

@@ -84,5 +84,6 @@ with_others ds (d ∷ more) = with_others (if is_declared ds d.name then ds else
 -- the elements with what they may hold and their attributes; lists for elements that are not declared say nothing
 abbrev pub rules_of : List Said → List Said → List Rule
 rules_of all [] = []
-rules_of all (element name h ∷ more) = record { name = name; holding = h; attributes = with_others [] (attributes_for name all) } ∷ rules_of all more
+rules_of all (element name h ∷ more) =
+    record { name = name; holding = h; attributes = with_others [] (attributes_for name all) } ∷ rules_of all more
 rules_of all (attributes name ds ∷ more) = rules_of all more

@@ -178,7 +178,8 @@ before_end (b ∷ bytes) = if begins (codes "?>") (b ∷ bytes) then 0 else suc 
 unfoldable pub declaration_length : List ℕ → ℕ
 declaration_length bytes =
     if begins (codes "<?xml") bytes
-    then (if begins (codes "?>") (drop (before_end bytes) bytes) && is_declaration (tokens (drop 2 (take (before_end bytes) bytes))) then before_end bytes + 2 else 0)
+    then (if begins (codes "?>") (drop (before_end bytes) bytes)
+    && is_declaration (tokens (drop 2 (take (before_end bytes) bytes))) then before_end bytes + 2 else 0)
     else 0
 
 -- the bytes behind a byte order mark and a text declaration (4.3.1 and 4.3.3)

@@ -20,5 +20,6 @@ pub record InTurn (entities : List (List ℕ)) (tag_name : List ℕ) (rules : Li
 
 -- attributes are as the definition asks exactly where they are read in turn and none that has to stand is missing
 abbrev pub AttributesMay : Type 0
-AttributesMay = (entities : List (List ℕ)) (tag_name : List ℕ) (rules : List Declared) (attributes : List Attribute) → list_all (λ (d : Declared). is_lawful_kind d.kind) rules ≡ true
+AttributesMay = (entities : List (List ℕ)) (tag_name : List ℕ) (rules : List Declared) (attributes : List Attribute)
+    → list_all (λ (d : Declared). is_lawful_kind d.kind) rules ≡ true
     → Fit entities tag_name rules attributes ↔ InTurn entities tag_name rules attributes

@@ -40,7 +40,8 @@ looser level.Equality = focus.Operand level.And
 looser level.And = focus.Operand level.Or
 looser level.Or = focus.Chain
 
--- how loose a value the last thing begun waits for: 0 is a unary operand, 1 to 7 an operand of that level, 8 a chain of `??`, 10 an expression
+-- how loose a value the last thing begun waits for: 0 is a unary operand, 1 to 7 an operand of that level, 8 a chain of `??`, 10 an
+-- expression
 abbrev pub wanted_rank : List Frame → ℕ
 wanted_rank (frame.Prefix p ∷ fs) = 0
 wanted_rank (frame.Operator l o ∷ fs) = level_rank l
@@ -220,8 +221,10 @@ behind_charset t r = if str_eq_ignore_ascii_case t (codes "UTF-8") then Some r e
 
 -- what stands behind the further arguments of `htmlspecialchars` and the closing bracket, if these stand next
 abbrev pub behind_quotes : List Terminal → Option (List Terminal)
-behind_quotes (sign_terminal sign.Comma ∷ name_terminal q ∷ sign_terminal sign.CloseParen ∷ r) = if same_bytes q (codes "ENT_QUOTES") then Some r else None
-behind_quotes (sign_terminal sign.Comma ∷ name_terminal q ∷ sign_terminal sign.Comma ∷ text_terminal t ∷ sign_terminal sign.CloseParen ∷ r) = if same_bytes q (codes "ENT_QUOTES") then behind_charset t r else None
+behind_quotes (sign_terminal sign.Comma ∷ name_terminal q ∷ sign_terminal sign.CloseParen ∷ r) =
+    if same_bytes q (codes "ENT_QUOTES") then Some r else None
+behind_quotes (sign_terminal sign.Comma ∷ name_terminal q ∷ sign_terminal sign.Comma ∷ text_terminal t ∷ sign_terminal sign.CloseParen
+    ∷ r) = if same_bytes q (codes "ENT_QUOTES") then behind_charset t r else None
 behind_quotes _ = None
 
 -- behind an argument of a call

@@ -13,7 +13,8 @@ use Rattle.expr_machine.specs.Actions.{Action}
 use Rattle.expr_machine.specs.Machine.{Move, moves, finished, stuck, move}
 use Rattle.expr_machine.specs.Values.{PlainValue, execute}
 
--- how loosely a sign goes on with what stands before it: 0 is a subscript, a step or an assignment, 1 to 7 an operator of that level, 8 is `??`,
+-- how loosely a sign goes on with what stands before it: 0 is a subscript, a step or an assignment, 1 to 7 an operator of that level, 8 is
+-- `??`,
 -- 9 is `?`, and 10 nothing at all
 abbrev pub other_rank : Sign → ℕ
 other_rank sign.OpenBracket = 0
@@ -61,7 +62,8 @@ after_actions acts None = None
 after_actions acts (Some rest) = Some (acts ++ rest.0, rest.1)
 
 -- what a move leads to, where the rest of a run is given
-abbrev pub run_from : (Focus → List Frame → List Terminal → Option (List Action × List Terminal)) → List Terminal → Move → Option (List Action × List Terminal)
+abbrev pub run_from : (Focus → List Frame → List Terminal → Option (List Action × List Terminal)) → List Terminal → Move
+    → Option (List Action × List Terminal)
 run_from next ts (moves f fs r acts) = after_actions acts (next f fs r)
 run_from next ts finished = Some ([], ts)
 run_from next ts stuck = None

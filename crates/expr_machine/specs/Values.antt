@@ -78,7 +78,8 @@ abbrev pub read_value : PlainValue → List PlainValue → PlainValue
 read_value a [] = a
 read_value a (k ∷ ks) = read_value (member_value a k) ks
 
--- The trees of values in a row with the height of the highest, if all are kept: expressions, items of an array as pairs of a key and a value,
+-- The trees of values in a row with the height of the highest, if all are kept: expressions, items of an array as pairs of a key and a
+-- value,
 -- and keys.
 abbrev pub add_expr : PlainValue → Option (PlainExprs × ℕ) → Option (PlainExprs × ℕ)
 add_expr (known_value e h) (Some rest) = Some (more_exprs e rest.0, max h rest.1)

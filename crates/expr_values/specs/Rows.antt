@@ -22,20 +22,23 @@ path_shown None = None
 path_shown (Some row) = Some (path_of (reverse row.0.items), row.1)
 
 -- the values that were taken make these trees, and so many are left
-pub record IsRow (taken : Option (List PlainValue × List PlainValue)) (exprs : Option (PlainExprs × ℕ)) (places : Bool) (left : List PlainValue) : Type 0 where
+pub record IsRow (taken : Option (List PlainValue × List PlainValue)) (exprs : Option (PlainExprs × ℕ)) (places : Bool)
+    (left : List PlainValue) : Type 0 where
   pub row : List PlainValue
   pub is_taken : taken ≡ Some (row, left)
   pub are : gather_exprs row ≡ exprs
   pub are_places : all_place_values row ≡ places
 
 -- the values that were taken make these items, and so many are left
-pub record IsItems (taken : Option (List PlainValue × List PlainValue)) (items : Option (PlainItems × ℕ)) (left : List PlainValue) : Type 0 where
+pub record IsItems (taken : Option (List PlainValue × List PlainValue)) (items : Option (PlainItems × ℕ)) (left : List PlainValue) :
+    Type 0 where
   pub row : List PlainValue
   pub is_taken : taken ≡ Some (row, left)
   pub are : gather_items row ≡ items
 
 -- the values that were taken make this path; whether no key is left out, and whether none but the last is; and so many are left
-pub record IsPath (taken : Option (List PlainValue × List PlainValue)) (path : Option (PlainPath × ℕ)) (complete before_last : Bool) (left : List PlainValue) : Type 0 where
+pub record IsPath (taken : Option (List PlainValue × List PlainValue)) (path : Option (PlainPath × ℕ)) (complete before_last : Bool)
+    (left : List PlainValue) : Type 0 where
   pub row : List PlainValue
   pub is_taken : taken ≡ Some (row, left)
   pub are : gather_path row ≡ path

@@ -80,7 +80,8 @@ source_of_two f a b x y = number_source (work.Builtin f) (x ∷ y ∷ [])
 unfoldable pub source_of_three : Builtin → PlainExpr → PlainExpr → PlainExpr → ℕ → ℕ → ℕ → PlainSource
 unfolding literal_integer replacement
 source_of_three builtin.StrReplace a b c x y z = apply_source (replacement a b) z builtin.StrReplace (x ∷ y ∷ z ∷ [])
-source_of_three builtin.Substr a b c x y z = apply_source (cutting_out (literal_integer b) (literal_integer c)) x builtin.Substr (x ∷ y ∷ z ∷ [])
+source_of_three builtin.Substr a b c x y z =
+    apply_source (cutting_out (literal_integer b) (literal_integer c)) x builtin.Substr (x ∷ y ∷ z ∷ [])
 source_of_three f a b c x y z = number_source (work.Builtin f) (x ∷ y ∷ z ∷ [])
 
 -- a call by its function, the trees of its arguments and the slots of their values

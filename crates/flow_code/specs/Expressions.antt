@@ -116,7 +116,8 @@ chosen_itself c b = record {
       let second = first + 1 in
       let end = second + b.size + 1 in
       let result = t + c.slots + b.slots in
-      c.points p t ++ (branch_point (c.gives t) first second ∷ set_point result (copy_source (c.gives t)) end ∷ b.points second (t + c.slots)
+      c.points p t ++ (branch_point (c.gives t) first second ∷ set_point result (copy_source (c.gives t)) end
+      ∷ b.points second (t + c.slots)
       ++ (set_point result (copy_source (b.gives (t + c.slots))) end ∷ []));
   gives = λ t. t + c.slots + b.slots;
 }
@@ -171,7 +172,8 @@ updated_at sign x old right =
     stored x (record {
       size = parts.size + 1;
       slots = parts.slots + 1;
-      points = λ p t. parts.points p t ++ set_point (t + parts.slots) (updating sign ((parts.gives t).0).1 (parts.gives t).1) (p + parts.size + 1) ∷ [];
+      points = λ p t. parts.points p t
+          ++ set_point (t + parts.slots) (updating sign ((parts.gives t).0).1 (parts.gives t).1) (p + parts.size + 1) ∷ [];
       gives = λ t. (((parts.gives t).0).0, t + parts.slots);
     })
 
@@ -188,7 +190,8 @@ filled x a b = record {
       let result = test + 1 + b.slots in
       a.points p t ++ (set_point test (truth_source work.NotNull (old ∷ [])) (p + a.size + 1) ∷ branch_point test left (left + 1)
       ∷ set_point result (copy_source old) (copied + 1 + 1) ∷ b.points (left + 1) (test + 1)
-      ++ (set_point result (copy_source (b.gives (test + 1))) (copied + 1) ∷ set_point x (written x (a.gives t).0 result) (copied + 1 + 1) ∷ []));
+      ++ (set_point result (copy_source (b.gives (test + 1))) (copied + 1) ∷ set_point x (written x (a.gives t).0 result) (copied + 1 + 1)
+      ∷ []));
   gives = λ t. t + a.slots + 1 + b.slots;
 }
 
@@ -296,7 +299,8 @@ unfoldable mutual
   code w (isset_expr parts) = computed (codes w parts) (truth_source work.Isset)
   code w (empty_expr a) = of_one work.Empty truth_source (code w a)
   code w (assign_expr x path e) = stored (variable w x) (both (path_code w path) (code w e) (λ keys v. (keys, v)))
-  code w (update_expr sign x path e) = update_code sign (variable w x) (old_value (variable w x) (length_of_path path) (path_code w path)) (code w e)
+  code w (update_expr sign x path e) =
+      update_code sign (variable w x) (old_value (variable w x) (length_of_path path) (path_code w path)) (code w e)
   code w (step_expr x up before) = step_code (variable w x) up before
   code w (call_expr name args) = call_code (builtin_named name) (function_in 1 w.functions name) args (codes w args)
 

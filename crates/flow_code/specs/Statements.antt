@@ -121,7 +121,8 @@ unfoldable mutual
   stmt_block w (if_stmt arms otherwise) = arms_block w arms (block w otherwise)
   stmt_block w (while_stmt e body) = looping (test_of (code w e)) (block w body) no_block
   stmt_block w (do_while_stmt body e) = repeating (block w body) (code w e)
-  stmt_block w (for_stmt begin e next body) = run_code (codes w begin) before looping (test_code w e) (block w body) (run_code (codes w next))
+  stmt_block w (for_stmt begin e next body) =
+      run_code (codes w begin) before looping (test_code w e) (block w body) (run_code (codes w next))
   stmt_block w (each_stmt e key x body) = walking (code w e) (key_variable w key) (variable w x) (block w body)
   stmt_block w break_stmt = ending no_code (λ none to p. jump_point to.stop)
   stmt_block w continue_stmt = ending no_code (λ none to p. jump_point to.again)

@@ -26,7 +26,8 @@ pub record GoesOn (old new : Chart) : Type 0 where
 
 -- for each nonterminal, the places of its productions
 abbrev pub AreProductionsOf : List Production → List (Vec ℕ Global) → Type 0
-AreProductionsOf ps lists = (a : ℕ) (v : Vec ℕ Global) → slice_get lists a ≡ Some v → (i : ℕ) → Contains v.items i ↔ ((p : Production) × (slice_get ps i ≡ Some p) × (p.left ≡ record { 0 = a }))
+AreProductionsOf ps lists = (a : ℕ) (v : Vec ℕ Global) → slice_get lists a ≡ Some v → (i : ℕ)
+    → Contains v.items i ↔ ((p : Production) × (slice_get ps i ≡ Some p) × (p.left ≡ record { 0 = a }))
 
 -- so many more entries are opened, begun productions taken up and passages let through
 pub record IsCounted (old new : Chart) (opened taken left : ℕ) : Type 0 where
@@ -43,7 +44,8 @@ pub record Goes (ps : List Production) (old new : Chart) : Type 0 where
   pub chart : IsChartOf ps new
   pub goes_on : GoesOn old new
   pub counted : steps_of new ≡ steps_of old + 1
-  pub ranges : (k : ℕ) (range : ByteRange) (s : ℕ) → k < new.opened → slice_get new.entries.keys k ≡ Some (record { symbol = Range range; state = s }) → k < old.opened
+  pub ranges : (k : ℕ) (range : ByteRange) (s : ℕ) → k < new.opened
+      → slice_get new.entries.keys k ≡ Some (record { symbol = Range range; state = s }) → k < old.opened
 
 -- nothing is left to be done
 pub record IsDone (c : Chart) : Type 0 where
@@ -54,5 +56,7 @@ pub record IsDone (c : Chart) : Type 0 where
 -- what a turn did: one step; or the next entry is a range, whose readings the machine is asked for; or all is done
 abbrev pub IsTurn : List Production → Chart → Chart → Turn → Type 0
 IsTurn ps old new Went = Goes ps old new
-IsTurn ps old new (Asks range s) = (new ≡ old) × (slice_get old.entries.keys old.opened ≡ Some (record { symbol = Range range; state = s })) × (old.opened < 9223372036854775808)
+IsTurn ps old new (Asks range s) =
+    (new ≡ old) × (slice_get old.entries.keys old.opened ≡ Some (record { symbol = Range range; state = s }))
+    × (old.opened < 9223372036854775808)
 IsTurn ps old new Done = (new ≡ old) × IsDone old

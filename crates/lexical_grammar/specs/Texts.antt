@@ -47,7 +47,8 @@ KeyAt = Option (PlainKey × ℕ)
 abbrev pub integer_key : List ℕ → KeyAt
 integer_key bytes =
     let digits = take (digits_length bytes) bytes
-    in if digits_length bytes == 0 || has_leading_zero digits || nat_lt largest (value_of digits) then None else Some (int_key (pos (value_of digits)), digits_length bytes)
+    in if digits_length bytes == 0 || has_leading_zero digits
+    || nat_lt largest (value_of digits) then None else Some (int_key (pos (value_of digits)), digits_length bytes)
 
 -- a variable
 abbrev pub variable_key : List ℕ → KeyAt
@@ -74,7 +75,8 @@ text_key_of endless = None
 
 -- `{$x[key]}`: a single-quoted text, an integer or a variable
 unfoldable pub braced_key : List ℕ → KeyAt
-braced_key bytes = if begins (codes "'") bytes then text_key_of (single_quoted (drop 1 bytes)) else or_key (integer_key bytes) (variable_key bytes)
+braced_key bytes = if begins (codes "'") bytes then text_key_of (single_quoted (drop 1 bytes))
+    else or_key (integer_key bytes) (variable_key bytes)
 
 -- a key, and `]` behind it; the bytes are counted from the `[` on
 abbrev pub closed_key : KeyAt → List ℕ → KeyAt

@@ -1,4 +1,5 @@
--- What the reader does from byte to byte: as the reader of pages, but that each state behind a byte is replaced by the one that stands for it.
+-- What the reader does from byte to byte: as the reader of pages, but that each state behind a byte is replaced by the one that stands for
+-- it.
 use Rattle.std.specs.Prelude.{ℕ}
 use Rattle.dtd_model.specs.Table.{Table}
 use Rattle.open_pieces.specs.Views.{plain_state}

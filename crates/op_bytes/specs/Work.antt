@@ -129,14 +129,17 @@ pub record HasLiteral (rules : List OpRule) (n a b : ℕ) : Type 0 where
 
 -- what a nonterminal passes on where it is used: its bytes, and what operations make of them
 pub data IsPassed (s : OpSystem) (sets : List (List Bool)) (x a b : ℕ) : Type 0 where
-  by_production : (p : Production) → Contains s.grammar.productions.items p → Contains (symbols_of p.right) (Nt (record { 0 = x })) → a ≡ p.left.0 → HasAt sets x b → IsPassed s sets x a b
-  by_rule : (rule : OpRule) (e : ℕ) → Contains s.ops.items rule → rule.operand.0 ≡ x → a ≡ rule.left.0 → HasAt sets x e → Turns rule.op e b → IsPassed s sets x a b
+  by_production : (p : Production) → Contains s.grammar.productions.items p → Contains (symbols_of p.right) (Nt (record { 0 = x }))
+      → a ≡ p.left.0 → HasAt sets x b → IsPassed s sets x a b
+  by_rule : (rule : OpRule) (e : ℕ) → Contains s.ops.items rule → rule.operand.0 ≡ x → a ≡ rule.left.0 → HasAt sets x e → Turns rule.op e b
+      → IsPassed s sets x a b
 
 -- the bytes that stand in the system alone
 pub record AreFirstSets (s : OpSystem) (sets : List (List Bool)) : Type 0 where
   pub size : length sets ≡ s.grammar.count
   pub sound : (a b : ℕ) → HasAt sets a b → ByteOf s (Nt (record { 0 = a })) b
-  pub ranges : (p : Production) (range : ByteRange) (b : ℕ) → Contains s.grammar.productions.items p → Contains (symbols_of p.right) (Range range) → InRange range b → b < 256 → HasAt sets p.left.0 b
+  pub ranges : (p : Production) (range : ByteRange) (b : ℕ) → Contains s.grammar.productions.items p
+      → Contains (symbols_of p.right) (Range range) → InRange range b → b < 256 → HasAt sets p.left.0 b
   pub literals : (rule : OpRule) (b : ℕ) → Contains s.ops.items rule → Adds rule.op b → b < 256 → HasAt sets rule.left.0 b
 
 -- the numbers below the count, in turn
@@ -147,14 +150,17 @@ pub record AreNumbersBelow (count : ℕ) (order : List ℕ) : Type 0 where
 
 -- what uses a nonterminal has its bytes
 pub record IsFollowed (s : OpSystem) (sets : List (List Bool)) (x : ℕ) : Type 0 where
-  pub productions : (p : Production) (b : ℕ) → Contains s.grammar.productions.items p → Contains (symbols_of p.right) (Nt (record { 0 = x })) → HasAt sets x b → HasAt sets p.left.0 b
-  pub rules : (rule : OpRule) (b c : ℕ) → Contains s.ops.items rule → rule.operand.0 ≡ x → HasAt sets x b → Turns rule.op b c → c < 256 → HasAt sets rule.left.0 c
+  pub productions : (p : Production) (b : ℕ) → Contains s.grammar.productions.items p
+      → Contains (symbols_of p.right) (Nt (record { 0 = x })) → HasAt sets x b → HasAt sets p.left.0 b
+  pub rules : (rule : OpRule) (b c : ℕ) → Contains s.ops.items rule → rule.operand.0 ≡ x → HasAt sets x b → Turns rule.op b c → c < 256
+      → HasAt sets rule.left.0 c
 
 -- all that the work keeps: each set is followed, or is still to be taken up
 pub record IsWork (s : OpSystem) (sets : List (List Bool)) (order : List ℕ) (taken : ℕ) : Type 0 where
   pub size : length sets ≡ s.grammar.count
   pub sound : (a b : ℕ) → HasAt sets a b → ByteOf s (Nt (record { 0 = a })) b
-  pub ranges : (p : Production) (range : ByteRange) (b : ℕ) → Contains s.grammar.productions.items p → Contains (symbols_of p.right) (Range range) → InRange range b → b < 256 → HasAt sets p.left.0 b
+  pub ranges : (p : Production) (range : ByteRange) (b : ℕ) → Contains s.grammar.productions.items p
+      → Contains (symbols_of p.right) (Range range) → InRange range b → b < 256 → HasAt sets p.left.0 b
   pub literals : (rule : OpRule) (b : ℕ) → Contains s.ops.items rule → Adds rule.op b → b < 256 → HasAt sets rule.left.0 b
   pub followed : (x : ℕ) → x < s.grammar.count → IsBehind order taken x ⊎ IsFollowed s sets x
   pub within : (x : ℕ) → Contains order x → x < s.grammar.count

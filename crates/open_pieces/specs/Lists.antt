@@ -24,7 +24,8 @@ exact_bool false true e = cc
 exact_bool false false e = refl
 
 -- of two parts, and of three
-pub both : {A B : Type 0} {eq : A → A → Bool} {same : B → B → Bool} → IsExact eq → IsExact same → (a c : A) (b d : B) → (eq a c && same b d) ≡ true → ◌≡◌ {A = A × B} (a, b) (c, d)
+pub both : {A B : Type 0} {eq : A → A → Bool} {same : B → B → Bool} → IsExact eq → IsExact same → (a c : A) (b d : B)
+    → (eq a c && same b d) ≡ true → ◌≡◌ {A = A × B} (a, b) (c, d)
 both {A} {B} {eq} {same} first second a c b d e =
     let p : a ≡ c = first a c (first_so (eq a c) (same b d) e) in
     let q : b ≡ d = second b d (second_so (eq a c) (same b d) e) in

@@ -32,14 +32,16 @@ exact_reference_decimal a0 (reference.Decimal b0) e = ap (λ (z : ℕ). referenc
 exact_reference_decimal a0 reference.HexadecimalBegin e = cc
 exact_reference_decimal a0 (reference.Hexadecimal b0) e = cc
 
-exact_reference_hexadecimal_begin : (q : OpenReference) → (references.ghosts).eq reference.HexadecimalBegin q ≡ true → reference.HexadecimalBegin ≡ q
+exact_reference_hexadecimal_begin : (q : OpenReference) → (references.ghosts).eq reference.HexadecimalBegin q ≡ true
+    → reference.HexadecimalBegin ≡ q
 exact_reference_hexadecimal_begin (reference.Entity b0) e = cc
 exact_reference_hexadecimal_begin reference.Number e = cc
 exact_reference_hexadecimal_begin (reference.Decimal b0) e = cc
 exact_reference_hexadecimal_begin reference.HexadecimalBegin e = refl
 exact_reference_hexadecimal_begin (reference.Hexadecimal b0) e = cc
 
-exact_reference_hexadecimal : (a0 : ℕ) (q : OpenReference) → (references.ghosts).eq (reference.Hexadecimal a0) q ≡ true → reference.Hexadecimal a0 ≡ q
+exact_reference_hexadecimal : (a0 : ℕ) (q : OpenReference) → (references.ghosts).eq (reference.Hexadecimal a0) q ≡ true
+    → reference.Hexadecimal a0 ≡ q
 exact_reference_hexadecimal a0 (reference.Entity b0) e = cc
 exact_reference_hexadecimal a0 reference.Number e = cc
 exact_reference_hexadecimal a0 (reference.Decimal b0) e = cc
@@ -79,7 +81,8 @@ exact_value_choice : (a0 : List ℕ) (a1 : Bool) (q : OpenValue) → (values.gho
 exact_value_choice a0 a1 value.Text e = cc
 exact_value_choice a0 a1 (value.Reference b0) e = cc
 exact_value_choice a0 a1 (value.Fixed b0) e = cc
-exact_value_choice a0 a1 (value.Choice b0 b1) e = ap (λ (z : List ℕ × Bool). value.Choice z.0 z.1) (both exact_bytes exact_bool a0 b0 a1 b1 e)
+exact_value_choice a0 a1 (value.Choice b0 b1) e =
+    ap (λ (z : List ℕ × Bool). value.Choice z.0 z.1) (both exact_bytes exact_bool a0 b0 a1 b1 e)
 exact_value_choice a0 a1 (value.Words b0 b1) e = cc
 
 exact_value_words : (a0 : Bool) (a1 : Bool) (q : OpenValue) → (values.ghosts).eq (value.Words a0 a1) q ≡ true → value.Words a0 a1 ≡ q

@@ -102,7 +102,9 @@ done_step n (other m) = mark_step (n + 2) m
 abbrev pub page_step : Parts → ℕ → Label → Option ℕ
 page_step p q l =
     let n = length p.states.1 in
-    if nat_lt q n then inner_step p q l else (if nat_eq q n then start_step p n l else (if nat_eq q (n + 1) then doctype_step p n l else (if nat_eq q (n + 2) then done_step n l else None)))
+    if nat_lt q n then inner_step p q l
+    else (if nat_eq q n then start_step p n l
+    else (if nat_eq q (n + 1) then doctype_step p n l else (if nat_eq q (n + 2) then done_step n l else None)))
 
 -- the state that a declared element begins in
 abbrev pub page_init : Parts → ℕ → Option ℕ

@@ -34,7 +34,8 @@ abbrev pub ReferenceStands : OpenReference → List ℕ → Type 0
 ReferenceStands (in_entity name) cs = (cs ≡ name) × (list_all in_name name ≡ true)
 ReferenceStands at_number cs = cs ≡ codes "#"
 ReferenceStands (in_decimal n) cs =
-    (digits : List ℕ) × (cs ≡ 35 ∷ digits) × (digits ≢ []) × (list_all is_ascii_digit digits ≡ true) × (n ≡ capped (number_written 10 0 digits))
+    (digits : List ℕ) × (cs ≡ 35 ∷ digits) × (digits ≢ []) × (list_all is_ascii_digit digits ≡ true)
+    × (n ≡ capped (number_written 10 0 digits))
 ReferenceStands (in_hexadecimal o) cs = (digits : List ℕ) × (cs ≡ 35 ∷ 120 ∷ digits) × HexadecimalStands o digits
 
 -- in the quotes of a value

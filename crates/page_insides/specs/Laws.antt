@@ -33,7 +33,8 @@ abbrev pub ends_with : List PageToken → List ℕ → Outcome Place PageToken P
 ends_with tokens rest = whole (behind 0) tokens rest
 
 -- an end that was read, with what stands before it
-pub record Ended (Is : List ℕ → List ℕ → Type 0) (tokens : List PageToken) (cs : List ℕ) (next : Place) (given : List PageToken) (rest : List ℕ) : Type 0 where
+pub record Ended (Is : List ℕ → List ℕ → Type 0) (tokens : List PageToken) (cs : List ℕ) (next : Place) (given : List PageToken)
+    (rest : List ℕ) : Type 0 where
   pub is : Is cs rest
   pub leads : next ≡ behind 0
   pub gives : given ≡ tokens
@@ -41,7 +42,8 @@ pub record Ended (Is : List ℕ → List ℕ → Type 0) (tokens : List PageToke
 -- from the open piece the reader comes to an end exactly behind such characters
 pub record ReadsFrom (o : Open) (tokens : List PageToken) (Is : Table → List ℕ → List ℕ → Type 0) : Type 0 where
   pub complete : (table : Table) (place : Place) (cs rest : List ℕ) → Is table cs rest → read table place o cs ≡ ends_with tokens rest
-  pub sound : (table : Table) (place next : Place) (cs : List ℕ) (given : List PageToken) (rest : List ℕ) → read table place o cs ≡ whole next given rest → Ended (Is table) tokens cs next given rest
+  pub sound : (table : Table) (place next : Place) (cs : List ℕ) (given : List PageToken) (rest : List ℕ)
+      → read table place o cs ≡ whole next given rest → Ended (Is table) tokens cs next given rest
 
 -- a reference that is known, and its `;`
 pub record IsReferenceThen (table : Table) (cs rest : List ℕ) : Type 0 where

@@ -47,7 +47,8 @@ with_child stage e first f outer (Some next) = Some (stage, (e, first) ∷ (f, n
 
 -- a start tag where these elements are open: that of the root, which is `html`, or of a child that the element around it may have there
 abbrev pub begun : Table → automata.Table → Stage → List Open → ℕ → Option State
-begun d t stage [] e = if may_begin d.doctype stage && e == place_of d.elements (codes "html") then Some (root_begun, (e, first_at t e) ∷ []) else None
+begun d t stage [] e = if may_begin d.doctype stage && e == place_of d.elements (codes "html")
+    then Some (root_begun, (e, first_at t e) ∷ []) else None
 begun d t stage ((f, s) ∷ outer) e = with_child stage e (first_at t e) f outer (next_at t s e)
 
 -- a start tag of the element of this number, which has to be one of the declared

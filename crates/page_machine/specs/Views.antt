@@ -37,4 +37,5 @@ Goes o new false = o ≡ None
 
 -- the root, with the state that it begins in
 abbrev pub root_at : Table → machine.Stage → ℕ → ℕ → Option machine.State
-root_at d stage e first = if machine.may_begin d.doctype stage && e == valid.place_of d.elements (codes "html") then Some (machine.root_begun, (e, first) ∷ []) else None
+root_at d stage e first = if machine.may_begin d.doctype stage && e == valid.place_of d.elements (codes "html")
+    then Some (machine.root_begun, (e, first) ∷ []) else None

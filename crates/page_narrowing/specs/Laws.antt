@@ -23,7 +23,8 @@ narrow_tokens table bytes = all_tokens (narrow_reader table) (Some (at_state beg
 
 -- these are the tokens of the page
 abbrev pub NarrowTokensRead : Type 0
-NarrowTokensRead = (table : Table) → IsLawfulTable table → (bytes : List ℕ) (tokens : List PageToken) → PageTokens table bytes tokens ↔ (tokens ≡ narrow_tokens table bytes)
+NarrowTokensRead = (table : Table) → IsLawfulTable table → (bytes : List ℕ) (tokens : List PageToken)
+    → PageTokens table bytes tokens ↔ (tokens ≡ narrow_tokens table bytes)
 
 -- what the narrowed reader keeps of each state that it meets
 abbrev pub IsKept : Table → Held PageState → Type 0
@@ -39,8 +40,10 @@ StepsKeep = (table : Table) (h g : Held PageState) (b : ℕ) → (narrow_reader 
 
 -- each state that the narrowed reader is in behind some bytes of a page passes
 abbrev pub MetKept : Type 0
-MetKept = (table : Table) (bytes : List ℕ) (h : Held PageState) → state_after (narrow_reader table) (Some (at_state beginning)) bytes ≡ Some h → IsKept table h
+MetKept = (table : Table) (bytes : List ℕ) (h : Held PageState)
+    → state_after (narrow_reader table) (Some (at_state beginning)) bytes ≡ Some h → IsKept table h
 
 -- the test of names tells that one of them begins so
 abbrev pub BeginningsTold : Type 0
-BeginningsTold = (names : List (List ℕ)) (front : List ℕ) → (some_begins names front ≡ true) ↔ ((front ≡ []) ⊎ Any (λ (name : List ℕ). (more : List ℕ) × (name ≡ front ++ more)) names)
+BeginningsTold = (names : List (List ℕ)) (front : List ℕ)
+    → (some_begins names front ≡ true) ↔ ((front ≡ []) ⊎ Any (λ (name : List ℕ). (more : List ℕ) × (name ≡ front ++ more)) names)

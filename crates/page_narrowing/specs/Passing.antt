@@ -59,7 +59,8 @@ declared_passes entities (Some d) v = value_passes entities d v
 abbrev pub word_begins : List ℕ → List ℕ → Bool
 word_begins name value =
     if bytes_eq name (codes "version") then begins (codes "1.0") value
-    else (if bytes_eq name (codes "encoding") then begins (codes "utf-8") (str_to_ascii_lowercase value) else begins (codes "yes") value || begins (codes "no") value)
+    else (if bytes_eq name (codes "encoding") then begins (codes "utf-8") (str_to_ascii_lowercase value) else begins (codes "yes") value
+    || begins (codes "no") value)
 
 -- a value of the XML declaration begins so
 abbrev pub word_passes : List ℕ → OpenValue → Bool

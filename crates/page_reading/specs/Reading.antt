@@ -31,7 +31,8 @@ attribute_from space name before_equals after_equals l =
 
 -- behind `=`: maybe white space, and the value in quotes
 abbrev pub value_at : List ℕ → List ℕ → List ℕ → List ℕ → Option (Attribute × List ℕ)
-value_at space name before_equals cs = then_some (quoted_at (beyond is_blank cs)) (λ q. Some (attribute_from space name before_equals (front is_blank cs) q.0, q.1))
+value_at space name before_equals cs =
+    then_some (quoted_at (beyond is_blank cs)) (λ q. Some (attribute_from space name before_equals (front is_blank cs) q.0, q.1))
 
 -- behind an attribute's name: maybe white space, `=`, and the value
 abbrev pub equals_at : List ℕ → List ℕ → List ℕ → Option (Attribute × List ℕ)
@@ -58,7 +59,8 @@ all_attributes cs = attributes_at (length cs) cs
 -- behind a tag
 abbrev pub tag_end : Tag → List ℕ → Option (Piece × List ℕ)
 tag_end tag [] = None
-tag_end tag (c ∷ cs) = if c == 62 then Some (start_tag tag, cs) else (if c == 47 then then_some (strip (codes ">") cs) (λ rest. Some (empty_tag tag, rest)) else None)
+tag_end tag (c ∷ cs) = if c == 62 then Some (start_tag tag, cs) else (if c == 47
+    then then_some (strip (codes ">") cs) (λ rest. Some (empty_tag tag, rest)) else None)
 
 -- a tag with this name and these attributes, by what ends it
 abbrev pub tag_with : List ℕ → List Attribute → List ℕ → Option (Piece × List ℕ)
@@ -70,11 +72,13 @@ open_at cs = then_some (name_at cs) (λ n. tag_with n.0 (all_attributes n.1).0 (
 
 -- behind `</`: a name, maybe white space, and `>`
 unfoldable pub end_at : List ℕ → Option (Piece × List ℕ)
-end_at cs = then_some (name_at cs) (λ n. then_some (strip (codes ">") (beyond is_blank n.1)) (λ rest. Some (end_tag n.0 (front is_blank n.1), rest)))
+end_at cs = then_some (name_at cs)
+    (λ n. then_some (strip (codes ">") (beyond is_blank n.1)) (λ rest. Some (end_tag n.0 (front is_blank n.1), rest)))
 
 -- behind `&`: all up to the next `;`
 unfoldable pub reference_at : List ℕ → Option (Piece × List ℕ)
-reference_at cs = then_some (strip (codes ";") (beyond (is_other 59) cs)) (λ rest. Some (leaf (reference (reference_of (front (is_other 59) cs))), rest))
+reference_at cs = then_some (strip (codes ";") (beyond (is_other 59) cs))
+    (λ rest. Some (leaf (reference (reference_of (front (is_other 59) cs))), rest))
 
 -- behind `<!--` and `<![CDATA[`
 unfoldable pub comment_at : List ℕ → Option (Piece × List ℕ)
@@ -91,7 +95,8 @@ instruction_at target cs = then_some (until (codes "?>") cs) (λ s. Some (leaf (
 -- the XML declaration with these attributes: maybe white space, and `?>`
 abbrev pub declaration_with : List Attribute → List ℕ → Option (Piece × List ℕ)
 declaration_with attributes cs =
-    then_some (strip (codes "?>") (beyond is_blank cs)) (λ rest. Some (declaration (record { attributes = attributes; space = front is_blank cs }), rest))
+    then_some (strip (codes "?>") (beyond is_blank cs))
+    (λ rest. Some (declaration (record { attributes = attributes; space = front is_blank cs }), rest))
 
 -- behind `<?xml`: attributes, as many as there are, and the end
 unfoldable pub declaration_at : List ℕ → Option (Piece × List ℕ)
@@ -104,7 +109,8 @@ question_at cs = then_some (name_at cs) (λ n. if bytes_eq n.0 (codes "xml") the
 -- behind `<!DOCTYPE`
 abbrev pub doctype_end : List ℕ → Identifier → List ℕ → Option (Piece × List ℕ)
 doctype_end space identifier cs =
-    then_some (strip (codes ">") (beyond is_blank cs)) (λ rest. Some (doctype (record { space = space; identifier = identifier; end_space = front is_blank cs }), rest))
+    then_some (strip (codes ">") (beyond is_blank cs))
+    (λ rest. Some (doctype (record { space = space; identifier = identifier; end_space = front is_blank cs }), rest))
 
 -- behind `SYSTEM`: maybe white space, and the literal; the white space before the root and before the word goes in
 unfoldable pub system_at : List ℕ → List ℕ → List ℕ → Option (Piece × List ℕ)

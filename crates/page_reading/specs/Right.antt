@@ -22,7 +22,8 @@ literal_is_right test l = list_all (λ c. test c && not (c == l.quote)) l.text
 abbrev pub identifier_is_right : Identifier → Bool
 identifier_is_right no_identifier = true
 identifier_is_right (system s t l) = is_some s && is_some t && literal_is_right is_character l
-identifier_is_right (public s t l u m) = is_some s && is_some t && literal_is_right in_public_identifier l && is_some u && literal_is_right is_character m
+identifier_is_right (public s t l u m) =
+    is_some s && is_some t && literal_is_right in_public_identifier l && is_some u && literal_is_right is_character m
 
 -- what is asked of a character, a reference, a section, a comment and an instruction; no instruction's target is `xml` in any case
 abbrev pub leaf_is_right : Leaf → Bool
@@ -30,7 +31,8 @@ leaf_is_right (character c) = is_character c
 leaf_is_right (reference r) = is_reference r
 leaf_is_right (section text) = list_all is_character text
 leaf_is_right (comment text) = list_all is_character text
-leaf_is_right (instruction target text) = not (str_eq_ignore_ascii_case target (codes "xml")) && begins_blank text && list_all is_character text
+leaf_is_right (instruction target text) =
+    not (str_eq_ignore_ascii_case target (codes "xml")) && begins_blank text && list_all is_character text
 
 -- what is asked of a piece at this place, beyond its form; the XML declaration stands at the beginning, its words in order
 abbrev pub is_right : Place → Piece → Bool

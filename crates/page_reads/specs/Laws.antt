@@ -18,4 +18,5 @@ PiecesRead = (table : Table) → IsLawfulTable table → Reads (page_language ta
 
 -- under a lawful definition a page's tokens are what the reader by bytes puts out over it, and no others
 abbrev pub PageTokensRead : Type 0
-PageTokensRead = (table : Table) → IsLawfulTable table → (bytes : List ℕ) (tokens : List PageToken) → PageTokens table bytes tokens ↔ (tokens ≡ read_tokens table bytes)
+PageTokensRead = (table : Table) → IsLawfulTable table → (bytes : List ℕ) (tokens : List PageToken)
+    → PageTokens table bytes tokens ↔ (tokens ≡ read_tokens table bytes)

@@ -28,4 +28,5 @@ read_tokens table bytes = all_tokens (encoded (page_reader table) page_hold) (So
 
 -- where the reader reads the pieces of the definition, a page's tokens are what the reader by bytes puts out over it, and no others
 abbrev pub TokensByReading : Type 0
-TokensByReading = (table : Table) → Reads (page_language table) (page_reader table) → (bytes : List ℕ) (tokens : List PageToken) → PageTokens table bytes tokens ↔ (tokens ≡ read_tokens table bytes)
+TokensByReading = (table : Table) → Reads (page_language table) (page_reader table) → (bytes : List ℕ) (tokens : List PageToken)
+    → PageTokens table bytes tokens ↔ (tokens ≡ read_tokens table bytes)

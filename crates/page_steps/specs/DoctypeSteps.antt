@@ -60,12 +60,17 @@ public_turn quote o c =
 
 -- what a character does behind `<!DOCTYPE`, by what was read; the root is `html`, and there is no internal subset
 abbrev pub doctype_turn : DoctypeRule → OpenDoctype → ℕ → Turn OpenDoctype
-doctype_turn rule (before_root spaced) c = if is_blank c then on (before_root true) else (if c == 104 && spaced then on (in_root (codes "h")) else stop)
-doctype_turn rule (in_root name) c = if begins (codes "html") (name ++ c ∷ []) then on (in_root (name ++ c ∷ [])) else (if bytes_eq name (codes "html") then root_turn rule c else stop)
+doctype_turn rule (before_root spaced) c =
+    if is_blank c then on (before_root true) else (if c == 104 && spaced then on (in_root (codes "h")) else stop)
+doctype_turn rule (in_root name) c =
+    if begins (codes "html") (name ++ c ∷ []) then on (in_root (name ++ c ∷ []))
+    else (if bytes_eq name (codes "html") then root_turn rule c else stop)
 doctype_turn rule behind_root c = if may_begin rule (c ∷ []) then on (in_word (c ∷ [])) else root_turn rule c
 doctype_turn rule (in_word word) c = word_turn rule word c
-doctype_turn rule (behind_word word) c = if is_blank c then on (behind_word word) else (if is_quote c then literal_turn rule word c else stop)
+doctype_turn rule (behind_word word) c =
+    if is_blank c then on (behind_word word) else (if is_quote c then literal_turn rule word c else stop)
 doctype_turn rule (in_public quote o) c = public_turn quote o c
-doctype_turn rule (behind_public spaced) c = if is_blank c then on (behind_public true) else (if is_quote c && spaced then on (in_system c) else stop)
+doctype_turn rule (behind_public spaced) c =
+    if is_blank c then on (behind_public true) else (if is_quote c && spaced then on (in_system c) else stop)
 doctype_turn rule (in_system quote) c = if c == quote then on behind_system else on (in_system quote)
 doctype_turn rule behind_system c = if is_blank c then on behind_system else end_turn true c

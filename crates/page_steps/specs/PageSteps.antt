@@ -30,7 +30,8 @@ OpenMove = Move Place PageToken Open
 
 -- where a piece begins
 abbrev pub text_move : Place → ℕ → OpenMove
-text_move place c = if may_follow place (character c) then done (behind_leaf place (character c)) (sort_token (sort_of (character c)) ∷ []) else fail
+text_move place c = if may_follow place (character c) then done (behind_leaf place (character c)) (sort_token (sort_of (character c)) ∷ [])
+    else fail
 
 -- at the beginning U+FEFF is the byte order mark
 abbrev pub single_move : Place → ℕ → OpenMove
@@ -40,11 +41,13 @@ single_move (behind k) c = text_move (behind k) c
 
 -- where a piece begins: `<`, `&`, or a character that is a piece by itself
 abbrev pub first_move : Place → ℕ → OpenMove
-first_move place c = if c == 60 then go (in_opener (codes "<")) else (if c == 38 then go (in_reference (in_entity [])) else single_move place c)
+first_move place c = if c == 60 then go (in_opener (codes "<")) else (if c == 38 then go (in_reference (in_entity []))
+    else single_move place c)
 
 -- behind `&`, up to `;`
 abbrev pub reference_move : List (List ℕ) → OpenReference → ℕ → OpenMove
-reference_move entities r c = inside in_reference (done (behind 0) (token.Text ∷ [])) (closing reference_step (reference_good entities) 59 r c)
+reference_move entities r c = inside in_reference (done (behind 0) (token.Text ∷ []))
+    (closing reference_step (reference_good entities) 59 r c)
 
 -- behind `<!` and more
 abbrev pub bang_move : List ℕ → OpenMove
@@ -85,17 +88,20 @@ tag_by table name rule names c stops = fail
 -- behind the name in a tag; the element has to be declared
 abbrev pub tag_move : Table → List ℕ → List (List ℕ) → OpenAttribute → ℕ → Option Rule → OpenMove
 tag_move table name names o c None = fail
-tag_move table name names o c (Some rule) = tag_by table name rule names c (attribute_move (of_element table.entities rule.attributes) names o c)
+tag_move table name names o c (Some rule) =
+    tag_by table name rule names c (attribute_move (of_element table.entities rule.attributes) names o c)
 
 -- in the name of a tag: one character more of it, or what stands behind it
 abbrev pub tag_name_move : Table → List ℕ → ℕ → OpenMove
-tag_name_move table name c = if in_name c then go (in_tag_name (name ++ c ∷ [])) else tag_move table name [] (between false) c (find_rule table.elements name)
+tag_name_move table name c = if in_name c then go (in_tag_name (name ++ c ∷ []))
+    else tag_move table name [] (between false) c (find_rule table.elements name)
 
 -- behind the `/` of an empty tag
 abbrev pub empty_move : Table → List ℕ → List (List ℕ) → ℕ → Option Rule → OpenMove
 empty_move table name names c None = fail
 empty_move table name names c (Some rule) =
-    if c == 62 && are_all name rule.attributes names then done (behind 0) (token.Start (element_of table name) ∷ token.End (element_of table name) ∷ []) else fail
+    if c == 62 && are_all name rule.attributes names
+    then done (behind 0) (token.Start (element_of table name) ∷ token.End (element_of table name) ∷ []) else fail
 
 -- the `>` of an end tag, whose element has to be declared
 abbrev pub closed_move : Table → List ℕ → Option Rule → OpenMove
@@ -105,12 +111,14 @@ closed_move table name (Some rule) = done (behind 0) (token.End (element_of tabl
 -- behind `</` and a name, which may end there, or behind white space
 abbrev pub end_name_move : Table → List ℕ → ℕ → OpenMove
 end_name_move table name c =
-    if is_name name then (if is_blank c then go (in_end_tag name true) else (if c == 62 then closed_move table name (find_rule table.elements name) else fail)) else fail
+    if is_name name then (if is_blank c then go (in_end_tag name true)
+    else (if c == 62 then closed_move table name (find_rule table.elements name) else fail)) else fail
 
 -- behind `</`: one character more of the name, as long as no white space stands behind it, or the end of the tag
 abbrev pub end_tag_move : Table → List ℕ → Bool → ℕ → OpenMove
 end_tag_move table [] spaced c = if begins_name c && not spaced then go (in_end_tag (c ∷ []) false) else fail
-end_tag_move table (n ∷ name) spaced c = if in_name c && not spaced then go (in_end_tag ((n ∷ name) ++ c ∷ []) false) else end_name_move table (n ∷ name) c
+end_tag_move table (n ∷ name) spaced c =
+    if in_name c && not spaced then go (in_end_tag ((n ∷ name) ++ c ∷ []) false) else end_name_move table (n ∷ name) c
 
 -- Comments, sections and instructions.
 
@@ -169,7 +177,8 @@ behind_move place o c =
 
 -- behind `<?`: one character more of the target, or what stands behind it
 abbrev pub target_move : Place → Option (List ℕ) → ℕ → OpenMove
-target_move place o c = if may_be_target o c then go (in_target (more_target o c)) else (if is_started o then behind_move place o c else fail)
+target_move place o c = if may_be_target o c then go (in_target (more_target o c))
+    else (if is_started o then behind_move place o c else fail)
 
 -- The XML declaration.
 
@@ -227,7 +236,12 @@ is_inside o = true
 
 -- the reader of a page by a definition: no piece is open in its first state, and each character is a step
 abbrev pub page_reader : Table → Reader Place PageToken PageState
-page_reader table = record { first = λ place. record { place = place; inside = nothing }; step = page_step table; is_open = λ s. is_inside s.inside; bad = token.Bad }
+page_reader table = record {
+  first = λ place. record { place = place; inside = nothing };
+  step = page_step table;
+  is_open = λ s. is_inside s.inside;
+  bad = token.Bad;
+}
 
 -- what is kept while a character of several bytes is open
 abbrev pub page_hold : PageState → PageState

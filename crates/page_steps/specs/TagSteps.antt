@@ -21,7 +21,8 @@ is_declared_once names name (Some d) = not (is_among names name)
 -- the declared names that are among these, or the one, in the order of their declaration
 abbrev pub names_with : List Declared → List (List ℕ) → List ℕ → List (List ℕ)
 names_with [] names name = []
-names_with (d ∷ ds) names name = if is_among names d.name || bytes_eq name d.name then d.name ∷ names_with ds names name else names_with ds names name
+names_with (d ∷ ds) names name =
+    if is_among names d.name || bytes_eq name d.name then d.name ∷ names_with ds names name else names_with ds names name
 
 -- a value behind its quote, by the declaration of its attribute, if it has one
 abbrev pub start_of : Option Declared → OpenValue
@@ -65,7 +66,8 @@ may_be_word (version ∷ second ∷ third ∷ names) name = false
 abbrev pub is_word_value : List ℕ → List ℕ → Bool
 is_word_value name value =
     if bytes_eq name (codes "version") then bytes_eq value (codes "1.0")
-    else (if bytes_eq name (codes "encoding") then str_eq_ignore_ascii_case value (codes "UTF-8") else bytes_eq value (codes "yes") || bytes_eq value (codes "no"))
+    else (if bytes_eq name (codes "encoding") then str_eq_ignore_ascii_case value (codes "UTF-8") else bytes_eq value (codes "yes")
+    || bytes_eq value (codes "no"))
 
 -- one character more of a value of the XML declaration, of which all is kept
 abbrev pub word_step : OpenValue → ℕ → Option OpenValue
@@ -79,4 +81,10 @@ word_good name v = false
 
 -- the attributes of the XML declaration: its names in their order, each with its values
 abbrev pub of_declaration : Allowing
-of_declaration = record { may = may_be_word; added = λ names name. names ++ name ∷ []; start = λ name. in_fixed []; step = λ name v c. word_step v c; good = word_good }
+of_declaration = record {
+  may = may_be_word;
+  added = λ names name. names ++ name ∷ [];
+  start = λ name. in_fixed [];
+  step = λ name v c. word_step v c;
+  good = word_good;
+}

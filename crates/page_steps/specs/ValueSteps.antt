@@ -64,14 +64,16 @@ text_step c = Some (if c == 38 then in_reference (in_entity []) else in_text)
 
 -- in a reference: its `;`, where it may end, or one character more
 abbrev pub semicolon_step : List (List ℕ) → OpenReference → ℕ → Option OpenValue
-semicolon_step entities r c = if c == 59 then (if reference_good entities r then Some in_text else None) else in_reference_of (reference_step r c)
+semicolon_step entities r c = if c == 59 then (if reference_good entities r then Some in_text else None)
+    else in_reference_of (reference_step r c)
 
 -- one character more, by what is kept of the value; white space does not count round name tokens
 abbrev pub kept_step : List (List ℕ) → Kind → OpenValue → ℕ → Option OpenValue
 kept_step entities kind in_text c = text_step c
 kept_step entities kind (in_reference r) c = semicolon_step entities r c
 kept_step entities kind (in_fixed value) c = Some (in_fixed (value ++ c ∷ []))
-kept_step entities kind (in_choice word spaced) c = if is_blank c then Some (in_choice word (spaced || is_some word)) else choice_step word spaced c
+kept_step entities kind (in_choice word spaced) c =
+    if is_blank c then Some (in_choice word (spaced || is_some word)) else choice_step word spaced c
 kept_step entities kind (in_words inside one) c = if is_blank c then Some (in_words false (inside || one)) else words_step kind inside one c
 
 -- no `<` stands in a value (XML 1.0, 2.3, AttValue)
@@ -91,6 +93,7 @@ is_chosen kind word = false
 abbrev pub value_good : List (List ℕ) → Declared → OpenValue → Bool
 value_good entities d in_text = true
 value_good entities d (in_reference r) = false
-value_good entities d (in_fixed value) = refers_by is_reference value && refers_by (is_known entities) value && (has_kind d.kind value && has_fixed d.presence value)
+value_good entities d (in_fixed value) =
+    refers_by is_reference value && refers_by (is_known entities) value && (has_kind d.kind value && has_fixed d.presence value)
 value_good entities d (in_choice word spaced) = is_some word && is_chosen d.kind word
 value_good entities d (in_words inside one) = inside || one

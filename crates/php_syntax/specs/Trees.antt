@@ -202,7 +202,8 @@ unfoldable mutual
   plain_stmt (If' arms_shape arms shape body) = if_stmt (plain_arms arms) (plain_stmts body)
   plain_stmt (While' e shape body) = while_stmt (plain_expr e) (plain_stmts body)
   plain_stmt (DoWhile' shape body e) = do_while_stmt (plain_stmts body) (plain_expr e)
-  plain_stmt (For' begin condition next shape body) = for_stmt (exprs_of begin.items) (maybe_of condition) (exprs_of next.items) (plain_stmts body)
+  plain_stmt (For' begin condition next shape body) =
+      for_stmt (exprs_of begin.items) (maybe_of condition) (exprs_of next.items) (plain_stmts body)
   plain_stmt (Each' e key value shape body) = each_stmt (plain_expr e) key value (plain_stmts body)
   plain_stmt Break = break_stmt
   plain_stmt Continue = continue_stmt

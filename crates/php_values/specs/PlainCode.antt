@@ -82,15 +82,18 @@ mutual
   run_back : (ps : Pairs) (rest : List Step) (s : List Pairs) → run (steps ps ++ rest) s ≡ run rest (ps ∷ s)
   run_back empty rest s = refl
   run_back (pair k v ps) rest s =
-      ap (λ (xs : List Step). run xs s) (append_assoc (steps ps) (steps_of (key_word k) v) rest) ∙ run_back ps (steps_of (key_word k) v ++ rest) s ∙ run_value k v ps rest s
+      ap (λ (xs : List Step). run xs s) (append_assoc (steps ps) (steps_of (key_word k) v) rest) ∙ run_back ps
+      (steps_of (key_word k) v ++ rest) s ∙ run_value k v ps rest s
 
-  run_value : (k : PlainKey) (v : Plain) (ps : Pairs) (rest : List Step) (s : List Pairs) → run (steps_of (key_word k) v ++ rest) (ps ∷ s) ≡ run rest (pair k v ps ∷ s)
+  run_value : (k : PlainKey) (v : Plain) (ps : Pairs) (rest : List Step) (s : List Pairs)
+      → run (steps_of (key_word k) v ++ rest) (ps ∷ s) ≡ run rest (pair k v ps ∷ s)
   run_value k null ps rest s = ap (λ (j : PlainKey). run rest (pair j null ps ∷ s)) (key_back k)
   run_value k (flag b) ps rest s = ap (λ (j : PlainKey). run rest (pair j (flag b) ps ∷ s)) (key_back k)
   run_value k (int z) ps rest s = ap (λ (j : PlainKey). run rest (pair j (int z) ps ∷ s)) (key_back k)
   run_value k (text t) ps rest s = ap (λ (j : PlainKey). run rest (pair j (text t) ps ∷ s)) (key_back k)
   run_value k (array qs) ps rest s =
-      ap (λ (xs : List Step). run xs (ps ∷ s)) (append_assoc (steps qs) (Some (key_word k, None) ∷ []) rest) ∙ run_back qs (Some (key_word k, None) ∷ rest) (ps ∷ s) ∙ ap (λ (j : PlainKey). run rest (pair j (array qs) ps ∷ s)) (key_back k)
+      ap (λ (xs : List Step). run xs (ps ∷ s)) (append_assoc (steps qs) (Some (key_word k, None) ∷ []) rest) ∙ run_back qs
+      (Some (key_word k, None) ∷ rest) (ps ∷ s) ∙ ap (λ (j : PlainKey). run rest (pair j (array qs) ps ∷ s)) (key_back k)
 
 -- an array is read back from the steps that it is written as
 pub read_back : (ps : Pairs) → top (run (steps ps) []) ≡ ps
@@ -103,4 +106,5 @@ read_back ps = ap (λ (xs : List Step). top (run xs [])) (sym (append_nil (steps
 -- the code of arrays
 abbrev pub pairs_code : Coded Pairs
 pairs_code =
-    code_by (List Step) (coded_list (coded_option (coded× (coded⊎ coded_ℤ (coded_list coded_ℕ)) (coded_option (coded_option (coded⊎ coded_bool (coded⊎ coded_ℤ (coded_list coded_ℕ)))))))) steps (λ xs. top (run xs [])) read_back
+    code_by (List Step) (coded_list (coded_option (coded× (coded⊎ coded_ℤ (coded_list coded_ℕ))
+    (coded_option (coded_option (coded⊎ coded_bool (coded⊎ coded_ℤ (coded_list coded_ℕ)))))))) steps (λ xs. top (run xs [])) read_back

@@ -1,4 +1,5 @@
--- Writes by a path in the order of the code, which knows beforehand whether the value fits the limit of depth. No promise is read off from here.
+-- Writes by a path in the order of the code, which knows beforehand whether the value fits the limit of depth. No promise is read off from
+-- here.
 use Rattle.std.specs.Prelude.{◌≡◌, Bool, if◌then◌else◌, List, [], ◌∷◌, Option, Result, Ok, Err}
 use Rattle.plain_values.specs.Plain.{Plain, PlainKey, Pairs}
 use Rattle.plain_values.specs.Members.{member}
@@ -17,4 +18,5 @@ KeepsWrites path old new = (fits : Bool) (v : Plain) → write_if fits path v ne
 
 -- a write by the path in the member under this key comes to the same array from either of the two
 abbrev pub KeepsMember : PlainKey → List (Option PlainKey) → Pairs → Pairs → Type 0
-KeepsMember k path old new = (fits : Bool) (v : Plain) → put_back new k (write_if fits path v (member new k)) ≡ put_back old k (write_if fits path v (member old k))
+KeepsMember k path old new = (fits : Bool) (v : Plain)
+    → put_back new k (write_if fits path v (member new k)) ≡ put_back old k (write_if fits path v (member old k))

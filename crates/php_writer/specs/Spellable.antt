@@ -181,7 +181,8 @@ params_spellable (p ∷ ps) = is_name p.name_of && (is_default p.default_of && p
 -- functions
 abbrev pub functions_spellable : List PlainFunction → Bool
 functions_spellable [] = true
-functions_spellable (f ∷ fs) = is_call_name f.name_of && (params_spellable f.params_of && (stmts_spellable f.body_of && functions_spellable fs))
+functions_spellable (f ∷ fs) =
+    is_call_name f.name_of && (params_spellable f.params_of && (stmts_spellable f.body_of && functions_spellable fs))
 
 -- a tree of a file that some file spells
 abbrev pub is_spellable : PlainFile → Bool

@@ -22,7 +22,8 @@ abbrev pub Decision : Type 0
 Decision = Result ShownAnswer Refusal
 
 -- the program of the file has this answer, by the definition of the document type; its files were read once, and no fault was counted
-pub record IsDecidedAs (files : SourceCall) (file : List ℕ) (document_type : NamedType) (goal : Goal) (limit : ℕ) (answer : ShownAnswer) : Type 0 where
+pub record IsDecidedAs (files : SourceCall) (file : List ℕ) (document_type : NamedType) (goal : Goal) (limit : ℕ) (answer : ShownAnswer) :
+    Type 0 where
   pub program : PlainProgram
   pub table : Table
   pub loaded : IsLoaded files.content file program
@@ -46,7 +47,8 @@ Decides files file document_type goal limit (Err Refusal.Memory) = ⊤
 -- what deciding a loaded program comes to, with the name of its file: a text of it is too long, or the content models have too many states
 abbrev pub IsProgramRefused : Table → PlainProgram → List ℕ → Message → Type 0
 IsProgramRefused table program name message =
-    (HasLongText program × Says message Input (long_text name)) ⊎ ((count : ℕ) × HasManyStates table count × Says message Dtd (states_text count))
+    (HasLongText program × Says message Input (long_text name))
+    ⊎ ((count : ℕ) × HasManyStates table count × Says message Dtd (states_text count))
 
 -- what deciding a loaded program comes to, with the name of its file
 abbrev pub IsProgramDecided : Table → PlainProgram → List ℕ → Goal → ℕ → Decision → Type 0

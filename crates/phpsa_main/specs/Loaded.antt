@@ -26,14 +26,16 @@ ReadsRequest files (Some name) = files.reads' ≡ one_more files.reads
 abbrev pub HasRequest : SourceCall → Option (List ℕ) → Result PlainRequest Refusal → Type 0
 HasRequest files name (Ok request) = FindsRequest files.content name request × ReadsRequest files name × (files.faults' ≡ files.faults)
 HasRequest files name (Err (Refusal.Told message)) =
-    RefusesRequest files name message.status message.text × ReadsRequest files name × Contains uncounted message.status × TellsFaults files message.status
+    RefusesRequest files name message.status message.text × ReadsRequest files name × Contains uncounted message.status
+    × TellsFaults files message.status
 HasRequest files name (Err Refusal.Memory) = ⊤
 
 -- what is written of a run that came to this
 abbrev pub IsRunReply : Outcome → ℕ → Reply → Type 0
 IsRunReply outcome steps (reply.Text message) = (outcome.end ≡ Ended) × Says message Done outcome.printed
 IsRunReply outcome steps (reply.Grammar grammar) = ⊥
-IsRunReply outcome steps (reply.Halted printed message) = IsEarly outcome.end × Says message (end_status outcome.end) (end_text steps outcome.end) × (printed ≡ outcome.printed)
+IsRunReply outcome steps (reply.Halted printed message) =
+    IsEarly outcome.end × Says message (end_status outcome.end) (end_text steps outcome.end) × (printed ≡ outcome.printed)
 
 -- the reply is that of the run of a program for a request within so many units
 abbrev pub IsReplyOfRun : PlainProgram → PlainRequest → ℕ → Reply → Type 0

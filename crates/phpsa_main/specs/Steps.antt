@@ -38,7 +38,8 @@ pub record WantsMemory (text : List ℕ) (out err : Output) (status : Exit) : Ty
 
 -- a reply was written, or `out` failed, or memory was wanting on it
 abbrev pub Reports : Reply → Output → Output → Exit → Type 0
-Reports reply out err status = WritesReply reply out err status ⊎ (FailsOnOut (reply_text reply) out err status ⊎ WantsMemory (reply_text reply) out err status)
+Reports reply out err status =
+    WritesReply reply out err status ⊎ (FailsOnOut (reply_text reply) out err status ⊎ WantsMemory (reply_text reply) out err status)
 
 -- a refusal was put on `err`
 abbrev pub ReportsRefusal : Refusal → Output → Exit → Type 0

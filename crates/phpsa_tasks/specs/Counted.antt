@@ -21,7 +21,8 @@ pub record ReadsItsFiles (files : SourceCall) (file : List ℕ) : Type 0 where
 -- and for a run that of the file of its request, if there is one, behind them
 abbrev pub ReadsForRun : SourceCall → List ℕ → Option (List ℕ) → Type 0
 ReadsForRun files file None = ReadsItsFiles files file
-ReadsForRun files file (Some name) = (between : ℕ) × ReadsItsFiles (record files { reads' = between }) file × (files.reads' ≡ one_more between)
+ReadsForRun files file (Some name) =
+    (between : ℕ) × ReadsItsFiles (record files { reads' = between }) file × (files.reads' ≡ one_more between)
 
 -- no name was asked for
 abbrev pub ReadsNothing : SourceCall → Type 0

@@ -12,7 +12,8 @@ use Rattle.phpsa_tasks.specs.Replies.{outcome_for}
 use Rattle.phpsa_tasks.specs.Keeps.{Keeps}
 
 -- a call of `check` on a program that its source holds has ended with status 0
-pub record IsChecked (call : Call) (file : List ℕ) (document_type : NamedType) (goal : Goal) (limit : ℕ) (form : AnswerForm) (subject : ProgramBy) : Type 0 where
+pub record IsChecked (call : Call) (file : List ℕ) (document_type : NamedType) (goal : Goal) (limit : ℕ) (form : AnswerForm)
+    (subject : ProgramBy) : Type 0 where
   pub keeps : Keeps call Done
   pub asked : AsksFor call.words (script_check file document_type goal limit form)
   pub held : Holds call.files.content (script_check file document_type goal limit form) subject
@@ -28,9 +29,12 @@ pub record PrintsGoodPage (call : Call) (goal : Goal) (of_check : ProgramBy) (of
   pub gains : Gains call.out (outcome_for of_run steps).printed
   pub good : IsGood goal of_check.table (outcome_for of_run steps).printed
 
--- where one program is checked, and run with status 0 for any request and number of units, a good page stands on `out`: a valid one, unless nesting was asked for
+-- where one program is checked, and run with status 0 for any request and number of units, a good page stands on `out`: a valid one, unless
+-- nesting was asked for
 abbrev pub CheckedRunsPrintGoodPages : Type 0
 CheckedRunsPrintGoodPages =
-    (checked ran : Call) (file other : List ℕ) (document_type : NamedType) (goal : Goal) (limit : ℕ) (form : AnswerForm) (request : Option (List ℕ)) (steps : ℕ)
-    (of_check : ProgramBy) (of_run : ProgramFor) → of_check.program ≡ of_run.program → IsChecked checked file document_type goal limit form of_check
+    (checked ran : Call) (file other : List ℕ) (document_type : NamedType) (goal : Goal) (limit : ℕ) (form : AnswerForm)
+    (request : Option (List ℕ)) (steps : ℕ)
+    (of_check : ProgramBy) (of_run : ProgramFor) → of_check.program ≡ of_run.program
+    → IsChecked checked file document_type goal limit form of_check
     → HasRun ran other request steps of_run → PrintsGoodPage ran goal of_check of_run steps

@@ -83,7 +83,8 @@ IsEarly other = ⊤
 
 -- the text is that of productions that derive exactly the loose pages of a program
 abbrev pub IsGrammarText : PlainProgram → List ℕ → Type 0
-IsGrammarText program text = (productions : List Production) × (start : nt.Nt) × DerivePages program productions start × (text ≡ grammar_text start.0 productions)
+IsGrammarText program text = (productions : List Production) × (start : nt.Nt) × DerivePages program productions start
+    × (text ≡ grammar_text start.0 productions)
 
 -- the image of an operation of a program has so many items, over the limit
 abbrev pub HasManyItems : PlainProgram → ℕ → Type 0
@@ -92,12 +93,14 @@ HasManyItems program count = (ITEM_LIMIT < count) × HasLargeImage program count
 -- the grammar of a program is written, or a count is told that was passed
 abbrev pub IsGrammarReply : PlainProgram → Exit → List ℕ → Type 0
 IsGrammarReply program status text =
-    (IsGrammarText program text × (status ≡ Done)) ⊎ ((count : ℕ) × HasManyItems program count × (status ≡ Undecided) × (text ≡ passed_text (passed.Items count)))
+    (IsGrammarText program text × (status ≡ Done))
+    ⊎ ((count : ℕ) × HasManyItems program count × (status ≡ Undecided) × (text ≡ passed_text (passed.Items count)))
 
 -- what each task replies of what it speaks of: a run, where it came to its end; and nothing where nothing is asked for
 abbrev pub IsReplyOf : (task : Task) → Subject task → Exit → List ℕ → Type 0
 IsReplyOf (script_check file document_type goal limit form) subject status text =
-    (answer : ShownAnswer) × IsAnswer goal subject.table subject.program limit answer × (status ≡ answer_status answer) × (text ≡ answer_text form answer)
+    (answer : ShownAnswer) × IsAnswer goal subject.table subject.program limit answer × (status ≡ answer_status answer)
+    × (text ≡ answer_text form answer)
 IsReplyOf (page_check file document_type) subject status text =
     (valid : Bool) × IsJudged subject.table subject.page valid × (status ≡ judgment_status valid) × (text ≡ judgment_text valid)
 IsReplyOf (script_making functions) subject status text = IsSize functions × (status ≡ Done) × (text ≡ made functions)
@@ -111,7 +114,8 @@ IsReplyOf usage subject status text = ⊥
 
 -- what a run leaves that does not come to the end of the script: its status, what it printed, and the text on `err`
 abbrev pub IsHaltOf : (task : Task) → Subject task → Exit → List ℕ → List ℕ → Type 0
-IsHaltOf (script_run file request steps) subject status printed text = IsEarly (outcome_for subject steps).end × (status ≡ end_status (outcome_for subject steps).end)
+IsHaltOf (script_run file request steps) subject status printed text =
+    IsEarly (outcome_for subject steps).end × (status ≡ end_status (outcome_for subject steps).end)
     × (printed ≡ (outcome_for subject steps).printed) × (text ≡ end_text steps (outcome_for subject steps).end)
 IsHaltOf task subject status printed text = ⊥
 

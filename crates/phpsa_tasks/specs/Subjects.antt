@@ -50,11 +50,14 @@ Subject (script_run file request steps) = ProgramFor
 Subject (grammar_making file) = PlainProgram
 Subject usage = ⊤
 
--- what a task finds, whatever the source tells: under the file's name its program, with all that it includes, or its bytes, and a table of the document type, or the request
+-- what a task finds, whatever the source tells: under the file's name its program, with all that it includes, or its bytes, and a table of
+-- the document type, or the request
 -- that the program is run for, which is admitted; of a generated script, that it can be made, and its program, by the built-in definition
 abbrev pub Finds : Content → (task : Task) → Subject task → Type 0
-Finds content (script_check file document_type goal limit form) subject = IsLoaded content file subject.program × HasTable content document_type subject.table
-Finds content (page_check file document_type) subject = Tells (content file) (Some subject.page) × HasTable content document_type subject.table
+Finds content (script_check file document_type goal limit form) subject =
+    IsLoaded content file subject.program × HasTable content document_type subject.table
+Finds content (page_check file document_type) subject =
+    Tells (content file) (Some subject.page) × HasTable content document_type subject.table
 Finds content (script_making functions) subject = ⊤
 Finds content (made_check functions) subject =
     IsSize functions × IsLoaded (only_made functions) made_name subject.program × HasTable (only_made functions) strict_type subject.table
@@ -75,12 +78,16 @@ pub record HoldsTable (content : Content) (document_type : NamedType) (table : T
 
 -- what the source tells all of; of a generated script, what it is
 abbrev pub Holds : Content → (task : Task) → Subject task → Type 0
-Holds content (script_check file document_type goal limit form) subject = HoldsShortProgram content file subject.program × HoldsTable content document_type subject.table
-Holds content (page_check file document_type) subject = HoldsShortFile content file subject.page × HoldsTable content document_type subject.table
+Holds content (script_check file document_type goal limit form) subject =
+    HoldsShortProgram content file subject.program × HoldsTable content document_type subject.table
+Holds content (page_check file document_type) subject =
+    HoldsShortFile content file subject.page × HoldsTable content document_type subject.table
 Holds content (script_making functions) subject = ⊤
 Holds content (made_check functions) subject =
-    IsSize functions × HoldsShortProgram (only_made functions) made_name subject.program × HoldsTable (only_made functions) strict_type subject.table
-Holds content (script_run file request steps) subject = HoldsShortProgram content file subject.program × HoldsRequest content request subject.request
+    IsSize functions × HoldsShortProgram (only_made functions) made_name subject.program
+    × HoldsTable (only_made functions) strict_type subject.table
+Holds content (script_run file request steps) subject =
+    HoldsShortProgram content file subject.program × HoldsRequest content request subject.request
 Holds content (grammar_making file) subject = HoldsShortProgram content file subject
 Holds content usage subject = ⊤
 
@@ -104,11 +111,14 @@ IsWithin content usage subject = ⊤
 abbrev pub HoldsDefinition : Content → NamedType → Type 0
 HoldsDefinition content document_type = (table : Table) × HoldsTable content document_type table × IsSmall content document_type table
 
--- the document type has a table, where there is one to ask for, and under the file's name nothing is found, or no request under its own; or there is no
+-- the document type has a table, where there is one to ask for, and under the file's name nothing is found, or no request under its own; or
+-- there is no
 -- generated script of this size
 abbrev pub LacksFile : Content → Task → Type 0
-LacksFile content (script_check file document_type goal limit form) = HoldsDefinition content document_type × ((program : PlainProgram) → IsLoaded content file program → ⊥)
-LacksFile content (page_check file document_type) = HoldsDefinition content document_type × ((page : List ℕ) → Tells (content file) (Some page) → ⊥)
+LacksFile content (script_check file document_type goal limit form) =
+    HoldsDefinition content document_type × ((program : PlainProgram) → IsLoaded content file program → ⊥)
+LacksFile content (page_check file document_type) =
+    HoldsDefinition content document_type × ((page : List ℕ) → Tells (content file) (Some page) → ⊥)
 LacksFile content (script_making functions) = ⊥
 LacksFile content (made_check functions) = IsSize functions → ⊥
 LacksFile content (script_run file request steps) =

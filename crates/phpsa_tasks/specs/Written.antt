@@ -35,4 +35,5 @@ Writes usage subject out = ⊥
 
 -- after a status that says that all is written, what was asked for stands on `out`, where the source tells all of what the task needs
 abbrev pub IsWritten : Call → Exit → Type 0
-IsWritten call status = HasAllWritten status → (task : Task) (subject : Subject task) → AsksFor call.words task → Holds call.files.content task subject → Writes task subject call.out
+IsWritten call status = HasAllWritten status → (task : Task) (subject : Subject task) → AsksFor call.words task
+    → Holds call.files.content task subject → Writes task subject call.out

@@ -87,7 +87,8 @@ conclusion_word conclusion.Undecided = codes "undecided"
 -- on `out`, where a generated script with so many functions and bytes was decided
 abbrev pub summary_text : ℕ → ℕ → Conclusion → List ℕ
 summary_text functions bytes answer =
-    codes "functions " ++ decimal functions ++ 10 ∷ (codes "bytes " ++ decimal bytes ++ 10 ∷ (codes "answer " ++ conclusion_word answer ++ 10 ∷ []))
+    codes "functions " ++ decimal functions ++ 10
+    ∷ (codes "bytes " ++ decimal bytes ++ 10 ∷ (codes "answer " ++ conclusion_word answer ++ 10 ∷ []))
 
 -- on `out`, where it is said whether a page is valid
 abbrev pub judgment_text : Bool → List ℕ

@@ -15,7 +15,8 @@ number_in (Integer z) = Ok z
 number_in Float = Err fault.Float
 number_in Other = Err fault.NotNumber
 
--- an operand as a number: an integer itself, null 0, false 0 and true 1, an integer text its value; floats, other texts and arrays are left out
+-- an operand as a number: an integer itself, null 0, false 0 and true 1, an integer text its value; floats, other texts and arrays are left
+-- out
 abbrev pub number_of : Plain → Result ℤ Fault
 number_of null = Ok (pos 0)
 number_of (flag false) = Ok (pos 0)

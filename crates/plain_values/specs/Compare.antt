@@ -26,7 +26,8 @@ compare_numeric Other n bytes = Ok bytes
 abbrev pub compare_texts : List ℕ → List ℕ → Result Ordering Fault
 compare_texts s t = compare_numeric (numeric s) (numeric t) (slice_cmp nat_cmp s t)
 
--- an integer against a text: an integer text is compared as a number, a float text is left out, and another text is compared with the decimal form by bytes
+-- an integer against a text: an integer text is compared as a number, a float text is left out, and another text is compared with the
+-- decimal form by bytes
 abbrev pub compare_integer : ℤ → Numeric → List ℕ → Result Ordering Fault
 compare_integer a (Integer b) t = Ok (int_cmp a b)
 compare_integer a Float t = Err fault.Float

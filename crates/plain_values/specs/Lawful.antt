@@ -1,5 +1,7 @@
--- Which plain values a run of a script has: integers of 64 bits, texts of at most 16,777,216 bytes, and arrays at most 1,000 deep, whose keys are
--- distinct, and under which a text is no canonical decimal integer (PHP manual, "Integers" and "Arrays"; the limits of size are this project's own).
+-- Which plain values a run of a script has: integers of 64 bits, texts of at most 16,777,216 bytes, and arrays at most 1,000 deep, whose
+-- keys are
+-- distinct, and under which a text is no canonical decimal integer (PHP manual, "Integers" and "Arrays"; the limits of size are this
+-- project's own).
 use Rattle.std.specs.Prelude.{◌≡◌, ◌≤◌, ℕ, true, length, None, ⊤}
 use Rattle.plain_values.specs.Plain.{Plain, PlainKey, Pairs, int_key, text_key, null, flag, int, text, array, empty, pair, keys, depth}
 use Rattle.plain_values.specs.Keys.{canonical_integer, are_distinct}

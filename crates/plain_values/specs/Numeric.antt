@@ -41,7 +41,8 @@ is_mantissa m = is_numeral (before_first is_dot m ++ after_first is_dot m)
 
 -- a mantissa, and where an `e` or `E` stands behind it a sign or none and digits (EXPONENT_DNUM)
 abbrev pub is_unsigned_number : List ℕ → Bool
-is_unsigned_number u = is_mantissa (before_first is_exponent_mark u) && (not (list_any is_exponent_mark u) || is_numeral (without_leading_sign (after_first is_exponent_mark u)))
+is_unsigned_number u = is_mantissa (before_first is_exponent_mark u) &&
+    (not (list_any is_exponent_mark u) || is_numeral (without_leading_sign (after_first is_exponent_mark u)))
 
 -- the integers of 64 bits with a sign
 abbrev pub is_in_range : ℤ → Bool
@@ -54,7 +55,8 @@ integer_in_range z = if is_in_range z then Integer z else Float
 
 -- digits behind a sign or none are an integer, or a float where it is out of range; else a number with a fraction or an exponent is a float
 abbrev pub numeric_body : List ℕ → Numeric
-numeric_body body = if is_numeral (without_leading_sign body) then integer_in_range (signed_digits_value 10 body) else if is_unsigned_number (without_leading_sign body) then Float else Other
+numeric_body body = if is_numeral (without_leading_sign body) then integer_in_range (signed_digits_value 10 body)
+    else if is_unsigned_number (without_leading_sign body) then Float else Other
 
 -- blanks may stand on both sides
 abbrev pub numeric : List ℕ → Numeric

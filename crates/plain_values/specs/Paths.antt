@@ -78,7 +78,8 @@ abbrev pub no_deeper : Result Plain Fault → Result Plain Fault
 no_deeper (Ok v) = if nat_le (depth v) 1000 then Ok v else Err Long
 no_deeper (Err fault) = Err fault
 
--- a write at the end of a path: a value that is no array on the way faults first, from the outermost in, then an array that is full, then one that would be too deep
+-- a write at the end of a path: a value that is no array on the way faults first, from the outermost in, then an array that is full, then
+-- one that would be too deep
 abbrev pub write : List Step → Plain → Plain → Result Plain Fault
 write path new old = no_deeper (put_in path new old)
 

@@ -45,9 +45,12 @@ includes_of_file tree = includes_in tree.body_of ++ includes_in_functions tree.f
 -- the names that a program reads: that of its file, and each include of a file that it reads
 pub data Reads (held : Held) (name : List ℕ) : List ℕ → Type 0 where
   itself : Reads held name name
-  included : (file path : List ℕ) (tree : PlainFile) → Reads held name file → HasTree held file tree → Contains (includes_of_file tree) path → Reads held name path
+  included : (file path : List ℕ) (tree : PlainFile) → Reads held name file → HasTree held file tree → Contains (includes_of_file tree) path
+      → Reads held name path
 
 -- a file includes another, directly or through others
 pub data LeadsTo (held : Held) : List ℕ → List ℕ → Type 0 where
-  directly : (file path : List ℕ) (tree : PlainFile) → HasTree held file tree → Contains (includes_of_file tree) path → LeadsTo held file path
-  through : (file path further : List ℕ) (tree : PlainFile) → HasTree held file tree → Contains (includes_of_file tree) path → LeadsTo held path further → LeadsTo held file further
+  directly : (file path : List ℕ) (tree : PlainFile) → HasTree held file tree → Contains (includes_of_file tree) path
+      → LeadsTo held file path
+  through : (file path further : List ℕ) (tree : PlainFile) → HasTree held file tree → Contains (includes_of_file tree) path
+      → LeadsTo held path further → LeadsTo held file further

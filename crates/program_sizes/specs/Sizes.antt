@@ -64,7 +64,8 @@ unfoldable mutual
   of_stmt sizes (if_stmt arms otherwise) = above (beside (of_arms sizes arms) (of_stmts sizes otherwise))
   of_stmt sizes (while_stmt e body) = above (beside (of_expr e) (of_stmts sizes body))
   of_stmt sizes (do_while_stmt body e) = above (beside (of_stmts sizes body) (of_expr e))
-  of_stmt sizes (for_stmt begin e next body) = above (beside (beside (beside (of_exprs begin) (of_maybe e)) (of_exprs next)) (of_stmts sizes body))
+  of_stmt sizes (for_stmt begin e next body) =
+      above (beside (beside (beside (of_exprs begin) (of_maybe e)) (of_exprs next)) (of_stmts sizes body))
   of_stmt sizes (each_stmt e key x body) = above (beside (of_expr e) (of_stmts sizes body))
   of_stmt sizes break_stmt = above none
   of_stmt sizes continue_stmt = above none

@@ -28,4 +28,5 @@ is_same a b = pointwise nat_eq a b
 
 -- one of the five names
 abbrev pub is_array_name : List ℕ → Bool
-is_array_name name = is_same name get_name || is_same name post_name || is_same name cookie_name || is_same name request_name || is_same name server_name
+is_array_name name = is_same name get_name || is_same name post_name || is_same name cookie_name || is_same name request_name
+    || is_same name server_name

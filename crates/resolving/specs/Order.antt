@@ -51,7 +51,8 @@ pub record AddsRule (s : OpSystem) (rule : OpRule) (old new : Draft) : Type 0 wh
 -- the first n of the order are done
 pub record AreAdded (s : OpSystem) (order : List Ranked) (n : ℕ) (draft : Draft) : Type 0 where
   pub is_draft : IsDraftOf s draft
-  pub done : (i : ℕ) (ranked : Ranked) (rule : OpRule) → i < n → slice_get order i ≡ Some ranked → slice_get s.ops.items ranked.place ≡ Some rule → IsDone s draft.productions.items rule
+  pub done : (i : ℕ) (ranked : Ranked) (rule : OpRule) → i < n → slice_get order i ≡ Some ranked
+      → slice_get s.ops.items ranked.place ≡ Some rule → IsDone s draft.productions.items rule
 
 -- all rules are done
 pub record AllAdded (s : OpSystem) (draft : Draft) : Type 0 where

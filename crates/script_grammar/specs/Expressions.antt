@@ -71,7 +71,8 @@ mutual
   pub data MoreForm : Level → Type 0 where
     no_more : {l : Level} → MoreForm l
     once_more : {l : Level} (s : Sign) (o : Operator) → binary_operator s ≡ Some (l, o) → repeats l ≡ false → OperandForm l → MoreForm l
-    one_more : {l : Level} (s : Sign) (o : Operator) → binary_operator s ≡ Some (l, o) → repeats l ≡ true → OperandForm l → MoreForm l → MoreForm l
+    one_more : {l : Level} (s : Sign) (o : Operator) → binary_operator s ≡ Some (l, o) → repeats l ≡ true → OperandForm l → MoreForm l
+        → MoreForm l
 
   -- an operand of a level: a chain of the next tighter one, or a unary operand
   pub data OperandForm : Level → Type 0 where
@@ -162,13 +163,15 @@ unfoldable mutual
   pub keys_terminals : KeysForm → List Terminal → List Terminal
   keys_terminals no_key_form r = r
   keys_terminals (open_key_form ks) r = sign_terminal sign.OpenBracket ∷ sign_terminal sign.CloseBracket ∷ keys_terminals ks r
-  keys_terminals (key_form e ks) r = sign_terminal sign.OpenBracket ∷ expr_terminals e (sign_terminal sign.CloseBracket ∷ keys_terminals ks r)
+  keys_terminals (key_form e ks) r =
+      sign_terminal sign.OpenBracket ∷ expr_terminals e (sign_terminal sign.CloseBracket ∷ keys_terminals ks r)
 
   -- the terminals of a choice by `?:`
   pub choice_terminals : ChoiceForm → List Terminal → List Terminal
   choice_terminals (only_choice a) r = nul_terminals a r
   choice_terminals (short_choice a b) r = nul_terminals a (sign_terminal sign.Question ∷ sign_terminal sign.Colon ∷ nul_terminals b r)
-  choice_terminals (full_choice a e b) r = nul_terminals a (sign_terminal sign.Question ∷ expr_terminals e (sign_terminal sign.Colon ∷ nul_terminals b r))
+  choice_terminals (full_choice a e b) r =
+      nul_terminals a (sign_terminal sign.Question ∷ expr_terminals e (sign_terminal sign.Colon ∷ nul_terminals b r))
 
   -- the terminals of a chain of `??`
   pub nul_terminals : NulForm → List Terminal → List Terminal
@@ -204,22 +207,29 @@ unfoldable mutual
   post_terminals (text_form t) r = text_terminal t ∷ r
   post_terminals (template_form ps) r = template_terminal ps ∷ r
   post_terminals (constant_form k e is) r = word_terminal k ∷ r
-  post_terminals (isset_form e es) r = word_terminal word.Isset ∷ sign_terminal sign.OpenParen ∷ expr_terminals e (more_exprs_terminals es (sign_terminal sign.CloseParen ∷ r))
-  post_terminals (empty_form e) r = word_terminal word.Empty ∷ sign_terminal sign.OpenParen ∷ expr_terminals e (sign_terminal sign.CloseParen ∷ r)
-  post_terminals (array_form is) r = word_terminal word.Array ∷ sign_terminal sign.OpenParen ∷ items_terminals is (sign_terminal sign.CloseParen ∷ r)
+  post_terminals (isset_form e es) r =
+      word_terminal word.Isset ∷ sign_terminal sign.OpenParen
+      ∷ expr_terminals e (more_exprs_terminals es (sign_terminal sign.CloseParen ∷ r))
+  post_terminals (empty_form e) r =
+      word_terminal word.Empty ∷ sign_terminal sign.OpenParen ∷ expr_terminals e (sign_terminal sign.CloseParen ∷ r)
+  post_terminals (array_form is) r =
+      word_terminal word.Array ∷ sign_terminal sign.OpenParen ∷ items_terminals is (sign_terminal sign.CloseParen ∷ r)
   post_terminals (bracket_form is) r = sign_terminal sign.OpenBracket ∷ items_terminals is (sign_terminal sign.CloseBracket ∷ r)
 
   -- the terminals of what subscripts may follow
   pub base_terminals : BaseForm → List Terminal → List Terminal
   base_terminals (variable_base x) r = variable_terminal x ∷ r
   base_terminals (call_base f es) r = name_terminal f ∷ sign_terminal sign.OpenParen ∷ list_terminals es (sign_terminal sign.CloseParen ∷ r)
-  base_terminals (escape_base f is e q) r = name_terminal f ∷ sign_terminal sign.OpenParen ∷ expr_terminals e (sign_terminal sign.Comma ∷ quotes_terminals q (sign_terminal sign.CloseParen ∷ r))
+  base_terminals (escape_base f is e q) r =
+      name_terminal f ∷ sign_terminal sign.OpenParen
+      ∷ expr_terminals e (sign_terminal sign.Comma ∷ quotes_terminals q (sign_terminal sign.CloseParen ∷ r))
   base_terminals (parens_base e) r = sign_terminal sign.OpenParen ∷ expr_terminals e (sign_terminal sign.CloseParen ∷ r)
 
   -- the terminals of subscripts
   pub subscripts_terminals : SubscriptsForm → List Terminal → List Terminal
   subscripts_terminals no_subscript r = r
-  subscripts_terminals (subscript_form e ks) r = sign_terminal sign.OpenBracket ∷ expr_terminals e (sign_terminal sign.CloseBracket ∷ subscripts_terminals ks r)
+  subscripts_terminals (subscript_form e ks) r =
+      sign_terminal sign.OpenBracket ∷ expr_terminals e (sign_terminal sign.CloseBracket ∷ subscripts_terminals ks r)
 
   -- the terminals of a list of expressions
   pub list_terminals : ListForm → List Terminal → List Terminal

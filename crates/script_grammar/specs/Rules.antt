@@ -121,7 +121,8 @@ unfoldable mutual
   stmt_fits in_loop in_function (if_stmt a ss) = arms_fit in_loop in_function a && stmts_fit in_loop in_function ss
   stmt_fits in_loop in_function (while_stmt e ss) = expr_fits e && stmts_fit true in_function ss
   stmt_fits in_loop in_function (do_while_stmt ss e) = stmts_fit true in_function ss && expr_fits e
-  stmt_fits in_loop in_function (for_stmt begin e next ss) = exprs_fit begin && (maybe_fits e && (exprs_fit next && stmts_fit true in_function ss))
+  stmt_fits in_loop in_function (for_stmt begin e next ss) =
+      exprs_fit begin && (maybe_fits e && (exprs_fit next && stmts_fit true in_function ss))
   stmt_fits in_loop in_function (each_stmt e k x ss) = expr_fits e && (maybe_writable k && (is_writable x && stmts_fit true in_function ss))
   stmt_fits in_loop in_function break_stmt = in_loop
   stmt_fits in_loop in_function continue_stmt = in_loop

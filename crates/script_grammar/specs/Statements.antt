@@ -144,22 +144,36 @@ unfoldable mutual
   stmt_terminals semicolon_form r = sign_terminal sign.Semicolon ∷ r
   stmt_terminals (inline_form t) r = inline_terminal t ∷ r
   stmt_terminals (block_form ss) r = sign_terminal sign.OpenBrace ∷ stmts_terminals ss (sign_terminal sign.CloseBrace ∷ r)
-  stmt_terminals (echo_form e es) r = word_terminal word.Echo ∷ expr_terminals e (more_exprs_terminals es (sign_terminal sign.Semicolon ∷ r))
+  stmt_terminals (echo_form e es) r =
+      word_terminal word.Echo ∷ expr_terminals e (more_exprs_terminals es (sign_terminal sign.Semicolon ∷ r))
   stmt_terminals (print_form e) r = word_terminal word.Print ∷ expr_terminals e (sign_terminal sign.Semicolon ∷ r)
   stmt_terminals (run_form e) r = expr_terminals e (sign_terminal sign.Semicolon ∷ r)
-  stmt_terminals (if_form e s a l) r = word_terminal word.If ∷ condition_terminals e (stmt_terminals s (arms_terminals a (else_terminals l r)))
-  stmt_terminals (colon_if_form e ss a l) r = word_terminal word.If ∷ condition_terminals e (sign_terminal sign.Colon ∷ stmts_terminals ss (colon_arms_terminals a (colon_else_terminals l (word_terminal word.EndIf ∷ sign_terminal sign.Semicolon ∷ r))))
+  stmt_terminals (if_form e s a l) r =
+      word_terminal word.If ∷ condition_terminals e (stmt_terminals s (arms_terminals a (else_terminals l r)))
+  stmt_terminals (colon_if_form e ss a l) r =
+      word_terminal word.If ∷ condition_terminals e (sign_terminal sign.Colon
+      ∷ stmts_terminals ss (colon_arms_terminals a (colon_else_terminals l (word_terminal word.EndIf ∷ sign_terminal sign.Semicolon ∷ r))))
   stmt_terminals (while_form e b) r = word_terminal word.While ∷ condition_terminals e (body_terminals word.EndWhile b r)
-  stmt_terminals (do_form s e) r = word_terminal word.Do ∷ stmt_terminals s (word_terminal word.While ∷ condition_terminals e (sign_terminal sign.Semicolon ∷ r))
-  stmt_terminals (for_form begin e next b) r = word_terminal word.For ∷ sign_terminal sign.OpenParen ∷ list_terminals begin (sign_terminal sign.Semicolon ∷ maybe_terminals e (sign_terminal sign.Semicolon ∷ list_terminals next (sign_terminal sign.CloseParen ∷ body_terminals word.EndFor b r)))
-  stmt_terminals (each_form e v b) r = word_terminal word.Foreach ∷ sign_terminal sign.OpenParen ∷ expr_terminals e (word_terminal word.As ∷ variables_terminals v (sign_terminal sign.CloseParen ∷ body_terminals word.EndForeach b r))
+  stmt_terminals (do_form s e) r =
+      word_terminal word.Do ∷ stmt_terminals s (word_terminal word.While ∷ condition_terminals e (sign_terminal sign.Semicolon ∷ r))
+  stmt_terminals (for_form begin e next b) r =
+      word_terminal word.For ∷ sign_terminal sign.OpenParen
+      ∷ list_terminals begin (sign_terminal sign.Semicolon ∷ maybe_terminals e
+      (sign_terminal sign.Semicolon ∷ list_terminals next (sign_terminal sign.CloseParen ∷ body_terminals word.EndFor b r)))
+  stmt_terminals (each_form e v b) r =
+      word_terminal word.Foreach ∷ sign_terminal sign.OpenParen
+      ∷ expr_terminals e (word_terminal word.As ∷ variables_terminals v
+      (sign_terminal sign.CloseParen ∷ body_terminals word.EndForeach b r))
   stmt_terminals break_form r = word_terminal word.Break ∷ sign_terminal sign.Semicolon ∷ r
   stmt_terminals continue_form r = word_terminal word.Continue ∷ sign_terminal sign.Semicolon ∷ r
   stmt_terminals (return_form e) r = word_terminal word.Return ∷ maybe_terminals e (sign_terminal sign.Semicolon ∷ r)
   stmt_terminals (include_form k is t) r = word_terminal k ∷ text_terminal t ∷ sign_terminal sign.Semicolon ∷ r
-  stmt_terminals (include_parens_form k is t) r = word_terminal k ∷ sign_terminal sign.OpenParen ∷ text_terminal t ∷ sign_terminal sign.CloseParen ∷ sign_terminal sign.Semicolon ∷ r
+  stmt_terminals (include_parens_form k is t) r =
+      word_terminal k ∷ sign_terminal sign.OpenParen ∷ text_terminal t ∷ sign_terminal sign.CloseParen ∷ sign_terminal sign.Semicolon ∷ r
   stmt_terminals exit_form r = word_terminal word.Exit ∷ sign_terminal sign.Semicolon ∷ r
-  stmt_terminals (exit_parens_form e) r = word_terminal word.Exit ∷ sign_terminal sign.OpenParen ∷ maybe_terminals e (sign_terminal sign.CloseParen ∷ sign_terminal sign.Semicolon ∷ r)
+  stmt_terminals (exit_parens_form e) r =
+      word_terminal word.Exit ∷ sign_terminal sign.OpenParen
+      ∷ maybe_terminals e (sign_terminal sign.CloseParen ∷ sign_terminal sign.Semicolon ∷ r)
 
   -- the terminals of statements
   pub stmts_terminals : StmtsForm → List Terminal → List Terminal
@@ -170,7 +184,8 @@ unfoldable mutual
   pub arms_terminals : ArmsForm → List Terminal → List Terminal
   arms_terminals no_arms_form r = r
   arms_terminals (elseif_form e s a) r = word_terminal word.ElseIf ∷ condition_terminals e (stmt_terminals s (arms_terminals a r))
-  arms_terminals (else_if_form e s a) r = word_terminal word.Else ∷ word_terminal word.If ∷ condition_terminals e (stmt_terminals s (arms_terminals a r))
+  arms_terminals (else_if_form e s a) r =
+      word_terminal word.Else ∷ word_terminal word.If ∷ condition_terminals e (stmt_terminals s (arms_terminals a r))
 
   -- the terminals of an `else`
   pub else_terminals : ElseForm → List Terminal → List Terminal
@@ -180,7 +195,8 @@ unfoldable mutual
   -- the terminals of the further arms of an `if` in the form with `:`
   pub colon_arms_terminals : ColonArmsForm → List Terminal → List Terminal
   colon_arms_terminals no_colon_arms r = r
-  colon_arms_terminals (colon_arm e ss a) r = word_terminal word.ElseIf ∷ condition_terminals e (sign_terminal sign.Colon ∷ stmts_terminals ss (colon_arms_terminals a r))
+  colon_arms_terminals (colon_arm e ss a) r =
+      word_terminal word.ElseIf ∷ condition_terminals e (sign_terminal sign.Colon ∷ stmts_terminals ss (colon_arms_terminals a r))
 
   -- the terminals of an `else` in the form with `:`
   pub colon_else_terminals : ColonElseForm → List Terminal → List Terminal
@@ -190,7 +206,8 @@ unfoldable mutual
   -- with the word that ends the loop
   pub body_terminals : Keyword → BodyForm → List Terminal → List Terminal
   body_terminals end (stmt_body s) r = stmt_terminals s r
-  body_terminals end (colon_body ss) r = sign_terminal sign.Colon ∷ stmts_terminals ss (word_terminal end ∷ sign_terminal sign.Semicolon ∷ r)
+  body_terminals end (colon_body ss) r =
+      sign_terminal sign.Colon ∷ stmts_terminals ss (word_terminal end ∷ sign_terminal sign.Semicolon ∷ r)
 
 -- The statements of a form, before those that follow it. An empty statement is none, and braces are their statements.
 unfoldable mutual
@@ -203,7 +220,8 @@ unfoldable mutual
   stmt_trees (print_form e) r = more_stmts (echo_stmt (more_exprs (expr_tree e) no_exprs)) r
   stmt_trees (run_form e) r = more_stmts (run_stmt (expr_tree e)) r
   stmt_trees (if_form e s a l) r = more_stmts (if_stmt (more_arms (expr_tree e) (stmt_trees s no_stmts) (arms_tree a)) (else_tree l)) r
-  stmt_trees (colon_if_form e ss a l) r = more_stmts (if_stmt (more_arms (expr_tree e) (stmts_trees ss no_stmts) (colon_arms_tree a)) (colon_else_tree l)) r
+  stmt_trees (colon_if_form e ss a l) r =
+      more_stmts (if_stmt (more_arms (expr_tree e) (stmts_trees ss no_stmts) (colon_arms_tree a)) (colon_else_tree l)) r
   stmt_trees (while_form e b) r = more_stmts (while_stmt (expr_tree e) (body_tree b)) r
   stmt_trees (do_form s e) r = more_stmts (do_while_stmt (stmt_trees s no_stmts) (expr_tree e)) r
   stmt_trees (for_form begin e next b) r = more_stmts (for_stmt (list_tree begin) (maybe_tree e) (list_tree next) (body_tree b)) r
@@ -290,7 +308,8 @@ unfoldable mutual
   pub nearest : StmtForm → Bool
   nearest (block_form ss) = all_nearest ss
   nearest (if_form e s a l) = nearest s && (not (takes_else s && goes_on a l) && (arms_nearest a l && else_nearest l))
-  nearest (colon_if_form e ss a l) = all_nearest ss && (not (last_takes_else ss && colon_goes_on a l) && (colon_arms_nearest a l && colon_else_nearest l))
+  nearest (colon_if_form e ss a l) =
+      all_nearest ss && (not (last_takes_else ss && colon_goes_on a l) && (colon_arms_nearest a l && colon_else_nearest l))
   nearest (while_form e b) = body_nearest b
   nearest (do_form s e) = nearest s
   nearest (for_form begin e next b) = body_nearest b
@@ -392,11 +411,17 @@ pub data FunctionForm : Type 0 where
 -- the terminals of a function, before those that follow it
 abbrev pub function_terminals : FunctionForm → List Terminal → List Terminal
 function_terminals (function_form f ps ss) r =
-    word_terminal word.Function ∷ name_terminal f ∷ sign_terminal sign.OpenParen ∷ params_terminals ps (sign_terminal sign.CloseParen ∷ sign_terminal sign.OpenBrace ∷ stmts_terminals ss (sign_terminal sign.CloseBrace ∷ r))
+    word_terminal word.Function ∷ name_terminal f ∷ sign_terminal sign.OpenParen
+    ∷ params_terminals ps (sign_terminal sign.CloseParen ∷ sign_terminal sign.OpenBrace
+    ∷ stmts_terminals ss (sign_terminal sign.CloseBrace ∷ r))
 
 -- a function by its name in lower case, since names of functions have no case, with its parameters and its body
 abbrev pub function_tree : FunctionForm → PlainFunction
-function_tree (function_form f ps ss) = record { name_of = str_to_ascii_lowercase f; params_of = params_trees ps; body_of = stmts_trees ss no_stmts }
+function_tree (function_form f ps ss) = record {
+  name_of = str_to_ascii_lowercase f;
+  params_of = params_trees ps;
+  body_of = stmts_trees ss no_stmts;
+}
 
 -- whether each `else` in the function's body belongs to the nearest `if` that can take it
 abbrev pub function_nearest : FunctionForm → Bool

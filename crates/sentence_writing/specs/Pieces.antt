@@ -37,4 +37,5 @@ Makes old new pieces (Two a b) made = Joins old new (piece_of_part pieces a) (pi
 pub record ArePieces (nodes : List Node) (forks : List Fork) (pieces : List (Option Piece)) : Type 0 where
   pub forks_are : AreForks forks
   pub within : (n : ℕ) (o : Option Piece) → slice_get pieces n ≡ Some o → maybe_rank o ≤ length forks
-  pub right : (productions : List Production) (n : ℕ) (o : Option Piece) (a : Symbol) (w : List Letter) → slice_get pieces n ≡ Some o → Stands productions nodes (Inner n) a w → maybe_bytes forks o ≡ bytes_in w
+  pub right : (productions : List Production) (n : ℕ) (o : Option Piece) (a : Symbol) (w : List Letter) → slice_get pieces n ≡ Some o
+      → Stands productions nodes (Inner n) a w → maybe_bytes forks o ≡ bytes_in w

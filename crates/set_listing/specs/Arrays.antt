@@ -72,7 +72,8 @@ is_exactly_at told k i = of_told (is_exactly k) (slice_get told i)
 -- a write under one key, by the member of a number: the old one, unless the key is just its own, and the new value, where it may be
 unfoldable pub put_under : List PlainKey → At → ℕ → ℕ → Option PlainKeyRef → ℕ → ℕ → Half → Forms
 unfolding where_so may_be_at is_exactly_at
-put_under told at p x k v i h = where_so (not (is_exactly_at told k i)) (used at p (Member i h) x ∷ []) ++ where_so (may_be_at told k i) (used at p (Own h) v ∷ [])
+put_under told at p x k v i h =
+    where_so (not (is_exactly_at told k i)) (used at p (Member i h) x ∷ []) ++ where_so (may_be_at told k i) (used at p (Own h) v ∷ [])
 
 -- a write under one key, by the members that stand elsewhere or deep: the old ones, those of the new value, and maybe the new value
 unfoldable pub put_elsewhere : List PlainKey → At → ℕ → ℕ → Option PlainKeyRef → ℕ → Half → Forms

@@ -34,7 +34,8 @@ quit_form at p (Some x) = used at p (Own Text) x
 -- what the function prints and then what follows, or what it prints until the run ends in it
 abbrev pub call_forms : ℕ → Leaving → Option PlainFlowFunction → Forms
 call_forms next end None = []
-call_forms next end (Some g) = join_form (name.Out g.entry_of Return) (name.Out next end) ∷ on_exit (same_form (name.Out g.entry_of Exit)) end
+call_forms next end (Some g) =
+    join_form (name.Out g.entry_of Return) (name.Out next end) ∷ on_exit (same_form (name.Out g.entry_of Exit)) end
 
 -- what is printed from a point on: what it prints itself, and then what is printed from each point where it goes on
 unfoldable pub out_forms : List PlainFlowFunction → At → ℕ → PlainPoint → Leaving → Forms

@@ -54,7 +54,8 @@ abbrev pub in_member : Half → Option ℕ → Aspect
 in_member h None = Others h
 in_member h (Some i) = Member i h
 
--- a member under a key: of the member of this key where it is told apart, of the other members where it is another literal, and of all members
+-- a member under a key: of the member of this key where it is told apart, of the other members where it is another literal, and of all
+-- members
 -- where it is no literal
 abbrev pub member_under : List PlainKey → Half → SetVersion → Option PlainKey → SetName
 member_under told h v None = Members h v

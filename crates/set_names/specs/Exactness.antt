@@ -45,7 +45,8 @@ exact_aspect Keys (Others h) e = cc
 exact_aspect Keys Keys e = refl
 
 -- of two parts
-both : {A B : Type 0} {eq : A → A → Bool} {same : B → B → Bool} → IsExact eq → IsExact same → (a c : A) (b d : B) → (eq a c && same b d) ≡ true → ◌≡◌ {A = A × B} (a, b) (c, d)
+both : {A B : Type 0} {eq : A → A → Bool} {same : B → B → Bool} → IsExact eq → IsExact same → (a c : A) (b d : B)
+    → (eq a c && same b d) ≡ true → ◌≡◌ {A = A × B} (a, b) (c, d)
 both {A} {B} {eq} {same} first second a c b d e =
     let p : a ≡ c = first a c (first_so (eq a c) (same b d) e) in
     let q : b ≡ d = second b d (second_so (eq a c) (same b d) e) in

@@ -1,4 +1,5 @@
--- Versions of a slot at a point, and the definitions behind them (static single assignment: Cytron and others, 1991, but with a join at each
+-- Versions of a slot at a point, and the definitions behind them (static single assignment: Cytron and others, 1991, but with a join at
+-- each
 -- point into which several edges lead, so that no dominators are needed).
 use Rattle.std.specs.Prelude.{◌≡◌, ◌≢◌, ⊤, ℕ, List, Some, Contains}
 use Rattle.loose_sets.specs.Points.{PlainPoint, PlainFlowFunction, PlainFlow, point_at, function_at}
@@ -45,7 +46,8 @@ pub data Stands (flow : PlainFlow) : ℕ → ℕ → PlainVersion → Type 0 whe
 pub data Link (flow : PlainFlow) : ℕ → ℕ → PlainVersion → Type 0 where
   from_set : (p q x : ℕ) → Edge flow q p → Sets flow q x → Link flow p x (of_definition (at_point q))
   from_left : (p q x : ℕ) (v : PlainVersion) → Edge flow q p → Leaves flow q x → Stands flow q x v → Link flow p x v
-  from_entry : (f x : ℕ) (g : PlainFlowFunction) → function_at flow f ≡ Some g → IsOwnSlot g x → Link flow g.entry_of x (of_definition (at_entry f x))
+  from_entry : (f x : ℕ) (g : PlainFlowFunction) → function_at flow f ≡ Some g → IsOwnSlot g x
+      → Link flow g.entry_of x (of_definition (at_entry f x))
 
 -- the joins that are asked for: of a slot at a point
 abbrev pub Asked : Type 1
@@ -66,7 +68,8 @@ pub record AreLinks (flow : PlainFlow) (asked : Asked) (linked : Linked) : Type 
   pub closed : (p x : ℕ) (v : PlainVersion) → linked p x v → IsKept asked v
   pub set : (p q x : ℕ) → asked p x → Edge flow q p → Sets flow q x → linked p x (of_definition (at_point q))
   pub left : (p q x : ℕ) → asked p x → Edge flow q p → Leaves flow q x → (v : PlainVersion) × linked p x v × Stands flow q x v
-  pub entry : (f x : ℕ) (g : PlainFlowFunction) → function_at flow f ≡ Some g → IsOwnSlot g x → asked g.entry_of x → linked g.entry_of x (of_definition (at_entry f x))
+  pub entry : (f x : ℕ) (g : PlainFlowFunction) → function_at flow f ≡ Some g → IsOwnSlot g x → asked g.entry_of x
+      → linked g.entry_of x (of_definition (at_entry f x))
 
 -- the definitions behind a version
 pub data Behind (linked : Linked) : PlainVersion → Definition → Type 0 where

@@ -33,10 +33,12 @@ link_by fs heads last x None = []
 link_by fs heads last x (Some a) = link_of fs heads last x a.1
 
 -- by the arrival at a place of their list
-unfoldable pub link_at : {S : Type 0} → List PlainFlowFunction → List ℕ → IndexMap (ℕ × ℕ) ℕ S → ℕ → List (ℕ × Arrival) → ℕ → List PlainVersion
+unfoldable pub link_at : {S : Type 0} → List PlainFlowFunction → List ℕ → IndexMap (ℕ × ℕ) ℕ S → ℕ → List (ℕ × Arrival) → ℕ
+    → List PlainVersion
 link_at fs heads last x all i = link_by fs heads last x (slice_get all i)
 
 -- all versions that come by what leads to a point
-pub record IsRow {S : Type 0} (fs : List PlainFlowFunction) (heads : List ℕ) (last : IndexMap (ℕ × ℕ) ℕ S) (all : List (ℕ × Arrival)) (p x : ℕ) (row : List PlainVersion) : Type 0 where
+pub record IsRow {S : Type 0} (fs : List PlainFlowFunction) (heads : List ℕ) (last : IndexMap (ℕ × ℕ) ℕ S) (all : List (ℕ × Arrival))
+    (p x : ℕ) (row : List PlainVersion) : Type 0 where
   pub each : (v : PlainVersion) → Contains row v → (a : Arrival) × Contains all (p, a) × Contains (link_of fs heads last x a) v
   pub all_are : (a : Arrival) (v : PlainVersion) → Contains all (p, a) → Contains (link_of fs heads last x a) v → Contains row v

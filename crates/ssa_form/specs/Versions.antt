@@ -57,4 +57,5 @@ version_of versions p x = option_map version_seen (held versions.versions p x)
 -- there is a version for each slot that a point reads, and the definitions behind it are exactly those that reach the point
 pub record IsExact (flow : PlainFlow) (versions : Versions) : Type 0 where
   pub all : (p x : ℕ) (i : PlainPoint) → point_at flow p ≡ Some i → Contains (reads i) x → version_of versions p x ≢ None
-  pub behind : (p x : ℕ) (v : PlainVersion) → version_of versions p x ≡ Some v → (d : Definition) → Behind (linked_in (joins_of versions)) v d ↔ Reaches flow d x p
+  pub behind : (p x : ℕ) (v : PlainVersion) → version_of versions p x ≡ Some v → (d : Definition)
+      → Behind (linked_in (joins_of versions)) v d ↔ Reaches flow d x p

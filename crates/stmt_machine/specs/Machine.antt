@@ -100,8 +100,10 @@ while_move fs (Some found) = body_move loop.While fs found.1 (λ acts. value_act
 
 -- `foreach` behind its array
 abbrev pub each_move : List Action → List Frame → List Terminal → Move
-each_move acts fs (word_terminal word.As ∷ variable_terminal x ∷ sign_terminal sign.CloseParen ∷ r) = body_move (loop.Each None x) fs r (λ more. value_action acts ∷ more)
-each_move acts fs (word_terminal word.As ∷ variable_terminal k ∷ sign_terminal sign.DoubleArrow ∷ variable_terminal x ∷ sign_terminal sign.CloseParen ∷ r) = body_move (loop.Each (Some k) x) fs r (λ more. value_action acts ∷ more)
+each_move acts fs (word_terminal word.As ∷ variable_terminal x ∷ sign_terminal sign.CloseParen ∷ r) =
+    body_move (loop.Each None x) fs r (λ more. value_action acts ∷ more)
+each_move acts fs (word_terminal word.As ∷ variable_terminal k ∷ sign_terminal sign.DoubleArrow ∷ variable_terminal x
+    ∷ sign_terminal sign.CloseParen ∷ r) = body_move (loop.Each (Some k) x) fs r (λ more. value_action acts ∷ more)
 each_move acts fs _ = stuck
 
 -- a `foreach` behind its array expression
@@ -130,7 +132,8 @@ jump_move a fs ts = if semicolon_next ts then moves focus.Behind fs (behind ts) 
 
 -- behind `return`: a semicolon, or an expression and a semicolon
 abbrev pub return_move : List Frame → List Terminal → Move
-return_move fs ts = if semicolon_next ts then moves focus.Behind fs (behind ts) (return_action false ∷ []) else value_move (return_action true) fs (statement_at ts)
+return_move fs ts = if semicolon_next ts then moves focus.Behind fs (behind ts) (return_action false ∷ [])
+    else value_move (return_action true) fs (statement_at ts)
 
 -- behind `include` or `require`: a text, in brackets or not, and a semicolon
 abbrev pub include_move : List Frame → List Terminal → Move
@@ -144,7 +147,8 @@ argument_at ts = ended_by semicolon_next (ended_by paren_end_next (expr_at ts))
 
 -- behind `exit (`: the closing bracket at once, or an expression before it, and a semicolon
 abbrev pub exit_parens_move : List Frame → List Terminal → Move
-exit_parens_move fs ts = if paren_end_next ts then jump_move (exit_action false) fs (behind ts) else value_move (exit_action true) fs (argument_at ts)
+exit_parens_move fs ts = if paren_end_next ts then jump_move (exit_action false) fs (behind ts)
+    else value_move (exit_action true) fs (argument_at ts)
 
 -- behind `exit` or `die`: brackets, or a semicolon at once
 abbrev pub exit_move : List Frame → List Terminal → Move
@@ -213,7 +217,8 @@ for_condition_move n fs (Some found) = moves (focus.Start (row.Next n true)) fs 
 
 -- a `for` behind the expressions of its beginning, which are so many: no condition, or one, and a semicolon
 abbrev pub condition_move : ℕ → List Frame → List Terminal → Move
-condition_move n fs ts = if semicolon_next ts then moves (focus.Start (row.Next n false)) fs (behind ts) [] else for_condition_move n fs (statement_at ts)
+condition_move n fs ts = if semicolon_next ts then moves (focus.Start (row.Next n false)) fs (behind ts) []
+    else for_condition_move n fs (statement_at ts)
 
 -- a literal of one terminal
 abbrev pub literal_word : Keyword → Option PlainExpr
@@ -236,7 +241,8 @@ default_move x (Some e) fs r = moves focus.BehindParameter fs r (parameter_actio
 
 -- a parameter with its default or without
 abbrev pub parameter_move : List Frame → List Terminal → Move
-parameter_move fs (variable_terminal x ∷ sign_terminal sign.Assign ∷ sign_terminal sign.Minus ∷ int_terminal z ∷ r) = default_move x (Some (neg_expr (int_expr z))) fs r
+parameter_move fs (variable_terminal x ∷ sign_terminal sign.Assign ∷ sign_terminal sign.Minus ∷ int_terminal z ∷ r) =
+    default_move x (Some (neg_expr (int_expr z))) fs r
 parameter_move fs (variable_terminal x ∷ sign_terminal sign.Assign ∷ t ∷ r) = default_move x (literal_at t) fs r
 parameter_move fs (variable_terminal x ∷ r) = moves focus.BehindParameter fs r (parameter_action x no_expr ∷ [])
 parameter_move fs _ = stuck
@@ -277,7 +283,8 @@ elseif_move n fs (Some found) = moves focus.Begin (frame.Arm (n + 1) ∷ fs) fou
 abbrev pub else_if_move : ℕ → List Frame → Option (List Action × List Terminal) → Move
 else_if_move n fs None = stuck
 else_if_move n fs (Some found) =
-    if colon_next found.1 then moves focus.Behind (frame.ColonArm 1 ∷ frame.Else n ∷ fs) (behind found.1) (open_action false ∷ value_action found.0 ∷ open_action false ∷ [])
+    if colon_next found.1 then moves focus.Behind (frame.ColonArm 1 ∷ frame.Else n ∷ fs) (behind found.1)
+    (open_action false ∷ value_action found.0 ∷ open_action false ∷ [])
     else moves focus.Begin (frame.Arm (n + 1) ∷ fs) found.1 (open_action false ∷ value_action found.0 ∷ [])
 
 -- behind the `else` of an `if` of so many arms
@@ -295,7 +302,8 @@ arm_move n fs ts = moves focus.Behind fs ts (if_action n false ∷ [])
 abbrev pub colon_elseif_move : ℕ → List Frame → Option (List Action × List Terminal) → Move
 colon_elseif_move n fs None = stuck
 colon_elseif_move n fs (Some found) =
-    if colon_next found.1 then moves focus.Behind (frame.ColonArm (n + 1) ∷ fs) (behind found.1) (value_action found.0 ∷ open_action false ∷ [])
+    if colon_next found.1 then moves focus.Behind (frame.ColonArm (n + 1) ∷ fs) (behind found.1)
+    (value_action found.0 ∷ open_action false ∷ [])
     else stuck
 
 -- behind the `else` of an `if` of so many arms in the form with `:`, where a colon has to stand

@@ -38,7 +38,12 @@ pub record Made : Type 0 where
 
 -- at the beginning of a file
 abbrev pub nothing_made : Made
-nothing_made = record { values = []; bodies = record { in_loop = false; in_function = false; row = Some (no_stmts, 0) } ∷ []; header = None; functions = Some ([], 0) }
+nothing_made = record {
+  values = [];
+  bodies = record { in_loop = false; in_function = false; row = Some (no_stmts, 0) } ∷ [];
+  header = None;
+  functions = Some ([], 0);
+}
 
 -- the same with these values
 abbrev pub with_values : List PlainValue → Made → Made
@@ -145,7 +150,8 @@ maybe_value _ = None
 
 -- a `for` of its beginning, its condition, what stands behind each turn, and its body
 abbrev pub for_node : Option (PlainExprs × ℕ) → Option (MaybeExpr × ℕ) → Option (PlainExprs × ℕ) → Row → Node
-for_node (Some begin) (Some condition) (Some next) (Some row) = Some (for_stmt begin.0 condition.0 next.0 row.0, max begin.1 (max condition.1 (max next.1 row.1)))
+for_node (Some begin) (Some condition) (Some next) (Some row) =
+    Some (for_stmt begin.0 condition.0 next.0 row.0, max begin.1 (max condition.1 (max next.1 row.1)))
 for_node _ _ _ _ = None
 
 -- what follows where there is something
@@ -156,7 +162,12 @@ on_some (Some a) next = next a
 -- a new body, in a loop or as the one around it
 abbrev pub open_body : Bool → List PlainBody → Made → Option Made
 open_body l [] m = None
-open_body l (b ∷ bs) m = Some (with_bodies (record { in_loop = if l then true else b.in_loop; in_function = b.in_function; row = Some (no_stmts, 0) } ∷ b ∷ bs) m)
+open_body l (b ∷ bs) m = Some (with_bodies (record {
+  in_loop = if l then true else b.in_loop;
+  in_function = b.in_function;
+  row =
+      Some (no_stmts, 0);
+} ∷ b ∷ bs) m)
 
 -- the last value
 abbrev pub last_value : List PlainValue → Option (PlainValue × List PlainValue)
@@ -192,7 +203,8 @@ apply_for b c n row m =
 abbrev pub apply_loop_body : Loop → Row → Made → Option Made
 apply_loop_body loop.While row m = on_some (last_value m.values) (λ last. put (while_node last.0 row) (with_values last.1 m))
 apply_loop_body (loop.For b c n) row m = apply_for b c n row m
-apply_loop_body (loop.Each k x) row m = on_some (last_value m.values) (λ last. put_if (maybe_writable k && is_writable x) (each_node last.0 k x row) (with_values last.1 m))
+apply_loop_body (loop.Each k x) row m =
+    on_some (last_value m.values) (λ last. put_if (maybe_writable k && is_writable x) (each_node last.0 k x row) (with_values last.1 m))
 
 -- the end of a loop: its body is the innermost one
 abbrev pub apply_loop : Loop → Made → Option Made
@@ -217,7 +229,8 @@ stands_in_function (b ∷ bs) = b.in_function
 -- a `return`, with a value or without, which has to stand in a function
 abbrev pub apply_return : Bool → Made → Option Made
 apply_return false m = put_if (stands_in_function m.bodies) (Some (return_stmt no_expr, 0)) m
-apply_return true m = on_some (last_value m.values) (λ last. put_if (stands_in_function m.bodies) (return_node last.0) (with_values last.1 m))
+apply_return true m = on_some (last_value m.values) (λ last. put_if (stands_in_function m.bodies) (return_node last.0)
+    (with_values last.1 m))
 
 -- an `exit`, with an argument or without
 abbrev pub apply_exit : Bool → Made → Option Made
@@ -237,7 +250,8 @@ add_param (q ∷ ps) p = q ∷ add_param ps p
 abbrev pub apply_parameter : List ℕ → MaybeExpr → Option (List ℕ × List PlainParam) → Made → Option Made
 apply_parameter x d None m = None
 apply_parameter x d (Some header) m =
-    if is_writable x && is_new_name x header.1 then Some (with_header (Some (header.0, add_param header.1 (record { name_of = x; default_of = d }))) m)
+    if is_writable x && is_new_name x header.1 then Some (with_header (Some
+    (header.0, add_param header.1 (record { name_of = x; default_of = d }))) m)
     else None
 
 -- functions and one more at the end
@@ -252,14 +266,21 @@ function_of header ss = record { name_of = str_to_ascii_lowercase header.0; para
 -- the functions with one more, whose height is one more than that of its highest part
 abbrev pub put_function : List ℕ × List PlainParam → Row → Functions → Functions
 put_function header (Some row) (Some fs) =
-    if nat_lt (max (params_height header.1) row.1) 200 then Some (add_function fs.0 (function_of header row.0), max fs.1 (max (params_height header.1) row.1 + 1)) else None
+    if nat_lt (max (params_height header.1) row.1) 200
+    then Some (add_function fs.0 (function_of header row.0), max fs.1 (max (params_height header.1) row.1 + 1)) else None
 put_function header _ _ = None
 
 -- the end of the function that is being read: its body is the innermost one
 abbrev pub end_function : Option (List ℕ × List PlainParam) → Made → Option Made
 end_function None m = None
 end_function (Some header) m =
-    on_some (last_body m.bodies) (λ last. Some (record { values = m.values; bodies = last.1; header = None; functions = put_function header last.0.row m.functions }))
+    on_some (last_body m.bodies) (λ last. Some (record {
+      values = m.values;
+      bodies = last.1;
+      header = None;
+      functions =
+          put_function header last.0.row m.functions;
+    }))
 
 -- what an action makes; nothing where it breaks a rule of the language
 unfoldable pub apply_stmt : StmtAction → Made → Option Made
@@ -278,7 +299,8 @@ apply_stmt (include_action t) m = put_if (is_utf8 t) (Some (include_stmt t, 0)) 
 apply_stmt (exit_action v) m = apply_exit v m
 apply_stmt (function_action f) m = Some (with_header (Some (f, [])) m)
 apply_stmt (parameter_action x d) m = apply_parameter x d m.header m
-apply_stmt function_body_action m = Some (with_bodies (record { in_loop = false; in_function = true; row = Some (no_stmts, 0) } ∷ m.bodies) m)
+apply_stmt function_body_action m =
+    Some (with_bodies (record { in_loop = false; in_function = true; row = Some (no_stmts, 0) } ∷ m.bodies) m)
 apply_stmt function_end_action m = end_function m.header m
 
 -- the actions in turn

@@ -46,11 +46,15 @@ unfoldable mutual
   stmt_actions (print_form e) r = value_actions e (echo_action 1 ∷ r)
   stmt_actions (run_form e) r = value_actions e (run_action ∷ r)
   stmt_actions (if_form e s a l) r = value_actions e (open_action false ∷ stmt_actions s (arms_actions a 1 (λ n. else_actions l n r)))
-  stmt_actions (colon_if_form e ss a l) r = value_actions e (open_action false ∷ stmts_actions ss (colon_arms_actions a 1 (λ n. colon_else_actions l n r)))
+  stmt_actions (colon_if_form e ss a l) r =
+      value_actions e (open_action false ∷ stmts_actions ss (colon_arms_actions a 1 (λ n. colon_else_actions l n r)))
   stmt_actions (while_form e b) r = value_actions e (open_action true ∷ body_actions b (loop_action loop.While ∷ r))
   stmt_actions (do_form s e) r = open_action true ∷ stmt_actions s (value_actions e (do_action ∷ r))
-  stmt_actions (for_form begin e next b) r = list_values_actions begin (maybe_value_actions e (list_values_actions next (open_action true ∷ body_actions b (loop_action (loop.For (list_count begin) (is_something e) (list_count next)) ∷ r))))
-  stmt_actions (each_form e v b) r = value_actions e (open_action true ∷ body_actions b (loop_action (loop.Each (key_variable v) (value_variable v)) ∷ r))
+  stmt_actions (for_form begin e next b) r =
+      list_values_actions begin (maybe_value_actions e (list_values_actions next
+      (open_action true ∷ body_actions b (loop_action (loop.For (list_count begin) (is_something e) (list_count next)) ∷ r))))
+  stmt_actions (each_form e v b) r =
+      value_actions e (open_action true ∷ body_actions b (loop_action (loop.Each (key_variable v) (value_variable v)) ∷ r))
   stmt_actions break_form r = break_action ∷ r
   stmt_actions continue_form r = continue_action ∷ r
   stmt_actions (return_form e) r = maybe_value_actions e (return_action (is_something e) ∷ r)
@@ -101,7 +105,8 @@ params_actions (p ∷ ps) r = param_actions (param_tree p) (params_actions ps r)
 
 -- the actions of a function, before those that follow
 abbrev pub function_actions : FunctionForm → List StmtAction → List StmtAction
-function_actions (function_form f ps ss) r = function_action f ∷ params_actions ps (function_body_action ∷ stmts_actions ss (function_end_action ∷ r))
+function_actions (function_form f ps ss) r =
+    function_action f ∷ params_actions ps (function_body_action ∷ stmts_actions ss (function_end_action ∷ r))
 
 -- the actions of a file
 abbrev pub file_actions : FileForm → List StmtAction

@@ -62,4 +62,9 @@ with_default x d = record { name_of = x; default_of = d }
 
 -- all that the code has made
 abbrev pub made_of : Maker → Made
-made_of m = record { values = plain_values m.values; bodies = map plain_body m.bodies; header = header_of m.header; functions = kept_functions m.functions }
+made_of m = record {
+  values = plain_values m.values;
+  bodies = map plain_body m.bodies;
+  header = header_of m.header;
+  functions = kept_functions m.functions;
+}

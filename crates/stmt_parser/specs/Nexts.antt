@@ -35,7 +35,8 @@ body_next l fs r = body_move l fs r (λ acts. acts)
 
 -- behind the first variable of a `foreach`
 abbrev pub keyed_next : List ℕ → List Frame → List Terminal → Move
-keyed_next k fs (sign_terminal sign.DoubleArrow ∷ variable_terminal x ∷ sign_terminal sign.CloseParen ∷ r) = body_next (loop.Each (Some k) x) fs r
+keyed_next k fs (sign_terminal sign.DoubleArrow ∷ variable_terminal x ∷ sign_terminal sign.CloseParen ∷ r) =
+    body_next (loop.Each (Some k) x) fs r
 keyed_next k fs _ = stuck
 
 -- behind the first variable of a `foreach`: that of the value, where `)` stands next, and else that of the key

@@ -1,4 +1,5 @@
--- The machine that puts `<br />` before line ends: state 1 behind a CR and state 2 behind an LF whose `<br />` was put out, state 0 elsewhere.
+-- The machine that puts `<br />` before line ends: state 1 behind a CR and state 2 behind an LF whose `<br />` was put out, state 0
+-- elsewhere.
 use Rattle.std.specs.Prelude.{ℕ, ◌==◌, ◌||◌, ◌&&◌, Bool, List, [], ◌∷◌, ◌++◌, map, codes, if◌then◌else◌}
 use Rattle.fst_core.specs.declared.out.Out.{Out}
 use Rattle.fst_core.specs.declared.out.Out.TheVariants.{Same, Byte}

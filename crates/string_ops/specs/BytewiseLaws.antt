@@ -16,8 +16,10 @@ pub three_choices : (kind : Bytewise) (s byte : ℕ) → length (bytewise_rows k
 three_choices kind s byte = cond_both (s == 0) _ _ (λ (cs : List (ℕ × List Out)). length cs ≤ 3) (λ _. omega arith) (λ _. omega arith)
 
 -- each choice of the one state leads to that state
-pub choices_within : (kind : Bytewise) (s byte : ℕ) → s < 1 → byte < 256 → list_all (λ choice. nat_lt choice.0 1) (bytewise_rows kind s byte) ≡ true
-choices_within kind s byte inside below = cond_both (s == 0) _ _ (λ (cs : List (ℕ × List Out)). list_all (λ choice. nat_lt choice.0 1) cs ≡ true) (λ _. refl) (λ _. refl)
+pub choices_within : (kind : Bytewise) (s byte : ℕ) → s < 1 → byte < 256
+    → list_all (λ choice. nat_lt choice.0 1) (bytewise_rows kind s byte) ≡ true
+choices_within kind s byte inside below =
+    cond_both (s == 0) _ _ (λ (cs : List (ℕ × List Out)). list_all (λ choice. nat_lt choice.0 1) cs ≡ true) (λ _. refl) (λ _. refl)
 
 -- a state has at most one end
 pub one_last : (s : ℕ) → length (bytewise_lasts s) ≤ 1

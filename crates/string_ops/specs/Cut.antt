@@ -50,13 +50,17 @@ left_of count = count + 2
 abbrev pub down_turn : ℕ → ℕ → ℕ → ℕ × List Out
 down_turn base k byte = (base + k, [])
 
--- the states from 0 count the bytes of a text of at most `start + last` bytes, of which none is copied; from state `start` on the middle of a longer text is copied, and then come its last bytes
+-- the states from 0 count the bytes of a text of at most `start + last` bytes, of which none is copied; from state `start` on the middle of
+-- a longer text is copied, and then come its last bytes
 abbrev pub inner_rows : ℕ → ℕ → Rows
 inner_rows start last s byte =
-    (if is_within 0 (start + last) s then count_turn (start + last) (s - 0) byte ∷ [] else []) ++ (if start == s then (middle_of (start + last), Same ∷ []) ∷ [] else [])
-    ++ (if start == s then (left_of (start + last) + last, Same ∷ []) ∷ [] else []) ++ (if middle_of (start + last) == s then (middle_of (start + last), Same ∷ []) ∷ [] else [])
+    (if is_within 0 (start + last) s then count_turn (start + last) (s - 0) byte ∷ [] else [])
+    ++ (if start == s then (middle_of (start + last), Same ∷ []) ∷ [] else [])
+    ++ (if start == s then (left_of (start + last) + last, Same ∷ []) ∷ [] else [])
+    ++ (if middle_of (start + last) == s then (middle_of (start + last), Same ∷ []) ∷ [] else [])
     ++ (if middle_of (start + last) == s then (left_of (start + last) + last, Same ∷ []) ∷ [] else [])
-    ++ (if is_within (left_of (start + last) + 1) last s then down_turn (left_of (start + last)) (s - (left_of (start + last) + 1)) byte ∷ [] else [])
+    ++ (if is_within (left_of (start + last) + 1) last s then down_turn (left_of (start + last)) (s - (left_of (start + last) + 1)) byte
+    ∷ [] else [])
 
 -- the text may end in the states up to `start + last`, where it is that short, and where none of its last bytes is left
 abbrev pub inner_lasts : ℕ → ℕ → Lasts

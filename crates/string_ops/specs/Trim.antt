@@ -1,4 +1,5 @@
--- The machine that strips bytes from the ends: state 0 at the front, 1 behind a byte that stays, 2 behind a byte to be stripped that stays since one that stays follows, 3 behind the first byte of those that are stripped from the end.
+-- The machine that strips bytes from the ends: state 0 at the front, 1 behind a byte that stays, 2 behind a byte to be stripped that stays
+-- since one that stays follows, 3 behind the first byte of those that are stripped from the end.
 use Rattle.std.specs.Prelude.{ℕ, ◌==◌, ◌&&◌, Bool, List, [], ◌∷◌, if◌then◌else◌}
 use Rattle.fst_core.specs.declared.out.Out.{Out}
 use Rattle.fst_core.specs.declared.out.Out.TheVariants.{Same}

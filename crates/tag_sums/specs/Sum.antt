@@ -94,7 +94,8 @@ with_label a l = joined [] (by_label a l) []
 
 -- an end tag; behind it its element is a label
 abbrev pub closing : Automaton → ℕ → Sum
-closing a e = if some_state (by_state a (a.closes e)) then (if some_move (by_label a (child e)) then reduced (by_state a (a.closes e) ∷ []) (by_label a (child e)) [] else broken) else broken
+closing a e = if some_state (by_state a (a.closes e)) then (if some_move (by_label a (child e))
+    then reduced (by_state a (a.closes e) ∷ []) (by_label a (child e)) [] else broken) else broken
 
 -- a start tag, by the state that its element begins in; broken where the element is not declared
 abbrev pub opening : Automaton → Option ℕ → Sum

@@ -39,4 +39,5 @@ AreValid a (element e inside rest) = Holds a e (labels_of inside) × AreValid a 
 
 -- the tokens are those of such nodes, which lead from before the page to behind its root
 abbrev pub IsPage : Automaton → List PageToken → Type 0
-IsPage a tokens = (nodes : Nodes) × (tokens_of nodes ≡ tokens) × AreValid a nodes × (along a a.page_start (labels_of nodes) ≡ Some a.page_done)
+IsPage a tokens = (nodes : Nodes) × (tokens_of nodes ≡ tokens) × AreValid a nodes
+    × (along a a.page_start (labels_of nodes) ≡ Some a.page_done)

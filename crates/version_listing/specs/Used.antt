@@ -1,4 +1,5 @@
--- Which sets by versions are asked for: where one speaks of all members of a version, or of what is printed of it, some point reads a slot that has the version there.
+-- Which sets by versions are asked for: where one speaks of all members of a version, or of what is printed of it, some point reads a slot
+-- that has the version there.
 use Rattle.std.specs.Prelude.{◌≡◌, ⊤, ℕ}
 use Rattle.flow_code.specs.Points.{PlainFlow}
 use Rattle.set_names.specs.RowNames.{VersionName, value_of, members_of, shown_of, unversioned, Versioned, ReadsSlot}
