@@ -26,7 +26,8 @@ ReadsRequest files (Some name) = files.reads' ≡ one_more files.reads
 abbrev pub HasRequest : SourceCall → Option (List ℕ) → Result PlainRequest Refusal → Type 0
 HasRequest files name (Ok request) = FindsRequest files.content name request × ReadsRequest files name × (files.faults' ≡ files.faults)
 HasRequest files name (Err (Refusal.Told message)) =
-    RefusesRequest files name message.status message.text × ReadsRequest files name × Contains uncounted message.status × TellsFaults files message.status
+    RefusesRequest files name message.status message.text × ReadsRequest files name × Contains uncounted message.status
+    × TellsFaults files message.status
 HasRequest files name (Err Refusal.Memory) = ⊤
 
 -- what is written of a run that came to this

@@ -60,7 +60,8 @@ RefusesProgram files file status text = (cause : LoadRefusal) × IsLoadCause fil
 -- the program is loaded, and there is no request for it; its files were read once each, and then that of the request
 abbrev pub LacksRequest : SourceCall → List ℕ → Option (List ℕ) → Exit → List ℕ → Type 0
 LacksRequest files file request status text =
-    (program : PlainProgram) × IsLoaded files.content file program × RefusesRequest files request status text × ReadsForRun files file request
+    (program : PlainProgram) × IsLoaded files.content file program × RefusesRequest files request status text
+    × ReadsForRun files file request
 
 -- a text in the program of a file is over the limit of a run
 abbrev pub RefusesLongText : SourceCall → List ℕ → Exit → List ℕ → Type 0

@@ -34,4 +34,5 @@ Writes (grammar_making file) subject out =
 Writes usage subject out = ⊥
 
 abbrev pub IsWritten : Call → Exit → Type 0
-IsWritten call status = HasAllWritten status → (task : Task) (subject : Subject task) → AsksFor call.words task → Holds call.files.content task subject → Writes task subject call.out
+IsWritten call status = HasAllWritten status → (task : Task) (subject : Subject task) → AsksFor call.words task
+    → Holds call.files.content task subject → Writes task subject call.out
