@@ -52,8 +52,7 @@ abbrev pub IsDueOnOut : Call → List ℕ → Type 0
 IsDueOnOut call text = (status : Exit) × (OwesReply call status text ⊎ ((told : List ℕ) × OwesHalt call status text told))
 
 -- what stands on `out` where this text is due on `err`: nothing, where it is a refusal; all that was printed, where it says why a run does
--- not come to its end; a prefix of the text that is due on `out`,
--- where that found no memory
+-- not come to its end; a prefix of the text that is due on `out`, where that found no memory
 pub data LeavesOut (call : Call) (text : List ℕ) : Type 0 where
   at_refusal : (status : Exit) → OwesRefusal call status text → GainsNothing call.out → LeavesOut call text
   at_halt : (status : Exit) (printed : List ℕ) → OwesHalt call status printed text → Gains call.out printed → LeavesOut call text

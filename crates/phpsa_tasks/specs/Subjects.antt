@@ -78,8 +78,7 @@ pub record HoldsTable (content : Content) (document_type : NamedType) (table : T
 
 -- what the source tells all of; of a generated script, what it is
 abbrev pub Holds : Content → (task : Task) → Subject task → Type 0
-Holds content (script_check file document_type goal limit form) subject =
-    HoldsShortProgram content file subject.program × HoldsTable content document_type subject.table
+Holds content (script_check file document_type goal limit form) subject = HoldsShortProgram content file subject.program × HoldsTable content document_type subject.table
 Holds content (page_check file document_type) subject =
     HoldsShortFile content file subject.page × HoldsTable content document_type subject.table
 Holds content (script_making functions) subject = ⊤
@@ -112,8 +111,7 @@ abbrev pub HoldsDefinition : Content → NamedType → Type 0
 HoldsDefinition content document_type = (table : Table) × HoldsTable content document_type table × IsSmall content document_type table
 
 -- the document type has a table, where there is one to ask for, and under the file's name nothing is found, or no request under its own; or
--- there is no
--- generated script of this size
+-- there is no generated script of this size
 abbrev pub LacksFile : Content → Task → Type 0
 LacksFile content (script_check file document_type goal limit form) =
     HoldsDefinition content document_type × ((program : PlainProgram) → IsLoaded content file program → ⊥)

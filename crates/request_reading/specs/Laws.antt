@@ -23,5 +23,5 @@ pub record HasForm (file : List ℕ) (r : PlainRequest) : Type 0 where
 -- a file stands for a request exactly where its members are so, and a path of a stray one is named exactly where they are not
 pub record GoesByMembers : Type 0 where
   pub stands : (file : List ℕ) (r : PlainRequest) → (outcome file ≡ stands_for r) ↔ (HasForm file r × HasMembers r)
-  pub strays : (file : List ℕ) → ((path : List ℕ) × (outcome file ≡ not_admitted path)) ↔
-      ((r : PlainRequest) × HasForm file r × (HasMembers r → ⊥))
+  pub strays : (file : List ℕ)
+      → ((path : List ℕ) × (outcome file ≡ not_admitted path)) ↔ ((r : PlainRequest) × HasForm file r × (HasMembers r → ⊥))
