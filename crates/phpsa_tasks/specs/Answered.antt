@@ -76,7 +76,8 @@ PassesLimit task subject status = ⊥
 abbrev pub IsStopped : (task : Task) → Subject task → Exit → Type 0
 IsStopped task subject status = PassesLimit task subject status ⊎ (status ≡ Memory)
 
--- the statuses of a task that finds nothing under the name of a file: a name is missing, a file is no script or a rule is broken, or a limit is
+-- the statuses of a task that finds nothing under the name of a file: a name is missing, a file is no script or a rule is broken, or a
+-- limit is
 -- passed
 abbrev pub statuses_of_nothing : Task → List Exit
 statuses_of_nothing (script_check file document_type goal limit form) = Missing ∷ Script ∷ Input ∷ Memory ∷ []
@@ -101,15 +102,18 @@ pub record TellsCause (call : Call) (cause : RequestRefusal) (status : Exit) : T
   pub err : Gains call.err (request_text cause)
 
 -- Words that ask for what the source tells all of are answered, a limit and want of memory aside, and exactly by what is so of it; where
--- nothing is found, so is the status; a program is not run where the file of its request stands for none, and why is told; words that ask for
+-- nothing is found, so is the status; a program is not run where the file of its request stands for none, and why is told; words that ask
+-- for
 -- nothing are refused, and canonical ones never for that.
 pub record IsAnswered (call : Call) (status : Exit) : Type 0 where
   pub answered : (task : Task) (subject : Subject task) → AsksFor call.words task → IsUndisturbed call
       → Holds call.files.content task subject → IsWithin call.files.content task subject
       → IsVerdict task subject status ⊎ IsStopped task subject status
   pub exact : (task : Task) (subject : Subject task) (verdict : Exit) → AsksFor call.words task → IsUndisturbed call
-      → Holds call.files.content task subject → IsWithin call.files.content task subject → IsVerdict task subject verdict → (status ≡ verdict) ⊎ IsStopped task subject status
-  pub nothing : (task : Task) → AsksFor call.words task → IsUndisturbed call → LacksFile call.files.content task → Contains (statuses_of_nothing task) status
+      → Holds call.files.content task subject → IsWithin call.files.content task subject → IsVerdict task subject verdict
+      → (status ≡ verdict) ⊎ IsStopped task subject status
+  pub nothing : (task : Task) → AsksFor call.words task → IsUndisturbed call → LacksFile call.files.content task
+      → Contains (statuses_of_nothing task) status
   pub unasked : (file name : List ℕ) (steps : ℕ) (cause : RequestRefusal) → AsksFor call.words (script_run file (Some name) steps)
       → IsUndisturbed call → IsUnasked call file name cause → TellsCause call cause status ⊎ (status ≡ Memory)
   pub refused : AsksNothing call.words → Contains (Usage ∷ WriteFault ∷ Memory ∷ []) status

@@ -33,6 +33,8 @@ pub record PrintsGoodPage (call : Call) (goal : Goal) (of_check : ProgramBy) (of
 -- nesting was asked for
 abbrev pub CheckedRunsPrintGoodPages : Type 0
 CheckedRunsPrintGoodPages =
-    (checked ran : Call) (file other : List ℕ) (document_type : NamedType) (goal : Goal) (limit : ℕ) (form : AnswerForm) (request : Option (List ℕ)) (steps : ℕ)
+    (checked ran : Call) (file other : List ℕ) (document_type : NamedType) (goal : Goal) (limit : ℕ) (form : AnswerForm)
+    (request : Option (List ℕ)) (steps : ℕ)
     (of_check : ProgramBy) (of_run : ProgramFor) → of_check.program ≡ of_run.program
-    → IsChecked checked file document_type goal limit form of_check → HasRun ran other request steps of_run → PrintsGoodPage ran goal of_check of_run steps
+    → IsChecked checked file document_type goal limit form of_check → HasRun ran other request steps of_run
+    → PrintsGoodPage ran goal of_check of_run steps

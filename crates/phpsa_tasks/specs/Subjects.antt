@@ -78,7 +78,8 @@ pub record HoldsTable (content : Content) (document_type : NamedType) (table : T
 
 -- what the source tells all of; of a generated script, what it is
 abbrev pub Holds : Content → (task : Task) → Subject task → Type 0
-Holds content (script_check file document_type goal limit form) subject = HoldsShortProgram content file subject.program × HoldsTable content document_type subject.table
+Holds content (script_check file document_type goal limit form) subject =
+    HoldsShortProgram content file subject.program × HoldsTable content document_type subject.table
 Holds content (page_check file document_type) subject =
     HoldsShortFile content file subject.page × HoldsTable content document_type subject.table
 Holds content (script_making functions) subject = ⊤
