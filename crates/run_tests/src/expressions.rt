@@ -40,6 +40,19 @@ fn operators(rt: HostRuntime) -> Result<(), Fail> {
             "<?php echo substr('abc', -2), ucfirst('ab'), urlencode('a b~'), rawurlencode('a b~');",
             "bcAba+b%7Ea%20b~",
         ),
+        (
+            "<?php echo 1 != '1' ? 't' : 'f', 1 !== '1' ? 't' : 'f', 2 > 10 ? 't' : 'f', '2' >= '10' ? 't' : 'f', 'b' > 'a' ? 't' : 'f', 3 <= 3 ? 't' : 'f';",
+            "ftfftt",
+        ),
+        (
+            "<?php $n = 3; echo -$n, - -$n, !$n ? 't' : 'f', !'0' ? 't' : 'f', !!'a' ? 't' : 'f';",
+            "-33ftt",
+        ),
+        (
+            "<?php function f() { echo 'f'; return false; } echo f() && f() ? 't' : 'f', f() || f() ? 't' : 'f';",
+            "fffff",
+        ),
+        ("<?php $n = 'x'; echo <<<'E'\na $n\nE;", "a $n"),
     ] {
         assert!(rt; prints(rt.alloc(), text, printed)?, "{text}");
     }

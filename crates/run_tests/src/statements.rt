@@ -41,6 +41,14 @@ fn loops(rt: HostRuntime) -> Result<(), Fail> {
         ),
         ("<?php foreach ([1, 2] as $v): endforeach; echo $v;", "2"),
         ("<?php foreach (['k' => 'v'] as $x => $x) { echo $x; }", "v"),
+        (
+            "<?php for ($i = 0, $j = 9; $i < 3; $i++, $j--): echo $i, $j; endfor;",
+            "091827",
+        ),
+        (
+            "<?php for ($i = 0; $i < 3; $i++) { for ($j = 0; $j < 3; $j++) { if ($j == 1) { continue; } if ($i == 1) { break; } echo $i, $j, ' '; } }",
+            "00 02 20 22 ",
+        ),
     ] {
         assert!(rt; prints(rt.alloc(), text, printed)?, "{text}");
     }
