@@ -1,11 +1,10 @@
 -- The names of an object that was read stand in strict order, so that each is found.
-use Rattle.std.proofs.Common.{◌≡◌, ◌≤◌, ◌∙◌, ℕ, List, [], ◌∷◌, Bool, true, false, Option, Some, None, option_map, option_and_then, Ordering, Less, Equal, Greater, refl, sym, ap, subst}
+use Rattle.std.proofs.Common.{◌≡◌, ◌≤◌, ◌∙◌, ℕ, List, Bool, true, false, Option, Some, None, option_map, option_and_then, Ordering, Less, Equal, Greater, refl, ap, subst}
 use Rattle.std.specs.Prelude.{if◌then◌else◌, ⊤}
 use Rattle.std.specs.Cmp.Lexicographic.{slice_cmp}
 use Rattle.std.specs.Ordering.{nat_cmp, match_ordering, ordering_reverse}
 use Rattle.std.specs.Str.{is_utf8}
 use Rattle.std.proofs.lemmas.Cmp.{nat_list_cmp_total, tied_itself}
-use Rattle.json.specs.Token.{Token}
 use Rattle.json.specs.Lex.{tokens}
 use Rattle.json.specs.Json as json
 use Rattle.serde_json.specs.Data.{Data, number, array, object, Members, no_members, member, put, depth}
@@ -28,7 +27,7 @@ put_before j k d no_members h is = (is, tt)
 put_before j k d (member l e ms) (first, rest) is = by (slice_cmp nat_cmp k l) (put_before j k d ms rest is)
   where
     by : (o : Ordering) → IsBefore j (put k d ms) → IsBefore j (match_ordering o (member k d (member l e ms)) (member l d ms) (member l e (put k d ms)))
-    by Less more = (is, first, rest)
+    by Less more = (is, (first, rest))
     by Equal more = (first, rest)
     by Greater more = (first, more)
 
@@ -42,17 +41,17 @@ put_ordered k d no_members h = (tt, tt)
 put_ordered k d (member l e ms) (before, rest) = by (slice_cmp nat_cmp k l) refl (put_ordered k d ms rest)
   where
     by : (o : Ordering) → slice_cmp nat_cmp k l ≡ o → AreOrdered (put k d ms) → AreOrdered (match_ordering o (member k d (member l e ms)) (member l d ms) (member l e (put k d ms)))
-    by Less is more = ((is, further k l ms is before), before, rest)
+    by Less is more = ((is, further k l ms is before), (before, rest))
     by Equal is more = (before, rest)
     by Greater is more = (put_before l k d ms before (nat_list_cmp_total.antisymm l k ∙ ap ordering_reverse is), more)
 
 members_ordered : (js : json.Members) (found out : Members) → of_members js found ≡ Some out → AreOrdered found → AreOrdered out
 members_ordered json.no_members found out is h = let same : found ≡ out = cc in subst AreOrdered same h
-members_ordered (json.member k j js) found out is h = by (of_json j) is
+members_ordered (json.member k j js) found out is h = by (λ d e. members_ordered js (put k d found) out e (put_ordered k d found h)) (of_json j) is
   where
-    by : (o : Option Data) → option_and_then (λ d. of_members js (put k d found)) o ≡ Some out → AreOrdered out
-    by None e = cc
-    by (Some d) e = members_ordered js (put k d found) out e (put_ordered k d found h)
+    by : ((d : Data) → of_members js (put k d found) ≡ Some out → AreOrdered out) → (o : Option Data) → option_and_then (λ d. of_members js (put k d found)) o ≡ Some out → AreOrdered out
+    by more None e = absurd cc
+    by more (Some d) e = more d e
 
 json_ordered : (j : json.Json) (ms : Members) → of_json j ≡ Some (object ms) → AreOrdered ms
 json_ordered json.null ms e = absurd cc

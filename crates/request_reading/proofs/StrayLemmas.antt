@@ -1,6 +1,6 @@
 -- Nothing is stray exactly where the members of the request are those of an admitted one.
-use Rattle.std.proofs.Common.{◌≡◌, ◌↔◌, ◌∙◌, ◌<◌, ◌≤◌, ◌^◌, ◌+◌, ◌%◌, ◌/◌, ℕ, zero, suc, ℤ, pos, negsuc, Bool, true, false, ◌&&◌, ◌||◌, if◌then◌else◌, List, [], ◌∷◌, ◌++◌, Option, Some, None, refl, sym, ap, subst, arith, nat_eq}
-use Rattle.std.specs.Prelude.{decimal, ⊤}
+use Rattle.std.proofs.Common.{◌≡◌, ◌∙◌, ◌<◌, ◌≤◌, ◌^◌, ◌+◌, ◌%◌, ℕ, zero, suc, ℤ, pos, negsuc, Bool, true, false, ◌&&◌, ◌||◌, if◌then◌else◌, List, [], ◌∷◌, ◌++◌, Option, Some, None, refl, sym, ap, subst, arith, nat_eq, nat_lt}
+use Rattle.std.specs.Prelude.{decimal}
 use Rattle.std.specs.Fmt.{signed_decimal}
 use Rattle.std.specs.Cmp.Lexicographic.{pointwise}
 use Rattle.std.specs.List.{list_all}
@@ -11,17 +11,18 @@ use Rattle.std.proofs.lemmas.Bool.Decides.{nat_tests}
 use Rattle.std.proofs.lemmas.Fmt.{decimal_by_steps, IsAscii-decimal}
 use Rattle.std.proofs.lemmas.List.Folds.{list_all-append}
 use Rattle.std.proofs.lemmas.Str.{chars-IsAscii, IsUtf8-from_ascii}
+use Rattle.std.proofs.lemmas.Str.Ascii.{IsAscii-nil}
 use Rattle.text_base.specs.Exactness.{exact_bytes}
 use Rattle.xml_text.specs.Characters.{is_character}
 use Rattle.xml_text.specs.Texts.{IsText}
-use Rattle.plain_values.specs.Plain.{Plain, Pairs, empty, pair}
+use Rattle.plain_values.specs.Plain.{Plain, Pairs, pair}
 use Rattle.plain_values.specs.Keys.{canonical_integer, canonical_key}
 use Rattle.plain_values.specs.Numeric.{is_in_range}
 use Rattle.value_laws.proofs.Arrays.{canonical_range}
 use Rattle.script_meaning.specs.Requests.{PlainRequest, IsMember, AreMembers}
 use Rattle.serde_json.specs.Data.{Data, boolean, number, string, object, Items, no_items, item, Members, no_members, member}
 use Rattle.serde_json.specs.Data as json
-use Rattle.serde_json.specs.Find.{get, get_member}
+use Rattle.serde_json.specs.Find.{get}
 use Rattle.request_reading.specs.Names.{get_name, post_name, cookie_name, request_name, server_name, is_array_name}
 use Rattle.request_reading.specs.RequestFile.{name_key, value_of, places_of, members_of, members_in, asked_request, is_member, is_object, are_arrays, is_request}
 use Rattle.request_reading.specs.Admission.{is_text, below, stray_in, stray_item, stray_member, stray_array, stray_path}
@@ -49,15 +50,23 @@ are_characters = decimal_by_steps (λ n ds. list_all is_character ds ≡ true) o
 text_of_ascii : (t : List ℕ) → IsAscii t → list_all is_character t ≡ true → IsText t
 text_of_ascii t a h = record { utf8 = IsUtf8-from_ascii t a; characters = ap (list_all is_character) (chars-IsAscii t a) ∙ h }
 
-minus_ascii : (t : List ℕ) → IsAscii t → IsAscii (45 ∷ t)
-minus_ascii t a zero = omega arith
-minus_ascii t a (suc i) = a i
+more_ascii : (b : ℕ) (t : List ℕ) → b < 128 → IsAscii t → IsAscii (b ∷ t)
+more_ascii b t h a zero = h
+more_ascii b t h a (suc i) = a i
+
+are_ascii : (t : List ℕ) → list_all (λ b. nat_lt b 128) t ≡ true → IsAscii t
+are_ascii [] h = IsAscii-nil
+are_ascii (b ∷ t) h = let parts = and_parts (nat_lt b 128) (list_all (λ b. nat_lt b 128) t) h in more_ascii b t (ltb-true b 128 parts.0) (are_ascii t parts.1)
+
+-- a word of ASCII is one
+word_text : (t : List ℕ) → list_all (λ b. nat_lt b 128) t ≡ true → list_all is_character t ≡ true → is_text t ≡ true
+word_text t a h = is_the_text t (text_of_ascii t (are_ascii t a) h)
 
 integer_text : (z : ℤ) → is_in_range z ≡ true → IsText (signed_decimal z)
 integer_text (pos n) h = let l = ltb-true n (2 ^ 63) h in text_of_ascii (decimal n) (IsAscii-decimal n (omega (arith, l))) (are_characters n (omega (arith, l)))
 integer_text (negsuc n) h =
     let l = ltb-true n (2 ^ 63) h in
-    text_of_ascii (45 ∷ decimal (suc n)) (minus_ascii (decimal (suc n)) (IsAscii-decimal (suc n) (omega (arith, l)))) (are_characters (suc n) (omega (arith, l)))
+    text_of_ascii (45 ∷ decimal (suc n)) (more_ascii 45 (decimal (suc n)) (omega arith) (IsAscii-decimal (suc n) (omega (arith, l)))) (are_characters (suc n) (omega (arith, l)))
 
 -- the name of a member that is admitted is a text
 record IsPair (name : List ℕ) (v : Plain) (ps : Pairs) : Type 0 where
@@ -116,11 +125,15 @@ either false b P f g e = g e
 
 here : (all : Data) (name : List ℕ) → HasMembers (asked_request all) → is_array_name name ≡ true → IsHere all name
 here all name h e =
-    either (pointwise nat_eq name get_name) _ (IsHere all name) (one_name all name get_name refl h.get)
-    (either (pointwise nat_eq name post_name) _ (IsHere all name) (one_name all name post_name refl h.post)
-    (either (pointwise nat_eq name cookie_name) _ (IsHere all name) (one_name all name cookie_name refl h.cookie)
-    (either (pointwise nat_eq name request_name) _ (IsHere all name) (one_name all name request_name refl h.request)
-    (one_name all name server_name refl h.server)))) e
+    either _ (pointwise nat_eq name server_name) (IsHere all name)
+    (either _ (pointwise nat_eq name request_name) (IsHere all name)
+    (either _ (pointwise nat_eq name cookie_name) (IsHere all name)
+    (either (pointwise nat_eq name get_name) (pointwise nat_eq name post_name) (IsHere all name)
+    (one_name all name get_name (word_text get_name refl refl) h.get)
+    (one_name all name post_name (word_text post_name refl refl) h.post))
+    (one_name all name cookie_name (word_text cookie_name refl refl) h.cookie))
+    (one_name all name request_name (word_text request_name refl refl) h.request))
+    (one_name all name server_name (word_text server_name refl refl) h.server) e
 
 -- an object among the arrays
 object_free : (p : List ℕ) (d : Data) → is_object d ≡ true → AreMembers (members_in (Some d)) → stray_in p d ≡ None

@@ -15,7 +15,7 @@ text_is t h =
     let parts = and_parts (is_utf8 t) (list_all is_character (chars t)) h in
     record { utf8 = IsUtf8-from_is_utf8 t parts.0; characters = parts.1 }
 
-is_the_text : (t : List ℕ) → IsText t → is_text t ≡ true
+pub is_the_text : (t : List ℕ) → IsText t → is_text t ≡ true
 is_the_text t h = and_from (is_utf8 t) (list_all is_character (chars t)) (is_utf8-from_IsUtf8 t h.utf8) h.characters
 
 pub text_test : (r : Bool) (t : List ℕ) → IsTrue r ↔ IsText t → r ≡ is_text t
