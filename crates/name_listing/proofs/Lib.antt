@@ -1,1 +1,1 @@
-pub use Rattle.point_listing.proofs.PlaceLemmas
+pub mod PlaceLemmas

@@ -1,1 +1,1 @@
-pub use Rattle.source_listing.proofs.PlaceLemmas
+pub mod PlaceLemmas
