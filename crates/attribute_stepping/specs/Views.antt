@@ -10,6 +10,7 @@ use Rattle.attribute_stepping.specs.declared.outcome.AttributeMove.TheVariants.{
 use Rattle.attribute_stepping.specs.declared.allowed.Allowing.{Allowing}
 use Rattle.attribute_stepping.specs.declared.allowed.Allowing.TheVariants.{Element, Declaration}
 
+-- the plain form of a move among attributes
 abbrev pub plain_move : AttributeMove → steps.AttributeMove
 plain_move (Stays o) = steps.stays (plain_attribute o)
 plain_move (EndsWith names) = steps.ends_with names

@@ -41,6 +41,7 @@ pub record EndsLoop (old new : Progress) (open_head : Head) (last : PlainPoint) 
 abbrev pub stopping : Block
 stopping = ending no_code (λ none to p. jump_point to.stop)
 
+-- `continue`, as a block of one point
 abbrev pub continuing : Block
 continuing = ending no_code (λ none to p. jump_point to.again)
 

@@ -14,8 +14,10 @@ use Rattle.broken_pages.specs.Seen.{seen_open, seen, is_right, SeesByte}
 
 -- a byte more, from every state whose quotes are right: where the coarse reader fails, the reader of a page fails
 abbrev pub BytesSeen : Type 0
-BytesSeen = (table : Table) (h : Held PageState) (b : ℕ) → is_right (seen_open h.state.inside) ≡ true → SeesByte (coarse_byte (seen h) b) (byte_step (page_reader table) page_hold h b)
+BytesSeen = (table : Table) (h : Held PageState) (b : ℕ) → is_right (seen_open h.state.inside) ≡ true
+    → SeesByte (coarse_byte (seen h) b) (byte_step (page_reader table) page_hold h b)
 
+-- the token is that of a rest that no piece begins
 abbrev pub is_bad : PageToken → Bool
 is_bad token.Bad = true
 is_bad t = false

@@ -11,19 +11,23 @@ use Rattle.page_model.specs.Places.{Place}
 use Rattle.page_steps.specs.PageSteps.{PageState}
 use Rattle.broken_pages.specs.Coarse.{Coarse, content, reference, opener, tag, quotes, end_tag, comment, section, target, instruction, words, word_quotes, closing, doctype, doctype_quotes, wide}
 
+-- what is seen of a tag: whether a value is open in it
 abbrev pub tag_seen : OpenAttribute → Coarse
 tag_seen (in_value name quote v) = quotes quote
 tag_seen o = tag
 
+-- what is seen of the XML declaration: whether a value is open in it
 abbrev pub words_seen : OpenAttribute → Coarse
 words_seen (in_value name quote v) = word_quotes quote
 words_seen o = words
 
+-- what is seen of a document type declaration: whether a literal is open in it
 abbrev pub doctype_seen : OpenDoctype → Coarse
 doctype_seen (in_public quote o) = doctype_quotes quote
 doctype_seen (in_system quote) = doctype_quotes quote
 doctype_seen o = doctype
 
+-- what is seen of an open piece
 abbrev pub seen_open : Open → Coarse
 seen_open nothing = content
 seen_open (in_reference r) = reference
@@ -52,7 +56,8 @@ is_right (word_quotes quote) = is_quote quote
 is_right (doctype_quotes quote) = is_quote quote
 is_right x = true
 
--- what the coarse reader makes of a byte answers the move of the reader: where this goes on, it leads to what is seen then, and the quotes are right;
+-- what the coarse reader makes of a byte answers the move of the reader: where this goes on, it leads to what is seen then, and the quotes
+-- are right;
 -- where a piece ends, to content
 abbrev pub SeesByte : Option Coarse → Move Place PageToken (Held PageState) → Type 0
 SeesByte o (go g) = (o ≡ Some (seen g)) × (is_right (seen_open g.state.inside) ≡ true)

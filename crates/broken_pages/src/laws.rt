@@ -2,6 +2,8 @@
 
 ghost use Rattle.broken_pages.specs.Laws.{BrokenIsBad, BrokenNotValid, BytesSeen};
 
+pub use page_reads::laws::page_tokens_read;
+
 /// A byte more: where the reader of a page goes on, the coarse reader leads to what is seen then,
 /// and where a piece ends, to content; so where the coarse reader fails, the reader of a page
 /// fails.

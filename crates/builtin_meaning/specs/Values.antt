@@ -33,11 +33,13 @@ escaped a = go_on (as_text a) (λ t. if is_utf8 t then within_length (html_of t)
 
 -- `str_replace(search, with, s)`
 abbrev pub replaced : Plain → Plain → Plain → Result Plain Fault
-replaced search with s = go_on (as_text search) (λ old. go_on (as_text with) (λ new. go_on (as_text s) (λ t. within_length (replaced_text old new t))))
+replaced search with s = go_on (as_text search) (λ old. go_on (as_text with)
+    (λ new. go_on (as_text s) (λ t. within_length (replaced_text old new t))))
 
 -- `substr(s, start, length)`, and to the end where the length is null or left out
 abbrev pub cut : Plain → Plain → Plain → Result Plain Fault
-cut s start len = go_on (as_text s) (λ t. go_on (number_of start) (λ from. go_on (as_optional_number len) (λ n. within_length (part_of t from n))))
+cut s start len = go_on (as_text s) (λ t. go_on (number_of start) (λ from. go_on (as_optional_number len)
+    (λ n. within_length (part_of t from n))))
 
 -- an array of texts under 0, 1, 2 and so on
 abbrev pub numbered_from : ℕ → List (List ℕ) → Pairs

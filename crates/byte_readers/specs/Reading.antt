@@ -4,6 +4,7 @@ use Rattle.text_base.specs.declared.page_token.PageToken.{PageToken}
 use Rattle.byte_readers.specs.declared.emit.Emit.{Emit}
 use Rattle.byte_readers.specs.declared.emit.Emit.TheVariants.{Nothing, One, Two}
 
+-- the tokens that are put out at once, at most two
 abbrev pub emitted : Emit → List PageToken
 emitted Nothing = []
 emitted (One t) = t ∷ []

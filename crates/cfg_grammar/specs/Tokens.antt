@@ -6,6 +6,7 @@ use Rattle.cfg_grammar.specs.declared.symbol.Symbol.TheVariants.{Range, Token, N
 use Rattle.cfg_grammar.specs.declared.production.Production.{Production}
 use Rattle.cfg_grammar.specs.Below.{symbols_of}
 
+-- whether the symbol is a range of bytes or a nonterminal, and no page token
 abbrev pub is_no_token : Symbol → Bool
 is_no_token (Range range) = true
 is_no_token (Token token) = false

@@ -21,7 +21,8 @@ continues b = is_in_range 0x80 0xBF b
 
 -- the second byte of a character of three or four bytes, by its first
 abbrev pub is_second : ℕ → ℕ → Bool
-is_second a b = is_in_range (if a == 0xE0 then 0xA0 else (if a == 0xF0 then 0x90 else 0x80)) (if a == 0xED then 0x9F else (if a == 0xF4 then 0x8F else 0xBF)) b
+is_second a b = is_in_range (if a == 0xE0 then 0xA0 else (if a == 0xF0 then 0x90 else 0x80))
+    (if a == 0xED then 0x9F else (if a == 0xF4 then 0x8F else 0xBF)) b
 
 -- the first bytes of a character, but not all
 unfoldable pub is_begun : List ℕ → Bool

@@ -15,9 +15,11 @@ pub record Held (S : Type 0) : Type 0 where
   pub state : S
   pub begun : List ℕ
 
+-- the state with no character open
 abbrev pub at_state : {S : Type 0} → S → Held S
 at_state s = record { state = s; begun = [] }
 
+-- a move of the reader of characters, with no character open behind it
 abbrev pub lifted : {P T S : Type 0} → Move P T S → Move P T (Held S)
 lifted (go s) = go (at_state s)
 lifted (done place tokens) = done place tokens
@@ -28,16 +30,23 @@ abbrev pub by_character : {P T S : Type 0} → Reader P T S → (S → S) → S 
 by_character r hold s bytes (Some c) = lifted (r.step s c)
 by_character r hold s bytes None = if is_begun bytes then go (record { state = hold s; begun = bytes }) else fail
 
+-- one byte more: behind a whole character the move by it, and inside one the bytes so far are held
 abbrev pub byte_step : {P T S : Type 0} → Reader P T S → (S → S) → Held S → ℕ → Move P T (Held S)
 byte_step r hold h b = by_character r hold h.state (h.begun ++ b ∷ []) (decoded (h.begun ++ b ∷ []))
 
+-- whether there is any byte
 abbrev pub is_some_byte : List ℕ → Bool
 is_some_byte [] = false
 is_some_byte (b ∷ bytes) = true
 
 -- the reader by bytes
 abbrev pub encoded : {P T S : Type 0} → Reader P T S → (S → S) → Reader P T (Held S)
-encoded r hold = record { first = λ place. at_state (r.first place); step = byte_step r hold; is_open = λ h. is_some_byte h.begun || r.is_open h.state; bad = r.bad }
+encoded r hold = record {
+  first = λ place. at_state (r.first place);
+  step = byte_step r hold;
+  is_open = λ h. is_some_byte h.begun || r.is_open h.state;
+  bad = r.bad;
+}
 
 -- what is asked of the reader of characters
 pub record ByCharacters {P T S : Type 0} (r : Reader P T S) (hold : S → S) : Type 0 where

@@ -7,4 +7,5 @@ use Rattle.chart_grammar.specs.declared.fronts.Front.{Front}
 -- to its last
 pub data StandsFor (base : ℕ) (fronts : List Front) : ℕ → List Symbol → Type 0 where
   nothing : StandsFor base fronts 0 []
-  longer : (n before : ℕ) (last : Symbol) (symbols : List Symbol) → slice_get fronts n ≡ Some (record { before = before; last = last }) → StandsFor base fronts before symbols → StandsFor base fronts (base + n) (symbols ++ last ∷ [])
+  longer : (n before : ℕ) (last : Symbol) (symbols : List Symbol) → slice_get fronts n ≡ Some (record { before = before; last = last })
+      → StandsFor base fronts before symbols → StandsFor base fronts (base + n) (symbols ++ last ∷ [])

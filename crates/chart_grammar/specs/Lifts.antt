@@ -22,6 +22,7 @@ use Rattle.chart_grammar.specs.declared.lifts.Last.{Last}
 use Rattle.chart_grammar.specs.Outs.{IsOutput}
 use Rattle.chart_grammar.specs.Fronts.{StandsFor}
 
+-- the nonterminal of this number, as a symbol
 abbrev pub nt_of : ℕ → Symbol
 nt_of n = Nt (record { 0 = n })
 
@@ -31,12 +32,14 @@ RightLift fs Empty from Nothing right = right ≡ Empty
 RightLift fs Empty from (First t) right = ⊥
 RightLift fs Empty from (Both t u) right = ⊥
 RightLift fs (One x) from Nothing right = ⊥
-RightLift fs (One x) from (First t) right = (j : ℕ) × (slice_get fs j ≡ Some (record { symbol = x; from = from; to = t })) × (right ≡ One (nt_of (suc j)))
+RightLift fs (One x) from (First t) right =
+    (j : ℕ) × (slice_get fs j ≡ Some (record { symbol = x; from = from; to = t })) × (right ≡ One (nt_of (suc j)))
 RightLift fs (One x) from (Both t u) right = ⊥
 RightLift fs (Two x y) from Nothing right = ⊥
 RightLift fs (Two x y) from (First t) right = ⊥
 RightLift fs (Two x y) from (Both t u) right =
-    (j : ℕ) × (i : ℕ) × (slice_get fs j ≡ Some (record { symbol = x; from = from; to = t })) × (slice_get fs i ≡ Some (record { symbol = y; from = t; to = u })) × (right ≡ Two (nt_of (suc j)) (nt_of (suc i)))
+    (j : ℕ) × (i : ℕ) × (slice_get fs j ≡ Some (record { symbol = x; from = from; to = t }))
+    × (slice_get fs i ≡ Some (record { symbol = y; from = t; to = u })) × (right ≡ Two (nt_of (suc j)) (nt_of (suc i)))
 
 -- the production of a begun production that is read whole
 pub record WholeLift (ps : List Production) (fs : List Passage) (b : Begun) (p : Production) : Type 0 where
@@ -65,6 +68,7 @@ pub record ReadLift (fs : List Passage) (fr : List Front) (base : ℕ) (r : Read
   pub left : p.left ≡ record { 0 = suc number }
   pub right : p.right ≡ front_right front
 
+-- what stands for a front: its last symbol, behind the nonterminal of what is before it, where that is not 0
 abbrev pub front_by : ℕ → Symbol → Right
 front_by zero last = One last
 front_by (suc n) last = Two (nt_of (suc n)) last
@@ -96,7 +100,8 @@ pub record EndLift (from : nt.Nt) (fs : List Passage) (fr : List Front) (base : 
   pub right : p.right ≡ end_by (suc number) front
 
 -- the production is one of these
-pub data IsLift (ps : List Production) (from : nt.Nt) (bs : List Begun) (fs : List Passage) (rs : List Reading) (fr : List Front) (base : ℕ) (ls : List Last) (p : Production) : Type 0 where
+pub data IsLift (ps : List Production) (from : nt.Nt) (bs : List Begun) (fs : List Passage) (rs : List Reading) (fr : List Front) (base : ℕ)
+    (ls : List Last) (p : Production) : Type 0 where
   whole : (b : Begun) → Contains bs b → awaited_of ps b ≡ None → WholeLift ps fs b p → IsLift ps from bs fs rs fr base ls p
   of_reading : (r : Reading) (part : ByteRange) → Contains rs r → ReadLift fs fr base r part p → IsLift ps from bs fs rs fr base ls p
   of_front : FrontLift fr base p → IsLift ps from bs fs rs fr base ls p
@@ -104,11 +109,13 @@ pub data IsLift (ps : List Production) (from : nt.Nt) (bs : List Begun) (fs : Li
 
 -- the begun production has its production, if it is read whole
 abbrev pub HasWhole : List Production → List Passage → Begun → List Production → Type 0
-HasWhole ps fs b qs = (q : Production) → awaited_of ps b ≡ None → slice_get ps b.place ≡ Some q → Contains fs (passage_by q b) → HasRead fs q.right b.from b.read → (p : Production) × Contains qs p × WholeLift ps fs b p
+HasWhole ps fs b qs = (q : Production) → awaited_of ps b ≡ None → slice_get ps b.place ≡ Some q → Contains fs (passage_by q b)
+    → HasRead fs q.right b.from b.read → (p : Production) × Contains qs p × WholeLift ps fs b p
 
 -- the reading has a production by each of its bytes
 abbrev pub HasReading : List Passage → List Front → ℕ → Reading → List Production → Type 0
-HasReading fs fr base r qs = (byte : ℕ) → InRange r.range byte → Contains fs (record { symbol = Range r.asked; from = r.from; to = r.to }) → (part : ByteRange) × (p : Production) × InRange part byte × Contains qs p × ReadLift fs fr base r part p
+HasReading fs fr base r qs = (byte : ℕ) → InRange r.range byte → Contains fs (record { symbol = Range r.asked; from = r.from; to = r.to })
+    → (part : ByteRange) × (p : Production) × InRange part byte × Contains qs p × ReadLift fs fr base r part p
 
 -- the production of the front n
 abbrev pub front_production : ℕ → ℕ → Front → Production
@@ -116,13 +123,17 @@ front_production base n f = record { left = record { 0 = base + n }; right = fro
 
 -- each front has its production, if the nonterminals in it are those of passages and fronts
 abbrev pub HasFronts : List Front → ℕ → List Production → Type 0
-HasFronts fr base qs = (n : ℕ) (f : Front) → slice_get fr n ≡ Some f → IsTrue (production_below (base + length fr) (front_production base n f)) → Contains qs (front_production base n f)
+HasFronts fr base qs = (n : ℕ) (f : Front) → slice_get fr n ≡ Some f
+    → IsTrue (production_below (base + length fr) (front_production base n f)) → Contains qs (front_production base n f)
 
+-- where the machine may end, and a passage of the start leads there, the output has its production
 abbrev pub HasEnd : nt.Nt → List Passage → List Front → ℕ → Last → List Production → Type 0
-HasEnd from fs fr base l qs = Contains fs (record { symbol = Nt from; from = 0; to = l.state }) → (p : Production) × Contains qs p × EndLift from fs fr base l p
+HasEnd from fs fr base l qs = Contains fs (record { symbol = Nt from; from = 0; to = l.state })
+    → (p : Production) × Contains qs p × EndLift from fs fr base l p
 
 -- all of them are there, and nothing else
-pub record AreLifts (ps : List Production) (from : nt.Nt) (bs : List Begun) (fs : List Passage) (rs : List Reading) (fr : List Front) (base : ℕ) (ls : List Last) (qs : List Production) : Type 0 where
+pub record AreLifts (ps : List Production) (from : nt.Nt) (bs : List Begun) (fs : List Passage) (rs : List Reading) (fr : List Front)
+    (base : ℕ) (ls : List Last) (qs : List Production) : Type 0 where
   pub only : (p : Production) → Contains qs p → IsLift ps from bs fs rs fr base ls p
   pub wholes : All (λ (b : Begun). HasWhole ps fs b qs) bs
   pub readings : All (λ (r : Reading). HasReading fs fr base r qs) rs

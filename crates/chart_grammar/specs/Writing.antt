@@ -16,28 +16,36 @@ use Rattle.chart_grammar.specs.Lifts.{WholeLift, ReadLift, FrontLift, EndLift, H
 use Rattle.cfg_grammar.specs.Below.{production_below}
 use Rattle.chart_grammar.specs.Written.{WritesOne, WritesAll}
 
+-- what is written for a begun production: its production, where it is read whole
 abbrev pub WholeMade : List Production → List Passage → List Front → Begun → Production → Type 0
 WholeMade ps fs fr b p = (awaited_of ps b ≡ None) × WholeLift ps fs b p
 
+-- a begun production that is read whole has its production
 abbrev pub WholeHas : List Production → List Passage → List Front → Begun → List Production → Type 0
 WholeHas ps fs fr b qs = HasWhole ps fs b qs
 
+-- what is written for a reading: the production of its output for a part of its range
 abbrev pub ReadMade : List Passage → ℕ → List Front → Reading → Production → Type 0
 ReadMade fs base fr r p = (part : ByteRange) × ReadLift fs fr base r part p
 
+-- a reading has a production for each of its bytes
 abbrev pub ReadHas : List Passage → ℕ → List Front → Reading → List Production → Type 0
 ReadHas fs base fr r qs = HasReading fs fr base r qs
 
+-- what is written for an end: the production of its output
 abbrev pub EndMade : nt.Nt → List Passage → ℕ → List Front → Last → Production → Type 0
 EndMade from fs base fr l p = EndLift from fs fr base l p
 
+-- an end has the production of its output, where a passage of the start leads there
 abbrev pub EndHas : nt.Nt → List Passage → ℕ → List Front → Last → List Production → Type 0
 EndHas from fs base fr l qs = HasEnd from fs fr base l qs
 
 -- a part of a reading has its production
 abbrev pub HasPart : List Passage → ℕ → Reading → List Front → ByteRange → List Production → Type 0
-HasPart fs base r fr part qs = Contains fs (record { symbol = Range r.asked; from = r.from; to = r.to }) → (p : Production) × Contains qs p × ReadLift fs fr base r part p
+HasPart fs base r fr part qs = Contains fs (record { symbol = Range r.asked; from = r.from; to = r.to })
+    → (p : Production) × Contains qs p × ReadLift fs fr base r part p
 
+-- what is written for a part of a reading: the production of its output
 abbrev pub PartMade : List Passage → ℕ → Reading → List Front → ByteRange → Production → Type 0
 PartMade fs base r fr part p = ReadLift fs fr base r part p
 
@@ -49,7 +57,8 @@ pub record WritesSome (fs : List Passage) (base : ℕ) (r : Reading) (w v : List
 
 -- some part with the byte has its production
 abbrev pub HasByte : List Passage → ℕ → Reading → List Front → ℕ → List Production → Type 0
-HasByte fs base r fr byte qs = Contains fs (record { symbol = Range r.asked; from = r.from; to = r.to }) → (part : ByteRange) × (p : Production) × InRange part byte × Contains qs p × ReadLift fs fr base r part p
+HasByte fs base r fr byte qs = Contains fs (record { symbol = Range r.asked; from = r.from; to = r.to })
+    → (part : ByteRange) × (p : Production) × InRange part byte × Contains qs p × ReadLift fs fr base r part p
 
 -- the production of a front is written, if its nonterminals are below the count
 pub record AddsFront (base count n : ℕ) (f : Front) (old new : List Production) : Type 0 where

@@ -10,7 +10,7 @@ mod decided;
 #[cfg(test)]
 mod definitions;
 #[cfg(test)]
-mod derivations;
+mod derived;
 #[cfg(test)]
 mod ending;
 #[cfg(test)]

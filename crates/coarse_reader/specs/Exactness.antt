@@ -305,6 +305,7 @@ of_doctypequotes x Closing e = cc
 of_doctypequotes x Doctype e = cc
 of_doctypequotes x (DoctypeQuotes y) e = ap (λ (z : ℕ). DoctypeQuotes z) (exact_unsigned_eq x y e)
 
+-- coarse states that are found equal are one
 pub exact_state : (a b : CoarseState) → (states.ghosts).eq a b ≡ true → a ≡ b
 exact_state Failed q e = of_failed q e
 exact_state Content q e = of_content q e

@@ -16,4 +16,5 @@ TellsBroken = (page : List ℕ) → tokens_over next_state put_at put_last state
 
 -- so the machine of the reader finds pages that are good by no definition
 abbrev pub FindsBroken : Type 0
-FindsBroken = (table : Table) → IsLawfulTable table → IsBrokenMachine table state.Content (EchoStep next_state put_at put_last) (EchoEnd next_state put_at put_last)
+FindsBroken = (table : Table) → IsLawfulTable table
+    → IsBrokenMachine table state.Content (EchoStep next_state put_at put_last) (EchoEnd next_state put_at put_last)

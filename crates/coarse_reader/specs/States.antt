@@ -1,4 +1,5 @@
--- What the states in memory stand for, and what the reader does in them: as the coarse reader of broken_pages, but that it goes on where it has failed.
+-- What the states in memory stand for, and what the reader does in them: as the coarse reader of broken_pages, but that it goes on where it
+-- has failed.
 use Rattle.std.specs.Prelude.{ℕ, if◌then◌else◌, List, [], ◌∷◌, Option, Some, None}
 use Rattle.text_base.specs.declared.page_token.PageToken.{PageToken}
 use Rattle.text_base.specs.declared.page_token.PageToken.TheVariants as token
@@ -43,6 +44,7 @@ coded_open closing = state.Closing
 coded_open doctype = state.Doctype
 coded_open (doctype_quotes quote) = state.DoctypeQuotes quote
 
+-- the state in memory that stands for this one, or for none
 abbrev pub coded : Option Coarse → CoarseState
 coded None = state.Failed
 coded (Some x) = coded_open x
@@ -52,6 +54,7 @@ abbrev pub wide_on : Option Coarse → Option Coarse
 wide_on None = None
 wide_on (Some x) = Some (wide x)
 
+-- one byte below 128 more, where it has not failed
 abbrev pub step_on : Option Coarse → ℕ → Option Coarse
 step_on None b = None
 step_on (Some x) b = coarse_step x b
@@ -61,6 +64,7 @@ abbrev pub read_on : Option Coarse → ℕ → Option Coarse
 read_on None b = None
 read_on (Some x) b = coarse_byte x b
 
+-- the state in memory behind a byte
 abbrev pub next_state : CoarseState → ℕ → CoarseState
 next_state s b = coded (read_on (seen s) b)
 
@@ -70,6 +74,7 @@ put_between (Some x) None = token.Bad ∷ []
 put_between (Some x) (Some y) = []
 put_between None o = []
 
+-- what is put out at a byte
 abbrev pub put_at : CoarseState → ℕ → List PageToken
 put_at s b = put_between (seen s) (read_on (seen s) b)
 
@@ -78,5 +83,6 @@ abbrev pub put_behind : Option Coarse → List PageToken
 put_behind None = []
 put_behind (Some x) = if is_whole (Some x) then [] else token.Bad ∷ []
 
+-- what is put out where the text ends
 abbrev pub put_last : CoarseState → List PageToken
 put_last s = put_behind (seen s)

@@ -18,6 +18,7 @@ pub data Asked : Type 0 where
 abbrev pub Values : Type 0
 Values = Text → Option Text
 
+-- one of `0`..`9`
 abbrev pub is_digit : ℕ → Bool
 is_digit byte = nat_lt 47 byte && nat_lt byte 58
 
@@ -36,24 +37,30 @@ abbrev pub is_given : Option Text → Bool
 is_given None = false
 is_given (Some text) = bytes_eq text (codes "true")
 
+-- the document type that is named, or `strict`
 abbrev pub definition_of : Values → Text
 definition_of values = unwrap_or (values (codes "dtd")) (codes "strict")
 
+-- what `check` asks for; None where the file is missing or the limit is no number
 abbrev pub asked_check : Values → Option Asked
 asked_check values = option_and_then (λ file. option_map
     (λ limit. check file (definition_of values) limit (is_given (values (codes "nesting"))) (is_given (values (codes "json"))))
     (number_or 10000 (values (codes "limit")))) (values (codes "FILE"))
 
+-- what `run` asks for; None where the file is missing or the most steps are no number
 abbrev pub asked_run : Values → Option Asked
 asked_run values = option_and_then (λ file. option_map (run file (values (codes "request")))
     (number_or 10000000 (values (codes "steps")))) (values (codes "FILE"))
 
+-- what `page` asks for; None where the file is missing
 abbrev pub asked_page : Values → Option Asked
 asked_page values = option_map (λ file. page file (definition_of values)) (values (codes "FILE"))
 
+-- what `grammar` asks for; None where the file is missing
 abbrev pub asked_grammar : Values → Option Asked
 asked_grammar values = option_map grammar (values (codes "FILE"))
 
+-- what `make` asks for; None where the number of functions is missing or none
 abbrev pub asked_make : Values → Option Asked
 asked_make values = option_map (λ functions. make functions (is_given (values (codes "check"))))
     (option_and_then number_of (values (codes "N")))

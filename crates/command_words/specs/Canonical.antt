@@ -24,6 +24,7 @@ part_words (joined name value) = (45 ∷ 45 ∷ name ++ 61 ∷ value) ∷ []
 part_words (apart name value) = (45 ∷ 45 ∷ name) ∷ value ∷ []
 part_words (flag name) = (45 ∷ 45 ∷ name) ∷ []
 
+-- the words of the parts, one part behind the other
 abbrev pub parts_words : List Part → List Text
 parts_words [] = []
 parts_words (part ∷ parts) = part_words part ++ parts_words parts
@@ -37,10 +38,12 @@ last_words (Some value) = (45 ∷ 45 ∷ []) ∷ value ∷ []
 abbrev pub all_words : List Part → Option Text → List Text
 all_words parts last = parts_words parts ++ last_words last
 
+-- the name is one of these
 abbrev pub IsAmong : Text → List Text → Type 0
 IsAmong name [] = ⊥
 IsAmong name (other ∷ others) = (name ≡ other) ⊎ IsAmong name others
 
+-- whether the name is one of these, byte by byte
 abbrev pub is_among : Text → List Text → Bool
 is_among name names = list_any (λ other. bytes_eq other name) names
 
@@ -69,6 +72,7 @@ abbrev pub IsEnd : Text → List Text → Option Text → Type 0
 IsEnd at before None = is_among at before ≡ true
 IsEnd at before (Some value) = IsPlain value × (is_among at before ≡ false)
 
+-- each part is one of the command's that stood neither among these names nor before it, and the place stands once
 abbrev pub AreParts : Names → List Text → List Part → Option Text → Type 0
 AreParts names before [] last = IsEnd names.place before last
 AreParts names before (part ∷ parts) last = IsPart names before part × AreParts names (name_of names.place part ∷ before) parts last
@@ -84,6 +88,7 @@ part_value (joined name value) = value
 part_value (apart name value) = value
 part_value (flag name) = codes "true"
 
+-- what the value behind `--` says of the argument of this name: it is that of the place
 abbrev pub last_value : Text → Option Text → Text → Option Text
 last_value at None name = None
 last_value at (Some value) name = if bytes_eq at name then Some value else None
@@ -93,18 +98,23 @@ abbrev pub given : Text → List Part → Option Text → Text → Option Text
 given at [] last name = last_value at last name
 given at (part ∷ parts) last name = if bytes_eq (name_of at part) name then Some (part_value part) else given at parts last name
 
+-- the arguments of `check`
 abbrev pub check_names : Names
 check_names = record { place = codes "FILE"; options = codes "dtd" ∷ codes "limit" ∷ []; flags = codes "nesting" ∷ codes "json" ∷ [] }
 
+-- the arguments of `run`
 abbrev pub run_names : Names
 run_names = record { place = codes "FILE"; options = codes "request" ∷ codes "steps" ∷ []; flags = [] }
 
+-- the arguments of `page`
 abbrev pub page_names : Names
 page_names = record { place = codes "FILE"; options = codes "dtd" ∷ []; flags = [] }
 
+-- the argument of `grammar`
 abbrev pub grammar_names : Names
 grammar_names = record { place = codes "FILE"; options = []; flags = [] }
 
+-- the arguments of `make`
 abbrev pub make_names : Names
 make_names = record { place = codes "N"; options = []; flags = codes "check" ∷ [] }
 
@@ -116,7 +126,8 @@ pub data IsCanonical (words : List Text) (for : Asked) : Type 0 where
       → asked_run (given (codes "FILE") parts last) ≡ Some for → IsCanonical words for
   of_page : (parts : List Part) (last : Option Text) → AreCanonical page_names parts last → words ≡ codes "page" ∷ all_words parts last
       → asked_page (given (codes "FILE") parts last) ≡ Some for → IsCanonical words for
-  of_grammar : (parts : List Part) (last : Option Text) → AreCanonical grammar_names parts last → words ≡ codes "grammar" ∷ all_words parts last
+  of_grammar : (parts : List Part) (last : Option Text) → AreCanonical grammar_names parts last
+      → words ≡ codes "grammar" ∷ all_words parts last
       → asked_grammar (given (codes "FILE") parts last) ≡ Some for → IsCanonical words for
   of_make : (parts : List Part) (last : Option Text) → AreCanonical make_names parts last → words ≡ codes "make" ∷ all_words parts last
       → asked_make (given (codes "N") parts last) ≡ Some for → IsCanonical words for

@@ -19,18 +19,24 @@ flag name = record (new_rule name) { long = Some name; action = Some SetTrue }
 abbrev command : Text → List Rule → App
 command name arguments = fold with_rule (new_app name) arguments
 
+-- `phpsa check`: the file, the document type, the limit on the grammar, and the flags for nesting alone and for JSON
 abbrev pub check : App
-check = command (codes "check") (place (codes "FILE") ∷ option (codes "dtd") ∷ option (codes "limit") ∷ flag (codes "nesting") ∷ flag (codes "json") ∷ [])
+check = command (codes "check")
+    (place (codes "FILE") ∷ option (codes "dtd") ∷ option (codes "limit") ∷ flag (codes "nesting") ∷ flag (codes "json") ∷ [])
 
+-- `phpsa run`: the file, the file of the request, and the most steps
 abbrev pub run : App
 run = command (codes "run") (place (codes "FILE") ∷ option (codes "request") ∷ option (codes "steps") ∷ [])
 
+-- `phpsa page`: the file and the document type
 abbrev pub page : App
 page = command (codes "page") (place (codes "FILE") ∷ option (codes "dtd") ∷ [])
 
+-- `phpsa grammar`: the file
 abbrev pub grammar : App
 grammar = command (codes "grammar") (place (codes "FILE") ∷ [])
 
+-- `phpsa make`: a number of functions, and the flag that asks for a check
 abbrev pub make : App
 make = command (codes "make") (place (codes "N") ∷ flag (codes "check") ∷ [])
 
@@ -44,6 +50,7 @@ settings shape = record shape {
   subcommand_required = true;
 }
 
+-- the program before its commands are added
 abbrev pub base : App
 base = record { top = settings (new_app (codes "phpsa")).top; subs = [] }
 

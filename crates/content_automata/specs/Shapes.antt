@@ -7,6 +7,7 @@ use Rattle.content_positions.specs.Positions.{Position, places_of}
 use Rattle.content_positions.specs.Sets.{first_set}
 use Rattle.position_sets.specs.Views.{step_of}
 
+-- what the automaton of an element is made from
 pub data Shape : Type 0 where
   empty : Shape
   any : Shape
@@ -25,6 +26,7 @@ shape (children m) = model (first_set m) (places_of m)
 abbrev pub one_state : List Bool
 one_state = true ∷ []
 
+-- the state before the first child
 abbrev pub first_state : Shape → List Bool
 first_state empty = one_state
 first_state any = one_state

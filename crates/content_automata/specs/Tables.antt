@@ -14,18 +14,23 @@ Row = Bool × List (Option ℕ)
 abbrev pub Table : Type 0
 Table = List ℕ × List Row × List ℕ
 
+-- the row of a state; where there is no such state, one of no end and no element
 abbrev pub row_at : Table → ℕ → Row
 row_at t s = slice_index_or t.1 s (false, [])
 
+-- the number of the state that an element begins in; 0 for one that is not declared
 abbrev pub first_at : Table → ℕ → ℕ
 first_at t e = slice_index_or t.0 e 0
 
+-- the number of the state behind an element, if a match goes on so
 abbrev pub next_at : Table → ℕ → ℕ → Option ℕ
 next_at t s e = slice_index_or (row_at t s).1 e None
 
+-- whether a match may end in the state
 abbrev pub ends_at : Table → ℕ → Bool
 ends_at t s = (row_at t s).0
 
+-- the element of a state; 0 where there is no such state
 abbrev pub owner_at : Table → ℕ → ℕ
 owner_at t s = slice_index_or t.2 s 0
 
@@ -47,12 +52,14 @@ AreElements count es = (e : ℕ) → Contains es e → e < count
 abbrev pub Key : Type 0
 Key = ℕ × List Bool
 
+-- the same element and the same set of positions
 abbrev pub key_eq : Key → Key → Bool
 key_eq a b = nat_eq a.0 b.0 && pointwise beq a.1 b.1
 
 -- some children lead to the state
 abbrev pub IsReached : List Shape → Key → Type 0
-IsReached shapes k = (s : Shape) × (slice_get shapes k.0 ≡ Some s) × (es : List ℕ) × (states_walk (length shapes) s (first_state s) es ≡ Some k.1)
+IsReached shapes k = (s : Shape) × (slice_get shapes k.0 ≡ Some s) × (es : List ℕ)
+    × (states_walk (length shapes) s (first_state s) es ≡ Some k.1)
 
 -- there are at least so many states
 abbrev pub HasStates : List Shape → ℕ → Type 0
@@ -78,11 +85,13 @@ AddsFound old new element found = (k : Key) → Contains new k → Contains old 
 
 -- each state is one of the old ones, or one behind one of so many children
 abbrev pub Adds : List Key → List Key → ℕ → ℕ → (ℕ → Option (List Bool)) → Type 0
-Adds old new element count behind = (k : Key) → Contains new k → Contains old k ⊎ ((e : ℕ) × (e < count) × (k.0 ≡ element) × (behind e ≡ Some k.1))
+Adds old new element count behind = (k : Key) → Contains new k
+    → Contains old k ⊎ ((e : ℕ) × (e < count) × (k.0 ≡ element) × (behind e ≡ Some k.1))
 
 -- some children that are declared lead to the state
 abbrev pub IsLedTo : List Shape → Key → Type 0
-IsLedTo shapes k = (s : Shape) × (slice_get shapes k.0 ≡ Some s) × (es : List ℕ) × AreElements (length shapes) es × (states_walk (length shapes) s (first_state s) es ≡ Some k.1)
+IsLedTo shapes k = (s : Shape) × (slice_get shapes k.0 ≡ Some s) × (es : List ℕ) × AreElements (length shapes) es
+    × (states_walk (length shapes) s (first_state s) es ≡ Some k.1)
 
 -- and so to each state
 abbrev pub AllReached : List Shape → List Key → Type 0
@@ -103,7 +112,8 @@ pub record RowsFit (shapes : List Shape) (keys : List Key) (rows : List Row) (co
 -- the numbers are those of the states that so many elements begin in
 pub record FirstsFit (shapes : List Shape) (keys : List Key) (firsts : List ℕ) (count : ℕ) : Type 0 where
   pub long : length firsts ≡ count
-  pub fit : (e : ℕ) (s : Shape) → e < count → slice_get shapes e ≡ Some s → slice_get keys (slice_index_or firsts e 0) ≡ Some (e, first_state s)
+  pub fit : (e : ℕ) (s : Shape) → e < count → slice_get shapes e ≡ Some s
+      → slice_get keys (slice_index_or firsts e 0) ≡ Some (e, first_state s)
 
 -- the states that elements begin in have their flags
 abbrev pub AreSized : List Shape → Type 0

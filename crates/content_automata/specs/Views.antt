@@ -7,15 +7,18 @@ use Rattle.content_automata.specs.Shapes.{Shape, empty, any, text, model, first_
 use Rattle.content_automata.specs.Tables.{Key, Row, RowFits}
 use Rattle.content_automata.specs.declared.explore.State.{State}
 
+-- the plain form of what the automaton of an element is made from
 abbrev pub shape_of : Model → Shape
 shape_of Nothing = empty
 shape_of Anything = any
 shape_of (Text es) = text es.items
 shape_of (Children first places) = model first (positions_of places.items)
 
+-- the same for all elements, in their order
 abbrev pub shapes_of : List Model → List Shape
 shapes_of models = map shape_of models
 
+-- the plain form of a state's row
 abbrev pub row_of : State → Row
 row_of s = (s.ends, s.behind.items)
 

@@ -25,6 +25,7 @@ joined at e (p ∷ ps) = put_to (e == (at p).element) (at p).behind (joined at e
     put_to true next others = record { positions = next.positions ++ others.positions; whole = next.whole || others.whole }
     put_to false next others = others
 
+-- what may come next behind the element
 abbrev pub step : (ℕ → Position) → Next → ℕ → Next
 step at next e = joined at e next.positions
 

@@ -25,6 +25,9 @@ pub record IsDeclarationThen (cs rest : List ℕ) (next : Place) (given : List P
 
 -- the first white space is read
 pub record DeclarationsRead : Type 0 where
-  pub complete : (table : Table) (place : Place) (d : Declaration) (blank : ℕ) (left rest : List ℕ) → IsDeclaration d → is_blank blank ≡ true → words_then d rest ≡ blank ∷ left → read table place (in_declaration [] (between true)) left ≡ ends_with [] rest
-  pub sound : (table : Table) (place next : Place) (blank : ℕ) (left : List ℕ) (given : List PageToken) (rest : List ℕ) → is_blank blank ≡ true → read table place (in_declaration [] (between true)) left ≡ whole next given rest
+  pub complete : (table : Table) (place : Place) (d : Declaration) (blank : ℕ) (left rest : List ℕ) → IsDeclaration d
+      → is_blank blank ≡ true → words_then d rest ≡ blank ∷ left
+      → read table place (in_declaration [] (between true)) left ≡ ends_with [] rest
+  pub sound : (table : Table) (place next : Place) (blank : ℕ) (left : List ℕ) (given : List PageToken) (rest : List ℕ)
+      → is_blank blank ≡ true → read table place (in_declaration [] (between true)) left ≡ whole next given rest
       → IsDeclarationThen (blank ∷ left) rest next given

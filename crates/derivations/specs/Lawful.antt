@@ -30,7 +30,10 @@ byte_count (OfToken t ∷ w) = byte_count w
 
 -- what a list of nodes is a derivation of, the productions derive; a node's length is that of its sentence, or the most
 abbrev pub DerivationsDerive : Type 0
-DerivationsDerive = (productions : List Production) (nodes : List Node) (left : nt.Nt) (w : List Letter) → IsDerivation productions nodes left w → Derives productions (symbol.Nt left) w
+DerivationsDerive = (productions : List Production) (nodes : List Node) (left : nt.Nt) (w : List Letter)
+    → IsDerivation productions nodes left w → Derives productions (symbol.Nt left) w
 
+-- in a lawful list the length of a part is the number of bytes of its sentence, or the most
 abbrev pub LengthsAreRight : Type 0
-LengthsAreRight = (productions : List Production) (nodes : List Node) (p : Part) (a : Symbol) (w : List Letter) → AreLawful nodes → Stands productions nodes p a w → part_length nodes p ≡ min (byte_count w) most
+LengthsAreRight = (productions : List Production) (nodes : List Node) (p : Part) (a : Symbol) (w : List Letter) → AreLawful nodes
+    → Stands productions nodes p a w → part_length nodes p ≡ min (byte_count w) most

@@ -15,11 +15,13 @@ abbrev pub length_of : Option Node → ℕ
 length_of None = 0
 length_of (Some node) = node.length
 
+-- the length of a part: 1 for a byte, 0 for a page token, that of its node elsewhere
 abbrev pub part_length : List Node → Part → ℕ
 part_length nodes (Byte b) = 1
 part_length nodes (Token t) = 0
 part_length nodes (Inner n) = length_of (slice_get nodes n)
 
+-- the length of all parts, at most the most
 abbrev pub parts_length : List Node → Parts → ℕ
 parts_length nodes Empty = 0
 parts_length nodes (One a) = part_length nodes a
@@ -31,6 +33,7 @@ part_below n (Byte b) = true
 part_below n (Token t) = true
 part_below n (Inner m) = nat_lt m n
 
+-- each part is a letter or a node before this place
 abbrev pub parts_below : ℕ → Parts → Bool
 parts_below n Empty = true
 parts_below n (One a) = part_below n a

@@ -17,11 +17,18 @@ use Rattle.derivations.specs.declared.node.Node.{Node}
 
 -- the part is a derivation of the sentence from the symbol, by these productions (Hopcroft and Ullman, 4.3)
 pub data Stands (productions : List Production) (nodes : List Node) : Part → Symbol → List Letter → Type 0 where
-  by_byte : (range : ByteRange) (byte : ℕ) → InRange range byte → Stands productions nodes (Byte byte) (symbol.Range range) (OfByte byte ∷ [])
+  by_byte : (range : ByteRange) (byte : ℕ) → InRange range byte
+      → Stands productions nodes (Byte byte) (symbol.Range range) (OfByte byte ∷ [])
   by_token : (token : PageToken) → Stands productions nodes (Token token) (symbol.Token token) (OfToken token ∷ [])
-  by_empty : (n : ℕ) (node : Node) (left : nt.Nt) → slice_get nodes n ≡ Some node → slice_get productions node.production ≡ Some (record { left = left; right = right.Empty }) → node.parts ≡ Empty → Stands productions nodes (Inner n) (symbol.Nt left) []
-  by_one : (n : ℕ) (node : Node) (left : nt.Nt) (a : Symbol) (p : Part) (w : List Letter) → slice_get nodes n ≡ Some node → slice_get productions node.production ≡ Some (record { left = left; right = right.One a }) → node.parts ≡ One p → Stands productions nodes p a w → Stands productions nodes (Inner n) (symbol.Nt left) w
-  by_two : (n : ℕ) (node : Node) (left : nt.Nt) (a b : Symbol) (p q : Part) (v w : List Letter) → slice_get nodes n ≡ Some node → slice_get productions node.production ≡ Some (record { left = left; right = right.Two a b }) → node.parts ≡ Two p q → Stands productions nodes p a v → Stands productions nodes q b w → Stands productions nodes (Inner n) (symbol.Nt left) (v ++ w)
+  by_empty : (n : ℕ) (node : Node) (left : nt.Nt) → slice_get nodes n ≡ Some node
+      → slice_get productions node.production ≡ Some (record { left = left; right = right.Empty }) → node.parts ≡ Empty
+      → Stands productions nodes (Inner n) (symbol.Nt left) []
+  by_one : (n : ℕ) (node : Node) (left : nt.Nt) (a : Symbol) (p : Part) (w : List Letter) → slice_get nodes n ≡ Some node
+      → slice_get productions node.production ≡ Some (record { left = left; right = right.One a }) → node.parts ≡ One p
+      → Stands productions nodes p a w → Stands productions nodes (Inner n) (symbol.Nt left) w
+  by_two : (n : ℕ) (node : Node) (left : nt.Nt) (a b : Symbol) (p q : Part) (v w : List Letter) → slice_get nodes n ≡ Some node
+      → slice_get productions node.production ≡ Some (record { left = left; right = right.Two a b }) → node.parts ≡ Two p q
+      → Stands productions nodes p a v → Stands productions nodes q b w → Stands productions nodes (Inner n) (symbol.Nt left) (v ++ w)
 
 -- the root is the last node
 abbrev pub root_of : List Node → Part

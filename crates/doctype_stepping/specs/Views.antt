@@ -9,6 +9,7 @@ use Rattle.open_pieces.specs.Views.{plain_doctype}
 use Rattle.doctype_stepping.specs.declared.turn.DoctypeTurn.{DoctypeTurn}
 use Rattle.doctype_stepping.specs.declared.turn.DoctypeTurn.TheVariants.{On, Out, Stop}
 
+-- the plain form of a turn
 abbrev pub plain_turn : DoctypeTurn → Turn doctype.OpenDoctype
 plain_turn (On o) = on (plain_doctype o)
 plain_turn Out = out
@@ -20,13 +21,18 @@ wanted_turn text = if is_wanted (Some text) then on (doctype.behind_public false
 
 -- parts of `doctype_turn` that go by no rule
 abbrev pub before_next : Bool → ℕ → Turn doctype.OpenDoctype
-before_next spaced c = if is_blank c then on (doctype.before_root true) else (if c == 104 && spaced then on (doctype.in_root (codes "h")) else stop)
+before_next spaced c = if is_blank c then on (doctype.before_root true)
+    else (if c == 104 && spaced then on (doctype.in_root (codes "h")) else stop)
 
+-- behind a public literal: white space, or a quote behind some, which opens the system literal
 abbrev pub behind_public_next : Bool → ℕ → Turn doctype.OpenDoctype
-behind_public_next spaced c = if is_blank c then on (doctype.behind_public true) else (if is_quote c && spaced then on (doctype.in_system c) else stop)
+behind_public_next spaced c = if is_blank c then on (doctype.behind_public true)
+    else (if is_quote c && spaced then on (doctype.in_system c) else stop)
 
+-- in a system literal: its quote, or one more character
 abbrev pub system_next : ℕ → ℕ → Turn doctype.OpenDoctype
 system_next quote c = if c == quote then on doctype.behind_system else on (doctype.in_system quote)
 
+-- behind a system literal: white space, or the end
 abbrev pub behind_system_next : ℕ → Turn doctype.OpenDoctype
 behind_system_next c = if is_blank c then on doctype.behind_system else end_turn true c

@@ -20,6 +20,7 @@ pub data NamedType : Type 0 where
   mini_type : NamedType
   file_type : List ℕ → NamedType
 
+-- the plain form of a document type
 abbrev pub type_of : DocumentType → NamedType
 type_of Strict = strict_type
 type_of Mini = mini_type
@@ -27,7 +28,8 @@ type_of (File name) = file_type name.now
 
 -- the document type that the word names: `strict`, `mini`, or else that of the file whose name it is
 abbrev pub named_type : List ℕ → NamedType
-named_type word = if bytes_eq word (codes "strict") then strict_type else (if bytes_eq word (codes "mini") then mini_type else file_type word)
+named_type word = if bytes_eq word (codes "strict") then strict_type else
+    (if bytes_eq word (codes "mini") then mini_type else file_type word)
 
 -- the document type has this table, where the source of files tells this
 abbrev pub HasTable : Content → NamedType → Table → Type 0
@@ -63,6 +65,7 @@ IsTooLarge content (file_type name) count = PassesLimit content name count
 abbrev pub IsFileCause : SourceCall → NamedType → DtdRefusal → Type 0
 IsFileCause call named refusal = (name : List ℕ) × (named ≡ file_type name) × IsCause call name refusal
 
+-- why the built-in text has no table
 abbrev pub IsBuiltInCause : NamedType → DtdRefusal → Type 0
 IsBuiltInCause named refusal = (named ≡ strict_type) × IsRefused strict_bytes refusal
 

@@ -34,11 +34,13 @@ abbrev pub Gives : {A S : Type 0} → (A → S) → Result A Fault → Went S �
 Gives view (Ok a) w = w ≡ leads (view a)
 Gives view (Err fault) w = WentWrong fault w
 
+-- the plain form of what stands between the particles of a group
 abbrev pub separator_of : Separator → plain.Separator
 separator_of Unknown = plain.unknown
 separator_of ByBar = plain.by_bar
 separator_of ByComma = plain.by_comma
 
+-- the plain form of an open bracket
 abbrev pub group_of : Group → plain.Group
 group_of g = record { separator = separator_of g.separator; parts = map model_of g.parts.items }
 
@@ -46,9 +48,11 @@ group_of g = record { separator = separator_of g.separator; parts = map model_of
 abbrev pub groups_of : Groups → List plain.Group
 groups_of g = group_of g.inner ∷ map group_of (reverse g.outer.items)
 
+-- the numbers of elements, in their order
 abbrev pub numbers_of : List Elem → List ℕ
 numbers_of es = map (λ (e : Elem). e.0) es
 
+-- the plain form of a stage of a content model
 abbrev pub stage_of : Stage → plain.Stage
 stage_of BehindName = plain.behind_name
 stage_of AtContent = plain.at_content
@@ -65,6 +69,7 @@ stage_of (Done content) = plain.done (holding_of content)
 
 -- In attribute lists: the attributes so far stand beside the place.
 
+-- the plain form of a stage of an attribute list, with these attributes before it
 abbrev pub at_place : List Declared → Place → lists.Stage
 at_place ds Between = lists.between ds
 at_place ds AtName = lists.at_name ds
@@ -78,6 +83,7 @@ at_place ds (AtWord name kind) = lists.at_word ds name (kind_of kind)
 at_place ds (BehindFixed name kind) = lists.behind_fixed ds name (kind_of kind)
 at_place ds (AtFixed name kind) = lists.at_fixed ds name (kind_of kind)
 
+-- the plain form of the reading of an attribute list
 abbrev pub reading_of : Reading → lists.Stage
 reading_of r = at_place (map declared_of r.attributes.items) r.place
 

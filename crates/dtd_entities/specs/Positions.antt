@@ -26,6 +26,7 @@ place_of InLiteral text quote depth entity = in_literal text quote
 place_of InValue text quote depth entity = in_value entity quote text depth
 place_of BehindValue text quote depth entity = behind_value entity text
 
+-- the plain form of what an entity stands for
 abbrev pub plain_source : CodeSource → Source
 plain_source (Internal value) = internal value
 plain_source (External name) = external (string_bytes name)
@@ -35,12 +36,15 @@ abbrev pub plain_found : Option (Bor CodeSource) → Option Source
 plain_found None = None
 plain_found (Some s) = Some (plain_source s.now)
 
+-- the plain form of a declared parameter entity
 abbrev pub parameter_of : (List ℕ × CodeSource) → Parameter
 parameter_of p = record { name = p.0; source = plain_source p.1 }
 
+-- the plain form of a declaration of another kind
 abbrev pub written_of : CodeWritten → Written
 written_of w = record { text = w.text; at = w.at }
 
+-- the plain form of what is known behind some of the text
 abbrev pub state_of : Reading → State
 state_of r = record {
   place = place_of r.mode r.text r.quote r.depth (entity_by r.is_parameter r.name);

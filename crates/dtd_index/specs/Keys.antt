@@ -13,5 +13,6 @@ characters_of v = v.items
 abbrev pub element_names : List ElementRule → List (List ℕ)
 element_names rules = map (λ (r : ElementRule). r.name) rules
 
+-- the names of the elements, in the order of the rules
 abbrev pub names_of_rules : List Rule → List (List ℕ)
 names_of_rules rules = map (λ (r : Rule). r.name) rules

@@ -5,6 +5,7 @@ use Rattle.dtd_model.specs.Table.{Model, one, sequence, choice, optional, any_nu
 
 -- the particle matches no element at all
 unfoldable mutual
+  -- whether the empty list of elements matches the particle
   pub may_be_empty : Model → Bool
   may_be_empty (one e) = false
   may_be_empty (sequence ms) = all_may_be_empty ms
@@ -13,10 +14,12 @@ unfoldable mutual
   may_be_empty (any_number m) = true
   may_be_empty (at_least_one m) = may_be_empty m
 
+  -- whether the empty list matches each of the particles, so that it matches their sequence
   pub all_may_be_empty : Models → Bool
   all_may_be_empty no_models = true
   all_may_be_empty (more_models m ms) = may_be_empty m && all_may_be_empty ms
 
+  -- whether the empty list matches one of the particles, so that it matches the choice among them
   pub some_may_be_empty : Models → Bool
   some_may_be_empty no_models = false
   some_may_be_empty (more_models m ms) = may_be_empty m || some_may_be_empty ms
@@ -27,6 +30,7 @@ both a b = sequence (more_models a (more_models b no_models))
 
 -- what may follow the element `e`, where the particle begins with it
 unfoldable mutual
+  -- the derivative of the particle by the element: matched by just the lists that match the particle once the element is put before them
   pub after : ℕ → Model → Model
   after e (one f) = if e == f then sequence no_models else choice no_models
   after e (sequence ms) = choice (after_first e ms)
@@ -38,8 +42,10 @@ unfoldable mutual
   -- of a sequence: the element stands in its first particle, or in a later one if those before may be empty
   pub after_first : ℕ → Models → Models
   after_first e no_models = no_models
-  after_first e (more_models m ms) = more_models (sequence (more_models (after e m) ms)) (if may_be_empty m then after_first e ms else no_models)
+  after_first e (more_models m ms) =
+      more_models (sequence (more_models (after e m) ms)) (if may_be_empty m then after_first e ms else no_models)
 
+  -- of a choice: the derivative of each of its particles, in their order
   pub after_each : ℕ → Models → Models
   after_each e no_models = no_models
   after_each e (more_models m ms) = more_models (after e m) (after_each e ms)

@@ -4,6 +4,7 @@ use Rattle.std.specs.Prelude.{ℕ, List, [], ◌∷◌, codes}
 use Rattle.dtd_model.specs.declared.dtd.DoctypeRule.TheVariants.{Free}
 use Rattle.dtd_model.specs.Table.{one, sequence, any_number, no_models, more_models, Holding, text_and, children, Rule, Table}
 
+-- the declaration of an element without attributes
 abbrev pub plain_rule : List ℕ → Holding → Rule
 plain_rule name holding = record { name = name; holding = holding; attributes = [] }
 

@@ -5,6 +5,7 @@ use Rattle.std.specs.Char.{is_ascii_digit, is_ascii_hexdigit, digit_value}
 use Rattle.xml_text.specs.Characters.{is_character}
 use Rattle.xml_text.specs.Names.{is_name}
 
+-- a reference to a character by the digits of its number, or to an entity by its name (XML 1.0, 4.1)
 pub data Reference : Type 0 where
   -- `&#`, decimal digits, `;`
   decimal : List ℕ → Reference
@@ -19,6 +20,7 @@ reference_then (decimal digits) rest = 38 ∷ 35 ∷ (digits ++ 59 ∷ rest)
 reference_then (hexadecimal digits) rest = 38 ∷ 35 ∷ 120 ∷ (digits ++ 59 ∷ rest)
 reference_then (entity name) rest = 38 ∷ (name ++ 59 ∷ rest)
 
+-- whether there is a character at all
 abbrev pub is_some : List ℕ → Bool
 is_some [] = false
 is_some (c ∷ cs) = true

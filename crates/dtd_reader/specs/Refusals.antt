@@ -25,14 +25,18 @@ IsCause call name (Missing path) = IsAskedFor call.content name path × IsUnread
 IsCause call name (ReadFault path) = IsAskedFor call.content name path × IsUnread call path fault.Failed
 IsCause call name (TooLong path len) = IsAskedFor call.content name path × IsUnread call path (fault.TooLong len)
 IsCause call name (NotDtd at) =
-    (InFile call.content name (λ file. BreaksFirst call.content file at) ⊎ InDeclarations call.content name (λ written. GoesWrong written at refused)) × IsCalm call
+    (InFile call.content name (λ file. BreaksFirst call.content file at)
+    ⊎ InDeclarations call.content name (λ written. GoesWrong written at refused)) × IsCalm call
 IsCause call name (Entity entity) = InFile call.content name (λ file. Misses call.content file entity) × IsCalm call
 IsCause call name (Twice element) = InDeclarations call.content name (λ written. StandsTwice (element_names written) element) × IsCalm call
-IsCause call name (Undeclared element) = InDeclarations call.content name (λ written. (at : ℕ) × GoesWrong written at (undeclared element)) × IsCalm call
+IsCause call name (Undeclared element) =
+    InDeclarations call.content name (λ written. (at : ℕ) × GoesWrong written at (undeclared element)) × IsCalm call
 IsCause call name (LeftOut at) =
-    (InFile call.content name (λ file. Omits call.content file at) ⊎ InDeclarations call.content name (λ written. GoesWrong written at left_out)) × IsCalm call
+    (InFile call.content name (λ file. Omits call.content file at)
+    ⊎ InDeclarations call.content name (λ written. GoesWrong written at left_out)) × IsCalm call
 IsCause call name (Limit count) =
-    (InFile call.content name (λ file. IsOver call.content file count) ⊎ InDeclarations call.content name (λ written. IsTooMany written count)) × IsCalm call
+    (InFile call.content name (λ file. IsOver call.content file count)
+    ⊎ InDeclarations call.content name (λ written. IsTooMany written count)) × IsCalm call
 IsCause call name Memory = IsCalm call
 
 -- the refusal of declarations, as that of their definition

@@ -8,6 +8,7 @@ pub record Frame : Type 0 where
   pub name : List ℕ
   pub rest : List ℕ
 
+-- the names of the entities that are open, the last one first
 abbrev pub names : List Frame → List (List ℕ)
 names frames = map (λ (f : Frame). f.name) frames
 
@@ -21,6 +22,7 @@ pub record Position : Type 0 where
 abbrev pub first : List ℕ → Position
 first file = record { state = start; text = file; frames = [] }
 
+-- what is left of an entity's text is read to its end, and what stands behind the entity is so from there on
 pub record Through (content : Content) (outer : List (List ℕ)) (s : State) (text : List ℕ) (Rest : State → Type 0) : Type 0 where
   pub inner : State
   pub reads : Reads content outer s text inner
@@ -35,8 +37,11 @@ RestReads content (f ∷ frames) s text last = Through content (names (f ∷ fra
 abbrev pub RestMeets : Content → List Frame → State → List ℕ → List (List ℕ) → State → List ℕ → Type 0
 RestMeets content [] s text outer' s' text' = Meets content [] s text outer' s' text'
 RestMeets content (f ∷ frames) s text outer' s' text' =
-    Meets content (names (f ∷ frames)) s text outer' s' text' ⊎ Through content (names (f ∷ frames)) s text (λ next. RestMeets content frames next f.rest outer' s' text')
+    Meets content (names (f ∷ frames)) s text outer' s' text'
+    ⊎ Through content (names (f ∷ frames)) s text (λ next. RestMeets content frames next f.rest outer' s' text')
 
+-- where what is left leads to a state, or one comes to one in reading it, so it is for the whole file
 pub record SoFar (content : Content) (file : List ℕ) (p : Position) : Type 0 where
   pub reads : (last : State) → RestReads content p.frames p.state p.text last → Reads content [] start file last
-  pub meets : (outer' : List (List ℕ)) (s' : State) (text' : List ℕ) → RestMeets content p.frames p.state p.text outer' s' text' → Meets content [] start file outer' s' text'
+  pub meets : (outer' : List (List ℕ)) (s' : State) (text' : List ℕ) → RestMeets content p.frames p.state p.text outer' s' text'
+      → Meets content [] start file outer' s' text'

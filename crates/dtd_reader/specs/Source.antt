@@ -8,6 +8,7 @@ use Rattle.io_edge.specs.declared.files.FileFault.{FileFault}
 use Rattle.io_edge.specs.declared.files.FileFault.TheVariants.{Memory, Missing, Failed, TooLong}
 use Rattle.dtd_texts.specs.Reading.{Content}
 
+-- a source's contents, and its counts of faults and of misses before the call and (with a prime) after it
 pub record SourceCall : Type 0 where
   pub content : Content
   pub faults : ℕ
@@ -15,8 +16,15 @@ pub record SourceCall : Type 0 where
   pub misses : ℕ
   pub misses' : ℕ
 
+-- such a call by its parts
 abbrev pub source_call : Content → ℕ → ℕ → ℕ → ℕ → SourceCall
-source_call content faults faults' misses misses' = record { content = content; faults = faults; faults' = faults'; misses = misses; misses' = misses' }
+source_call content faults faults' misses misses' = record {
+  content = content;
+  faults = faults;
+  faults' = faults';
+  misses = misses;
+  misses' = misses';
+}
 
 -- neither count rose
 abbrev pub IsCalm : SourceCall → Type 0

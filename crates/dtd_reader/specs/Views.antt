@@ -15,6 +15,7 @@ use Rattle.dtd_reader.specs.declared.outcome.Outcome.TheVariants.{Goes, Ends, Br
 use Rattle.dtd_reader.specs.declared.outcome.Found.{Found}
 use Rattle.dtd_reader.specs.declared.outcome.Found.TheVariants.{Nowhere, NotRead, Text}
 
+-- the plain form of an open entity, with what is left of the text that refers to it
 abbrev pub frame_of : (List ℕ × Rest) → Frame
 frame_of f = record { name = f.0; rest = drop f.1.at f.1.text }
 
@@ -22,6 +23,7 @@ frame_of f = record { name = f.0; rest = drop f.1.at f.1.text }
 abbrev pub frames_of : Frames → List Frame
 frames_of f = map frame_of (reverse f.frames.entries)
 
+-- the plain form of a reader: where it is in the text, and which entities are open
 abbrev pub position_of : Reader → Position
 position_of r = record { state = state_of r.reading; text = drop r.at r.text; frames = frames_of r.frames }
 
@@ -37,7 +39,8 @@ Told content file (Unread name fault) old now = Asks content file name
 -- the text of an entity, where it is declared so far and not open
 abbrev pub IsFound : Content → State → List Frame → List ℕ → Found → Type 0
 IsFound content s frames name Nowhere = (is_among (names frames) name ≡ true) ⊎ (source_of s.parameters name ≡ None)
-IsFound content s frames name (NotRead system fault) = (is_among (names frames) name ≡ false) × (source_of s.parameters name ≡ Some (external system))
+IsFound content s frames name (NotRead system fault) =
+    (is_among (names frames) name ≡ false) × (source_of s.parameters name ≡ Some (external system))
 IsFound content s frames name (Text text) = (is_among (names frames) name ≡ false) × Stands content (source_of s.parameters name) text
 
 -- behind the beginning of an entity, whose reference has so many bytes
@@ -69,6 +72,7 @@ FoundCounts call Nowhere = IsCalm call
 FoundCounts call (NotRead name fault) = IsUnread call name fault
 FoundCounts call (Text text) = IsCalm call
 
+-- the counts behind one step: none rose, but where a file was not read
 abbrev pub OutcomeCounts : SourceCall → Outcome → Type 0
 OutcomeCounts call Goes = IsCalm call
 OutcomeCounts call Ends = IsCalm call

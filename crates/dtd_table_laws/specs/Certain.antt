@@ -23,7 +23,8 @@ AreShort content name = (path bytes : List ℕ) → IsAskedFor content name path
 -- there are so many bytes or references in the text, or elements, attributes of an element or open brackets in its declarations,
 -- and these are too many
 abbrev pub PassesLimit : Content → List ℕ → ℕ → Type 0
-PassesLimit content name count = InFile content name (λ file. IsOver content file count) ⊎ InDeclarations content name (λ written. IsTooMany written count)
+PassesLimit content name count =
+    InFile content name (λ file. IsOver content file count) ⊎ InDeclarations content name (λ written. IsTooMany written count)
 
 -- the refusal is for such a limit, or for want of memory
 abbrev pub IsForLimit : Content → List ℕ → DtdRefusal → Type 0

@@ -63,6 +63,7 @@ IsTooMany written count =
     ⊎ (((count ≡ bracket_limit + 1) × ((at : ℕ) × GoesWrong written at too_deep))
     ⊎ ((attribute_limit < count) × HasAttributes written count))
 
+-- why the declarations make no table, by the refusal; want of memory may be said of any
 abbrev pub IsTableCause : List Written → TableRefusal → Type 0
 IsTableCause written (Twice name) = StandsTwice (element_names written) name
 IsTableCause written (Undeclared name) = (at : ℕ) × GoesWrong written at (undeclared name)

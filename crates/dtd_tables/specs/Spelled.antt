@@ -6,6 +6,7 @@ use Rattle.dtd_texts.specs.Reading.{Written}
 use Rattle.dtd_texts.specs.Tables.{Said, rules_of}
 use Rattle.dtd_texts.specs.Spells.{Says}
 
+-- the declarations say something each, no element twice; the table has their rules and these entities, and wants no document type
 pub record IsTable (written : List Written) (generals : List (List ℕ)) (table : Table) : Type 0 where
   pub says : List Said
   pub said : Says written says

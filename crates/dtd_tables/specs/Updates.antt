@@ -9,6 +9,7 @@ use Rattle.dtd_texts.specs.Tables.{Said, element, attributes, is_declared, with_
 abbrev pub with_one : List Declared → Declared → List Declared
 with_one ds d = if is_declared ds d.name then ds else ds ++ d ∷ []
 
+-- a rule with these attributes behind its own, but for those of a name that it has already
 abbrev pub with_attributes : Rule → List Declared → Rule
 with_attributes rule ds = record rule { attributes = with_others rule.attributes ds }
 
@@ -23,6 +24,7 @@ lists_in [] = []
 lists_in (element name h ∷ says) = lists_in says
 lists_in (attributes name ds ∷ says) = attributes name ds ∷ lists_in says
 
+-- the names of the elements, in the order of the rules
 abbrev pub rule_names : List Rule → List (List ℕ)
 rule_names rules = map (λ (r : Rule). r.name) rules
 
@@ -30,6 +32,7 @@ rule_names rules = map (λ (r : Rule). r.name) rules
 abbrev pub HasFew : Rule → Type 0
 HasFew rule = length rule.attributes ≤ attribute_limit
 
+-- each rule has at most as many attributes as are allowed
 abbrev pub HaveFew : List Rule → Type 0
 HaveFew [] = Unit {0}
 HaveFew (rule ∷ rules) = HasFew rule × HaveFew rules

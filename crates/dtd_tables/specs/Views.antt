@@ -42,12 +42,15 @@ AddsName old new (Some name) (Ok done) = (new ≡ old ++ name ∷ []) × (is_amo
 AddsName old new None (Err refusal) = refusal ≡ Memory
 AddsName old new (Some name) (Err refusal) = IsNameCause (old ++ name ∷ []) refusal
 
+-- what an attribute list of the code says
 abbrev pub list_said : CodeList → Said
 list_said list = attributes list.name (map declared_of list.rules.items)
 
+-- the list is for a name (XML 1.0, 2.3, Name)
 abbrev pub IsNamed : CodeList → Type 0
 IsNamed list = is_name list.name ≡ true
 
+-- each of the lists is for a name
 abbrev pub AreNamed : List CodeList → Type 0
 AreNamed [] = Unit {0}
 AreNamed (list ∷ lists) = IsNamed list × AreNamed lists
@@ -86,6 +89,7 @@ pub record CrowdsRule (rules : List Rule) (name : List ℕ) (ds : List Declared)
   pub there : same name rule.name ≡ true
   pub crowded : IsCrowded (with_others rule.attributes ds) refusal
 
+-- why an attribute list is not put to the rules: its element has too many attributes then, or want of memory
 abbrev pub IsListCause : List Rule → CodeList → TableRefusal → Type 0
 IsListCause rules list (Twice name) = ⊥
 IsListCause rules list (Undeclared name) = ⊥
@@ -94,6 +98,7 @@ IsListCause rules list (LeftOut at) = ⊥
 IsListCause rules list (Limit count) = CrowdsRule rules list.name (map declared_of list.rules.items) (Limit count)
 IsListCause rules list Memory = Unit {0}
 
+-- a list gives its element this many attributes, which are too many, once those before it have been put to the rules
 pub record AtList (rules : List Rule) (lists : List CodeList) (count : ℕ) : Type 0 where
   pub before : List CodeList
   pub one : CodeList
@@ -101,6 +106,7 @@ pub record AtList (rules : List Rule) (lists : List CodeList) (count : ℕ) : Ty
   pub is : lists ≡ before ++ one ∷ behind
   pub crowds : CrowdsRule (updated_by (map list_said before) rules) one.name (map declared_of one.rules.items) (Limit count)
 
+-- why attribute lists are not put to the rules, one after another
 abbrev pub AreListCauses : List Rule → List CodeList → TableRefusal → Type 0
 AreListCauses rules lists (Twice name) = ⊥
 AreListCauses rules lists (Undeclared name) = ⊥

@@ -8,7 +8,8 @@ use Rattle.dtd_texts.specs.Reading.{State, Content, Stands, start, Reads, move, 
 pub data Meets (content : Content) : List (List ℕ) → State → List ℕ → List (List ℕ) → State → List ℕ → Type 0 where
   here : {outer : List (List ℕ)} {s : State} {bytes : List ℕ} → Meets content outer s bytes outer s bytes
   later : {outer outer' : List (List ℕ)} {s next s' : State} {b n : ℕ} {bytes bytes' : List ℕ} →
-      move s (b ∷ bytes) ≡ on n next → Meets content outer next (drop n (b ∷ bytes)) outer' s' bytes' → Meets content outer s (b ∷ bytes) outer' s' bytes'
+      move s (b ∷ bytes) ≡ on n next → Meets content outer next (drop n (b ∷ bytes)) outer' s' bytes'
+      → Meets content outer s (b ∷ bytes) outer' s' bytes'
   within : {outer outer' : List (List ℕ)} {s s' : State} {b n : ℕ} {bytes bytes' name text : List ℕ} →
       move s (b ∷ bytes) ≡ opens name n → is_among outer name ≡ false → Stands content (source_of s.parameters name) text →
       Meets content (name ∷ outer) (enter s) text outer' s' bytes' → Meets content outer s (b ∷ bytes) outer' s' bytes'
@@ -45,7 +46,8 @@ pub record Refers (content : Content) (file name : List ℕ) (outer : List (List
 -- a reference to an entity that is open, or that is not declared so far
 pub data Misses (content : Content) (file name : List ℕ) : Type 0 where
   circular : (outer : List (List ℕ)) (s : State) → Refers content file name outer s → is_among outer name ≡ true → Misses content file name
-  undeclared : (outer : List (List ℕ)) (s : State) → Refers content file name outer s → source_of s.parameters name ≡ None → Misses content file name
+  undeclared : (outer : List (List ℕ)) (s : State) → Refers content file name outer s → source_of s.parameters name ≡ None
+      → Misses content file name
 
 -- a reference to an entity whose text stands outside under this name
 pub data Asks (content : Content) (file system : List ℕ) : Type 0 where

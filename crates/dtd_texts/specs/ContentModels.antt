@@ -18,6 +18,7 @@ pub record Group : Type 0 where
   pub separator : Separator
   pub parts : List Model
 
+-- a place behind the name, with what is known of the content so far
 pub data Stage : Type 0 where
   -- behind the name, and behind the white space there
   behind_name : Stage
@@ -51,14 +52,18 @@ abbrev pub numbered : Option ℕ → List ℕ → Went ℕ
 numbered None name = undeclared name
 numbered (Some k) name = leads k
 
+-- the number of an element that a content model names: its place among the declared ones, from 0
 abbrev pub element_named : List (List ℕ) → List ℕ → Went ℕ
 element_named names w = if is_name w then numbered (number_of names w) w else refused
 
+-- the content: `EMPTY`, `ANY`, or `(`, which opens text and elements or a group (3.2, contentspec)
 abbrev pub content_step : Token → Went Stage
-content_step (word w) = if same w (codes "EMPTY") then leads (done nothing) else if same w (codes "ANY") then leads (done anything) else refused
+content_step (word w) = if same w (codes "EMPTY") then leads (done nothing) else if same w (codes "ANY") then leads (done anything)
+    else refused
 content_step opening = leads at_first
 content_step _ = refused
 
+-- a bracket that was just opened: no particle in it, and its separator not known
 abbrev pub new_group : Group
 new_group = record { separator = unknown; parts = [] }
 
@@ -67,6 +72,7 @@ abbrev pub put : Model → List Group → List Group
 put m [] = []
 put m (g ∷ groups) = record g { parts = g.parts ++ m ∷ [] } ∷ groups
 
+-- the particles in the same order
 abbrev pub all_models : List Model → Models
 all_models [] = no_models
 all_models (m ∷ ms) = more_models m (all_models ms)
@@ -77,6 +83,7 @@ group_model unknown ms = sequence ms
 group_model by_bar ms = choice ms
 group_model by_comma ms = sequence ms
 
+-- where a particle is due: white space, the name of an element, or one more `(` while fewer than 200 are open
 abbrev pub particle_step : List (List ℕ) → List Group → Token → Went Stage
 particle_step names groups gap = leads (at_particle groups)
 particle_step names groups (word w) = then_go (element_named names w) (λ k. leads (on_particle groups (one k)))
@@ -89,15 +96,18 @@ with_bar g groups unknown = leads (at_particle (record g { separator = by_bar } 
 with_bar g groups by_bar = leads (at_particle (g ∷ groups))
 with_bar g groups by_comma = refused
 
+-- a comma: the separator of the inner group, where it has none yet or has the comma; refused behind a bar
 abbrev pub with_comma : Group → List Group → Separator → Went Stage
 with_comma g groups unknown = leads (at_particle (record g { separator = by_comma } ∷ groups))
 with_comma g groups by_bar = refused
 with_comma g groups by_comma = leads (at_particle (g ∷ groups))
 
+-- a group is whole: the content where no bracket is open, and else a particle of the group around it
 abbrev pub close : Model → List Group → Stage
 close m [] = behind_group m
 close m (g ∷ groups) = on_particle (g ∷ groups) m
 
+-- behind a particle: white space, a separator of the inner group, or `)`, which closes it (3.2.1, choice and seq)
 abbrev pub behind_step : List Group → Token → Went Stage
 behind_step [] t = refused
 behind_step (g ∷ groups) gap = leads (behind_particle (g ∷ groups))
@@ -113,6 +123,7 @@ on_step groups m star = leads (behind_particle (put (any_number m) groups))
 on_step groups m plus = leads (behind_particle (put (at_least_one m) groups))
 on_step groups m t = behind_step (put m groups) t
 
+-- behind the last bracket: `?`, `*` or `+`, which stands for the whole content, or white space
 abbrev pub group_step : Model → Token → Went Stage
 group_step m question = leads (done (children (optional m)))
 group_step m star = leads (done (children (any_number m)))
@@ -120,21 +131,25 @@ group_step m plus = leads (done (children (at_least_one m)))
 group_step m gap = leads (done (children m))
 group_step m _ = refused
 
+-- behind the first bracket: white space, `#`, or what may stand first in a group
 abbrev pub first_step : List (List ℕ) → Token → Went Stage
 first_step names gap = leads at_first
 first_step names hash = leads at_text
 first_step names t = particle_step names (new_group ∷ []) t
 
+-- behind `(#` the word is `PCDATA` (3.2.2, Mixed)
 abbrev pub text_step : Token → Went Stage
 text_step (word w) = if same w (codes "PCDATA") then leads (behind_text []) else refused
 text_step _ = refused
 
+-- behind `#PCDATA` or an element: white space, a bar, or `)`
 abbrev pub behind_text_step : List ℕ → Token → Went Stage
 behind_text_step es gap = leads (behind_text es)
 behind_text_step es bar = leads (at_element es)
 behind_text_step es closing = leads (behind_mixed es)
 behind_text_step es _ = refused
 
+-- behind a bar: white space, or the name of an element that may stand among the text
 abbrev pub element_step : List (List ℕ) → List ℕ → Token → Went Stage
 element_step names es gap = leads (at_element es)
 element_step names es (word w) = then_go (element_named names w) (λ k. leads (behind_text (es ++ k ∷ [])))
@@ -146,14 +161,17 @@ mixed_step es star = leads (done (text_and es))
 mixed_step [] gap = leads (done (text_and []))
 mixed_step es _ = refused
 
+-- white space has to come between the name and the content
 abbrev pub name_step : Token → Went Stage
 name_step gap = leads at_content
 name_step _ = refused
 
+-- behind the content white space alone may stand
 abbrev pub done_step : Holding → Token → Went Stage
 done_step h gap = leads (done h)
 done_step h _ = refused
 
+-- the step of each place, where these elements are declared
 abbrev pub stage_step : List (List ℕ) → Stage → Token → Went Stage
 stage_step names behind_name t = name_step t
 stage_step names at_content t = content_step t

@@ -6,9 +6,11 @@ use Rattle.xml_text.specs.Characters.{is_blank, is_character}
 use Rattle.xml_text.specs.Names.{begins_name, in_name}
 use Rattle.dtd_model.specs.References.{number_written}
 
+-- `"` or `'`
 abbrev pub is_quote : ℕ → Bool
 is_quote b = b == 34 || b == 39
 
+-- the two texts are the same, byte by byte
 abbrev pub same : List ℕ → List ℕ → Bool
 same a b = bytes_eq a b
 
@@ -32,12 +34,14 @@ name_length bytes = if head_is begins_name bytes then prefix_len in_name bytes e
 -- a sign, a name and a semicolon: how long the name is; 0 where they do not stand there
 unfoldable pub named_length : ℕ → List ℕ → ℕ
 named_length sign bytes =
-    if head_is (nat_eq sign) bytes then (if head_is (nat_eq 59) (drop (1 + name_length (drop 1 bytes)) bytes) then name_length (drop 1 bytes) else 0) else 0
+    if head_is (nat_eq sign) bytes
+    then (if head_is (nat_eq 59) (drop (1 + name_length (drop 1 bytes)) bytes) then name_length (drop 1 bytes) else 0) else 0
 
 -- the name in a parameter entity reference `%name;` (4.1, PEReference)
 abbrev pub reference_length : List ℕ → ℕ
 reference_length bytes = named_length 37 bytes
 
+-- the name in the parameter entity reference that stands there; empty where none does
 abbrev pub reference_name : List ℕ → List ℕ
 reference_name bytes = take (reference_length bytes) (drop 1 bytes)
 
@@ -45,7 +49,8 @@ reference_name bytes = take (reference_length bytes) (drop 1 bytes)
 abbrev pub entity_length : List ℕ → ℕ
 entity_length bytes = named_length 38 bytes
 
--- so many bytes, and then digits of a character reference and a semicolon: how many digits; 0 where it is none of a character (4.1, CharRef)
+-- so many bytes, and then digits of a character reference and a semicolon: how many digits; 0 where it is none of a character (4.1,
+-- CharRef)
 unfoldable pub digits_length : (ℕ → Bool) → ℕ → ℕ → List ℕ → ℕ
 digits_length class base opening bytes =
     let n = prefix_len class (drop opening bytes)
@@ -55,6 +60,7 @@ digits_length class base opening bytes =
 abbrev pub hexadecimal_length : List ℕ → ℕ
 hexadecimal_length bytes = digits_length is_ascii_hexdigit 16 3 bytes
 
+-- how many digits a decimal character reference `&#..;` has; 0 where none of a character stands there
 abbrev pub decimal_length : List ℕ → ℕ
 decimal_length bytes = digits_length is_ascii_digit 10 2 bytes
 

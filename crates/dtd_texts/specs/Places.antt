@@ -21,6 +21,7 @@ pub data Entity : Type 0 where
   parameter : List ℕ → Entity
   general : List ℕ → Entity
 
+-- a place of the text, with what is to be kept in mind of what stands before it
 pub data Place : Type 0 where
   -- between declarations
   between : Place
@@ -38,6 +39,7 @@ pub data Place : Type 0 where
   -- behind the value of this entity
   behind_value : Entity → List ℕ → Place
 
+-- what stands at the head of the bytes, and where it leads
 pub data Step : Type 0 where
   -- so many bytes, and the place behind them
   goes : ℕ → Place → Step
@@ -61,6 +63,7 @@ abbrev pub target_length : List ℕ → ℕ
 target_length bytes =
     if str_eq_ignore_ascii_case (codes "xml") (take (name_length (drop 2 bytes)) (drop 2 bytes)) then 0 else name_length (drop 2 bytes)
 
+-- between declarations, where no `<!` stands: `<?` and a target, or a parameter entity reference
 abbrev pub instruction_or_reference : List ℕ → Step
 instruction_or_reference bytes =
     if begins (codes "<?") bytes && nat_lt 0 (target_length bytes) then goes (2 + target_length bytes) behind_target
@@ -89,6 +92,7 @@ target_step bytes =
     else if head_is is_blank bytes then goes 1 in_instruction
     else refuses
 
+-- the text of an instruction: `?>`, which ends it, or one more byte of it
 unfoldable pub instruction_step : List ℕ → Step
 instruction_step bytes = if begins (codes "?>") bytes then goes 2 between else goes 1 in_instruction
 
@@ -99,10 +103,12 @@ abbrev pub named : (List ℕ → Entity) → Option (List ℕ × List Token) →
 named make None = None
 named make (Some found) = if is_name found.0 then Some (make found.0, found.1) else None
 
+-- the entity by the tokens behind `ENTITY` and white space, and the tokens behind its name; with `%` it is a parameter entity
 abbrev pub entity_from : List Token → Option (Entity × List Token)
 entity_from [] = None
 entity_from (t ∷ ts) = if is_percent t then named parameter (next_word ts) else named general (first_word (t ∷ ts))
 
+-- the same by the first word of the declaration and what stands behind it; None where it is another than `ENTITY`
 abbrev pub entity_if : Option (List ℕ × List Token) → Option (Entity × List Token)
 entity_if None = None
 entity_if (Some found) = if same found.0 (codes "ENTITY") then option_and_then entity_from (behind is_gap found.1) else None
@@ -121,24 +127,30 @@ abbrev pub quote_by : Option Entity → List ℕ → ℕ → Step
 quote_by None text quote = goes 1 (in_literal (text ++ quote ∷ []) quote)
 quote_by (Some entity) text quote = goes 1 (in_value entity quote [] 0)
 
+-- the entity whose value a quote behind this text begins, if it begins one; none where a literal stands in the declaration already
 abbrev pub valued_in : List ℕ → Bool → Option Entity
 valued_in text true = None
 valued_in text false = value_of (entity_of (tokens text))
 
+-- a quote in a declaration, behind this text of it, where a literal stands in it or none does
 unfoldable pub quote_step : List ℕ → Bool → ℕ → Step
 quote_step text quoted quote = quote_by (valued_in text quoted) text quote
 
 -- A declaration of an entity with its text outside (4.2.2, ExternalID). The system literal is the name of the text, and
 -- is UTF-8. General entities outside are left out.
 
+-- the system literal of a parameter entity, which has to end the declaration
 abbrev pub outside_of : List ℕ → Option (List ℕ × List Token) → Step
 outside_of name None = refuses
 outside_of name (Some system) = if is_utf8 system.0 && is_end system.1 then declares_parameter name (external system.0) else refuses
 
+-- the public literal of a parameter entity, of bytes of public identifiers alone (2.3, PubidLiteral), and then its system literal
 abbrev pub public_of : List ℕ → Option (List ℕ × List Token) → Step
 public_of name None = refuses
-public_of name (Some identifier) = if list_all in_public_identifier identifier.0 then outside_of name (next_literal identifier.1) else refuses
+public_of name (Some identifier) =
+    if list_all in_public_identifier identifier.0 then outside_of name (next_literal identifier.1) else refuses
 
+-- `SYSTEM` or `PUBLIC` behind the entity's name, and what stands behind that; a general entity with either is left out
 abbrev pub identified : Entity → Option (List ℕ × List Token) → Step
 identified entity None = refuses
 identified (parameter name) (Some found) =
@@ -146,10 +158,12 @@ identified (parameter name) (Some found) =
     else if same found.0 (codes "PUBLIC") then public_of name (next_literal found.1) else refuses
 identified (general name) (Some found) = if same found.0 (codes "SYSTEM") || same found.0 (codes "PUBLIC") then leaves_out else refuses
 
+-- the declaration of an entity without a value, by its name and the tokens behind it
 abbrev pub external_of : Option (Entity × List Token) → Step
 external_of None = refuses
 external_of (Some found) = identified found.0 (next_word found.1)
 
+-- the same by all tokens of the declaration
 unfoldable pub external_step : List Token → Step
 external_step ts = external_of (entity_of ts)
 
@@ -158,9 +172,11 @@ abbrev pub is_entity : Option (List ℕ × List Token) → Bool
 is_entity None = false
 is_entity (Some found) = same found.0 (codes "ENTITY")
 
+-- the `>` of a declaration with this text: that of an entity has to name a text outside, since its value would have been met
 unfoldable pub end_step : List ℕ → Step
 end_step text = if is_entity (first_word (tokens text)) then external_step (tokens text) else declares text
 
+-- in a declaration outside literals: a quote, `>`, a parameter entity reference, or one more byte of the text
 unfoldable pub inside_step : List ℕ → Bool → List ℕ → Step
 inside_step text quoted [] = refuses
 inside_step text quoted (b ∷ bytes) =
@@ -168,6 +184,7 @@ inside_step text quoted (b ∷ bytes) =
     else if b == 62 then end_step text
     else reference_or (b ∷ bytes) (goes 1 (inside (text ++ b ∷ []) quoted))
 
+-- in a literal of a declaration: its quote, which ends it, or one more byte, `%` and `&` among them
 unfoldable pub literal_step : List ℕ → ℕ → List ℕ → Step
 literal_step text quote [] = refuses
 literal_step text quote (b ∷ bytes) = goes 1 (if b == quote then inside (text ++ b ∷ []) true else in_literal (text ++ b ∷ []) quote)
@@ -180,6 +197,7 @@ value_else entity quote value depth b bytes =
     else if b == 37 then reference_or bytes refuses
     else goes 1 (in_value entity quote (value ++ b ∷ []) depth)
 
+-- in an entity value: its quote, which ends it, a character reference, or what else may stand there
 unfoldable pub value_step : Entity → ℕ → List ℕ → ℕ → List ℕ → Step
 value_step entity quote value depth [] = refuses
 value_step entity quote value depth (b ∷ bytes) =
@@ -193,6 +211,7 @@ abbrev pub declares_value : Entity → List ℕ → Step
 declares_value (parameter name) value = declares_parameter name (internal value)
 declares_value (general name) value = if is_plain_value value then declares_general name else leaves_out
 
+-- behind an entity value: white space, `>`, or a parameter entity reference
 unfoldable pub behind_step : Entity → List ℕ → List ℕ → Step
 behind_step entity value bytes =
     if head_is is_blank bytes then goes 1 (behind_value entity value)

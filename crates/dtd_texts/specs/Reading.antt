@@ -30,9 +30,11 @@ pub record State : Type 0 where
   pub begun : ℕ
   pub references : ℕ
 
+-- before the first byte: between declarations, with nothing declared and no byte counted
 abbrev pub start : State
 start = record { place = between; parameters = []; generals = []; written = []; length = 0; begun = 0; references = 0 }
 
+-- what the parameter entity of this name stands for, if one is declared
 abbrev pub source_of : List Parameter → List ℕ → Option Source
 source_of [] name = None
 source_of (p ∷ ps) name = if same name p.name then Some p.source else source_of ps name
@@ -41,9 +43,11 @@ source_of (p ∷ ps) name = if same name p.name then Some p.source else source_o
 abbrev pub with_parameter : List Parameter → List ℕ → Source → List Parameter
 with_parameter ps name source = if is_some (source_of ps name) then ps else ps ++ record { name = name; source = source } ∷ []
 
+-- the name is one of these, byte by byte
 abbrev pub is_among : List (List ℕ) → List ℕ → Bool
 is_among names name = list_any (bytes_eq name) names
 
+-- the names with this one behind them, unless it is one of them
 abbrev pub with_name : List (List ℕ) → List ℕ → List (List ℕ)
 with_name names name = if is_among names name then names else names ++ name ∷ []
 
@@ -67,6 +71,7 @@ Stands content None text = ⊥
 Stands content (Some (internal value)) text = value ≡ text
 Stands content (Some (external name)) text = Holds content name text
 
+-- how many bytes the replaced text had where the reading last stood between declarations: all so far, if it stands there now
 abbrev pub begun_at : Place → ℕ → ℕ → ℕ
 begun_at between len begun = len
 begun_at in_comment len begun = begun
@@ -89,6 +94,7 @@ moved_to s n references place = record {
   references = s.references + references;
 }
 
+-- so many bytes on, in this place; no reference is replaced
 abbrev pub on_to : State → ℕ → Place → State
 on_to s n place = moved_to s n 0 place
 
@@ -129,6 +135,7 @@ space_before (in_literal text quote) = 1
 space_before (in_value entity quote value depth) = 0
 space_before (behind_value entity value) = 1
 
+-- how many bytes of space stand behind the text of an entity that ends in this place: none for one opened in an entity value
 abbrev pub space_behind : Place → ℕ
 space_behind between = 1
 space_behind in_comment = 1
@@ -140,18 +147,22 @@ space_behind (in_value entity quote value zero) = 1
 space_behind (in_value entity quote value (suc depth)) = 0
 space_behind (behind_value entity value) = 1
 
+-- before the text of an entity: behind the space before it, with one reference more
 abbrev pub enter : State → State
 enter s = moved_to s (space_before s.place) 1 (opened s.place)
 
+-- behind the text of an entity and the space behind it
 abbrev pub leave : State → State
 leave s = moved_to s (space_behind s.place) 0 (closed s.place)
 
+-- so many bytes on to a state; a reference to this entity, of so many bytes; what is left out; or what may not stand there
 pub data Move : Type 0 where
   on : ℕ → State → Move
   opens : List ℕ → ℕ → Move
   omits : Move
   stuck : Move
 
+-- what a step does to the state: a declaration is noted, where the first of an entity counts, and the `>` of it is one byte
 abbrev pub moved : State → Step → Move
 moved s (goes n place) = on n (on_to s n place)
 moved s (declares_parameter name source) = on 1 (record (on_to s 1 between) { parameters = with_parameter s.parameters name source })

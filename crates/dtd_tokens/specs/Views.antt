@@ -5,6 +5,7 @@ use Rattle.dtd_texts.specs.Tokens.{Token, gap, word, literal, opening, closing, 
 use Rattle.dtd_tokens.specs.declared.token.Token.{Token as CodeToken}
 use Rattle.dtd_tokens.specs.declared.token.Token.TheVariants.{Gap, Word, Literal, Opening, Closing, Bar, Comma, Question, Star, Plus, Hash, Percent, Equals, Other}
 
+-- the plain form of a token
 abbrev pub token_of : CodeToken → Token
 token_of Gap = gap
 token_of (Word w) = word w.now
@@ -21,13 +22,16 @@ token_of Percent = percent
 token_of Equals = equals
 token_of Other = other
 
+-- the plain form of tokens in their order
 abbrev pub tokens_of : List CodeToken → List Token
 tokens_of ts = map token_of ts
 
+-- the plain form of a text, if there is one
 abbrev pub maybe_text : Option (Bor (List ℕ)) → Option (List ℕ)
 maybe_text None = None
 maybe_text (Some text) = Some text.now
 
+-- the plain form of tokens, if there are some
 abbrev pub maybe_tokens : Option (Bor (List CodeToken)) → Option (List Token)
 maybe_tokens None = None
 maybe_tokens (Some ts) = Some (tokens_of ts.now)

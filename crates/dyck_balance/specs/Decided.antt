@@ -7,6 +7,7 @@ use Rattle.std.proofs.Common.{ap, subst, ◌∙◌}
 use Rattle.tag_sums.specs.Nesting.{Nest, torn, nest}
 use Rattle.dyck_balance.specs.Equal.{nest_eq, nest_fed}
 
+-- two sums that are found equal are one
 pub nest_exact : (a b : Nest) → nest_eq a b ≡ true → a ≡ b
 nest_exact torn torn h = refl
 nest_exact torn (nest d p) h = cc
@@ -25,11 +26,14 @@ nest_itself (nest c o) =
 nest_decides : (a b : Nest) → Decides (nest_eq a b) (a ≡ b)
 nest_decides a b = (nest_exact a b, λ e. subst (λ (s : Nest). nest_eq a s ≡ true) e (nest_itself a))
 
+-- sums that are found equal give the same to a hasher
 pub nest_alike : (a b : Nest) → nest_eq a b ≡ true → nest_fed a ≡ nest_fed b
 nest_alike a b h = ap nest_fed (nest_exact a b h)
 
+-- the test of two sums is reflexive, symmetric and transitive
 pub nest_equiv : IsEquivalence nest_eq
 nest_equiv = decided nest_eq nest_decides
 
+-- the test of two sums is symmetric and transitive
 pub nest_per : IsPartialEquivalence nest_eq
 nest_per = partial_equiv_from_equiv nest_equiv

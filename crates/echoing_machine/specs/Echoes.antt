@@ -14,6 +14,7 @@ module _ {S : Type 0} (next : S → ℕ → S) (puts : S → ℕ → List PageTo
   abbrev pub EchoStep : S → ℕ → S → List Letter → Type 0
   EchoStep s byte t letters = (t ≡ next s byte) × (letters ≡ echo_letters (puts s byte) byte)
 
+  -- at the end of the text in a state, with the tokens that are put out there
   abbrev pub EchoEnd : S → List Letter → Type 0
   EchoEnd s letters = letters ≡ map OfToken (lasts s)
 

@@ -18,6 +18,8 @@ pub record InTurn (entities : List (List ℕ)) (tag_name : List ℕ) (rules : Li
   pub may : AllMay (of_element entities rules) [] attributes
   pub all : are_all tag_name rules (names_behind (of_element entities rules) [] attributes) ≡ true
 
+-- attributes are as the definition asks exactly where they are read in turn and none that has to stand is missing
 abbrev pub AttributesMay : Type 0
-AttributesMay = (entities : List (List ℕ)) (tag_name : List ℕ) (rules : List Declared) (attributes : List Attribute) → list_all (λ (d : Declared). is_lawful_kind d.kind) rules ≡ true
+AttributesMay = (entities : List (List ℕ)) (tag_name : List ℕ) (rules : List Declared) (attributes : List Attribute)
+    → list_all (λ (d : Declared). is_lawful_kind d.kind) rules ≡ true
     → Fit entities tag_name rules attributes ↔ InTurn entities tag_name rules attributes

@@ -8,6 +8,7 @@ use Rattle.program_rules.specs.Programs.{ReadFile}
 unfoldable pub calls_of_file : PlainFile → List PlainCall
 calls_of_file tree = statement_calls tree.body_of ++ function_calls tree.functions_of
 
+-- the calls of files in their order
 unfoldable pub calls_in_files : List ReadFile → List PlainCall
 unfolding calls_of_file
 calls_in_files [] = []

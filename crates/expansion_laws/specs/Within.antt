@@ -33,13 +33,17 @@ with_body bodies f = record { name_of = f.name_of; params_of = f.params_of; body
 
 -- the program of a tree among files, with includes replaced so many times over
 abbrev pub program_within : List ReadFile → ℕ → PlainFile → PlainProgram
-program_within files n tree = record { main_of = with_bodies (bodies_within files n) tree.body_of; functions_of = map (with_body (bodies_within files n)) (functions_in files) }
+program_within files n tree = record {
+  main_of = with_bodies (bodies_within files n) tree.body_of;
+  functions_of = map (with_body (bodies_within files n)) (functions_in files);
+}
 
 -- an order of the names of files: each stands behind all those that its file includes
 pub record IsIncludeOrder (files : List ReadFile) (order : List (List ℕ)) : Type 0 where
   pub all : (path : List ℕ) → is_read files path ≡ true → Contains order path
   pub within : (path : List ℕ) → Contains order path → is_read files path ≡ true
-  pub sorted : (k : ℕ) (file path : List ℕ) → slice_get order k ≡ Some file → Contains (includes_of_file (tree_named files file)) path → Contains (take k order) path
+  pub sorted : (k : ℕ) (file path : List ℕ) → slice_get order k ≡ Some file → Contains (includes_of_file (tree_named files file)) path
+      → Contains (take k order) path
 
 -- the files hold these trees
 abbrev pub AreHeld : Held → List ReadFile → Type 0

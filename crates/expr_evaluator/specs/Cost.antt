@@ -9,6 +9,7 @@ use Rattle.expr_evaluator.specs.declared.frame.Focus.{Focus}
 use Rattle.expr_evaluator.specs.declared.frame.Focus.TheVariants as focus
 
 unfoldable mutual
+  -- what is to do for an expression
   pub cost : PlainExpr → ℕ
   cost null_expr = 4
   cost (flag_expr b) = 4
@@ -35,24 +36,29 @@ unfoldable mutual
   cost (step_expr x up before) = 4
   cost (call_expr f es) = 4 + row_cost es
 
+  -- what is to do for expressions in a row
   pub row_cost : PlainExprs → ℕ
   row_cost no_exprs = 0
   row_cost (more_exprs e es) = 4 + cost e + row_cost es
 
+  -- what is to do for the items of an array literal
   pub items_cost : PlainItems → ℕ
   items_cost no_items = 0
   items_cost (more_items no_expr e is) = 4 + cost e + items_cost is
   items_cost (more_items (some_expr k) e is) = 4 + cost k + cost e + items_cost is
 
+  -- what is to do for the keys of a target
   pub path_cost : PlainPath → ℕ
   path_cost no_keys = 0
   path_cost (more_keys no_expr ks) = 4 + path_cost ks
   path_cost (more_keys (some_expr k) ks) = 4 + cost k + path_cost ks
 
+-- what is to do for the right side of a write
 unfoldable pub writing_cost : Writing → ℕ
 writing_cost (writing.Assign x e) = cost (plain_expr e.now)
 writing_cost (writing.Update sign x e) = cost (plain_expr e.now)
 
+-- what is to do for what a frame still holds, and for the frame itself
 unfoldable pub frame_cost : Frame → ℕ
 frame_cost (frame.Subscript k) = cost (plain_expr k.now) + 1
 frame_cost (frame.Container a) = 1
@@ -75,10 +81,12 @@ frame_cost (frame.Choice (Some a) b) = cost (plain_expr a.now) + cost (plain_exp
 frame_cost (frame.Assign x ks) = 1
 frame_cost (frame.Update sign x path old) = 1
 
+-- the same for all frames
 unfoldable pub stack_cost : List Frame → ℕ
 stack_cost [] = 0
 stack_cost (f ∷ k) = frame_cost f + stack_cost k
 
+-- what is to do for what is evaluated next; a call or a fault needs nothing more before the pause
 unfoldable pub focus_cost : Focus → ℕ
 focus_cost (focus.Eval e) = cost (plain_expr e.now)
 focus_cost (focus.Value v) = 2

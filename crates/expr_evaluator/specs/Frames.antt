@@ -1,4 +1,5 @@
--- What a frame makes of the value that it waits for, and what a stack of frames makes of it: the rest of the expression that is being evaluated.
+-- What a frame makes of the value that it waits for, and what a stack of frames makes of it: the rest of the expression that is being
+-- evaluated.
 use Rattle.std.specs.Prelude.{ℕ, Bool, true, false, not, if◌then◌else◌, List, [], ◌∷◌, ◌++◌, Option, Some, None, Result, Ok, Err, ◌≡◌}
 use Rattle.std.specs.List.{list_all}
 use Rattle.std.specs.Borrow.{Bor}
@@ -37,25 +38,31 @@ Entering = PlainFunction → List Plain → State → Run Plain
 
 -- what expressions are evaluated in: a request, the functions of a script, and what each does
 abbrev pub world : PlainRequest → List PlainFunction → Entering → Environment
-world r fs enter = record { request = r; call = λ name args s. builtin_or (builtin_named name) args (call_one (function_named fs name) (λ f t. enter f args t)) s }
+world r fs enter = record {
+  request = r;
+  call = λ name args s. builtin_or (builtin_named name) args (call_one (function_named fs name) (λ f t. enter f args t)) s;
+}
 
 -- subscripts, where `[]` is none
 abbrev pub plain_maybe : Option Value → Option Plain
 plain_maybe None = None
 plain_maybe (Some v) = Some (plain_of v)
 
+-- the plain form of subscripts in their order
 abbrev pub plain_maybes : List (Option Value) → List (Option Plain)
 plain_maybes [] = []
 plain_maybes (v ∷ vs) = plain_maybe v ∷ plain_maybes vs
 
 -- `++` and `--` of a variable
 unfoldable pub step_in : List ℕ → Bool → Bool → State → Run Plain
-step_in x up before s = result_of (stepped up (value_in s.variables x)) s then_do λ new s. Going (if before then new else value_in s.variables x) (with_variable s x new)
+step_in x up before s = result_of (stepped up (value_in s.variables x)) s then_do λ new s. Going
+    (if before then new else value_in s.variables x) (with_variable s x new)
 
 -- a write of a variable at the end of subscripts, and what an assignment that read its target first writes
 unfoldable pub assign_in : List ℕ → List (Option Plain) → Plain → State → Run Plain
 assign_in x ks v s = result_of (assigned ks v (value_in s.variables x)) s then_do λ whole s. Going v (with_variable s x whole)
 
+-- an assignment with an operator, from the old value of the target and the value of the right side
 unfoldable pub update_in : UpdateSign → List ℕ → List paths.Step → Plain → Plain → State → Run Plain
 update_in sign x path old v s = result_of (updated sign old v) s then_do λ new s. store x path new s
 
@@ -73,25 +80,34 @@ row_done w (purpose.Call name) vs s = w.call name.now vs s
 -- what goes on behind the subscripts of a target
 unfoldable pub keys_done : Environment → Writing → List (Option Plain) → State → Run Plain
 keys_done w (writing.Assign x e) ks s = value w (plain_expr e.now) s then_do λ new s. (assign_in x.now ks new s)
-keys_done w (writing.Update sign x e) ks s = result_of (paths.path_of ks) s then_do λ path s. update_at sign x.now path (value w (plain_expr e.now)) s
+keys_done w (writing.Update sign x e) ks s =
+    result_of (paths.path_of ks) s then_do λ path s. update_at sign x.now path (value w (plain_expr e.now)) s
 
 -- what a frame makes of the value that it waits for
 unfoldable pub after_value : Environment → Frame → Plain → State → Run Plain
 after_value w (frame.Subscript k) v s = value w (plain_expr k.now) s then_do λ subscript s. result_of (paths.subscript_of v subscript) s
 after_value w (frame.Container a) v s = result_of (paths.subscript_of (plain_of a) v) s
-after_value w (frame.ItemKey e rest made) v s = value w (plain_expr e.now) s then_do λ new s. (result_of (paths.add_item (array made) (Some v) new) s then_do λ made s. items_in w (items_of rest.now) made s)
-after_value w (frame.ItemValue key rest made) v s = result_of (paths.add_item (array made) (plain_maybe key) v) s then_do λ made s. items_in w (items_of rest.now) made s
-after_value w (frame.Row p rest done) v s = values w (exprs_of rest.now) s then_do λ vs s. row_done w p ((plain_list done.items ++ v ∷ []) ++ vs) s
-after_value w (frame.Keys p rest done) v s = subscripts w (path_of rest.now) s then_do λ ks s. keys_done w p ((plain_maybes done.items ++ Some v ∷ []) ++ ks) s
+after_value w (frame.ItemKey e rest made) v s =
+    value w (plain_expr e.now) s then_do λ new s.
+    (result_of (paths.add_item (array made) (Some v) new) s then_do λ made s. items_in w (items_of rest.now) made s)
+after_value w (frame.ItemValue key rest made) v s =
+    result_of (paths.add_item (array made) (plain_maybe key) v) s then_do λ made s. items_in w (items_of rest.now) made s
+after_value w (frame.Row p rest done) v s =
+    values w (exprs_of rest.now) s then_do λ vs s. row_done w p ((plain_list done.items ++ v ∷ []) ++ vs) s
+after_value w (frame.Keys p rest done) v s =
+    subscripts w (path_of rest.now) s then_do λ ks s. keys_done w p ((plain_maybes done.items ++ Some v ∷ []) ++ ks) s
 after_value w frame.Negation v s = result_of (negation_of v) s
 after_value w frame.Not v s = Going (flag (not (truth v))) s
 after_value w frame.Truth v s = Going (flag (truth v)) s
 after_value w (frame.ArithRight sign b) v s = value w (plain_expr b.now) s then_do λ right s. result_of (arithmetic sign v right) s
 after_value w (frame.ArithLeft sign a) v s = result_of (arithmetic sign (plain_of a) v) s
-after_value w (frame.CompareRight sign b) v s = value w (plain_expr b.now) s then_do λ right s. (result_of (comparison sign v right) s then_do λ answer s. Going (flag answer) s)
+after_value w (frame.CompareRight sign b) v s =
+    value w (plain_expr b.now) s then_do λ right s. (result_of (comparison sign v right) s then_do λ answer s. Going (flag answer) s)
 after_value w (frame.CompareLeft sign a) v s = result_of (comparison sign (plain_of a) v) s then_do λ answer s. Going (flag answer) s
-after_value w (frame.And b) v s = if truth v then (value w (plain_expr b.now) s then_do λ u s. Going (flag (truth u)) s) else Going (flag false) s
-after_value w (frame.Or b) v s = if truth v then Going (flag true) s else (value w (plain_expr b.now) s then_do λ u s. Going (flag (truth u)) s)
+after_value w (frame.And b) v s =
+    if truth v then (value w (plain_expr b.now) s then_do λ u s. Going (flag (truth u)) s) else Going (flag false) s
+after_value w (frame.Or b) v s =
+    if truth v then Going (flag true) s else (value w (plain_expr b.now) s then_do λ u s. Going (flag (truth u)) s)
 after_value w (frame.Coalesce b) v s = if is_null v then value w (plain_expr b.now) s else Going v s
 after_value w (frame.Choice None b) v s = if truth v then Going v s else value w (plain_expr b.now) s
 after_value w (frame.Choice (Some a) b) v s = if truth v then value w (plain_expr a.now) s else value w (plain_expr b.now) s
@@ -109,7 +125,8 @@ focused enter w (focus.Eval e) s = value w (plain_expr e.now) s
 focused enter w (focus.Value v) s = Going (plain_of v) s
 focused enter w (focus.Row p rest done) s = values w (exprs_of rest.now) s then_do λ vs s. row_done w p (plain_list done.items ++ vs) s
 focused enter w (focus.Items rest made) s = items_in w (items_of rest.now) (array made) s
-focused enter w (focus.Keys p rest done) s = subscripts w (path_of rest.now) s then_do λ ks s. keys_done w p (plain_maybes done.items ++ ks) s
+focused enter w (focus.Keys p rest done) s =
+    subscripts w (path_of rest.now) s then_do λ ks s. keys_done w p (plain_maybes done.items ++ ks) s
 focused enter w (focus.Call f args) s = with_unit s λ s. enter (plain_function f.now) (plain_list args.items) s
 focused enter w (focus.Fault fault) s = Over (Faulted fault) s.printed
 

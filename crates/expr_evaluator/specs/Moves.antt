@@ -30,12 +30,17 @@ seeing s vs = record s { variables = vs }
 
 -- a move: what is to come is the same, and less is left to do
 pub record Moves (r : PlainRequest) (fs : List PlainFunction) (f : Focus) (m : Evaluator) (f' : Focus) (m' : Evaluator) : Type 0 where
-  pub same : (enter : Entering) (s : State) → ahead enter (world r fs enter) f' m'.frames (seeing s m'.variables) ≡ ahead enter (world r fs enter) f m.frames (seeing s m.variables)
+  pub same : (enter : Entering) (s : State)
+      → ahead enter (world r fs enter) f' m'.frames (seeing s m'.variables)
+      ≡ ahead enter (world r fs enter) f m.frames (seeing s m.variables)
   pub less : focus_cost f' + stack_cost m'.frames < focus_cost f + stack_cost m.frames
 
 -- a move that hands a value to a frame, which was taken off the stack
-pub record Takes (r : PlainRequest) (fs : List PlainFunction) (v : Plain) (frame : Frame) (m : Evaluator) (f' : Focus) (m' : Evaluator) : Type 0 where
-  pub same : (enter : Entering) (s : State) → ahead enter (world r fs enter) f' m'.frames (seeing s m'.variables) ≡ values_then (world r fs enter) (frame ∷ m.frames) v (seeing s m.variables)
+pub record Takes (r : PlainRequest) (fs : List PlainFunction) (v : Plain) (frame : Frame) (m : Evaluator) (f' : Focus) (m' : Evaluator) :
+    Type 0 where
+  pub same : (enter : Entering) (s : State)
+      → ahead enter (world r fs enter) f' m'.frames (seeing s m'.variables)
+      ≡ values_then (world r fs enter) (frame ∷ m.frames) v (seeing s m.variables)
   pub less : focus_cost f' + stack_cost m'.frames < 2 + frame_cost frame + stack_cost m.frames
 
 -- an expression is next, and a frame waits for its value
@@ -46,7 +51,9 @@ pub record Opens (frame : Frame) (e : Bor Expr) (m : Evaluator) (f : Focus) (m' 
 
 -- moves up to a pause, where nothing is left to do once the expression has its value
 pub record Pauses (r : PlainRequest) (fs : List PlainFunction) (f : Focus) (m : Evaluator) (p : Pause) (m' : Evaluator) : Type 0 where
-  pub same : (enter : Entering) (s : State) → (paused enter p (seeing s m'.variables) then_do values_then (world r fs enter) m'.frames) ≡ ahead enter (world r fs enter) f m.frames (seeing s m.variables)
+  pub same : (enter : Entering) (s : State)
+      → (paused enter p (seeing s m'.variables) then_do values_then (world r fs enter) m'.frames)
+      ≡ ahead enter (world r fs enter) f m.frames (seeing s m.variables)
   pub ended : (v : Value) → p ≡ pause.Value v → m'.frames ≡ []
 
 -- a focus that is the result of an operation: its value, or its fault
@@ -81,7 +88,9 @@ pub record Finishes (fs : List PlainFunction) (p : Purpose) (vs : List Plain) (f
 
 -- what goes on behind the subscripts of a target is next
 pub record Reads (p : Writing) (ks : List (Option Plain)) (m : Evaluator) (f : Focus) (m' : Evaluator) : Type 0 where
-  pub same : (r : PlainRequest) (fs : List PlainFunction) (enter : Entering) (s : State) → ahead enter (world r fs enter) f m'.frames (seeing s m'.variables) ≡ (keys_done (world r fs enter) p ks (seeing s m.variables) then_do values_then (world r fs enter) m.frames)
+  pub same : (r : PlainRequest) (fs : List PlainFunction) (enter : Entering) (s : State)
+      → ahead enter (world r fs enter) f m'.frames (seeing s m'.variables)
+      ≡ (keys_done (world r fs enter) p ks (seeing s m.variables) then_do values_then (world r fs enter) m.frames)
   pub less : focus_cost f + stack_cost m'.frames < writing_cost p + 3 + stack_cost m.frames
 
 -- one move, or a pause

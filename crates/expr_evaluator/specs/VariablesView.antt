@@ -7,6 +7,7 @@ use Rattle.php_values.specs.View.{plain_of}
 use Rattle.php_values.specs.declared.array.Value.{Value}
 use Rattle.script_meaning.specs.Runs.{Variables}
 
+-- the plain form of variables, each with its name, in their order
 abbrev pub plain_variables : List (Bor (List ℕ) × Value) → Variables
 plain_variables [] = []
 plain_variables (v ∷ vs) = (v.0.now, plain_of v.1) ∷ plain_variables vs

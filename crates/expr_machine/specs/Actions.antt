@@ -6,6 +6,7 @@ use Rattle.script_grammar.specs.declared.operator.Prefix.{Prefix}
 use Rattle.php_syntax.specs.Tokens.{PlainKey, text_key, int_key, var_key, PlainPart, plain_part, read_part}
 use Rattle.php_syntax.specs.Trees.{PlainExpr, text_expr, int_expr}
 
+-- one thing done to the values that were made so far
 pub data Action : Type 0 where
   -- a literal is made
   leaf_action : PlainExpr → Action
@@ -46,14 +47,17 @@ key_action (text_key t) = leaf_action (text_expr t)
 key_action (int_key z) = leaf_action (int_expr z)
 key_action (var_key x) = variable_action x
 
+-- the actions of a variable's keys in a template, each of which makes a member, before those that follow
 abbrev pub keys_actions : List PlainKey → List Action → List Action
 keys_actions [] r = r
 keys_actions (k ∷ ks) r = key_action k ∷ member_action ∷ keys_actions ks r
 
+-- the actions of a part of a template, before those that follow
 abbrev pub part_actions : PlainPart → List Action → List Action
 part_actions (plain_part t) r = leaf_action (text_expr t) ∷ r
 part_actions (read_part x ks) r = variable_action x ∷ keys_actions ks r
 
+-- the actions of the parts of a template in their order, before those that follow
 abbrev pub parts_actions : List PlainPart → List Action → List Action
 parts_actions [] r = r
 parts_actions (p ∷ ps) r = part_actions p (parts_actions ps r)

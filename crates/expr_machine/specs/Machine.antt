@@ -40,7 +40,8 @@ looser level.Equality = focus.Operand level.And
 looser level.And = focus.Operand level.Or
 looser level.Or = focus.Chain
 
--- how loose a value the last thing begun waits for: 0 is a unary operand, 1 to 7 an operand of that level, 8 a chain of `??`, 10 an expression
+-- how loose a value the last thing begun waits for: 0 is a unary operand, 1 to 7 an operand of that level, 8 a chain of `??`, 10 an
+-- expression
 abbrev pub wanted_rank : List Frame → ℕ
 wanted_rank (frame.Prefix p ∷ fs) = 0
 wanted_rank (frame.Operator l o ∷ fs) = level_rank l
@@ -79,6 +80,7 @@ keyword_move word.Empty fs (sign_terminal sign.OpenParen ∷ r) = moves focus.Be
 keyword_move word.Array fs (sign_terminal sign.OpenParen ∷ r) = array_move brackets.Round fs r
 keyword_move _ fs ts = stuck
 
+-- a keyword where an operand begins: a constant's value, or what `isset`, `empty` and `array` begin
 abbrev pub word_move : Option PlainExpr → Keyword → List Frame → List Terminal → Move
 word_move (Some e) k fs ts = moves focus.Unary fs ts (leaf_action e ∷ [])
 word_move None k fs ts = keyword_move k fs ts
@@ -94,11 +96,13 @@ abbrev pub step_move : Bool → List Frame → List Terminal → Move
 step_move up fs (variable_terminal x ∷ r) = moves focus.Unary fs r (step_action x up true ∷ [])
 step_move up fs ts = stuck
 
+-- an opening bracket where an operand begins: `(` an expression in brackets, `[` an array
 abbrev pub bracket_move : Sign → List Frame → List Terminal → Move
 bracket_move sign.OpenParen fs ts = moves focus.Begin (frame.Parens ∷ fs) ts []
 bracket_move sign.OpenBracket fs ts = array_move brackets.Square fs ts
 bracket_move _ fs ts = stuck
 
+-- a sign where an operand begins: a prefix operator, `++` or `--`, or an opening bracket
 abbrev pub sign_move : Option Prefix → Option Bool → Sign → List Frame → List Terminal → Move
 sign_move (Some p) up s fs ts = moves focus.Begin (frame.Prefix p ∷ fs) ts []
 sign_move None (Some up) s fs ts = step_move up fs ts
@@ -135,6 +139,7 @@ updated_move None (Some up) x n gap fs s r =
     else operand_move x n gap fs (sign_terminal s ∷ r)
 updated_move None None x n gap fs s r = operand_move x n gap fs (sign_terminal s ∷ r)
 
+-- behind a variable and so many keys, at a sign: one more key, an assignment where a whole expression is wanted, or the rest
 abbrev pub placed_move : List ℕ → ℕ → Bool → List Frame → Sign → List Terminal → Move
 placed_move x n gap fs sign.OpenBracket r = key_move x n gap fs r
 placed_move x n gap fs sign.Assign r =
@@ -142,6 +147,7 @@ placed_move x n gap fs sign.Assign r =
     else operand_move x n gap fs (sign_terminal sign.Assign ∷ r)
 placed_move x n gap fs s r = updated_move (update_sign s) (step_sign s) x n gap fs s r
 
+-- behind a variable and so many keys; `gap` says whether one of them is left out
 abbrev pub place_move : List ℕ → ℕ → Bool → List Frame → List Terminal → Move
 place_move x n gap fs (sign_terminal s ∷ r) = placed_move x n gap fs s r
 place_move x n gap fs ts = operand_move x n gap fs ts
@@ -161,6 +167,7 @@ abbrev pub of_level : Level → Option (Level × Operator) → Option Operator
 of_level l None = None
 of_level l (Some (m, o)) = if level_rank m == level_rank l then Some o else None
 
+-- the operator of this level that stands next, if one does
 abbrev pub operator_next : Level → List Terminal → Option Operator
 operator_next l (sign_terminal s ∷ r) = of_level l (binary_operator s)
 operator_next l _ = None
@@ -170,6 +177,7 @@ abbrev pub begun_frame : Level → Operator → Frame
 begun_frame level.Join o = frame.Join 1
 begun_frame l o = frame.Operator l o
 
+-- behind an operand that begins a chain of its level: an operator that begins it, or none, so that the operand is the chain
 abbrev pub chain_move : Option Operator → Level → List Frame → List Terminal → Move
 chain_move (Some o) l fs ts = moves focus.Begin (begun_frame l o ∷ fs) (behind ts) []
 chain_move None l fs ts = moves (looser l) fs ts []
@@ -211,9 +219,12 @@ choice_move fs ts = question_move fs ts
 abbrev pub behind_charset : List ℕ → List Terminal → Option (List Terminal)
 behind_charset t r = if str_eq_ignore_ascii_case t (codes "UTF-8") then Some r else None
 
+-- what stands behind the further arguments of `htmlspecialchars` and the closing bracket, if these stand next
 abbrev pub behind_quotes : List Terminal → Option (List Terminal)
-behind_quotes (sign_terminal sign.Comma ∷ name_terminal q ∷ sign_terminal sign.CloseParen ∷ r) = if same_bytes q (codes "ENT_QUOTES") then Some r else None
-behind_quotes (sign_terminal sign.Comma ∷ name_terminal q ∷ sign_terminal sign.Comma ∷ text_terminal t ∷ sign_terminal sign.CloseParen ∷ r) = if same_bytes q (codes "ENT_QUOTES") then behind_charset t r else None
+behind_quotes (sign_terminal sign.Comma ∷ name_terminal q ∷ sign_terminal sign.CloseParen ∷ r) =
+    if same_bytes q (codes "ENT_QUOTES") then Some r else None
+behind_quotes (sign_terminal sign.Comma ∷ name_terminal q ∷ sign_terminal sign.Comma ∷ text_terminal t ∷ sign_terminal sign.CloseParen
+    ∷ r) = if same_bytes q (codes "ENT_QUOTES") then behind_charset t r else None
 behind_quotes _ = None
 
 -- behind an argument of a call
@@ -222,10 +233,12 @@ next_argument_move f n fs (sign_terminal sign.CloseParen ∷ r) = moves focus.Su
 next_argument_move f n fs (sign_terminal sign.Comma ∷ r) = moves focus.Begin (frame.Argument f (n + 1) ∷ fs) r []
 next_argument_move f n fs _ = stuck
 
+-- behind the text of `htmlspecialchars`: with its further arguments the call is whole and has the text alone
 abbrev pub escape_move : Option (List Terminal) → List ℕ → ℕ → List Frame → List Terminal → Move
 escape_move (Some r) f n fs ts = moves focus.Subscripted fs r (call_action f 1 ∷ [])
 escape_move None f n fs ts = next_argument_move f n fs ts
 
+-- behind an argument of a call, before which there are so many
 abbrev pub argument_move : List ℕ → ℕ → List Frame → List Terminal → Move
 argument_move f n fs ts = escape_move (if is_escape f && n == 0 then behind_quotes ts else None) f n fs ts
 
@@ -241,11 +254,13 @@ next_item_move b keyed n fs (sign_terminal sign.Comma ∷ r) =
     else moves focus.Begin (frame.Item b (n + 1) ∷ fs) r (item_actions keyed [])
 next_item_move b keyed n fs ts = stuck
 
+-- behind a whole item of an array, before which there are so many: the end at once, or a comma
 abbrev pub item_end_move : Brackets → Bool → ℕ → List Frame → List Terminal → Move
 item_end_move b keyed n fs ts =
     if closed_next b ts then moves focus.Unary fs (behind ts) (item_actions keyed (array_action (n + 1) ∷ []))
     else next_item_move b keyed n fs ts
 
+-- behind an item of an array or its key: `=>`, and else it was the item
 abbrev pub item_move : Brackets → ℕ → List Frame → List Terminal → Move
 item_move b n fs (sign_terminal sign.DoubleArrow ∷ r) = moves focus.Begin (frame.KeyedItem b n ∷ fs) r []
 item_move b n fs ts = item_end_move b false n fs ts
@@ -266,10 +281,12 @@ abbrev pub subscript_end_move : List Frame → List Terminal → Move
 subscript_end_move fs (sign_terminal sign.CloseBracket ∷ r) = moves focus.Subscripted fs r (member_action ∷ [])
 subscript_end_move fs _ = stuck
 
+-- behind an expression in round brackets, which subscripts may follow
 abbrev pub parens_end_move : List Frame → List Terminal → Move
 parens_end_move fs (sign_terminal sign.CloseParen ∷ r) = moves focus.Subscripted fs r []
 parens_end_move fs _ = stuck
 
+-- behind the operand of `empty`
 abbrev pub empty_end_move : List Frame → List Terminal → Move
 empty_end_move fs (sign_terminal sign.CloseParen ∷ r) = moves focus.Unary fs r (empty_action ∷ [])
 empty_end_move fs _ = stuck

@@ -12,14 +12,17 @@ keys_count no_key_form = 0
 keys_count (open_key_form ks) = 1 + keys_count ks
 keys_count (key_form e ks) = 1 + keys_count ks
 
+-- how many subscripts there are
 abbrev pub subscripts_count : SubscriptsForm → ℕ
 subscripts_count no_subscript = 0
 subscripts_count (subscript_form e ks) = 1 + subscripts_count ks
 
+-- how many further expressions there are, that before them not counted
 abbrev pub exprs_count : MoreExprsForm → ℕ
 exprs_count no_more_exprs = 0
 exprs_count (one_more_expr e es) = 1 + exprs_count es
 
+-- how many further items there are, that before them not counted
 abbrev pub items_count : MoreItemsForm → ℕ
 items_count end_of_items = 0
 items_count last_comma = 0
@@ -31,25 +34,30 @@ is_flat level.Join = true
 is_flat _ = false
 
 unfoldable mutual
+  -- the actions of an expression: an assignment is made behind its keys and its right side
   pub expr_actions : ExprForm → List Action → List Action
   expr_actions (assign_form (target_form x ks) e) r = target_keys_actions ks (expr_actions e (assign_action x (keys_count ks) ∷ r))
   expr_actions (update_form (target_form x ks) s u is e) r = target_keys_actions ks (expr_actions e (update_action u x (keys_count ks) ∷ r))
   expr_actions (choice_form c) r = choice_actions c r
 
+  -- the actions of the keys of a target, one for a key that is left out too
   pub target_keys_actions : KeysForm → List Action → List Action
   target_keys_actions no_key_form r = r
   target_keys_actions (open_key_form ks) r = absent_action ∷ target_keys_actions ks r
   target_keys_actions (key_form e ks) r = expr_actions e (target_keys_actions ks r)
 
+  -- the actions of a choice by `?:`
   pub choice_actions : ChoiceForm → List Action → List Action
   choice_actions (only_choice a) r = nul_actions a r
   choice_actions (short_choice a b) r = nul_actions a (nul_actions b (short_choice_action ∷ r))
   choice_actions (full_choice a e b) r = nul_actions a (expr_actions e (nul_actions b (full_choice_action ∷ r)))
 
+  -- the actions of a chain of `??`, which leans right
   pub nul_actions : NulForm → List Action → List Action
   nul_actions (only_nul c) r = chain_actions c r
   nul_actions (coalesce_form c n) r = chain_actions c (nul_actions n (coalesce_action ∷ r))
 
+  -- the actions of a chain of a binary level: its first operand, and what follows it
   pub chain_actions : {l : Level} → ChainForm l → List Action → List Action
   chain_actions (chain_form {l = l} a m) r = operand_actions a (if is_flat l then joined_actions m r else leaning_actions m r)
 
@@ -65,19 +73,23 @@ unfoldable mutual
   counted_actions (once_more s o is last a) n r = operand_actions a (join_action (n + 1) ∷ r)
   counted_actions (one_more s o is on a m) n r = operand_actions a (counted_actions m (n + 1) r)
 
+  -- what follows the first operand of a chain that leans left: each operand with its operator behind it
   pub leaning_actions : {l : Level} → MoreForm l → List Action → List Action
   leaning_actions no_more r = r
   leaning_actions (once_more s o is last a) r = operand_actions a (binary_action o ∷ r)
   leaning_actions (one_more s o is on a m) r = operand_actions a (binary_action o ∷ leaning_actions m r)
 
+  -- the actions of an operand of a level
   pub operand_actions : {l : Level} → OperandForm l → List Action → List Action
   operand_actions (tighter_form is c) r = chain_actions c r
   operand_actions (tightest_form is u) r = unary_actions u r
 
+  -- the actions of a unary operand: the prefix operators behind what they stand before
   pub unary_actions : UnaryForm → List Action → List Action
   unary_actions (prefix_form s p is u) r = unary_actions u (prefix_action p ∷ r)
   unary_actions (post_form p) r = post_actions p r
 
+  -- the actions of what no binary or prefix operator joins
   pub post_actions : PostForm → List Action → List Action
   post_actions (base_form (variable_base x) ks) r = keys_of_actions ks (read_action x (subscripts_count ks) ∷ r)
   post_actions (base_form (call_base f es) ks) r = list_actions f es (subscripts_actions ks r)
@@ -99,6 +111,7 @@ unfoldable mutual
   keys_of_actions no_subscript r = r
   keys_of_actions (subscript_form e ks) r = expr_actions e (keys_of_actions ks r)
 
+  -- the subscripts of a value that is no variable: each makes a member of what stands before it
   pub subscripts_actions : SubscriptsForm → List Action → List Action
   subscripts_actions no_subscript r = r
   subscripts_actions (subscript_form e ks) r = expr_actions e (member_action ∷ subscripts_actions ks r)
@@ -108,19 +121,23 @@ unfoldable mutual
   list_actions f empty_list r = call_action f 0 ∷ r
   list_actions f (list_form e es) r = expr_actions e (more_exprs_actions es (call_action f (exprs_count es + 1) ∷ r))
 
+  -- the actions of further expressions
   pub more_exprs_actions : MoreExprsForm → List Action → List Action
   more_exprs_actions no_more_exprs r = r
   more_exprs_actions (one_more_expr e es) r = expr_actions e (more_exprs_actions es r)
 
+  -- the actions of the items of an array, and the array behind them
   pub items_actions : ItemsForm → List Action → List Action
   items_actions empty_items r = array_action 0 ∷ r
   items_actions (items_form i is) r = item_form_actions i (more_items_actions is (array_action (items_count is + 1) ∷ r))
 
+  -- the actions of further items
   pub more_items_actions : MoreItemsForm → List Action → List Action
   more_items_actions end_of_items r = r
   more_items_actions last_comma r = r
   more_items_actions (one_more_item i is) r = item_form_actions i (more_items_actions is r)
 
+  -- the actions of an item: its key, if it has one, and its value
   pub item_form_actions : ItemForm → List Action → List Action
   item_form_actions (value_item e) r = expr_actions e (unkeyed_action ∷ r)
   item_form_actions (keyed_item k e) r = expr_actions k (expr_actions e r)

@@ -13,7 +13,8 @@ use Rattle.expr_machine.specs.Actions.{Action}
 use Rattle.expr_machine.specs.Machine.{Move, moves, finished, stuck, move}
 use Rattle.expr_machine.specs.Values.{PlainValue, execute}
 
--- how loosely a sign goes on with what stands before it: 0 is a subscript, a step or an assignment, 1 to 7 an operator of that level, 8 is `??`,
+-- how loosely a sign goes on with what stands before it: 0 is a subscript, a step or an assignment, 1 to 7 an operator of that level, 8 is
+-- `??`,
 -- 9 is `?`, and 10 nothing at all
 abbrev pub other_rank : Sign → ℕ
 other_rank sign.OpenBracket = 0
@@ -30,6 +31,7 @@ other_rank sign.Coalesce = 8
 other_rank sign.Question = 9
 other_rank _ = 10
 
+-- how loosely a sign goes on, by the level of its operator, if it is a binary one
 abbrev pub sign_rank : Option (Level × Operator) → Sign → ℕ
 sign_rank (Some found) s = level_rank found.0
 sign_rank None s = other_rank s
@@ -50,6 +52,7 @@ focus_weight focus.Chain = 5
 focus_weight focus.Coalesced = 4
 focus_weight focus.Whole = 0
 
+-- 64 for each terminal that is left, 2 for each thing begun, and the weight of the place
 abbrev pub weight : Focus → List Frame → List Terminal → ℕ
 weight f fs ts = 64 * length ts + 2 * length fs + focus_weight f
 
@@ -59,7 +62,8 @@ after_actions acts None = None
 after_actions acts (Some rest) = Some (acts ++ rest.0, rest.1)
 
 -- what a move leads to, where the rest of a run is given
-abbrev pub run_from : (Focus → List Frame → List Terminal → Option (List Action × List Terminal)) → List Terminal → Move → Option (List Action × List Terminal)
+abbrev pub run_from : (Focus → List Frame → List Terminal → Option (List Action × List Terminal)) → List Terminal → Move
+    → Option (List Action × List Terminal)
 run_from next ts (moves f fs r acts) = after_actions acts (next f fs r)
 run_from next ts finished = Some ([], ts)
 run_from next ts stuck = None
@@ -82,6 +86,7 @@ abbrev pub with_values : Option (List PlainValue) → List Terminal → Option (
 with_values None r = None
 with_values (Some vs) r = Some (vs, r)
 
+-- what the actions of a run make of the values so far, if there is a run
 abbrev pub executed : Option (List Action × List Terminal) → List PlainValue → Option (List PlainValue × List Terminal)
 executed None vs = None
 executed (Some found) vs = with_values (execute found.0 vs) found.1
@@ -90,6 +95,7 @@ executed (Some found) vs = with_values (execute found.0 vs) found.1
 abbrev pub reads_on : Focus → List Frame → List Terminal → List PlainValue → Option (List PlainValue × List Terminal)
 reads_on f fs ts vs = executed (run_on f fs ts) vs
 
+-- the longest expression at the front: the values with its own, and what stands behind it
 abbrev pub reads_expr : List Terminal → List PlainValue → Option (List PlainValue × List Terminal)
 reads_expr ts vs = reads_on focus.Begin [] ts vs
 
@@ -98,6 +104,7 @@ abbrev pub reads_after : Option (List PlainValue) → Focus → List Frame → L
 reads_after None f fs r = None
 reads_after (Some vs) f fs r = reads_on f fs r vs
 
+-- what a move leads to, with the values before it
 abbrev pub reads_next : List Terminal → List PlainValue → Move → Option (List PlainValue × List Terminal)
 reads_next ts vs (moves f fs r acts) = reads_after (execute acts vs) f fs r
 reads_next ts vs finished = Some (vs, ts)

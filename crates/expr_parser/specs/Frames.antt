@@ -6,6 +6,7 @@ use Rattle.expr_machine.specs.Machine.{level_rank}
 use Rattle.expr_parser.specs.declared.reader.Waiting.{Waiting}
 use Rattle.expr_parser.specs.declared.reader.Waiting.TheVariants as waiting
 
+-- what a thing that was begun waits for; all others wait for a whole expression
 abbrev pub waiting_for : Frame → Waiting
 waiting_for (frame.Prefix p) = waiting.Prefix p
 waiting_for (frame.Operator l o) = waiting.Operator l o
@@ -15,6 +16,7 @@ waiting_for frame.ShortChoice = waiting.ShortChoice
 waiting_for frame.FullChoice = waiting.FullChoice
 waiting_for _ = waiting.Whole
 
+-- what the last thing begun waits for; a whole expression where nothing is
 abbrev pub waiting_of : List Frame → Waiting
 waiting_of [] = waiting.Whole
 waiting_of (f ∷ fs) = waiting_for f

@@ -41,6 +41,7 @@ plain_action action.Empty = plain.empty_action
 plain_action (action.Array n) = plain.array_action n
 plain_action (action.Call f n) = plain.call_action f n
 
+-- the actions of one move in their order
 abbrev pub plain_actions : Actions → List plain.Action
 plain_actions some.Nothing = []
 plain_actions (some.One a) = plain_action a ∷ []

@@ -6,6 +6,7 @@ use Rattle.expr_machine.specs.Values.{PlainValue, known_value, tall_value, absen
 use Rattle.expr_values.specs.declared.value.Value.{Value}
 use Rattle.expr_values.specs.declared.value.Value.TheVariants as value
 
+-- the plain form of a value
 abbrev pub plain_value : Value → PlainValue
 plain_value (value.Known tree height) = known_value (plain_expr tree) height
 plain_value (value.Tall place) = tall_value place
@@ -31,10 +32,12 @@ abbrev pub known_both : PlainValue → PlainValue → Option (PlainExpr × Plain
 known_both (known_value a h) (known_value b k) = Some (a, b, max h k)
 known_both _ _ = None
 
+-- the plain form of two trees and the height of the higher one, if both are kept
 abbrev pub both_shown : Option (Expr × Expr × ℕ) → Option (PlainExpr × PlainExpr × ℕ)
 both_shown None = None
 both_shown (Some both) = Some (plain_expr both.0, plain_expr both.1, both.2)
 
+-- the plain form of a tree, if it is kept
 abbrev pub tree_shown : Option Expr → Option PlainExpr
 tree_shown None = None
 tree_shown (Some e) = Some (plain_expr e)

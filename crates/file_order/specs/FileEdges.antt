@@ -6,6 +6,7 @@ use Rattle.program_rules.specs.Includes.{includes_of_file}
 use Rattle.program_rules.specs.Programs.{ReadFile}
 use Rattle.expansion_laws.specs.Order.{place_of}
 
+-- the place before the places, if there is one
 abbrev pub with_place : Option ℕ → List ℕ → List ℕ
 with_place None places = places
 with_place (Some place) places = place ∷ places
@@ -17,5 +18,6 @@ places_of files (path ∷ paths) = with_place (place_of files path) (places_of f
 
 -- an edge leads from each of the files to each that it includes
 pub record AreEdges (files : List ReadFile) (edges : List (Vec ℕ Global)) : Type 0 where
-  pub each : (place : ℕ) (file : ReadFile) (targets : Vec ℕ Global) → slice_get files place ≡ Some file → slice_get edges place ≡ Some targets → targets.items ≡ places_of files (includes_of_file file.tree)
+  pub each : (place : ℕ) (file : ReadFile) (targets : Vec ℕ Global) → slice_get files place ≡ Some file
+      → slice_get edges place ≡ Some targets → targets.items ≡ places_of files (includes_of_file file.tree)
   pub size : length edges ≡ length files

@@ -12,8 +12,10 @@ use Rattle.expansion_laws.specs.Within.{IsIncludeOrder, AreHeld}
 -- files under names of their own, with each file that one of them includes
 pub record AreWhole (files : List ReadFile) : Type 0 where
   pub own : (i j : ℕ) (one other : ReadFile) → slice_get files i ≡ Some one → slice_get files j ≡ Some other → one.name ≡ other.name → i ≡ j
-  pub closed : (file : ReadFile) (path : List ℕ) → Contains files file → Contains (includes_of_file file.tree) path → is_read files path ≡ true
+  pub closed : (file : ReadFile) (path : List ℕ) → Contains files file → Contains (includes_of_file file.tree) path
+      → is_read files path ≡ true
 
+-- the name of a file, if there is one
 abbrev pub name_or_none : Option ReadFile → List ℕ
 name_or_none None = []
 name_or_none (Some file) = file.name

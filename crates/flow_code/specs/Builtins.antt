@@ -14,6 +14,7 @@ abbrev pub replacing : List ℕ → List ℕ → Op
 replacing [] with = op.Same
 replacing (b ∷ search) with = op.Replace (b ∷ search) with
 
+-- `str_replace` by the trees of its search and replacement; not both text literals: any text of the bytes of subject and replacement
 unfoldable pub replacement : PlainExpr → PlainExpr → Op
 replacement (text_expr search) (text_expr with) = replacing search with
 replacement _ _ = op.Any
@@ -28,10 +29,12 @@ literal_integer _ = None
 abbrev pub is_small : ℤ → Bool
 is_small z = nat_le (nat_abs z) 1024
 
+-- `substr` from a start to the end of the text: a cut where the start is a literal and small, and else some part of the text
 abbrev pub cutting_from : Option ℤ → Op
 cutting_from None = op.Factor
 cutting_from (Some start) = if is_small start then op.Cut start None else op.Factor
 
+-- `substr` with a start and a length: a cut where both are literals and small, and else some part of the text
 abbrev pub cutting_out : Option ℤ → Option ℤ → Op
 cutting_out None len = op.Factor
 cutting_out (Some start) None = op.Factor
@@ -46,6 +49,7 @@ splitting _ = op.Factor
 abbrev pub one_text : Op → Builtin → ℕ → PlainSource
 one_text operation f x = apply_source operation x f (x ∷ [])
 
+-- a call with one argument, by the slot of its value; what is neither text nor truth value is a number
 unfoldable pub source_of_one : Builtin → ℕ → PlainSource
 source_of_one builtin.Htmlspecialchars x = one_text op.Html builtin.Htmlspecialchars x
 source_of_one builtin.Strtolower x = one_text op.Lower builtin.Strtolower x
@@ -63,6 +67,7 @@ source_of_one builtin.IsArray x = truth_source (work.Builtin builtin.IsArray) (x
 source_of_one builtin.IsString x = truth_source (work.Builtin builtin.IsString) (x ∷ [])
 source_of_one f x = number_source (work.Builtin f) (x ∷ [])
 
+-- a call with two arguments, by their trees and the slots of their values, in the order in which they stand in the call
 unfoldable pub source_of_two : Builtin → PlainExpr → PlainExpr → ℕ → ℕ → PlainSource
 unfolding literal_integer splitting
 source_of_two builtin.Substr a b x y = apply_source (cutting_from (literal_integer b)) x builtin.Substr (x ∷ y ∷ [])
@@ -71,10 +76,12 @@ source_of_two builtin.Implode a b x y = implode_source x y builtin.Implode (x �
 source_of_two builtin.StrRepeat a b x y = repeat_source x builtin.StrRepeat (x ∷ y ∷ [])
 source_of_two f a b x y = number_source (work.Builtin f) (x ∷ y ∷ [])
 
+-- a call with three arguments, by their trees and the slots of their values, in the order in which they stand in the call
 unfoldable pub source_of_three : Builtin → PlainExpr → PlainExpr → PlainExpr → ℕ → ℕ → ℕ → PlainSource
 unfolding literal_integer replacement
 source_of_three builtin.StrReplace a b c x y z = apply_source (replacement a b) z builtin.StrReplace (x ∷ y ∷ z ∷ [])
-source_of_three builtin.Substr a b c x y z = apply_source (cutting_out (literal_integer b) (literal_integer c)) x builtin.Substr (x ∷ y ∷ z ∷ [])
+source_of_three builtin.Substr a b c x y z =
+    apply_source (cutting_out (literal_integer b) (literal_integer c)) x builtin.Substr (x ∷ y ∷ z ∷ [])
 source_of_three f a b c x y z = number_source (work.Builtin f) (x ∷ y ∷ z ∷ [])
 
 -- a call by its function, the trees of its arguments and the slots of their values

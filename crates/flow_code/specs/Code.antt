@@ -56,9 +56,11 @@ pub record Block : Type 0 where
   pub slots : ℕ
   pub points : Targets → ℕ → ℕ → List PlainPoint
 
+-- no statement: no point and no slot
 abbrev pub no_block : Block
 no_block = record { size = 0; slots = 0; points = λ to p t. [] }
 
+-- one block and then another, whose points and slots follow those of the first; `break` and `continue` lead alike in both
 abbrev pub ◌before◌ : Block → Block → Block
 a before b = record {
   size = a.size + b.size;

@@ -22,6 +22,7 @@ pub record Scope : Type 0 where
   pub names : List Name
   pub functions : List PlainFunction
 
+-- the slot of a variable of the function
 unfoldable pub variable : Scope → Name → ℕ
 unfolding place_of
 variable w x = w.base + place_of x w.names
@@ -35,9 +36,11 @@ function_in n (f ∷ fs) name = if bytes_eq f.name_of name then Some (n, f) else
 abbrev pub literal : Plain → Code ℕ
 literal v = from_source (literal_source v)
 
+-- a fresh slot set to an operation on one value
 abbrev pub of_one : Work → (Work → List ℕ → PlainSource) → Code ℕ → Code ℕ
 of_one sign source a = computed a (λ x. source sign (x ∷ []))
 
+-- a fresh slot set to an operation on two values, the first of which is computed before the second
 abbrev pub of_two : Work → (Work → List ℕ → PlainSource) → Code ℕ → Code ℕ → Code ℕ
 of_two sign source a b = computed (both a b (λ x y. x ∷ y ∷ [])) (source sign)
 
@@ -113,7 +116,8 @@ chosen_itself c b = record {
       let second = first + 1 in
       let end = second + b.size + 1 in
       let result = t + c.slots + b.slots in
-      c.points p t ++ (branch_point (c.gives t) first second ∷ set_point result (copy_source (c.gives t)) end ∷ b.points second (t + c.slots)
+      c.points p t ++ (branch_point (c.gives t) first second ∷ set_point result (copy_source (c.gives t)) end
+      ∷ b.points second (t + c.slots)
       ++ (set_point result (copy_source (b.gives (t + c.slots))) end ∷ []));
   gives = λ t. t + c.slots + b.slots;
 }
@@ -137,6 +141,7 @@ abbrev pub member_at : ℕ → Option PlainKeyRef → PlainSource
 member_at x None = literal_source null
 member_at x (Some k) = member_source x k
 
+-- from point p and slot t on: the member at the first key, then in that member the one at the second, and so on, a point and a slot each
 unfoldable pub members_along : ℕ → List (Option PlainKeyRef) → ℕ → ℕ → List PlainPoint
 members_along x [] p t = []
 members_along x (k ∷ ks) p t = set_point t (member_at x k) (p + 1) ∷ members_along t ks (p + 1) (t + 1)
@@ -167,7 +172,8 @@ updated_at sign x old right =
     stored x (record {
       size = parts.size + 1;
       slots = parts.slots + 1;
-      points = λ p t. parts.points p t ++ set_point (t + parts.slots) (updating sign ((parts.gives t).0).1 (parts.gives t).1) (p + parts.size + 1) ∷ [];
+      points = λ p t. parts.points p t
+          ++ set_point (t + parts.slots) (updating sign ((parts.gives t).0).1 (parts.gives t).1) (p + parts.size + 1) ∷ [];
       gives = λ t. (((parts.gives t).0).0, t + parts.slots);
     })
 
@@ -184,15 +190,18 @@ filled x a b = record {
       let result = test + 1 + b.slots in
       a.points p t ++ (set_point test (truth_source work.NotNull (old ∷ [])) (p + a.size + 1) ∷ branch_point test left (left + 1)
       ∷ set_point result (copy_source old) (copied + 1 + 1) ∷ b.points (left + 1) (test + 1)
-      ++ (set_point result (copy_source (b.gives (test + 1))) (copied + 1) ∷ set_point x (written x (a.gives t).0 result) (copied + 1 + 1) ∷ []));
+      ++ (set_point result (copy_source (b.gives (test + 1))) (copied + 1) ∷ set_point x (written x (a.gives t).0 result) (copied + 1 + 1)
+      ∷ []));
   gives = λ t. t + a.slots + 1 + b.slots;
 }
 
+-- an assignment with an operator: `??=` writes only where the old value is null, and the other signs always
 unfoldable pub update_code : UpdateSign → ℕ → Code (List (Option PlainKeyRef) × ℕ) → Code ℕ → Code ℕ
 unfolding updating members_along
 update_code update.Coalesce x old right = filled x old right
 update_code sign x old right = updated_at sign x old right
 
+-- the change by one: up for `++`, down for `--`
 abbrev pub step_work : Bool → Work
 step_work true = work.Up
 step_work false = work.Down
@@ -219,6 +228,7 @@ default_code no_expr = literal null
 default_code (some_expr (neg_expr (int_expr z))) = of_one work.Neg number_source (literal (int z))
 default_code (some_expr e) = literal (literal_value e)
 
+-- the defaults of these parameters, in their order; null for a parameter without one
 unfoldable pub default_codes : List PlainParam → Code (List ℕ)
 unfolding default_code
 default_codes [] = known []
@@ -235,20 +245,24 @@ called function params args defaults =
       gives = λ t. t + values.slots;
     }
 
+-- a call of a function of the script, with so many arguments: parameters beyond them have their defaults; null where none has the name
 unfoldable pub call_own : Option (ℕ × PlainFunction) → ℕ → Code (List ℕ) → Code ℕ
 unfolding default_codes
 call_own None number args = computed args (λ xs. literal_source null)
 call_own (Some found) number args = called found.0 (length (found.1).params_of) args (default_codes (drop number (found.1).params_of))
 
+-- how many expressions there are
 unfoldable pub number_of : PlainExprs → ℕ
 number_of no_exprs = 0
 number_of (more_exprs e es) = suc (number_of es)
 
+-- a call by what its name stands for: one of PHP's functions where it is the name of one, and else a function of the script
 unfoldable pub call_code : Option Builtin → Option (ℕ × PlainFunction) → PlainExprs → Code (List ℕ) → Code ℕ
 unfolding builtin_source call_own number_of
 call_code (Some f) own trees args = computed args (builtin_source f trees)
 call_code None own trees args = call_own own (number_of trees) args
 
+-- how many keys a path has, each `[]` counted
 unfoldable pub length_of_path : PlainPath → ℕ
 length_of_path no_keys = 0
 length_of_path (more_keys k ks) = suc (length_of_path ks)
@@ -262,6 +276,7 @@ key_code e a = left a read_ref
 unfoldable mutual
   unfolding key_code variable call_code update_code step_code function_in length_of_path
 
+  -- the points of an expression, which leave its value in a slot
   pub code : Scope → PlainExpr → Code ℕ
   code w null_expr = literal null
   code w (flag_expr b) = literal (flag b)
@@ -284,22 +299,27 @@ unfoldable mutual
   code w (isset_expr parts) = computed (codes w parts) (truth_source work.Isset)
   code w (empty_expr a) = of_one work.Empty truth_source (code w a)
   code w (assign_expr x path e) = stored (variable w x) (both (path_code w path) (code w e) (λ keys v. (keys, v)))
-  code w (update_expr sign x path e) = update_code sign (variable w x) (old_value (variable w x) (length_of_path path) (path_code w path)) (code w e)
+  code w (update_expr sign x path e) =
+      update_code sign (variable w x) (old_value (variable w x) (length_of_path path) (path_code w path)) (code w e)
   code w (step_expr x up before) = step_code (variable w x) up before
   code w (call_expr name args) = call_code (builtin_named name) (function_in 1 w.functions name) args (codes w args)
 
+  -- the points of expressions from the left to the right, and the slots of their values in the same order
   pub codes : Scope → PlainExprs → Code (List ℕ)
   codes w no_exprs = known []
   codes w (more_exprs e es) = both (code w e) (codes w es) (λ x xs. x ∷ xs)
 
+  -- the points of a key that may be left out
   pub maybe_key : Scope → MaybeExpr → Code (Option PlainKeyRef)
   maybe_key w no_expr = known None
   maybe_key w (some_expr e) = left (key_code e (code w e)) Some
 
+  -- the points of the keys of a target from the left to the right, and the keys
   pub path_code : Scope → PlainPath → Code (List (Option PlainKeyRef))
   path_code w no_keys = known []
   path_code w (more_keys k ks) = both (maybe_key w k) (path_code w ks) (λ first rest. first ∷ rest)
 
+  -- the points of the items of an array literal, a key before its value, and the keys and the slots of the values
   pub items_code : Scope → PlainItems → Code (List (Option PlainKeyRef × ℕ))
   items_code w no_items = known []
   items_code w (more_items k e is) = both (both (maybe_key w k) (code w e) (λ key x. (key, x))) (items_code w is) (λ item rest. item ∷ rest)

@@ -14,6 +14,7 @@ unfoldable pub scope_of : List PlainFunction → PlainFunction → ℕ → Scope
 unfolding variables_of
 scope_of table f slot = record { base = slot; names = variables_of f; functions = table }
 
+-- the code of a function's body, with the function's variables from this slot on
 unfoldable pub body_of_function : List PlainFunction → PlainFunction → ℕ → Block
 unfolding scope_of block
 body_of_function table f slot = block (scope_of table f slot) f.body_of
@@ -35,6 +36,7 @@ flat_function table f point slot =
           ++ (set_point (free + body.slots) (literal_source null) (end + 1) ∷ return_point (free + body.slots) ∷ []);
     }
 
+-- functions in their order, from a point and a slot on: each one's points and slots begin where those of the one before it end
 unfoldable pub flat_functions : List PlainFunction → List PlainFunction → ℕ → ℕ → List PlainFlowFunction
 unfolding flat_function
 flat_functions table [] point slot = []
@@ -46,6 +48,7 @@ flat_functions table (f ∷ fs) point slot =
 unfoldable pub main_function : PlainProgram → PlainFunction
 main_function program = record { name_of = []; params_of = []; body_of = program.main_of }
 
+-- a program's points: function 0 is the statements outside functions, and the program's functions follow in their order from 1 on
 unfoldable pub flat : PlainProgram → PlainFlow
 unfolding flat_functions main_function
 flat program = record { functions_of = flat_functions program.functions_of (main_function program ∷ program.functions_of) 0 0 }

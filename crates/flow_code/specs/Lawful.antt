@@ -13,15 +13,18 @@ use Rattle.flow_code.specs.declared.source.Work.{Work}
 use Rattle.flow_code.specs.declared.source.Work.TheVariants as work
 use Rattle.flow_code.specs.Points.{PlainKeyRef, int_ref, text_ref, read_ref, PlainSource, literal_source, copy_source, super_source, member_source, array_source, put_source, concat_source, repeat_source, implode_source, explode_source, apply_source, number_source, truth_source, PlainPoint, set_point, call_point, print_point, echo_point, branch_point, jump_point, begin_point, next_point, key_point, value_point, return_point, quit_point, PlainFlowFunction, PlainFlow, function_at}
 
+-- the slots that a key reads: one where the key is not written out in the script
 abbrev pub key_slots : PlainKeyRef → List ℕ
 key_slots (int_ref z) = []
 key_slots (text_ref t) = []
 key_slots (read_ref x) = x ∷ []
 
+-- the slots that a key reads, if one is written; `[]` and an array item without a key read none
 abbrev pub maybe_key_slots : Option PlainKeyRef → List ℕ
 maybe_key_slots None = []
 maybe_key_slots (Some k) = key_slots k
 
+-- the slots that an array item reads: that of its key, if one is read, and then that of its value
 abbrev pub item_slots : (Option PlainKeyRef × ℕ) → List ℕ
 item_slots item = maybe_key_slots item.0 ++ item.1 ∷ []
 
@@ -104,10 +107,12 @@ IsKeyLiteral (int_ref z) = is_in_range z ≡ true
 IsKeyLiteral (text_ref t) = length t ≤ 16777216
 IsKeyLiteral (read_ref x) = ⊤
 
+-- a key that may be left out; where it stands in the script it is a key of a run
 abbrev pub IsMaybeKey : Option PlainKeyRef → Type 0
 IsMaybeKey None = ⊤
 IsMaybeKey (Some k) = IsKeyLiteral k
 
+-- the key of an array item, if it has one, is a key of a run where it stands in the script
 abbrev pub IsItemKey : (Option PlainKeyRef × ℕ) → Type 0
 IsItemKey item = IsMaybeKey item.0
 
@@ -194,6 +199,7 @@ pub record PointFits (fs : List PlainFlowFunction) (g : PlainFlowFunction) (i : 
   pub stays : All (IsOwnPoint g) (nexts i)
   pub parts : PartsFit fs i
 
+-- the function is entered at a point of its own, its parameters are slots of its own, and each of its points fits in it
 pub record FunctionFits (fs : List PlainFlowFunction) (g : PlainFlowFunction) : Type 0 where
   pub entry : IsOwnPoint g g.entry_of
   pub params : All (IsOwnSlot g) g.params_of

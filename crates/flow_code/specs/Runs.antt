@@ -19,6 +19,7 @@ use Rattle.flow_code.specs.declared.source.Work.{Work}
 use Rattle.flow_code.specs.declared.source.Work.TheVariants as work
 use Rattle.flow_code.specs.Points.{PlainKeyRef, int_ref, text_ref, read_ref, PlainSource, literal_source, copy_source, super_source, member_source, array_source, put_source, concat_source, repeat_source, implode_source, explode_source, apply_source, number_source, truth_source, set_point, call_point, print_point, echo_point, branch_point, jump_point, begin_point, next_point, key_point, value_point, return_point, quit_point, PlainFlowFunction, PlainFlow, point_at, function_at}
 
+-- the value of each slot, by its number
 abbrev pub Slots : Type 0
 Slots = ℕ → Plain
 
@@ -40,18 +41,22 @@ pub record Frame : Type 0 where
 unfoldable pub set_slot : Frame → ℕ → Plain → Frame
 set_slot f x v = record { slots = λ y. if nat_eq y x then v else f.slots y; walks = λ y. if nat_eq y x then no_walk else f.walks y }
 
+-- a slot set to a walk; its value and every other slot stay
 unfoldable pub set_walk : Frame → ℕ → Walk → Frame
 set_walk f x walk = record f { walks = λ y. if nat_eq y x then walk else f.walks y }
 
+-- the value of a key: an integer or a text of the script itself, or what its slot holds
 unfoldable pub key_value : Slots → PlainKeyRef → Plain
 key_value f (int_ref z) = int z
 key_value f (text_ref t) = text t
 key_value f (read_ref x) = f x
 
+-- the value of a key, if one is written; None for `[]` and for an array item without a key
 abbrev pub maybe_key_value : Slots → Option PlainKeyRef → Option Plain
 maybe_key_value f None = None
 maybe_key_value f (Some k) = Some (key_value f k)
 
+-- an array item with its values: that of its key, if it has one, and then its own
 abbrev pub item_value : Slots → (Option PlainKeyRef × ℕ) → (Option Plain × Plain)
 item_value f item = (maybe_key_value f item.0, f item.1)
 

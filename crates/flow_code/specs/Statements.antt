@@ -31,6 +31,7 @@ pub record Test : Type 0 where
   pub slots : ℕ
   pub points : ℕ → ℕ → ℕ → List PlainPoint
 
+-- a condition: where its value is true the run goes on behind it, and else at the point that is handed in
 abbrev pub test_of : Code ℕ → Test
 test_of a = record {
   size = a.size + 1;
@@ -38,6 +39,7 @@ test_of a = record {
   points = λ stop p t. a.points p t ++ branch_point (a.gives t) (p + a.size + 1) stop ∷ [];
 }
 
+-- the condition of a `for`: one that is left out has no point, and holds
 unfoldable pub test_code : Scope → MaybeExpr → Test
 unfolding code
 test_code w no_expr = record { size = 0; slots = 0; points = λ stop p t. [] }
@@ -72,6 +74,7 @@ abbrev pub pair_points : Option ℕ → ℕ → ℕ → ℕ → List PlainPoint
 pair_points None x walk p = value_point x walk (p + 1) ∷ []
 pair_points (Some key) x walk p = key_point key walk (p + 1) ∷ value_point x walk (p + 2) ∷ []
 
+-- how many points set the variables of a turn: one for the value, and one for the key if there is one
 abbrev pub pair_size : Option ℕ → ℕ
 pair_size None = 1
 pair_size (Some key) = 2
@@ -90,16 +93,19 @@ walking a key x body = record {
       ++ (body.points (record { stop = stop; again = again }) inside (walk + 1) ++ (jump_point again ∷ [])));
 }
 
+-- `return e;`, and `return;`, which returns null
 unfoldable pub return_block : Scope → MaybeExpr → Block
 unfolding code
 return_block w no_expr = ending (literal null) (λ x to p. return_point x)
 return_block w (some_expr e) = ending (code w e) (λ x to p. return_point x)
 
+-- `exit(e);`, which prints its value first where it is a text, and `exit;`
 unfoldable pub quit_block : Scope → MaybeExpr → Block
 unfolding code
 quit_block w no_expr = ending no_code (λ none to p. quit_point None)
 quit_block w (some_expr e) = ending (code w e) (λ x to p. quit_point (Some x))
 
+-- the slot of the key's variable of a `foreach`, if it has one
 abbrev pub key_variable : Scope → Option Name → Option ℕ
 key_variable w None = None
 key_variable w (Some x) = Some (variable w x)
@@ -107,6 +113,7 @@ key_variable w (Some x) = Some (variable w x)
 unfoldable mutual
   unfolding code echo_block test_code return_block quit_block variable
 
+  -- the points of a statement
   pub stmt_block : Scope → PlainStmt → Block
   stmt_block w (inline_stmt bytes) = ending no_code (λ none to p. print_point bytes (p + 1))
   stmt_block w (echo_stmt es) = echo_block w es
@@ -114,7 +121,8 @@ unfoldable mutual
   stmt_block w (if_stmt arms otherwise) = arms_block w arms (block w otherwise)
   stmt_block w (while_stmt e body) = looping (test_of (code w e)) (block w body) no_block
   stmt_block w (do_while_stmt body e) = repeating (block w body) (code w e)
-  stmt_block w (for_stmt begin e next body) = run_code (codes w begin) before looping (test_code w e) (block w body) (run_code (codes w next))
+  stmt_block w (for_stmt begin e next body) =
+      run_code (codes w begin) before looping (test_code w e) (block w body) (run_code (codes w next))
   stmt_block w (each_stmt e key x body) = walking (code w e) (key_variable w key) (variable w x) (block w body)
   stmt_block w break_stmt = ending no_code (λ none to p. jump_point to.stop)
   stmt_block w continue_stmt = ending no_code (λ none to p. jump_point to.again)
@@ -123,6 +131,7 @@ unfoldable mutual
   stmt_block w (include_stmt path) = no_block
   stmt_block w (quit_stmt e) = quit_block w e
 
+  -- the points of statements in their order
   pub block : Scope → PlainStmts → Block
   block w no_stmts = no_block
   block w (more_stmts s ss) = stmt_block w s before block w ss

@@ -1,4 +1,5 @@
--- The variables of a function: the names that stand in its parameters and its body, each once, in the order in which they are first met where loops are read as they run: what stands behind each turn of a `for` after its body.
+-- The variables of a function: the names that stand in its parameters and its body, each once, in the order in which they are first met
+-- where loops are read as they run: what stands behind each turn of a `for` after its body.
 use Rattle.std.specs.Prelude.{ℕ, suc, List, [], ◌∷◌, ◌++◌, Option, Some, None, if◌then◌else◌, bytes_eq, map}
 use Rattle.php_syntax.specs.Trees.{PlainExpr, null_expr, flag_expr, int_expr, text_expr, var_expr, super_expr, member_expr, array_expr, join_expr, neg_expr, not_expr, arith_expr, compare_expr, and_expr, or_expr, coalesce_expr, choice_expr, isset_expr, empty_expr, assign_expr, update_expr, step_expr, call_expr, MaybeExpr, no_expr, some_expr, PlainExprs, no_exprs, more_exprs, PlainItems, no_items, more_items, PlainPath, no_keys, more_keys, PlainStmt, inline_stmt, echo_stmt, run_stmt, if_stmt, while_stmt, do_while_stmt, for_stmt, each_stmt, break_stmt, continue_stmt, return_stmt, include_stmt, quit_stmt, PlainStmts, no_stmts, more_stmts, PlainArms, no_arms, more_arms, PlainParam, PlainFunction}
 
@@ -7,6 +8,7 @@ abbrev pub Name : Type 0
 Name = List ℕ
 
 unfoldable mutual
+  -- the variables that stand in an expression, from the left, as often as they stand there; those of the request are none
   pub names_in : PlainExpr → List Name
   names_in null_expr = []
   names_in (flag_expr b) = []
@@ -32,18 +34,22 @@ unfoldable mutual
   names_in (step_expr x up before) = x ∷ []
   names_in (call_expr name args) = names_in_all args
 
+  -- the variables in an expression that may be left out
   pub maybe_names : MaybeExpr → List Name
   maybe_names no_expr = []
   maybe_names (some_expr e) = names_in e
 
+  -- the variables in expressions, from the left
   pub names_in_all : PlainExprs → List Name
   names_in_all no_exprs = []
   names_in_all (more_exprs e es) = names_in e ++ names_in_all es
 
+  -- the variables in the items of an array literal, from the left, a key before its value
   pub item_names : PlainItems → List Name
   item_names no_items = []
   item_names (more_items k e is) = maybe_names k ++ (names_in e ++ item_names is)
 
+  -- the variables in the keys of a target, from the left
   pub path_names : PlainPath → List Name
   path_names no_keys = []
   path_names (more_keys k ks) = maybe_names k ++ path_names ks
@@ -56,6 +62,7 @@ key_names (Some x) = x ∷ []
 unfoldable mutual
   unfolding names_in
 
+  -- the variables that stand in a statement, in the order of a run that goes through each of its parts once
   pub names_of_stmt : PlainStmt → List Name
   names_of_stmt (inline_stmt bytes) = []
   names_of_stmt (echo_stmt es) = names_in_all es
@@ -71,14 +78,17 @@ unfoldable mutual
   names_of_stmt (include_stmt path) = []
   names_of_stmt (quit_stmt e) = maybe_names e
 
+  -- the variables in statements, in their order
   pub names_of : PlainStmts → List Name
   names_of no_stmts = []
   names_of (more_stmts s ss) = names_of_stmt s ++ names_of ss
 
+  -- the variables in the arms of an `if`: in each those of its condition and then those of its body
   pub names_of_arms : PlainArms → List Name
   names_of_arms no_arms = []
   names_of_arms (more_arms e body arms) = names_in e ++ (names_of body ++ names_of_arms arms)
 
+-- the names in their order, with this one left out wherever it stands
 unfoldable pub without : Name → List Name → List Name
 without x [] = []
 without x (y ∷ ys) = if bytes_eq x y then without x ys else y ∷ without x ys
@@ -89,9 +99,11 @@ unfolding without
 once [] = []
 once (x ∷ xs) = x ∷ without x (once xs)
 
+-- the variable of a parameter
 abbrev pub name_of_param : PlainParam → Name
 name_of_param p = p.name_of
 
+-- the names of a function's variables, each once: those of its parameters first, and then those that its body alone names
 unfoldable pub variables_of : PlainFunction → List Name
 unfolding once
 variables_of f = once (map name_of_param f.params_of ++ names_of f.body_of)

@@ -14,22 +14,28 @@ pub record PlainStep : Type 0 where
   pub nexts_of : List ℕ
   pub reads_of : List ℕ
 
+-- what a point does with slots and where it goes on
 abbrev pub step_of_point : PlainPoint → PlainStep
 step_of_point i = record { sets_of = sets i; nexts_of = nexts i; reads_of = reads i }
 
+-- the same for points in a row
 abbrev pub steps_of_points : List PlainPoint → List PlainStep
 steps_of_points is = map step_of_point is
 
+-- the numbers of slots, in their order
 abbrev pub numbers : List Slot → List ℕ
 numbers xs = map slot_number xs
 
+-- the plain form of where a point goes on
 abbrev pub exits_seen : Exits → List ℕ
 exits_seen exits.Ends = []
 exits_seen (exits.On p) = p.0 ∷ []
 exits_seen (exits.Either p q) = p.0 ∷ q.0 ∷ []
 
+-- the plain form of what the code keeps of a point
 abbrev pub step_seen : Step → PlainStep
 step_seen s = record { sets_of = maybe_slot s.sets; nexts_of = exits_seen s.exits; reads_of = numbers s.reads.items }
 
+-- the same for points in a row
 abbrev pub steps_seen : List Step → List PlainStep
 steps_seen xs = map step_seen xs

@@ -30,7 +30,8 @@ pub record Sets (old new : Progress) (source : PlainSource) (next given : ℕ) :
   pub puts : Puts old new (set_point old.slot source next ∷ []) 1
   pub slot : given ≡ old.slot
 
--- a point is put behind the others, to be replaced once it is known where it leads; this is its index, and the number of the point behind it
+-- a point is put behind the others, to be replaced once it is known where it leads; this is its index, and the number of the point behind
+-- it
 pub record Reserves (old new : Progress) (index behind : ℕ) : Type 0 where
   pub puts : Puts old new (jump_point 0 ∷ []) 0
   pub index_is : index ≡ length old.points

@@ -4,10 +4,12 @@ use Rattle.php_syntax.specs.Trees.{MaybeExpr, some_expr, neg_expr, int_expr, Pla
 use Rattle.plain_values.specs.Plain.{int}
 use Rattle.plain_values.specs.Arithmetic.{negation_of}
 
+-- a default that is `-` and an integer stays within 64 bits; any other keeps nothing here
 abbrev pub IsDefault : MaybeExpr → Type 0
 IsDefault (some_expr (neg_expr (int_expr z))) = negation_of (int z) ≡ Ok (int (neg_ℤ z))
 IsDefault _ = ⊤
 
+-- each default of these parameters keeps this
 abbrev pub AreDefaults : List PlainParam → Type 0
 AreDefaults [] = ⊤
 AreDefaults (p ∷ ps) = IsDefault p.default_of × AreDefaults ps

@@ -21,13 +21,16 @@ pub record Puts (old new : List (ℕ × ℕ)) (m : ℕ) (ys : List ℕ) : Type 0
 abbrev pub owns : PlainFlowFunction → ℕ → Bool
 owns g y = nat_le g.first_slot_of y && nat_lt (y - g.first_slot_of) g.slots_of
 
+-- whether the slot is one of the function's own, if there is the function
 abbrev pub is_owned : Option PlainFlowFunction → ℕ → Bool
 is_owned None y = false
 is_owned (Some g) y = owns g y
 
+-- whether two pairs are the same
 abbrev pub same_pair : (ℕ × ℕ) → (ℕ × ℕ) → Bool
 same_pair a b = nat_eq a.0 b.0 && nat_eq a.1 b.1
 
+-- whether the slot is no parameter of the function of this number
 abbrev pub is_no_param : List (ℕ × ℕ) → ℕ → ℕ → Bool
 is_no_param keys n y = not (list_any (same_pair (n, y)) keys)
 

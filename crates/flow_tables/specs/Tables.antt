@@ -28,6 +28,7 @@ use Rattle.flow_tables.specs.declared.tables.FlowTables.{FlowTables}
 abbrev pub flow_of : FlowTables → PlainFlow
 flow_of t = plain_flow t.flow.now
 
+-- the functions of the program of the tables
 abbrev pub functions_of : FlowTables → List PlainFlowFunction
 functions_of t = (flow_of t).functions_of
 
@@ -46,6 +47,7 @@ pub record AreTables (t : FlowTables) : Type 0 where
 abbrev pub at_in : FlowTables → At
 at_in t = read_at t.versions
 
+-- the pairs, or none where there is no list
 abbrev pub pairs_or_none : Option (List (ℕ × ℕ)) → List (ℕ × ℕ)
 pairs_or_none None = []
 pairs_or_none (Some pairs) = pairs
@@ -78,6 +80,7 @@ further_forms t (FurtherPiece p) = []
 further_forms t (FurtherPieces p) = []
 further_forms t (Out p l) = []
 
+-- the forms of a set that belongs to a point, by its number, or of another
 abbrev pub lists_from : FlowTables → SetName → Option ℕ → Forms
 lists_from t n None = further_forms t n
 lists_from t n (Some p) = forms_there (forms_from (keys_seen t.told.items) (functions_of t) (at_in t) n) (slice_get (points_seen t.row) p)

@@ -20,12 +20,14 @@ state_of_front place o begun = record { state = record { place = place; inside =
 
 -- a front that is not bad is the state
 abbrev pub FrontsLead : Type 0
-FrontsLead = (table : Table) → IsLawfulTable table → (bytes : List ℕ) (place : Place) (o : Open) (begun : List ℕ) → HasFront table bytes (front place o begun) → narrow_state table bytes ≡ Some (state_of_front place o begun)
+FrontsLead = (table : Table) → IsLawfulTable table → (bytes : List ℕ) (place : Place) (o : Open) (begun : List ℕ)
+    → HasFront table bytes (front place o begun) → narrow_state table bytes ≡ Some (state_of_front place o begun)
 
 -- so two texts with one front that is not bad lead to one state
 abbrev pub SameFronts : Type 0
 SameFronts = (table : Table) → IsLawfulTable table → (first second : List ℕ) (place : Place) (o : Open) (begun : List ℕ)
-    → HasFront table first (front place o begun) → HasFront table second (front place o begun) → narrow_state table first ≡ narrow_state table second
+    → HasFront table first (front place o begun) → HasFront table second (front place o begun)
+    → narrow_state table first ≡ narrow_state table second
 
 -- and where the reader has failed the front is bad
 abbrev pub FailedAreBad : Type 0

@@ -29,9 +29,11 @@ choice_of (Some action) = (action.to, action.out.items) ∷ []
 -- to the moves that were there, one is added by which the state takes each byte of the range to the action
 abbrev pub AddsChoice : List TableMove → List TableMove → ℕ → ℕ → ℕ → Option Action → Type 0
 AddsChoice old new from lo hi action =
-    (s byte : ℕ) → choices new s byte ≡ choices old s byte ++ (if from == s && (nat_le lo byte && nat_le byte hi) then choice_of action else [])
+    (s byte : ℕ) → choices new s byte ≡ choices old s byte ++ (if from == s
+    && (nat_le lo byte && nat_le byte hi) then choice_of action else [])
 
 -- to the moves that were there, some are added by which the state takes each byte to the action that is named for it, and nothing else
 abbrev pub AddsRow : List TableMove → List TableMove → ℕ → List ℕ → List Action → Type 0
 AddsRow old new from named actions =
-    (s byte : ℕ) → choices new s byte ≡ choices old s byte ++ (if from == s && nat_lt byte 256 then choice_of (slice_get actions (slice_index named byte)) else [])
+    (s byte : ℕ) → choices new s byte ≡ choices old s byte ++ (if from == s
+    && nat_lt byte 256 then choice_of (slice_get actions (slice_index named byte)) else [])

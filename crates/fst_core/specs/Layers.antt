@@ -29,7 +29,8 @@ SomeGives table keys text output =
 -- the move, by the byte, and then over the text to an end, with what is left of the output from a place on
 abbrev pub ByMove : Table → TableMove → ℕ → ℕ → List ℕ → List ℕ → Type 0
 ByMove table m at byte text output =
-    (at ≤ length output) × InRange m.range byte × (rest : List Letter) × (letters_from output at ≡ map (letter_of byte) m.out.items ++ rest) × TableGives table m.to text rest
+    (at ≤ length output) × InRange m.range byte × (rest : List Letter) × (letters_from output at ≡ map (letter_of byte) m.out.items ++ rest)
+    × TableGives table m.to text rest
 
 -- the same by one of the moves at these places
 abbrev pub ByMoves : Table → List ℕ → ℕ → ℕ → List ℕ → List ℕ → Type 0
@@ -39,15 +40,21 @@ ByMoves table places at byte text output =
 -- the end is of one of the states, and puts out what is left of the output there
 abbrev pub StopsBy : List Reached → List ℕ → TableEnd → Type 0
 StopsBy keys output e =
-    (r : Reached) × Contains keys r × (r.written ≤ length output) × (e.state ≡ r.state) × (map (letter_of 0) e.out.items ≡ letters_from output r.written)
+    (r : Reached) × Contains keys r × (r.written ≤ length output) × (e.state ≡ r.state)
+    × (map (letter_of 0) e.out.items ≡ letters_from output r.written)
 
 -- a place is added to those of a state
 pub record AddsPlace (old new : List (Vec ℕ Global)) (state place : ℕ) : Type 0 where
-  pub back : (s : ℕ) (places : Vec ℕ Global) → slice_get new s ≡ Some places → (was : Vec ℕ Global) × (slice_get old s ≡ Some was) × ((i : ℕ) → Contains places.items i → Contains was.items i ⊎ ((s ≡ state) × (i ≡ place)))
-  pub kept : (s : ℕ) (was : Vec ℕ Global) → slice_get old s ≡ Some was → (places : Vec ℕ Global) × (slice_get new s ≡ Some places) × ((i : ℕ) → Contains was.items i → Contains places.items i)
+  pub back : (s : ℕ) (places : Vec ℕ Global) → slice_get new s ≡ Some places
+      → (was : Vec ℕ Global) × (slice_get old s ≡ Some was)
+      × ((i : ℕ) → Contains places.items i → Contains was.items i ⊎ ((s ≡ state) × (i ≡ place)))
+  pub kept : (s : ℕ) (was : Vec ℕ Global) → slice_get old s ≡ Some was
+      → (places : Vec ℕ Global) × (slice_get new s ≡ Some places) × ((i : ℕ) → Contains was.items i → Contains places.items i)
   pub added : (places : Vec ℕ Global) × (slice_get new state ≡ Some places) × Contains places.items place
 
 -- of the first moves, the places of those that each state has
 pub record IsIndex (moves : List TableMove) (count : ℕ) (index : List (Vec ℕ Global)) : Type 0 where
-  pub sound : (s : ℕ) (places : Vec ℕ Global) → slice_get index s ≡ Some places → (i : ℕ) → Contains places.items i → (m : TableMove) × (slice_get moves i ≡ Some m) × (m.from ≡ s)
-  pub full : (i : ℕ) (m : TableMove) → i < count → slice_get moves i ≡ Some m → (places : Vec ℕ Global) × (slice_get index m.from ≡ Some places) × Contains places.items i
+  pub sound : (s : ℕ) (places : Vec ℕ Global) → slice_get index s ≡ Some places → (i : ℕ) → Contains places.items i
+      → (m : TableMove) × (slice_get moves i ≡ Some m) × (m.from ≡ s)
+  pub full : (i : ℕ) (m : TableMove) → i < count → slice_get moves i ≡ Some m
+      → (places : Vec ℕ Global) × (slice_get index m.from ≡ Some places) × Contains places.items i

@@ -32,7 +32,8 @@ StepBy m s byte t letters = (m.from ≡ s) × InRange m.range byte × (m.to ≡ 
 
 -- by the bytes of the range, what the move offers in the state is offered beside what was offered before
 pub record OffersMore (old new : List (Move ℕ)) (m : TableMove) (s : ℕ) (range : ByteRange) : Type 0 where
-  pub exact : (byte : ℕ) → InRange range byte → (t : ℕ) (letters : List Letter) → Offers new byte t letters ↔ (Offers old byte t letters ⊎ StepBy m s byte t letters)
+  pub exact : (byte : ℕ) → InRange range byte → (t : ℕ) (letters : List Letter)
+      → Offers new byte t letters ↔ (Offers old byte t letters ⊎ StepBy m s byte t letters)
   pub within : All (IsWithin range) old → All (IsWithin range) new
   pub given : (n : ℕ) → m.to < n → All (λ x. x.to < n) old → All (λ x. x.to < n) new
 
@@ -43,4 +44,5 @@ StopOf e s letters = (e.state ≡ s) × (map (letter_of 0) e.out.items ≡ lette
 -- what the end offers in the state is offered beside what was offered before
 pub record OffersLastMore (old new : List (Vec Out Global)) (e : TableEnd) (s : ℕ) : Type 0 where
   pub exact : (letters : List Letter) → OffersLast new letters ↔ (OffersLast old letters ⊎ StopOf e s letters)
-  pub fixed : IsTrue (list_all is_fixed e.out.items) → All (λ out. IsTrue (list_all is_fixed out.items)) old → All (λ out. IsTrue (list_all is_fixed out.items)) new
+  pub fixed : IsTrue (list_all is_fixed e.out.items) → All (λ out. IsTrue (list_all is_fixed out.items)) old
+      → All (λ out. IsTrue (list_all is_fixed out.items)) new

@@ -73,7 +73,7 @@ from_places all (j ∷ ps) i pair c h = elim (Contains-append_cases (j ∷ []) p
     one j i (suc n, within, e) = absurd (omega (arith, within))
 
 -- a number is that of the key
-number_is : (ks : List (ℕ × ℕ)) (p : ℕ × ℕ) (i : ℕ) → number_in ks p.0 p.1 ≡ Some i → slice_get ks i ≡ Some p
+pub number_is : (ks : List (ℕ × ℕ)) (p : ℕ × ℕ) (i : ℕ) → number_in ks p.0 p.1 ≡ Some i → slice_get ks i ≡ Some p
 unfolding number_in
 number_is [] p i e = absurd (cc)
 number_is (k ∷ ks) p i e = by (nat_eq k.0 p.0 && nat_eq k.1 p.1) refl (number_in ks p.0 p.1) refl (number_is ks p)

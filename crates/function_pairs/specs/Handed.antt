@@ -5,6 +5,7 @@ use Rattle.std.specs.declared.alloc.Global.{Global}
 use Rattle.numbered_sets.specs.Numbers.{AreDifferent}
 use Rattle.flow_code.specs.Points.{PlainPoint, call_point, PlainFlowFunction}
 
+-- the number of a function and the slot of its parameter; the point of a call and the slot of the argument
 abbrev pub Handing : Type 0
 Handing = (ℕ × ℕ) × (ℕ × ℕ)
 
@@ -14,10 +15,12 @@ of_call q n [] xs = []
 of_call q n (y ∷ ys) [] = []
 of_call q n (y ∷ ys) (x ∷ xs) = ((n, y), (q, x)) ∷ of_call q n ys xs
 
+-- the slots of a function's parameters, if there is the function
 abbrev pub params_of : Option PlainFlowFunction → List ℕ
 params_of None = []
 params_of (Some g) = g.params_of
 
+-- what a point hands in: a call each argument, and any other point nothing
 unfoldable pub at_point : List PlainFlowFunction → ℕ → PlainPoint → List Handing
 unfolding of_call
 at_point fs q (call_point x n args next) = of_call q n (params_of (slice_get fs n)) args

@@ -17,7 +17,8 @@ pub record Takes (functions : List PlainFunction) (name : List ℕ) (numbers : N
 
 -- a table has a row for the name of each function, and no other
 abbrev pub IsTable : {S : Type 0} → IndexMap (List ℕ) Numbers S → List PlainFunction → Type 0
-IsTable rows functions = (name : List ℕ) → MatchOption (get bytes_eq rows name) (function_named functions name ≡ None) (Takes functions name)
+IsTable rows functions = (name : List ℕ)
+    → MatchOption (get bytes_eq rows name) (function_named functions name ≡ None) (Takes functions name)
 
 -- whatever the functions of a table are, this holds of them
 abbrev pub OfTable : {S : Type 0} → IndexMap (List ℕ) Numbers S → (List PlainFunction → Type 0) → Type 0

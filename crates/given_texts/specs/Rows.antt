@@ -7,12 +7,15 @@ use Rattle.cfg_grammar.specs.declared.production.Right.TheVariants.{Empty, One, 
 use Rattle.cfg_grammar.specs.declared.production.Production.{Production}
 use Rattle.given_texts.specs.declared.rows.TheConstants.{ROWS, ENDS}
 
+-- a nonterminal, the first and the last byte of a range, and the nonterminal behind it, if there is one
 abbrev pub Row : Type 0
 Row = ℕ × ℕ × ℕ × Option ℕ
 
+-- the range has a byte
 abbrev pub IsOrdered : Row → Type 0
 IsOrdered row = row.1 ≤ row.2
 
+-- a range alone, or before a nonterminal
 abbrev pub right_with : ByteRange → Option ℕ → Right
 right_with r None = One (Range r)
 right_with r (Some n) = Two (Range r) (Nt (record { 0 = n }))
@@ -26,6 +29,7 @@ pub record AreFor (rows : List Row) (ps : List Production) : Type 0 where
   pub each : (p : Production) → Contains ps p → (row : Row) × Contains rows row × IsFor row p
   pub all : (row : Row) → Contains rows row → (p : Production) × Contains ps p × IsFor row p
 
+-- the nonterminal derives the empty text
 abbrev pub end_production : ℕ → Production
 end_production n = record { left = record { 0 = n }; right = Empty }
 
@@ -39,6 +43,7 @@ pub data IsOne : Production → Type 0 where
   more : IsOne more_characters
   a_row : (row : Row) (p : Production) → Contains ROWS row → IsFor row p → IsOne p
 
+-- the productions of the grammar: those of the ends, that of one more character, those of the rows, and no other
 pub record AreAll (ps : List Production) : Type 0 where
   pub each : (p : Production) → Contains ps p → IsOne p
   pub ends : (n : ℕ) → Contains ENDS n → Contains ps (end_production n)

@@ -27,7 +27,8 @@ HasRead fs (One x) from (First t) = Contains fs (record { symbol = x; from = fro
 HasRead fs (Two x y) from (First t) = Contains fs (record { symbol = x; from = from; to = t })
 HasRead fs Empty from (Both t u) = ⊥
 HasRead fs (One x) from (Both t u) = ⊥
-HasRead fs (Two x y) from (Both t u) = Contains fs (record { symbol = x; from = from; to = t }) × Contains fs (record { symbol = y; from = t; to = u })
+HasRead fs (Two x y) from (Both t u) =
+    Contains fs (record { symbol = x; from = from; to = t }) × Contains fs (record { symbol = y; from = t; to = u })
 
 module _ (ps : List Production) (from : nt.Nt) where
   -- the machine comes to the production, and has read what is read of it
@@ -37,6 +38,7 @@ module _ (ps : List Production) (from : nt.Nt) where
     pub entered : Enters ps (ReadingStep rs) from 0 (Nt production.left) b.from
     pub read : HasRead fs production.right b.from b.read
 
+  -- the machine comes to the entry's symbol in its state
   abbrev pub IsEntered : List Reading → Entry → Type 0
   IsEntered rs e = Enters ps (ReadingStep rs) from 0 e.symbol e.state
 
@@ -52,24 +54,31 @@ module _ (ps : List Production) (from : nt.Nt) where
 
 -- what is kept of an entry is so, and what waits there has gone on by each exit
 pub record IsVisited (ps : List Production) (es : List Entry) (vs : List Visit) (bs : List Begun) (fs : List Passage) : Type 0 where
-  pub waiting : (q : ℕ) (v : Visit) (e : Entry) (b : Begun) → slice_get vs q ≡ Some v → slice_get es q ≡ Some e → Contains v.waiting.items b → Contains bs b × (awaited_of ps b ≡ Some e)
-  pub exits : (q : ℕ) (v : Visit) (e : Entry) (t : ℕ) → slice_get vs q ≡ Some v → slice_get es q ≡ Some e → Contains v.exits.items t → Contains fs (record { symbol = e.symbol; from = e.state; to = t })
-  pub combined : (q : ℕ) (v : Visit) (b : Begun) (t : ℕ) → slice_get vs q ≡ Some v → Contains v.waiting.items b → Contains v.exits.items t → Contains bs (read_on b t)
+  pub waiting : (q : ℕ) (v : Visit) (e : Entry) (b : Begun) → slice_get vs q ≡ Some v → slice_get es q ≡ Some e → Contains v.waiting.items b
+      → Contains bs b × (awaited_of ps b ≡ Some e)
+  pub exits : (q : ℕ) (v : Visit) (e : Entry) (t : ℕ) → slice_get vs q ≡ Some v → slice_get es q ≡ Some e → Contains v.exits.items t
+      → Contains fs (record { symbol = e.symbol; from = e.state; to = t })
+  pub combined : (q : ℕ) (v : Visit) (b : Begun) (t : ℕ) → slice_get vs q ≡ Some v → Contains v.waiting.items b → Contains v.exits.items t
+      → Contains bs (read_on b t)
 
 -- the begun production waits for its next symbol, or leads somewhere
 abbrev pub WaitsAt : List Entry → List Visit → Begun → Entry → Type 0
 WaitsAt es vs b e = (q : ℕ) × (slice_get es q ≡ Some e) × (v : Visit) × (slice_get vs q ≡ Some v) × Contains v.waiting.items b
 
+-- a begun production waits at the entry of its next symbol, or, where all is read, its passage is listed
 abbrev pub IsTakenUp : List Production → List Entry → List Visit → List Passage → Begun → Type 0
-IsTakenUp ps es vs fs b = MatchOption (awaited_of ps b) (MatchOption (passage_of ps b) (Unit {0}) (λ f. Contains fs f)) (λ e. WaitsAt es vs b e)
+IsTakenUp ps es vs fs b = MatchOption (awaited_of ps b) (MatchOption (passage_of ps b) (Unit {0}) (λ f. Contains fs f))
+    (λ e. WaitsAt es vs b e)
 
 -- the passage is an exit of its entry
 abbrev pub IsExit : List Entry → List Visit → Passage → Type 0
-IsExit es vs f = (q : ℕ) × (slice_get es q ≡ Some (record { symbol = f.symbol; state = f.from })) × (v : Visit) × (slice_get vs q ≡ Some v) × Contains v.exits.items f.to
+IsExit es vs f = (q : ℕ) × (slice_get es q ≡ Some (record { symbol = f.symbol; state = f.from })) × (v : Visit) × (slice_get vs q ≡ Some v)
+    × Contains v.exits.items f.to
 
 -- the productions of the entry's nonterminal are begun
 abbrev pub IsOpened : List Production → List Begun → Entry → Type 0
-IsOpened ps bs e = (a : nt.Nt) → e.symbol ≡ Nt a → (place : ℕ) (p : Production) → slice_get ps place ≡ Some p → p.left ≡ a → Contains bs (record { place = place; from = e.state; read = Nothing })
+IsOpened ps bs e = (a : nt.Nt) → e.symbol ≡ Nt a → (place : ℕ) (p : Production) → slice_get ps place ≡ Some p → p.left ≡ a
+    → Contains bs (record { place = place; from = e.state; read = Nothing })
 
 -- so of the first of the members
 abbrev pub OfFirst : {X : Type 0} → (X → Type 0) → List X → ℕ → Type 0
@@ -106,7 +115,8 @@ pub record Leaves (es new : List Entry) (vs after : List Visit) (bs more : List 
   pub still_long : length after ≡ length new
 
 -- all that a chart keeps
-pub record IsChart (ps : List Production) (from : nt.Nt) (es : List Entry) (vs : List Visit) (bs : List Begun) (fs : List Passage) (rs : List Reading) (opened taken left : ℕ) : Type 0 where
+pub record IsChart (ps : List Production) (from : nt.Nt) (es : List Entry) (vs : List Visit) (bs : List Begun) (fs : List Passage)
+    (rs : List Reading) (opened taken left : ℕ) : Type 0 where
   pub long : length vs ≡ length es
   pub opened_within : opened ≤ length es
   pub taken_within : taken ≤ length bs

@@ -12,6 +12,7 @@ use Rattle.grammar_chart.specs.declared.turns.Turn.{Turn}
 use Rattle.grammar_chart.specs.declared.turns.Turn.TheVariants.{Went, Asks, Done}
 use Rattle.grammar_chart.specs.Charts.{IsChart}
 
+-- the lists of the chart keep what a chart of these productions keeps
 abbrev pub IsChartOf : List Production → Chart → Type 0
 IsChartOf ps c = IsChart ps c.from c.entries.keys c.visits.items c.begun.keys c.passages.keys c.readings.items c.opened c.taken c.left
 
@@ -25,7 +26,8 @@ pub record GoesOn (old new : Chart) : Type 0 where
 
 -- for each nonterminal, the places of its productions
 abbrev pub AreProductionsOf : List Production → List (Vec ℕ Global) → Type 0
-AreProductionsOf ps lists = (a : ℕ) (v : Vec ℕ Global) → slice_get lists a ≡ Some v → (i : ℕ) → Contains v.items i ↔ ((p : Production) × (slice_get ps i ≡ Some p) × (p.left ≡ record { 0 = a }))
+AreProductionsOf ps lists = (a : ℕ) (v : Vec ℕ Global) → slice_get lists a ≡ Some v → (i : ℕ)
+    → Contains v.items i ↔ ((p : Production) × (slice_get ps i ≡ Some p) × (p.left ≡ record { 0 = a }))
 
 -- so many more entries are opened, begun productions taken up and passages let through
 pub record IsCounted (old new : Chart) (opened taken left : ℕ) : Type 0 where
@@ -42,7 +44,8 @@ pub record Goes (ps : List Production) (old new : Chart) : Type 0 where
   pub chart : IsChartOf ps new
   pub goes_on : GoesOn old new
   pub counted : steps_of new ≡ steps_of old + 1
-  pub ranges : (k : ℕ) (range : ByteRange) (s : ℕ) → k < new.opened → slice_get new.entries.keys k ≡ Some (record { symbol = Range range; state = s }) → k < old.opened
+  pub ranges : (k : ℕ) (range : ByteRange) (s : ℕ) → k < new.opened
+      → slice_get new.entries.keys k ≡ Some (record { symbol = Range range; state = s }) → k < old.opened
 
 -- nothing is left to be done
 pub record IsDone (c : Chart) : Type 0 where
@@ -50,7 +53,10 @@ pub record IsDone (c : Chart) : Type 0 where
   pub taken : length c.begun.keys ≤ c.taken
   pub left : length c.passages.keys ≤ c.left
 
+-- what a turn did: one step; or the next entry is a range, whose readings the machine is asked for; or all is done
 abbrev pub IsTurn : List Production → Chart → Chart → Turn → Type 0
 IsTurn ps old new Went = Goes ps old new
-IsTurn ps old new (Asks range s) = (new ≡ old) × (slice_get old.entries.keys old.opened ≡ Some (record { symbol = Range range; state = s })) × (old.opened < 9223372036854775808)
+IsTurn ps old new (Asks range s) =
+    (new ≡ old) × (slice_get old.entries.keys old.opened ≡ Some (record { symbol = Range range; state = s }))
+    × (old.opened < 9223372036854775808)
 IsTurn ps old new Done = (new ≡ old) × IsDone old

@@ -36,10 +36,12 @@ awaited_by (Two x y) from Nothing = Some (record { symbol = x; state = from })
 awaited_by (Two x y) from (First t) = Some (record { symbol = y; state = t })
 awaited_by (Two x y) from (Both t u) = None
 
+-- what a begun production waits for, where its production is known
 abbrev pub awaited_in : Option Production → Begun → Option Entry
 awaited_in None b = None
 awaited_in (Some p) b = awaited_by p.right b.from b.read
 
+-- the symbol that a begun production reads next, and the state before it; None where all of its right side is read
 abbrev pub awaited_of : List Production → Begun → Option Entry
 awaited_of productions b = awaited_in (slice_get productions b.place) b
 
@@ -49,6 +51,7 @@ read_by Nothing t = First t
 read_by (First t) u = Both t u
 read_by (Both t u) v = Both t u
 
+-- a begun production with one symbol more read, which leads to this state
 abbrev pub read_on : Begun → ℕ → Begun
 read_on b t = record { place = b.place; from = b.from; read = read_by b.read t }
 
@@ -58,6 +61,7 @@ last_by Nothing from = from
 last_by (First t) from = t
 last_by (Both t u) from = u
 
+-- the state behind what a begun production has read
 abbrev pub last_of : Begun → ℕ
 last_of b = last_by b.read b.from
 
@@ -65,10 +69,12 @@ last_of b = last_by b.read b.from
 abbrev pub passage_by : Production → Begun → Passage
 passage_by p b = record { symbol = Nt p.left; from = b.from; to = last_of b }
 
+-- where a begun production leads, where its production is known
 abbrev pub passage_in : Option Production → Begun → Option Passage
 passage_in None b = None
 passage_in (Some p) b = Some (passage_by p b)
 
+-- where the left side of a begun production leads when all of its right side is read
 abbrev pub passage_of : List Production → Begun → Option Passage
 passage_of productions b = passage_in (slice_get productions b.place) b
 

@@ -11,9 +11,13 @@ pub record VisitsGrow (old new : List Visit) : Type 0 where
 -- one more waits at an entry
 abbrev pub AddsWaiting : List Visit → List Visit → ℕ → Begun → Type 0
 AddsWaiting old new at one =
-    (q : ℕ) (v : Visit) → slice_get new q ≡ Some v → (w : Visit) × (slice_get old q ≡ Some w) × (v.exits ≡ w.exits) × ((b : Begun) → Contains v.waiting.items b ↔ (Contains w.waiting.items b ⊎ ((q ≡ at) × (b ≡ one))))
+    (q : ℕ) (v : Visit) → slice_get new q ≡ Some v
+    → (w : Visit) × (slice_get old q ≡ Some w) × (v.exits ≡ w.exits)
+    × ((b : Begun) → Contains v.waiting.items b ↔ (Contains w.waiting.items b ⊎ ((q ≡ at) × (b ≡ one))))
 
 -- one more exit of an entry
 abbrev pub AddsExit : List Visit → List Visit → ℕ → ℕ → Type 0
 AddsExit old new at exit =
-    (q : ℕ) (v : Visit) → slice_get new q ≡ Some v → (w : Visit) × (slice_get old q ≡ Some w) × (v.waiting ≡ w.waiting) × ((t : ℕ) → Contains v.exits.items t ↔ (Contains w.exits.items t ⊎ ((q ≡ at) × (t ≡ exit))))
+    (q : ℕ) (v : Visit) → slice_get new q ≡ Some v
+    → (w : Visit) × (slice_get old q ≡ Some w) × (v.waiting ≡ w.waiting)
+    × ((t : ℕ) → Contains v.exits.items t ↔ (Contains w.exits.items t ⊎ ((q ≡ at) × (t ≡ exit))))

@@ -30,7 +30,9 @@ module _ {S : Type 0} (steps : S → ℕ → S → List Letter → Type 0) where
   abbrev pub IsAnsweredBy : S → List S → List Passage → List Reading → ByteRange → ℕ → Type 0
   IsAnsweredBy s states fs rs range i =
       (byte : ℕ) → InRange range byte → (t : S) (letters : List Letter) → steps s byte t letters
-      → (r : Reading) × Contains rs r × (r.asked ≡ range) × (r.from ≡ i) × (slice_get states r.to ≡ Some t) × Contains fs (record { symbol = Range range; from = i; to = r.to }) × (b : ℕ) × InRange r.range b × (map (letter_of b) r.out.items ≡ letters)
+      → (r : Reading) × Contains rs r × (r.asked ≡ range) × (r.from ≡ i) × (slice_get states r.to ≡ Some t)
+      × Contains fs (record { symbol = Range range; from = i; to = r.to }) × (b : ℕ) × InRange r.range b
+      × (map (letter_of b) r.out.items ≡ letters)
 
   -- the same of the state with the number, whichever it is
   abbrev pub IsAnswered : List S → List Passage → List Reading → ByteRange → ℕ → Type 0
@@ -41,7 +43,8 @@ module _ {S : Type 0} (steps : S → ℕ → S → List Letter → Type 0) where
   IsAnsweredAt states fs rs range i = (s : S) × (slice_get states i ≡ Some s) × IsAnsweredBy s states fs rs range i
 
 -- a move is noted as a reading
-pub record IsNoted {S : Type 0} (states : List S) (fs : List Passage) (rs : List Reading) (range : ByteRange) (from : ℕ) (m : Move S) : Type 0 where
+pub record IsNoted {S : Type 0} (states : List S) (fs : List Passage) (rs : List Reading) (range : ByteRange) (from : ℕ) (m : Move S) :
+    Type 0 where
   pub reading : Reading
   pub has : Contains rs reading
   pub asked : reading.asked ≡ range
@@ -61,11 +64,14 @@ pub record NotesOne {S : Type 0} (states after : List S) (old new : Chart) (rang
   pub states_only : (s : S) → Contains after s → Contains states s ⊎ (s ≡ m.to)
   pub passages : Keeps old.passages.keys new.passages.keys
   pub readings : (r : Reading) → Contains old.readings.items r → Contains new.readings.items r
-  pub only : (r : Reading) → Contains new.readings.items r → Contains old.readings.items r ⊎ ((r.asked ≡ range) × (r.from ≡ from) × (r.range ≡ m.range) × (r.out.items ≡ m.out.items) × (slice_get after r.to ≡ Some m.to))
+  pub only : (r : Reading) → Contains new.readings.items r
+      → Contains old.readings.items r
+      ⊎ ((r.asked ≡ range) × (r.from ≡ from) × (r.range ≡ m.range) × (r.out.items ≡ m.out.items) × (slice_get after r.to ≡ Some m.to))
   pub noted : IsNoted after new.passages.keys new.readings.items range from m
 
 -- the same of all moves
-pub record NotesAll {S : Type 0} (states after : List S) (old new : Chart) (range : ByteRange) (from : ℕ) (moves : List (Move S)) : Type 0 where
+pub record NotesAll {S : Type 0} (states after : List S) (old new : Chart) (range : ByteRange) (from : ℕ) (moves : List (Move S)) :
+    Type 0 where
   pub chart : (ps : List Production) → IsChartOf ps old → IsChartOf ps new
   pub from_kept : new.from ≡ old.from
   pub entries : new.entries.keys ≡ old.entries.keys
@@ -74,11 +80,15 @@ pub record NotesAll {S : Type 0} (states after : List S) (old new : Chart) (rang
   pub states_only : (s : S) → Contains after s → Contains states s ⊎ ((m : Move S) × Contains moves m × (s ≡ m.to))
   pub passages : Keeps old.passages.keys new.passages.keys
   pub readings : (r : Reading) → Contains old.readings.items r → Contains new.readings.items r
-  pub only : (r : Reading) → Contains new.readings.items r → Contains old.readings.items r ⊎ ((m : Move S) × Contains moves m × (r.asked ≡ range) × (r.from ≡ from) × (r.range ≡ m.range) × (r.out.items ≡ m.out.items) × (slice_get after r.to ≡ Some m.to))
+  pub only : (r : Reading) → Contains new.readings.items r
+      → Contains old.readings.items r
+      ⊎ ((m : Move S) × Contains moves m × (r.asked ≡ range) × (r.from ≡ from) × (r.range ≡ m.range) × (r.out.items ≡ m.out.items)
+      × (slice_get after r.to ≡ Some m.to))
   pub noted : (m : Move S) → Contains moves m → IsNoted after new.passages.keys new.readings.items range from m
 
 -- the machine was asked by a range in a state
-pub record Asks {S : Type 0} (steps : S → ℕ → S → List Letter → Type 0) (gives : S → Type 0) (states after : List S) (old new : Chart) (range : ByteRange) (from : ℕ) : Type 0 where
+pub record Asks {S : Type 0} (steps : S → ℕ → S → List Letter → Type 0) (gives : S → Type 0) (states after : List S) (old new : Chart)
+    (range : ByteRange) (from : ℕ) : Type 0 where
   pub source : S
   pub is_source : slice_get states from ≡ Some source
   pub moves : List (Move S)

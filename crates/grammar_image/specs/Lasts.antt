@@ -26,4 +26,5 @@ module _ {S : Type 0} (ends : S → List Letter → Type 0) where
   -- all outputs at the ends in the first states are listed, and nothing else
   pub record AreLastsBelow (states : List S) (n : ℕ) (ls : List Last) : Type 0 where
     pub only : (l : Last) → Contains ls l → IsLast states l
-    pub all : (i : ℕ) (s : S) (letters : List Letter) → i < n → slice_get states i ≡ Some s → ends s letters → (l : Last) × Contains ls l × (l.state ≡ i) × (map (letter_of 0) l.out.items ≡ letters)
+    pub all : (i : ℕ) (s : S) (letters : List Letter) → i < n → slice_get states i ≡ Some s → ends s letters
+        → (l : Last) × Contains ls l × (l.state ≡ i) × (map (letter_of 0) l.out.items ≡ letters)

@@ -14,7 +14,8 @@ abbrev pub HasToken : List Production → PageToken → Type 0
 HasToken productions token = (p : Production) × Contains productions p × Contains (symbols_of p.right) (Token token)
 
 -- the sentences are those of the old grammar; each nonterminal but the start is useful; no page token is new; nothing is more
-pub record IsTrimmed (old : List Production) (start : nt.Nt) (count : ℕ) (new : List Production) (start' : nt.Nt) (count' : ℕ) : Type 0 where
+pub record IsTrimmed (old : List Production) (start : nt.Nt) (count : ℕ) (new : List Production) (start' : nt.Nt) (count' : ℕ) :
+    Type 0 where
   pub sentences : (w : List Letter) → Derives old (Nt start) w ↔ Derives new (Nt start') w
   pub useful : (a : nt.Nt) → a.0 < count' → (a ≡ start') ⊎ IsUseful new start' a
   pub tokens : (token : PageToken) → HasToken new token → HasToken old token

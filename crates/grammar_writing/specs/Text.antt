@@ -11,6 +11,7 @@ use Rattle.cfg_grammar.specs.declared.production.Production.{Production}
 abbrev pub written_number : ℕ → ℕ → ℕ
 written_number start n = if nat_eq n start then 0 else (if nat_eq n 0 then start else n)
 
+-- `n` and the written number in decimal
 abbrev pub nonterminal_text : ℕ → ℕ → List ℕ
 nonterminal_text start n = codes "n" ++ decimal (written_number start n)
 
@@ -24,14 +25,17 @@ symbol_text start (Range r) = codes " " ++ range_text r.lo r.hi
 symbol_text start (Token t) = []
 symbol_text start (Nt a) = codes " " ++ nonterminal_text start a.0
 
+-- the symbols of a right side, each behind a space
 abbrev pub right_text : ℕ → Right → List ℕ
 right_text start Empty = []
 right_text start (One a) = symbol_text start a
 right_text start (Two a b) = symbol_text start a ++ symbol_text start b
 
+-- the line of a production, ended by LF: left side, ` =`, right side
 abbrev pub line_text : ℕ → Production → List ℕ
 line_text start p = nonterminal_text start p.left.0 ++ (codes " =" ++ (right_text start p.right ++ codes "\n"))
 
+-- a line for each production in their order
 abbrev pub grammar_text : ℕ → List Production → List ℕ
 grammar_text start [] = []
 grammar_text start (p ∷ ps) = line_text start p ++ grammar_text start ps

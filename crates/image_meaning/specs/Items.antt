@@ -30,7 +30,8 @@ module _ {S : Type 0} (productions : List Production) (steps : S → ℕ → S �
 
 -- a leftmost derivation from `from` comes to the symbol at the front of what is left, and the machine that begins in
 -- `first` has read the text before it and is in the state
-pub data Enters {S : Type 0} (productions : List Production) (steps : S → ℕ → S → List Letter → Type 0) (from : nt.Nt) (first : S) : Symbol → S → Type 0 where
+pub data Enters {S : Type 0} (productions : List Production) (steps : S → ℕ → S → List Letter → Type 0) (from : nt.Nt) (first : S) : Symbol
+    → S → Type 0 where
   at_start : Enters productions steps from first (Nt from) first
   by_item : (place : ℕ) (p : Production) (s : S) (after : List S) (t : S) (symbol : Symbol)
       → slice_get productions place ≡ Some p

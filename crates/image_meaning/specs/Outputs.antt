@@ -13,7 +13,8 @@ abbrev pub DerivesText : List Production → Symbol → List ℕ → Type 0
 DerivesText productions symbol text = Derives productions symbol (map OfByte text)
 
 -- over some text that the symbol derives, the machine that begins in `first` may put out the letters
-abbrev pub Outputs : {S : Type 0} → List Production → Symbol → S → (S → ℕ → S → List Letter → Type 0) → (S → List Letter → Type 0) → List Letter → Type 0
+abbrev pub Outputs : {S : Type 0} → List Production → Symbol → S → (S → ℕ → S → List Letter → Type 0) → (S → List Letter → Type 0)
+    → List Letter → Type 0
 Outputs {S} productions symbol first steps ends letters =
     (text : List ℕ) × DerivesText productions symbol text × Relates first steps ends text letters
 

@@ -18,7 +18,8 @@ pub data Unit_of_weight (S : Type 0) : Type 0 where
   read : Item S → ℕ → ℕ → List Letter → ℕ → Unit_of_weight S
   last : S → List Letter → ℕ → Unit_of_weight S
 
-module _ {S : Type 0} (productions : List Production) (steps : S → ℕ → S → List Letter → Type 0) (ends : S → List Letter → Type 0) (from : nt.Nt) (first : S) where
+module _ {S : Type 0} (productions : List Production) (steps : S → ℕ → S → List Letter → Type 0) (ends : S → List Letter → Type 0)
+    (from : nt.Nt) (first : S) where
   -- the item's symbol at the place is a range that has the byte, and by the byte the machine may go from the state
   -- before that symbol to the state behind it and put out the letters
   pub record ReadsRange (it : Item S) (symbol byte : ℕ) (letters : List Letter) : Type 0 where
@@ -32,6 +33,7 @@ module _ {S : Type 0} (productions : List Production) (steps : S → ℕ → S �
     pub is_behind : slice_get it.after symbol ≡ Some behind
     pub step : steps before byte behind letters
 
+  -- a unit of the weight of an image: an item, a letter that is put out as an item reads a byte, or a letter that is put out at an end
   abbrev pub IsUnit : Unit_of_weight S → Type 0
   IsUnit (item it) = IsItem productions steps from first it
   IsUnit (read it symbol byte letters place) = ReadsRange it symbol byte letters × (place < length letters)

@@ -15,8 +15,10 @@ no_json len front =
 -- `{"answer":"undecided","count":COUNT,"height":HEIGHT,"kind":"KIND"}`: a count of sums or of tags, of derivations of at most this height
 abbrev pub sums_json : List ℕ → ℕ → ℕ → List ℕ
 sums_json kind count height =
-    codes "{\"answer\":\"undecided\",\"count\":" ++ (decimal count ++ (codes ",\"height\":" ++ (decimal height ++ (codes ",\"kind\":" ++ (quoted kind ++ codes "}"))))) ++ 10 ∷ []
+    codes "{\"answer\":\"undecided\",\"count\":"
+    ++ (decimal count ++ (codes ",\"height\":" ++ (decimal height ++ (codes ",\"kind\":" ++ (quoted kind ++ codes "}"))))) ++ 10 ∷ []
 
 -- `{"answer":"undecided","count":COUNT,"kind":"items"}`: a count of items
 abbrev pub items_json : ℕ → List ℕ
-items_json count = codes "{\"answer\":\"undecided\",\"count\":" ++ (decimal count ++ (codes ",\"kind\":" ++ (quoted (codes "items") ++ codes "}"))) ++ 10 ∷ []
+items_json count = codes "{\"answer\":\"undecided\",\"count\":" ++ (decimal count
+    ++ (codes ",\"kind\":" ++ (quoted (codes "items") ++ codes "}"))) ++ 10 ∷ []

@@ -2,6 +2,7 @@
 use Rattle.std.specs.Prelude.{ℕ, List, [], ◌∷◌}
 use Rattle.op_system.specs.declared.op.Op.{Op}
 
+-- one way in which texts of a set are made, where sets have such names
 pub data Form (N : Type 0) : Type 0 where
   -- one text
   text_form : List ℕ → Form N

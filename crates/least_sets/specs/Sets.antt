@@ -35,16 +35,22 @@ pub data Byte {N : Type 0} (R : N → Form N → Type 0) (request : List ℕ →
   added : (a c : N) (op : Op) (b : ℕ) → R a (apply_form op c) → Adds op b → Byte R request a b
   turned : (a c : N) (op : Op) (b e : ℕ) → R a (apply_form op c) → Byte R request c b → Turns op b e → Byte R request a e
 
--- the texts of a set. An operation in a cycle has all texts over its bytes as outputs, beside those that it has on its operand; where operations
--- are read as PHP has them, these are such texts too, so that the sets are those with its outputs replaced (Minamide, Static Approximation of
+-- the texts of a set. An operation in a cycle has all texts over its bytes as outputs, beside those that it has on its operand; where
+-- operations
+-- are read as PHP has them, these are such texts too, so that the sets are those with its outputs replaced (Minamide, Static Approximation
+-- of
 -- Dynamically Generated Web Pages, WWW 2005)
-pub data In {N : Type 0} (R : N → Form N → Type 0) (outputs : Op → List ℕ → List ℕ → Type 0) (request : List ℕ → Type 0) (circular : (ℕ → Type 0) → List ℕ → Type 0) : N → List ℕ → Type 0 where
+pub data In {N : Type 0} (R : N → Form N → Type 0) (outputs : Op → List ℕ → List ℕ → Type 0) (request : List ℕ → Type 0)
+    (circular : (ℕ → Type 0) → List ℕ → Type 0) : N → List ℕ → Type 0 where
   text : (a : N) (w : List ℕ) → R a (text_form w) → In R outputs request circular a w
   same : (a c : N) (w : List ℕ) → R a (same_form c) → In R outputs request circular c w → In R outputs request circular a w
-  join : (a c d : N) (u v : List ℕ) → R a (join_form c d) → In R outputs request circular c u → In R outputs request circular d v → In R outputs request circular a (u ++ v)
+  join : (a c d : N) (u v : List ℕ) → R a (join_form c d) → In R outputs request circular c u → In R outputs request circular d v
+      → In R outputs request circular a (u ++ v)
   before : (a c : N) (u v : List ℕ) → R a (before_form u c) → In R outputs request circular c v → In R outputs request circular a (u ++ v)
   asked : (a : N) (w : List ℕ) → R a request_form → request w → In R outputs request circular a w
   integer : (a : N) (w : List ℕ) → R a integer_form → IsInteger w → In R outputs request circular a w
   where_yes : (a c : N) (w : List ℕ) → R a (where_form w c) → Says R c → In R outputs request circular a w
-  apply : (a c : N) (op : Op) (u w : List ℕ) → R a (apply_form op c) → In R outputs request circular c u → outputs op u w → In R outputs request circular a w
-  over_bytes : (a c : N) (op : Op) (w : List ℕ) → R a (apply_form op c) → IsCircular R a op c → circular (Byte R request a) w → In R outputs request circular a w
+  apply : (a c : N) (op : Op) (u w : List ℕ) → R a (apply_form op c) → In R outputs request circular c u → outputs op u w
+      → In R outputs request circular a w
+  over_bytes : (a c : N) (op : Op) (w : List ℕ) → R a (apply_form op c) → IsCircular R a op c → circular (Byte R request a) w
+      → In R outputs request circular a w

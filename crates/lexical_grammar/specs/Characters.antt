@@ -1,18 +1,23 @@
 -- The classes of bytes of the lexical grammar, and words on what stands at the head of a list of bytes.
--- A name is a letter or an underscore and then letters, digits and underscores (PHP manual, "Variables: Basics"); here letters are those of ASCII.
+-- A name is a letter or an underscore and then letters, digits and underscores (PHP manual, "Variables: Basics"); here letters are those of
+-- ASCII.
 use Rattle.std.specs.Prelude.{ℕ, suc, ◌+◌, Bool, false, ◌&&◌, ◌||◌, ◌==◌, nat_eq, nat_le, if◌then◌else◌, List, [], ◌∷◌, fold}
 use Rattle.std.specs.List.{starts_with, prefix_len}
 use Rattle.std.specs.Prelude.{codes, ◌*◌, ◌-◌}
 
+-- one of `0`..`9`
 abbrev pub is_digit : ℕ → Bool
 is_digit b = nat_le 48 b && nat_le b 57
 
+-- an ASCII letter of either case
 abbrev pub is_letter : ℕ → Bool
 is_letter b = (nat_le 65 b && nat_le b 90) || (nat_le 97 b && nat_le b 122)
 
+-- what a name may begin with: a letter or `_`
 abbrev pub is_name_start : ℕ → Bool
 is_name_start b = is_letter b || b == 95
 
+-- what may stand in a name behind its first byte: a letter, `_` or a digit
 abbrev pub is_name_byte : ℕ → Bool
 is_name_byte b = is_name_start b || is_digit b
 

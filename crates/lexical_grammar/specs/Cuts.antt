@@ -20,6 +20,7 @@ abbrev pub blank_behind : List ℕ → Option ℕ
 blank_behind [] = Some 0
 blank_behind (b ∷ bytes) = if is_gap b then Some 1 else if is_line_end b then Some (newline_length (b ∷ bytes)) else None
 
+-- `<?php` and so many bytes of blank behind it, 0 at the end of the file, are passed over; no step where another byte stands there
 abbrev pub opened : Option ℕ → Option Step
 opened None = None
 opened (Some n) = passes (5 + n)
@@ -28,9 +29,11 @@ opened (Some n) = passes (5 + n)
 abbrev pub php_opener : List ℕ → Option Step
 php_opener bytes = if bytes_eq (map lower (take 5 bytes)) (codes "<?php") then opened (blank_behind (drop 5 bytes)) else None
 
+-- the tag that enters PHP: `<?=` or `<?php`
 unfoldable pub opener_step : List ℕ → Option Step
 opener_step bytes = or_else (echo_opener bytes) (php_opener bytes)
 
+-- whether a tag that enters PHP stands at the head
 abbrev pub is_opener : List ℕ → Bool
 is_opener bytes = is_some (opener_step bytes)
 
@@ -50,7 +53,8 @@ ends_line bytes = head_is is_line_end bytes || begins (codes "?>") bytes
 -- `//`, or `#` with no `[` behind it, up to the end of the line or of PHP
 unfoldable pub line_comment_step : List ℕ → Option Step
 line_comment_step bytes =
-    if begins (codes "//") bytes || (begins (codes "#") bytes && not (begins (codes "#[") bytes)) then passes (before ends_line bytes) else None
+    if begins (codes "//") bytes || (begins (codes "#") bytes && not (begins (codes "#[") bytes)) then passes (before ends_line bytes)
+    else None
 
 -- `/*` up to the first `*/` behind it
 unfoldable pub block_comment_step : List ℕ → Option Step
@@ -65,7 +69,8 @@ leaving_step bytes =
 
 -- what gives no token of its own: blanks, comments and the tag that leaves PHP
 unfoldable pub between_step : List ℕ → Option Step
-between_step bytes = or_else (blank_step bytes) (or_else (line_comment_step bytes) (or_else (block_comment_step bytes) (leaving_step bytes)))
+between_step bytes = or_else (blank_step bytes) (or_else (line_comment_step bytes)
+    (or_else (block_comment_step bytes) (leaving_step bytes)))
 
 -- names, variables and numbers
 unfoldable pub word_step : List ℕ → Option Step
@@ -83,6 +88,7 @@ mark_step bytes = or_else (cast_step bytes) (sign_step bytes)
 unfoldable pub lexeme_step : List ℕ → Option Step
 lexeme_step bytes = or_else (between_step bytes) (or_else (word_step bytes) (or_else (text_step bytes) (mark_step bytes)))
 
+-- the step that was found; where there is none, the byte at the head is refused
 abbrev pub or_bad_byte : Option Step → Step
 or_bad_byte None = refuses BadByte 0
 or_bad_byte (Some step) = step
@@ -96,7 +102,8 @@ step inside bytes = or_bad_byte (lexeme_step bytes)
 pub data CutsFrom : Mode → ℕ → List ℕ → List PlainToken → Type 0 where
   at_end : {mode : Mode} {at : ℕ} → CutsFrom mode at [] []
   after_token : {mode next : Mode} {at n b : ℕ} {bytes : List ℕ} {kind : PlainKind} {tokens : List PlainToken} →
-      step mode (b ∷ bytes) ≡ goes (Some kind) n next → CutsFrom next (at + n) (drop n (b ∷ bytes)) tokens → CutsFrom mode at (b ∷ bytes) (record { kind = kind; at = at } ∷ tokens)
+      step mode (b ∷ bytes) ≡ goes (Some kind) n next → CutsFrom next (at + n) (drop n (b ∷ bytes)) tokens
+      → CutsFrom mode at (b ∷ bytes) (record { kind = kind; at = at } ∷ tokens)
   after_blank : {mode next : Mode} {at n b : ℕ} {bytes : List ℕ} {tokens : List PlainToken} →
       step mode (b ∷ bytes) ≡ goes None n next → CutsFrom next (at + n) (drop n (b ∷ bytes)) tokens → CutsFrom mode at (b ∷ bytes) tokens
 
@@ -105,7 +112,8 @@ pub data BreaksFrom : Mode → ℕ → List ℕ → LexicalFault → ℕ → Typ
   broken_here : {mode : Mode} {at n b : ℕ} {bytes : List ℕ} {fault : LexicalFault} →
       step mode (b ∷ bytes) ≡ refuses fault n → BreaksFrom mode at (b ∷ bytes) fault (at + n)
   broken_later : {mode next : Mode} {at n b place : ℕ} {bytes : List ℕ} {token : Option PlainKind} {fault : LexicalFault} →
-      step mode (b ∷ bytes) ≡ goes token n next → BreaksFrom next (at + n) (drop n (b ∷ bytes)) fault place → BreaksFrom mode at (b ∷ bytes) fault place
+      step mode (b ∷ bytes) ≡ goes token n next → BreaksFrom next (at + n) (drop n (b ∷ bytes)) fault place
+      → BreaksFrom mode at (b ∷ bytes) fault place
 
 -- the file is cut into these tokens
 abbrev pub Cuts : List ℕ → List PlainToken → Type 0

@@ -68,6 +68,7 @@ heredoc_token head n (Some k) (whole units m) = faults Escape (head + k)
 heredoc_token head n (Some k) (broken m) = faults Escape (head + min k m)
 heredoc_token head n (Some k) endless = faults Unclosed 0
 
+-- the text of a nowdoc as it stands, refused where PHP would end it early; the head's length, all bytes taken, such a place, the body
 abbrev pub nowdoc_token : ℕ → ℕ → Option ℕ → List ℕ → Option Step
 nowdoc_token head n None body = gives (text body) n
 nowdoc_token head n (Some k) body = faults Escape (head + k)
@@ -77,7 +78,8 @@ abbrev pub body_token : Body → ℕ → ℕ → List ℕ → List ℕ → Optio
 body_token of_heredoc head n name body = heredoc_token head n (other_end_at name body) (row (unit_at lines) 0 body)
 body_token of_nowdoc head n name body = nowdoc_token head n (other_end_at name body) body
 
--- behind the head of so many bytes: the name at once, or lines up to the first that begins with the name; the line end before it is no part of the body
+-- behind the head of so many bytes: the name at once, or lines up to the first that begins with the name; the line end before it is no part
+-- of the body
 unfoldable pub body_step : Body → ℕ → List ℕ → List ℕ → Option Step
 body_step kind head name bytes =
     let n = before (ends_body name) bytes
@@ -88,7 +90,8 @@ body_step kind head name bytes =
 -- a head of so many bytes with the name in it, if a line end stands behind it
 abbrev pub headed : Body → ℕ → List ℕ → List ℕ → Option Step
 headed kind head name rest =
-    if nat_lt 0 (length name) && nat_lt 0 (heredoc_newline rest) then body_step kind (head + heredoc_newline rest) name (drop (heredoc_newline rest) rest) else None
+    if nat_lt 0 (length name) && nat_lt 0 (heredoc_newline rest) then body_step kind (head + heredoc_newline rest) name
+    (drop (heredoc_newline rest) rest) else None
 
 -- `<<<NAME` and a line end
 unfoldable pub heredoc_step : List ℕ → Option Step
@@ -100,4 +103,6 @@ heredoc_step bytes =
 unfoldable pub nowdoc_step : List ℕ → Option Step
 nowdoc_step bytes =
     let n = name_length (drop 4 bytes)
-    in if begins (codes "<<<'") bytes && begins (codes "'") (drop n (drop 4 bytes)) then headed of_nowdoc (5 + n) (take n (drop 4 bytes)) (drop 1 (drop n (drop 4 bytes))) else None
+    in if begins (codes "<<<'") bytes
+    && begins (codes "'") (drop n (drop 4 bytes)) then headed of_nowdoc (5 + n) (take n (drop 4 bytes)) (drop 1 (drop n (drop 4 bytes)))
+    else None

@@ -8,7 +8,8 @@ pub data Found (X : Type 0) : Type 0 where
   over : ℕ → Found X
   missing : Found X
 
--- a row: its items and how many bytes they and the end take; or, where it has an end, how many bytes stand before its first wrong place; or it has no end
+-- a row: its items and how many bytes they and the end take; or, where it has an end, how many bytes stand before its first wrong place; or
+-- it has no end
 pub data Row (X : Type 0) : Type 0 where
   whole : List X → ℕ → Row X
   broken : ℕ → Row X

@@ -11,9 +11,12 @@ use Rattle.lexical_grammar.specs.Steps.{Step, gives}
 -- the signs, the longer ones first
 abbrev pub all_signs : List Sign
 all_signs =
-    s.Identical ∷ s.NotIdentical ∷ s.CoalesceAssign ∷ s.Equal ∷ s.NotEqual ∷ s.LessGreater ∷ s.LessEqual ∷ s.GreaterEqual ∷ s.DoubleArrow ∷ s.And ∷ s.Or ∷ s.Coalesce
-    ∷ s.JoinAssign ∷ s.AddAssign ∷ s.SubAssign ∷ s.MulAssign ∷ s.RemAssign ∷ s.Increment ∷ s.Decrement ∷ s.Assign ∷ s.Less ∷ s.Greater ∷ s.Not ∷ s.Dot ∷ s.Plus ∷ s.Minus ∷ s.Star ∷ s.Percent
-    ∷ s.Question ∷ s.Colon ∷ s.Comma ∷ s.Semicolon ∷ s.OpenParen ∷ s.CloseParen ∷ s.OpenBracket ∷ s.CloseBracket ∷ s.OpenBrace ∷ s.CloseBrace ∷ []
+    s.Identical ∷ s.NotIdentical ∷ s.CoalesceAssign ∷ s.Equal ∷ s.NotEqual ∷ s.LessGreater ∷ s.LessEqual ∷ s.GreaterEqual ∷ s.DoubleArrow
+    ∷ s.And ∷ s.Or ∷ s.Coalesce
+    ∷ s.JoinAssign ∷ s.AddAssign ∷ s.SubAssign ∷ s.MulAssign ∷ s.RemAssign ∷ s.Increment ∷ s.Decrement ∷ s.Assign ∷ s.Less ∷ s.Greater
+    ∷ s.Not ∷ s.Dot ∷ s.Plus ∷ s.Minus ∷ s.Star ∷ s.Percent
+    ∷ s.Question ∷ s.Colon ∷ s.Comma ∷ s.Semicolon ∷ s.OpenParen ∷ s.CloseParen ∷ s.OpenBracket ∷ s.CloseBracket ∷ s.OpenBrace
+    ∷ s.CloseBrace ∷ []
 
 -- the first sign of these that the bytes begin with
 abbrev pub first_sign : List Sign → List ℕ → Option Step
@@ -43,4 +46,5 @@ cast_step bytes =
     in let gap = prefix_len is_gap inner
     in let word = prefix_len is_name_byte (drop gap inner)
     in let second = prefix_len is_gap (drop word (drop gap inner))
-    in if begins (codes "(") bytes then cast_in (cast_of (take word (drop gap inner))) (1 + gap + word + second) (drop second (drop word (drop gap inner))) else None
+    in if begins (codes "(") bytes
+    then cast_in (cast_of (take word (drop gap inner))) (1 + gap + word + second) (drop second (drop word (drop gap inner))) else None

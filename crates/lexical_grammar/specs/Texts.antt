@@ -24,6 +24,7 @@ single_at (b ∷ bytes) =
 abbrev pub single_quoted : List ℕ → Row ℕ
 single_quoted bytes = row single_at 0 bytes
 
+-- the text of a row behind its first quote, which is counted with the bytes taken; a row without an end is refused at the quote
 abbrev pub single_token : Row ℕ → Option Step
 single_token (whole bytes n) = gives (text bytes) (1 + n)
 single_token (broken n) = faults Unclosed 0
@@ -46,7 +47,8 @@ KeyAt = Option (PlainKey × ℕ)
 abbrev pub integer_key : List ℕ → KeyAt
 integer_key bytes =
     let digits = take (digits_length bytes) bytes
-    in if digits_length bytes == 0 || has_leading_zero digits || nat_lt largest (value_of digits) then None else Some (int_key (pos (value_of digits)), digits_length bytes)
+    in if digits_length bytes == 0 || has_leading_zero digits
+    || nat_lt largest (value_of digits) then None else Some (int_key (pos (value_of digits)), digits_length bytes)
 
 -- a variable
 abbrev pub variable_key : List ℕ → KeyAt
@@ -54,6 +56,7 @@ variable_key bytes =
     let n = name_length (drop 1 bytes)
     in if begins (codes "$") bytes && nat_lt 0 n then Some (var_key (take n (drop 1 bytes)), 1 + n) else None
 
+-- the first key where one was read, and else the second
 abbrev pub or_key : KeyAt → KeyAt → KeyAt
 or_key None second = second
 or_key (Some key) second = Some key
@@ -64,6 +67,7 @@ simple_key bytes =
     let n = name_length bytes
     in if nat_lt 0 n then Some (text_key (take n bytes), n) else or_key (integer_key bytes) (variable_key bytes)
 
+-- a single-quoted text as a key, its first quote counted with its bytes; None where the row has no end
 abbrev pub text_key_of : Row ℕ → KeyAt
 text_key_of (whole bytes n) = Some (text_key bytes, 1 + n)
 text_key_of (broken n) = None
@@ -71,13 +75,15 @@ text_key_of endless = None
 
 -- `{$x[key]}`: a single-quoted text, an integer or a variable
 unfoldable pub braced_key : List ℕ → KeyAt
-braced_key bytes = if begins (codes "'") bytes then text_key_of (single_quoted (drop 1 bytes)) else or_key (integer_key bytes) (variable_key bytes)
+braced_key bytes = if begins (codes "'") bytes then text_key_of (single_quoted (drop 1 bytes))
+    else or_key (integer_key bytes) (variable_key bytes)
 
 -- a key, and `]` behind it; the bytes are counted from the `[` on
 abbrev pub closed_key : KeyAt → List ℕ → KeyAt
 closed_key None inner = None
 closed_key (Some key) inner = if begins (codes "]") (drop key.1 inner) then Some (key.0, key.1 + 2) else None
 
+-- a key with its brackets, as an item of the row; where none could be read the row is broken here
 abbrev pub subscript_found : KeyAt → Found PlainKey
 subscript_found None = wrong 1
 subscript_found (Some key) = item key.0 key.1
@@ -95,6 +101,7 @@ pub data Enclosure : Type 0 where
   quotes : Enclosure
   lines : Enclosure
 
+-- whether the template stands between double quotes, where `"` ends it and `\"` is an escape
 abbrev pub in_quotes : Enclosure → Bool
 in_quotes quotes = true
 in_quotes lines = false
@@ -137,9 +144,11 @@ whole_of (whole xs n) = Some (xs, n)
 whole_of (broken n) = None
 whole_of endless = None
 
+-- the keys in brackets up to `}`, in order, and how many bytes they and the `}` take; None where one is wrong or the `}` is missing
 unfoldable pub subscripts : List ℕ → Option (List PlainKey × ℕ)
 subscripts bytes = whole_of (row subscript_at 0 bytes)
 
+-- a read of the variable at these keys, with so many bytes before the first; wrong at once where the keys could not be read
 abbrev pub braced_read : List ℕ → ℕ → Option (List PlainKey × ℕ) → Found Unit_of
 braced_read name n None = wrong 1
 braced_read name n (Some keys) = item (reads name keys.0) (n + keys.1)
@@ -183,6 +192,7 @@ kind_of_parts [] = text []
 kind_of_parts (plain_part t ∷ []) = text t
 kind_of_parts parts = template parts
 
+-- the text or template of a row behind its first quote, which is counted; a wrong place is refused there, and no end at the quote
 abbrev pub double_token : Row Unit_of → Option Step
 double_token (whole units n) = gives (kind_of_parts (parts_of units)) (1 + n)
 double_token (broken n) = faults Escape (1 + n)

@@ -19,7 +19,8 @@ variable_step bytes =
 
 -- `e` or `E`, a sign or none, and a digit
 abbrev pub begins_exponent : List ℕ → Bool
-begins_exponent bytes = head_is (λ b. b == 101 || b == 69) bytes && (head_is is_digit (drop 1 bytes) || (head_is (λ b. b == 43 || b == 45) (drop 1 bytes) && head_is is_digit (drop 2 bytes)))
+begins_exponent bytes = head_is (λ b. b == 101 || b == 69) bytes && (head_is is_digit (drop 1 bytes)
+    || (head_is (λ b. b == 43 || b == 45) (drop 1 bytes) && head_is is_digit (drop 2 bytes)))
 
 -- what makes a float of the digits before it
 abbrev pub goes_on_as_float : List ℕ → Bool

@@ -30,7 +30,8 @@ abbrev pub BeginsNot : (List ℕ → Bool) → List ℕ → List ℕ → Type 0
 BeginsNot test bytes rest = (n : ℕ) → n < length bytes → test (drop n (bytes ++ rest)) ≡ false
 
 -- the bytes of a token, with these bytes behind them, are how such a token is spelled: no opener begins in a piece outside PHP;
--- a name is a longest run of name bytes, as is a variable behind its `$`, and `<?=` is the name echo; an integer is a longest run of digits and stands for their number
+-- a name is a longest run of name bytes, as is a variable behind its `$`, and `<?=` is the name echo; an integer is a longest run of digits
+-- and stands for their number
 abbrev pub IsSpelledBy : PlainKind → List ℕ → List ℕ → Type 0
 IsSpelledBy (inline t) bytes rest = (bytes ≡ t) × BeginsNot is_opener bytes rest
 IsSpelledBy (variable x) bytes rest = (bytes ≡ 36 ∷ x) × IsName x × EndsName rest

@@ -1,7 +1,8 @@
 -- How a text can be written in quotes (PHP manual, "Types: Strings": single quoted, double quoted).
 use Rattle.std.specs.Prelude.{◌≢◌, ℕ, List, [], ◌∷◌}
 
--- the bytes between single quotes stand for the text: `\'` for a quote, `\\` for a backslash, and every other byte for itself, as a backslash before another byte does
+-- the bytes between single quotes stand for the text: `\'` for a quote, `\\` for a backslash, and every other byte for itself, as a
+-- backslash before another byte does
 pub data Quotes : List ℕ → List ℕ → Type 0 where
   nothing : Quotes [] []
   plain : {b : ℕ} {text bytes : List ℕ} → b ≢ 39 → b ≢ 92 → Quotes text bytes → Quotes (b ∷ text) (b ∷ bytes)

@@ -2,3 +2,5 @@
 //! (proofs/). Laws alone. Below stand slot_versions, function_pairs, ssa_form, set_names and
 //! set_versions.
 #![tactic(auto)]
+
+pub use set_versions::by_numbers;

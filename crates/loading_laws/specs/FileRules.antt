@@ -18,6 +18,7 @@ AreKnown files = (call : PlainCall) → Contains (calls_in_files files) call →
 abbrev pub AreServed : List ReadFile → Type 0
 AreServed files = (call : PlainCall) → Contains (calls_in_files files) call → serves_call (functions_in files) call ≡ true
 
+-- the rules on functions, kept by these files together
 pub record KeepFunctionRules (files : List ReadFile) : Type 0 where
   pub once : AreOnce files
   pub known : AreKnown files

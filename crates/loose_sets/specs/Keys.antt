@@ -11,14 +11,17 @@ literal_key (int_ref z) = Some (int_key z)
 literal_key (text_ref t) = Some (canonical_key t (canonical_integer t))
 literal_key (read_ref x) = None
 
+-- a list of one, or of none
 abbrev pub listed : {A : Type 0} → Option A → List A
 listed None = []
 listed (Some x) = x ∷ []
 
+-- the key of a literal, if a literal is written as the key
 abbrev pub maybe_listed : Option PlainKeyRef → List PlainKey
 maybe_listed None = []
 maybe_listed (Some k) = listed (literal_key k)
 
+-- the key of an array item, if a literal is written as its key
 abbrev pub item_key : (Option PlainKeyRef × ℕ) → List PlainKey
 item_key item = maybe_listed item.0
 
@@ -30,14 +33,17 @@ source_keys (array_source items) = flat_map item_key items
 source_keys (put_source x path v) = flat_map maybe_listed path
 source_keys _ = []
 
+-- the literal keys of what a point sets, from the left; other points have none
 unfoldable pub point_keys : PlainPoint → List PlainKey
 unfolding source_keys
 point_keys (set_point x source next) = source_keys source
 point_keys _ = []
 
+-- whether the key is one of these
 unfoldable pub is_among : PlainKey → List PlainKey → Bool
 is_among k ks = list_any (same_key k) ks
 
+-- the keys in their order, with this one left out wherever it stands
 unfoldable pub without_key : PlainKey → List PlainKey → List PlainKey
 without_key k [] = []
 without_key k (j ∷ js) = if same_key k j then without_key k js else j ∷ without_key k js
@@ -53,6 +59,7 @@ unfoldable pub told_keys : PlainFlow → List PlainKey
 unfolding points_in point_keys keys_once
 told_keys flow = take 64 (keys_once (flat_map point_keys (points_in flow.functions_of)))
 
+-- whether the key is an integer
 abbrev pub is_integer_key : PlainKey → Bool
 is_integer_key (int_key z) = true
 is_integer_key (text_key t) = false

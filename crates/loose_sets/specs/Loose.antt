@@ -9,16 +9,19 @@ use Rattle.loose_sets.specs.Names.{Leaving, Name, out_of}
 use Rattle.loose_sets.specs.Table.{Row}
 
 -- a text of a set, by this reading of operations, of the request, and of operations in a cycle
-abbrev pub IsIn : (Op → List ℕ → List ℕ → Type 0) → (List ℕ → Type 0) → ((ℕ → Type 0) → List ℕ → Type 0) → PlainFlow → Name → List ℕ → Type 0
+abbrev pub IsIn : (Op → List ℕ → List ℕ → Type 0) → (List ℕ → Type 0) → ((ℕ → Type 0) → List ℕ → Type 0) → PlainFlow → Name → List ℕ
+    → Type 0
 IsIn outputs request circular flow name w = In (Row flow) outputs request circular name w
 
 -- a text that the program may print from its entry until it returns, or until the run ends elsewhere
-pub record LooseBy (outputs : Op → List ℕ → List ℕ → Type 0) (request : List ℕ → Type 0) (circular : (ℕ → Type 0) → List ℕ → Type 0) (flow : PlainFlow) (w : List ℕ) : Type 0 where
+pub record LooseBy (outputs : Op → List ℕ → List ℕ → Type 0) (request : List ℕ → Type 0) (circular : (ℕ → Type 0) → List ℕ → Type 0)
+    (flow : PlainFlow) (w : List ℕ) : Type 0 where
   pub main : PlainFlowFunction
   pub is_main : function_at flow 0 ≡ Some main
   pub end : Leaving
   pub printed : IsIn outputs request circular flow (out_of main.entry_of end) w
 
--- a loose page: operations as PHP has them, any text of XML's characters from the request, and any text over its bytes for an operation in a cycle
+-- a loose page: operations as PHP has them, any text of XML's characters from the request, and any text over its bytes for an operation in
+-- a cycle
 abbrev pub Loose : PlainFlow → List ℕ → Type 0
 Loose flow w = LooseBy Rel IsText (λ bytes text. All bytes text) flow w

@@ -1,4 +1,5 @@
--- The sets of the analysis, by their names. Where the question is whether a value may be an array, the set says yes or no, and has no texts.
+-- The sets of the analysis, by their names. Where the question is whether a value may be an array, the set says yes or no, and has no
+-- texts.
 use Rattle.std.specs.Prelude.{ℕ}
 use Rattle.plain_values.specs.Plain.{PlainKey}
 use Rattle.loose_sets.specs.Reaching.{Definition}
@@ -24,6 +25,7 @@ pub data Leaving : Type 0 where
   by_return : Leaving
   by_exit : Leaving
 
+-- the name of a set of the analysis
 pub data Name : Type 0 where
   -- of the value that a definition gives
   set_of : Aspect → Definition → Name

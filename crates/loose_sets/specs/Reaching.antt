@@ -13,4 +13,5 @@ pub data Definition : Type 0 where
 pub data Reaches (flow : PlainFlow) : Definition → ℕ → ℕ → Type 0 where
   behind : (d x p : ℕ) (i : PlainPoint) → point_at flow d ≡ Some i → sets i ≡ Some x → Contains (nexts i) p → Reaches flow (at_point d) x p
   entered : (f x : ℕ) (g : PlainFlowFunction) → function_at flow f ≡ Some g → IsOwnSlot g x → Reaches flow (at_entry f x) x g.entry_of
-  onward : (d : Definition) (x p q : ℕ) (i : PlainPoint) → Reaches flow d x p → point_at flow p ≡ Some i → sets i ≢ Some x → Contains (nexts i) q → Reaches flow d x q
+  onward : (d : Definition) (x p q : ℕ) (i : PlainPoint) → Reaches flow d x p → point_at flow p ≡ Some i → sets i ≢ Some x
+      → Contains (nexts i) q → Reaches flow d x q

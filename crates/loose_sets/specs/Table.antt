@@ -1,4 +1,5 @@
--- The table of the sets: a row says one way in which the texts of a set are made (after Minamide, Static Approximation of Dynamically Generated
+-- The table of the sets: a row says one way in which the texts of a set are made (after Minamide, Static Approximation of Dynamically
+-- Generated
 -- Web Pages, WWW 2005; members by key are this project's own). Rows that hand on all aspects of a value also name keys that are not told
 -- apart; no set that is used asks for those.
 use Rattle.std.specs.Prelude.{◌≡◌, ⊤, ℕ, ℤ, suc, true, false, if◌then◌else◌, List, [], ◌∷◌, Option, Some, None, Contains, codes, slice_get, length}
@@ -68,16 +69,20 @@ pub data SourceRow (flow : PlainFlow) (p : ℕ) : PlainSource → Aspect → For
   copy : (x : ℕ) (a : Aspect) → SourceRow flow p (copy_source x) a (same_form (use_of a x p))
   -- an array of the request
   super_array : (name : SuperName) → SourceRow flow p (super_source name) (own array_half) yes_form
-  super_member : (name : SuperName) (c : PlainKey) (half : Half) → IsTold flow c → SourceRow flow p (super_source name) (member c half) (request_member half)
+  super_member : (name : SuperName) (c : PlainKey) (half : Half) → IsTold flow c
+      → SourceRow flow p (super_source name) (member c half) (request_member half)
   super_other : (name : SuperName) (half : Half) → SourceRow flow p (super_source name) (others half) (request_member half)
   super_key : (name : SuperName) → SourceRow flow p (super_source name) keys_of request_form
   -- a member, and null where the key is not there
-  member_own : (x : ℕ) (k : PlainKeyRef) (half : Half) → SourceRow flow p (member_source x k) (own half) (same_form (member_at flow half k x p))
+  member_own : (x : ℕ) (k : PlainKeyRef) (half : Half)
+      → SourceRow flow p (member_source x k) (own half) (same_form (member_at flow half k x p))
   member_null : (x : ℕ) (k : PlainKeyRef) → SourceRow flow p (member_source x k) (own text_half) (text_form [])
-  member_deep : (x : ℕ) (k : PlainKeyRef) (a b : Aspect) → deeper a ≡ Some b → SourceRow flow p (member_source x k) a (same_form (use_of b x p))
+  member_deep : (x : ℕ) (k : PlainKeyRef) (a b : Aspect) → deeper a ≡ Some b
+      → SourceRow flow p (member_source x k) a (same_form (use_of b x p))
   -- an array literal
   array_array : (items : List (Option PlainKeyRef × ℕ)) → SourceRow flow p (array_source items) (own array_half) yes_form
-  array_member : (items : List (Option PlainKeyRef × ℕ)) (k : Option PlainKeyRef) (v : ℕ) (c : PlainKey) (half : Half) → Contains items (k, v) → IsTold flow c
+  array_member : (items : List (Option PlainKeyRef × ℕ)) (k : Option PlainKeyRef) (v : ℕ) (c : PlainKey) (half : Half)
+      → Contains items (k, v) → IsTold flow c
       → may_be k c ≡ true → SourceRow flow p (array_source items) (member c half) (same_form (use_of (own half) v p))
   array_other : (items : List (Option PlainKeyRef × ℕ)) (k : Option PlainKeyRef) (v : ℕ) (half : Half) → Contains items (k, v)
       → may_be_other k (told_keys flow) ≡ true → SourceRow flow p (array_source items) (others half) (same_form (use_of (own half) v p))
@@ -85,15 +90,22 @@ pub data SourceRow (flow : PlainFlow) (p : ℕ) : PlainSource → Aspect → For
       → SourceRow flow p (array_source items) (others half) (same_form (all_of half v p))
   array_deep_key : (items : List (Option PlainKeyRef × ℕ)) (k : Option PlainKeyRef) (v : ℕ) → Contains items (k, v)
       → SourceRow flow p (array_source items) keys_of (same_form (use_of keys_of v p))
-  array_key : (items : List (Option PlainKeyRef × ℕ)) (k : Option PlainKeyRef) (v : ℕ) (f : Form Name) → Contains items (k, v) → KeyText p k f
+  array_key : (items : List (Option PlainKeyRef × ℕ)) (k : Option PlainKeyRef) (v : ℕ) (f : Form Name) → Contains items (k, v)
+      → KeyText p k f
       → SourceRow flow p (array_source items) keys_of f
   -- a write: the value is an array then, and keeps its keys and what stands under other keys
-  put_array : (x v : ℕ) (k : Option PlainKeyRef) (ks : List (Option PlainKeyRef)) → SourceRow flow p (put_source x (k ∷ ks) v) (own array_half) yes_form
-  put_old : (x v : ℕ) (k : Option PlainKeyRef) (ks : List (Option PlainKeyRef)) (half : Half) → SourceRow flow p (put_source x (k ∷ ks) v) (others half) (same_form (use_of (others half) x p))
-  put_old_key : (x v : ℕ) (k : Option PlainKeyRef) (ks : List (Option PlainKeyRef)) → SourceRow flow p (put_source x (k ∷ ks) v) keys_of (same_form (use_of keys_of x p))
-  put_deep : (x v : ℕ) (k : Option PlainKeyRef) (ks : List (Option PlainKeyRef)) (half : Half) → SourceRow flow p (put_source x (k ∷ ks) v) (others half) (same_form (all_of half v p))
-  put_deep_key : (x v : ℕ) (k : Option PlainKeyRef) (ks : List (Option PlainKeyRef)) → SourceRow flow p (put_source x (k ∷ ks) v) keys_of (same_form (use_of keys_of v p))
-  put_key : (x v : ℕ) (path : List (Option PlainKeyRef)) (k : Option PlainKeyRef) (f : Form Name) → Contains path k → KeyText p k f → SourceRow flow p (put_source x path v) keys_of f
+  put_array : (x v : ℕ) (k : Option PlainKeyRef) (ks : List (Option PlainKeyRef))
+      → SourceRow flow p (put_source x (k ∷ ks) v) (own array_half) yes_form
+  put_old : (x v : ℕ) (k : Option PlainKeyRef) (ks : List (Option PlainKeyRef)) (half : Half)
+      → SourceRow flow p (put_source x (k ∷ ks) v) (others half) (same_form (use_of (others half) x p))
+  put_old_key : (x v : ℕ) (k : Option PlainKeyRef) (ks : List (Option PlainKeyRef))
+      → SourceRow flow p (put_source x (k ∷ ks) v) keys_of (same_form (use_of keys_of x p))
+  put_deep : (x v : ℕ) (k : Option PlainKeyRef) (ks : List (Option PlainKeyRef)) (half : Half)
+      → SourceRow flow p (put_source x (k ∷ ks) v) (others half) (same_form (all_of half v p))
+  put_deep_key : (x v : ℕ) (k : Option PlainKeyRef) (ks : List (Option PlainKeyRef))
+      → SourceRow flow p (put_source x (k ∷ ks) v) keys_of (same_form (use_of keys_of v p))
+  put_key : (x v : ℕ) (path : List (Option PlainKeyRef)) (k : Option PlainKeyRef) (f : Form Name) → Contains path k → KeyText p k f
+      → SourceRow flow p (put_source x path v) keys_of f
   -- under one key: the old member stays where the key may be another one, and the new one is there where it may be this one
   put_kept : (x v : ℕ) (k : Option PlainKeyRef) (c : PlainKey) (half : Half) → IsTold flow c → is_exactly k c ≡ false
       → SourceRow flow p (put_source x (k ∷ []) v) (member c half) (same_form (use_of (member c half) x p))
@@ -104,27 +116,37 @@ pub data SourceRow (flow : PlainFlow) (p : ℕ) : PlainSource → Aspect → For
   -- deeper: the member under the first key is an array then, and the new value and the arrays on the way stand deep
   put_member : (x v : ℕ) (k j : Option PlainKeyRef) (ks : List (Option PlainKeyRef)) (c : PlainKey) (half : Half) → IsTold flow c
       → SourceRow flow p (put_source x (k ∷ j ∷ ks) v) (member c half) (same_form (use_of (member c half) x p))
-  put_member_array : (x v : ℕ) (k j : Option PlainKeyRef) (ks : List (Option PlainKeyRef)) (c : PlainKey) → IsTold flow c → may_be k c ≡ true
+  put_member_array : (x v : ℕ) (k j : Option PlainKeyRef) (ks : List (Option PlainKeyRef)) (c : PlainKey) → IsTold flow c
+      → may_be k c ≡ true
       → SourceRow flow p (put_source x (k ∷ j ∷ ks) v) (member c array_half) yes_form
   put_within : (x v : ℕ) (k j : Option PlainKeyRef) (ks : List (Option PlainKeyRef)) (half : Half)
       → SourceRow flow p (put_source x (k ∷ j ∷ ks) v) (others half) (same_form (use_of (own half) v p))
-  put_within_array : (x v : ℕ) (k j : Option PlainKeyRef) (ks : List (Option PlainKeyRef)) → SourceRow flow p (put_source x (k ∷ j ∷ ks) v) (others array_half) yes_form
+  put_within_array : (x v : ℕ) (k j : Option PlainKeyRef) (ks : List (Option PlainKeyRef))
+      → SourceRow flow p (put_source x (k ∷ j ∷ ks) v) (others array_half) yes_form
   -- texts joined
   concat : (xs : List ℕ) → SourceRow flow p (concat_source xs) (own text_half) (same_form (joined_from p 0))
   -- any number of copies
   repeat_none : (from : ℕ) (f : Builtin) (args : List ℕ) → SourceRow flow p (repeat_source from f args) (own text_half) (text_form [])
-  repeat_more : (from : ℕ) (f : Builtin) (args : List ℕ) → SourceRow flow p (repeat_source from f args) (own text_half) (join_form (use_of (own text_half) from p) (set_of (own text_half) (at_point p)))
+  repeat_more : (from : ℕ) (f : Builtin) (args : List ℕ)
+      → SourceRow flow p (repeat_source from f args) (own text_half)
+      (join_form (use_of (own text_half) from p) (set_of (own text_half) (at_point p)))
   -- members joined
-  implode_none : (sep from : ℕ) (f : Builtin) (args : List ℕ) → SourceRow flow p (implode_source sep from f args) (own text_half) (text_form [])
-  implode_more : (sep from : ℕ) (f : Builtin) (args : List ℕ) → SourceRow flow p (implode_source sep from f args) (own text_half) (join_form (piece_of p) (further_pieces_of p))
+  implode_none : (sep from : ℕ) (f : Builtin) (args : List ℕ)
+      → SourceRow flow p (implode_source sep from f args) (own text_half) (text_form [])
+  implode_more : (sep from : ℕ) (f : Builtin) (args : List ℕ)
+      → SourceRow flow p (implode_source sep from f args) (own text_half) (join_form (piece_of p) (further_pieces_of p))
   -- an array of the outputs of an operation
-  explode_array : (operation : Op) (from : ℕ) (f : Builtin) (args : List ℕ) → SourceRow flow p (explode_source operation from f args) (own array_half) yes_form
+  explode_array : (operation : Op) (from : ℕ) (f : Builtin) (args : List ℕ)
+      → SourceRow flow p (explode_source operation from f args) (own array_half) yes_form
   explode_member : (operation : Op) (from : ℕ) (f : Builtin) (args : List ℕ) (c : PlainKey) → IsTold flow c → is_integer_key c ≡ true
       → SourceRow flow p (explode_source operation from f args) (member c text_half) (same_form (output_of p))
-  explode_other : (operation : Op) (from : ℕ) (f : Builtin) (args : List ℕ) → SourceRow flow p (explode_source operation from f args) (others text_half) (same_form (output_of p))
-  explode_key : (operation : Op) (from : ℕ) (f : Builtin) (args : List ℕ) → SourceRow flow p (explode_source operation from f args) keys_of integer_form
+  explode_other : (operation : Op) (from : ℕ) (f : Builtin) (args : List ℕ)
+      → SourceRow flow p (explode_source operation from f args) (others text_half) (same_form (output_of p))
+  explode_key : (operation : Op) (from : ℕ) (f : Builtin) (args : List ℕ)
+      → SourceRow flow p (explode_source operation from f args) keys_of integer_form
   -- the outputs of an operation
-  apply : (operation : Op) (from : ℕ) (f : Builtin) (args : List ℕ) → SourceRow flow p (apply_source operation from f args) (own text_half) (same_form (output_of p))
+  apply : (operation : Op) (from : ℕ) (f : Builtin) (args : List ℕ)
+      → SourceRow flow p (apply_source operation from f args) (own text_half) (same_form (output_of p))
   -- an integer; a truth value
   number : (work : Work) (args : List ℕ) → SourceRow flow p (number_source work args) (own text_half) integer_form
   truth_true : (work : Work) (args : List ℕ) → SourceRow flow p (truth_source work args) (own text_half) (text_form (codes "1"))
@@ -159,43 +181,67 @@ pub data Row (flow : PlainFlow) : Name → Form Name → Type 0 where
   shown_text : (x p : ℕ) → Row flow (shown_at x p) (same_form (use_of (own text_half) x p))
   shown_array : (x p : ℕ) → Row flow (shown_at x p) (where_form (codes "Array") (use_of (own array_half) x p))
   -- a slot set to a source
-  source : (p : ℕ) (s : PlainSource) (a : Aspect) (f : Form Name) → SetsTo flow p s → SourceRow flow p s a f → Row flow (set_of a (at_point p)) f
+  source : (p : ℕ) (s : PlainSource) (a : Aspect) (f : Form Name) → SetsTo flow p s → SourceRow flow p s a f
+      → Row flow (set_of a (at_point p)) f
   -- the values that are joined, one after another
   joined_end : (p : ℕ) (xs : List ℕ) → SetsTo flow p (concat_source xs) → Row flow (joined_from p (length xs)) (text_form [])
-  joined_more : (p i x : ℕ) (xs : List ℕ) → SetsTo flow p (concat_source xs) → slice_get xs i ≡ Some x → Row flow (joined_from p i) (join_form (shown_at x p) (joined_from p (suc i)))
+  joined_more : (p i x : ℕ) (xs : List ℕ) → SetsTo flow p (concat_source xs) → slice_get xs i ≡ Some x
+      → Row flow (joined_from p i) (join_form (shown_at x p) (joined_from p (suc i)))
   -- a member of an array that is joined, an array among them as `Array`; a separator and a member, and any number of these
-  piece_text : (p sep from : ℕ) (f : Builtin) (args : List ℕ) → SetsTo flow p (implode_source sep from f args) → Row flow (piece_of p) (same_form (all_of text_half from p))
-  piece_array : (p sep from : ℕ) (f : Builtin) (args : List ℕ) → SetsTo flow p (implode_source sep from f args) → Row flow (piece_of p) (where_form (codes "Array") (all_of array_half from p))
-  further_piece : (p sep from : ℕ) (f : Builtin) (args : List ℕ) → SetsTo flow p (implode_source sep from f args) → Row flow (further_piece_of p) (join_form (use_of (own text_half) sep p) (piece_of p))
-  further_none : (p sep from : ℕ) (f : Builtin) (args : List ℕ) → SetsTo flow p (implode_source sep from f args) → Row flow (further_pieces_of p) (text_form [])
+  piece_text : (p sep from : ℕ) (f : Builtin) (args : List ℕ) → SetsTo flow p (implode_source sep from f args)
+      → Row flow (piece_of p) (same_form (all_of text_half from p))
+  piece_array : (p sep from : ℕ) (f : Builtin) (args : List ℕ) → SetsTo flow p (implode_source sep from f args)
+      → Row flow (piece_of p) (where_form (codes "Array") (all_of array_half from p))
+  further_piece : (p sep from : ℕ) (f : Builtin) (args : List ℕ) → SetsTo flow p (implode_source sep from f args)
+      → Row flow (further_piece_of p) (join_form (use_of (own text_half) sep p) (piece_of p))
+  further_none : (p sep from : ℕ) (f : Builtin) (args : List ℕ) → SetsTo flow p (implode_source sep from f args)
+      → Row flow (further_pieces_of p) (text_form [])
   further_more : (p sep from : ℕ) (f : Builtin) (args : List ℕ) → SetsTo flow p (implode_source sep from f args)
       → Row flow (further_pieces_of p) (join_form (further_piece_of p) (further_pieces_of p))
   -- the inputs and the outputs of an operation, which all sets that it makes share
-  applied_input : (p from x : ℕ) (operation : Op) (f : Builtin) (args : List ℕ) → SetsTo flow p (apply_source operation from f args) → Reads operation from args x
+  applied_input : (p from x : ℕ) (operation : Op) (f : Builtin) (args : List ℕ) → SetsTo flow p (apply_source operation from f args)
+      → Reads operation from args x
       → Row flow (input_of p) (same_form (use_of (own text_half) x p))
-  applied_output : (p from : ℕ) (operation : Op) (f : Builtin) (args : List ℕ) → SetsTo flow p (apply_source operation from f args) → Row flow (output_of p) (apply_form operation (input_of p))
-  split_input : (p from : ℕ) (operation : Op) (f : Builtin) (args : List ℕ) → SetsTo flow p (explode_source operation from f args) → Row flow (input_of p) (same_form (use_of (own text_half) from p))
-  split_output : (p from : ℕ) (operation : Op) (f : Builtin) (args : List ℕ) → SetsTo flow p (explode_source operation from f args) → Row flow (output_of p) (apply_form operation (input_of p))
+  applied_output : (p from : ℕ) (operation : Op) (f : Builtin) (args : List ℕ) → SetsTo flow p (apply_source operation from f args)
+      → Row flow (output_of p) (apply_form operation (input_of p))
+  split_input : (p from : ℕ) (operation : Op) (f : Builtin) (args : List ℕ) → SetsTo flow p (explode_source operation from f args)
+      → Row flow (input_of p) (same_form (use_of (own text_half) from p))
+  split_output : (p from : ℕ) (operation : Op) (f : Builtin) (args : List ℕ) → SetsTo flow p (explode_source operation from f args)
+      → Row flow (output_of p) (apply_form operation (input_of p))
   -- a walk: a copy of what is walked, its keys, and its members
-  walk_copy : (a : Aspect) (p x from next : ℕ) → point_at flow p ≡ Some (begin_point x from next) → Row flow (set_of a (at_point p)) (same_form (use_of a from p))
-  walk_key : (p x from next : ℕ) → point_at flow p ≡ Some (key_point x from next) → Row flow (set_of (own text_half) (at_point p)) (same_form (use_of keys_of from p))
-  walk_value : (half : Half) (p x from next : ℕ) → point_at flow p ≡ Some (value_point x from next) → Row flow (set_of (own half) (at_point p)) (same_form (all_of half from p))
-  walk_deep : (a b : Aspect) (p x from next : ℕ) → point_at flow p ≡ Some (value_point x from next) → deeper a ≡ Some b → Row flow (set_of a (at_point p)) (same_form (use_of b from p))
+  walk_copy : (a : Aspect) (p x from next : ℕ) → point_at flow p ≡ Some (begin_point x from next)
+      → Row flow (set_of a (at_point p)) (same_form (use_of a from p))
+  walk_key : (p x from next : ℕ) → point_at flow p ≡ Some (key_point x from next)
+      → Row flow (set_of (own text_half) (at_point p)) (same_form (use_of keys_of from p))
+  walk_value : (half : Half) (p x from next : ℕ) → point_at flow p ≡ Some (value_point x from next)
+      → Row flow (set_of (own half) (at_point p)) (same_form (all_of half from p))
+  walk_deep : (a b : Aspect) (p x from next : ℕ) → point_at flow p ≡ Some (value_point x from next) → deeper a ≡ Some b
+      → Row flow (set_of a (at_point p)) (same_form (use_of b from p))
   -- a call has the results of its function, and its arguments are the parameters; every other slot is null at the entry
-  result : (a : Aspect) (p x n next : ℕ) (args : List ℕ) → point_at flow p ≡ Some (call_point x n args next) → Row flow (set_of a (at_point p)) (same_form (result_of a n))
-  returned : (a : Aspect) (n q y : ℕ) (g : PlainFlowFunction) → function_at flow n ≡ Some g → IsOwnPoint g q → point_at flow q ≡ Some (return_point y)
+  result : (a : Aspect) (p x n next : ℕ) (args : List ℕ) → point_at flow p ≡ Some (call_point x n args next)
+      → Row flow (set_of a (at_point p)) (same_form (result_of a n))
+  returned : (a : Aspect) (n q y : ℕ) (g : PlainFlowFunction) → function_at flow n ≡ Some g → IsOwnPoint g q
+      → point_at flow q ≡ Some (return_point y)
       → Row flow (result_of a n) (same_form (use_of a y q))
-  parameter : (a : Aspect) (p x n next y arg : ℕ) (args : List ℕ) (g : PlainFlowFunction) → point_at flow p ≡ Some (call_point x n args next)
+  parameter : (a : Aspect) (p x n next y arg : ℕ) (args : List ℕ) (g : PlainFlowFunction)
+      → point_at flow p ≡ Some (call_point x n args next)
       → function_at flow n ≡ Some g → IsArgument g.params_of args y arg → Row flow (set_of a (at_entry n y)) (same_form (use_of a arg p))
-  null_slot : (n y : ℕ) (g : PlainFlowFunction) → function_at flow n ≡ Some g → IsOwnSlot g y → (Contains g.params_of y → ⊥) → Row flow (set_of (own text_half) (at_entry n y)) (text_form [])
+  null_slot : (n y : ℕ) (g : PlainFlowFunction) → function_at flow n ≡ Some g → IsOwnSlot g y → (Contains g.params_of y → ⊥)
+      → Row flow (set_of (own text_half) (at_entry n y)) (text_form [])
   -- what is printed from a point on: until a return, or until the end of the run
   at_return : (p x : ℕ) → point_at flow p ≡ Some (return_point x) → Row flow (out_of p by_return) (text_form [])
   at_quit : (p : ℕ) → point_at flow p ≡ Some (quit_point None) → Row flow (out_of p by_exit) (text_form [])
-  at_quit_with : (p x : ℕ) → point_at flow p ≡ Some (quit_point (Some x)) → Row flow (out_of p by_exit) (same_form (use_of (own text_half) x p))
-  at_print : (p next : ℕ) (bytes : List ℕ) (end : Leaving) → point_at flow p ≡ Some (print_point bytes next) → Row flow (out_of p end) (before_form bytes (out_of next end))
-  at_echo : (p x next : ℕ) (end : Leaving) → point_at flow p ≡ Some (echo_point x next) → Row flow (out_of p end) (join_form (shown_at x p) (out_of next end))
-  at_call : (p x n next : ℕ) (args : List ℕ) (g : PlainFlowFunction) (end : Leaving) → point_at flow p ≡ Some (call_point x n args next) → function_at flow n ≡ Some g
+  at_quit_with : (p x : ℕ) → point_at flow p ≡ Some (quit_point (Some x))
+      → Row flow (out_of p by_exit) (same_form (use_of (own text_half) x p))
+  at_print : (p next : ℕ) (bytes : List ℕ) (end : Leaving) → point_at flow p ≡ Some (print_point bytes next)
+      → Row flow (out_of p end) (before_form bytes (out_of next end))
+  at_echo : (p x next : ℕ) (end : Leaving) → point_at flow p ≡ Some (echo_point x next)
+      → Row flow (out_of p end) (join_form (shown_at x p) (out_of next end))
+  at_call : (p x n next : ℕ) (args : List ℕ) (g : PlainFlowFunction) (end : Leaving) → point_at flow p ≡ Some (call_point x n args next)
+      → function_at flow n ≡ Some g
       → Row flow (out_of p end) (join_form (out_of g.entry_of by_return) (out_of next end))
-  at_call_exit : (p x n next : ℕ) (args : List ℕ) (g : PlainFlowFunction) → point_at flow p ≡ Some (call_point x n args next) → function_at flow n ≡ Some g
+  at_call_exit : (p x n next : ℕ) (args : List ℕ) (g : PlainFlowFunction) → point_at flow p ≡ Some (call_point x n args next)
+      → function_at flow n ≡ Some g
       → Row flow (out_of p by_exit) (same_form (out_of g.entry_of by_exit))
-  at_silent : (p q : ℕ) (i : PlainPoint) (end : Leaving) → point_at flow p ≡ Some i → PrintsNothing i → Contains (nexts i) q → Row flow (out_of p end) (same_form (out_of q end))
+  at_silent : (p q : ℕ) (i : PlainPoint) (end : Leaving) → point_at flow p ≡ Some i → PrintsNothing i → Contains (nexts i) q
+      → Row flow (out_of p end) (same_form (out_of q end))

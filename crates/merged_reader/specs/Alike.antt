@@ -14,6 +14,7 @@ first_alike a =
 abbrev pub second_alike : ℕ → ℕ → List ℕ
 second_alike a b = if a == 0xEF && b == 0xBF then a ∷ b ∷ [] else (if is_in_range 0xE0 0xEF a then 0xE1 ∷ 0x80 ∷ [] else 0xF1 ∷ 0x80 ∷ [])
 
+-- the first bytes that stand for these, one, two or three of an open character
 abbrev pub alike : List ℕ → List ℕ
 alike [] = []
 alike (a ∷ []) = first_alike a ∷ []

@@ -21,6 +21,7 @@ abbrev pub value_alike : OpenValue → Bool
 value_alike in_text = true
 value_alike v = false
 
+-- a value between quotes in which all characters of several bytes lead on alike
 abbrev pub attribute_alike : OpenAttribute → Bool
 attribute_alike (in_value name quote v) = is_quote quote && value_alike v
 attribute_alike o = false
@@ -30,6 +31,7 @@ abbrev pub doctype_alike : OpenDoctype → Bool
 doctype_alike (in_system quote) = is_quote quote
 doctype_alike o = false
 
+-- what is open, where all characters of several bytes lead on alike
 abbrev pub open_alike : Place → Open → Bool
 open_alike place nothing = place_alike place
 open_alike place (in_tag name names o) = attribute_alike o
@@ -39,6 +41,7 @@ open_alike place (in_instruction asked) = true
 open_alike place (in_doctype o) = doctype_alike o
 open_alike place o = false
 
+-- whether all characters of several bytes lead on alike from the state
 abbrev pub takes_all_alike : PageState → Bool
 takes_all_alike s = open_alike s.place s.inside
 
@@ -46,5 +49,6 @@ takes_all_alike s = open_alike s.place s.inside
 abbrev pub merged_begun : PageState → List ℕ → List ℕ
 merged_begun s begun = if takes_all_alike s then representative begun else begun
 
+-- the state with the first bytes that stand for those of its open character
 abbrev pub merged_held : Held PageState → Held PageState
 merged_held h = record { state = h.state; begun = merged_begun h.state h.begun }

@@ -1,4 +1,5 @@
--- What the reader does from byte to byte: as the reader of pages, but that each state behind a byte is replaced by the one that stands for it.
+-- What the reader does from byte to byte: as the reader of pages, but that each state behind a byte is replaced by the one that stands for
+-- it.
 use Rattle.std.specs.Prelude.{ℕ}
 use Rattle.dtd_model.specs.Table.{Table}
 use Rattle.open_pieces.specs.Views.{plain_state}
@@ -12,6 +13,7 @@ use Rattle.merged_reader.specs.Merging.{merged_begun}
 abbrev pub merged_state : HeldState → HeldState
 merged_state h = record { state = h.state; begun = merged_begun (plain_state h.state) h.begun }
 
+-- the state in memory that stands for this one, a failed reader for itself
 abbrev pub merged : ReaderState → ReaderState
 merged Failed = Failed
 merged (Reading h) = Reading (merged_state h)

@@ -1,0 +1,1 @@
+pub use Rattle.point_listing.proofs.PlaceLemmas

@@ -7,5 +7,5 @@ mod joins;
 mod points;
 
 pub use joins::push_links;
-pub use point_listing::{Place, proofs, push_entry, push_members, push_pairs, push_shown};
+pub use point_listing::{Place, push_entry, push_members, push_pairs, push_shown};
 pub use points::push_named;

@@ -23,7 +23,9 @@ FormNumbers told names f g = Alike (Numbers told names) f g
 
 -- each row of a number that stands for a set is a row of that set, and each row of the set is there
 pub record IsNumbered (flow : PlainFlow) (linked : Linked) (at : Versioned) (names : List SetName) (rows : List (ℕ × Form ℕ)) : Type 0 where
-  pub each : (m : VersionName) (k : ℕ) (g : Form ℕ) → Numbers (told_keys flow) names m k → Contains rows (k, g) → (f : Form VersionName) × VersionRow flow linked at m f × FormNumbers (told_keys flow) names f g
-  pub all : (m : VersionName) (k : ℕ) (f : Form VersionName) → Numbers (told_keys flow) names m k → VersionRow flow linked at m f → (g : Form ℕ) × Contains rows (k, g) × FormNumbers (told_keys flow) names f g
+  pub each : (m : VersionName) (k : ℕ) (g : Form ℕ) → Numbers (told_keys flow) names m k → Contains rows (k, g)
+      → (f : Form VersionName) × VersionRow flow linked at m f × FormNumbers (told_keys flow) names f g
+  pub all : (m : VersionName) (k : ℕ) (f : Form VersionName) → Numbers (told_keys flow) names m k → VersionRow flow linked at m f
+      → (g : Form ℕ) × Contains rows (k, g) × FormNumbers (told_keys flow) names f g
   -- no name has two numbers
   pub once : (i j : ℕ) (n : SetName) → slice_get names i ≡ Some n → slice_get names j ≡ Some n → i ≡ j

@@ -6,7 +6,8 @@ use Rattle.std.specs.declared.alloc.Global.{Global}
 -- a value is put behind those at a place, and nothing else
 abbrev pub PushesAt : List (Vec ℕ Global) → List (Vec ℕ Global) → ℕ → ℕ → Type 0
 PushesAt old new at value =
-    (k : ℕ) (v : Vec ℕ Global) → slice_get new k ≡ Some v → (w : Vec ℕ Global) × (slice_get old k ≡ Some w) × ((i : ℕ) → Contains v.items i ↔ (Contains w.items i ⊎ ((k ≡ at) × (i ≡ value))))
+    (k : ℕ) (v : Vec ℕ Global) → slice_get new k ≡ Some v
+    → (w : Vec ℕ Global) × (slice_get old k ≡ Some w) × ((i : ℕ) → Contains v.items i ↔ (Contains w.items i ⊎ ((k ≡ at) × (i ≡ value))))
 
 -- each list has exactly the places of its number
 abbrev pub ArePlaces : List ℕ → List (Vec ℕ Global) → Type 0
@@ -14,4 +15,5 @@ ArePlaces keys lists = (k : ℕ) (v : Vec ℕ Global) → slice_get lists k ≡ 
 
 -- so far, those among the first
 abbrev pub ArePlacesBelow : List ℕ → ℕ → List (Vec ℕ Global) → Type 0
-ArePlacesBelow keys n lists = (k : ℕ) (v : Vec ℕ Global) → slice_get lists k ≡ Some v → (i : ℕ) → Contains v.items i ↔ ((i < n) × (slice_get keys i ≡ Some k))
+ArePlacesBelow keys n lists = (k : ℕ) (v : Vec ℕ Global) → slice_get lists k ≡ Some v → (i : ℕ)
+    → Contains v.items i ↔ ((i < n) × (slice_get keys i ≡ Some k))

@@ -9,7 +9,8 @@ use Rattle.least_sets.specs.Bytes.{Adds}
 
 -- the ranges of the first productions
 abbrev pub AreFitting : List Production → ℕ → Type 0
-AreFitting ps n = (k : ℕ) (p : Production) (range : ByteRange) → k < n → slice_get ps k ≡ Some p → Contains (symbols_of p.right) (Range range) → range.hi < 256
+AreFitting ps n = (k : ℕ) (p : Production) (range : ByteRange) → k < n → slice_get ps k ≡ Some p
+    → Contains (symbols_of p.right) (Range range) → range.hi < 256
 
 -- what the first rules add
 abbrev pub AreFittingRules : List OpRule → ℕ → Type 0

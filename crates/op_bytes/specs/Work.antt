@@ -57,11 +57,13 @@ uses_in left (Range range) = []
 uses_in left (Token token) = []
 uses_in left (Nt a) = record { from = a.0; to = left } ∷ []
 
+-- the nonterminals on a right side from the left, each with the left side
 abbrev pub uses_on : ℕ → Right → List Use
 uses_on left Empty = []
 uses_on left (One a) = uses_in left a
 uses_on left (Two a b) = uses_in left a ++ uses_in left b
 
+-- the same for all productions in their order
 abbrev pub uses_of : List Production → List Use
 uses_of ps = flat_map (λ p. uses_on p.left.0 p.right) ps
 
@@ -116,6 +118,7 @@ pub record HasRange (ps : List Production) (n a b : ℕ) : Type 0 where
   pub on : Contains (symbols_of production.right) (Range range)
   pub within : InRange range b
 
+-- one of the first n rules, of this left side, adds the byte by itself
 pub record HasLiteral (rules : List OpRule) (n a b : ℕ) : Type 0 where
   pub place : ℕ
   pub before : place < n
@@ -126,14 +129,17 @@ pub record HasLiteral (rules : List OpRule) (n a b : ℕ) : Type 0 where
 
 -- what a nonterminal passes on where it is used: its bytes, and what operations make of them
 pub data IsPassed (s : OpSystem) (sets : List (List Bool)) (x a b : ℕ) : Type 0 where
-  by_production : (p : Production) → Contains s.grammar.productions.items p → Contains (symbols_of p.right) (Nt (record { 0 = x })) → a ≡ p.left.0 → HasAt sets x b → IsPassed s sets x a b
-  by_rule : (rule : OpRule) (e : ℕ) → Contains s.ops.items rule → rule.operand.0 ≡ x → a ≡ rule.left.0 → HasAt sets x e → Turns rule.op e b → IsPassed s sets x a b
+  by_production : (p : Production) → Contains s.grammar.productions.items p → Contains (symbols_of p.right) (Nt (record { 0 = x }))
+      → a ≡ p.left.0 → HasAt sets x b → IsPassed s sets x a b
+  by_rule : (rule : OpRule) (e : ℕ) → Contains s.ops.items rule → rule.operand.0 ≡ x → a ≡ rule.left.0 → HasAt sets x e → Turns rule.op e b
+      → IsPassed s sets x a b
 
 -- the bytes that stand in the system alone
 pub record AreFirstSets (s : OpSystem) (sets : List (List Bool)) : Type 0 where
   pub size : length sets ≡ s.grammar.count
   pub sound : (a b : ℕ) → HasAt sets a b → ByteOf s (Nt (record { 0 = a })) b
-  pub ranges : (p : Production) (range : ByteRange) (b : ℕ) → Contains s.grammar.productions.items p → Contains (symbols_of p.right) (Range range) → InRange range b → b < 256 → HasAt sets p.left.0 b
+  pub ranges : (p : Production) (range : ByteRange) (b : ℕ) → Contains s.grammar.productions.items p
+      → Contains (symbols_of p.right) (Range range) → InRange range b → b < 256 → HasAt sets p.left.0 b
   pub literals : (rule : OpRule) (b : ℕ) → Contains s.ops.items rule → Adds rule.op b → b < 256 → HasAt sets rule.left.0 b
 
 -- the numbers below the count, in turn
@@ -144,14 +150,17 @@ pub record AreNumbersBelow (count : ℕ) (order : List ℕ) : Type 0 where
 
 -- what uses a nonterminal has its bytes
 pub record IsFollowed (s : OpSystem) (sets : List (List Bool)) (x : ℕ) : Type 0 where
-  pub productions : (p : Production) (b : ℕ) → Contains s.grammar.productions.items p → Contains (symbols_of p.right) (Nt (record { 0 = x })) → HasAt sets x b → HasAt sets p.left.0 b
-  pub rules : (rule : OpRule) (b c : ℕ) → Contains s.ops.items rule → rule.operand.0 ≡ x → HasAt sets x b → Turns rule.op b c → c < 256 → HasAt sets rule.left.0 c
+  pub productions : (p : Production) (b : ℕ) → Contains s.grammar.productions.items p
+      → Contains (symbols_of p.right) (Nt (record { 0 = x })) → HasAt sets x b → HasAt sets p.left.0 b
+  pub rules : (rule : OpRule) (b c : ℕ) → Contains s.ops.items rule → rule.operand.0 ≡ x → HasAt sets x b → Turns rule.op b c → c < 256
+      → HasAt sets rule.left.0 c
 
 -- all that the work keeps: each set is followed, or is still to be taken up
 pub record IsWork (s : OpSystem) (sets : List (List Bool)) (order : List ℕ) (taken : ℕ) : Type 0 where
   pub size : length sets ≡ s.grammar.count
   pub sound : (a b : ℕ) → HasAt sets a b → ByteOf s (Nt (record { 0 = a })) b
-  pub ranges : (p : Production) (range : ByteRange) (b : ℕ) → Contains s.grammar.productions.items p → Contains (symbols_of p.right) (Range range) → InRange range b → b < 256 → HasAt sets p.left.0 b
+  pub ranges : (p : Production) (range : ByteRange) (b : ℕ) → Contains s.grammar.productions.items p
+      → Contains (symbols_of p.right) (Range range) → InRange range b → b < 256 → HasAt sets p.left.0 b
   pub literals : (rule : OpRule) (b : ℕ) → Contains s.ops.items rule → Adds rule.op b → b < 256 → HasAt sets rule.left.0 b
   pub followed : (x : ℕ) → x < s.grammar.count → IsBehind order taken x ⊎ IsFollowed s sets x
   pub within : (x : ℕ) → Contains order x → x < s.grammar.count

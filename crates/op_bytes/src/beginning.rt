@@ -10,6 +10,7 @@ ghost use Rattle.op_system.specs.Rules.{RulesAreBelow};
 ghost use Rattle.least_sets.specs.Bytes.{Adds};
 ghost use Rattle.op_bytes.specs.Work.{Gains, HasRange, HasLiteral};
 
+use crate::literals::literal_of;
 use crate::turning::add_text;
 use cfg_grammar::{Production, Right, Symbol};
 use op_system::{Op, OpRule};
@@ -76,26 +77,7 @@ pub fn add_ranges(sets: &mut Vec<ByteSet>, productions: &[Production])
 fn add_literal(set: &mut ByteSet, op: &Op)
     ensures { (c : ℕ) → c < 256 → Has set.new c ↔ (Has set.old c ⊎ Adds op.now c) }
 {
-    match op {
-        Op::Replace { search, with } => {
-            let _ = search;
-            add_text(set, with.as_slice());
-        }
-        Op::Same => {}
-        Op::Any => {}
-        Op::Html => {}
-        Op::Cut { .. } => {}
-        Op::Factor => {}
-        Op::Lower => {}
-        Op::Upper => {}
-        Op::First => {}
-        Op::Trim { .. } => {}
-        Op::Breaks => {}
-        Op::Url => {}
-        Op::RawUrl => {}
-        Op::Slashes => {}
-        Op::Piece { .. } => {}
-    }
+    add_text(set, literal_of(op));
 }
 
 /// Adds the bytes that the operation of a rule has in any output.

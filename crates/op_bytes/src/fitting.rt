@@ -8,6 +8,7 @@ ghost use Rattle.least_sets.specs.Bytes.{Adds};
 ghost use Rattle.system_bytes.specs.Bytes.{HasBytes};
 ghost use Rattle.op_bytes.specs.Fitting.{AreFitting, AreFittingRules};
 
+use crate::literals::literal_of;
 use cfg_grammar::{Production, Right, Symbol};
 use op_system::{Op, OpRule, OpSystem};
 
@@ -65,26 +66,7 @@ fn productions_fit(productions: &[Production])
 fn op_fits(op: &Op)
     ensures { (byte : ℕ) → Adds op.now byte → byte < 256 }
 {
-    match op {
-        Op::Replace { search, with } => {
-            let _ = search;
-            text_fits(with.as_slice());
-        }
-        Op::Same => {}
-        Op::Any => {}
-        Op::Html => {}
-        Op::Cut { .. } => {}
-        Op::Factor => {}
-        Op::Lower => {}
-        Op::Upper => {}
-        Op::First => {}
-        Op::Trim { .. } => {}
-        Op::Breaks => {}
-        Op::Url => {}
-        Op::RawUrl => {}
-        Op::Slashes => {}
-        Op::Piece { .. } => {}
-    }
+    text_fits(literal_of(op));
 }
 
 /// The bytes that rules add.

@@ -6,6 +6,7 @@
 
 mod beginning;
 mod fitting;
+mod literals;
 mod passing;
 mod sets;
 mod turning;

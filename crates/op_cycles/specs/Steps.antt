@@ -10,7 +10,8 @@ use Rattle.op_system.specs.declared.system.OpRule.{OpRule}
 
 -- the second stands on the right of a production of the first, or is the operand of a rule of it
 pub data IsStep (productions : List Production) (rules : List OpRule) (from to : ℕ) : Type 0 where
-  by_production : (p : Production) → Contains productions p → p.left.0 ≡ from → Contains (symbols_of p.right) (Nt (record { 0 = to })) → IsStep productions rules from to
+  by_production : (p : Production) → Contains productions p → p.left.0 ≡ from → Contains (symbols_of p.right) (Nt (record { 0 = to }))
+      → IsStep productions rules from to
   by_rule : (r : OpRule) → Contains rules r → r.left.0 ≡ from → r.operand.0 ≡ to → IsStep productions rules from to
 
 -- to the edges that were there some are added, and nothing else

@@ -1,4 +1,5 @@
--- The texts and the bytes of the sets of a system, with operations as PHP has them, and all texts over its bytes for an operation in a cycle. A system asks nothing of a request.
+-- The texts and the bytes of the sets of a system, with operations as PHP has them, and all texts over its bytes for an operation in a
+-- cycle. A system asks nothing of a request.
 use Rattle.std.specs.Prelude.{ℕ, List, All}
 use Rattle.cfg_grammar.specs.declared.symbol.Symbol.{Symbol}
 use Rattle.op_system.specs.Rel.{Rel}

@@ -11,7 +11,8 @@ use Rattle.string_functions.specs.Slashes.{slashes_of}
 use Rattle.op_system.specs.declared.op.Op.{Op}
 use Rattle.op_system.specs.declared.op.Op.TheVariants.{Same, Any, Html, Replace, Cut, Factor, Lower, Upper, First, Trim, Breaks, Url, RawUrl, Slashes, Piece}
 
--- `Html` has no output on what is no UTF-8; `Factor` has each part of the text, and `Piece` each piece; `Any` has none here, since what it may give is said by its bytes alone
+-- `Html` has no output on what is no UTF-8; `Factor` has each part of the text, and `Piece` each piece; `Any` has none here, since what it
+-- may give is said by its bytes alone
 abbrev pub Rel : Op → List ℕ → List ℕ → Type 0
 Rel Same input output = output ≡ input
 Rel Any input output = ⊥

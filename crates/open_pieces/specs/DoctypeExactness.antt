@@ -14,7 +14,8 @@ use Rattle.open_pieces.specs.contracts.doctype.OpenDoctypePartialEq.TheImpl as d
 exact_word : IsExact (words.ghosts).eq
 exact_word = search rules
 
-exact_doctype_before_root : (a0 : Bool) (q : OpenDoctype) → (doctypes.ghosts).eq (doctype.BeforeRoot a0) q ≡ true → doctype.BeforeRoot a0 ≡ q
+exact_doctype_before_root : (a0 : Bool) (q : OpenDoctype) → (doctypes.ghosts).eq (doctype.BeforeRoot a0) q ≡ true
+    → doctype.BeforeRoot a0 ≡ q
 exact_doctype_before_root a0 (doctype.BeforeRoot b0) e = ap (λ (z : Bool). doctype.BeforeRoot z) (exact_bool a0 b0 e)
 exact_doctype_before_root a0 (doctype.Root b0) e = cc
 exact_doctype_before_root a0 doctype.BehindRoot e = cc
@@ -62,7 +63,8 @@ exact_doctype_word a0 (doctype.BehindPublic b0) e = cc
 exact_doctype_word a0 (doctype.System b0) e = cc
 exact_doctype_word a0 doctype.BehindSystem e = cc
 
-exact_doctype_behind_word : (a0 : DoctypeWord) (q : OpenDoctype) → (doctypes.ghosts).eq (doctype.BehindWord a0) q ≡ true → doctype.BehindWord a0 ≡ q
+exact_doctype_behind_word : (a0 : DoctypeWord) (q : OpenDoctype) → (doctypes.ghosts).eq (doctype.BehindWord a0) q ≡ true
+    → doctype.BehindWord a0 ≡ q
 exact_doctype_behind_word a0 (doctype.BeforeRoot b0) e = cc
 exact_doctype_behind_word a0 (doctype.Root b0) e = cc
 exact_doctype_behind_word a0 doctype.BehindRoot e = cc
@@ -86,19 +88,22 @@ exact_doctype_free_public a0 (doctype.BehindPublic b0) e = cc
 exact_doctype_free_public a0 (doctype.System b0) e = cc
 exact_doctype_free_public a0 doctype.BehindSystem e = cc
 
-exact_doctype_kept_public : (a0 : ℕ) (a1 : List ℕ) (q : OpenDoctype) → (doctypes.ghosts).eq (doctype.KeptPublic a0 a1) q ≡ true → doctype.KeptPublic a0 a1 ≡ q
+exact_doctype_kept_public : (a0 : ℕ) (a1 : List ℕ) (q : OpenDoctype) → (doctypes.ghosts).eq (doctype.KeptPublic a0 a1) q ≡ true
+    → doctype.KeptPublic a0 a1 ≡ q
 exact_doctype_kept_public a0 a1 (doctype.BeforeRoot b0) e = cc
 exact_doctype_kept_public a0 a1 (doctype.Root b0) e = cc
 exact_doctype_kept_public a0 a1 doctype.BehindRoot e = cc
 exact_doctype_kept_public a0 a1 (doctype.Word b0) e = cc
 exact_doctype_kept_public a0 a1 (doctype.BehindWord b0) e = cc
 exact_doctype_kept_public a0 a1 (doctype.FreePublic b0) e = cc
-exact_doctype_kept_public a0 a1 (doctype.KeptPublic b0 b1) e = ap (λ (z : ℕ × List ℕ). doctype.KeptPublic z.0 z.1) (both exact_unsigned_eq exact_bytes a0 b0 a1 b1 e)
+exact_doctype_kept_public a0 a1 (doctype.KeptPublic b0 b1) e =
+    ap (λ (z : ℕ × List ℕ). doctype.KeptPublic z.0 z.1) (both exact_unsigned_eq exact_bytes a0 b0 a1 b1 e)
 exact_doctype_kept_public a0 a1 (doctype.BehindPublic b0) e = cc
 exact_doctype_kept_public a0 a1 (doctype.System b0) e = cc
 exact_doctype_kept_public a0 a1 doctype.BehindSystem e = cc
 
-exact_doctype_behind_public : (a0 : Bool) (q : OpenDoctype) → (doctypes.ghosts).eq (doctype.BehindPublic a0) q ≡ true → doctype.BehindPublic a0 ≡ q
+exact_doctype_behind_public : (a0 : Bool) (q : OpenDoctype) → (doctypes.ghosts).eq (doctype.BehindPublic a0) q ≡ true
+    → doctype.BehindPublic a0 ≡ q
 exact_doctype_behind_public a0 (doctype.BeforeRoot b0) e = cc
 exact_doctype_behind_public a0 (doctype.Root b0) e = cc
 exact_doctype_behind_public a0 doctype.BehindRoot e = cc
@@ -134,6 +139,7 @@ exact_doctype_behind_system (doctype.BehindPublic b0) e = cc
 exact_doctype_behind_system (doctype.System b0) e = cc
 exact_doctype_behind_system doctype.BehindSystem e = refl
 
+-- open document type declarations that are found equal are one
 pub exact_doctype : (a b : OpenDoctype) → (doctypes.ghosts).eq a b ≡ true → a ≡ b
 exact_doctype (doctype.BeforeRoot a0) q e = exact_doctype_before_root a0 q e
 exact_doctype (doctype.Root a0) q e = exact_doctype_root a0 q e

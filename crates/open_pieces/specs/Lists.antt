@@ -6,6 +6,7 @@ use Rattle.std.specs.Cmp.Lexicographic.{pointwise}
 use Rattle.std.proofs.Common.{ap, ◌∙◌}
 use Rattle.text_base.specs.Exactness.{IsExact, exact_bytes}
 
+-- lists of lists of bytes that are found equal are one
 pub exact_lists : (xs ys : List (List ℕ)) → pointwise (pointwise nat_eq) xs ys ≡ true → xs ≡ ys
 exact_lists [] [] h = refl
 exact_lists [] (y ∷ ys) h = cc
@@ -23,12 +24,14 @@ exact_bool false true e = cc
 exact_bool false false e = refl
 
 -- of two parts, and of three
-pub both : {A B : Type 0} {eq : A → A → Bool} {same : B → B → Bool} → IsExact eq → IsExact same → (a c : A) (b d : B) → (eq a c && same b d) ≡ true → ◌≡◌ {A = A × B} (a, b) (c, d)
+pub both : {A B : Type 0} {eq : A → A → Bool} {same : B → B → Bool} → IsExact eq → IsExact same → (a c : A) (b d : B)
+    → (eq a c && same b d) ≡ true → ◌≡◌ {A = A × B} (a, b) (c, d)
 both {A} {B} {eq} {same} first second a c b d e =
     let p : a ≡ c = first a c (first_so (eq a c) (same b d) e) in
     let q : b ≡ d = second b d (second_so (eq a c) (same b d) e) in
     ap (λ (x : A). let w : A × B = (x, b) in w) p ∙ ap (λ (y : B). let w : A × B = (c, y) in w) q
 
+-- triples are one where the three tests of their parts are exact and hold
 pub three : {A B C : Type 0} {eq : A → A → Bool} {same : B → B → Bool} {like : C → C → Bool} → IsExact eq → IsExact same → IsExact like
     → (a c : A) (b d : B) (x y : C) → (eq a c && (same b d && like x y)) ≡ true → ◌≡◌ {A = A × (B × C)} (a, (b, x)) (c, (d, y))
 three {A} {B} {C} {eq} {same} {like} first second third a c b d x y e =

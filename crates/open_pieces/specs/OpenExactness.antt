@@ -86,12 +86,15 @@ exact_piece_tag_name a0 (piece.Declaration b0 b1) e = cc
 exact_piece_tag_name a0 piece.DeclarationEnd e = cc
 exact_piece_tag_name a0 (piece.Doctype b0) e = cc
 
-exact_piece_tag : (a0 : List ℕ) (a1 : List (List ℕ)) (a2 : OpenAttribute) (q : OpenPiece) → (pieces.ghosts).eq (piece.Tag a0 a1 a2) q ≡ true → piece.Tag a0 a1 a2 ≡ q
+exact_piece_tag : (a0 : List ℕ) (a1 : List (List ℕ)) (a2 : OpenAttribute) (q : OpenPiece) → (pieces.ghosts).eq (piece.Tag a0 a1 a2) q ≡ true
+    → piece.Tag a0 a1 a2 ≡ q
 exact_piece_tag a0 a1 a2 piece.Nothing e = cc
 exact_piece_tag a0 a1 a2 (piece.Reference b0) e = cc
 exact_piece_tag a0 a1 a2 (piece.Opener b0) e = cc
 exact_piece_tag a0 a1 a2 (piece.TagName b0) e = cc
-exact_piece_tag a0 a1 a2 (piece.Tag b0 b1 b2) e = ap (λ (z : List ℕ × (List (List ℕ) × OpenAttribute)). piece.Tag z.0 z.1.0 z.1.1) (three exact_bytes exact_lists exact_attribute a0 b0 a1 b1 a2 b2 e)
+exact_piece_tag a0 a1 a2 (piece.Tag b0 b1 b2) e =
+    ap (λ (z : List ℕ × (List (List ℕ) × OpenAttribute)). piece.Tag z.0 z.1.0 z.1.1)
+    (three exact_bytes exact_lists exact_attribute a0 b0 a1 b1 a2 b2 e)
 exact_piece_tag a0 a1 a2 (piece.EmptyEnd b0 b1) e = cc
 exact_piece_tag a0 a1 a2 (piece.EndTag b0 b1) e = cc
 exact_piece_tag a0 a1 a2 (piece.Comment b0) e = cc
@@ -104,13 +107,15 @@ exact_piece_tag a0 a1 a2 (piece.Declaration b0 b1) e = cc
 exact_piece_tag a0 a1 a2 piece.DeclarationEnd e = cc
 exact_piece_tag a0 a1 a2 (piece.Doctype b0) e = cc
 
-exact_piece_empty_end : (a0 : List ℕ) (a1 : List (List ℕ)) (q : OpenPiece) → (pieces.ghosts).eq (piece.EmptyEnd a0 a1) q ≡ true → piece.EmptyEnd a0 a1 ≡ q
+exact_piece_empty_end : (a0 : List ℕ) (a1 : List (List ℕ)) (q : OpenPiece) → (pieces.ghosts).eq (piece.EmptyEnd a0 a1) q ≡ true
+    → piece.EmptyEnd a0 a1 ≡ q
 exact_piece_empty_end a0 a1 piece.Nothing e = cc
 exact_piece_empty_end a0 a1 (piece.Reference b0) e = cc
 exact_piece_empty_end a0 a1 (piece.Opener b0) e = cc
 exact_piece_empty_end a0 a1 (piece.TagName b0) e = cc
 exact_piece_empty_end a0 a1 (piece.Tag b0 b1 b2) e = cc
-exact_piece_empty_end a0 a1 (piece.EmptyEnd b0 b1) e = ap (λ (z : List ℕ × List (List ℕ)). piece.EmptyEnd z.0 z.1) (both exact_bytes exact_lists a0 b0 a1 b1 e)
+exact_piece_empty_end a0 a1 (piece.EmptyEnd b0 b1) e =
+    ap (λ (z : List ℕ × List (List ℕ)). piece.EmptyEnd z.0 z.1) (both exact_bytes exact_lists a0 b0 a1 b1 e)
 exact_piece_empty_end a0 a1 (piece.EndTag b0 b1) e = cc
 exact_piece_empty_end a0 a1 (piece.Comment b0) e = cc
 exact_piece_empty_end a0 a1 (piece.Section b0) e = cc
@@ -129,7 +134,8 @@ exact_piece_end_tag a0 a1 (piece.Opener b0) e = cc
 exact_piece_end_tag a0 a1 (piece.TagName b0) e = cc
 exact_piece_end_tag a0 a1 (piece.Tag b0 b1 b2) e = cc
 exact_piece_end_tag a0 a1 (piece.EmptyEnd b0 b1) e = cc
-exact_piece_end_tag a0 a1 (piece.EndTag b0 b1) e = ap (λ (z : List ℕ × Bool). piece.EndTag z.0 z.1) (both exact_bytes exact_bool a0 b0 a1 b1 e)
+exact_piece_end_tag a0 a1 (piece.EndTag b0 b1) e =
+    ap (λ (z : List ℕ × Bool). piece.EndTag z.0 z.1) (both exact_bytes exact_bool a0 b0 a1 b1 e)
 exact_piece_end_tag a0 a1 (piece.Comment b0) e = cc
 exact_piece_end_tag a0 a1 (piece.Section b0) e = cc
 exact_piece_end_tag a0 a1 (piece.Target b0) e = cc
@@ -248,7 +254,8 @@ exact_piece_instruction a0 (piece.Declaration b0 b1) e = cc
 exact_piece_instruction a0 piece.DeclarationEnd e = cc
 exact_piece_instruction a0 (piece.Doctype b0) e = cc
 
-exact_piece_declaration : (a0 : List (List ℕ)) (a1 : OpenAttribute) (q : OpenPiece) → (pieces.ghosts).eq (piece.Declaration a0 a1) q ≡ true → piece.Declaration a0 a1 ≡ q
+exact_piece_declaration : (a0 : List (List ℕ)) (a1 : OpenAttribute) (q : OpenPiece) → (pieces.ghosts).eq (piece.Declaration a0 a1) q ≡ true
+    → piece.Declaration a0 a1 ≡ q
 exact_piece_declaration a0 a1 piece.Nothing e = cc
 exact_piece_declaration a0 a1 (piece.Reference b0) e = cc
 exact_piece_declaration a0 a1 (piece.Opener b0) e = cc
@@ -262,7 +269,8 @@ exact_piece_declaration a0 a1 (piece.Target b0) e = cc
 exact_piece_declaration a0 a1 piece.OtherTarget e = cc
 exact_piece_declaration a0 a1 piece.BehindTarget e = cc
 exact_piece_declaration a0 a1 (piece.Instruction b0) e = cc
-exact_piece_declaration a0 a1 (piece.Declaration b0 b1) e = ap (λ (z : List (List ℕ) × OpenAttribute). piece.Declaration z.0 z.1) (both exact_lists exact_attribute a0 b0 a1 b1 e)
+exact_piece_declaration a0 a1 (piece.Declaration b0 b1) e =
+    ap (λ (z : List (List ℕ) × OpenAttribute). piece.Declaration z.0 z.1) (both exact_lists exact_attribute a0 b0 a1 b1 e)
 exact_piece_declaration a0 a1 piece.DeclarationEnd e = cc
 exact_piece_declaration a0 a1 (piece.Doctype b0) e = cc
 
@@ -302,6 +310,7 @@ exact_piece_doctype a0 (piece.Declaration b0 b1) e = cc
 exact_piece_doctype a0 piece.DeclarationEnd e = cc
 exact_piece_doctype a0 (piece.Doctype b0) e = ap (λ (z : OpenDoctype). piece.Doctype z) (exact_doctype a0 b0 e)
 
+-- open pieces that are found equal are one
 pub exact_piece : (a b : OpenPiece) → (pieces.ghosts).eq a b ≡ true → a ≡ b
 exact_piece piece.Nothing q e = exact_piece_nothing q e
 exact_piece (piece.Reference a0) q e = exact_piece_reference a0 q e

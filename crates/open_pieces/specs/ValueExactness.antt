@@ -32,20 +32,23 @@ exact_reference_decimal a0 (reference.Decimal b0) e = ap (λ (z : ℕ). referenc
 exact_reference_decimal a0 reference.HexadecimalBegin e = cc
 exact_reference_decimal a0 (reference.Hexadecimal b0) e = cc
 
-exact_reference_hexadecimal_begin : (q : OpenReference) → (references.ghosts).eq reference.HexadecimalBegin q ≡ true → reference.HexadecimalBegin ≡ q
+exact_reference_hexadecimal_begin : (q : OpenReference) → (references.ghosts).eq reference.HexadecimalBegin q ≡ true
+    → reference.HexadecimalBegin ≡ q
 exact_reference_hexadecimal_begin (reference.Entity b0) e = cc
 exact_reference_hexadecimal_begin reference.Number e = cc
 exact_reference_hexadecimal_begin (reference.Decimal b0) e = cc
 exact_reference_hexadecimal_begin reference.HexadecimalBegin e = refl
 exact_reference_hexadecimal_begin (reference.Hexadecimal b0) e = cc
 
-exact_reference_hexadecimal : (a0 : ℕ) (q : OpenReference) → (references.ghosts).eq (reference.Hexadecimal a0) q ≡ true → reference.Hexadecimal a0 ≡ q
+exact_reference_hexadecimal : (a0 : ℕ) (q : OpenReference) → (references.ghosts).eq (reference.Hexadecimal a0) q ≡ true
+    → reference.Hexadecimal a0 ≡ q
 exact_reference_hexadecimal a0 (reference.Entity b0) e = cc
 exact_reference_hexadecimal a0 reference.Number e = cc
 exact_reference_hexadecimal a0 (reference.Decimal b0) e = cc
 exact_reference_hexadecimal a0 reference.HexadecimalBegin e = cc
 exact_reference_hexadecimal a0 (reference.Hexadecimal b0) e = ap (λ (z : ℕ). reference.Hexadecimal z) (exact_unsigned_eq a0 b0 e)
 
+-- open references that are found equal are one
 pub exact_reference : (a b : OpenReference) → (references.ghosts).eq a b ≡ true → a ≡ b
 exact_reference (reference.Entity a0) q e = exact_reference_entity a0 q e
 exact_reference reference.Number q e = exact_reference_number q e
@@ -78,7 +81,8 @@ exact_value_choice : (a0 : List ℕ) (a1 : Bool) (q : OpenValue) → (values.gho
 exact_value_choice a0 a1 value.Text e = cc
 exact_value_choice a0 a1 (value.Reference b0) e = cc
 exact_value_choice a0 a1 (value.Fixed b0) e = cc
-exact_value_choice a0 a1 (value.Choice b0 b1) e = ap (λ (z : List ℕ × Bool). value.Choice z.0 z.1) (both exact_bytes exact_bool a0 b0 a1 b1 e)
+exact_value_choice a0 a1 (value.Choice b0 b1) e =
+    ap (λ (z : List ℕ × Bool). value.Choice z.0 z.1) (both exact_bytes exact_bool a0 b0 a1 b1 e)
 exact_value_choice a0 a1 (value.Words b0 b1) e = cc
 
 exact_value_words : (a0 : Bool) (a1 : Bool) (q : OpenValue) → (values.ghosts).eq (value.Words a0 a1) q ≡ true → value.Words a0 a1 ≡ q
@@ -88,6 +92,7 @@ exact_value_words a0 a1 (value.Fixed b0) e = cc
 exact_value_words a0 a1 (value.Choice b0 b1) e = cc
 exact_value_words a0 a1 (value.Words b0 b1) e = ap (λ (z : Bool × Bool). value.Words z.0 z.1) (both exact_bool exact_bool a0 b0 a1 b1 e)
 
+-- open values that are found equal are one
 pub exact_value : (a b : OpenValue) → (values.ghosts).eq a b ≡ true → a ≡ b
 exact_value value.Text q e = exact_value_text q e
 exact_value (value.Reference a0) q e = exact_value_reference a0 q e

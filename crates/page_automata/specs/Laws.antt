@@ -15,4 +15,5 @@ PageIsAutomaton = (p : Parts) → HasOwners (length p.besides) p.states → IsAu
 
 -- tokens are a page by the automaton exactly where they are the flat list of a tree that is as declared
 abbrev pub PageIsTree : Type 0
-PageIsTree = (table : Table) (t : States) → Decides table t → HasOwners (length table.elements) t → (tokens : List PageToken) → IsPage (page_automaton (parts_of table t)) tokens ↔ TokenTree table tokens
+PageIsTree = (table : Table) (t : States) → Decides table t → HasOwners (length table.elements) t → (tokens : List PageToken)
+    → IsPage (page_automaton (parts_of table t)) tokens ↔ TokenTree table tokens

@@ -20,6 +20,7 @@ besides_of anything = Anything
 besides_of (text_and es) = Anything
 besides_of (children m) = Between
 
+-- whether what is no element may stand there, by its sort: nothing, what may stand between elements, or all
 abbrev pub may_stand : Besides → sort.Sort → Bool
 may_stand Nothing s = false
 may_stand Between s = sort.is_between s
@@ -42,6 +43,7 @@ pub record Parts : Type 0 where
   pub root : ℕ
   pub free : Bool
 
+-- the parts of the automaton of a definition, by the states of its content models
 abbrev pub parts_of : Table → States → Parts
 parts_of table t = record {
   states = t;
@@ -54,10 +56,12 @@ parts_of table t = record {
 abbrev pub kept : Bool → ℕ → Option ℕ
 kept may q = if may then Some q else None
 
+-- whether it may stand in an element, if there is one
 abbrev pub element_keeps : Option Besides → sort.Sort → Bool
 element_keeps None s = false
 element_keeps (Some b) s = may_stand b s
 
+-- the state stays by what may stand in its element
 abbrev pub sort_step : Parts → ℕ → sort.Sort → Option ℕ
 sort_step p q s = kept (element_keeps (slice_get p.besides (owner_at p.states q)) s) q
 
@@ -76,6 +80,7 @@ mark_step q text = None
 mark_step q misc = Some q
 mark_step q doctype = None
 
+-- before all: the root, where it needs no document type declaration, that declaration, or what may stand there; n is the first page state
 abbrev pub start_step : Parts → ℕ → Label → Option ℕ
 start_step p n (child e) = if p.free && nat_eq e p.root then Some (n + 2) else None
 start_step p n (other blank) = mark_step n blank
@@ -83,22 +88,29 @@ start_step p n (other text) = mark_step n text
 start_step p n (other misc) = mark_step n misc
 start_step p n (other doctype) = Some (n + 1)
 
+-- behind the document type declaration: the root, or what may stand there
 abbrev pub doctype_step : Parts → ℕ → Label → Option ℕ
 doctype_step p n (child e) = if nat_eq e p.root then Some (n + 2) else None
 doctype_step p n (other m) = mark_step (n + 1) m
 
+-- behind the root no element stands any more
 abbrev pub done_step : ℕ → Label → Option ℕ
 done_step n (child e) = None
 done_step n (other m) = mark_step (n + 2) m
 
+-- the state behind a label: of an element, or of the page, whose three states have the numbers n, n + 1 and n + 2
 abbrev pub page_step : Parts → ℕ → Label → Option ℕ
 page_step p q l =
     let n = length p.states.1 in
-    if nat_lt q n then inner_step p q l else (if nat_eq q n then start_step p n l else (if nat_eq q (n + 1) then doctype_step p n l else (if nat_eq q (n + 2) then done_step n l else None)))
+    if nat_lt q n then inner_step p q l
+    else (if nat_eq q n then start_step p n l
+    else (if nat_eq q (n + 1) then doctype_step p n l else (if nat_eq q (n + 2) then done_step n l else None)))
 
+-- the state that a declared element begins in
 abbrev pub page_init : Parts → ℕ → Option ℕ
 page_init p e = if nat_lt e (length p.besides) then Some (first_at p.states e) else None
 
+-- the state is one of the element, and the element may end in it
 abbrev pub page_closes : Parts → ℕ → ℕ → Bool
 page_closes p e q = nat_lt q (length p.states.1) && (nat_eq (owner_at p.states q) e && ends_at p.states q)
 
@@ -106,6 +118,7 @@ page_closes p e q = nat_lt q (length p.states.1) && (nat_eq (owner_at p.states q
 abbrev pub page_owner : Parts → ℕ → ℕ
 page_owner p q = if nat_lt q (length p.states.1) then owner_at p.states q else length p.besides
 
+-- the automaton of a page, with three states more than the content models have
 abbrev pub page_automaton : Parts → Automaton
 page_automaton p = record {
   count = length p.states.1 + 3;

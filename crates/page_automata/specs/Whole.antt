@@ -10,6 +10,7 @@ use Rattle.tag_sums.specs.Automaton.{Automaton}
 use Rattle.tag_sums.specs.Sum.{Sum, broken, reduced, target, sum_of}
 use Rattle.page_automata.specs.PageAutomaton.{parts_of, page_automaton}
 
+-- the list is empty
 abbrev pub no_list : {X : Type 0} → List X → Bool
 no_list [] = true
 no_list (x ∷ xs) = false
@@ -21,4 +22,5 @@ is_whole a (reduced cs m os) = no_list cs && (no_list os && option_eq nat_eq (ta
 
 -- a sum is whole exactly where the tokens are the flat list of a tree that is as declared
 abbrev pub WholeIsTree : Type 0
-WholeIsTree = (table : Table) (t : States) → Decides table t → HasOwners (length table.elements) t → (tokens : List PageToken) → IsTrue (is_whole (page_automaton (parts_of table t)) (sum_of (page_automaton (parts_of table t)) tokens)) ↔ TokenTree table tokens
+WholeIsTree = (table : Table) (t : States) → Decides table t → HasOwners (length table.elements) t → (tokens : List PageToken)
+    → IsTrue (is_whole (page_automaton (parts_of table t)) (sum_of (page_automaton (parts_of table t)) tokens)) ↔ TokenTree table tokens

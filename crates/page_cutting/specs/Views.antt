@@ -27,23 +27,28 @@ use Rattle.page_cutting.specs.declared.parts.Piece.TheVariants as the_piece
 use Rattle.page_cutting.specs.declared.parts.Place.{Place}
 use Rattle.page_cutting.specs.declared.parts.Place.TheVariants as the_place
 
+-- whether a character is of the class
 abbrev pub class_test : Class → ℕ → Bool
 class_test Blank c = is_blank c
 class_test NotBlank c = not (is_blank c)
 class_test InName c = in_name c
 class_test (Other end) c = is_other end c
 
+-- the plain form of two runs of characters, if they were found
 abbrev pub seen_pair : Option (Bor (List ℕ) × Bor (List ℕ)) → Option (List ℕ × List ℕ)
 seen_pair None = None
 seen_pair (Some z) = Some (z.0.now, z.1.now)
 
+-- the plain form of a text in quotes
 abbrev pub literal_of : Literal → prolog.Literal
 literal_of l = record { quote = l.quote; text = l.text.now }
 
+-- the plain form of a text in quotes and of what stands behind it, if it was found
 abbrev pub seen_literal : Option (Literal × Bor (List ℕ)) → Option (prolog.Literal × List ℕ)
 seen_literal None = None
 seen_literal (Some z) = Some (literal_of z.0, z.1.now)
 
+-- the plain form of an attribute
 abbrev pub attribute_of : Attribute → spec.Attribute
 attribute_of a = record {
   space = a.space.now;
@@ -54,29 +59,36 @@ attribute_of a = record {
   value = a.value.text.now;
 }
 
+-- the plain form of an attribute and of what stands behind it, if it was found
 abbrev pub seen_attribute : Option (Attribute × Bor (List ℕ)) → Option (spec.Attribute × List ℕ)
 seen_attribute None = None
 seen_attribute (Some z) = Some (attribute_of z.0, z.1.now)
 
+-- the plain form of a tag
 abbrev pub tag_of : Tag → spec.Tag
 tag_of t = record { name = t.name.now; attributes = map attribute_of t.attributes.items; space = t.space.now }
 
+-- the plain form of an XML declaration
 abbrev pub declaration_of : Declaration → prolog.Declaration
 declaration_of d = record { attributes = map attribute_of d.attributes.items; space = d.space.now }
 
+-- the plain form of the identifier of a document type
 abbrev pub identifier_of : Identifier → prolog.Identifier
 identifier_of the_identifier.None = prolog.no_identifier
 identifier_of (the_identifier.System s t l) = prolog.system s.now t.now (literal_of l)
 identifier_of (the_identifier.Public s t l u m) = prolog.public s.now t.now (literal_of l) u.now (literal_of m)
 
+-- the plain form of a document type declaration
 abbrev pub doctype_of : Doctype → prolog.Doctype
 doctype_of d = record { space = d.space.now; identifier = identifier_of d.identifier; end_space = d.end_space.now }
 
+-- the plain form of a reference
 abbrev pub reference_of : Reference → references.Reference
 reference_of (the_reference.Decimal digits) = references.decimal digits.now
 reference_of (the_reference.Hexadecimal digits) = references.hexadecimal digits.now
 reference_of (the_reference.Entity name) = references.entity name.now
 
+-- the plain form of a piece
 abbrev pub piece_of : Piece → pieces.Piece
 piece_of the_piece.Mark = pieces.mark
 piece_of (the_piece.Declaration d) = pieces.declaration (declaration_of d)
@@ -90,6 +102,7 @@ piece_of (the_piece.Section text) = pieces.leaf (spec.section text.now)
 piece_of (the_piece.Comment text) = pieces.leaf (spec.comment text.now)
 piece_of (the_piece.Instruction target text) = pieces.leaf (spec.instruction target.now text.now)
 
+-- the plain form of a place
 abbrev pub place_of : Place → places.Place
 place_of the_place.Beginning = places.at_beginning
 place_of the_place.BehindMark = places.behind_mark

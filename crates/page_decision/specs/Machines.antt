@@ -13,7 +13,8 @@ module _ {S : Type 0} (table : Table) (first : S) (steps : S → ℕ → S → L
   -- the machine copies each page of bytes and puts its tokens between its bytes
   pub record IsPageMachine : Type 0 where
     pub echoing : IsEchoing first steps ends
-    pub tokens : (page : List ℕ) (tokens : List PageToken) → All (λ byte. byte < 256) page → PutsTokens first steps ends page tokens → PageTokens table page tokens
+    pub tokens : (page : List ℕ) (tokens : List PageToken) → All (λ byte. byte < 256) page → PutsTokens first steps ends page tokens
+        → PageTokens table page tokens
 
   -- the machine copies each page, and where the tokens that it puts between the bytes are not nested, the page is good by no goal
   pub record IsBrokenMachine : Type 0 where

@@ -22,17 +22,20 @@ module _ (table : Table) (IsPage : List ℕ → Type 0) where
     pub bad : IsGood goal table page → ⊥
     pub writes : WritesText derivation page
 
-  -- in productions that derive the pages with their tokens, a nonterminal has so many different sums of sentences of at most the height, over the limit,
+  -- in productions that derive the pages with their tokens, a nonterminal has so many different sums of sentences of at most the height,
+  -- over the limit,
   -- and each page with a sentence of a smaller height is good by its sum
   abbrev pub HasManyPairs : Goal → ℕ → ℕ → ℕ → Type 0
   HasManyPairs Goal.Valid limit count height = (states : States) × AreStatesOf table states
-      × HasManySums IsPage (PageTokens table) (sum_of (automaton_over table states)) (is_whole (automaton_over table states)) limit count height
+      × HasManySums IsPage (PageTokens table) (sum_of (automaton_over table states))
+      (is_whole (automaton_over table states)) limit count height
   HasManyPairs Goal.Nested limit count height = HasManySums IsPage (PageTokens table) nest_of is_balanced limit count height
 
   -- there, the sum of a sentence of at most the height has so many unmatched tags, over the limit on these, and the same
   abbrev pub HasManyOpenTags : Goal → ℕ → ℕ → Type 0
   HasManyOpenTags Goal.Valid count height = (states : States) × AreStatesOf table states
-      × HasManyTags IsPage (PageTokens table) (sum_of (automaton_over table states)) (is_whole (automaton_over table states)) tag_count count height
+      × HasManyTags IsPage (PageTokens table) (sum_of (automaton_over table states))
+      (is_whole (automaton_over table states)) tag_count count height
   HasManyOpenTags Goal.Nested count height = HasManyTags IsPage (PageTokens table) nest_of is_balanced nest_count count height
 
   -- yes: each page is good; no: a derivation of one that is not; a limit that is passed

@@ -14,7 +14,8 @@ use Rattle.set_numbering.specs.Listers.{IsFlowLister}
 
 -- exactly what is printed from the entry of the first function on
 pub record AreEnds (flow : PlainFlow) (names : List SetName) : Type 0 where
-  pub each : (n : SetName) → Contains names n → (main : PlainFlowFunction) × (l : Leaving) × (function_at flow 0 ≡ Some main) × (n ≡ Out main.entry_of l)
+  pub each : (n : SetName) → Contains names n
+      → (main : PlainFlowFunction) × (l : Leaving) × (function_at flow 0 ≡ Some main) × (n ≡ Out main.entry_of l)
   pub all : (main : PlainFlowFunction) (l : Leaving) → function_at flow 0 ≡ Some main → Contains names (Out main.entry_of l)
 
 -- it lists the sets of the program by exact versions of its slots

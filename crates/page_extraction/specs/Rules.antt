@@ -19,7 +19,8 @@ use Rattle.op_cycles.specs.Cycles.{IsInCycle}
 abbrev pub HasTexts : PlainFlow → OpSystem → Name → nt.Nt → Type 0
 HasTexts flow s name a = (w : List ℕ) → TextOf s (Nt a) w ↔ IsIn Rel IsText (λ bytes text. All bytes text) flow name w
 
--- the rule is an operation of the loose sets: its sets are those of its outputs and its inputs, and it is in a cycle exactly where the operation depends on itself
+-- the rule is an operation of the loose sets: its sets are those of its outputs and its inputs, and it is in a cycle exactly where the
+-- operation depends on itself
 pub record IsLooseRule (flow : PlainFlow) (s : OpSystem) (rule : OpRule) : Type 0 where
   pub output : Name
   pub input : Name

@@ -49,6 +49,7 @@ abbrev pub last_from : ℕ → ℕ → List ℕ → ℕ
 last_from c n [] = n
 last_from c n (d ∷ ds) = last_from c (if d == c then min 2 (suc n) else 0) ds
 
+-- how many of the last characters are this one, at most two, from nothing on
 abbrev pub last : ℕ → List ℕ → ℕ
 last c cs = last_from c 0 cs
 
@@ -58,7 +59,8 @@ IsFrontOf whole cs = (more : List ℕ) × (more ≢ []) × (whole ≡ cs ++ more
 
 -- the target, where it is a front of `xml` in any case
 abbrev pub reserved : List ℕ → Option (List ℕ)
-reserved target = if nat_le (length target) 3 && str_eq_ignore_ascii_case target (take (length target) (codes "xml")) then Some target else None
+reserved target = if nat_le (length target) 3 && str_eq_ignore_ascii_case target (take (length target) (codes "xml")) then Some target
+    else None
 
 -- the declaration of the attribute
 abbrev pub find_declared : List Declared → List ℕ → Option Declared
@@ -121,14 +123,17 @@ OpenStands table (in_tag name names o) cs =
 OpenStands table (at_empty_end name names) cs =
     (space : List ℕ) × BehindAttributes table name names cs (space ++ codes "/") × (list_all is_blank space ≡ true)
 OpenStands table (in_end_tag name spaced) cs =
-    (space : List ℕ) × (cs ≡ codes "</" ++ (name ++ space)) × (list_all in_name name ≡ true) × (list_all is_blank space ≡ true) × (spaced ≡ is_some_space space)
+    (space : List ℕ) × (cs ≡ codes "</" ++ (name ++ space)) × (list_all in_name name ≡ true) × (list_all is_blank space ≡ true)
+    × (spaced ≡ is_some_space space)
 OpenStands table (in_comment dashes) cs = (text : List ℕ) × (cs ≡ codes "<!--" ++ text) × (dashes ≡ last 45 text)
 OpenStands table (in_section brackets) cs = (text : List ℕ) × (cs ≡ codes "<![CDATA[" ++ text) × (brackets ≡ last 93 text)
-OpenStands table (in_target o) cs = (target : List ℕ) × (cs ≡ codes "<?" ++ target) × (list_all in_name target ≡ true) × (o ≡ reserved target)
+OpenStands table (in_target o) cs =
+    (target : List ℕ) × (cs ≡ codes "<?" ++ target) × (list_all in_name target ≡ true) × (o ≡ reserved target)
 OpenStands table behind_target cs = (target : List ℕ) × (cs ≡ codes "<?" ++ (target ++ codes "?")) × (is_name target ≡ true)
 OpenStands table (in_instruction asked) cs = InInstruction asked cs
 OpenStands table (in_declaration names o) cs = (rest : List ℕ) × BehindWords names cs rest × AttributeStands WordStands o rest
-OpenStands table at_declaration_end cs = (names : List (List ℕ)) × (space : List ℕ) × BehindWords names cs (space ++ codes "?") × (list_all is_blank space ≡ true)
+OpenStands table at_declaration_end cs =
+    (names : List (List ℕ)) × (space : List ℕ) × BehindWords names cs (space ++ codes "?") × (list_all is_blank space ≡ true)
 OpenStands table (in_doctype o) cs = (inside : List ℕ) × (cs ≡ codes "<!DOCTYPE" ++ inside) × DoctypeStands table.doctype o inside
 
 -- what is kept of the place: the brackets before it only where nothing is open, not even a character
@@ -153,6 +158,7 @@ abbrev pub CanGoOn : Table → Place → List ℕ → Type 0
 CanGoOn table place bytes =
     (more : List ℕ) × (p : Piece) × (behind : List ℕ) × IsLawful table place p × (piece_bytes p ++ behind ≡ bytes ++ more)
 
+-- the front of bytes that begin no lawful piece: bad where no bytes behind them make one, and else what is open at their end
 abbrev pub FrontStands : Table → Place → List ℕ → Front → Type 0
 FrontStands table place bytes bad = CanGoOn table place bytes → ⊥
 FrontStands table place bytes (front seen o begun) = CanGoOn table place bytes

@@ -12,10 +12,12 @@ pub data Word : Type 0 where
   system_word : Word
   public_word : Word
 
+-- the letters of the word
 abbrev pub letters : Word → List ℕ
 letters system_word = codes "SYSTEM"
 letters public_word = codes "PUBLIC"
 
+-- what is open, by what is reached of the declaration
 pub data OpenDoctype : Type 0 where
   -- nothing, or white space (true)
   before_root : Bool → OpenDoctype
@@ -42,7 +44,8 @@ BehindRoot cs behind = (gap : List ℕ) × (more : List ℕ) × (cs ≡ gap ++ (
 
 -- and the word and white space behind it
 abbrev pub BehindWord : Word → List ℕ → List ℕ → Type 0
-BehindWord word cs behind = (inside : List ℕ) × BehindRoot cs inside × ((gap : List ℕ) × (inside ≡ letters word ++ (gap ++ behind)) × IsGap gap)
+BehindWord word cs behind = (inside : List ℕ) × BehindRoot cs inside ×
+    ((gap : List ℕ) × (inside ≡ letters word ++ (gap ++ behind)) × IsGap gap)
 
 -- a quote, and characters without it
 abbrev pub InLiteral : ℕ → List ℕ → List ℕ → Type 0
@@ -51,7 +54,8 @@ InLiteral quote text cs = (cs ≡ quote ∷ text) × (is_quote quote ≡ true) �
 -- a whole literal, and then these
 abbrev pub IsLiteralThen : List ℕ → List ℕ → Type 0
 IsLiteralThen cs behind =
-    (quote : ℕ) × (text : List ℕ) × (cs ≡ quote ∷ (text ++ quote ∷ behind)) × (is_quote quote ≡ true) × (list_all (λ c. not (c == quote)) text ≡ true)
+    (quote : ℕ) × (text : List ℕ) × (cs ≡ quote ∷ (text ++ quote ∷ behind)) × (is_quote quote ≡ true)
+    × (list_all (λ c. not (c == quote)) text ≡ true)
 
 -- a whole public literal, and then these
 abbrev pub BehindPublic : List ℕ → List ℕ → Type 0
@@ -67,11 +71,14 @@ abbrev pub kept : DoctypeRule → List ℕ → Option (List ℕ)
 kept Strict text = Some text
 kept Free text = None
 
+-- the characters behind `<!DOCTYPE` are so much of a declaration, by what is open
 abbrev pub DoctypeStands : DoctypeRule → OpenDoctype → List ℕ → Type 0
 DoctypeStands rule (before_root spaced) cs = (list_all is_blank cs ≡ true) × (spaced ≡ is_some_space cs)
-DoctypeStands rule (in_root name) cs = (gap : List ℕ) × (cs ≡ gap ++ name) × IsGap gap × (name ≢ []) × ((more : List ℕ) × (codes "html" ≡ name ++ more))
+DoctypeStands rule (in_root name) cs =
+    (gap : List ℕ) × (cs ≡ gap ++ name) × IsGap gap × (name ≢ []) × ((more : List ℕ) × (codes "html" ≡ name ++ more))
 DoctypeStands rule behind_root cs = BehindRoot cs []
-DoctypeStands rule (in_word word) cs = BehindRoot cs word × (word ≢ []) × ((whole : Word) × (more : List ℕ) × (letters whole ≡ word ++ more))
+DoctypeStands rule (in_word word) cs =
+    BehindRoot cs word × (word ≢ []) × ((whole : Word) × (more : List ℕ) × (letters whole ≡ word ++ more))
 DoctypeStands rule (behind_word word) cs = BehindWord word cs []
 DoctypeStands rule (in_public quote o) cs =
     (inside : List ℕ) × (text : List ℕ) × BehindWord public_word cs inside × InLiteral quote text inside × (o ≡ kept rule text)
@@ -80,4 +87,5 @@ DoctypeStands rule (behind_public spaced) cs =
 DoctypeStands rule (in_system quote) cs =
     (word : Word) × (inside : List ℕ) × (text : List ℕ) × BehindFirst word cs inside × InLiteral quote text inside
 DoctypeStands rule behind_system cs =
-    (word : Word) × (inside : List ℕ) × BehindFirst word cs inside × ((space : List ℕ) × IsLiteralThen inside space × (list_all is_blank space ≡ true))
+    (word : Word) × (inside : List ℕ) × BehindFirst word cs inside
+    × ((space : List ℕ) × IsLiteralThen inside space × (list_all is_blank space ≡ true))

@@ -7,6 +7,7 @@ use Rattle.xml_text.specs.Names.{in_name}
 use Rattle.page_model.specs.Parts.{is_quote}
 use Rattle.page_fronts.specs.OpenValues.{OpenValue}
 
+-- what is open, by what is reached of an attribute
 pub data OpenAttribute : Type 0 where
   -- nothing, or white space (true), behind a name or a value
   between : Bool → OpenAttribute
@@ -27,6 +28,7 @@ IsGap space = (space ≢ []) × (list_all is_blank space ≡ true)
 abbrev pub IsFrontOfName : List ℕ → Type 0
 IsFrontOfName name = (name ≢ []) × (list_all in_name name ≡ true)
 
+-- whether there is any white space
 abbrev pub is_some_space : List ℕ → Bool
 is_some_space [] = false
 is_some_space (c ∷ cs) = true
@@ -46,6 +48,7 @@ pub record InValue (Stands : List ℕ → OpenValue → List ℕ → Type 0) (na
   pub quoted_value : list_all (λ c. not (c == quote)) value ≡ true
   pub stands : Stands name v value
 
+-- the characters behind a name or a whole attribute are so much of the next one, by what is open
 abbrev pub AttributeStands : (List ℕ → OpenValue → List ℕ → Type 0) → OpenAttribute → List ℕ → Type 0
 AttributeStands Stands (between spaced) cs = (list_all is_blank cs ≡ true) × (spaced ≡ is_some_space cs)
 AttributeStands Stands (in_attribute_name name) cs = (gap : List ℕ) × (cs ≡ gap ++ name) × IsGap gap × IsFrontOfName name

@@ -24,15 +24,18 @@ pub data OpenReference : Type 0 where
 abbrev pub capped : ℕ → ℕ
 capped n = min n 0x110000
 
+-- the characters are hexadecimal digits of this number, numbers over 0x10FFFF being one; or there are none yet
 abbrev pub HexadecimalStands : Option ℕ → List ℕ → Type 0
 HexadecimalStands None digits = digits ≡ []
 HexadecimalStands (Some n) digits = (digits ≢ []) × (list_all is_ascii_hexdigit digits ≡ true) × (n ≡ capped (number_written 16 0 digits))
 
+-- the characters behind `&` are so much of a reference, by what is open
 abbrev pub ReferenceStands : OpenReference → List ℕ → Type 0
 ReferenceStands (in_entity name) cs = (cs ≡ name) × (list_all in_name name ≡ true)
 ReferenceStands at_number cs = cs ≡ codes "#"
 ReferenceStands (in_decimal n) cs =
-    (digits : List ℕ) × (cs ≡ 35 ∷ digits) × (digits ≢ []) × (list_all is_ascii_digit digits ≡ true) × (n ≡ capped (number_written 10 0 digits))
+    (digits : List ℕ) × (cs ≡ 35 ∷ digits) × (digits ≢ []) × (list_all is_ascii_digit digits ≡ true)
+    × (n ≡ capped (number_written 10 0 digits))
 ReferenceStands (in_hexadecimal o) cs = (digits : List ℕ) × (cs ≡ 35 ∷ 120 ∷ digits) × HexadecimalStands o digits
 
 -- in the quotes of a value
@@ -69,6 +72,7 @@ TextStands in_text cs = (front behind : List ℕ) → cs ≡ front ++ 38 ∷ beh
 TextStands (in_reference r) cs = (front behind : List ℕ) × (cs ≡ front ++ 38 ∷ behind) × ReferenceStands r behind
 TextStands v cs = ⊥
 
+-- the characters behind the quote are so much of a value of the type, by what is open
 abbrev pub KindStands : Kind → OpenValue → List ℕ → Type 0
 KindStands cdata v cs = TextStands v cs
 KindStands (one_of tokens) v cs = v ≡ in_choice (first_word (words_of cs)) (nat_lt 0 (words_behind cs))

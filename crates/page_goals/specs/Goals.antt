@@ -13,6 +13,7 @@ pub record IsNestedPage (table : Table) (page : List ℕ) : Type 0 where
   pub has : PageTokens table page tokens
   pub nested : IsNested tokens
 
+-- the page is valid, or, where that is all that is asked, nested
 abbrev pub IsGood : Goal → Table → List ℕ → Type 0
 IsGood Goal.Valid table page = Valid table page
 IsGood Goal.Nested table page = IsNestedPage table page

@@ -27,9 +27,11 @@ abbrev pub TellsGood : {S : Type 0} → Goal → Table → (List PageToken → S
 TellsGood goal table sum_by whole =
     (page : List ℕ) (tokens : List PageToken) → PageTokens table page tokens → (whole (sum_by tokens) ≡ true) ↔ IsGood goal table page
 
+-- the sums of the automaton of a definition tell whether a page is valid
 abbrev pub SumsTellValid : Type 0
 SumsTellValid = (table : Table) (states : States) → AreStatesOf table states
     → TellsGood Goal.Valid table (sum_of (automaton_over table states)) (is_whole (automaton_over table states))
 
+-- the sums of nesting tell whether a page is nested
 abbrev pub NestsTellNested : Type 0
 NestsTellNested = (table : Table) → TellsGood Goal.Nested table nest_of is_balanced

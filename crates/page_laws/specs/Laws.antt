@@ -12,7 +12,8 @@ use Rattle.page_model.specs.Valid.{Valid}
 
 -- bytes are cut into pieces in at most one way
 abbrev pub OneCutting : Type 0
-OneCutting = (ps qs : List Piece) → ArePieces at_beginning ps → ArePieces at_beginning qs → encode_utf8_all (pieces_then ps []) ≡ encode_utf8_all (pieces_then qs []) → ps ≡ qs
+OneCutting = (ps qs : List Piece) → ArePieces at_beginning ps → ArePieces at_beginning qs
+    → encode_utf8_all (pieces_then ps []) ≡ encode_utf8_all (pieces_then qs []) → ps ≡ qs
 
 -- so two trees that bytes spell have the same pieces
 abbrev pub OnePage : Type 0
@@ -24,7 +25,8 @@ OneTokenList = (table : Table) (bytes : List ℕ) (ts us : List PageToken) → P
 
 -- a page is valid exactly where its tokens are those of a tree
 abbrev pub ValidByTokens : Type 0
-ValidByTokens = (table : Table) (bytes : List ℕ) (tokens : List PageToken) → PageTokens table bytes tokens → Valid table bytes ↔ TokenTree table tokens
+ValidByTokens = (table : Table) (bytes : List ℕ) (tokens : List PageToken) → PageTokens table bytes tokens
+    → Valid table bytes ↔ TokenTree table tokens
 
 -- characters are lawful pieces in turn, and the tokens of these are those of a tree
 pub record GoodPieces (table : Table) (characters : List ℕ) : Type 0 where

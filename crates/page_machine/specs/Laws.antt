@@ -9,4 +9,5 @@ use Rattle.page_machine.specs.Machine.{accepts, start}
 
 -- it accepts exactly the tokens of a tree
 abbrev pub AcceptsTrees : Type 0
-AcceptsTrees = (d : Table) (t : automata.Table) → Decides d t → (tokens : List PageToken) → (accepts d t start tokens ≡ true) ↔ TokenTree d tokens
+AcceptsTrees = (d : Table) (t : automata.Table) → Decides d t → (tokens : List PageToken)
+    → (accepts d t start tokens ≡ true) ↔ TokenTree d tokens

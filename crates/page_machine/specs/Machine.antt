@@ -24,16 +24,19 @@ Open = ℕ × ℕ
 abbrev pub State : Type 0
 State = Stage × List Open
 
+-- whether the root may begin at this stage; a strict definition wants a document type declaration before it
 abbrev pub may_begin : DoctypeRule → Stage → Bool
 may_begin Free before_type = true
 may_begin Strict before_type = false
 may_begin rule behind_type = true
 may_begin rule root_begun = false
 
+-- what an element may hold by its rule; nothing where it has none
 abbrev pub holding_of : Option Rule → Holding
 holding_of None = nothing
 holding_of (Some r) = r.holding
 
+-- what the element of this number may hold; nothing where none has it
 abbrev pub holding_at : Table → ℕ → Holding
 holding_at d e = holding_of (slice_get d.elements e)
 
@@ -42,30 +45,38 @@ abbrev pub with_child : Stage → ℕ → ℕ → ℕ → List Open → Option �
 with_child stage e first f outer None = None
 with_child stage e first f outer (Some next) = Some (stage, (e, first) ∷ (f, next) ∷ outer)
 
+-- a start tag where these elements are open: that of the root, which is `html`, or of a child that the element around it may have there
 abbrev pub begun : Table → automata.Table → Stage → List Open → ℕ → Option State
-begun d t stage [] e = if may_begin d.doctype stage && e == place_of d.elements (codes "html") then Some (root_begun, (e, first_at t e) ∷ []) else None
+begun d t stage [] e = if may_begin d.doctype stage && e == place_of d.elements (codes "html")
+    then Some (root_begun, (e, first_at t e) ∷ []) else None
 begun d t stage ((f, s) ∷ outer) e = with_child stage e (first_at t e) f outer (next_at t s e)
 
+-- a start tag of the element of this number, which has to be one of the declared
 abbrev pub opened : Table → automata.Table → State → ℕ → Option State
 opened d t state e = if nat_lt e (length d.elements) then begun d t state.0 state.1 e else None
 
+-- an end tag: that of the innermost open element, whose content may end there
 abbrev pub popped : automata.Table → Stage → List Open → ℕ → Option State
 popped t stage [] e = None
 popped t stage ((f, s) ∷ outer) e = if f == e && ends_at t s then Some (stage, outer) else None
 
+-- whether what is no element may stand there: in the innermost open element, or outside the root, by its sort
 abbrev pub may_stand : Table → List Open → Sort → Bool
 may_stand d [] sort = is_between sort
 may_stand d ((f, s) ∷ outer) sort = may_hold (holding_at d f) sort
 
+-- what is no element, and leaves the state as it is
 abbrev pub single : Table → State → Sort → Option State
 single d state sort = if may_stand d state.1 sort then Some state else None
 
+-- the document type declaration: at most one, and before the root
 abbrev pub typed : Stage → List Open → Option State
 typed before_type [] = Some (behind_type, [])
 typed before_type (o ∷ outer) = None
 typed behind_type outer = None
 typed root_begun outer = None
 
+-- the state behind one token more; None where it may not stand there
 abbrev pub step : Table → automata.Table → State → PageToken → Option State
 step d t state token.Doctype = typed state.0 state.1
 step d t state (token.Start e) = opened d t state e.0
@@ -82,6 +93,7 @@ is_done root_begun (o ∷ outer) = false
 is_done before_type outer = false
 is_done behind_type outer = false
 
+-- what is asked of the state, if there is one
 abbrev pub and_on : Option State → (State → Bool) → Bool
 and_on None next = false
 and_on (Some state) next = next state
@@ -91,5 +103,6 @@ abbrev pub accepts : Table → automata.Table → State → List PageToken → B
 accepts d t state [] = is_done state.0 state.1
 accepts d t state (token ∷ tokens) = and_on (step d t state token) (λ next. accepts d t next tokens)
 
+-- before the first token, with no element open
 abbrev pub start : State
 start = (before_type, [])

@@ -10,19 +10,23 @@ use Rattle.page_machine.specs.declared.stage.Sort.TheVariants.{Blank, Text, Rema
 use Rattle.page_machine.specs.declared.stage.Open.{Open}
 use Rattle.page_machine.specs.declared.progress.Progress.{Progress}
 
+-- the plain form of a stage
 abbrev pub stage_of : Stage → machine.Stage
 stage_of BeforeType = machine.before_type
 stage_of BehindType = machine.behind_type
 stage_of RootBegun = machine.root_begun
 
+-- the plain form of a sort
 abbrev pub sort_of : Sort → valid.Sort
 sort_of Blank = valid.blank
 sort_of Text = valid.text
 sort_of Remark = valid.remark
 
+-- the plain form of an open element
 abbrev pub open_of : Open → machine.Open
 open_of o = (o.element.0, o.state)
 
+-- the plain form of how far a page is
 abbrev pub progress_of : Progress → machine.State
 progress_of p = (stage_of p.stage, map open_of p.«open»)
 
@@ -33,4 +37,5 @@ Goes o new false = o ≡ None
 
 -- the root, with the state that it begins in
 abbrev pub root_at : Table → machine.Stage → ℕ → ℕ → Option machine.State
-root_at d stage e first = if machine.may_begin d.doctype stage && e == valid.place_of d.elements (codes "html") then Some (machine.root_begun, (e, first) ∷ []) else None
+root_at d stage e first = if machine.may_begin d.doctype stage && e == valid.place_of d.elements (codes "html")
+    then Some (machine.root_begun, (e, first) ∷ []) else None

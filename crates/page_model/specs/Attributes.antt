@@ -24,11 +24,13 @@ abbrev pub words_of : List ℕ → List (List ℕ)
 words_of [] = []
 words_of (c ∷ cs) = if is_blank c then words_of cs else put_before c (begins_blank cs) (words_of cs)
 
+-- there is exactly one word, and it passes the test
 abbrev pub is_one_word : (List ℕ → Bool) → List (List ℕ) → Bool
 is_one_word test [] = false
 is_one_word test (word ∷ []) = test word
 is_one_word test (word ∷ second ∷ words) = false
 
+-- there is at least one word, and each passes the test
 abbrev pub are_words : (List ℕ → Bool) → List (List ℕ) → Bool
 are_words test [] = false
 are_words test (word ∷ words) = list_all test (word ∷ words)
@@ -66,6 +68,7 @@ abbrev pub is_once : List Attribute → Bool
 is_once [] = true
 is_once (a ∷ more) = not (stands more a.name) && is_once more
 
+-- whether the default is `#REQUIRED` (XML 1.0, 3.3.2)
 abbrev pub is_required : Presence → Bool
 is_required implied = false
 is_required required = true
@@ -76,6 +79,7 @@ is_required (fixed wanted) = false
 abbrev pub must_stand : List ℕ → Declared → Bool
 must_stand tag_name d = is_required d.presence || bytes_eq tag_name (codes "html") && bytes_eq d.name (codes "xmlns")
 
+-- each of the declared attributes that has to stand in a tag of this name is among the attributes
 abbrev pub all_there : List ℕ → List Declared → List Attribute → Bool
 all_there tag_name rules attributes = list_all (λ (d : Declared). if must_stand tag_name d then stands attributes d.name else true) rules
 
@@ -90,6 +94,7 @@ abbrev pub find_rule : List Rule → List ℕ → Option Rule
 find_rule [] name = None
 find_rule (r ∷ rs) name = if bytes_eq r.name name then Some r else find_rule rs name
 
+-- whether a declaration was found
 abbrev pub is_some_rule : Option Rule → Bool
 is_some_rule None = false
 is_some_rule (Some rule) = true
@@ -99,6 +104,7 @@ abbrev pub fits_rule : List (List ℕ) → Option Rule → Tag → Bool
 fits_rule entities None tag = false
 fits_rule entities (Some rule) tag = attributes_fit entities tag.name rule.attributes tag.attributes
 
+-- the element of the tag is declared, and its attributes are as declared
 abbrev pub tag_fits : Table → Tag → Bool
 tag_fits table tag = fits_rule table.entities (find_rule table.elements tag.name) tag
 

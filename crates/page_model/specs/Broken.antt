@@ -23,6 +23,7 @@ pub record IsLooseAttribute (a : Attribute) : Type 0 where
   pub quoted : is_quote a.quote ≡ true
   pub value : list_all (λ c. not (c == 60 || c == a.quote)) a.value ≡ true
 
+-- each of the attributes is such: any name, and in its quotes any bytes but `<` and the quote
 abbrev pub AreLooseAttributes : List Attribute → Type 0
 AreLooseAttributes [] = Unit {0}
 AreLooseAttributes (a ∷ more) = IsLooseAttribute a × AreLooseAttributes more
@@ -40,12 +41,14 @@ is_loose_reference table (decimal digits) = is_some digits && list_all is_ascii_
 is_loose_reference table (hexadecimal digits) = is_some digits && list_all is_ascii_hexdigit digits
 is_loose_reference table (entity name) = is_name name && is_known table.entities (entity name)
 
+-- the piece is lawful at this place, where less is asked of the attributes of a tag and of the number of a character
 abbrev pub IsLoose : Table → Place → Piece → Type 0
 IsLoose table place (start_tag tag) = IsLooseTag table tag
 IsLoose table place (empty_tag tag) = IsLooseTag table tag
 IsLoose table place (leaf (reference r)) = is_loose_reference table r ≡ true
 IsLoose table place p = IsLawful table place p
 
+-- the pieces are such in turn, each behind those before it
 abbrev pub AreLoose : Table → Place → List Piece → Type 0
 AreLoose table place [] = Unit {0}
 AreLoose table place (p ∷ ps) = IsLoose table place p × AreLoose table (after place p) ps
@@ -56,6 +59,7 @@ loose_bytes (start_tag tag) = piece_then (start_tag tag) []
 loose_bytes (empty_tag tag) = piece_then (empty_tag tag) []
 loose_bytes p = piece_bytes p
 
+-- the bytes of the pieces in turn
 abbrev pub loose_then : List Piece → List ℕ
 loose_then [] = []
 loose_then (p ∷ ps) = loose_bytes p ++ loose_then ps

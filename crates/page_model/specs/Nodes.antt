@@ -27,6 +27,7 @@ pub data Prolog : Type 0 where
   no_doctype : Prolog
   with_doctype : Nodes → Doctype → Prolog
 
+-- the pieces of the prolog, and those behind them
 abbrev pub prolog_then : Prolog → List Piece → List Piece
 prolog_then no_doctype behind = behind
 prolog_then (with_doctype nodes d) behind = nodes_then nodes (doctype d ∷ behind)
@@ -38,14 +39,17 @@ pub record Page : Type 0 where
   pub prolog : Prolog
   pub nodes : Nodes
 
+-- the byte order mark, where there is one, and the pieces behind it
 abbrev pub mark_then : Bool → List Piece → List Piece
 mark_then true behind = mark ∷ behind
 mark_then false behind = behind
 
+-- the XML declaration, where there is one, and the pieces behind it
 abbrev pub declared_then : Option Declaration → List Piece → List Piece
 declared_then None behind = behind
 declared_then (Some d) behind = declaration d ∷ behind
 
+-- the pieces of a page, in the order in which they stand in it
 abbrev pub pieces_of : Page → List Piece
 pieces_of page = mark_then page.mark (declared_then page.declaration (prolog_then page.prolog (nodes_then page.nodes [])))
 

@@ -20,6 +20,7 @@ abbrev pub AreLawful : Table → Place → List Piece → Type 0
 AreLawful table place [] = Unit {0}
 AreLawful table place (p ∷ ps) = IsLawful table place p × AreLawful table (after place p) ps
 
+-- the bytes of a piece: its characters in UTF-8
 abbrev pub piece_bytes : Piece → List ℕ
 piece_bytes p = encode_utf8_all (piece_then p [])
 
@@ -28,6 +29,7 @@ abbrev pub bytes_then : List Piece → List ℕ → List ℕ
 bytes_then [] rest = rest
 bytes_then (p ∷ ps) rest = piece_bytes p ++ bytes_then ps rest
 
+-- the token of what is no element, by its sort: white space, other text, or a comment or an instruction
 abbrev pub sort_token : Sort → PageToken
 sort_token blank = token.Blank
 sort_token text = token.Text
@@ -47,6 +49,7 @@ piece_tokens table (empty_tag tag) = token.Start (element_of table tag.name) ∷
 piece_tokens table (end_tag name space) = token.End (element_of table name) ∷ []
 piece_tokens table (leaf l) = sort_token (sort_of l) ∷ []
 
+-- the tokens of the pieces in turn, and those behind them
 abbrev pub tokens_then : Table → List Piece → List PageToken → List PageToken
 tokens_then table [] behind = behind
 tokens_then table (p ∷ ps) behind = piece_tokens table p ++ tokens_then table ps behind

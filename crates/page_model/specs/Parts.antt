@@ -40,10 +40,12 @@ pub data Leaf : Type 0 where
 abbrev pub attribute_then : Attribute → List ℕ → List ℕ
 attribute_then a rest = a.space ++ (a.name ++ (a.before_equals ++ 61 ∷ (a.after_equals ++ a.quote ∷ (a.value ++ a.quote ∷ rest))))
 
+-- the characters of the attributes in turn, and those behind them
 abbrev pub attributes_then : List Attribute → List ℕ → List ℕ
 attributes_then [] rest = rest
 attributes_then (a ∷ more) rest = attribute_then a (attributes_then more rest)
 
+-- the characters of the inside of a tag: its name, its attributes and white space, and those behind them
 abbrev pub tag_then : Tag → List ℕ → List ℕ
 tag_then tag rest = tag.name ++ attributes_then tag.attributes (tag.space ++ rest)
 
@@ -62,15 +64,17 @@ abbrev pub up_to_semicolon : List ℕ → List ℕ
 up_to_semicolon [] = []
 up_to_semicolon (c ∷ cs) = if c == 59 then [] else c ∷ up_to_semicolon cs
 
+-- whether a `;` is among the characters
 abbrev pub has_semicolon : List ℕ → Bool
 has_semicolon [] = false
 has_semicolon (c ∷ cs) = c == 59 || has_semicolon cs
 
--- the reference that this stands for between `&` and `;`: behind `#x` and `#` stands a number, else a name
+-- the reference whose characters between `&#` and `;` are these: hexadecimal digits behind `x`, and else decimal ones
 abbrev pub numbered : List ℕ → Reference
 numbered [] = decimal []
 numbered (c ∷ cs) = if c == 120 then hexadecimal cs else decimal (c ∷ cs)
 
+-- the reference that these characters are between `&` and `;`: a number behind `#`, and else the name of an entity
 abbrev pub reference_of : List ℕ → Reference
 reference_of [] = entity []
 reference_of (c ∷ cs) = if c == 35 then numbered cs else entity (c ∷ cs)
@@ -84,6 +88,7 @@ refers_by test (c ∷ cs) = (if c == 38 then has_semicolon cs && test (reference
 abbrev pub may_be_quoted : ℕ → ℕ → Bool
 may_be_quoted quote c = is_character c && not (c == 60 || c == quote)
 
+-- whether the character is `"` or `'`
 abbrev pub is_quote : ℕ → Bool
 is_quote c = c == 34 || c == 39
 
@@ -98,10 +103,12 @@ pub record IsAttribute (a : Attribute) : Type 0 where
   pub characters : list_all (may_be_quoted a.quote) a.value ≡ true
   pub references : refers_by is_reference a.value ≡ true
 
+-- each of the attributes is written as XML asks
 abbrev pub AreAttributes : List Attribute → Type 0
 AreAttributes [] = Unit {0}
 AreAttributes (a ∷ more) = IsAttribute a × AreAttributes more
 
+-- the inside of a tag is written as XML asks: a name, attributes, and white space or none (XML 1.0, 3.1)
 pub record IsTag (tag : Tag) : Type 0 where
   pub named : is_name tag.name ≡ true
   pub attributes : AreAttributes tag.attributes
@@ -121,6 +128,7 @@ pub record IsComment (text : List ℕ) : Type 0 where
   pub characters : list_all is_character text ≡ true
   pub no_end : holds (codes "--") (text ++ codes "-") ≡ false
 
+-- whether the characters begin with white space, or there are none
 abbrev pub begins_blank : List ℕ → Bool
 begins_blank [] = true
 begins_blank (c ∷ cs) = is_blank c
@@ -134,6 +142,7 @@ pub record IsInstruction (target text : List ℕ) : Type 0 where
   pub characters : list_all is_character text ≡ true
   pub no_end : holds (codes "?>") text ≡ false
 
+-- the leaf is written as XML asks; whether a character may stand behind those before it is asked elsewhere (specs/Pieces.antt)
 abbrev pub IsLeaf : Leaf → Type 0
 IsLeaf (character c) = is_plain c ≡ true
 IsLeaf (reference r) = is_reference r ≡ true

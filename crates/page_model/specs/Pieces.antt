@@ -8,6 +8,7 @@ use Rattle.page_model.specs.Parts.{Tag, tag_then, IsTag, Leaf, character, refere
 use Rattle.page_model.specs.Prolog.{Declaration, declaration_then, IsDeclaration, Doctype, doctype_then, IsDoctype}
 use Rattle.page_model.specs.Places.{Place, at_beginning, behind_mark, behind, is_early, brackets}
 
+-- one piece of a page: the mark, a declaration, a tag, or a leaf (a character, a reference, a section, a comment or an instruction)
 pub data Piece : Type 0 where
   -- the byte order mark (XML 1.0, 4.3.3)
   mark : Piece
@@ -30,6 +31,7 @@ piece_then (empty_tag tag) rest = 60 ∷ tag_then tag (47 ∷ 62 ∷ rest)
 piece_then (end_tag name space) rest = 60 ∷ 47 ∷ (name ++ (space ++ 62 ∷ rest))
 piece_then (leaf l) rest = leaf_then l rest
 
+-- the characters of the pieces in turn, and those behind them
 abbrev pub pieces_then : List Piece → List ℕ → List ℕ
 pieces_then [] rest = rest
 pieces_then (p ∷ ps) rest = piece_then p (pieces_then ps rest)
@@ -54,6 +56,7 @@ IsPiece place (empty_tag tag) = IsTag tag
 IsPiece place (end_tag name space) = (is_name name ≡ true) × (list_all is_blank space ≡ true)
 IsPiece place (leaf l) = (may_follow place l ≡ true) × IsLeaf l
 
+-- the place behind a leaf: a character `]` is one more of those that are the last, up to two; behind any other leaf there are none
 abbrev pub behind_leaf : Place → Leaf → Place
 behind_leaf place (character c) = behind (if c == 93 then min 2 (suc (brackets place)) else 0)
 behind_leaf place (reference r) = behind 0
@@ -71,6 +74,7 @@ after place (empty_tag tag) = behind 0
 after place (end_tag name space) = behind 0
 after place (leaf l) = behind_leaf place l
 
+-- the place behind all of the pieces, where the first of them stands at this place
 abbrev pub after_all : Place → List Piece → Place
 after_all place [] = place
 after_all place (p ∷ ps) = after_all (after place p) ps

@@ -15,6 +15,7 @@ pub data Trees : Type 0 where
   single : Sort → Trees → Trees
   tree : ℕ → Trees → Trees → Trees
 
+-- the tokens of the trees in turn, with what stands in an element between its start and its end, and those behind them
 abbrev pub trees_then : Trees → List PageToken → List PageToken
 trees_then no_trees behind = behind
 trees_then (single sort more) behind = sort_token sort ∷ trees_then more behind
@@ -27,6 +28,7 @@ roots no_trees = []
 roots (single sort more) = roots more
 roots (tree e inside more) = e ∷ roots more
 
+-- what is no element among the trees, but for what is inside elements, passes the test
 abbrev pub singles_pass : (Sort → Bool) → Trees → Bool
 singles_pass may no_trees = true
 singles_pass may (single sort more) = may sort && singles_pass may more
@@ -56,6 +58,7 @@ PrologFits Free None = Unit {0}
 PrologFits Strict None = ⊥
 PrologFits rule (Some trees) = (roots trees ≡ []) × (singles_pass is_between trees ≡ true)
 
+-- the tokens are those of a prolog as the definition asks and of trees with one root, `html`, where each element holds what is declared
 pub record TokenTree (table : Table) (tokens : List PageToken) : Type 0 where
   pub before : Option Trees
   pub trees : Trees

@@ -30,6 +30,7 @@ pub data Sort : Type 0 where
   text : Sort
   remark : Sort
 
+-- a character is white space or text, a reference and a section are text, and comments and instructions are remarks
 abbrev pub sort_of : Leaf → Sort
 sort_of (character c) = if is_blank c then blank else text
 sort_of (reference r) = text

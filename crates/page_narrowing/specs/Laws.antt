@@ -23,21 +23,27 @@ narrow_tokens table bytes = all_tokens (narrow_reader table) (Some (at_state beg
 
 -- these are the tokens of the page
 abbrev pub NarrowTokensRead : Type 0
-NarrowTokensRead = (table : Table) → IsLawfulTable table → (bytes : List ℕ) (tokens : List PageToken) → PageTokens table bytes tokens ↔ (tokens ≡ narrow_tokens table bytes)
+NarrowTokensRead = (table : Table) → IsLawfulTable table → (bytes : List ℕ) (tokens : List PageToken)
+    → PageTokens table bytes tokens ↔ (tokens ≡ narrow_tokens table bytes)
 
 -- what the narrowed reader keeps of each state that it meets
 abbrev pub IsKept : Table → Held PageState → Type 0
 IsKept table h = passes table h ≡ true
 
+-- the state before a piece is one that passes
 abbrev pub FirstKept : Type 0
 FirstKept = (table : Table) (place : Place) → IsKept table ((narrow_reader table).first place)
 
+-- each state that a step of the narrowed reader leads to passes
 abbrev pub StepsKeep : Type 0
 StepsKeep = (table : Table) (h g : Held PageState) (b : ℕ) → (narrow_reader table).step h b ≡ go g → IsKept table g
 
+-- each state that the narrowed reader is in behind some bytes of a page passes
 abbrev pub MetKept : Type 0
-MetKept = (table : Table) (bytes : List ℕ) (h : Held PageState) → state_after (narrow_reader table) (Some (at_state beginning)) bytes ≡ Some h → IsKept table h
+MetKept = (table : Table) (bytes : List ℕ) (h : Held PageState)
+    → state_after (narrow_reader table) (Some (at_state beginning)) bytes ≡ Some h → IsKept table h
 
 -- the test of names tells that one of them begins so
 abbrev pub BeginningsTold : Type 0
-BeginningsTold = (names : List (List ℕ)) (front : List ℕ) → (some_begins names front ≡ true) ↔ ((front ≡ []) ⊎ Any (λ (name : List ℕ). (more : List ℕ) × (name ≡ front ++ more)) names)
+BeginningsTold = (names : List (List ℕ)) (front : List ℕ)
+    → (some_begins names front ≡ true) ↔ ((front ≡ []) ⊎ Any (λ (name : List ℕ). (more : List ℕ) × (name ≡ front ++ more)) names)

@@ -42,6 +42,7 @@ abbrev pub fixed_passes : Presence → List ℕ → Bool
 fixed_passes (fixed wanted) value = begins wanted (encode_utf8_all value)
 fixed_passes presence value = true
 
+-- a value, as it is declared: a reference in it, so much of a fixed value, or so much of a choice
 abbrev pub value_passes : List (List ℕ) → Declared → OpenValue → Bool
 value_passes entities d in_text = true
 value_passes entities d (in_value_reference r) = reference_passes entities r
@@ -58,8 +59,10 @@ declared_passes entities (Some d) v = value_passes entities d v
 abbrev pub word_begins : List ℕ → List ℕ → Bool
 word_begins name value =
     if bytes_eq name (codes "version") then begins (codes "1.0") value
-    else (if bytes_eq name (codes "encoding") then begins (codes "utf-8") (str_to_ascii_lowercase value) else begins (codes "yes") value || begins (codes "no") value)
+    else (if bytes_eq name (codes "encoding") then begins (codes "utf-8") (str_to_ascii_lowercase value) else begins (codes "yes") value
+    || begins (codes "no") value)
 
+-- a value of the XML declaration begins so
 abbrev pub word_passes : List ℕ → OpenValue → Bool
 word_passes name (in_fixed value) = word_begins name value
 word_passes name v = false
@@ -72,13 +75,16 @@ pub record Testing : Type 0 where
   pub is_known_name : List ℕ → Bool
   pub value : List ℕ → OpenValue → Bool
 
+-- whether the attribute is declared
 abbrev pub is_some_declared : Option Declared → Bool
 is_some_declared None = false
 is_some_declared (Some d) = true
 
+-- the names of attributes in the order of their declaration
 abbrev pub names_of : List Declared → List (List ℕ)
 names_of rules = map (λ (d : Declared). d.name) rules
 
+-- the test in a tag: the declared attributes, each with its values
 abbrev pub testing_element : List (List ℕ) → List Declared → Testing
 testing_element entities rules = record {
   names = names_of rules;
@@ -90,6 +96,7 @@ testing_element entities rules = record {
 abbrev pub declaration_words : List (List ℕ)
 declaration_words = codes "version" ∷ codes "encoding" ∷ codes "standalone" ∷ []
 
+-- the test in the XML declaration: its three words, each with its values
 abbrev pub testing_declaration : Testing
 testing_declaration = record { names = declaration_words; is_known_name = λ name. true; value = word_passes }
 
@@ -103,6 +110,7 @@ attribute_passes t (in_value name quote v) = t.value name v
 
 -- All that may be open.
 
+-- the names of elements in the order of their declaration
 abbrev pub element_names : Table → List (List ℕ)
 element_names table = map (λ (r : Rule). r.name) table.elements
 
@@ -116,10 +124,12 @@ abbrev pub public_passes : Option (List ℕ) → Bool
 public_passes None = true
 public_passes (Some text) = begins (codes "-//W3C//DTD XHTML 1.0 Strict//EN") text
 
+-- in a document type declaration the public literal alone is tested
 abbrev pub doctype_passes : OpenDoctype → Bool
 doctype_passes (in_public quote o) = public_passes o
 doctype_passes o = true
 
+-- whether what is open passes: each name and value in it may still become one that there is
 abbrev pub open_passes : Table → Open → Bool
 open_passes table (in_reference r) = reference_passes table.entities r
 open_passes table (in_tag_name name) = some_begins (element_names table) name
@@ -132,6 +142,7 @@ open_passes table o = true
 
 -- A character of several bytes may stand there.
 
+-- whether a character of several bytes may stand in the value: in CDATA outside references and in a fixed value
 abbrev pub value_takes : OpenValue → Bool
 value_takes in_text = true
 value_takes (in_fixed value) = true
@@ -142,11 +153,13 @@ abbrev pub attribute_takes : OpenAttribute → Bool
 attribute_takes (in_value name quote v) = not (is_quote quote) || value_takes v
 attribute_takes o = false
 
+-- whether a character of several bytes may stand in a document type declaration: in a system literal
 abbrev pub doctype_takes : OpenDoctype → Bool
 doctype_takes (in_public quote o) = not (is_quote quote)
 doctype_takes (in_system quote) = true
 doctype_takes o = false
 
+-- whether a character of several bytes may stand in what is open
 abbrev pub takes_several : Open → Bool
 takes_several nothing = true
 takes_several (in_tag name names o) = attribute_takes o
@@ -159,8 +172,10 @@ takes_several o = false
 
 -- The test, and the reader that fails where a state does not pass.
 
+-- what is open passes, and where some bytes of a character are read, one of several bytes may stand there
 abbrev pub passes : Table → Held PageState → Bool
 passes table h = open_passes table h.state.inside && (if is_some_byte h.begun then takes_several h.state.inside else true)
 
+-- the reader of pages by bytes that fails at each state that does not pass
 abbrev pub narrow_reader : Table → Reader Place PageToken (Held PageState)
 narrow_reader table = narrowed (passes table) (encoded (page_reader table) page_hold)

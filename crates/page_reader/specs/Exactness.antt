@@ -7,6 +7,7 @@ use Rattle.page_reader.specs.declared.state.ReaderState.{ReaderState}
 use Rattle.page_reader.specs.declared.state.ReaderState.TheVariants.{Failed, Reading}
 use Rattle.page_reader.specs.contracts.state.ReaderStatePartialEq.TheImpl as states
 
+-- states that are found equal are one
 pub exact_state : (a b : ReaderState) → (states.ghosts).eq a b ≡ true → a ≡ b
 exact_state Failed Failed e = refl
 exact_state Failed (Reading h) e = cc

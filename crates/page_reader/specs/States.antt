@@ -27,6 +27,7 @@ coded (Some h) = Reading (coded_held h)
 abbrev pub state_at : Place → ReaderState
 state_at place = coded (Some (at_state (record { place = place; inside = nothing })))
 
+-- before a page
 abbrev pub first_state : ReaderState
 first_state = state_at at_beginning
 
@@ -38,5 +39,6 @@ next_state table s b = coded (state_behind (narrow_reader table) (seen s) b)
 abbrev pub tokens_at : Table → ReaderState → ℕ → List PageToken
 tokens_at table s b = put_at (narrow_reader table) (seen s) b
 
+-- what is put out at the end of the page
 abbrev pub tokens_behind : Table → ReaderState → List PageToken
 tokens_behind table s = put_last (narrow_reader table) (seen s)

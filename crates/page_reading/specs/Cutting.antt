@@ -12,8 +12,10 @@ use Rattle.page_reading.specs.Scan.{then_some}
 abbrev pub is_fit : Table → Place → Piece → Bool
 is_fit table place p = is_right place p && is_allowed table p
 
+-- what was found, where it fits
 abbrev pub kept : Bool → Piece × List ℕ → Option (Piece × List ℕ)
 kept fit found = if fit then Some found else None
 
+-- the lawful piece at the head, by a definition and at this place, and what stands behind it; None where there is none
 unfoldable pub cut_at : Table → Place → List ℕ → Option (Piece × List ℕ)
 cut_at table place cs = then_some (piece_at place cs) (λ found. kept (is_fit table place found.0) found)

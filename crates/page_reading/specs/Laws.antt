@@ -12,8 +12,10 @@ Read = Piece × List ℕ
 
 -- a lawful piece is read, whatever stands behind it
 abbrev pub EachIsRead : Type 0
-EachIsRead = (table : Table) (place : Place) (found : Read) → IsLawful table place found.0 → cut_at table place (piece_then found.0 found.1) ≡ Some found
+EachIsRead = (table : Table) (place : Place) (found : Read) → IsLawful table place found.0
+    → cut_at table place (piece_then found.0 found.1) ≡ Some found
 
 -- what is read is a lawful piece, and stands there
 abbrev pub NothingElse : Type 0
-NothingElse = (table : Table) (place : Place) (characters : List ℕ) (found : Read) → cut_at table place characters ≡ Some found → IsLawful table place found.0 × (piece_then found.0 found.1 ≡ characters)
+NothingElse = (table : Table) (place : Place) (characters : List ℕ) (found : Read) → cut_at table place characters ≡ Some found
+    → IsLawful table place found.0 × (piece_then found.0 found.1 ≡ characters)

@@ -17,10 +17,12 @@ strip [] cs = Some cs
 strip (w ∷ word) [] = None
 strip (w ∷ word) (c ∷ cs) = if w == c then strip word cs else None
 
+-- the character put before what stands before the occurrence, where there is one
 abbrev pub put_first : ℕ → Option (List ℕ × List ℕ) → Option (List ℕ × List ℕ)
 put_first c None = None
 put_first c (Some s) = Some (c ∷ s.0, s.1)
 
+-- the word stands at the head, with this behind it; else what was found later
 abbrev pub found_or : Option (List ℕ) → Option (List ℕ × List ℕ) → Option (List ℕ × List ℕ)
 found_or None later = later
 found_or (Some rest) later = Some ([], rest)
@@ -40,5 +42,6 @@ abbrev pub Stops : (ℕ → Bool) → List ℕ → Type 0
 Stops test [] = Unit {0}
 Stops test (c ∷ cs) = test c ≡ false
 
+-- the character is not this one
 abbrev pub is_other : ℕ → ℕ → Bool
 is_other end c = not (c == end)

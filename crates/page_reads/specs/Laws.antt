@@ -12,8 +12,11 @@ use Rattle.page_step_laws.specs.Laws.{read_tokens}
 abbrev pub IsLawfulTable : Table → Type 0
 IsLawfulTable table = is_lawful table.elements table.entities ≡ true
 
+-- under a lawful definition the reader reads the pieces of a page and nothing else
 abbrev pub PiecesRead : Type 0
 PiecesRead = (table : Table) → IsLawfulTable table → Reads (page_language table) (page_reader table)
 
+-- under a lawful definition a page's tokens are what the reader by bytes puts out over it, and no others
 abbrev pub PageTokensRead : Type 0
-PageTokensRead = (table : Table) → IsLawfulTable table → (bytes : List ℕ) (tokens : List PageToken) → PageTokens table bytes tokens ↔ (tokens ≡ read_tokens table bytes)
+PageTokensRead = (table : Table) → IsLawfulTable table → (bytes : List ℕ) (tokens : List PageToken)
+    → PageTokens table bytes tokens ↔ (tokens ≡ read_tokens table bytes)

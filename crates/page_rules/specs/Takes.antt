@@ -15,6 +15,7 @@ use Rattle.page_model.specs.Valid.{place_of}
 use Rattle.page_rules.specs.declared.piece_tokens.Taken.{Taken}
 use Rattle.page_rules.specs.declared.piece_tokens.Taken.TheVariants as taken
 
+-- the tokens of what a piece is; those of an empty element are its start tag and its end tag
 abbrev pub taken_tokens : Taken → List PageToken
 taken_tokens taken.Nothing = []
 taken_tokens taken.Doctype = token.Doctype ∷ []
@@ -30,10 +31,12 @@ abbrev pub Takes : Table → Piece → Option Taken → Type 0
 Takes table p None = is_allowed table p ≡ false
 Takes table p (Some t) = (is_allowed table p ≡ true) × (taken_tokens t ≡ piece_tokens table p)
 
+-- the element of a tag, by its number; none exactly where the definition does not allow the tag
 abbrev pub TakesTag : Table → Tag → Option Elem → Type 0
 TakesTag table tag None = tag_fits table tag ≡ false
 TakesTag table tag (Some e) = (tag_fits table tag ≡ true) × (e.0 ≡ place_of table.elements tag.name)
 
+-- the identifier is as the definition asks
 abbrev pub identifier_fits : DoctypeRule → Identifier → Bool
 identifier_fits Strict i = is_strict i
 identifier_fits Free i = true

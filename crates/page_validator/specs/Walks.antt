@@ -30,14 +30,16 @@ moved d t state (tok ∷ toks) = then_some (step d t state tok) (λ next. moved 
 
 -- a valid page goes on so
 abbrev pub Ahead : Table → automata.Table → places.Place → State → List ℕ → Type 0
-Ahead d t place state cs = (ps : List Piece) × AreLawful d place ps × (pieces_then ps [] ≡ cs) × (accepts d t state (tokens_then d ps []) ≡ true)
+Ahead d t place state cs = (ps : List Piece) × AreLawful d place ps × (pieces_then ps [] ≡ cs)
+    × (accepts d t state (tokens_then d ps []) ≡ true)
 
 -- the piece stands at the head, before the rest
 abbrev pub Reads : Table → places.Place → List ℕ → Piece → List ℕ → Type 0
 Reads d place cs piece rest = let z : Piece × List ℕ = (piece, rest) in cut_at d place cs ≡ Some z
 
 -- a lawful piece, and the state behind its tokens
-pub record Follows (d : Table) (t : automata.Table) (place : places.Place) (state : State) (cs : List ℕ) (new : State) (next : places.Place) (rest : List ℕ) : Type 0 where
+pub record Follows (d : Table) (t : automata.Table) (place : places.Place) (state : State) (cs : List ℕ) (new : State) (next : places.Place)
+    (rest : List ℕ) : Type 0 where
   pub piece : Piece
   pub cut : Reads d place cs piece rest
   pub place_is : next ≡ after place piece
@@ -46,8 +48,10 @@ pub record Follows (d : Table) (t : automata.Table) (place : places.Place) (stat
 -- no lawful piece, or one whose tokens may not stand there
 pub data IsStuck (d : Table) (t : automata.Table) (place : places.Place) (state : State) (cs : List ℕ) : Type 0 where
   no_piece : cut_at d place cs ≡ None → IsStuck d t place state cs
-  no_move : (piece : Piece) (rest : List ℕ) → Reads d place cs piece rest → moved d t state (piece_tokens d piece) ≡ None → IsStuck d t place state cs
+  no_move : (piece : Piece) (rest : List ℕ) → Reads d place cs piece rest → moved d t state (piece_tokens d piece) ≡ None
+      → IsStuck d t place state cs
 
+-- a step of the pass: none exactly where it is stuck
 abbrev pub IsNext : Table → automata.Table → places.Place → State → List ℕ → State → Option (Place × Bor (List ℕ)) → Type 0
 IsNext d t place state cs new None = IsStuck d t place state cs
 IsNext d t place state cs new (Some z) = Follows d t place state cs new (place_of z.0) z.1.now

@@ -13,5 +13,6 @@ bytes_for Url b = url_of_byte b
 bytes_for RawUrl b = raw_url_of_byte b
 bytes_for Slashes b = slashes_of_byte b
 
+-- a text with each byte written as what stands for it
 abbrev pub encoded : Encoding → List ℕ → List ℕ
 encoded encoding text = flat_map (bytes_for encoding) text

@@ -5,6 +5,7 @@ use Rattle.plain_values.specs.declared.numeric.Numeric.TheVariants.{Integer, Flo
 use Rattle.plain_values.specs.declared.fault.Fault.{Fault}
 use Rattle.plain_values.specs.declared.fault.Fault.TheVariants as fault
 
+-- the integer, where it is one within 64 bits; all else is a fault, that of a float
 abbrev pub outcome : Numeric → Result ℤ Fault
 outcome (Integer z) = Ok z
 outcome Float = Err fault.Float

@@ -23,10 +23,12 @@ abbrev pub maybe_keys : Option (Vec PartKey Global × ℕ) → Option (List Plai
 maybe_keys None = None
 maybe_keys (Some keys) = Some (map plain_key keys.0.items, keys.1)
 
+-- the plain form of what a template stands in
 abbrev pub enclosure_of : Enclosure → texts.Enclosure
 enclosure_of Quotes = texts.quotes
 enclosure_of Lines = texts.lines
 
+-- the plain form of what one place of a template gives
 abbrev pub unit_of : TextUnit → texts.Unit_of
 unit_of (Byte b) = texts.byte b
 unit_of (Reads name keys) = texts.reads name (map plain_key keys.items)
@@ -37,6 +39,7 @@ parts_row (rows.whole units n) = rows.whole (texts.parts_of units) n
 parts_row (rows.broken n) = rows.broken n
 parts_row rows.endless = rows.endless
 
+-- the plain form of a row of parts
 abbrev pub plain_row : TextRow → rows.Row PlainPart
 plain_row (Whole parts n) = rows.whole (map plain_part_of parts.items) n
 plain_row (Broken n) = rows.broken n
@@ -64,6 +67,7 @@ abbrev pub parts_with : List PlainPart → List ℕ → texts.Unit_of → List P
 parts_with parts plain (texts.byte b) = parts
 parts_with parts plain (texts.reads name keys) = (parts ++ bytes_part plain) ++ read_part name keys ∷ []
 
+-- the bytes behind the last read of a variable, with one unit more: a read leaves none
 abbrev pub plain_with : List ℕ → texts.Unit_of → List ℕ
 plain_with plain (texts.byte b) = plain ++ b ∷ []
 plain_with plain (texts.reads name keys) = []

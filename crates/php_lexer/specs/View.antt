@@ -8,6 +8,7 @@ use Rattle.php_lexer.specs.declared.step.Mode.TheVariants.{Outside, Inside}
 use Rattle.php_lexer.specs.declared.step.Step.{Step}
 use Rattle.php_lexer.specs.declared.step.Step.TheVariants.{Goes, Refuses}
 
+-- the plain form of whether the lexer is inside PHP or outside
 abbrev pub mode_of : Mode → syntax.Mode
 mode_of Outside = syntax.outside
 mode_of Inside = syntax.inside

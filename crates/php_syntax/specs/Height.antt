@@ -4,6 +4,7 @@ use Rattle.std.specs.Prelude.{ℕ, ◌+◌, max, List, [], ◌∷◌}
 use Rattle.php_syntax.specs.Trees.{PlainExpr, null_expr, flag_expr, int_expr, text_expr, var_expr, super_expr, member_expr, array_expr, join_expr, neg_expr, not_expr, arith_expr, compare_expr, and_expr, or_expr, coalesce_expr, choice_expr, isset_expr, empty_expr, assign_expr, update_expr, step_expr, call_expr, MaybeExpr, no_expr, some_expr, PlainExprs, no_exprs, more_exprs, PlainItems, no_items, more_items, PlainPath, no_keys, more_keys, PlainStmt, inline_stmt, echo_stmt, run_stmt, if_stmt, while_stmt, do_while_stmt, for_stmt, each_stmt, break_stmt, continue_stmt, return_stmt, include_stmt, quit_stmt, PlainStmts, no_stmts, more_stmts, PlainArms, no_arms, more_arms, PlainParam, PlainFunction, PlainFile}
 
 unfoldable mutual
+  -- the height of an expression; a target is a node between an assignment and its keys
   pub height : PlainExpr → ℕ
   height null_expr = 1
   height (flag_expr b) = 1
@@ -29,23 +30,28 @@ unfoldable mutual
   height (step_expr x up before) = 1
   height (call_expr f es) = 1 + exprs_height es
 
+  -- the height of an expression that may be left out, 0 where it is
   pub maybe_height : MaybeExpr → ℕ
   maybe_height no_expr = 0
   maybe_height (some_expr e) = height e
 
+  -- the height of the highest expression of a row, 0 where there is none
   pub exprs_height : PlainExprs → ℕ
   exprs_height no_exprs = 0
   exprs_height (more_exprs e es) = max (height e) (exprs_height es)
 
+  -- the height of the highest key or value among items, 0 where there is none
   pub items_height : PlainItems → ℕ
   items_height no_items = 0
   items_height (more_items k e is) = max (maybe_height k) (max (height e) (items_height is))
 
+  -- the height of the highest key of a path, 0 where there is none
   pub path_height : PlainPath → ℕ
   path_height no_keys = 0
   path_height (more_keys k ks) = max (maybe_height k) (path_height ks)
 
 unfoldable mutual
+  -- the height of a statement
   pub stmt_height : PlainStmt → ℕ
   stmt_height (inline_stmt t) = 1
   stmt_height (echo_stmt es) = 1 + exprs_height es
@@ -61,26 +67,32 @@ unfoldable mutual
   stmt_height (include_stmt t) = 1
   stmt_height (quit_stmt e) = 1 + maybe_height e
 
+  -- the height of the highest statement of a row, 0 where there is none
   pub stmts_height : PlainStmts → ℕ
   stmts_height no_stmts = 0
   stmts_height (more_stmts s ss) = max (stmt_height s) (stmts_height ss)
 
+  -- the height of the highest condition or statement in the arms of an `if`, 0 where there is no arm
   pub arms_height : PlainArms → ℕ
   arms_height no_arms = 0
   arms_height (more_arms e ss a) = max (height e) (max (stmts_height ss) (arms_height a))
 
+-- the height of the highest parameter: 1 without a default, and else one more than that of the default; 0 where there is none
 abbrev pub params_height : List PlainParam → ℕ
 params_height [] = 0
 params_height (p ∷ ps) = max (1 + maybe_height p.default_of) (params_height ps)
 
+-- the height of the highest function, one more than that of its highest parameter or statement; 0 where there is none
 abbrev pub functions_height : List PlainFunction → ℕ
 functions_height [] = 0
 functions_height (f ∷ fs) = max (1 + max (params_height f.params_of) (stmts_height f.body_of)) (functions_height fs)
 
+-- the height of a file's tree, one more than that of its highest statement or function
 abbrev pub file_height : PlainFile → ℕ
 file_height t = 1 + max (stmts_height t.body_of) (functions_height t.functions_of)
 
 unfoldable mutual
+  -- the nodes of an expression, itself among them
   pub nodes : PlainExpr → ℕ
   nodes null_expr = 1
   nodes (flag_expr b) = 1
@@ -106,23 +118,28 @@ unfoldable mutual
   nodes (step_expr x up before) = 1
   nodes (call_expr f es) = 1 + exprs_nodes es
 
+  -- the nodes of an expression that may be left out
   pub maybe_nodes : MaybeExpr → ℕ
   maybe_nodes no_expr = 0
   maybe_nodes (some_expr e) = nodes e
 
+  -- the nodes of expressions in a row
   pub exprs_nodes : PlainExprs → ℕ
   exprs_nodes no_exprs = 0
   exprs_nodes (more_exprs e es) = nodes e + exprs_nodes es
 
+  -- the nodes of the keys and the values of items
   pub items_nodes : PlainItems → ℕ
   items_nodes no_items = 0
   items_nodes (more_items k e is) = maybe_nodes k + nodes e + items_nodes is
 
+  -- the nodes of the keys of a path
   pub path_nodes : PlainPath → ℕ
   path_nodes no_keys = 0
   path_nodes (more_keys k ks) = maybe_nodes k + path_nodes ks
 
 unfoldable mutual
+  -- the nodes of a statement, itself among them
   pub stmt_nodes : PlainStmt → ℕ
   stmt_nodes (inline_stmt t) = 1
   stmt_nodes (echo_stmt es) = 1 + exprs_nodes es
@@ -138,21 +155,26 @@ unfoldable mutual
   stmt_nodes (include_stmt t) = 1
   stmt_nodes (quit_stmt e) = 1 + maybe_nodes e
 
+  -- the nodes of statements in a row
   pub stmts_nodes : PlainStmts → ℕ
   stmts_nodes no_stmts = 0
   stmts_nodes (more_stmts s ss) = stmt_nodes s + stmts_nodes ss
 
+  -- the nodes of the conditions and the statements in the arms of an `if`
   pub arms_nodes : PlainArms → ℕ
   arms_nodes no_arms = 0
   arms_nodes (more_arms e ss a) = nodes e + stmts_nodes ss + arms_nodes a
 
+-- the nodes of parameters and their defaults
 abbrev pub params_nodes : List PlainParam → ℕ
 params_nodes [] = 0
 params_nodes (p ∷ ps) = 1 + maybe_nodes p.default_of + params_nodes ps
 
+-- the nodes of functions, of their parameters and of their bodies
 abbrev pub functions_nodes : List PlainFunction → ℕ
 functions_nodes [] = 0
 functions_nodes (f ∷ fs) = 1 + params_nodes f.params_of + stmts_nodes f.body_of + functions_nodes fs
 
+-- the nodes of a file's tree, the file itself among them
 abbrev pub file_nodes : PlainFile → ℕ
 file_nodes t = 1 + stmts_nodes t.body_of + functions_nodes t.functions_of

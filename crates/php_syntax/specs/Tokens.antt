@@ -35,15 +35,18 @@ pub record PlainToken : Type 0 where
   pub kind : PlainKind
   pub at : ℕ
 
+-- the plain form of a key in a template
 abbrev pub plain_key : PartKey → PlainKey
 plain_key (keys.Text t) = text_key t
 plain_key (keys.Int z) = int_key z
 plain_key (keys.Var x) = var_key x
 
+-- the plain form of a part of a template
 abbrev pub plain_part_of : Part → PlainPart
 plain_part_of (Plain t) = plain_part t
 plain_part_of (Read x ks) = read_part x (map plain_key ks.items)
 
+-- the plain form of what a token is
 abbrev pub plain_kind : TokenKind → PlainKind
 plain_kind (Inline t) = inline t
 plain_kind (Var x) = variable x
@@ -53,6 +56,7 @@ plain_kind (Str t) = text t
 plain_kind (Template ps) = template (map plain_part_of ps.items)
 plain_kind (Sign s) = sign s
 
+-- the plain form of a token
 abbrev pub plain_token : Token → PlainToken
 plain_token t = record { kind = plain_kind t.kind; at = t.at }
 

@@ -43,10 +43,12 @@ mutual
     step_expr : List ℕ → Bool → Bool → PlainExpr
     call_expr : List ℕ → PlainExprs → PlainExpr
 
+  -- an expression that may be left out
   pub data MaybeExpr : Type 0 where
     no_expr : MaybeExpr
     some_expr : PlainExpr → MaybeExpr
 
+  -- expressions in a row
   pub data PlainExprs : Type 0 where
     no_exprs : PlainExprs
     more_exprs : PlainExpr → PlainExprs → PlainExprs
@@ -80,6 +82,7 @@ mutual
     -- the end of the run, with what is printed before it, if anything is
     quit_stmt : MaybeExpr → PlainStmt
 
+  -- statements in a row
   pub data PlainStmts : Type 0 where
     no_stmts : PlainStmts
     more_stmts : PlainStmt → PlainStmts → PlainStmts
@@ -94,6 +97,7 @@ pub record PlainParam : Type 0 where
   pub name_of : List ℕ
   pub default_of : MaybeExpr
 
+-- a function: its name, its parameters in order, and its body
 pub record PlainFunction : Type 0 where
   pub name_of : List ℕ
   pub params_of : List PlainParam
@@ -105,6 +109,7 @@ pub record PlainFile : Type 0 where
   pub functions_of : List PlainFunction
 
 unfoldable mutual
+  -- the plain form of an expression
   pub plain_expr : Expr → PlainExpr
   plain_expr Null = null_expr
   plain_expr (Flag b) = flag_expr b
@@ -130,22 +135,27 @@ unfoldable mutual
   plain_expr (Step x up before) = step_expr x up before
   plain_expr (Call' f shape args) = call_expr f (plain_row args)
 
+  -- the plain form of an expression that may be left out, in an array literal or a path
   pub plain_held : Held-Expr-ArrayOf-0-1 → MaybeExpr
   plain_held Expr-ArrayOf-0-1-None' = no_expr
   plain_held (Expr-ArrayOf-0-1-Some' e) = some_expr (plain_expr e)
 
+  -- the plain form of the middle of a choice, which may be left out
   pub plain_boxed : Held-Expr-Choice-1 → MaybeExpr
   plain_boxed Expr-Choice-1-None' = no_expr
   plain_boxed (Expr-Choice-1-Some' p e) = some_expr (plain_expr e)
 
+  -- the plain form of the items of an array literal, in their order
   pub plain_items : {n : _} → Row_of-Expr-ArrayOf-0-3 n → PlainItems
   plain_items end_of-Expr-ArrayOf-0-3 = no_items
   plain_items (more_of-Expr-ArrayOf-0-3 key value rest) = more_items (plain_held key) (plain_expr value) (plain_items rest)
 
+  -- the plain form of expressions, in their order
   pub plain_row : {n : _} → Row_of-Expr n → PlainExprs
   plain_row end_of-Expr = no_exprs
   plain_row (more_of-Expr e rest) = more_exprs (plain_expr e) (plain_row rest)
 
+  -- the plain form of the keys of a target, in their order
   pub plain_keys : {n : _} → Row_of-Target-path-1 n → PlainPath
   plain_keys end_of-Target-path-1 = no_keys
   plain_keys (more_of-Target-path-1 key rest) = more_keys (plain_held key) (plain_keys rest)
@@ -155,18 +165,22 @@ abbrev pub exprs_of : List Expr → PlainExprs
 exprs_of [] = no_exprs
 exprs_of (e ∷ es) = more_exprs (plain_expr e) (exprs_of es)
 
+-- an expression that may be left out
 abbrev pub maybe_of : Option Expr → MaybeExpr
 maybe_of None = no_expr
 maybe_of (Some e) = some_expr (plain_expr e)
 
+-- the same, where the expression stands in a box
 abbrev pub boxed_of : Option (Box Expr Global) → MaybeExpr
 boxed_of None = no_expr
 boxed_of (Some e) = some_expr (plain_expr e.value)
 
+-- the items of an array literal, as a vector shows them
 abbrev pub items_of : List (Option Expr × Expr) → PlainItems
 items_of [] = no_items
 items_of (e ∷ es) = more_items (maybe_of e.0) (plain_expr e.1) (items_of es)
 
+-- the keys of a target, as a vector shows them
 abbrev pub path_of : List (Option Expr) → PlainPath
 path_of [] = no_keys
 path_of (k ∷ ks) = more_keys (maybe_of k) (path_of ks)
@@ -175,10 +189,12 @@ path_of (k ∷ ks) = more_keys (maybe_of k) (path_of ks)
 abbrev pub target_name : Target → List ℕ
 target_name t = (out-Target t).name
 
+-- the path of keys of a target, the outermost first
 abbrev pub target_path : Target → PlainPath
 target_path t = path_of (out-Target t).path.items
 
 unfoldable mutual
+  -- the plain form of a statement
   pub plain_stmt : Stmt → PlainStmt
   plain_stmt (Inline t) = inline_stmt t
   plain_stmt (Echo es) = echo_stmt (exprs_of es.items)
@@ -186,7 +202,8 @@ unfoldable mutual
   plain_stmt (If' arms_shape arms shape body) = if_stmt (plain_arms arms) (plain_stmts body)
   plain_stmt (While' e shape body) = while_stmt (plain_expr e) (plain_stmts body)
   plain_stmt (DoWhile' shape body e) = do_while_stmt (plain_stmts body) (plain_expr e)
-  plain_stmt (For' begin condition next shape body) = for_stmt (exprs_of begin.items) (maybe_of condition) (exprs_of next.items) (plain_stmts body)
+  plain_stmt (For' begin condition next shape body) =
+      for_stmt (exprs_of begin.items) (maybe_of condition) (exprs_of next.items) (plain_stmts body)
   plain_stmt (Each' e key value shape body) = each_stmt (plain_expr e) key value (plain_stmts body)
   plain_stmt Break = break_stmt
   plain_stmt Continue = continue_stmt
@@ -194,10 +211,12 @@ unfoldable mutual
   plain_stmt (Include t) = include_stmt t
   plain_stmt (Quit e) = quit_stmt (maybe_of e)
 
+  -- the plain form of statements, in their order
   pub plain_stmts : {n : _} → Row_of-Stmt n → PlainStmts
   plain_stmts end_of-Stmt = no_stmts
   plain_stmts (more_of-Stmt s rest) = more_stmts (plain_stmt s) (plain_stmts rest)
 
+  -- the plain form of the arms of an `if`, in their order
   pub plain_arms : {n : _} → Row_of-Stmt-If-0-3 n → PlainArms
   plain_arms end_of-Stmt-If-0-3 = no_arms
   plain_arms (more_of-Stmt-If-0-3 e shape body rest) = more_arms (plain_expr e) (plain_stmts body) (plain_arms rest)
@@ -212,19 +231,24 @@ abbrev pub arms_of : List (Expr × Vec Stmt Global) → PlainArms
 arms_of [] = no_arms
 arms_of (a ∷ rest) = more_arms (plain_expr a.0) (stmts_of a.1.items) (arms_of rest)
 
+-- the plain form of a parameter
 abbrev pub plain_param : Param → PlainParam
 plain_param p = record { name_of = p.name; default_of = maybe_of p.default }
 
+-- a list of parameters, as a vector shows it
 abbrev pub params_of_list : List Param → List PlainParam
 params_of_list [] = []
 params_of_list (p ∷ ps) = plain_param p ∷ params_of_list ps
 
+-- the plain form of a function
 abbrev pub plain_function : FunctionDef → PlainFunction
 plain_function f = record { name_of = f.name; params_of = params_of_list f.params.items; body_of = stmts_of f.body.items }
 
+-- a list of functions, as a vector shows it
 abbrev pub functions_of_list : List FunctionDef → List PlainFunction
 functions_of_list [] = []
 functions_of_list (f ∷ fs) = plain_function f ∷ functions_of_list fs
 
+-- the plain form of the tree of a file
 abbrev pub plain_file : FileTree → PlainFile
 plain_file t = record { body_of = stmts_of t.body.items; functions_of = functions_of_list t.functions.items }

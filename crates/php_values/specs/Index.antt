@@ -10,6 +10,7 @@ use Rattle.php_values.specs.declared.key.Key.{Key}
 use Rattle.php_values.specs.declared.array.Value.{Value}
 use Rattle.php_values.specs.contracts.key.KeyOrd.TheImpl as key_order
 
+-- the place behind this one, if there is one
 abbrev pub one_later : Option ℕ → Option ℕ
 one_later None = None
 one_later (Some i) = Some (suc i)
@@ -29,6 +30,7 @@ pub record HasDeepest (deep many : ℕ) (pairs : List (Key × Value)) : Type 0 w
   pub is_depth : deep ≡ deepest (pairs_of pairs)
   pub is_count : many ≡ how_many deep pairs
 
+-- the index has each key's place; the keys are distinct; the largest integer key, the depth, below 1000, and how many are so deep are right
 pub record IsIndexed (pairs : List (Key × Value)) (places : BTreeMap Key ℕ) (largest : Option ℤ) (deep many : ℕ) : Type 0 where
   pub indexed : (k : Key) → tree.get key_order.ghosts.cmp places k ≡ place (keys (pairs_of pairs)) (plain_key k)
   pub next : largest ≡ largest_key (pairs_of pairs)

@@ -29,6 +29,7 @@ abbrev pub plain_step : Option Key → Option PlainKey
 plain_step None = None
 plain_step (Some k) = Some (plain_key k)
 
+-- the plain form of a path, step by step
 abbrev pub plain_path : List (Option Key) → List (Option PlainKey)
 plain_path [] = []
 plain_path (s ∷ ss) = plain_step s ∷ plain_path ss

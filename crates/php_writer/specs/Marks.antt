@@ -1,4 +1,5 @@
--- What a writer of scripts writes: marks, each of one token, or of bytes outside PHP with the tags round them; and their bytes, with a space behind each token.
+-- What a writer of scripts writes: marks, each of one token, or of bytes outside PHP with the tags round them; and their bytes, with a
+-- space behind each token.
 use Rattle.std.specs.Prelude.{◌≡◌, ℕ, ℤ, pos, List, [], ◌∷◌, ◌++◌, codes}
 use Rattle.std.specs.Fmt.{decimal}
 use Rattle.php_syntax.specs.declared.token.Sign.{Sign}
@@ -81,7 +82,8 @@ keys_spelling (text_key t ∷ ks) = 91 ∷ 39 ∷ (quoted t ++ 93 ∷ keys_spell
 keys_spelling (int_key z ∷ ks) = 91 ∷ (digits_of z ++ 93 ∷ keys_spelling ks)
 keys_spelling (var_key x ∷ ks) = 91 ∷ 36 ∷ (x ++ 93 ∷ keys_spelling ks)
 
--- The bytes of a mark and a space, before the bytes behind it. The line end behind the tag that leaves PHP is no part of what stands outside.
+-- The bytes of a mark and a space, before the bytes behind it. The line end behind the tag that leaves PHP is no part of what stands
+-- outside.
 abbrev pub written : Mark → List ℕ → List ℕ
 written (keyword k) rest = keyword_spelling k ++ 32 ∷ rest
 written (name w) rest = w ++ 32 ∷ rest

@@ -60,6 +60,7 @@ are_parts (more_exprs e (more_exprs f es)) = true
 
 -- expressions and lists of them
 unfoldable mutual
+  -- whether an expression can be written: its names are names, its integers in range, and rows that may not be empty are not
   pub expr_spellable : PlainExpr → Bool
   expr_spellable null_expr = true
   expr_spellable (flag_expr b) = true
@@ -85,18 +86,22 @@ unfoldable mutual
   expr_spellable (step_expr x up before) = is_name x
   expr_spellable (call_expr f es) = is_call_name f && exprs_spellable es
 
+  -- whether an expression can be written, if there is one
   pub maybe_spellable : MaybeExpr → Bool
   maybe_spellable no_expr = true
   maybe_spellable (some_expr e) = expr_spellable e
 
+  -- whether each of the expressions can be written
   pub exprs_spellable : PlainExprs → Bool
   exprs_spellable no_exprs = true
   exprs_spellable (more_exprs e es) = expr_spellable e && exprs_spellable es
 
+  -- whether each key and each value of the items can be written
   pub items_spellable : PlainItems → Bool
   items_spellable no_items = true
   items_spellable (more_items k e is) = maybe_spellable k && (expr_spellable e && items_spellable is)
 
+  -- whether each key of a target can be written
   pub path_spellable : PlainPath → Bool
   path_spellable no_keys = true
   path_spellable (more_keys k ks) = maybe_spellable k && path_spellable ks
@@ -123,6 +128,7 @@ is_printed (some_expr e) = not (is_status e)
 
 -- statements, lists of them, and arms
 unfoldable mutual
+  -- whether a statement can be written
   pub stmt_spellable : PlainStmt → Bool
   stmt_spellable (inline_stmt t) = is_inline t
   stmt_spellable (echo_stmt es) = is_some_exprs es && exprs_spellable es
@@ -138,10 +144,12 @@ unfoldable mutual
   stmt_spellable (include_stmt t) = true
   stmt_spellable (quit_stmt e) = is_printed e && maybe_spellable e
 
+  -- whether each of the statements can be written
   pub stmts_spellable : PlainStmts → Bool
   stmts_spellable no_stmts = true
   stmts_spellable (more_stmts s ss) = stmt_spellable s && stmts_spellable ss
 
+  -- whether each condition and each statement in the arms of an `if` can be written
   pub arms_spellable : PlainArms → Bool
   arms_spellable no_arms = true
   arms_spellable (more_arms e ss a) = expr_spellable e && (stmts_spellable ss && arms_spellable a)
@@ -173,7 +181,8 @@ params_spellable (p ∷ ps) = is_name p.name_of && (is_default p.default_of && p
 -- functions
 abbrev pub functions_spellable : List PlainFunction → Bool
 functions_spellable [] = true
-functions_spellable (f ∷ fs) = is_call_name f.name_of && (params_spellable f.params_of && (stmts_spellable f.body_of && functions_spellable fs))
+functions_spellable (f ∷ fs) =
+    is_call_name f.name_of && (params_spellable f.params_of && (stmts_spellable f.body_of && functions_spellable fs))
 
 -- a tree of a file that some file spells
 abbrev pub is_spellable : PlainFile → Bool

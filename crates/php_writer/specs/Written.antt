@@ -1,4 +1,5 @@
--- The marks that a tree is written with, before those behind it. Round brackets stand around an operand just where it is looser than its place allows.
+-- The marks that a tree is written with, before those behind it. Round brackets stand around an operand just where it is looser than its
+-- place allows.
 use Rattle.std.specs.Prelude.{ℕ, ◌+◌, ℤ, pos, negsuc, Bool, true, false, nat_lt, if◌then◌else◌, List, [], ◌∷◌, Option, Some, None}
 use Rattle.php_syntax.specs.declared.token.Sign.{Sign}
 use Rattle.php_syntax.specs.declared.token.Sign.TheVariants as signs
@@ -60,16 +61,19 @@ unfoldable pub int_mark : ℤ → Mark
 int_mark (pos n) = integer n
 int_mark (negsuc n) = keyword word.PhpIntMin
 
--- the level of an operation, and how loose its place is: two more than the rank of its level, since what takes subscripts and other operands stand below
+-- the level of an operation, and how loose its place is: two more than the rank of its level, since what takes subscripts and other
+-- operands stand below
 abbrev pub level_looseness : Level → ℕ
 level_looseness l = 2 + level_rank l
 
+-- the level of an operation: that of sums for `+` and `-`, that of products for `*` and `%`
 abbrev pub arith_level : ArithSign → Level
 arith_level arith.Add = level.Sum
 arith_level arith.Sub = level.Sum
 arith_level arith.Mul = level.Product
 arith_level arith.Rem = level.Product
 
+-- how loose an operation is
 abbrev pub arith_looseness : ArithSign → ℕ
 arith_looseness s = level_looseness (arith_level s)
 
@@ -81,6 +85,7 @@ compare_level compare.Greater = level.Order
 compare_level compare.GreaterEqual = level.Order
 compare_level _ = level.Equality
 
+-- how loose a comparison is
 abbrev pub compare_looseness : CompareSign → ℕ
 compare_looseness s = level_looseness (compare_level s)
 
@@ -97,7 +102,8 @@ abbrev pub join_looseness : PlainExprs → ℕ
 join_looseness (more_exprs e (more_exprs f es)) = level_looseness level.Join
 join_looseness _ = 1
 
--- How loose an expression is: what takes subscripts 0, then literals, texts and brackets 1, operators before an operand 2, the binary levels
+-- How loose an expression is: what takes subscripts 0, then literals, texts and brackets 1, operators before an operand 2, the binary
+-- levels
 -- 3 to 9, `??` 10, `?:` 11 and assignments 12.
 abbrev pub looseness : PlainExpr → ℕ
 looseness (var_expr x) = 0
@@ -143,6 +149,7 @@ read_keys _ ks = ks
 
 -- expressions and lists of them
 unfoldable mutual
+  -- the marks of an expression
   pub expr_marks : PlainExpr → List Mark → List Mark
   expr_marks null_expr r = keyword word.Null ∷ r
   expr_marks (flag_expr b) r = keyword (flag_word b) ∷ r
@@ -150,17 +157,22 @@ unfoldable mutual
   expr_marks (text_expr t) r = text t ∷ r
   expr_marks (var_expr x) r = variable x ∷ r
   expr_marks (super_expr s) r = variable (request_name s) ∷ r
-  expr_marks (member_expr a k) r = within 0 (looseness a) (expr_marks a) (sign signs.OpenBracket ∷ expr_marks k (sign signs.CloseBracket ∷ r))
+  expr_marks (member_expr a k) r =
+      within 0 (looseness a) (expr_marks a) (sign signs.OpenBracket ∷ expr_marks k (sign signs.CloseBracket ∷ r))
   expr_marks (array_expr is) r = sign signs.OpenBracket ∷ items_marks is (sign signs.CloseBracket ∷ r)
   expr_marks (join_expr es) r = join_marks es r
   expr_marks (neg_expr a) r = sign signs.Minus ∷ within 2 (looseness a) (expr_marks a) r
   expr_marks (not_expr a) r = sign signs.Not ∷ within 2 (looseness a) (expr_marks a) r
-  expr_marks (arith_expr s a b) r = within (arith_looseness s) (looseness a) (expr_marks a) (sign (arith_sign s) ∷ within (arith_side s) (looseness b) (expr_marks b) r)
-  expr_marks (compare_expr s a b) r = within (compare_side s) (looseness a) (expr_marks a) (sign (compare_sign s) ∷ within (compare_side s) (looseness b) (expr_marks b) r)
+  expr_marks (arith_expr s a b) r =
+      within (arith_looseness s) (looseness a) (expr_marks a) (sign (arith_sign s) ∷ within (arith_side s) (looseness b) (expr_marks b) r)
+  expr_marks (compare_expr s a b) r =
+      within (compare_side s) (looseness a) (expr_marks a) (sign (compare_sign s) ∷ within (compare_side s) (looseness b) (expr_marks b) r)
   expr_marks (and_expr a b) r = within 8 (looseness a) (expr_marks a) (sign signs.And ∷ within 7 (looseness b) (expr_marks b) r)
   expr_marks (or_expr a b) r = within 9 (looseness a) (expr_marks a) (sign signs.Or ∷ within 8 (looseness b) (expr_marks b) r)
   expr_marks (coalesce_expr a b) r = within 9 (looseness a) (expr_marks a) (sign signs.Coalesce ∷ within 10 (looseness b) (expr_marks b) r)
-  expr_marks (choice_expr a m b) r = within 10 (looseness a) (expr_marks a) (sign signs.Question ∷ maybe_marks m (sign signs.Colon ∷ within 10 (looseness b) (expr_marks b) r))
+  expr_marks (choice_expr a m b) r =
+      within 10 (looseness a) (expr_marks a)
+      (sign signs.Question ∷ maybe_marks m (sign signs.Colon ∷ within 10 (looseness b) (expr_marks b) r))
   expr_marks (isset_expr es) r = keyword word.Isset ∷ sign signs.OpenParen ∷ list_marks es (sign signs.CloseParen ∷ r)
   expr_marks (empty_expr a) r = keyword word.Empty ∷ sign signs.OpenParen ∷ expr_marks a (sign signs.CloseParen ∷ r)
   expr_marks (assign_expr x ks e) r = variable x ∷ path_marks ks (sign signs.Assign ∷ expr_marks e r)
@@ -169,6 +181,7 @@ unfoldable mutual
   expr_marks (step_expr x up false) r = variable x ∷ sign (sign_of_step up) ∷ r
   expr_marks (call_expr f es) r = name f ∷ sign signs.OpenParen ∷ list_marks es (sign signs.CloseParen ∷ r)
 
+  -- the marks of an expression that may be left out
   pub maybe_marks : MaybeExpr → List Mark → List Mark
   maybe_marks no_expr r = r
   maybe_marks (some_expr e) r = expr_marks e r
@@ -209,6 +222,7 @@ unfoldable mutual
   key_marks no_expr r = r
   key_marks (some_expr e) r = expr_marks e (sign signs.DoubleArrow ∷ r)
 
+  -- the marks of the keys of a target, each in square brackets
   pub path_marks : PlainPath → List Mark → List Mark
   path_marks no_keys r = r
   path_marks (more_keys k ks) r = sign signs.OpenBracket ∷ maybe_marks k (sign signs.CloseBracket ∷ path_marks ks r)
@@ -243,21 +257,32 @@ variables_marks (Some k) x r = variable k ∷ sign signs.DoubleArrow ∷ variabl
 
 -- statements, lists of them, and arms
 unfoldable mutual
+  -- the marks of a statement; a body stands in braces
   pub stmt_marks : PlainStmt → List Mark → List Mark
   stmt_marks (inline_stmt t) r = outside t ∷ r
   stmt_marks (echo_stmt es) r = keyword word.Echo ∷ list_marks es (sign signs.Semicolon ∷ r)
   stmt_marks (run_stmt e) r = expr_marks e (sign signs.Semicolon ∷ r)
   stmt_marks (if_stmt a ss) r = arms_marks a word.If (else_marks ss r)
-  stmt_marks (while_stmt e ss) r = keyword word.While ∷ condition_marks e (sign signs.OpenBrace ∷ stmts_marks ss (sign signs.CloseBrace ∷ r))
-  stmt_marks (do_while_stmt ss e) r = keyword word.Do ∷ sign signs.OpenBrace ∷ stmts_marks ss (sign signs.CloseBrace ∷ keyword word.While ∷ condition_marks e (sign signs.Semicolon ∷ r))
-  stmt_marks (for_stmt begin e next ss) r = keyword word.For ∷ sign signs.OpenParen ∷ list_marks begin (sign signs.Semicolon ∷ maybe_marks e (sign signs.Semicolon ∷ list_marks next (sign signs.CloseParen ∷ sign signs.OpenBrace ∷ stmts_marks ss (sign signs.CloseBrace ∷ r))))
-  stmt_marks (each_stmt e k x ss) r = keyword word.Foreach ∷ sign signs.OpenParen ∷ expr_marks e (keyword word.As ∷ variables_marks k x (sign signs.CloseParen ∷ sign signs.OpenBrace ∷ stmts_marks ss (sign signs.CloseBrace ∷ r)))
+  stmt_marks (while_stmt e ss) r =
+      keyword word.While ∷ condition_marks e (sign signs.OpenBrace ∷ stmts_marks ss (sign signs.CloseBrace ∷ r))
+  stmt_marks (do_while_stmt ss e) r =
+      keyword word.Do ∷ sign signs.OpenBrace
+      ∷ stmts_marks ss (sign signs.CloseBrace ∷ keyword word.While ∷ condition_marks e (sign signs.Semicolon ∷ r))
+  stmt_marks (for_stmt begin e next ss) r =
+      keyword word.For ∷ sign signs.OpenParen
+      ∷ list_marks begin (sign signs.Semicolon ∷ maybe_marks e (sign signs.Semicolon
+      ∷ list_marks next (sign signs.CloseParen ∷ sign signs.OpenBrace ∷ stmts_marks ss (sign signs.CloseBrace ∷ r))))
+  stmt_marks (each_stmt e k x ss) r =
+      keyword word.Foreach ∷ sign signs.OpenParen
+      ∷ expr_marks e (keyword word.As ∷ variables_marks k x (sign signs.CloseParen ∷ sign signs.OpenBrace
+      ∷ stmts_marks ss (sign signs.CloseBrace ∷ r)))
   stmt_marks break_stmt r = keyword word.Break ∷ sign signs.Semicolon ∷ r
   stmt_marks continue_stmt r = keyword word.Continue ∷ sign signs.Semicolon ∷ r
   stmt_marks (return_stmt e) r = keyword word.Return ∷ maybe_marks e (sign signs.Semicolon ∷ r)
   stmt_marks (include_stmt t) r = keyword word.Include ∷ text t ∷ sign signs.Semicolon ∷ r
   stmt_marks (quit_stmt e) r = keyword word.Exit ∷ argument_marks e (sign signs.Semicolon ∷ r)
 
+  -- the marks of statements, in their order
   pub stmts_marks : PlainStmts → List Mark → List Mark
   stmts_marks no_stmts r = r
   stmts_marks (more_stmts s ss) r = stmt_marks s (stmts_marks ss r)
@@ -265,7 +290,8 @@ unfoldable mutual
   -- the first with this word, and each further with `elseif`
   pub arms_marks : PlainArms → Keyword → List Mark → List Mark
   arms_marks no_arms k r = r
-  arms_marks (more_arms e ss a) k r = keyword k ∷ condition_marks e (sign signs.OpenBrace ∷ stmts_marks ss (sign signs.CloseBrace ∷ arms_marks a word.ElseIf r))
+  arms_marks (more_arms e ss a) k r =
+      keyword k ∷ condition_marks e (sign signs.OpenBrace ∷ stmts_marks ss (sign signs.CloseBrace ∷ arms_marks a word.ElseIf r))
 
   -- no `else` where it is empty
   pub else_marks : PlainStmts → List Mark → List Mark
@@ -294,7 +320,8 @@ params_marks (p ∷ ps) r = param_marks p (more_params_marks ps r)
 -- a function
 abbrev pub function_marks : PlainFunction → List Mark → List Mark
 function_marks f r =
-    keyword word.Function ∷ name f.name_of ∷ sign signs.OpenParen ∷ params_marks f.params_of (sign signs.CloseParen ∷ sign signs.OpenBrace ∷ stmts_marks f.body_of (sign signs.CloseBrace ∷ r))
+    keyword word.Function ∷ name f.name_of ∷ sign signs.OpenParen
+    ∷ params_marks f.params_of (sign signs.CloseParen ∷ sign signs.OpenBrace ∷ stmts_marks f.body_of (sign signs.CloseBrace ∷ r))
 
 -- functions
 abbrev pub functions_marks : List PlainFunction → List Mark → List Mark

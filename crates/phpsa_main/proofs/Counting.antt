@@ -10,8 +10,8 @@ use Rattle.phpsa_tasks.specs.declared.reply.Reply.{Reply}
 use Rattle.phpsa_tasks.specs.declared.reply.Reply.TheVariants as reply
 use Rattle.phpsa_tasks.specs.Tasks.{Task, script_check, page_check, script_making, made_check, script_run, grammar_making, usage, AsksFor}
 use Rattle.phpsa_tasks.specs.Call.{Call, Output, IsUnfailed}
-use Rattle.phpsa_tasks.specs.Counted.{unloaded, ReadsNothing, IsWanting, ReadsFor, TellsFaults, TellsFault, IsCounted}
-use Rattle.phpsa_tasks.specs.Outcomes.{reply_status, reply_text, Does}
+use Rattle.phpsa_tasks.specs.Counted.{uncounted, ReadsNothing, IsWanting, ReadsFor, TellsFaults, TellsFault, IsCounted}
+use Rattle.phpsa_tasks.specs.Results.{reply_status, reply_text, Does}
 use Rattle.phpsa_main.specs.Steps.{Puts, FailsOnOut, WantsMemory, Reports, ReportsRefusal}
 
 abbrev pub OneTask : Type 0
@@ -49,10 +49,10 @@ reply_behind (reply.Halted printed message) out err status (inl (gains, puts)) =
 reply_behind (reply.Halted printed message) out err status (inr w) = unwritten_behind printed out err message.status status w
 
 -- want of memory, and a text for it that could not be written, are among the statuses of a program that is not loaded
-wanting_unloaded : (status : Exit) → IsWanting status → Contains unloaded status
-wanting_unloaded status (zero, less, is) = subst (Contains unloaded) is (4, lit< tt, refl)
-wanting_unloaded status (suc zero, less, is) = subst (Contains unloaded) is (5, lit< tt, refl)
-wanting_unloaded status (suc (suc n), less, is) = let at : suc (suc n) < 2 = less in absurd (omega (arith, at))
+wanting_uncounted : (status : Exit) → IsWanting status → Contains uncounted status
+wanting_uncounted status (zero, less, is) = subst (Contains uncounted) is (4, lit< tt, refl)
+wanting_uncounted status (suc zero, less, is) = subst (Contains uncounted) is (5, lit< tt, refl)
+wanting_uncounted status (suc (suc n), less, is) = let at : suc (suc n) < 2 = less in absurd (omega (arith, at))
 
 abbrev Faults : Exit → Type 0
 Faults status = Contains (ReadFault ∷ WriteFault ∷ Memory ∷ []) status
@@ -70,12 +70,12 @@ once_or files own status wants (inr (none, was)) = inr (none, wants)
 -- what is read for a task
 read_behind : (task : Task) (files : SourceCall) (own status : Exit) → ReadsFor task files own → Behind own status → ReadsFor task files status
 read_behind task files own status read (inl is) = subst (ReadsFor task files) (sym is) read
-read_behind (script_check file d goal limit form) files own status read (inr wants) = λ built_in. inl (wanting_unloaded status wants)
+read_behind (script_check file d goal limit form) files own status read (inr wants) = λ built_in. inl (wanting_uncounted status wants)
 read_behind (page_check file d) files own status read (inr wants) = λ built_in. once_or files own status wants (read built_in)
 read_behind (script_making n) files own status read (inr wants) = read
 read_behind (made_check n) files own status read (inr wants) = read
-read_behind (script_run file request steps) files own status read (inr wants) = inl (wanting_unloaded status wants)
-read_behind (grammar_making file) files own status read (inr wants) = inl (wanting_unloaded status wants)
+read_behind (script_run file request steps) files own status read (inr wants) = inl (wanting_uncounted status wants)
+read_behind (grammar_making file) files own status read (inr wants) = inl (wanting_uncounted status wants)
 read_behind usage files own status read (inr wants) = read
 
 faults_behind : (files : SourceCall) (own status : Exit) → TellsFaults files own → Behind own status → TellsFaults files status
@@ -106,12 +106,12 @@ refused_counts one call task Refusal.Memory status asked does reports out err =
 
 -- no memory was left for the words
 unread : (task : Task) (files : SourceCall) (status : Exit) → ReadsNothing files → IsWanting status → ReadsFor task files status
-unread (script_check file d goal limit form) files status none wants = λ built_in. inl (wanting_unloaded status wants)
+unread (script_check file d goal limit form) files status none wants = λ built_in. inl (wanting_uncounted status wants)
 unread (page_check file d) files status none wants = λ built_in. inr (none, wants)
 unread (script_making n) files status none wants = none
 unread (made_check n) files status none wants = none
-unread (script_run file request steps) files status none wants = inl (wanting_unloaded status wants)
-unread (grammar_making file) files status none wants = inl (wanting_unloaded status wants)
+unread (script_run file request steps) files status none wants = inl (wanting_uncounted status wants)
+unread (grammar_making file) files status none wants = inl (wanting_uncounted status wants)
 unread usage files status none wants = none
 
 is_wanting : (status : Exit) → Behind Memory status → IsWanting status

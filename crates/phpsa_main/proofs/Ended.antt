@@ -12,8 +12,8 @@ use Rattle.phpsa_tasks.specs.declared.reply.Reply.{Reply}
 use Rattle.phpsa_tasks.specs.declared.reply.Reply.TheVariants as reply
 use Rattle.phpsa_tasks.specs.Tasks.{Task, AsksFor}
 use Rattle.phpsa_tasks.specs.Call.{Call, Gains, GainsPrefix, GainsNothing, Fails}
-use Rattle.phpsa_tasks.specs.Outcomes.{Does}
-use Rattle.phpsa_tasks.specs.Endings.{OwesReply, OwesRefusal, of_task, wants_memory, OwesHalt, IsDueOnOut, KeepsOut, Ends, replied, refused, halted, by_out, by_err, no_memory}
+use Rattle.phpsa_tasks.specs.Results.{Does}
+use Rattle.phpsa_tasks.specs.Endings.{OwesReply, OwesRefusal, of_task, wants_memory, OwesHalt, IsDueOnOut, LeavesOut, at_refusal, at_halt, at_want, Ends, replied, refused, halted, by_out, by_err, no_memory}
 use Rattle.phpsa_main.specs.Steps.{Puts, FailsOnOut, WantsMemory, Reports, ReportsRefusal}
 
 -- a whole text is a prefix of itself
@@ -21,38 +21,38 @@ whole : (old new : Option (List ℕ)) (text : List ℕ) → Appends old new text
 whole old new text h = (length text, omega arith, subst (λ bytes. Appends old new bytes) (sym (take-length text)) h)
 
 -- `err` failed, or found no memory
-failed_as : (call : Call) (own status : Exit) (text : List ℕ) → OwesRefusal call own text → KeepsOut call → status ≡ WriteFault → Fails call.err → GainsPrefix call.err text → Ends call status
-failed_as call own status text owed out is failed err = by_err is (record { text = text; due = (own, inl owed); failed = failed; out = out; err = err })
+failed_as : (call : Call) (status : Exit) (text : List ℕ) → LeavesOut call text → status ≡ WriteFault → Fails call.err → GainsPrefix call.err text → Ends call status
+failed_as call status text left is failed err = by_err is (record { text = text; left = left; failed = failed; err = err })
 
-wanting : (call : Call) (own status : Exit) (text : List ℕ) → OwesRefusal call own text → KeepsOut call → status ≡ Memory → GainsPrefix call.err text → Ends call status
-wanting call own status text owed out is err = no_memory is (record { text = text; due = (own, inl owed); out = out; err = err })
+wanting : (call : Call) (status : Exit) (text : List ℕ) → LeavesOut call text → status ≡ Memory → GainsPrefix call.err text → Ends call status
+wanting call status text left is err = no_memory is (record { text = text; left = left; err = err })
 
 -- a refusal was put on `err`, and nothing on `out`
 put_as : (call : Call) (own status : Exit) (text : List ℕ) → OwesRefusal call own text → GainsNothing call.out → Puts call.err text own status → Ends call status
 put_as call own status text owed out (inl (is, gains)) =
     refused (record { text = text; owed = subst (λ (s : Exit). OwesRefusal call s text) (sym is) owed; out = out; err = gains })
-put_as call own status text owed out (inr (inl (is, failed, prefix))) = failed_as call own status text owed (inl out) is failed prefix
-put_as call own status text owed out (inr (inr (is, prefix))) = wanting call own status text owed (inl out) is prefix
+put_as call own status text owed out (inr (inl (is, failed, prefix))) = failed_as call status text (at_refusal own owed out) is failed prefix
+put_as call own status text owed out (inr (inr (is, prefix))) = wanting call status text (at_refusal own owed out) is prefix
 
 -- want of memory, where `out` may have a prefix of a reply
-memory_as : (call : Call) (status : Exit) → KeepsOut call → Puts call.err memory_text Memory status → Ends call status
-memory_as call status out (inl (is, gains)) = wanting call Memory status memory_text (wants_memory refl refl) out is (whole _ _ _ gains)
-memory_as call status out (inr (inl (is, failed, prefix))) = failed_as call Memory status memory_text (wants_memory refl refl) out is failed prefix
-memory_as call status out (inr (inr (is, prefix))) = wanting call Memory status memory_text (wants_memory refl refl) out is prefix
+memory_as : (call : Call) (status : Exit) → LeavesOut call memory_text → Puts call.err memory_text Memory status → Ends call status
+memory_as call status left (inl (is, gains)) = wanting call status memory_text left is (whole _ _ _ gains)
+memory_as call status left (inr (inl (is, failed, prefix))) = failed_as call status memory_text left is failed prefix
+memory_as call status left (inr (inr (is, prefix))) = wanting call status memory_text left is prefix
 
 pub wanting_ends : (call : Call) (status : Exit) → GainsNothing call.out → ReportsRefusal Refusal.Memory call.err status → Ends call status
-wanting_ends call status out puts = memory_as call status (inl out) puts
+wanting_ends call status out puts = memory_as call status (at_refusal Memory (wants_memory refl refl) out) puts
 
 -- the task is refused
 pub refused_ends : (call : Call) (task : Task) (refusal : Refusal) (status : Exit) → AsksFor call.words task → Does call.files task (Err refusal) → GainsNothing call.out
     → ReportsRefusal refusal call.err status → Ends call status
 refused_ends call task (Refusal.Told message) status asked does out puts = put_as call message.status status message.text (of_task task asked does.due) out puts
-refused_ends call task Refusal.Memory status asked does out puts = memory_as call status (inl out) puts
+refused_ends call task Refusal.Memory status asked does out puts = wanting_ends call status out puts
 
 -- a text that is due on `out` could not be written there
 unwritten : (call : Call) (text : List ℕ) (status : Exit) → IsDueOnOut call text → FailsOnOut text call.out call.err status ⊎ WantsMemory text call.out call.err status → Ends call status
 unwritten call text status due (inl w) = by_out w.status_is (record { text = text; due = due; failed = w.failed; out = w.out_gains; err = w.err_gains })
-unwritten call text status due (inr w) = memory_as call status (inr (inl (text, due, w.out_gains))) w.err_puts
+unwritten call text status due (inr w) = memory_as call status (at_want text refl due w.out_gains) w.err_puts
 
 -- the task has a reply
 whole_ends : (call : Call) (own status : Exit) (text : List ℕ) → OwesReply call own text → Gains call.out text → status ≡ own → GainsNothing call.err → Ends call status
@@ -64,9 +64,9 @@ halted_ends : (call : Call) (own status : Exit) (printed text : List ℕ) → Ow
 halted_ends call own status printed text owed gains (inl (is, told)) =
     halted (record { printed = printed; text = text; owed = subst (λ (s : Exit). OwesHalt call s printed text) (sym is) owed; out = gains; err = told })
 halted_ends call own status printed text owed gains (inr (inl (is, failed, prefix))) =
-    by_err is (record { text = text; due = (own, inr (printed, owed)); failed = failed; out = inr (inr (own, printed, text, owed, gains)); err = prefix })
+    failed_as call status text (at_halt own printed owed gains) is failed prefix
 halted_ends call own status printed text owed gains (inr (inr (is, prefix))) =
-    no_memory is (record { text = text; due = (own, inr (printed, owed)); out = inr (inr (own, printed, text, owed, gains)); err = prefix })
+    wanting call status text (at_halt own printed owed gains) is prefix
 
 pub replied_ends : (call : Call) (task : Task) (own : Reply) (status : Exit) → AsksFor call.words task → Does call.files task (Ok own)
     → Reports own call.out call.err status → Ends call status

@@ -1,6 +1,7 @@
 -- What the parts of the commands find that ask for a program alone makes what doing the task comes to.
 use Rattle.std.proofs.Common.{◌≡◌, ◌∙◌, ℕ, List, Contains, Option, None, Some, inl, inr, refl, sym, subst, lit<}
 use Rattle.std.specs.Prelude.{◌⊎◌, Result, Ok, Err}
+use Rattle.io_edge.specs.Counts.{one_more}
 use Rattle.io_edge.specs.Told.{Tells}
 use Rattle.io_edge.specs.Reasons.{HasReason}
 use Rattle.io_edge.specs.declared.files.FileFault.{FileFault}
@@ -24,11 +25,11 @@ use Rattle.phpsa_tasks.specs.declared.reply.Reply.{Reply}
 use Rattle.phpsa_tasks.specs.declared.reply.Reply.TheVariants as reply
 use Rattle.phpsa_tasks.specs.Tasks.{script_run, grammar_making}
 use Rattle.phpsa_tasks.specs.Requests.{unread, no_request_in, RefusesRequest}
-use Rattle.phpsa_tasks.specs.Counted.{unloaded, ReadsItsFiles, ReadsForRun}
-use Rattle.phpsa_tasks.specs.Outcomes.{Outcome, Does}
+use Rattle.phpsa_tasks.specs.Counted.{uncounted, ReadsItsFiles, ReadsForRun}
+use Rattle.phpsa_tasks.specs.Results.{TaskResult, Does}
 use Rattle.phpsa_tasks.proofs.Faults.{told_faults, wanted_faults}
 use Rattle.phpsa_main.specs.Loaded.{ReadsRequest, HasRequest, IsReplyOfRun, HasGrammarReply}
-use Rattle.phpsa_main.proofs.ScriptParts.{load_unloaded, load_faults}
+use Rattle.phpsa_main.proofs.ScriptParts.{load_uncounted, load_faults}
 
 -- what was loaded read its files
 own_files : (files : SourceCall) (file : List ℕ) (program : PlainProgram) → Loads files file program → ReadsItsFiles files file
@@ -47,7 +48,7 @@ pub unloaded_grammar : (files : SourceCall) (file : List ℕ) (cause : LoadRefus
     → IsTold refusal (load_status cause) (load_text cause) → Does files (grammar_making file) (Err refusal)
 unloaded_grammar files file cause (Refusal.Told message) why (status_is, text_is) = record {
   due = inl (cause, why, status_is, text_is);
-  read = inl (subst (Contains unloaded) (sym status_is) (load_unloaded cause));
+  read = inl (subst (Contains uncounted) (sym status_is) (load_uncounted cause));
   faults = told_faults files (load_status cause) message.status status_is (load_faults files file cause why);
 }
 unloaded_grammar files file cause Refusal.Memory why says = wanting_grammar files file
@@ -56,14 +57,14 @@ pub unloaded_run : (files : SourceCall) (file : List ℕ) (request : Option (Lis
     → IsTold refusal (load_status cause) (load_text cause) → Does files (script_run file request steps) (Err refusal)
 unloaded_run files file request steps cause (Refusal.Told message) why (status_is, text_is) = record {
   due = inl (cause, why, status_is, text_is);
-  read = inl (subst (Contains unloaded) (sym status_is) (load_unloaded cause));
+  read = inl (subst (Contains uncounted) (sym status_is) (load_uncounted cause));
   faults = told_faults files (load_status cause) message.status status_is (load_faults files file cause why);
 }
 unloaded_run files file request steps cause Refusal.Memory why says = wanting_run files file request steps
 
 -- the grammar of the program is made, or not
-pub grammar_does : (files : SourceCall) (file : List ℕ) (program : PlainProgram) (outcome : Outcome) → Loads files file program → IsLoaded files.content file program
-    → HasGrammarReply program file outcome → Does files (grammar_making file) outcome
+pub grammar_does : (files : SourceCall) (file : List ℕ) (program : PlainProgram) (result : TaskResult) → Loads files file program → IsLoaded files.content file program
+    → HasGrammarReply program file result → Does files (grammar_making file) result
 grammar_does files file program (Ok (reply.Text message)) l loaded says = record {
   due = record { subject = program; found = loaded; says = says };
   read = inr (own_files files file program l);
@@ -83,31 +84,31 @@ grammar_does files file program (Err (Refusal.Told message)) l loaded (long, (st
 grammar_does files file program (Err Refusal.Memory) l loaded says = wanting_grammar files file
 
 -- the file of a request is not read
-file_among : (fault : FileFault) → Contains unloaded (file_status fault)
+file_among : (fault : FileFault) → Contains uncounted (file_status fault)
 file_among reading.Missing = (1, lit< tt, refl)
 file_among reading.Failed = (2, lit< tt, refl)
 file_among (reading.TooLong len) = (3, lit< tt, refl)
 file_among reading.Memory = (5, lit< tt, refl)
 
-asking_among : (refusal : RequestRefusal) → Contains unloaded (request_status refusal)
+asking_among : (refusal : RequestRefusal) → Contains uncounted (request_status refusal)
 asking_among asking.NotJson = (3, lit< tt, refl)
 asking_among asking.NotRequest = (3, lit< tt, refl)
 asking_among (asking.NotAdmitted path) = (3, lit< tt, refl)
 asking_among asking.Memory = (5, lit< tt, refl)
 
 pub file_unread : (files : SourceCall) (name : List ℕ) (fault : FileFault) (refusal : Refusal)
-    → HasReason (files.content name) files.faults files.faults' files.misses files.misses' fault → (file_status fault ≡ ReadFault) ⊎ (files.faults' ≡ files.faults)
-    → IsTold refusal (file_status fault) (file_text fault name) → HasRequest files (Some name) (Err refusal)
-file_unread files name fault (Refusal.Told message) why faults (status_is, text_is) =
-    (unread fault why status_is text_is, subst (Contains unloaded) (sym status_is) (file_among fault), told_faults files (file_status fault) message.status status_is faults)
-file_unread files name fault Refusal.Memory why faults says = tt
+    → HasReason (files.content name) files.faults files.faults' files.misses files.misses' fault → files.reads' ≡ one_more files.reads
+    → (file_status fault ≡ ReadFault) ⊎ (files.faults' ≡ files.faults) → IsTold refusal (file_status fault) (file_text fault name) → HasRequest files (Some name) (Err refusal)
+file_unread files name fault (Refusal.Told message) why counted faults (status_is, text_is) =
+    (unread fault why status_is text_is, counted, subst (Contains uncounted) (sym status_is) (file_among fault), told_faults files (file_status fault) message.status status_is faults)
+file_unread files name fault Refusal.Memory why counted faults says = tt
 
 -- or holds none
 pub file_refused : (files : SourceCall) (name bytes : List ℕ) (cause : RequestRefusal) (refusal : Refusal) → Tells (files.content name) (Some bytes) → IsCause cause (outcome bytes)
-    → files.faults' ≡ files.faults → IsTold refusal (request_status cause) (request_text cause) → HasRequest files (Some name) (Err refusal)
-file_refused files name bytes cause (Refusal.Told message) told why calm (status_is, text_is) =
-    (no_request_in bytes cause told why status_is text_is, subst (Contains unloaded) (sym status_is) (asking_among cause), inr calm)
-file_refused files name bytes cause Refusal.Memory told why calm says = tt
+    → files.reads' ≡ one_more files.reads → files.faults' ≡ files.faults → IsTold refusal (request_status cause) (request_text cause) → HasRequest files (Some name) (Err refusal)
+file_refused files name bytes cause (Refusal.Told message) told why counted calm (status_is, text_is) =
+    (no_request_in bytes cause told why status_is text_is, counted, subst (Contains uncounted) (sym status_is) (asking_among cause), inr calm)
+file_refused files name bytes cause Refusal.Memory told why counted calm says = tt
 
 -- what the source tells, and its counts of faults and misses, are as they were before the program was loaded
 pub moved : (files : SourceCall) (content : Content) (faults misses reads : ℕ) (request : Option (List ℕ)) (found : Result PlainRequest Refusal) → content ≡ files.content
@@ -126,14 +127,6 @@ refuses files reads None status text why = why
 refuses files reads (Some name) status text (unread fault why status_is text_is) = unread fault why status_is text_is
 refuses files reads (Some name) status text (no_request_in bytes cause told why status_is text_is) = no_request_in bytes cause told why status_is text_is
 
--- there is no request
-pub lacks_request : (files : SourceCall) (file : List ℕ) (request : Option (List ℕ)) (steps reads : ℕ) (program : PlainProgram) (refusal : Refusal)
-    → IsLoaded files.content file program → HasRequest (source_call files.content files.faults files.faults' files.misses files.misses' reads files.reads') request (Err refusal)
-    → Does files (script_run file request steps) (Err refusal)
-lacks_request files file request steps reads program (Refusal.Told message) loaded (why, among, told) =
-    record { due = inr (program, loaded, refuses files reads request message.status message.text why); read = inl among; faults = told }
-lacks_request files file request steps reads program Refusal.Memory loaded has = wanting_run files file request steps
-
 -- the files of the program, and that of the request
 run_reads : (files : SourceCall) (file : List ℕ) (request : Option (List ℕ)) (program : PlainProgram) (faults misses reads : ℕ)
     → Loads (source_call files.content files.faults faults files.misses misses files.reads reads) file program
@@ -142,6 +135,18 @@ run_reads files file None program faults misses reads l counted =
     record { held = l.source.held; agrees = l.source.agrees; own = l.source.files; read = l.source.read; counted = counted ∙ l.source.counted }
 run_reads files file (Some name) program faults misses reads l counted =
     (reads, record { held = l.source.held; agrees = l.source.agrees; own = l.source.files; read = l.source.read; counted = l.source.counted }, counted)
+
+-- there is no request
+pub lacks_request : (files : SourceCall) (file : List ℕ) (request : Option (List ℕ)) (steps faults misses reads : ℕ) (program : PlainProgram) (refusal : Refusal)
+    → Loads (source_call files.content files.faults faults files.misses misses files.reads reads) file program → IsLoaded files.content file program
+    → HasRequest (source_call files.content files.faults files.faults' files.misses files.misses' reads files.reads') request (Err refusal)
+    → Does files (script_run file request steps) (Err refusal)
+lacks_request files file request steps faults misses reads program (Refusal.Told message) l loaded (why, counted, among, told) = record {
+  due = inr (program, loaded, refuses files reads request message.status message.text why, run_reads files file request program faults misses reads l counted);
+  read = inl among;
+  faults = told;
+}
+lacks_request files file request steps faults misses reads program Refusal.Memory l loaded has = wanting_run files file request steps
 
 -- the program was run
 pub run_does : (files : SourceCall) (file : List ℕ) (request : Option (List ℕ)) (steps faults misses reads : ℕ) (program : PlainProgram) (asked : PlainRequest) (own : Reply)

@@ -17,7 +17,7 @@ use Rattle.phpsa_tasks.specs.Subjects.{made_name, only_script, only_made}
 use Rattle.phpsa_tasks.specs.Replies.{answer_status, conclusion_of}
 use Rattle.phpsa_tasks.specs.Causes.{no_size, made_refused}
 use Rattle.phpsa_tasks.specs.Counted.{ReadsNothing}
-use Rattle.phpsa_tasks.specs.Outcomes.{Does}
+use Rattle.phpsa_tasks.specs.Results.{Does}
 use Rattle.phpsa_main.specs.Decided.{Decision, IsDecidedAs, Decides}
 
 pub made_does : (files : SourceCall) (n : ℕ) (message : Message) → ReadsNothing files → files.faults' ≡ files.faults → IsSize n → Says message Done (made n)

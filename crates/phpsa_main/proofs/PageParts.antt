@@ -18,7 +18,7 @@ use Rattle.phpsa_tasks.specs.Tasks.{page_check}
 use Rattle.phpsa_tasks.specs.Subjects.{PageBy}
 use Rattle.phpsa_tasks.specs.Causes.{definition_call, not_defined, many_states, not_read, page_lacks_definition}
 use Rattle.phpsa_tasks.specs.declared.reply.Reply.TheVariants as reply
-use Rattle.phpsa_tasks.specs.Outcomes.{Outcome, Does}
+use Rattle.phpsa_tasks.specs.Results.{TaskResult, Does}
 use Rattle.phpsa_tasks.proofs.Faults.{told_faults, wanted_faults}
 use Rattle.phpsa_tasks.proofs.Defining.{definition_faults}
 use Rattle.phpsa_main.specs.Judged.{IsJudgedAs}
@@ -71,8 +71,8 @@ definition_does files file d cause (Refusal.Told message) why once (status_is, t
 definition_does files file d cause Refusal.Memory why once says = wanting_does files file d once
 
 -- the page is judged, or not
-pub judged_does : (files : SourceCall) (file : List ℕ) (d : NamedType) (table : Table) (page : List ℕ) (outcome : Outcome) → HasTable files.content d table
-    → Tells (files.content file) (Some page) → IsOnce files d → files.faults' ≡ files.faults → IsJudgedAs table page outcome → Does files (page_check file d) outcome
+pub judged_does : (files : SourceCall) (file : List ℕ) (d : NamedType) (table : Table) (page : List ℕ) (result : TaskResult) → HasTable files.content d table
+    → Tells (files.content file) (Some page) → IsOnce files d → files.faults' ≡ files.faults → IsJudgedAs table page result → Does files (page_check file d) result
 judged_does files file d table page (Ok (reply.Text message)) has told once calm (valid, is, (status_is, text_is)) = record {
   due = record { subject = record { page = page; table = table }; found = (told, has); says = (valid, is, status_is, text_is) };
   read = λ built_in. inl (once built_in);

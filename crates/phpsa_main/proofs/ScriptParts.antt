@@ -22,23 +22,23 @@ use Rattle.phpsa_tasks.specs.declared.reply.Reply.TheVariants as reply
 use Rattle.phpsa_tasks.specs.Tasks.{script_check}
 use Rattle.phpsa_tasks.specs.Replies.{answer_status, answer_text}
 use Rattle.phpsa_tasks.specs.Causes.{definition_call, RefusesScript, not_defined, many_states, not_loaded, lacks_definition, has_long_text}
-use Rattle.phpsa_tasks.specs.Counted.{unloaded, ReadsItsFiles}
-use Rattle.phpsa_tasks.specs.Outcomes.{Outcome, Does}
+use Rattle.phpsa_tasks.specs.Counted.{uncounted, ReadsItsFiles}
+use Rattle.phpsa_tasks.specs.Results.{TaskResult, Does}
 use Rattle.phpsa_tasks.proofs.Faults.{told_faults, wanted_faults}
 use Rattle.phpsa_tasks.proofs.Defining.{definition_faults}
 use Rattle.phpsa_main.specs.Decided.{Decision, IsRefusedBy, IsDecidedAs, Decides, IsProgramRefused, IsProgramDecided}
 
-pub load_unloaded : (cause : LoadRefusal) → Contains unloaded (load_status cause)
-load_unloaded (load.Missing name) = (1, lit< tt, refl)
-load_unloaded (load.ReadFault name) = (2, lit< tt, refl)
-load_unloaded (load.TooLong name len) = (3, lit< tt, refl)
-load_unloaded (load.Script name fault) = (0, lit< tt, refl)
-load_unloaded (load.IncludeCycle name) = (0, lit< tt, refl)
-load_unloaded (load.DoubleFunction name) = (0, lit< tt, refl)
-load_unloaded (load.UnknownFunction name) = (0, lit< tt, refl)
-load_unloaded (load.Arity name) = (0, lit< tt, refl)
-load_unloaded (load.TooMany count) = (3, lit< tt, refl)
-load_unloaded load.Memory = (5, lit< tt, refl)
+pub load_uncounted : (cause : LoadRefusal) → Contains uncounted (load_status cause)
+load_uncounted (load.Missing name) = (1, lit< tt, refl)
+load_uncounted (load.ReadFault name) = (2, lit< tt, refl)
+load_uncounted (load.TooLong name len) = (3, lit< tt, refl)
+load_uncounted (load.Script name fault) = (0, lit< tt, refl)
+load_uncounted (load.IncludeCycle name) = (0, lit< tt, refl)
+load_uncounted (load.DoubleFunction name) = (0, lit< tt, refl)
+load_uncounted (load.UnknownFunction name) = (0, lit< tt, refl)
+load_uncounted (load.Arity name) = (0, lit< tt, refl)
+load_uncounted (load.TooMany count) = (3, lit< tt, refl)
+load_uncounted load.Memory = (5, lit< tt, refl)
 
 pub load_faults : (call : SourceCall) (name : List ℕ) (cause : LoadRefusal) → IsLoadCause call name cause → (load_status cause ≡ ReadFault) ⊎ (call.faults' ≡ call.faults)
 load_faults call name (load.Missing path) (named, (stops, rises, none, same)) = inr same
@@ -58,7 +58,7 @@ pub load_decides : (files : SourceCall) (file : List ℕ) (d : NamedType) (goal 
     → IsTold refusal (load_status cause) (load_text cause) → Decides files file d goal limit (Err refusal)
 load_decides files file d goal limit cause (Refusal.Told message) why (status_is, text_is) = record {
   why = not_loaded cause why status_is text_is;
-  read = λ built_in. inl (subst (Contains unloaded) (sym status_is) (load_unloaded cause));
+  read = λ built_in. inl (subst (Contains uncounted) (sym status_is) (load_uncounted cause));
   faults = told_faults files (load_status cause) message.status status_is (load_faults files file cause why);
 }
 load_decides files file d goal limit cause Refusal.Memory why says = tt

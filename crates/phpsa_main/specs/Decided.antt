@@ -15,14 +15,15 @@ use Rattle.phpsa_texts.specs.declared.message.Refusal.{Refusal}
 use Rattle.phpsa_texts.specs.Texts.{Says, long_text, states_text}
 use Rattle.phpsa_tasks.specs.Replies.{IsAnswer}
 use Rattle.phpsa_tasks.specs.Causes.{RefusesScript}
-use Rattle.phpsa_tasks.specs.Counted.{unloaded, ReadsItsFiles, TellsFaults}
+use Rattle.phpsa_tasks.specs.Counted.{uncounted, ReadsItsFiles, TellsFaults}
 
 -- an answer, a message for `err`, or want of memory
 abbrev pub Decision : Type 0
 Decision = Result ShownAnswer Refusal
 
 -- the program of the file has this answer, by the definition of the document type; its files were read once, and no fault was counted
-pub record IsDecidedAs (files : SourceCall) (file : List ℕ) (document_type : NamedType) (goal : Goal) (limit : ℕ) (answer : ShownAnswer) : Type 0 where
+pub record IsDecidedAs (files : SourceCall) (file : List ℕ) (document_type : NamedType) (goal : Goal) (limit : ℕ) (answer : ShownAnswer) :
+    Type 0 where
   pub program : PlainProgram
   pub table : Table
   pub loaded : IsLoaded files.content file program
@@ -34,9 +35,10 @@ pub record IsDecidedAs (files : SourceCall) (file : List ℕ) (document_type : N
 -- the script is refused by this message; its files were read once, unless it was not loaded, and a fault is told
 pub record IsRefusedBy (files : SourceCall) (file : List ℕ) (document_type : NamedType) (message : Message) : Type 0 where
   pub why : RefusesScript files file document_type message.status message.text
-  pub read : IsBuiltIn document_type → Contains unloaded message.status ⊎ ReadsItsFiles files file
+  pub read : IsBuiltIn document_type → Contains uncounted message.status ⊎ ReadsItsFiles files file
   pub faults : TellsFaults files message.status
 
+-- what deciding the script of a file comes to, where it is loaded for this
 abbrev pub Decides : SourceCall → List ℕ → NamedType → Goal → ℕ → Decision → Type 0
 Decides files file document_type goal limit (Ok answer) = IsDecidedAs files file document_type goal limit answer
 Decides files file document_type goal limit (Err (Refusal.Told message)) = IsRefusedBy files file document_type message
@@ -45,8 +47,10 @@ Decides files file document_type goal limit (Err Refusal.Memory) = ⊤
 -- what deciding a loaded program comes to, with the name of its file: a text of it is too long, or the content models have too many states
 abbrev pub IsProgramRefused : Table → PlainProgram → List ℕ → Message → Type 0
 IsProgramRefused table program name message =
-    (HasLongText program × Says message Input (long_text name)) ⊎ ((count : ℕ) × HasManyStates table count × Says message Dtd (states_text count))
+    (HasLongText program × Says message Input (long_text name))
+    ⊎ ((count : ℕ) × HasManyStates table count × Says message Dtd (states_text count))
 
+-- what deciding a loaded program comes to, with the name of its file
 abbrev pub IsProgramDecided : Table → PlainProgram → List ℕ → Goal → ℕ → Decision → Type 0
 IsProgramDecided table program name goal limit (Ok answer) = IsAnswer goal table program limit answer
 IsProgramDecided table program name goal limit (Err (Refusal.Told message)) = IsProgramRefused table program name message

@@ -8,10 +8,12 @@ use Rattle.phpsa_texts.specs.Statuses.{judgment_status}
 use Rattle.phpsa_texts.specs.Texts.{Says, judgment_text, states_text}
 use Rattle.phpsa_tasks.specs.Replies.{IsJudged}
 use Rattle.phpsa_tasks.specs.declared.reply.Reply.TheVariants as reply
-use Rattle.phpsa_tasks.specs.Outcomes.{Outcome}
+use Rattle.phpsa_tasks.specs.Results.{TaskResult}
 
-abbrev pub IsJudgedAs : Table → List ℕ → Outcome → Type 0
-IsJudgedAs table page (Ok (reply.Text message)) = (valid : Bool) × IsJudged table page valid × Says message (judgment_status valid) (judgment_text valid)
+-- what judging a page by a definition comes to: whether it is valid, or content models with too many states
+abbrev pub IsJudgedAs : Table → List ℕ → TaskResult → Type 0
+IsJudgedAs table page (Ok (reply.Text message)) =
+    (valid : Bool) × IsJudged table page valid × Says message (judgment_status valid) (judgment_text valid)
 IsJudgedAs table page (Ok other) = ⊥
 IsJudgedAs table page (Err (Refusal.Told message)) = (count : ℕ) × HasManyStates table count × Says message Dtd (states_text count)
 IsJudgedAs table page (Err Refusal.Memory) = ⊤

@@ -14,26 +14,30 @@ use Rattle.phpsa_texts.specs.Texts.{Says, long_text}
 use Rattle.phpsa_tasks.specs.declared.reply.Reply.{Reply}
 use Rattle.phpsa_tasks.specs.declared.reply.Reply.TheVariants as reply
 use Rattle.phpsa_tasks.specs.Requests.{FindsRequest, RefusesRequest}
-use Rattle.phpsa_tasks.specs.Counted.{unloaded, TellsFaults}
+use Rattle.phpsa_tasks.specs.Counted.{uncounted, TellsFaults}
 use Rattle.phpsa_tasks.specs.Replies.{IsEarly, IsGrammarReply, end_status, end_text}
 
--- the request that a run is asked with, and that its file was read once, if there is one; or why there is none, which tells a fault
+-- the file of a request, if there is one, was read once
 abbrev pub ReadsRequest : SourceCall → Option (List ℕ) → Type 0
 ReadsRequest files None = files.reads' ≡ files.reads
 ReadsRequest files (Some name) = files.reads' ≡ one_more files.reads
 
+-- the request that a run is for, or why there is none, which tells a fault
 abbrev pub HasRequest : SourceCall → Option (List ℕ) → Result PlainRequest Refusal → Type 0
 HasRequest files name (Ok request) = FindsRequest files.content name request × ReadsRequest files name × (files.faults' ≡ files.faults)
 HasRequest files name (Err (Refusal.Told message)) =
-    RefusesRequest files name message.status message.text × Contains unloaded message.status × TellsFaults files message.status
+    RefusesRequest files name message.status message.text × ReadsRequest files name × Contains uncounted message.status
+    × TellsFaults files message.status
 HasRequest files name (Err Refusal.Memory) = ⊤
 
 -- what is written of a run that came to this
 abbrev pub IsRunReply : Outcome → ℕ → Reply → Type 0
 IsRunReply outcome steps (reply.Text message) = (outcome.end ≡ Ended) × Says message Done outcome.printed
 IsRunReply outcome steps (reply.Grammar grammar) = ⊥
-IsRunReply outcome steps (reply.Halted printed message) = IsEarly outcome.end × Says message (end_status outcome.end) (end_text steps outcome.end) × (printed ≡ outcome.printed)
+IsRunReply outcome steps (reply.Halted printed message) =
+    IsEarly outcome.end × Says message (end_status outcome.end) (end_text steps outcome.end) × (printed ≡ outcome.printed)
 
+-- the reply is that of the run of a program for a request within so many units
 abbrev pub IsReplyOfRun : PlainProgram → PlainRequest → ℕ → Reply → Type 0
 IsReplyOfRun program request steps reply = IsRunReply (meaning program request steps) steps reply
 

@@ -6,7 +6,7 @@ use Rattle.phpsa_texts.specs.declared.message.Refusal.{Refusal}
 use Rattle.phpsa_texts.specs.Texts.{memory_text, write_fault_text}
 use Rattle.phpsa_tasks.specs.declared.reply.Reply.{Reply}
 use Rattle.phpsa_tasks.specs.declared.reply.Reply.TheVariants as reply
-use Rattle.phpsa_tasks.specs.Outcomes.{reply_text}
+use Rattle.phpsa_tasks.specs.Results.{reply_text}
 use Rattle.phpsa_tasks.specs.Call.{Output, Gains, GainsPrefix, GainsNothing, Fails}
 
 -- a text was put on an output, and the call ends with this status: the wanted one, or that of a fault
@@ -20,6 +20,7 @@ EndsOnErr (reply.Text message) err status = (status ≡ message.status) × Gains
 EndsOnErr (reply.Grammar grammar) err status = (status ≡ Done) × GainsNothing err
 EndsOnErr (reply.Halted printed message) err status = Puts err message.text message.status status
 
+-- all of the text of a reply stands on `out`
 abbrev pub WritesReply : Reply → Output → Output → Exit → Type 0
 WritesReply reply out err status = Gains out (reply_text reply) × EndsOnErr reply err status
 
@@ -35,8 +36,10 @@ pub record WantsMemory (text : List ℕ) (out err : Output) (status : Exit) : Ty
   pub out_gains : GainsPrefix out text
   pub err_puts : Puts err memory_text Memory status
 
+-- a reply was written, or `out` failed, or memory was wanting on it
 abbrev pub Reports : Reply → Output → Output → Exit → Type 0
-Reports reply out err status = WritesReply reply out err status ⊎ (FailsOnOut (reply_text reply) out err status ⊎ WantsMemory (reply_text reply) out err status)
+Reports reply out err status =
+    WritesReply reply out err status ⊎ (FailsOnOut (reply_text reply) out err status ⊎ WantsMemory (reply_text reply) out err status)
 
 -- a refusal was put on `err`
 abbrev pub ReportsRefusal : Refusal → Output → Exit → Type 0

@@ -1,7 +1,7 @@
 //! Tasks are done, each by the function of its command.
 
 ghost use Rattle.program_files.specs.Source.{source_call};
-ghost use Rattle.phpsa_tasks.specs.Outcomes.{Does};
+ghost use Rattle.phpsa_tasks.specs.Results.{Does};
 ghost use Rattle.phpsa_tasks.specs.Views.{task_as};
 
 use crate::grammars::make_grammar;
@@ -16,7 +16,7 @@ use phpsa_texts::{Refusal, usage_refusal};
 use std::alloc::Global;
 
 /// Does the task: what is written of it, or why it is refused.
-pub(crate) fn outcome_of<F: Files>(
+pub(crate) fn result_of<F: Files>(
     alloc: Global,
     task: Task<'_>,
     files: &mut F,

@@ -4,7 +4,7 @@ ghost use Rattle.std.specs.Prelude.{◌≡◌};
 ghost use Rattle.php_program.specs.View.{program_of};
 ghost use Rattle.program_files.specs.Source.{source_call};
 ghost use Rattle.phpsa_tasks.specs.Tasks.{grammar_making};
-ghost use Rattle.phpsa_tasks.specs.Outcomes.{Does};
+ghost use Rattle.phpsa_tasks.specs.Results.{Does};
 ghost use Rattle.phpsa_main.specs.Loaded.{HasGrammarReply};
 
 use io_edge::Files;

@@ -20,7 +20,6 @@ mod doing;
 mod grammars;
 mod made;
 mod making;
-mod one_script;
 mod page;
 mod report;
 mod running;
@@ -33,7 +32,7 @@ ghost use Rattle.phpsa_tasks.specs.Endings.{Ends};
 ghost use Rattle.phpsa_tasks.specs.Counted.{IsCounted};
 ghost use Rattle.phpsa_tasks.specs.Keeps.{Keeps};
 
-use doing::outcome_of;
+use doing::result_of;
 use io_edge::{Files, Sink};
 use phpsa_tasks::asked_task;
 use phpsa_tasks::laws::{
@@ -104,7 +103,7 @@ fn run<F: Files, O: Sink, E: Sink>(
     words_ask_for_one_task();
     match asked_task(alloc, words) {
         Err(NoMemory) => refuse(&Refusal::Memory, err),
-        Ok(task) => match outcome_of(alloc, task, files) {
+        Ok(task) => match result_of(alloc, task, files) {
             Ok(reply) => report(&reply, out, err),
             Err(refusal) => refuse(&refusal, err),
         },

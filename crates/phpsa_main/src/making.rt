@@ -4,7 +4,7 @@ ghost use Rattle.std.specs.Prelude.{◌≡◌};
 ghost use Rattle.program_files.specs.Source.{SourceCall};
 ghost use Rattle.phpsa_tasks.specs.Tasks.{script_making};
 ghost use Rattle.phpsa_tasks.specs.Counted.{ReadsNothing};
-ghost use Rattle.phpsa_tasks.specs.Outcomes.{Does};
+ghost use Rattle.phpsa_tasks.specs.Results.{Does};
 
 use phpsa_tasks::Reply;
 use phpsa_texts::{Exit, Message, Refusal, size_refusal};

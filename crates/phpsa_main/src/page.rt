@@ -4,7 +4,7 @@ ghost use Rattle.dtd_model.specs.TableOf.{table_of};
 ghost use Rattle.program_files.specs.Source.{source_call};
 ghost use Rattle.document_types.specs.DocumentTypes.{type_of};
 ghost use Rattle.phpsa_tasks.specs.Tasks.{page_check};
-ghost use Rattle.phpsa_tasks.specs.Outcomes.{Does};
+ghost use Rattle.phpsa_tasks.specs.Results.{Does};
 ghost use Rattle.phpsa_main.specs.Judged.{IsJudgedAs};
 
 use document_types::DocumentType;

@@ -6,7 +6,7 @@ ghost use Rattle.io_edge.specs.Counts.{Rises};
 ghost use Rattle.io_edge.specs.Taken.{AppendsPrefix};
 ghost use Rattle.phpsa_tasks.specs.Call.{output_of};
 ghost use Rattle.phpsa_tasks.specs.Counted.{TellsFault};
-ghost use Rattle.phpsa_tasks.specs.Outcomes.{reply_text};
+ghost use Rattle.phpsa_tasks.specs.Results.{reply_text};
 ghost use Rattle.phpsa_main.specs.Steps.{EndsOnErr, Puts, Reports, ReportsRefusal};
 
 use grammar_writing::write_grammar;

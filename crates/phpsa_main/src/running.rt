@@ -6,7 +6,7 @@ ghost use Rattle.script_meaning.specs.Requests.{Admitted};
 ghost use Rattle.program_files.specs.Source.{source_call};
 ghost use Rattle.script_runs.specs.Outcomes.{plain_outcome};
 ghost use Rattle.phpsa_tasks.specs.Tasks.{script_run};
-ghost use Rattle.phpsa_tasks.specs.Outcomes.{Does};
+ghost use Rattle.phpsa_tasks.specs.Results.{Does};
 ghost use Rattle.phpsa_main.specs.Loaded.{HasRequest, IsRunReply, IsReplyOfRun};
 
 use io_edge::Files;

@@ -3,7 +3,7 @@
 ghost use Rattle.program_files.specs.Source.{source_call};
 ghost use Rattle.document_types.specs.DocumentTypes.{type_of};
 ghost use Rattle.phpsa_tasks.specs.Tasks.{script_check};
-ghost use Rattle.phpsa_tasks.specs.Outcomes.{Does};
+ghost use Rattle.phpsa_tasks.specs.Results.{Does};
 
 use crate::answers::answer_message;
 use crate::deciding::decide_script;

@@ -1,22 +1,24 @@
 -- How a call ends says how it is answered.
-use Rattle.std.proofs.Common.{◌≡◌, ◌∙◌, ℕ, List, [], ◌∷◌, Contains, refl, sym, subst, inl, inr, lit<}
+use Rattle.std.proofs.Common.{◌≡◌, ◌∙◌, ℕ, List, [], ◌∷◌, Some, Contains, refl, sym, subst, inl, inr, lit<}
 use Rattle.std.specs.Prelude.{◌⊎◌}
 use Rattle.told_programs.specs.Told.{Content}
+use Rattle.request_reading.specs.declared.refusal.RequestRefusal.{RequestRefusal}
 use Rattle.command_words.specs.Asked.{Asked, Asks, AsksNothing}
 use Rattle.command_words.specs.Canonical.{IsCanonical}
 use Rattle.phpsa_texts.specs.declared.exit.Exit.{Exit}
 use Rattle.phpsa_texts.specs.declared.exit.Exit.TheVariants.{WriteFault, Usage, Memory}
 use Rattle.phpsa_tasks.specs.Tasks.{Task, script_check, page_check, script_making, made_check, script_run, grammar_making, usage, task_of, AsksFor, asks, asks_nothing}
-use Rattle.phpsa_tasks.specs.Call.{Call}
+use Rattle.phpsa_tasks.specs.Call.{Call, Gains, GainsNothing}
 use Rattle.phpsa_tasks.specs.Subjects.{Subject, Finds, Holds, IsWithin, LacksFile}
 use Rattle.phpsa_tasks.specs.Replies.{Replies, Halts}
 use Rattle.phpsa_tasks.specs.Causes.{Refuses}
 use Rattle.phpsa_tasks.specs.Endings.{OwesReply, OwesRefusal, of_task, wants_memory, OwesHalt, Ends, replied, refused, halted, by_out, by_err, no_memory}
-use Rattle.phpsa_tasks.specs.Answered.{IsUndisturbed, IsVerdict, IsStopped, statuses_of_nothing, IsAnswered}
+use Rattle.phpsa_tasks.specs.Answered.{IsUndisturbed, IsVerdict, IsStopped, statuses_of_nothing, IsUnasked, TellsCause, IsAnswered}
 use Rattle.phpsa_tasks.proofs.Verdicts.{one_verdict}
 use Rattle.phpsa_tasks.proofs.Held.{ProgramLaws, held_reply, held_halt, held_refusal}
 use Rattle.phpsa_tasks.proofs.Never.{told_usage, no_reply, no_halt, asks_more}
 use Rattle.phpsa_tasks.proofs.Nothing.{of_memory, of_refusal}
+use Rattle.phpsa_tasks.proofs.Unasked.{no_finding, cause_told}
 
 abbrev pub OneTask : Type 0
 OneTask = (words : List (List ℕ)) (task other : Task) → AsksFor words task → AsksFor words other → task ≡ other
@@ -72,7 +74,8 @@ found_nothing content (script_check file d goal limit form) x (defined, none) (f
 found_nothing content (page_check file d) x (defined, none) (found, has) = none x.page found
 found_nothing content (script_making n) x lacks found = lacks
 found_nothing content (made_check n) x lacks (size, found, has) = lacks size
-found_nothing content (script_run file request steps) x lacks (found, finds, admitted) = lacks x.program found
+found_nothing content (script_run file request steps) x (inl none) (found, finds, admitted) = none x.program found
+found_nothing content (script_run file request steps) x (inr none) (found, finds, admitted) = none x.request finds
 found_nothing content (grammar_making file) x lacks found = lacks x found
 found_nothing content usage x lacks found = lacks
 
@@ -94,23 +97,44 @@ nothing laws call status (by_out is e) task asked u lacks = absurd (u.out e.fail
 nothing laws call status (by_err is e) task asked u lacks = absurd (u.err e.failed)
 nothing laws call status (no_memory is e) task asked u lacks = of_memory call.files task status lacks is
 
+-- a program that is held is not run where the file of its request holds none
+unasked_of : Laws → (call : Call) (status : Exit) (text file name : List ℕ) (steps : ℕ) (cause : RequestRefusal) → IsUndisturbed call → IsUnasked call file name cause
+    → GainsNothing call.out → Gains call.err text → Refuses call.files (script_run file (Some name) steps) status text ⊎ (status ≡ Memory) → TellsCause call cause status ⊎ (status ≡ Memory)
+unasked_of laws call status text file name steps cause u n out err (inl why) = cause_told laws.programs call status text file name steps cause u.files n out err why
+unasked_of laws call status text file name steps cause u n out err (inr is) = inr is
+
+unasked : Laws → (call : Call) (status : Exit) → Ends call status → (file name : List ℕ) (steps : ℕ) (cause : RequestRefusal) → AsksFor call.words (script_run file (Some name) steps)
+    → IsUndisturbed call → IsUnasked call file name cause → TellsCause call cause status ⊎ (status ≡ Memory)
+unasked laws call status (replied e) file name steps cause asked u n =
+    let r : Replies call.files (script_run file (Some name) steps) status e.text = the_reply laws.one_task call status e.text e.owed (script_run file (Some name) steps) asked in
+    absurd (no_finding call.files.content name cause r.subject.request n.none n.input r.found.1)
+unasked laws call status (refused e) file name steps cause asked u n =
+    unasked_of laws call status e.text file name steps cause u n e.out e.err (the_refusal laws.one_task call status e.text e.owed (script_run file (Some name) steps) asked)
+unasked laws call status (halted e) file name steps cause asked u n =
+    let r : Halts call.files (script_run file (Some name) steps) status e.printed e.text =
+    the_halt laws.one_task call status e.printed e.text e.owed (script_run file (Some name) steps) asked in
+    absurd (no_finding call.files.content name cause r.subject.request n.none n.input r.found.1)
+unasked laws call status (by_out is e) file name steps cause asked u n = absurd (u.out e.failed)
+unasked laws call status (by_err is e) file name steps cause asked u n = absurd (u.err e.failed)
+unasked laws call status (no_memory is e) file name steps cause asked u n = inr is
+
 -- words that ask for nothing
-abbrev Unasked : Exit → Type 0
-Unasked status = Contains (Usage ∷ WriteFault ∷ Memory ∷ []) status
+abbrev TellsUsage : Exit → Type 0
+TellsUsage status = Contains (Usage ∷ WriteFault ∷ Memory ∷ []) status
 
-unasked_of : (call : Call) (status : Exit) (text : List ℕ) → Refuses call.files usage status text ⊎ (status ≡ Memory) → Unasked status
-unasked_of call status text (inl (is, text_is)) = subst Unasked (sym is) (0, lit< tt, refl)
-unasked_of call status text (inr is) = subst Unasked (sym is) (2, lit< tt, refl)
+usage_of : (call : Call) (status : Exit) (text : List ℕ) → Refuses call.files usage status text ⊎ (status ≡ Memory) → TellsUsage status
+usage_of call status text (inl (is, text_is)) = subst TellsUsage (sym is) (0, lit< tt, refl)
+usage_of call status text (inr is) = subst TellsUsage (sym is) (2, lit< tt, refl)
 
-unasked : Laws → (call : Call) (status : Exit) → Ends call status → AsksNothing call.words → Unasked status
-unasked laws call status (replied e) none =
+without : Laws → (call : Call) (status : Exit) → Ends call status → AsksNothing call.words → TellsUsage status
+without laws call status (replied e) none =
     let r : Replies call.files usage status e.text = the_reply laws.one_task call status e.text e.owed usage (asks_nothing none refl) in absurd r.says
-unasked laws call status (refused e) none = unasked_of call status e.text (the_refusal laws.one_task call status e.text e.owed usage (asks_nothing none refl))
-unasked laws call status (halted e) none =
+without laws call status (refused e) none = usage_of call status e.text (the_refusal laws.one_task call status e.text e.owed usage (asks_nothing none refl))
+without laws call status (halted e) none =
     let r : Halts call.files usage status e.printed e.text = the_halt laws.one_task call status e.printed e.text e.owed usage (asks_nothing none refl) in absurd r.says
-unasked laws call status (by_out is e) none = subst Unasked (sym is) (1, lit< tt, refl)
-unasked laws call status (by_err is e) none = subst Unasked (sym is) (1, lit< tt, refl)
-unasked laws call status (no_memory is e) none = subst Unasked (sym is) (2, lit< tt, refl)
+without laws call status (by_out is e) none = subst TellsUsage (sym is) (1, lit< tt, refl)
+without laws call status (by_err is e) none = subst TellsUsage (sym is) (1, lit< tt, refl)
+without laws call status (no_memory is e) none = subst TellsUsage (sym is) (2, lit< tt, refl)
 
 -- words that ask for something are not told the usage
 taken_of : (call : Call) (status : Exit) (text : List ℕ) (for : Asked) → Refuses call.files (task_of for) status text ⊎ (status ≡ Memory) → status ≡ Usage → ⊥
@@ -134,6 +158,7 @@ answers laws call status e = record {
   answered = answered laws call status e;
   exact = λ task x verdict asked u h w v. exact_from task x status verdict v (answered laws call status e task x asked u h w);
   nothing = nothing laws call status e;
-  refused = unasked laws call status e;
+  unasked = unasked laws call status e;
+  refused = without laws call status e;
   taken = λ for canonical. taken laws call status e for (laws.canonical call.words for canonical);
 }

@@ -18,7 +18,7 @@ use Rattle.program_files.specs.declared.refusal.LoadRefusal.TheVariants as load
 use Rattle.told_programs.specs.Causes.{IsLoadCause}
 use Rattle.told_programs.specs.Told.{Content, IsLoaded, HoldsProgram, AreShort}
 use Rattle.dtd_model.specs.Table.{Table}
-use Rattle.request_reading.specs.Outcome.{Outcome, not_json, not_request, not_admitted, asked, outcome}
+use Rattle.request_reading.specs.Outcome.{Outcome, not_json, not_request, not_admitted, stands_for, outcome}
 use Rattle.request_reading.specs.Causes.{IsCause}
 use Rattle.request_reading.specs.declared.refusal.RequestRefusal.{RequestRefusal}
 use Rattle.request_reading.specs.declared.refusal.RequestRefusal.TheVariants as asking
@@ -37,8 +37,9 @@ use Rattle.phpsa_texts.specs.declared.exit.Exit.{Exit}
 use Rattle.phpsa_texts.specs.declared.exit.Exit.TheVariants.{Memory}
 use Rattle.phpsa_texts.specs.Statuses.{judgment_status, load_status, file_status, request_status, definition_status}
 use Rattle.phpsa_tasks.specs.Tasks.{Task, script_check, page_check, script_making, made_check, script_run, grammar_making, usage}
+use Rattle.phpsa_tasks.specs.Files.{HoldsShortFile}
 use Rattle.phpsa_tasks.specs.Requests.{no_request, FindsRequest, HoldsRequest, unread, no_request_in, RefusesRequest}
-use Rattle.phpsa_tasks.specs.Subjects.{ProgramBy, PageBy, ProgramFor, Subject, made_name, only_made, Finds, HoldsShortProgram, HoldsShortPage, HoldsTable, Holds, IsSmall, IsWithin}
+use Rattle.phpsa_tasks.specs.Subjects.{ProgramBy, PageBy, ProgramFor, Subject, made_name, only_made, Finds, HoldsShortProgram, HoldsTable, Holds, IsSmall, IsWithin}
 use Rattle.phpsa_tasks.specs.Replies.{answer_status, end_status, HasManyItems, IsJudged, IsReplyOf, IsHaltOf}
 use Rattle.phpsa_tasks.specs.Causes.{definition_call, RefusesDefinition, not_defined, many_states, RefusesScript, not_loaded, lacks_definition, has_long_text, not_read, page_lacks_definition, no_size, made_refused, Refuses}
 use Rattle.phpsa_tasks.specs.Answered.{IsScriptVerdict, PassesScriptLimit, PassesGrammarLimit, IsVerdict, PassesLimit, IsStopped}
@@ -53,7 +54,7 @@ pub record ProgramLaws : Type 0 where
 abbrev pub OneProgram : Type 0
 OneProgram = (content : Content) (name : List ℕ) (program other : PlainProgram) → HoldsProgram content name program → IsLoaded content name other → program ≡ other
 
-one_content : (content : Content) (file bytes other : List ℕ) → content file ≡ Some (Some bytes) → Tells (content file) (Some other) → bytes ≡ other
+pub one_content : (content : Content) (file bytes other : List ℕ) → content file ≡ Some (Some bytes) → Tells (content file) (Some other) → bytes ≡ other
 one_content content file bytes other held told =
     let same : Tells (Some (Some bytes)) (Some other) = subst (λ (x : Option (Option (List ℕ))). Tells x (Some other)) held told in
     same_Some bytes other same
@@ -84,7 +85,7 @@ own_program one content file d x y h t found has P is =
     (subst (λ (s : Table). P y.program s) (sym (same_table content d x.table y.table t.told t.has has)) is)
 
 -- and so of the page
-pub own_page : (content : Content) (file : List ℕ) (d : NamedType) (x y : PageBy) → HoldsShortPage content file x.page → HoldsTable content d x.table
+pub own_page : (content : Content) (file : List ℕ) (d : NamedType) (x y : PageBy) → HoldsShortFile content file x.page → HoldsTable content d x.table
     → Tells (content file) (Some y.page) → HasTable content d y.table → (P : List ℕ → Table → Type 0) → P y.page y.table → P x.page x.table
 own_page content file d x y h t found has P is =
     subst (λ (p : List ℕ). P p x.table) (sym (one_content content file x.page y.page h.told found))
@@ -95,13 +96,13 @@ abbrev asked_of : Outcome → PlainRequest
 asked_of not_json = no_request
 asked_of not_request = no_request
 asked_of (not_admitted path) = no_request
-asked_of (asked request) = request
+asked_of (stands_for request) = request
 
 -- and so of the program and the request of a run
 pub own_request : (content : Content) (request : Option (List ℕ)) (x y : PlainRequest) → HoldsRequest content request x → FindsRequest content request y → x ≡ y
 own_request content None x y held found = held ∙ sym found
 own_request content (Some name) x y held (bytes, told, is) =
-    let same : held.bytes ≡ bytes = one_content content name held.bytes bytes held.told told in
+    let same : held.bytes ≡ bytes = one_content content name held.bytes bytes held.file.told told in
     ap asked_of (sym held.is ∙ ap outcome same ∙ is)
 
 pub own_run : OneProgram → (content : Content) (file : List ℕ) (request : Option (List ℕ)) (x y : ProgramFor) → HoldsShortProgram content file x.program
@@ -162,7 +163,7 @@ not_long content file page len told short over least =
     let at : HasAtLeast (Some (Some page)) len = subst (λ (x : Option (Option (List ℕ))). HasAtLeast x len) told least in
     omega (arith, at, over, short)
 
-file_memory : (files : SourceCall) (file page : List ℕ) (f : FileFault) → HoldsShortPage files.content file page → (Rises files.faults files.faults' → ⊥)
+pub file_memory : (files : SourceCall) (file page : List ℕ) (f : FileFault) → HoldsShortFile files.content file page → (Rises files.faults files.faults' → ⊥)
     → HasReason (files.content file) files.faults files.faults' files.misses files.misses' f → file_status f ≡ Memory
 file_memory files file page reading.Missing h calm (rises, none) = absurd (not_missing files.content file page h.told none)
 file_memory files file page reading.Failed h calm rises = absurd (calm rises)
@@ -170,19 +171,19 @@ file_memory files file page (reading.TooLong len) h calm (over, least) = absurd 
 file_memory files file page reading.Memory h calm free = refl
 
 -- a request that is held is refused for want of memory alone
-asked_memory : (refusal : RequestRefusal) (o : Outcome) (x : PlainRequest) → o ≡ asked x → IsCause refusal o → request_status refusal ≡ Memory
-asked_memory asking.NotJson o x is why = let same : not_json ≡ asked x = sym why ∙ is in absurd cc
-asked_memory asking.NotRequest o x is why = let same : not_request ≡ asked x = sym why ∙ is in absurd cc
-asked_memory (asking.NotAdmitted path) o x is why = let same : not_admitted path ≡ asked x = sym why ∙ is in absurd cc
+asked_memory : (refusal : RequestRefusal) (o : Outcome) (x : PlainRequest) → o ≡ stands_for x → IsCause refusal o → request_status refusal ≡ Memory
+asked_memory asking.NotJson o x is why = let same : not_json ≡ stands_for x = sym why ∙ is in absurd cc
+asked_memory asking.NotRequest o x is why = let same : not_request ≡ stands_for x = sym why ∙ is in absurd cc
+asked_memory (asking.NotAdmitted path) o x is why = let same : not_admitted path ≡ stands_for x = sym why ∙ is in absurd cc
 asked_memory asking.Memory o x is why = refl
 
 request_memory : (files : SourceCall) (request : Option (List ℕ)) (x : PlainRequest) (status : Exit) (text : List ℕ) → HoldsRequest files.content request x
     → (Rises files.faults files.faults' → ⊥) → RefusesRequest files request status text → status ≡ Memory
 request_memory files None x status text held calm why = absurd why
 request_memory files (Some name) x status text held calm (unread fault why is text_is) =
-    is ∙ file_memory files name held.bytes fault (record { told = held.told; short = held.short }) calm why
+    is ∙ file_memory files name held.bytes fault held.file calm why
 request_memory files (Some name) x status text held calm (no_request_in bytes refusal told why is text_is) =
-    let same : bytes ≡ held.bytes = sym (one_content files.content name held.bytes bytes held.told told) in
+    let same : bytes ≡ held.bytes = sym (one_content files.content name held.bytes bytes held.file.told told) in
     is ∙ asked_memory refusal (outcome bytes) x (ap outcome same ∙ held.is) why
 
 want_status : (cause : DefinitionRefusal) → IsWant cause → definition_status cause ≡ Memory
@@ -226,7 +227,7 @@ held_refusal laws files (made_check n) x status text calm (size, h, t) w (made_r
     inr (held_script laws (source_call (only_made n) 0 0 0 misses 0 reads) made_name strict_type Goal.Valid PAIR_LIMIT x status text never h t w why)
 held_refusal laws files (script_run file request steps) x status text calm (h, r) w (inl (cause, why, status_is, text_is)) =
     inr (inr (status_is ∙ ap load_status (laws.not_refused files file x.program cause h.holds h.short calm why)))
-held_refusal laws files (script_run file request steps) x status text calm (h, r) w (inr (program, found, why)) =
+held_refusal laws files (script_run file request steps) x status text calm (h, r) w (inr (program, found, why, read)) =
     inr (inr (request_memory files request x.request status text r calm why))
 held_refusal laws files (grammar_making file) x status text calm h w (inl (cause, why, status_is, text_is)) =
     inr (inr (status_is ∙ ap load_status (laws.not_refused files file x cause h.holds h.short calm why)))

@@ -6,6 +6,7 @@ pub mod Verdicts
 pub mod Held
 pub mod Never
 pub mod Nothing
+pub mod Unasked
 pub mod Answers
 pub mod Soundness
 pub mod Writing

@@ -25,7 +25,7 @@ use Rattle.phpsa_tasks.specs.Tasks.{Task, script_check, page_check, script_makin
 use Rattle.phpsa_tasks.specs.Requests.{unread, no_request_in, RefusesRequest}
 use Rattle.phpsa_tasks.specs.Subjects.{Subject, made_name, only_made}
 use Rattle.phpsa_tasks.specs.Replies.{answer_status, end_status, IsReplyOf, IsHaltOf}
-use Rattle.phpsa_tasks.specs.Written.{IsDone}
+use Rattle.phpsa_tasks.specs.Written.{HasAllWritten}
 use Rattle.phpsa_tasks.specs.Causes.{RefusesDefinition, not_defined, many_states, RefusesScript, not_loaded, lacks_definition, has_long_text, RefusesPage, not_read, page_lacks_definition, RefusesMade, no_size, made_refused, Refuses}
 
 -- neither status of a task that is done, nor that of the usage
@@ -104,7 +104,7 @@ of_request files None status text why = absurd why
 of_request files (Some name) status text (unread fault why is text_is) = subst IsOther (sym is) (of_file fault)
 of_request files (Some name) status text (no_request_in bytes refusal told why is text_is) = subst IsOther (sym is) (of_asking refusal)
 
-not_done : (status : Exit) → IsOther status → IsDone status → ⊥
+not_done : (status : Exit) → IsOther status → HasAllWritten status → ⊥
 not_done Done other done = other
 not_done exit.Fault other done = other
 not_done exit.Spent other done = other
@@ -114,16 +114,16 @@ not_done _ other done = done
 not_usage : (status : Exit) → IsOther status → status ≡ Usage → ⊥
 not_usage status is e = subst IsOther e is
 
-pub never_done : (files : SourceCall) (task : Task) (status : Exit) (text : List ℕ) → Refuses files task status text → IsDone status → ⊥
+pub never_done : (files : SourceCall) (task : Task) (status : Exit) (text : List ℕ) → Refuses files task status text → HasAllWritten status → ⊥
 never_done files (script_check file d goal limit form) status text why e = not_done status (of_script files file d status text why) e
 never_done files (page_check file d) status text why e = not_done status (of_page files file d status text why) e
-never_done files (script_making n) status text (size, is, text_is) e = subst IsDone is e
+never_done files (script_making n) status text (size, is, text_is) e = subst HasAllWritten is e
 never_done files (made_check n) status text why e = not_done status (of_made n status text why) e
 never_done files (script_run file request steps) status text (inl (cause, why, is, text_is)) e = not_done status (subst IsOther (sym is) (of_load cause)) e
-never_done files (script_run file request steps) status text (inr (program, found, why)) e = not_done status (of_request files request status text why) e
+never_done files (script_run file request steps) status text (inr (program, found, why, read)) e = not_done status (of_request files request status text why) e
 never_done files (grammar_making file) status text (inl (cause, why, is, text_is)) e = not_done status (subst IsOther (sym is) (of_load cause)) e
-never_done files (grammar_making file) status text (inr (program, found, long, is, text_is)) e = subst IsDone is e
-never_done files usage status text (is, text_is) e = subst IsDone is e
+never_done files (grammar_making file) status text (inr (program, found, long, is, text_is)) e = subst HasAllWritten is e
+never_done files usage status text (is, text_is) e = subst HasAllWritten is e
 
 pub told_usage : (files : SourceCall) (task : Task) (status : Exit) (text : List ℕ) → Refuses files task status text → status ≡ Usage → task ≡ usage
 told_usage files (script_check file d goal limit form) status text why e = absurd (not_usage status (of_script files file d status text why) e)
@@ -131,7 +131,7 @@ told_usage files (page_check file d) status text why e = absurd (not_usage statu
 told_usage files (script_making n) status text (size, is, text_is) e = let same : exit.Input ≡ Usage = sym is ∙ e in absurd cc
 told_usage files (made_check n) status text why e = absurd (not_usage status (of_made n status text why) e)
 told_usage files (script_run file request steps) status text (inl (cause, why, is, text_is)) e = absurd (not_usage status (subst IsOther (sym is) (of_load cause)) e)
-told_usage files (script_run file request steps) status text (inr (program, found, why)) e = absurd (not_usage status (of_request files request status text why) e)
+told_usage files (script_run file request steps) status text (inr (program, found, why, read)) e = absurd (not_usage status (of_request files request status text why) e)
 told_usage files (grammar_making file) status text (inl (cause, why, is, text_is)) e = absurd (not_usage status (subst IsOther (sym is) (of_load cause)) e)
 told_usage files (grammar_making file) status text (inr (program, found, long, is, text_is)) e = let same : exit.Input ≡ Usage = sym is ∙ e in absurd cc
 told_usage files usage status text why e = refl

@@ -1,5 +1,5 @@
 -- The statuses of a task that finds nothing under the file's name.
-use Rattle.std.proofs.Common.{◌≡◌, ℕ, List, [], ◌∷◌, inl, inr, refl, sym, subst, lit<, Contains}
+use Rattle.std.proofs.Common.{◌≡◌, ℕ, List, [], ◌∷◌, Option, None, Some, inl, inr, refl, sym, subst, lit<, Contains}
 use Rattle.io_edge.specs.Counts.{Rises}
 use Rattle.io_edge.specs.Reasons.{HasReason}
 use Rattle.io_edge.specs.declared.files.FileFault.{FileFault}
@@ -8,11 +8,14 @@ use Rattle.program_files.specs.Source.{SourceCall}
 use Rattle.program_files.specs.declared.refusal.LoadRefusal.{LoadRefusal}
 use Rattle.program_files.specs.declared.refusal.LoadRefusal.TheVariants as load
 use Rattle.told_programs.specs.Causes.{IsLoadCause}
+use Rattle.request_reading.specs.declared.refusal.RequestRefusal.{RequestRefusal}
+use Rattle.request_reading.specs.declared.refusal.RequestRefusal.TheVariants as asking
 use Rattle.document_types.specs.DocumentTypes.{NamedType}
 use Rattle.phpsa_texts.specs.declared.exit.Exit.{Exit}
 use Rattle.phpsa_texts.specs.declared.exit.Exit.TheVariants.{Missing, Script, Input, Memory}
-use Rattle.phpsa_texts.specs.Statuses.{load_status, file_status}
+use Rattle.phpsa_texts.specs.Statuses.{load_status, file_status, request_status}
 use Rattle.phpsa_tasks.specs.Tasks.{Task, script_check, page_check, script_making, made_check, script_run, grammar_making, usage}
+use Rattle.phpsa_tasks.specs.Requests.{unread, no_request_in, RefusesRequest}
 use Rattle.phpsa_tasks.specs.Subjects.{LacksFile}
 use Rattle.phpsa_tasks.specs.Causes.{not_loaded, lacks_definition, has_long_text, not_read, page_lacks_definition, no_size, made_refused, Refuses}
 use Rattle.phpsa_tasks.specs.Answered.{statuses_of_nothing}
@@ -42,6 +45,28 @@ of_file files file d reading.Failed calm rises = absurd (calm rises)
 of_file files file d (reading.TooLong len) calm why = (1, lit< tt, refl)
 of_file files file d reading.Memory calm why = (2, lit< tt, refl)
 
+-- those of a request that is refused
+of_asking : (file : List ℕ) (request : Option (List ℕ)) (steps : ℕ) (refusal : RequestRefusal) → Among (script_run file request steps) (request_status refusal)
+of_asking file request steps asking.NotJson = (2, lit< tt, refl)
+of_asking file request steps asking.NotRequest = (2, lit< tt, refl)
+of_asking file request steps (asking.NotAdmitted path) = (2, lit< tt, refl)
+of_asking file request steps asking.Memory = (3, lit< tt, refl)
+
+of_asked_file : (files : SourceCall) (file : List ℕ) (request : Option (List ℕ)) (steps : ℕ) (name : List ℕ) (f : FileFault) → (Rises files.faults files.faults' → ⊥)
+    → HasReason (files.content name) files.faults files.faults' files.misses files.misses' f → Among (script_run file request steps) (file_status f)
+of_asked_file files file request steps name reading.Missing calm why = (0, lit< tt, refl)
+of_asked_file files file request steps name reading.Failed calm rises = absurd (calm rises)
+of_asked_file files file request steps name (reading.TooLong len) calm why = (2, lit< tt, refl)
+of_asked_file files file request steps name reading.Memory calm why = (3, lit< tt, refl)
+
+of_request : (files : SourceCall) (file : List ℕ) (request : Option (List ℕ)) (steps : ℕ) (status : Exit) (text : List ℕ) → (Rises files.faults files.faults' → ⊥)
+    → RefusesRequest files request status text → Among (script_run file request steps) status
+of_request files file None steps status text calm why = absurd why
+of_request files file (Some name) steps status text calm (unread fault why is text_is) =
+    subst (Among (script_run file (Some name) steps)) (sym is) (of_asked_file files file (Some name) steps name fault calm why)
+of_request files file (Some name) steps status text calm (no_request_in bytes refusal told why is text_is) =
+    subst (Among (script_run file (Some name) steps)) (sym is) (of_asking file (Some name) steps refusal)
+
 -- want of memory is one of them
 pub of_memory : (files : SourceCall) (task : Task) (status : Exit) → LacksFile files.content task → status ≡ Memory → Among task status
 of_memory files (script_check file d goal limit form) status lacks is = subst (Among (script_check file d goal limit form)) (sym is) (3, lit< tt, refl)
@@ -67,7 +92,7 @@ of_refusal files (made_check n) status text calm lacks (no_size size is text_is)
 of_refusal files (made_check n) status text calm lacks (made_refused size misses reads why) = absurd (lacks size)
 of_refusal files (script_run file request steps) status text calm lacks (inl (cause, why, is, text_is)) =
     subst (Among (script_run file request steps)) (sym is) (of_load files file cause calm why)
-of_refusal files (script_run file request steps) status text calm lacks (inr (program, found, why)) = absurd (lacks program found)
+of_refusal files (script_run file request steps) status text calm lacks (inr (program, found, why, read)) = of_request files file request steps status text calm why
 of_refusal files (grammar_making file) status text calm lacks (inl (cause, why, is, text_is)) = subst (Among (grammar_making file)) (sym is) (of_load files file cause calm why)
 of_refusal files (grammar_making file) status text calm lacks (inr (program, found, long, is, text_is)) = absurd (lacks program found)
 of_refusal files usage status text calm lacks why = absurd lacks

@@ -1,8 +1,9 @@
 -- When a call is answered, and how.
-use Rattle.std.specs.Prelude.{◌≡◌, ◌⊎◌, ℕ, List, [], ◌∷◌, Contains, ⊤}
+use Rattle.std.specs.Prelude.{◌≡◌, ◌⊎◌, ℕ, List, [], ◌∷◌, Some, Contains, ⊤}
 use Rattle.script_meaning.specs.Programs.{PlainProgram}
 use Rattle.dtd_model.specs.Table.{Table}
 use Rattle.page_model.specs.Valid.{Valid}
+use Rattle.request_reading.specs.declared.refusal.RequestRefusal.{RequestRefusal}
 use Rattle.io_edge.specs.Counts.{Rises}
 use Rattle.page_goals.specs.declared.goal.Goal.{Goal}
 use Rattle.page_goals.specs.Goals.{IsGood}
@@ -16,11 +17,14 @@ use Rattle.command_words.specs.Asked.{Asked, AsksNothing}
 use Rattle.command_words.specs.Canonical.{IsCanonical}
 use Rattle.phpsa_texts.specs.declared.exit.Exit.{Exit}
 use Rattle.phpsa_texts.specs.declared.exit.Exit.TheVariants.{Done, No, Undecided, Script, Missing, Input, WriteFault, Usage, Memory}
+use Rattle.phpsa_texts.specs.Statuses.{request_status}
+use Rattle.phpsa_texts.specs.Texts.{request_text}
 use Rattle.phpsa_tasks.specs.Tasks.{Task, script_check, page_check, script_making, made_check, script_run, grammar_making, usage, AsksFor}
 use Rattle.phpsa_tasks.specs.declared.task.TheConstants.{PAIR_LIMIT}
-use Rattle.phpsa_tasks.specs.Subjects.{Subject, Holds, IsWithin, LacksFile}
+use Rattle.phpsa_tasks.specs.Requests.{HoldsNoRequest}
+use Rattle.phpsa_tasks.specs.Subjects.{Subject, HoldsShortProgram, Holds, IsWithin, LacksFile}
 use Rattle.phpsa_tasks.specs.Replies.{answer_status, end_status, outcome_for, HasManyItems}
-use Rattle.phpsa_tasks.specs.Call.{Call, Fails}
+use Rattle.phpsa_tasks.specs.Call.{Call, Gains, GainsNothing, Fails}
 
 -- no count of faults rises in the call
 pub record IsUndisturbed (call : Call) : Type 0 where
@@ -36,7 +40,8 @@ IsScriptVerdict goal table program status = ⊥
 
 -- a limit of the decision is passed: a stated count, or that of the bytes of a text
 abbrev pub PassesScriptLimit : Goal → Table → PlainProgram → ℕ → Exit → Type 0
-PassesScriptLimit goal table program limit Undecided = (answer : ShownAnswer) × IsShownAnswer goal table program limit answer × (answer_status answer ≡ Undecided)
+PassesScriptLimit goal table program limit Undecided =
+    (answer : ShownAnswer) × IsShownAnswer goal table program limit answer × (answer_status answer ≡ Undecided)
 PassesScriptLimit goal table program limit Input = HasLongText program
 PassesScriptLimit goal table program limit status = ⊥
 
@@ -61,15 +66,18 @@ IsVerdict task subject status = ⊥
 
 -- the status says that a task is not done: a limit of its decision is passed, or memory was wanting
 abbrev pub PassesLimit : (task : Task) → Subject task → Exit → Type 0
-PassesLimit (script_check file document_type goal limit form) subject status = PassesScriptLimit goal subject.table subject.program limit status
+PassesLimit (script_check file document_type goal limit form) subject status =
+    PassesScriptLimit goal subject.table subject.program limit status
 PassesLimit (made_check functions) subject status = PassesScriptLimit Goal.Valid subject.table subject.program PAIR_LIMIT status
 PassesLimit (grammar_making file) subject status = PassesGrammarLimit subject status
 PassesLimit task subject status = ⊥
 
+-- a limit of the task is passed, or memory was wanting
 abbrev pub IsStopped : (task : Task) → Subject task → Exit → Type 0
 IsStopped task subject status = PassesLimit task subject status ⊎ (status ≡ Memory)
 
--- the statuses of a task that finds nothing under the file's name: a name is missing, a file is no script or a rule is broken, or a limit is passed
+-- the statuses of a task that finds nothing under the name of a file: a name is missing, a file is no script or a rule is broken, or a
+-- limit is passed
 abbrev pub statuses_of_nothing : Task → List Exit
 statuses_of_nothing (script_check file document_type goal limit form) = Missing ∷ Script ∷ Input ∷ Memory ∷ []
 statuses_of_nothing (page_check file document_type) = Missing ∷ Input ∷ Memory ∷ []
@@ -79,13 +87,35 @@ statuses_of_nothing (script_run file request steps) = Missing ∷ Script ∷ Inp
 statuses_of_nothing (grammar_making file) = Missing ∷ Script ∷ Input ∷ Memory ∷ []
 statuses_of_nothing usage = []
 
--- Words that ask for what the source tells all of are answered, a limit and want of memory aside, and exactly by what is so of it; where nothing is found, so is the status;
--- words that ask for nothing are refused, and canonical ones never for that.
+-- a program is held, and a file that stands for no request of it, for a cause that is not want of memory
+pub record IsUnasked (call : Call) (file name : List ℕ) (cause : RequestRefusal) : Type 0 where
+  pub program : PlainProgram
+  pub held : HoldsShortProgram call.files.content file program
+  pub none : HoldsNoRequest call.files.content name cause
+  pub input : request_status cause ≡ Input
+
+-- nothing is run, and the cause is told: `phpsa: NotJson` and its like
+pub record TellsCause (call : Call) (cause : RequestRefusal) (status : Exit) : Type 0 where
+  pub status_is : status ≡ Input
+  pub out : GainsNothing call.out
+  pub err : Gains call.err (request_text cause)
+
+-- Words that ask for what the source tells all of are answered, a limit and want of memory aside, and exactly by what is so of it; where
+-- nothing
+-- is found, so is the status; a program is not run where the file of its request holds none, and why is told; words that ask for nothing
+-- are
+-- refused, and canonical ones never for that.
 pub record IsAnswered (call : Call) (status : Exit) : Type 0 where
   pub answered : (task : Task) (subject : Subject task) → AsksFor call.words task → IsUndisturbed call
-      → Holds call.files.content task subject → IsWithin call.files.content task subject → IsVerdict task subject status ⊎ IsStopped task subject status
+      → Holds call.files.content task subject → IsWithin call.files.content task subject
+      → IsVerdict task subject status ⊎ IsStopped task subject status
   pub exact : (task : Task) (subject : Subject task) (verdict : Exit) → AsksFor call.words task → IsUndisturbed call
-      → Holds call.files.content task subject → IsWithin call.files.content task subject → IsVerdict task subject verdict → (status ≡ verdict) ⊎ IsStopped task subject status
-  pub nothing : (task : Task) → AsksFor call.words task → IsUndisturbed call → LacksFile call.files.content task → Contains (statuses_of_nothing task) status
+      → Holds call.files.content task subject → IsWithin call.files.content task subject → IsVerdict task subject verdict
+      → (status ≡ verdict) ⊎ IsStopped task subject status
+  pub nothing : (task : Task) → AsksFor call.words task → IsUndisturbed call → LacksFile call.files.content task
+      → Contains (statuses_of_nothing task) status
+  pub unasked : (file name : List ℕ) (steps : ℕ) (cause : RequestRefusal) → AsksFor call.words (script_run file (Some name) steps)
+      → IsUndisturbed call
+      → IsUnasked call file name cause → TellsCause call cause status ⊎ (status ≡ Memory)
   pub refused : AsksNothing call.words → Contains (Usage ∷ WriteFault ∷ Memory ∷ []) status
   pub taken : (for : Asked) → IsCanonical call.words for → status ≡ Usage → ⊥

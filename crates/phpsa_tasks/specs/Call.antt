@@ -12,6 +12,7 @@ pub record Output : Type 0 where
   pub faults : ℕ
   pub faults' : ℕ
 
+-- a call of the program: its words, what its source holds and counts, and both outputs
 pub record Call : Type 0 where
   pub words : List (List ℕ)
   pub files : SourceCall
@@ -42,5 +43,6 @@ Fails output = Rises output.faults output.faults'
 abbrev pub output_of : Option (List ℕ) → Option (List ℕ) → ℕ → ℕ → Output
 output_of written written' faults faults' = record { written = written; written' = written'; faults = faults; faults' = faults' }
 
+-- a call by its words, its source, and both outputs
 abbrev pub call_of : List (List ℕ) → SourceCall → Output → Output → Call
 call_of words files out err = record { words = words; files = files; out = out; err = err }

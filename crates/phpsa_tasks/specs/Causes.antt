@@ -21,6 +21,7 @@ use Rattle.phpsa_texts.specs.Texts.{load_text, file_text, definition_text, state
 use Rattle.phpsa_tasks.specs.Tasks.{Task, script_check, page_check, script_making, made_check, script_run, grammar_making, usage}
 use Rattle.phpsa_tasks.specs.Subjects.{made_name, only_made}
 use Rattle.phpsa_tasks.specs.Requests.{RefusesRequest}
+use Rattle.phpsa_tasks.specs.Counted.{ReadsForRun}
 
 -- a source of files as the reader of definitions sees it
 abbrev pub definition_call : SourceCall → definition.SourceCall
@@ -35,7 +36,8 @@ pub data RefusesDefinition (files : SourceCall) (document_type : NamedType) (sta
 
 -- the program is not loaded, there is no definition for it, or a text in it is over the limit of a run
 pub data RefusesScript (files : SourceCall) (file : List ℕ) (document_type : NamedType) (status : Exit) (text : List ℕ) : Type 0 where
-  not_loaded : (cause : LoadRefusal) → IsLoadCause files file cause → status ≡ load_status cause → text ≡ load_text cause → RefusesScript files file document_type status text
+  not_loaded : (cause : LoadRefusal) → IsLoadCause files file cause → status ≡ load_status cause → text ≡ load_text cause
+      → RefusesScript files file document_type status text
   lacks_definition : RefusesDefinition files document_type status text → RefusesScript files file document_type status text
   has_long_text : (program : PlainProgram) → IsLoaded files.content file program → HasLongText program
       → status ≡ Input → text ≡ long_text file → RefusesScript files file document_type status text
@@ -49,20 +51,25 @@ pub data RefusesPage (files : SourceCall) (file : List ℕ) (document_type : Nam
 -- a script cannot have so many functions, or the generated one is refused as the one file of a source that does not fail
 pub data RefusesMade (functions : ℕ) (status : Exit) (text : List ℕ) : Type 0 where
   no_size : (IsSize functions → ⊥) → status ≡ Input → text ≡ size_text functions → RefusesMade functions status text
-  made_refused : IsSize functions → (misses reads : ℕ) → RefusesScript (source_call (only_made functions) 0 0 0 misses 0 reads) made_name strict_type status text
+  made_refused : IsSize functions → (misses reads : ℕ)
+      → RefusesScript (source_call (only_made functions) 0 0 0 misses 0 reads) made_name strict_type status text
       → RefusesMade functions status text
 
 -- the program of a file is not loaded
 abbrev pub RefusesProgram : SourceCall → List ℕ → Exit → List ℕ → Type 0
-RefusesProgram files file status text = (cause : LoadRefusal) × IsLoadCause files file cause × (status ≡ load_status cause) × (text ≡ load_text cause)
+RefusesProgram files file status text =
+    (cause : LoadRefusal) × IsLoadCause files file cause × (status ≡ load_status cause) × (text ≡ load_text cause)
 
--- the program is loaded, and there is no request for it
+-- the program is loaded, and there is no request for it; its files were read once each, and then that of the request
 abbrev pub LacksRequest : SourceCall → List ℕ → Option (List ℕ) → Exit → List ℕ → Type 0
-LacksRequest files file request status text = (program : PlainProgram) × IsLoaded files.content file program × RefusesRequest files request status text
+LacksRequest files file request status text =
+    (program : PlainProgram) × IsLoaded files.content file program × RefusesRequest files request status text
+    × ReadsForRun files file request
 
 -- a text in the program of a file is over the limit of a run
 abbrev pub RefusesLongText : SourceCall → List ℕ → Exit → List ℕ → Type 0
-RefusesLongText files file status text = (program : PlainProgram) × IsLoaded files.content file program × HasLongText program × (status ≡ Input) × (text ≡ long_text file)
+RefusesLongText files file status text =
+    (program : PlainProgram) × IsLoaded files.content file program × HasLongText program × (status ≡ Input) × (text ≡ long_text file)
 
 -- why each task is refused; want of memory may come at any place beside
 abbrev pub Refuses : SourceCall → Task → Exit → List ℕ → Type 0
@@ -70,6 +77,7 @@ Refuses files (script_check file document_type goal limit form) status text = Re
 Refuses files (page_check file document_type) status text = RefusesPage files file document_type status text
 Refuses files (script_making functions) status text = (IsSize functions → ⊥) × (status ≡ Input) × (text ≡ size_text functions)
 Refuses files (made_check functions) status text = RefusesMade functions status text
-Refuses files (script_run file request steps) status text = RefusesProgram files file status text ⊎ LacksRequest files file request status text
+Refuses files (script_run file request steps) status text =
+    RefusesProgram files file status text ⊎ LacksRequest files file request status text
 Refuses files (grammar_making file) status text = RefusesProgram files file status text ⊎ RefusesLongText files file status text
 Refuses files usage status text = (status ≡ Usage) × (text ≡ usage_text)

@@ -21,7 +21,8 @@ pub record ReadsItsFiles (files : SourceCall) (file : List ℕ) : Type 0 where
 -- and for a run that of the file of its request, if there is one, behind them
 abbrev pub ReadsForRun : SourceCall → List ℕ → Option (List ℕ) → Type 0
 ReadsForRun files file None = ReadsItsFiles files file
-ReadsForRun files file (Some name) = (between : ℕ) × ReadsItsFiles (record files { reads' = between }) file × (files.reads' ≡ one_more between)
+ReadsForRun files file (Some name) =
+    (between : ℕ) × ReadsItsFiles (record files { reads' = between }) file × (files.reads' ≡ one_more between)
 
 -- no name was asked for
 abbrev pub ReadsNothing : SourceCall → Type 0
@@ -31,21 +32,22 @@ ReadsNothing files = files.reads' ≡ files.reads
 abbrev pub IsWanting : Exit → Type 0
 IsWanting status = Contains (WriteFault ∷ Memory ∷ []) status
 
--- the statuses of a program that is not loaded, or has no request, for which the cause says what was read, or for which a text could not be made or written
-abbrev pub unloaded : List Exit
-unloaded = Script ∷ Missing ∷ ReadFault ∷ Input ∷ WriteFault ∷ Memory ∷ []
+-- the statuses of which those of a program that is not loaded are some, and for which nothing is said of the count here: that of a request
+-- that is refused stands with its cause, and the last two come where a text could not be made or written
+abbrev pub uncounted : List Exit
+uncounted = Script ∷ Missing ∷ ReadFault ∷ Input ∷ WriteFault ∷ Memory ∷ []
 
--- By a built-in definition, or where none is asked for, each file that a task needs is read once: those of a program, unless it is not loaded, with that of a request; or the page, unless memory was
--- wanting before. The other tasks read nothing.
+-- By a built-in definition, or where none is asked for, each file that a task needs is read once, but for the statuses above: those of a
+-- program, with that of a request; or the page, unless memory was wanting before. The other tasks read nothing.
 abbrev pub ReadsFor : Task → SourceCall → Exit → Type 0
 ReadsFor (script_check file document_type goal limit form) files status =
-    IsBuiltIn document_type → Contains unloaded status ⊎ ReadsItsFiles files file
+    IsBuiltIn document_type → Contains uncounted status ⊎ ReadsItsFiles files file
 ReadsFor (page_check file document_type) files status =
     IsBuiltIn document_type → (files.reads' ≡ one_more files.reads) ⊎ (ReadsNothing files × IsWanting status)
 ReadsFor (script_making functions) files status = ReadsNothing files
 ReadsFor (made_check functions) files status = ReadsNothing files
-ReadsFor (script_run file request steps) files status = Contains unloaded status ⊎ ReadsForRun files file request
-ReadsFor (grammar_making file) files status = Contains unloaded status ⊎ ReadsItsFiles files file
+ReadsFor (script_run file request steps) files status = Contains uncounted status ⊎ ReadsForRun files file request
+ReadsFor (grammar_making file) files status = Contains uncounted status ⊎ ReadsItsFiles files file
 ReadsFor usage files status = ReadsNothing files
 
 -- a fault of the source is told by the status, but where its text itself could not be made or written

@@ -47,17 +47,17 @@ pub record EndsHalted (call : Call) (status : Exit) : Type 0 where
   pub out : Gains call.out printed
   pub err : Gains call.err text
 
--- the text that is due on `out`, and the one that is due on `err`
+-- the text that is due on `out`
 abbrev pub IsDueOnOut : Call → List ℕ → Type 0
 IsDueOnOut call text = (status : Exit) × (OwesReply call status text ⊎ ((told : List ℕ) × OwesHalt call status text told))
 
-abbrev pub IsDueOnErr : Call → List ℕ → Type 0
-IsDueOnErr call text = (status : Exit) × (OwesRefusal call status text ⊎ ((printed : List ℕ) × OwesHalt call status printed text))
-
--- `out` is as it was; or, where it found no memory while a text was written, has a prefix of the text; or has all that a run printed
-abbrev pub KeepsOut : Call → Type 0
-KeepsOut call = GainsNothing call.out ⊎ (((text : List ℕ) × IsDueOnOut call text × GainsPrefix call.out text)
-    ⊎ ((status : Exit) × (printed : List ℕ) × (told : List ℕ) × OwesHalt call status printed told × Gains call.out printed))
+-- what stands on `out` where this text is due on `err`: nothing, where it is a refusal; all that was printed, where it says why a run does
+-- not come to its end; a prefix of the text that is due on `out`,
+-- where that found no memory
+pub data LeavesOut (call : Call) (text : List ℕ) : Type 0 where
+  at_refusal : (status : Exit) → OwesRefusal call status text → GainsNothing call.out → LeavesOut call text
+  at_halt : (status : Exit) (printed : List ℕ) → OwesHalt call status printed text → Gains call.out printed → LeavesOut call text
+  at_want : (due : List ℕ) → text ≡ memory_text → IsDueOnOut call due → GainsPrefix call.out due → LeavesOut call text
 
 -- `out` failed while a text was written, and `err` holds what it took of the text for that
 pub record EndsByOut (call : Call) : Type 0 where
@@ -70,16 +70,14 @@ pub record EndsByOut (call : Call) : Type 0 where
 -- `err` failed while a text was written on it
 pub record EndsByErr (call : Call) : Type 0 where
   pub text : List ℕ
-  pub due : IsDueOnErr call text
+  pub left : LeavesOut call text
   pub failed : Fails call.err
-  pub out : KeepsOut call
   pub err : GainsPrefix call.err text
 
 -- memory was wanting, at any place
 pub record EndsMemory (call : Call) : Type 0 where
   pub text : List ℕ
-  pub due : IsDueOnErr call text
-  pub out : KeepsOut call
+  pub left : LeavesOut call text
   pub err : GainsPrefix call.err text
 
 -- the call ends so

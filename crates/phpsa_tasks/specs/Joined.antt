@@ -12,7 +12,8 @@ use Rattle.phpsa_tasks.specs.Replies.{outcome_for}
 use Rattle.phpsa_tasks.specs.Keeps.{Keeps}
 
 -- a call of `check` on a program that its source holds has ended with status 0
-pub record IsChecked (call : Call) (file : List ℕ) (document_type : NamedType) (goal : Goal) (limit : ℕ) (form : AnswerForm) (subject : ProgramBy) : Type 0 where
+pub record IsChecked (call : Call) (file : List ℕ) (document_type : NamedType) (goal : Goal) (limit : ℕ) (form : AnswerForm)
+    (subject : ProgramBy) : Type 0 where
   pub keeps : Keeps call Done
   pub asked : AsksFor call.words (script_check file document_type goal limit form)
   pub held : Holds call.files.content (script_check file document_type goal limit form) subject
@@ -24,13 +25,16 @@ pub record HasRun (call : Call) (file : List ℕ) (request : Option (List ℕ)) 
   pub held : Holds call.files.content (script_run file request steps) subject
 
 -- so much was printed, it is what the meaning of the program prints for the request, and it is good
-pub record PrintsGoodPage (call : Call) (goal : Goal) (own : ProgramBy) (asked : ProgramFor) (steps : ℕ) : Type 0 where
-  pub gains : Gains call.out (outcome_for asked steps).printed
-  pub good : IsGood goal own.table (outcome_for asked steps).printed
+pub record PrintsGoodPage (call : Call) (goal : Goal) (of_check : ProgramBy) (of_run : ProgramFor) (steps : ℕ) : Type 0 where
+  pub gains : Gains call.out (outcome_for of_run steps).printed
+  pub good : IsGood goal of_check.table (outcome_for of_run steps).printed
 
--- where one program is checked, and run with status 0 for any request and number of units, a good page stands on `out`: a valid one, unless nesting was asked for
+-- where one program is checked, and run with status 0 for any request and number of units, a good page stands on `out`: a valid one, unless
+-- nesting was asked for
 abbrev pub CheckedRunsPrintGoodPages : Type 0
 CheckedRunsPrintGoodPages =
-    (checked ran : Call) (file other : List ℕ) (document_type : NamedType) (goal : Goal) (limit : ℕ) (form : AnswerForm) (request : Option (List ℕ)) (steps : ℕ)
-    (own : ProgramBy) (asked : ProgramFor) → own.program ≡ asked.program → IsChecked checked file document_type goal limit form own → HasRun ran other request steps asked
-    → PrintsGoodPage ran goal own asked steps
+    (checked ran : Call) (file other : List ℕ) (document_type : NamedType) (goal : Goal) (limit : ℕ) (form : AnswerForm)
+    (request : Option (List ℕ)) (steps : ℕ)
+    (of_check : ProgramBy) (of_run : ProgramFor) → of_check.program ≡ of_run.program
+    → IsChecked checked file document_type goal limit form of_check
+    → HasRun ran other request steps of_run → PrintsGoodPage ran goal of_check of_run steps

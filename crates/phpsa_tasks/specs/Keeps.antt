@@ -7,6 +7,8 @@ use Rattle.phpsa_tasks.specs.Sound.{IsSound}
 use Rattle.phpsa_tasks.specs.Written.{IsWritten}
 use Rattle.phpsa_tasks.specs.Counted.{IsCounted}
 
+-- each status has its cause, what is held and asked for is answered, a status 0 is right, what is due is written, and reads and faults are
+-- counted
 pub record Keeps (call : Call) (status : Exit) : Type 0 where
   pub ends : Ends call status
   pub answered : IsAnswered call status

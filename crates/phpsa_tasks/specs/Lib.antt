@@ -1,12 +1,13 @@
 pub mod Tasks
 pub mod Views
 pub mod Call
+pub mod Files
 pub mod Requests
 pub mod Subjects
 pub mod Replies
 pub mod Causes
 pub mod Counted
-pub mod Outcomes
+pub mod Results
 pub mod Endings
 pub mod Answered
 pub mod Sound

@@ -29,7 +29,7 @@ use Rattle.phpsa_tasks.specs.declared.task.TheConstants.{PAIR_LIMIT}
 use Rattle.phpsa_tasks.specs.Tasks.{Task, script_check, page_check, script_making, made_check, script_run, grammar_making, usage}
 use Rattle.phpsa_tasks.specs.Subjects.{ProgramFor, Subject, Finds}
 
--- how a script is decided by each answer for its program, and the text of the answer
+-- how a script is decided by each answer for its program
 abbrev pub conclusion_of : ShownAnswer → Conclusion
 conclusion_of ShownAnswer.Yes = conclusion.Yes
 conclusion_of (ShownAnswer.No shown) = conclusion.No
@@ -37,9 +37,11 @@ conclusion_of (ShownAnswer.Pairs count height) = conclusion.Undecided
 conclusion_of (ShownAnswer.Tags count height) = conclusion.Undecided
 conclusion_of (ShownAnswer.Items count) = conclusion.Undecided
 
+-- the status of an answer
 abbrev pub answer_status : ShownAnswer → Exit
 answer_status answer = conclusion_status (conclusion_of answer)
 
+-- the text of an answer, in lines or as a JSON object
 abbrev pub answer_text : AnswerForm → ShownAnswer → List ℕ
 answer_text form ShownAnswer.Yes = yes_answer form
 answer_text form (ShownAnswer.No shown) = no_answer form shown.length shown.front
@@ -60,13 +62,14 @@ IsJudged table page false = Valid table page → ⊥
 abbrev pub outcome_for : ProgramFor → ℕ → Outcome
 outcome_for subject steps = meaning subject.program subject.request steps
 
--- the status of a run by its end, and the text on `err` where that is not the end of the script
+-- the status of a run by its end
 abbrev pub end_status : runs.End → Exit
 end_status runs.Ended = Done
 end_status (runs.Faulted fault) = fault_status fault
 end_status runs.Spent = exit.Spent
 end_status runs.Deep = exit.Deep
 
+-- what is told on `err` of a run that was allowed so many units, by its end; nothing where it came to the end of the script
 abbrev pub end_text : ℕ → runs.End → List ℕ
 end_text steps runs.Ended = []
 end_text steps (runs.Faulted fault) = fault_text fault
@@ -80,7 +83,8 @@ IsEarly other = ⊤
 
 -- the text is that of productions that derive exactly the loose pages of a program
 abbrev pub IsGrammarText : PlainProgram → List ℕ → Type 0
-IsGrammarText program text = (productions : List Production) × (start : nt.Nt) × DerivePages program productions start × (text ≡ grammar_text start.0 productions)
+IsGrammarText program text = (productions : List Production) × (start : nt.Nt) × DerivePages program productions start
+    × (text ≡ grammar_text start.0 productions)
 
 -- the image of an operation of a program has so many items, over the limit
 abbrev pub HasManyItems : PlainProgram → ℕ → Type 0
@@ -89,12 +93,14 @@ HasManyItems program count = (ITEM_LIMIT < count) × HasLargeImage program count
 -- the grammar of a program is written, or a count is told that was passed
 abbrev pub IsGrammarReply : PlainProgram → Exit → List ℕ → Type 0
 IsGrammarReply program status text =
-    (IsGrammarText program text × (status ≡ Done)) ⊎ ((count : ℕ) × HasManyItems program count × (status ≡ Undecided) × (text ≡ passed_text (passed.Items count)))
+    (IsGrammarText program text × (status ≡ Done))
+    ⊎ ((count : ℕ) × HasManyItems program count × (status ≡ Undecided) × (text ≡ passed_text (passed.Items count)))
 
 -- what each task replies of what it speaks of: a run, where it came to its end; and nothing where nothing is asked for
 abbrev pub IsReplyOf : (task : Task) → Subject task → Exit → List ℕ → Type 0
 IsReplyOf (script_check file document_type goal limit form) subject status text =
-    (answer : ShownAnswer) × IsAnswer goal subject.table subject.program limit answer × (status ≡ answer_status answer) × (text ≡ answer_text form answer)
+    (answer : ShownAnswer) × IsAnswer goal subject.table subject.program limit answer × (status ≡ answer_status answer)
+    × (text ≡ answer_text form answer)
 IsReplyOf (page_check file document_type) subject status text =
     (valid : Bool) × IsJudged subject.table subject.page valid × (status ≡ judgment_status valid) × (text ≡ judgment_text valid)
 IsReplyOf (script_making functions) subject status text = IsSize functions × (status ≡ Done) × (text ≡ made functions)
@@ -108,7 +114,8 @@ IsReplyOf usage subject status text = ⊥
 
 -- what a run leaves that does not come to the end of the script: its status, what it printed, and the text on `err`
 abbrev pub IsHaltOf : (task : Task) → Subject task → Exit → List ℕ → List ℕ → Type 0
-IsHaltOf (script_run file request steps) subject status printed text = IsEarly (outcome_for subject steps).end × (status ≡ end_status (outcome_for subject steps).end)
+IsHaltOf (script_run file request steps) subject status printed text =
+    IsEarly (outcome_for subject steps).end × (status ≡ end_status (outcome_for subject steps).end)
     × (printed ≡ (outcome_for subject steps).printed) × (text ≡ end_text steps (outcome_for subject steps).end)
 IsHaltOf task subject status printed text = ⊥
 

@@ -12,7 +12,8 @@ use Rattle.phpsa_tasks.specs.Replies.{outcome_for}
 use Rattle.phpsa_tasks.specs.Subjects.{Subject, Holds}
 use Rattle.phpsa_tasks.specs.Call.{Call}
 
--- of a program, that its runs print good pages, which are valid ones unless nesting is asked for; of a page, that it is valid; of a number of functions, that a script may have so many; of a run, that it comes to its end; and never where
+-- of a program, that its runs print good pages, which are valid ones unless nesting is asked for; of a page, that it is valid; of a number
+-- of functions, that a script may have so many; of a run, that it comes to its end; and never where
 -- nothing is done
 abbrev pub Means : (task : Task) → Subject task → Type 0
 Means (script_check file document_type goal limit form) subject = RunsAreGood goal subject.table subject.program
@@ -23,7 +24,9 @@ Means (script_run file request steps) subject = (outcome_for subject steps).end 
 Means (grammar_making file) subject = ⊤
 Means usage subject = ⊥
 
--- After status 0 so it is of the program, or the page, that the source holds under the file that the words ask for, by the document type that they name, where the names that its
+-- After status 0 so it is of the program, or the page, that the source holds under the file that the words ask for, by the document type
+-- that they name, where the names that its
 -- definition asks for are told of.
 abbrev pub IsSound : Call → Exit → Type 0
-IsSound call status = status ≡ Done → (task : Task) (subject : Subject task) → AsksFor call.words task → Holds call.files.content task subject → Means task subject
+IsSound call status = status ≡ Done → (task : Task) (subject : Subject task) → AsksFor call.words task
+    → Holds call.files.content task subject → Means task subject

@@ -1,14 +1,15 @@
 -- What a task speaks of: a program, or a page, that stands under the name of a file, and the table of a definition.
-use Rattle.std.specs.Prelude.{◌≡◌, ◌≤◌, ℕ, List, length, None, Some, if◌then◌else◌, bytes_eq, codes, ⊤}
-use Rattle.text_base.specs.declared.limits.TheConstants.{FILE_LIMIT}
+use Rattle.std.specs.Prelude.{◌⊎◌, ℕ, List, Some, codes, ⊤}
 use Rattle.io_edge.specs.Told.{Tells}
 use Rattle.script_meaning.specs.Programs.{PlainProgram}
 use Rattle.script_meaning.specs.Requests.{PlainRequest, Admitted}
 use Rattle.told_programs.specs.Told.{Content, IsLoaded, HoldsProgram, AreShort}
 use Rattle.dtd_model.specs.Table.{Table}
+use Rattle.document_types.specs.OneFile.{file_alone}
 use Rattle.document_types.specs.DocumentTypes.{NamedType, strict_type, HasTable, NamesAreTold, NamesAreShort, IsTooLarge}
 use Rattle.shown_answers.specs.Decision.{HasManyStates}
 use Rattle.script_maker.specs.Made.{made, IsSize}
+use Rattle.phpsa_tasks.specs.Files.{HoldsShortFile}
 use Rattle.phpsa_tasks.specs.Requests.{FindsRequest, HoldsRequest}
 use Rattle.phpsa_tasks.specs.Tasks.{Task, script_check, page_check, script_making, made_check, script_run, grammar_making, usage}
 
@@ -27,13 +28,15 @@ pub record ProgramFor : Type 0 where
   pub program : PlainProgram
   pub request : PlainRequest
 
--- the name under which a generated script is loaded, and a source that has a file of this name alone: with this text, with so many functions
+-- the name under which a generated script is loaded
 abbrev pub made_name : List ℕ
 made_name = codes "made.php"
 
+-- a source that has a file of this name alone, with this text
 abbrev pub only_script : List ℕ → Content
-only_script text name = Some (if bytes_eq name made_name then Some text else None)
+only_script = file_alone made_name
 
+-- a source that has the generated script of so many functions alone
 abbrev pub only_made : ℕ → Content
 only_made functions = only_script (made functions)
 
@@ -47,11 +50,14 @@ Subject (script_run file request steps) = ProgramFor
 Subject (grammar_making file) = PlainProgram
 Subject usage = ⊤
 
--- what a task finds, whatever the source tells: under the file's name its program, with all that it includes, or its bytes, and a table of the document type, or the request
+-- what a task finds, whatever the source tells: under the file's name its program, with all that it includes, or its bytes, and a table of
+-- the document type, or the request
 -- that the program is run for, which is admitted; of a generated script, that it can be made, and its program, by the built-in definition
 abbrev pub Finds : Content → (task : Task) → Subject task → Type 0
-Finds content (script_check file document_type goal limit form) subject = IsLoaded content file subject.program × HasTable content document_type subject.table
-Finds content (page_check file document_type) subject = Tells (content file) (Some subject.page) × HasTable content document_type subject.table
+Finds content (script_check file document_type goal limit form) subject =
+    IsLoaded content file subject.program × HasTable content document_type subject.table
+Finds content (page_check file document_type) subject =
+    Tells (content file) (Some subject.page) × HasTable content document_type subject.table
 Finds content (script_making functions) subject = ⊤
 Finds content (made_check functions) subject =
     IsSize functions × IsLoaded (only_made functions) made_name subject.program × HasTable (only_made functions) strict_type subject.table
@@ -65,11 +71,6 @@ pub record HoldsShortProgram (content : Content) (file : List ℕ) (program : Pl
   pub holds : HoldsProgram content file program
   pub short : AreShort holds.held file
 
--- the source tells of the page, which is within the limit of a file
-pub record HoldsShortPage (content : Content) (file page : List ℕ) : Type 0 where
-  pub told : content file ≡ Some (Some page)
-  pub short : length page ≤ FILE_LIMIT
-
 -- the document type has this table, and the source tells of each name that its definition asks for
 pub record HoldsTable (content : Content) (document_type : NamedType) (table : Table) : Type 0 where
   pub has : HasTable content document_type table
@@ -77,12 +78,16 @@ pub record HoldsTable (content : Content) (document_type : NamedType) (table : T
 
 -- what the source tells all of; of a generated script, what it is
 abbrev pub Holds : Content → (task : Task) → Subject task → Type 0
-Holds content (script_check file document_type goal limit form) subject = HoldsShortProgram content file subject.program × HoldsTable content document_type subject.table
-Holds content (page_check file document_type) subject = HoldsShortPage content file subject.page × HoldsTable content document_type subject.table
+Holds content (script_check file document_type goal limit form) subject =
+    HoldsShortProgram content file subject.program × HoldsTable content document_type subject.table
+Holds content (page_check file document_type) subject =
+    HoldsShortFile content file subject.page × HoldsTable content document_type subject.table
 Holds content (script_making functions) subject = ⊤
 Holds content (made_check functions) subject =
-    IsSize functions × HoldsShortProgram (only_made functions) made_name subject.program × HoldsTable (only_made functions) strict_type subject.table
-Holds content (script_run file request steps) subject = HoldsShortProgram content file subject.program × HoldsRequest content request subject.request
+    IsSize functions × HoldsShortProgram (only_made functions) made_name subject.program
+    × HoldsTable (only_made functions) strict_type subject.table
+Holds content (script_run file request steps) subject =
+    HoldsShortProgram content file subject.program × HoldsRequest content request subject.request
 Holds content (grammar_making file) subject = HoldsShortProgram content file subject
 Holds content usage subject = ⊤
 
@@ -106,12 +111,17 @@ IsWithin content usage subject = ⊤
 abbrev pub HoldsDefinition : Content → NamedType → Type 0
 HoldsDefinition content document_type = (table : Table) × HoldsTable content document_type table × IsSmall content document_type table
 
--- the document type has a table, where there is one to ask for, and under the file's name nothing is found; or there is no generated script of this size
+-- the document type has a table, where there is one to ask for, and under the file's name nothing is found, or no request under its own; or
+-- there is no
+-- generated script of this size
 abbrev pub LacksFile : Content → Task → Type 0
-LacksFile content (script_check file document_type goal limit form) = HoldsDefinition content document_type × ((program : PlainProgram) → IsLoaded content file program → ⊥)
-LacksFile content (page_check file document_type) = HoldsDefinition content document_type × ((page : List ℕ) → Tells (content file) (Some page) → ⊥)
+LacksFile content (script_check file document_type goal limit form) =
+    HoldsDefinition content document_type × ((program : PlainProgram) → IsLoaded content file program → ⊥)
+LacksFile content (page_check file document_type) =
+    HoldsDefinition content document_type × ((page : List ℕ) → Tells (content file) (Some page) → ⊥)
 LacksFile content (script_making functions) = ⊥
 LacksFile content (made_check functions) = IsSize functions → ⊥
-LacksFile content (script_run file request steps) = (program : PlainProgram) → IsLoaded content file program → ⊥
+LacksFile content (script_run file request steps) =
+    ((program : PlainProgram) → IsLoaded content file program → ⊥) ⊎ ((found : PlainRequest) → FindsRequest content request found → ⊥)
 LacksFile content (grammar_making file) = (program : PlainProgram) → IsLoaded content file program → ⊥
 LacksFile content usage = ⊥

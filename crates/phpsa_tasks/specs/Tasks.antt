@@ -7,8 +7,10 @@ use Rattle.page_goals.specs.declared.goal.Goal.TheVariants.{Valid, Nested}
 use Rattle.phpsa_texts.specs.declared.answers.AnswerForm.{AnswerForm}
 use Rattle.phpsa_texts.specs.declared.answers.AnswerForm.TheVariants.{Plain, Json}
 
--- a script is decided by a goal, with a limit on the sums of a nonterminal; a page is judged; a script is made, or made and decided; a script is run, for the request of a file or
--- for one of empty arrays, with so many units; the grammar of the pages of a script is written; or nothing is asked for, and the usage is told
+-- a script is decided by a goal, with a limit on the sums of a nonterminal; a page is judged; a script is made, or made and decided; a
+-- script is run, for the request of a file or
+-- for one of empty arrays, with so many units; the grammar of the pages of a script is written; or nothing is asked for, and the usage is
+-- told
 pub data Task : Type 0 where
   script_check : (file : List ℕ) (document_type : NamedType) (goal : Goal) (limit : ℕ) (form : AnswerForm) → Task
   page_check : (file : List ℕ) (document_type : NamedType) → Task
@@ -30,7 +32,8 @@ goal_of false = Valid
 
 -- what is done for what words ask for
 abbrev pub task_of : Asked → Task
-task_of (check file definition limit by_nesting as_json) = script_check file (named_type definition) (goal_of by_nesting) limit (form_of as_json)
+task_of (check file definition limit by_nesting as_json) =
+    script_check file (named_type definition) (goal_of by_nesting) limit (form_of as_json)
 task_of (run file request steps) = script_run file request steps
 task_of (page file definition) = page_check file (named_type definition)
 task_of (grammar file) = grammar_making file

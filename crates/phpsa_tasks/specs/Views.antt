@@ -5,6 +5,7 @@ use Rattle.phpsa_tasks.specs.declared.task.Task as declared
 use Rattle.phpsa_tasks.specs.declared.task.Task.TheVariants as task
 use Rattle.phpsa_tasks.specs.Tasks.{Task, script_check, page_check, script_making, made_check, script_run, grammar_making, usage}
 
+-- the plain form of a task
 abbrev pub task_as : declared.Task → Task
 task_as (task.ScriptCheck file document_type goal limit form) = script_check file.now (type_of document_type) goal limit form
 task_as (task.PageCheck file document_type) = page_check file.now (type_of document_type)

@@ -15,12 +15,12 @@ use Rattle.phpsa_tasks.specs.Replies.{outcome_for}
 use Rattle.phpsa_tasks.specs.Call.{Output, Call, Gains}
 
 -- status 0, or that of a run that does not come to its end
-abbrev pub IsDone : Exit → Type 0
-IsDone exit.Done = ⊤
-IsDone exit.Fault = ⊤
-IsDone exit.Spent = ⊤
-IsDone exit.Deep = ⊤
-IsDone other = ⊥
+abbrev pub HasAllWritten : Exit → Type 0
+HasAllWritten exit.Done = ⊤
+HasAllWritten exit.Fault = ⊤
+HasAllWritten exit.Spent = ⊤
+HasAllWritten exit.Deep = ⊤
+HasAllWritten other = ⊥
 
 -- an answer; a script; what the run printed, by its meaning; or the text of productions that derive exactly the loose pages of the program
 abbrev pub Writes : (task : Task) → Subject task → Output → Type 0
@@ -33,5 +33,7 @@ Writes (grammar_making file) subject out =
     (productions : List Production) × (start : nt.Nt) × DerivePages subject productions start × Gains out (grammar_text start.0 productions)
 Writes usage subject out = ⊥
 
+-- after a status that says that all is written, what was asked for stands on `out`, where the source tells all of what the task needs
 abbrev pub IsWritten : Call → Exit → Type 0
-IsWritten call status = IsDone status → (task : Task) (subject : Subject task) → AsksFor call.words task → Holds call.files.content task subject → Writes task subject call.out
+IsWritten call status = HasAllWritten status → (task : Task) (subject : Subject task) → AsksFor call.words task
+    → Holds call.files.content task subject → Writes task subject call.out

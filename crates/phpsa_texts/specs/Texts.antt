@@ -57,6 +57,7 @@ passed_text (passed.Pairs count height) = sums_text (codes "pairs") count height
 passed_text (passed.Tags count height) = sums_text (codes "tags") count height
 passed_text (passed.Items count) = codes "undecided items " ++ decimal count ++ 10 ∷ []
 
+-- on `out`, where a stated count was passed, as JSON
 abbrev pub passed_json : PassedCount → List ℕ
 passed_json (passed.Pairs count height) = sums_json (codes "pairs") count height
 passed_json (passed.Tags count height) = sums_json (codes "tags") count height
@@ -67,10 +68,12 @@ abbrev pub yes_answer : AnswerForm → List ℕ
 yes_answer Plain = yes_text
 yes_answer Json = yes_json
 
+-- on `out`, where a loose page is not good, in the form that was asked for
 abbrev pub no_answer : AnswerForm → ℕ → List ℕ → List ℕ
 no_answer Plain len front = no_text len front
 no_answer Json len front = no_json len front
 
+-- on `out`, where a stated count was passed, in the form that was asked for
 abbrev pub passed_answer : AnswerForm → PassedCount → List ℕ
 passed_answer Plain count = passed_text count
 passed_answer Json count = passed_json count
@@ -84,7 +87,8 @@ conclusion_word conclusion.Undecided = codes "undecided"
 -- on `out`, where a generated script with so many functions and bytes was decided
 abbrev pub summary_text : ℕ → ℕ → Conclusion → List ℕ
 summary_text functions bytes answer =
-    codes "functions " ++ decimal functions ++ 10 ∷ (codes "bytes " ++ decimal bytes ++ 10 ∷ (codes "answer " ++ conclusion_word answer ++ 10 ∷ []))
+    codes "functions " ++ decimal functions ++ 10
+    ∷ (codes "bytes " ++ decimal bytes ++ 10 ∷ (codes "answer " ++ conclusion_word answer ++ 10 ∷ []))
 
 -- on `out`, where it is said whether a page is valid
 abbrev pub judgment_text : Bool → List ℕ
@@ -200,6 +204,7 @@ fault_number fault.WrongType = 8
 fault_number fault.Long = 9
 fault_number fault.Memory = 0
 
+-- the name of a fault of a run
 abbrev pub fault_kind : Fault → List ℕ
 fault_kind fault.Float = codes "Float"
 fault_kind fault.NotNumber = codes "NotNumber"
@@ -237,15 +242,19 @@ size_text functions = named_text (codes "Size") (decimal functions)
 abbrev pub check_usage : List ℕ
 check_usage = codes "phpsa check FILE [--dtd D] [--limit N] [--nesting] [--json]" ++ 10 ∷ []
 
+-- what `run` takes
 abbrev pub run_usage : List ℕ
 run_usage = codes "phpsa run FILE [--request FILE] [--steps N]" ++ 10 ∷ []
 
+-- what `page` takes
 abbrev pub page_usage : List ℕ
 page_usage = codes "phpsa page FILE [--dtd D]" ++ 10 ∷ []
 
+-- what `grammar` takes
 abbrev pub grammar_usage : List ℕ
 grammar_usage = codes "phpsa grammar FILE" ++ 10 ∷ []
 
+-- what `make` takes
 abbrev pub make_usage : List ℕ
 make_usage = codes "phpsa make N [--check]" ++ 10 ∷ []
 

@@ -22,6 +22,7 @@ pub record Reader (P T S : Type 0) : Type 0 where
 
 -- One piece.
 
+-- what comes of a text from some state on, as far as the first piece
 pub data Outcome (P T S : Type 0) : Type 0 where
   -- a piece ended: the place behind it, its tokens, and what is left
   whole : P → List T → List ℕ → Outcome P T S
@@ -29,6 +30,7 @@ pub data Outcome (P T S : Type 0) : Type 0 where
   -- the text ended in a piece, or before one
   stuck : S → Outcome P T S
 
+-- the outcome by a move: what the text that is left leads to, or the end of the piece
 abbrev pub next : {P T S : Type 0} → Move P T S → (S → Outcome P T S) → List ℕ → Outcome P T S
 next (go s) more left = more s
 next (done place tokens) more left = whole place tokens left
@@ -41,11 +43,13 @@ ends r s (b ∷ bs) = next (r.step s b) (λ g. ends r g bs) bs
 
 -- A whole text. Where no piece can come of the rest any more there is no state.
 
+-- the state behind a move: where a piece ends, that before the next one
 abbrev pub to_state : {P T S : Type 0} → Reader P T S → Move P T S → Option S
 to_state r (go s) = Some s
 to_state r (done place tokens) = Some (r.first place)
 to_state r fail = None
 
+-- what a move puts out: the tokens of a piece that ends, or the token for a rest that no piece begins
 abbrev pub put_out : {P T S : Type 0} → Reader P T S → Move P T S → List T
 put_out r (go s) = []
 put_out r (done place tokens) = tokens
@@ -69,6 +73,7 @@ all_tokens r (Some s) (b ∷ bs) = put_out r (r.step s b) ++ all_tokens r (to_st
 
 -- A reader that fails sooner.
 
+-- the move, where a state that it leads to passes, and else a failure
 abbrev pub kept : {P T S : Type 0} → (S → Bool) → Move P T S → Move P T S
 kept test (go s) = if test s then go s else fail
 kept test (done place tokens) = done place tokens

@@ -9,12 +9,14 @@ use Rattle.plain_values.specs.declared.numeric.Numeric.TheVariants.{Integer, Flo
 use Rattle.plain_values.specs.declared.fault.Fault.{Fault}
 use Rattle.plain_values.specs.declared.fault.Fault.TheVariants as fault
 
+-- an integer text as a number; a float text and a text that is not numeric are faults
 abbrev pub number_in : Numeric → Result ℤ Fault
 number_in (Integer z) = Ok z
 number_in Float = Err fault.Float
 number_in Other = Err fault.NotNumber
 
--- an operand as a number: an integer itself, null 0, false 0 and true 1, an integer text its value; floats, other texts and arrays are left out
+-- an operand as a number: an integer itself, null 0, false 0 and true 1, an integer text its value; floats, other texts and arrays are left
+-- out
 abbrev pub number_of : Plain → Result ℤ Fault
 number_of null = Ok (pos 0)
 number_of (flag false) = Ok (pos 0)
@@ -27,6 +29,7 @@ number_of (array ps) = Err fault.WrongType
 abbrev pub in_64_bits : ℤ → Result ℤ Fault
 in_64_bits z = if is_in_range z then Ok z else Err fault.Float
 
+-- an integer as a value; a fault stays
 abbrev pub integer : Result ℤ Fault → Result Plain Fault
 integer r = go_on r (λ z. Ok (int z))
 

@@ -22,15 +22,18 @@ compare_numeric (Integer a) Other bytes = Ok bytes
 compare_numeric Float Other bytes = Ok bytes
 compare_numeric Other n bytes = Ok bytes
 
+-- two texts: as integers where both are, by their bytes where one is not numeric, and a fault for a float text beside a numeric one
 abbrev pub compare_texts : List ℕ → List ℕ → Result Ordering Fault
 compare_texts s t = compare_numeric (numeric s) (numeric t) (slice_cmp nat_cmp s t)
 
--- an integer against a text: an integer text is compared as a number, a float text is left out, and another text is compared with the decimal form by bytes
+-- an integer against a text: an integer text is compared as a number, a float text is left out, and another text is compared with the
+-- decimal form by bytes
 abbrev pub compare_integer : ℤ → Numeric → List ℕ → Result Ordering Fault
 compare_integer a (Integer b) t = Ok (int_cmp a b)
 compare_integer a Float t = Err fault.Float
 compare_integer a Other t = Ok (slice_cmp nat_cmp (signed_decimal a) t)
 
+-- the answer with the two sides exchanged; a fault stays
 abbrev pub reversed : Result Ordering Fault → Result Ordering Fault
 reversed (Ok o) = Ok (ordering_reverse o)
 reversed (Err e) = Err e
@@ -54,6 +57,7 @@ compare (text s) (flag g) = Ok (bool_cmp (truth (text s)) g)
 compare (text s) (int b) = reversed (compare_integer b (numeric s) s)
 compare (text s) (text t) = compare_texts s t
 
+-- what a test says of the answer; a fault stays
 abbrev pub ask : (Ordering → Bool) → Result Ordering Fault → Result Bool Fault
 ask test (Ok o) = Ok (test o)
 ask test (Err e) = Err e

@@ -23,6 +23,7 @@ pub record IsDnum (m : List ℕ) : Type 0 where
   pub parts : m ≡ front ++ 46 ∷ back
   pub digits : IsLnum (front ++ back)
 
+-- an LNUM or a DNUM
 abbrev pub IsMantissa : List ℕ → Type 0
 IsMantissa m = IsLnum m ⊎ IsDnum m
 

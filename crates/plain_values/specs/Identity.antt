@@ -15,6 +15,7 @@ abbrev mutual
   identical (array ps) (array qs) = identical_pairs ps qs
   identical _ _ = false
 
+  -- the same keys with identical values, in the same order
   pub identical_pairs : Pairs → Pairs → Bool
   identical_pairs empty empty = true
   identical_pairs (pair j v ps) (pair k u qs) = same_key j k && (identical v u && identical_pairs ps qs)

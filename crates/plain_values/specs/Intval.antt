@@ -12,6 +12,7 @@ use Rattle.plain_values.specs.declared.fault.Fault.TheVariants as fault
 abbrev pub leading_digits : List ℕ → List ℕ
 leading_digits t = take_while is_ascii_digit t
 
+-- what stands behind the longest run of digits that a text begins with
 abbrev pub behind_digits : List ℕ → List ℕ
 behind_digits t = drop (length (leading_digits t)) t
 
@@ -30,6 +31,7 @@ abbrev pub behind_fraction : List ℕ → List ℕ
 behind_fraction [] = []
 behind_fraction (b ∷ bs) = if is_dot b then behind_digits bs else b ∷ bs
 
+-- whether the first byte is a decimal digit; the empty text has none
 abbrev pub begins_with_digit : List ℕ → Bool
 begins_with_digit [] = false
 begins_with_digit (b ∷ bs) = is_ascii_digit b
@@ -42,7 +44,8 @@ begins_exponent (b ∷ bs) = is_exponent_mark b && begins_with_digit (without_le
 -- behind the sign: digits, a dot and digits or neither, at least one digit in all, and an exponent
 abbrev pub is_exponent_form : List ℕ → Bool
 is_exponent_form unsigned =
-    nat_lt 0 (length (leading_digits unsigned ++ leading_digits (behind_dot (behind_digits unsigned)))) && begins_exponent (behind_fraction (behind_digits unsigned))
+    nat_lt 0 (length (leading_digits unsigned ++ leading_digits (behind_dot (behind_digits unsigned))))
+    && begins_exponent (behind_fraction (behind_digits unsigned))
 
 -- the sign and the digits in front, as a number; 0 where there is no digit
 abbrev pub number_in_front : List ℕ → ℤ
@@ -50,7 +53,8 @@ number_in_front body = signed_digits_value 10 (leading_sign body ++ leading_digi
 
 -- blanks in front are passed over; a text in exponent form would be a float
 abbrev pub text_integer : List ℕ → Result ℤ Fault
-text_integer t = let body = skip_blanks t in if is_exponent_form (without_leading_sign body) then Err fault.Float else in_64_bits (number_in_front body)
+text_integer t = let body = skip_blanks t in if is_exponent_form (without_leading_sign body) then Err fault.Float
+    else in_64_bits (number_in_front body)
 
 -- `intval(v)`: an integer itself, null 0, false 0 and true 1, the number in front of a text
 abbrev pub integer_of : Plain → Result Plain Fault

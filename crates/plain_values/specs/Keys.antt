@@ -14,6 +14,7 @@ use Rattle.plain_values.specs.declared.fault.Fault.TheVariants.{BadIndex}
 abbrev pub canonical_integer : List ℕ → Option ℤ
 canonical_integer t = let z = signed_digits_value 10 t in if is_in_range z && pointwise nat_eq (signed_decimal z) t then Some z else None
 
+-- the key of a text: the integer whose decimal form it is, if there is one, and else the text
 abbrev pub canonical_key : List ℕ → Option ℤ → PlainKey
 canonical_key t (Some z) = int_key z
 canonical_key t None = text_key t

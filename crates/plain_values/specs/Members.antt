@@ -47,6 +47,7 @@ larger (int_key z) None = Some z
 larger (int_key z) (Some y) = Some (int_max z y)
 larger (text_key t) best = best
 
+-- the largest of an integer, if there is one, and the integer keys among these, if there are any
 abbrev pub largest_from : Option ℤ → List PlainKey → Option ℤ
 largest_from best [] = best
 largest_from best (k ∷ ks) = largest_from (larger k best) ks
@@ -60,6 +61,7 @@ abbrev pub key_after : Option ℤ → Option ℤ
 key_after None = Some (pos 0)
 key_after (Some z) = if int_eq z (pos 9223372036854775807) then None else Some (z +ℤ pos 1)
 
+-- an array with a value put at this integer key; where there is no key to put it at, the array is full
 abbrev pub push_at : Pairs → Option ℤ → Plain → Result Plain Fault
 push_at ps None new = Err Full
 push_at ps (Some z) new = within_depth (put_pair ps (int_key z) new)

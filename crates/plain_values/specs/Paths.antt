@@ -63,6 +63,7 @@ abbrev pub change_member : (Plain → Result Plain Fault) → Pairs → Option P
 change_member change ps None = Err Full
 change_member change ps (Some k) = put_back ps k (change (member ps k))
 
+-- a change of an array at a step: of the member at its key, or at the key that comes next; a fault in place of the array stays
 abbrev pub change_in : (Plain → Result Plain Fault) → Step → Result Pairs Fault → Result Plain Fault
 change_in change s (Err fault) = Err fault
 change_in change s (Ok ps) = change_member change ps (named_key s (key_after (largest_key ps)))
@@ -77,7 +78,8 @@ abbrev pub no_deeper : Result Plain Fault → Result Plain Fault
 no_deeper (Ok v) = if nat_le (depth v) 1000 then Ok v else Err Long
 no_deeper (Err fault) = Err fault
 
--- a write at the end of a path: a value that is no array on the way faults first, from the outermost in, then an array that is full, then one that would be too deep
+-- a write at the end of a path: a value that is no array on the way faults first, from the outermost in, then an array that is full, then
+-- one that would be too deep
 abbrev pub write : List Step → Plain → Plain → Result Plain Fault
 write path new old = no_deeper (put_in path new old)
 
@@ -91,6 +93,7 @@ abbrev pub add_items : List (Option Plain × Plain) → Plain → Result Plain F
 add_items [] made = Ok made
 add_items (item ∷ items) made = go_on (add_item made item.0 item.1) (add_items items)
 
+-- an array literal: its items put into the empty array, from the left to the right
 abbrev pub literal_of : List (Option Plain × Plain) → Result Plain Fault
 literal_of items = add_items items (array empty)
 

@@ -45,6 +45,7 @@ abbrev mutual
   weight empty = 0
   weight (pair k v ps) = 1 + weight_of v + weight ps
 
+  -- what a value adds to the weight of the array that it stands in: 2 and its own weight for an array, and 0 for any other value
   pub weight_of : Plain → ℕ
   weight_of null = 0
   weight_of (flag b) = 0

@@ -13,11 +13,13 @@ text_of (int z) = signed_decimal z
 text_of (text t) = t
 text_of (array ps) = codes "Array"
 
+-- false for the empty text and for `0`, and true for any other text
 abbrev pub text_truth : List ℕ → Bool
 text_truth [] = false
 text_truth (b ∷ []) = not (b == 48)
 text_truth (b ∷ (c ∷ bs)) = true
 
+-- false for the empty array, and true for any other
 abbrev pub pairs_truth : Pairs → Bool
 pairs_truth empty = false
 pairs_truth (pair k v ps) = true

@@ -1,0 +1,1 @@
+pub use Rattle.source_listing.proofs.PlaceLemmas

@@ -11,7 +11,7 @@ mod versions;
 mod work;
 
 pub use printed::push_out;
-pub use source_listing::{Place, proofs};
+pub use source_listing::Place;
 pub use values::push_value;
 pub use versions::{push_entry, push_link, push_members, push_pairs, push_shown};
 pub use work::{

@@ -17,6 +17,7 @@ exact_flag true false h = cc
 exact_flag false true h = cc
 exact_flag false false h = refl
 
+-- lists of flags that are found equal are one
 pub exact_flags : (xs ys : List Bool) → pointwise beq xs ys ≡ true → xs ≡ ys
 exact_flags [] [] h = refl
 exact_flags [] (y ∷ ys) h = cc

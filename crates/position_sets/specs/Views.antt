@@ -7,12 +7,15 @@ use Rattle.content_positions.specs.Walks.{place_at, joined}
 use Rattle.position_sets.specs.declared.places.Behind.{Behind}
 use Rattle.position_sets.specs.declared.places.Place.{Place}
 
+-- the plain form of what may come next
 abbrev pub next_of : Behind → Next
 next_of b = record { positions = b.positions.items; whole = b.whole }
 
+-- the plain form of a position
 abbrev pub position_of : Place → Position
 position_of p = record { element = p.element; behind = next_of p.behind }
 
+-- the plain form of positions in their order
 abbrev pub positions_of : List Place → List Position
 positions_of places = map position_of places
 
@@ -29,6 +32,7 @@ slot_of (Some b) = Some (next_of b)
 abbrev pub either : Next → Next → Next
 either a b = record { positions = a.positions ++ b.positions; whole = a.whole || b.whole }
 
+-- what may come next by either, or by the second alone where there is no first
 abbrev pub joined_to : Option Next → Next → Next
 joined_to None b = b
 joined_to (Some a) b = either a b

@@ -26,11 +26,14 @@ EachIsGood goal table program = (page : List ℕ) → IsLoosePage program page �
 abbrev pub IsCounterexample : Goal → Table → PlainProgram → Derivation → Type 0
 IsCounterexample goal table program derivation = IsBadPage table (IsLoosePage program) goal derivation
 
--- one image has at least so many items: that of an operation of a system that has exactly the loose pages, or that of productions that derive exactly these, under
+-- one image has at least so many items: that of an operation of a system that has exactly the loose pages, or that of productions that
+-- derive exactly these, under
 -- the machine that reads pages
-pub data HasManyItems {S : Type 0} (first : S) (steps : S → ℕ → S → List Letter → Type 0) (program : PlainProgram) (count : ℕ) : Type 0 where
+pub data HasManyItems {S : Type 0} (first : S) (steps : S → ℕ → S → List Letter → Type 0) (program : PlainProgram) (count : ℕ) :
+    Type 0 where
   by_operation : HasLargeImage program count → HasManyItems first steps program count
-  by_pages : (productions : List Production) (start : nt.Nt) → DerivePages program productions start → HasItems productions steps start first count
+  by_pages : (productions : List Production) (start : nt.Nt) → DerivePages program productions start
+      → HasItems productions steps start first count
       → HasManyItems first steps program count
 
 module _ {S : Type 0} (first : S) (steps : S → ℕ → S → List Letter → Type 0) where

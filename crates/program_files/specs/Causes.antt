@@ -42,12 +42,15 @@ pub record NamesTooMany (call : SourceCall) (name : List ℕ) (count : ℕ) : Ty
 
 -- the cause of a refusal while files are read
 abbrev pub IsReadCause : SourceCall → List ℕ → LoadRefusal → Type 0
-IsReadCause call name (Missing path) = StopsAt call name path × Rises call.misses call.misses' × Tells (call.content path) None × (call.faults' ≡ call.faults)
+IsReadCause call name (Missing path) =
+    StopsAt call name path × Rises call.misses call.misses' × Tells (call.content path) None × (call.faults' ≡ call.faults)
 IsReadCause call name (ReadFault path) = StopsAt call name path × Rises call.faults call.faults' × (call.misses' ≡ call.misses)
 IsReadCause call name (TooLong path len) =
-    StopsAt call name path × (FILE_LIMIT < len) × HasAtLeast (call.content path) len × (call.faults' ≡ call.faults) × (call.misses' ≡ call.misses)
+    StopsAt call name path × (FILE_LIMIT < len) × HasAtLeast (call.content path) len × (call.faults' ≡ call.faults)
+    × (call.misses' ≡ call.misses)
 IsReadCause call name (Script path fault) =
-    StopsAt call name path × ((bytes : List ℕ) × Tells (call.content path) (Some bytes) × IsScriptFault bytes fault) × (call.faults' ≡ call.faults) × (call.misses' ≡ call.misses)
+    StopsAt call name path × ((bytes : List ℕ) × Tells (call.content path) (Some bytes) × IsScriptFault bytes fault)
+    × (call.faults' ≡ call.faults) × (call.misses' ≡ call.misses)
 IsReadCause call name (IncludeCycle path) = ⊥
 IsReadCause call name (DoubleFunction function) = ⊥
 IsReadCause call name (UnknownFunction function) = ⊥
@@ -56,7 +59,8 @@ IsReadCause call name (TooMany count) = NamesTooMany call name count × (call.fa
 IsReadCause call name Memory = (call.faults' ≡ call.faults) × (call.misses' ≡ call.misses)
 
 -- one file is read: its tree goes behind those before it, and its includes go before all other names
-pub record ReadsOne (call : SourceCall) (path : List ℕ) (files : List ReadFile) (paths : List (List ℕ)) (files' : List ReadFile) (paths' : List (List ℕ)) : Type 0 where
+pub record ReadsOne (call : SourceCall) (path : List ℕ) (files : List ReadFile) (paths : List (List ℕ)) (files' : List ReadFile)
+    (paths' : List (List ℕ)) : Type 0 where
   pub tree : PlainFile
   pub told : HasTold call.content path tree
   pub more : files' ≡ files ++ record { name = path; tree = tree } ∷ []
@@ -67,12 +71,17 @@ pub record ReadsOne (call : SourceCall) (path : List ℕ) (files : List ReadFile
 
 -- one file is refused
 abbrev pub IsOneCause : SourceCall → List ℕ → LoadRefusal → Type 0
-IsOneCause call path (Missing name) = (name ≡ path) × (call.reads' ≡ one_more call.reads) × Rises call.misses call.misses' × Tells (call.content path) None × (call.faults' ≡ call.faults)
-IsOneCause call path (ReadFault name) = (name ≡ path) × (call.reads' ≡ one_more call.reads) × Rises call.faults call.faults' × (call.misses' ≡ call.misses)
+IsOneCause call path (Missing name) =
+    (name ≡ path) × (call.reads' ≡ one_more call.reads) × Rises call.misses call.misses' × Tells (call.content path) None
+    × (call.faults' ≡ call.faults)
+IsOneCause call path (ReadFault name) =
+    (name ≡ path) × (call.reads' ≡ one_more call.reads) × Rises call.faults call.faults' × (call.misses' ≡ call.misses)
 IsOneCause call path (TooLong name len) =
-    (name ≡ path) × (call.reads' ≡ one_more call.reads) × (FILE_LIMIT < len) × HasAtLeast (call.content path) len × (call.faults' ≡ call.faults) × (call.misses' ≡ call.misses)
+    (name ≡ path) × (call.reads' ≡ one_more call.reads) × (FILE_LIMIT < len) × HasAtLeast (call.content path) len
+    × (call.faults' ≡ call.faults) × (call.misses' ≡ call.misses)
 IsOneCause call path (Script name fault) =
-    (name ≡ path) × (call.reads' ≡ one_more call.reads) × ((bytes : List ℕ) × Tells (call.content path) (Some bytes) × IsScriptFault bytes fault) × (call.faults' ≡ call.faults)
+    (name ≡ path) × (call.reads' ≡ one_more call.reads)
+    × ((bytes : List ℕ) × Tells (call.content path) (Some bytes) × IsScriptFault bytes fault) × (call.faults' ≡ call.faults)
     × (call.misses' ≡ call.misses)
 IsOneCause call path (IncludeCycle file) = ⊥
 IsOneCause call path (DoubleFunction function) = ⊥

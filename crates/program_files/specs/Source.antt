@@ -5,6 +5,7 @@ use Rattle.io_edge.specs.Told.{Tells}
 use Rattle.php_syntax.specs.Trees.{PlainFile}
 use Rattle.program_files.specs.Scripts.{IsScript}
 
+-- a source's contents, and its counts of faults, misses and reads before the call and (with a prime) after it
 pub record SourceCall : Type 0 where
   pub content : List ℕ → Option (Option (List ℕ))
   pub faults : ℕ
@@ -14,6 +15,7 @@ pub record SourceCall : Type 0 where
   pub reads : ℕ
   pub reads' : ℕ
 
+-- such a call by its parts
 abbrev pub source_call : (List ℕ → Option (Option (List ℕ))) → ℕ → ℕ → ℕ → ℕ → ℕ → ℕ → SourceCall
 source_call content faults faults' misses misses' reads reads' =
     record { content = content; faults = faults; faults' = faults'; misses = misses; misses' = misses'; reads = reads; reads' = reads' }

@@ -9,14 +9,17 @@ use Rattle.program_files.specs.declared.tree.Unread.{Unread}
 use Rattle.program_files.specs.declared.tree.Unread.TheVariants as unread
 use Rattle.program_files.specs.Scripts.{IsScriptFault}
 
+-- a refusal of the lexer, as a reason for a script without a tree
 abbrev pub lexed_as : LexRefusal → Unread
 lexed_as lexed.Memory = unread.Memory
 lexed_as refusal = unread.Script (Lex refusal)
 
+-- a refusal of the parser, as a reason for a script without a tree
 abbrev pub parsed_as : ParseRefusal → Unread
 parsed_as parsed.Memory = unread.Memory
 parsed_as refusal = unread.Script (Parse refusal)
 
+-- the reason is so of the script; want of memory is none
 abbrev pub IsUnread : List ℕ → Unread → Type 0
 IsUnread script (unread.Script fault) = IsScriptFault script fault
 IsUnread script unread.Memory = ⊤

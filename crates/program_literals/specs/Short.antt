@@ -5,9 +5,11 @@ use Rattle.text_base.specs.declared.limits.TheConstants.{TEXT_LIMIT}
 use Rattle.script_meaning.specs.Programs.{PlainProgram}
 use Rattle.program_points.specs.Texts.{statement_texts, function_texts}
 
+-- whether a text is within the limit of a run
 abbrev pub is_short : List ℕ → Bool
 is_short t = nat_le (length t) TEXT_LIMIT
 
+-- whether each of the texts is
 unfoldable pub all_short : List (List ℕ) → Bool
 all_short ts = list_all is_short ts
 

@@ -15,7 +15,8 @@ use Rattle.loading_laws.specs.FileRules.{KeepFunctionRules}
 use Rattle.loading_laws.specs.Loaded.{StandsForProgram}
 use Rattle.function_rules.specs.Causes.{IsFunctionCause}
 
--- what the source held agrees with all that it tells; these are the files that the program of the name reads, in the order of first include, at most 256 beside
+-- what the source held agrees with all that it tells; these are the files that the program of the name reads, in the order of first
+-- include, at most 256 beside
 -- its own, and each was asked for once; no count of faults or misses rose
 pub record HasFiles (call : SourceCall) (name : List ℕ) : Type 0 where
   pub held : Held

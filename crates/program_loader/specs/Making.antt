@@ -45,7 +45,8 @@ pub record PassLimit (files : List ReadFile) (name : List ℕ) (refusal : LoadRe
   pub order : List (List ℕ)
   pub sorted : IsIncludeOrder files order
   pub rules : KeepFunctionRules files
-  pub cause : IsSizeCause (program_places files (length order) (tree_named files name)) (program_within files (length order) (tree_named files name)) refusal
+  pub cause : IsSizeCause (program_places files (length order) (tree_named files name))
+      (program_within files (length order) (tree_named files name)) refusal
 
 -- why they make none: a file includes itself, a rule is broken, or a limit is passed
 abbrev pub IsMakeCause : List ReadFile → List ℕ → LoadRefusal → Type 0

@@ -12,6 +12,8 @@ left_out_of (Some b) own n = 0
 left_out_of None None n = 0
 left_out_of None (Some f) n = length (drop n f.params_of)
 
+-- how many arguments all these calls leave out
 abbrev pub left_out : List PlainFunction → List PlainCall → ℕ
 left_out functions [] = 0
-left_out functions (call ∷ calls) = left_out_of (builtin_named call.name_of) (function_named functions call.name_of) call.arguments + left_out functions calls
+left_out functions (call ∷ calls) =
+    left_out_of (builtin_named call.name_of) (function_named functions call.name_of) call.arguments + left_out functions calls

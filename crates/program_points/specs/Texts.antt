@@ -31,18 +31,22 @@ unfoldable mutual
   texts_in (step_expr x up before) = []
   texts_in (call_expr name args) = part_texts args
 
+  -- the text literals in an expression that may be left out
   pub maybe_texts : MaybeExpr → List (List ℕ)
   maybe_texts no_expr = []
   maybe_texts (some_expr e) = texts_in e
 
+  -- the text literals in expressions, from the left
   pub part_texts : PlainExprs → List (List ℕ)
   part_texts no_exprs = []
   part_texts (more_exprs e es) = texts_in e ++ part_texts es
 
+  -- the text literals in the items of an array literal, from the left, a key before its value
   pub item_texts : PlainItems → List (List ℕ)
   item_texts no_items = []
   item_texts (more_items k e is) = maybe_texts k ++ (texts_in e ++ item_texts is)
 
+  -- the text literals in the keys of a target, from the left
   pub path_texts : PlainPath → List (List ℕ)
   path_texts no_keys = []
   path_texts (more_keys k ks) = maybe_texts k ++ path_texts ks
@@ -50,6 +54,7 @@ unfoldable mutual
 unfoldable mutual
   unfolding texts_in
 
+  -- the text literals in a statement; the bytes outside PHP are none
   pub texts_of : PlainStmt → List (List ℕ)
   texts_of (inline_stmt bytes) = []
   texts_of (echo_stmt es) = part_texts es
@@ -65,18 +70,22 @@ unfoldable mutual
   texts_of (include_stmt path) = []
   texts_of (quit_stmt e) = maybe_texts e
 
+  -- the text literals in statements, in their order
   pub statement_texts : PlainStmts → List (List ℕ)
   statement_texts no_stmts = []
   statement_texts (more_stmts s ss) = texts_of s ++ statement_texts ss
 
+  -- the text literals in the arms of an `if`: in each those of its condition and then those of its body
   pub arm_texts : PlainArms → List (List ℕ)
   arm_texts no_arms = []
   arm_texts (more_arms e body arms) = texts_in e ++ (statement_texts body ++ arm_texts arms)
 
+-- the text literals in the defaults of parameters, in their order
 abbrev pub param_texts : List PlainParam → List (List ℕ)
 param_texts [] = []
 param_texts (p ∷ ps) = maybe_texts p.default_of ++ param_texts ps
 
+-- the text literals in functions: for each those of its defaults, and then those of its body
 abbrev pub function_texts : List PlainFunction → List (List ℕ)
 function_texts [] = []
 function_texts (f ∷ fs) = param_texts f.params_of ++ (statement_texts f.body_of ++ function_texts fs)

@@ -8,6 +8,7 @@ pub record PlainCall : Type 0 where
   pub name_of : List ℕ
   pub arguments : ℕ
 
+-- how many expressions there are
 unfoldable pub number_of : PlainExprs → ℕ
 number_of no_exprs = 0
 number_of (more_exprs e es) = suc (number_of es)
@@ -41,18 +42,22 @@ unfoldable mutual
   calls_in (step_expr x up before) = []
   calls_in (call_expr name args) = record { name_of = name; arguments = number_of args } ∷ part_calls args
 
+  -- the calls in an expression that may be left out
   pub maybe_calls : MaybeExpr → List PlainCall
   maybe_calls no_expr = []
   maybe_calls (some_expr e) = calls_in e
 
+  -- the calls in expressions, from the left
   pub part_calls : PlainExprs → List PlainCall
   part_calls no_exprs = []
   part_calls (more_exprs e es) = calls_in e ++ part_calls es
 
+  -- the calls in the items of an array literal, from the left, a key before its value
   pub item_calls : PlainItems → List PlainCall
   item_calls no_items = []
   item_calls (more_items k e is) = maybe_calls k ++ (calls_in e ++ item_calls is)
 
+  -- the calls in the keys of a target, from the left
   pub path_calls : PlainPath → List PlainCall
   path_calls no_keys = []
   path_calls (more_keys k ks) = maybe_calls k ++ path_calls ks
@@ -76,14 +81,17 @@ unfoldable mutual
   calls_of (include_stmt path) = []
   calls_of (quit_stmt e) = maybe_calls e
 
+  -- the calls in statements, in their order
   pub statement_calls : PlainStmts → List PlainCall
   statement_calls no_stmts = []
   statement_calls (more_stmts s ss) = calls_of s ++ statement_calls ss
 
+  -- the calls in the arms of an `if`: in each those of its condition and then those of its body
   pub arm_calls : PlainArms → List PlainCall
   arm_calls no_arms = []
   arm_calls (more_arms e body arms) = calls_in e ++ (statement_calls body ++ arm_calls arms)
 
+-- the calls in the bodies of functions, in their order
 unfoldable pub function_calls : List PlainFunction → List PlainCall
 unfolding calls_of
 function_calls [] = []

@@ -18,11 +18,13 @@ unfoldable mutual
   with_bodies bodies no_stmts = no_stmts
   with_bodies bodies (more_stmts s ss) = followed_by (with_bodies_in bodies s) (with_bodies bodies ss)
 
+  -- what stands for one statement: for an include the statements of its path, and for any other itself, with its bodies so changed
   pub with_bodies_in : (List ℕ → PlainStmts) → PlainStmt → PlainStmts
   with_bodies_in bodies (inline_stmt bytes) = more_stmts (inline_stmt bytes) no_stmts
   with_bodies_in bodies (echo_stmt es) = more_stmts (echo_stmt es) no_stmts
   with_bodies_in bodies (run_stmt e) = more_stmts (run_stmt e) no_stmts
-  with_bodies_in bodies (if_stmt arms otherwise) = more_stmts (if_stmt (with_bodies_in_arms bodies arms) (with_bodies bodies otherwise)) no_stmts
+  with_bodies_in bodies (if_stmt arms otherwise) =
+      more_stmts (if_stmt (with_bodies_in_arms bodies arms) (with_bodies bodies otherwise)) no_stmts
   with_bodies_in bodies (while_stmt e body) = more_stmts (while_stmt e (with_bodies bodies body)) no_stmts
   with_bodies_in bodies (do_while_stmt body e) = more_stmts (do_while_stmt (with_bodies bodies body) e) no_stmts
   with_bodies_in bodies (for_stmt begin e next body) = more_stmts (for_stmt begin e next (with_bodies bodies body)) no_stmts
@@ -33,11 +35,13 @@ unfoldable mutual
   with_bodies_in bodies (include_stmt path) = bodies path
   with_bodies_in bodies (quit_stmt e) = more_stmts (quit_stmt e) no_stmts
 
+  -- the arms of an `if`, with their bodies so changed
   pub with_bodies_in_arms : (List ℕ → PlainStmts) → PlainArms → PlainArms
   with_bodies_in_arms bodies no_arms = no_arms
   with_bodies_in_arms bodies (more_arms e body arms) = more_arms e (with_bodies bodies body) (with_bodies_in_arms bodies arms)
 
--- statements stand for themselves with each include replaced by what the statements of its file stand for; a file that includes itself stands for nothing
+-- statements stand for themselves with each include replaced by what the statements of its file stand for; a file that includes itself
+-- stands for nothing
 pub data StandsFor (held : Held) : PlainStmts → PlainStmts → Type 0 where
   stands : (ss : PlainStmts) (trees : List ℕ → PlainFile) (bodies : List ℕ → PlainStmts)
       → ((path : List ℕ) → Contains (includes_in ss) path → HasTree held path (trees path))

@@ -10,6 +10,7 @@ unfoldable mutual
   includes_in no_stmts = []
   includes_in (more_stmts s ss) = includes_of s ++ includes_in ss
 
+  -- the paths of the includes in a statement, from the left: of an include its own, and of any other those in its bodies
   pub includes_of : PlainStmt → List (List ℕ)
   includes_of (inline_stmt bytes) = []
   includes_of (echo_stmt es) = []
@@ -25,10 +26,12 @@ unfoldable mutual
   includes_of (include_stmt path) = path ∷ []
   includes_of (quit_stmt e) = []
 
+  -- the paths of the includes in the arms of an `if`, in their order
   pub includes_in_arms : PlainArms → List (List ℕ)
   includes_in_arms no_arms = []
   includes_in_arms (more_arms e body arms) = includes_in body ++ includes_in_arms arms
 
+-- the paths of the includes in the bodies of functions, in their order
 unfoldable pub includes_in_functions : List PlainFunction → List (List ℕ)
 unfolding includes_in
 includes_in_functions [] = []
@@ -42,9 +45,12 @@ includes_of_file tree = includes_in tree.body_of ++ includes_in_functions tree.f
 -- the names that a program reads: that of its file, and each include of a file that it reads
 pub data Reads (held : Held) (name : List ℕ) : List ℕ → Type 0 where
   itself : Reads held name name
-  included : (file path : List ℕ) (tree : PlainFile) → Reads held name file → HasTree held file tree → Contains (includes_of_file tree) path → Reads held name path
+  included : (file path : List ℕ) (tree : PlainFile) → Reads held name file → HasTree held file tree → Contains (includes_of_file tree) path
+      → Reads held name path
 
 -- a file includes another, directly or through others
 pub data LeadsTo (held : Held) : List ℕ → List ℕ → Type 0 where
-  directly : (file path : List ℕ) (tree : PlainFile) → HasTree held file tree → Contains (includes_of_file tree) path → LeadsTo held file path
-  through : (file path further : List ℕ) (tree : PlainFile) → HasTree held file tree → Contains (includes_of_file tree) path → LeadsTo held path further → LeadsTo held file further
+  directly : (file path : List ℕ) (tree : PlainFile) → HasTree held file tree → Contains (includes_of_file tree) path
+      → LeadsTo held file path
+  through : (file path further : List ℕ) (tree : PlainFile) → HasTree held file tree → Contains (includes_of_file tree) path
+      → LeadsTo held path further → LeadsTo held file further

@@ -1,4 +1,5 @@
--- How large a program may be, with its includes replaced: 256 places of includes, 200,000 nodes, and a height of 1,000. These limits are this
+-- How large a program may be, with its includes replaced: 256 places of includes, 200,000 nodes, and a height of 1,000. These limits are
+-- this
 -- project's own.
 use Rattle.std.specs.Prelude.{◌≤◌, ℕ, ◌+◌, suc, List, [], ◌∷◌}
 use Rattle.std.specs.List.{Contains}
@@ -24,7 +25,8 @@ pub data HasPlaces (held : Held) : PlainStmts → ℕ → Type 0 where
 -- and in the bodies of some functions
 pub data HavePlaces (held : Held) : List PlainFunction → ℕ → Type 0 where
   none : HavePlaces held [] 0
-  more : (f : PlainFunction) (fs : List PlainFunction) (m n : ℕ) → HasPlaces held f.body_of m → HavePlaces held fs n → HavePlaces held (f ∷ fs) (m + n)
+  more : (f : PlainFunction) (fs : List PlainFunction) (m n : ℕ) → HasPlaces held f.body_of m → HavePlaces held fs n
+      → HavePlaces held (f ∷ fs) (m + n)
 
 -- nodes and height of a program are those of one file with its statements and functions
 abbrev pub as_file : PlainProgram → PlainFile

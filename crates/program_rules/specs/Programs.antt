@@ -22,7 +22,8 @@ StandsAt files i file = slice_get files i ≡ Some file
 pub record AreRead (held : Held) (name : List ℕ) (files : List ReadFile) : Type 0 where
   pub each : (file : ReadFile) → Contains files file → Reads held name file.name × HasTree held file.name file.tree
   pub all : (path : List ℕ) → Reads held name path → (tree : PlainFile) × Contains files (record { name = path; tree = tree })
-  pub once : (i j : ℕ) (path : List ℕ) (tree other : PlainFile) → StandsAt files i (record { name = path; tree = tree }) → StandsAt files j (record { name = path; tree = other }) → i ≡ j
+  pub once : (i j : ℕ) (path : List ℕ) (tree other : PlainFile) → StandsAt files i (record { name = path; tree = tree })
+      → StandsAt files j (record { name = path; tree = other }) → i ≡ j
 
 -- the functions of all files, each file's in turn
 unfoldable pub functions_in : List ReadFile → List PlainFunction
@@ -32,13 +33,15 @@ functions_in (file ∷ files) = file.tree.functions_of ++ functions_in files
 -- each function of a table is one of the files', in their order, with what its body stands for
 pub data TableStandsFor (held : Held) : List PlainFunction → List PlainFunction → Type 0 where
   none : TableStandsFor held [] []
-  more : (f g : PlainFunction) (fs gs : List PlainFunction) → FunctionStandsFor held f g → TableStandsFor held fs gs → TableStandsFor held (f ∷ fs) (g ∷ gs)
+  more : (f g : PlainFunction) (fs gs : List PlainFunction) → FunctionStandsFor held f g → TableStandsFor held fs gs
+      → TableStandsFor held (f ∷ fs) (g ∷ gs)
 
 -- no file that the program reads includes itself, directly or through others
 abbrev pub HasNoCycle : Held → List ℕ → Type 0
 HasNoCycle held name = (path : List ℕ) → Reads held name path → LeadsTo held path path → ⊥
 
--- the program that the file of a name stands for: its statements, and one table of the functions of all files, by the rules and within the limits
+-- the program that the file of a name stands for: its statements, and one table of the functions of all files, by the rules and within the
+-- limits
 pub record IsProgram (held : Held) (name : List ℕ) (program : PlainProgram) : Type 0 where
   pub files : List ReadFile
   pub read : AreRead held name files

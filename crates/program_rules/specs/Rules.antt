@@ -8,6 +8,7 @@ use Rattle.builtin_meaning.specs.Arity.{arity_of}
 use Rattle.script_meaning.specs.Programs.{PlainProgram, function_named}
 use Rattle.program_rules.specs.Calls.{PlainCall, calls_of_program}
 
+-- whether there is one
 abbrev pub is_there : {A : Type 0} → Option A → Bool
 is_there None = false
 is_there (Some x) = true
@@ -21,6 +22,7 @@ unfoldable pub DefinesTwice : List PlainFunction → List ℕ → Type 0
 DefinesTwice [] name = ⊥
 DefinesTwice (f ∷ fs) name = ((f.name_of ≡ name) × (is_double name fs ≡ true)) ⊎ DefinesTwice fs name
 
+-- whether a default is written
 abbrev pub has_default : MaybeExpr → Bool
 has_default no_expr = false
 has_default (some_expr e) = true

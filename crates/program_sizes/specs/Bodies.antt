@@ -20,8 +20,10 @@ body_of_path files n path = of_body (places_within files n path) (bodies_within 
 
 -- a table has the sizes of the first files of an order, however many times more includes are replaced
 abbrev pub IsTableOfFirst : List ReadFile → List ℕ → ℕ → List Size → Type 0
-IsTableOfFirst files order k table = (n : ℕ) (path : List ℕ) → k ≤ n → Contains (take k (names_at files order)) path → sizes.capped (sizes.size_at files table path) ≡ sizes.capped (body_of_path files n path)
+IsTableOfFirst files order k table = (n : ℕ) (path : List ℕ) → k ≤ n → Contains (take k (names_at files order)) path
+    → sizes.capped (sizes.size_at files table path) ≡ sizes.capped (body_of_path files n path)
 
 -- and of all files
 pub record IsBodyTable (files : List ReadFile) (order : List ℕ) (table : List Size) : Type 0 where
-  pub sized : (n : ℕ) (path : List ℕ) → length order ≤ n → is_read files path ≡ true → sizes.capped (sizes.size_at files table path) ≡ sizes.capped (body_of_path files n path)
+  pub sized : (n : ℕ) (path : List ℕ) → length order ≤ n → is_read files path ≡ true
+      → sizes.capped (sizes.size_at files table path) ≡ sizes.capped (body_of_path files n path)

@@ -20,12 +20,14 @@ function_places files n (f ∷ fs) = one_each (places_within files n) (includes_
 abbrev pub program_places : List ReadFile → ℕ → PlainFile → ℕ
 program_places files n tree = one_each (places_within files n) (includes_in tree.body_of) + function_places files n (functions_in files)
 
--- a program, for which so many places of includes are replaced, passes a limit, and no limit before that one; the count is that limit and one more
+-- a program, for which so many places of includes are replaced, passes a limit, and no limit before that one; the count is that limit and
+-- one more
 abbrev pub PassesLimit : ℕ → PlainProgram → ℕ → Type 0
 PassesLimit places program count =
     ((PLACE_LIMIT < places) × (count ≡ PLACE_LIMIT + 1))
     ⊎ ((places ≤ PLACE_LIMIT) × (NODE_LIMIT < file_nodes (as_file program)) × (count ≡ NODE_LIMIT + 1))
-    ⊎ ((places ≤ PLACE_LIMIT) × (file_nodes (as_file program) ≤ NODE_LIMIT) × (PROGRAM_HEIGHT_LIMIT < file_height (as_file program)) × (count ≡ PROGRAM_HEIGHT_LIMIT + 1))
+    ⊎ ((places ≤ PLACE_LIMIT) × (file_nodes (as_file program) ≤ NODE_LIMIT) × (PROGRAM_HEIGHT_LIMIT < file_height (as_file program))
+    × (count ≡ PROGRAM_HEIGHT_LIMIT + 1))
 
 -- why a program is too large
 abbrev pub IsSizeCause : ℕ → PlainProgram → LoadRefusal → Type 0

@@ -7,6 +7,7 @@ use Rattle.open_pieces.specs.Views.{plain_open, plain_place}
 use Rattle.remark_stepping.specs.declared.page_move.PageMove.{PageMove}
 use Rattle.remark_stepping.specs.declared.page_move.PageMove.TheVariants.{Go, Done, Fail}
 
+-- the plain form of a move
 abbrev pub plain_move : PageMove → OpenMove
 plain_move (Go o) = go (plain_open o)
 plain_move (Done place tokens) = done (plain_place place) (emitted tokens)

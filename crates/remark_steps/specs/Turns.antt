@@ -6,7 +6,8 @@ use Rattle.piece_steps.specs.Insides.{Turn, on, out, stop}
 -- by the count of the last `-`
 abbrev pub comment_turn : ℕ → ℕ → Turn ℕ
 comment_turn dashes c =
-    if is_character c then (if nat_le 2 dashes then (if c == 62 then out else stop) else (if c == 45 then on (suc dashes) else on 0)) else stop
+    if is_character c then (if nat_le 2 dashes then (if c == 62 then out else stop) else (if c == 45 then on (suc dashes) else on 0))
+    else stop
 
 -- by the count of the last `]`, at most two
 abbrev pub section_turn : ℕ → ℕ → Turn ℕ

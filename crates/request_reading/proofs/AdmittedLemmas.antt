@@ -14,7 +14,7 @@ use Rattle.serde_json.specs.Data.{Data, boolean, number, string, object, Items, 
 use Rattle.serde_json.specs.Data as json
 use Rattle.serde_json.specs.Find.{get, get_member}
 use Rattle.request_reading.specs.Names.{is_array_name}
-use Rattle.request_reading.specs.RequestFile.{name_key, value_of, places_of, members_of, members_in, is_short, is_member, are_items, are_members, is_object, are_arrays, is_request}
+use Rattle.request_reading.specs.RequestFile.{name_key, value_of, places_of, members_of, members_in, fits_text, is_member, are_items, are_members, is_object, are_arrays, is_request}
 use Rattle.request_reading.specs.Admission.{is_text, below, stray_in, stray_item, stray_member, stray_array, stray_path}
 use Rattle.request_reading.proofs.TextLemmas.{text_is}
 use Rattle.request_reading.proofs.ArrayLemmas.{shallow_members}
@@ -60,7 +60,7 @@ mutual
   pub names_admitted : (p : List ℕ) (ms : Members) → are_members ms ≡ true → stray_member p ms ≡ None → AreMembers (members_of ms)
   names_admitted p no_members h g = tt
   names_admitted p (member name d ms) h g =
-      let form = and_parts (is_short name) (is_member d && are_members ms) h in
+      let form = and_parts (fits_text name) (is_member d && are_members ms) h in
       let more = and_parts (is_member d) (are_members ms) form.1 in
       let free = text_and (is_text name) (below p name) (stray_in (below p name) d) (stray_member p ms) g in
       under_key name (value_of d) (members_of ms) (text_is name free.0) (members_admitted (below p name) d more.0 free.1) (names_admitted p ms more.1 free.2)

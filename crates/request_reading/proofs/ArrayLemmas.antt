@@ -15,7 +15,7 @@ use Rattle.serde_json.specs.Data as json
 use Rattle.serde_json.specs.View.{view, members_view}
 use Rattle.serde_json.proofs.Views.{Entry}
 use Rattle.value_laws.proofs.Arrays.{HasPairs, no_pairs, put_has}
-use Rattle.request_reading.specs.RequestFile.{name_key, value_of, places_of, members_of, is_member, are_members, is_short}
+use Rattle.request_reading.specs.RequestFile.{name_key, value_of, places_of, members_of, is_member, are_members, fits_text}
 use Rattle.request_reading.proofs.KeyLemmas.{name_apart, name_is_key}
 
 -- an array is nested no deeper than the value that it is made of
@@ -97,13 +97,13 @@ members_begin all rest made e r f n = record {
 
 -- the next member
 pub record IsNext (e : Entry) : Type 0 where
-  pub short : is_short (string_bytes e.0) ≡ true
+  pub short : fits_text (string_bytes e.0) ≡ true
   pub form : is_member (view e.1) ≡ true
   pub nests : json.depth (view e.1) ≤ 126
 
 pub next_member : (all rest : List Entry) (made : Pairs) (e : Entry) (es : List Entry) → MembersMade all rest made → rest ≡ e ∷ es → IsNext e
 next_member all rest made e es m r =
-    let form = and_parts (is_short (string_bytes e.0)) (is_member (view e.1) && are_members (members_view es)) (subst (λ xs. are_members (members_view xs) ≡ true) r m.form) in
+    let form = and_parts (fits_text (string_bytes e.0)) (is_member (view e.1) && are_members (members_view es)) (subst (λ xs. are_members (members_view xs) ≡ true) r m.form) in
     let more = and_parts (is_member (view e.1)) (are_members (members_view es)) form.1 in
     let nests : members_depth (members_view (e ∷ es)) ≤ 126 = subst (λ xs. members_depth (members_view xs) ≤ 126) r m.nests in
     record { short = form.0; form = more.0; nests = omega (arith, nests) }
@@ -127,7 +127,7 @@ pub member_more : (all rest : List Entry) (made made' : Pairs) (e : Entry) (es :
 member_more all rest made made' e es k v sorted m r kis vis has is =
     let next = next_member all rest made e es m r in
     let split : all ≡ m.done ++ e ∷ es = m.split ∙ ap (λ xs. m.done ++ xs) r in
-    let form = and_parts (is_short (string_bytes e.0)) (is_member (view e.1) && are_members (members_view es)) (subst (λ xs. are_members (members_view xs) ≡ true) r m.form) in
+    let form = and_parts (fits_text (string_bytes e.0)) (is_member (view e.1) && are_members (members_view es)) (subst (λ xs. are_members (members_view xs) ≡ true) r m.form) in
     let more = and_parts (is_member (view e.1)) (are_members (members_view es)) form.1 in
     let nests : members_depth (members_view (e ∷ es)) ≤ 126 = subst (λ xs. members_depth (members_view xs) ≤ 126) r m.nests in
     let low : depth v ≤ 126 = subst (λ u. depth u ≤ 126) (sym vis) (omega (arith, shallow (view e.1), next.nests)) in

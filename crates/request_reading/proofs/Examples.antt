@@ -9,7 +9,7 @@ use Rattle.serde_json.specs.Data.{Data, Items, Members, number, unsigned, string
 use Rattle.serde_json.specs.Data as json
 use Rattle.request_reading.specs.RequestFile.{name_key, value_of, asked_request, is_request}
 use Rattle.request_reading.specs.Admission.{stray_path}
-use Rattle.request_reading.specs.Outcome.{outcome_of, not_json, not_request, not_admitted, asked}
+use Rattle.request_reading.specs.Outcome.{outcome_of, not_json, not_request, not_admitted, stands_for}
 
 -- {"get":{..}}
 abbrev get_alone : Members → Data
@@ -96,6 +96,6 @@ a_form_goes_first : outcome_of (Some (get_alone (member (codes "a") (string (0 �
 a_form_goes_first = refl
 
 -- {"get":{"a":"x"}} as a whole
-admitted : outcome_of (Some (get_alone (member (codes "a") (string (codes "x")) no_members))) ≡ asked (only_get (pair (text_key (codes "a")) (text (codes "x")) empty))
+admitted : outcome_of (Some (get_alone (member (codes "a") (string (codes "x")) no_members))) ≡ stands_for (only_get (pair (text_key (codes "a")) (text (codes "x")) empty))
 unfolding digits is_utf8 chars encode
 admitted = refl

@@ -14,10 +14,10 @@ use Rattle.plain_values.specs.Lawful.{IsKey}
 use Rattle.plain_values.specs.Numeric.{is_in_range}
 use Rattle.std.proofs.lemmas.Cmp.{nat_list_cmp_total, tied_itself}
 use Rattle.value_laws.proofs.Arrays.{key_is}
-use Rattle.request_reading.specs.RequestFile.{name_key, is_short}
+use Rattle.request_reading.specs.RequestFile.{name_key, fits_text}
 
 -- an integer that a text stands for is spelled by it
-spelled : (t : List ℕ) (z : ℤ) → canonical_integer t ≡ Some z → signed_decimal z ≡ t
+pub spelled : (t : List ℕ) (z : ℤ) → canonical_integer t ≡ Some z → signed_decimal z ≡ t
 spelled t z e = by (is_in_range (signed_digits_value 10 t) && pointwise nat_eq (signed_decimal (signed_digits_value 10 t)) t) refl e
   where
     by : (b : Bool) → (is_in_range (signed_digits_value 10 t) && pointwise nat_eq (signed_decimal (signed_digits_value 10 t)) t) ≡ b → (if b then Some (signed_digits_value 10 t) else None) ≡ Some z → signed_decimal z ≡ t
@@ -43,5 +43,5 @@ name_apart a b h = false_from_ne_true (same_key (name_key a) (name_key b)) (λ e
     apart e = let tied : slice_cmp nat_cmp a b ≡ Equal = ap (λ x. slice_cmp nat_cmp a x) (sym e) ∙ tied_itself nat_list_cmp_total a in cc
 
 -- a short name is a key of a value
-pub name_is_key : (name : List ℕ) → is_short name ≡ true → IsKey (name_key name)
+pub name_is_key : (name : List ℕ) → fits_text name ≡ true → IsKey (name_key name)
 name_is_key name h = key_is (text name) (name_key name) (leb-true _ 16777216 h) refl

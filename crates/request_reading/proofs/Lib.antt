@@ -4,4 +4,6 @@ pub mod KeyLemmas
 pub mod ArrayLemmas
 pub mod PlaceLemmas
 pub mod AdmittedLemmas
+pub mod OrderLemmas
+pub mod StrayLemmas
 mod Examples

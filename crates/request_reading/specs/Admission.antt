@@ -32,7 +32,8 @@ abbrev mutual
   -- the members of an object go in byte order of their names, and a name goes before what it holds
   pub stray_member : List ℕ → Members → Option (List ℕ)
   stray_member path no_members = None
-  stray_member path (member name d ms) = if is_text name then option_or (stray_in (below path name) d) (stray_member path ms) else Some (below path name)
+  stray_member path (member name d ms) =
+      if is_text name then option_or (stray_in (below path name) d) (stray_member path ms) else Some (below path name)
 
 -- the members of the outermost object: a path begins with the name of one
 abbrev pub stray_array : Members → Option (List ℕ)

@@ -4,6 +4,7 @@ use Rattle.request_reading.specs.Outcome.{Outcome, not_json, not_request, not_ad
 use Rattle.request_reading.specs.declared.refusal.RequestRefusal.{RequestRefusal}
 use Rattle.request_reading.specs.declared.refusal.RequestRefusal.TheVariants.{NotJson, NotRequest, NotAdmitted, Memory}
 
+-- the file is no request for this cause; want of memory needs none
 abbrev pub IsCause : RequestRefusal → Outcome → Type 0
 IsCause NotJson o = o ≡ not_json
 IsCause NotRequest o = o ≡ not_request

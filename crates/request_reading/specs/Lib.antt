@@ -3,3 +3,4 @@ pub mod RequestFile
 pub mod Admission
 pub mod Outcome
 pub mod Causes
+pub mod Laws

@@ -7,19 +7,21 @@ use Rattle.serde_json.specs.Read.{read}
 use Rattle.request_reading.specs.RequestFile.{is_request, asked_request}
 use Rattle.request_reading.specs.Admission.{stray_path}
 
+-- no JSON text; a JSON value of another form; the path of the first text that is not admitted; a request
 pub data Outcome : Type 0 where
   not_json : Outcome
   not_request : Outcome
   not_admitted : List ℕ → Outcome
-  asked : PlainRequest → Outcome
+  stands_for : PlainRequest → Outcome
 
 -- the value of a file of JSON in UTF-8
 abbrev pub parsed : List ℕ → Option Data
 parsed file = if is_utf8 file then read file else None
 
+-- a value of the form of a request, by the path of its first text that is not admitted, if there is one
 abbrev pub admission : Data → Option (List ℕ) → Outcome
 admission d (Some path) = not_admitted path
-admission d None = asked (asked_request d)
+admission d None = stands_for (asked_request d)
 
 -- a value of another form is no request, whatever its texts are
 abbrev pub outcome_of : Option Data → Outcome

@@ -50,8 +50,8 @@ asked_request d = record {
 }
 
 -- no text of a script has more than 16,777,216 bytes
-abbrev pub is_short : List ℕ → Bool
-is_short text = nat_le (length text) TEXT_LIMIT
+abbrev pub fits_text : List ℕ → Bool
+fits_text text = nat_le (length text) TEXT_LIMIT
 
 abbrev mutual
   -- a short string, or a list or an object of such members
@@ -59,7 +59,7 @@ abbrev mutual
   is_member null = false
   is_member (boolean b) = false
   is_member (number n) = false
-  is_member (string s) = is_short s
+  is_member (string s) = fits_text s
   is_member (array ds) = are_items ds
   is_member (object ms) = are_members ms
 
@@ -69,8 +69,9 @@ abbrev mutual
 
   pub are_members : Members → Bool
   are_members no_members = true
-  are_members (member name d ms) = is_short name && (is_member d && are_members ms)
+  are_members (member name d ms) = fits_text name && (is_member d && are_members ms)
 
+-- a JSON object
 abbrev pub is_object : Data → Bool
 is_object (object ms) = true
 is_object _ = false

@@ -132,7 +132,7 @@ fn array_of(alloc: Global, members: &Map<String, JsonValue>) -> Result<Array, No
 }
 
 fn name_key(alloc: Global, name: &str) -> Result<Key, NoMemory>
-    requires { spec.is_short name.now ≡ true }
+    requires { spec.fits_text name.now ≡ true }
     ensures { IfOk result (λ key. plain_key key ≡ spec.name_key name.now) }
 {
     let text = Text::from_short(alloc, name.as_bytes())?;

@@ -48,8 +48,8 @@ fn is_object(value: &Value) -> bool
     }
 }
 
-fn is_short(text: &str) -> bool
-    ensures { result ≡ spec.is_short text.now }
+fn fits_text(text: &str) -> bool
+    ensures { result ≡ spec.fits_text text.now }
 {
     text.len() <= TEXT_LIMIT
 }
@@ -60,7 +60,7 @@ fn is_member(value: &Value) -> bool
 {
     match value {
         Value::Null | Value::Bool(_) | Value::Number(_) => false,
-        Value::String(text) => is_short(text.as_str()),
+        Value::String(text) => fits_text(text.as_str()),
         Value::Array(items) => are_items(items),
         Value::Object(members) => are_members(members),
     }
@@ -83,7 +83,7 @@ fn are_members(members: &Map<String, Value>) -> bool
     ensures { result ≡ spec.are_members (members_view members.now.entries) }
 {
     for (name, member) in members.iter() {
-        if !(is_short(name.as_str()) && is_member(member)) {
+        if !(fits_text(name.as_str()) && is_member(member)) {
             return false;
         }
     }

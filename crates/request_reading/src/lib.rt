@@ -5,6 +5,7 @@
 
 mod arrays;
 mod form;
+pub mod laws;
 mod parsing;
 mod reading;
 mod refusal;

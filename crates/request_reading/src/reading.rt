@@ -1,7 +1,7 @@
 //! The request of a request file.
 
 ghost use Rattle.std.specs.Prelude.{◌≡◌, IfOk, IfErr};
-ghost use Rattle.request_reading.specs.Outcome.{outcome, asked};
+ghost use Rattle.request_reading.specs.Outcome.{outcome, stands_for};
 ghost use Rattle.request_reading.specs.Causes.{IsCause};
 
 use crate::arrays::asked_request;
@@ -18,7 +18,7 @@ use std::alloc::Global;
 /// and a text or a name in it is not of XML's characters, with the path to the first one. Takes
 /// time linear in the bytes, times the logarithm of the count of names of an object.
 pub fn read_request(alloc: Global, file: &[u8]) -> Result<Request, RequestRefusal>
-    ensures ok { IfOk result (λ request. outcome file.now ≡ asked request) }
+    ensures ok { IfOk result (λ request. outcome file.now ≡ stands_for request) }
     ensures err { IfErr result (λ refusal. IsCause refusal (outcome file.now)) }
 {
     let value = parse(alloc, file)?;

@@ -1,53 +1,16 @@
--- Letters of texts, and members of lists.
-use Rattle.std.proofs.Common.{◌≡◌, ◌<◌, ◌≤◌, ◌+◌, ℕ, zero, suc, Bool, true, false, List, [], ◌∷◌, ◌++◌, length, map, Some, slice_get, Contains, inl, inr, refl, sym, ◌∙◌, ap, subst, arith}
-use Rattle.std.specs.Prelude.{◌⊎◌, ◌&&◌}
+-- Letters of texts; members of lists are handed on.
+use Rattle.std.proofs.Common.{◌≡◌, ℕ, Bool, true, false, List, [], ◌∷◌, ◌++◌, map, Contains, inl, inr, refl, sym, ap, subst}
+use Rattle.std.specs.Prelude.{◌&&◌}
 use Rattle.std.specs.List.{list_all}
-use Rattle.std.proofs.lemmas.Option.{slice_get_within, slice_get-get_or, get_or_from_slice_get, same_Some}
 use Rattle.std.proofs.lemmas.List.Elements.{Contains-append_left, Contains-append_right}
 use Rattle.text_base.specs.declared.page_token.PageToken.{PageToken}
 use Rattle.text_base.specs.declared.letter.Letter.{Letter}
 use Rattle.text_base.specs.declared.letter.Letter.TheVariants.{OfByte, OfToken}
-
-pub placed : {X : Type 0} (xs : List X) (x : X) → Contains xs x → (n : ℕ) × (slice_get xs n ≡ Some x)
-placed xs x c = (c.0, slice_get-get_or xs c.0 x c.1 ∙ ap Some c.2)
-
-pub contained : {X : Type 0} (xs : List X) (n : ℕ) (x : X) → slice_get xs n ≡ Some x → Contains xs x
-contained xs n x e = (n, slice_get_within xs n x e, get_or_from_slice_get xs n x x e)
-
-pub none_in : {X : Type 0} {A : Type 0} (x : X) → Contains [] x → A
-none_in x c = absurd (omega (arith, c.1))
-
-pub one_of : {X : Type 0} (x : X) (xs : List X) (c : X) → Contains (x ∷ xs) c → (x ≡ c) ⊎ Contains xs c
-one_of x xs c (zero, below, is) = inl is
-one_of x xs c (suc k, below, is) = inr (k, omega (arith, below), is)
-
-pub first_in : {X : Type 0} (x : X) (xs : List X) → Contains (x ∷ xs) x
-first_in x xs = (0, omega arith, refl)
-
-pub later_in : {X : Type 0} (x : X) (xs : List X) (c : X) → Contains xs c → Contains (x ∷ xs) c
-later_in x xs c (k, below, is) = (suc k, omega (arith, below), is)
-
-pub only_in : {X : Type 0} (x c : X) → Contains (x ∷ []) c → x ≡ c
-only_in x c h = elim (one_of x [] c h) [ inl same ↦ same | inr none ↦ none_in c none ]
-
-pub first_so : (a b : Bool) → (a && b) ≡ true → a ≡ true
-first_so true b h = refl
-first_so false b h = absurd (cc)
-
-pub second_so : (a b : Bool) → (a && b) ≡ true → b ≡ true
-second_so true b h = h
-second_so false b h = absurd (cc)
+pub use Rattle.system_bytes.proofs.ListLemmas.{placed, contained, none_in, one_of, first_in, later_in, only_in, first_so, second_so, all_at}
 
 pub both_so : (a b : Bool) → a ≡ true → b ≡ true → (a && b) ≡ true
 both_so true b h g = g
 both_so false b h g = absurd (cc)
-
-pub all_at : {X : Type 0} (test : X → Bool) (xs : List X) (x : X) → list_all test xs ≡ true → Contains xs x → test x ≡ true
-all_at test [] x h c = none_in x c
-all_at test (y ∷ ys) x h c = elim (one_of y ys x c) [
-  | inl same ↦ subst (λ z. test z ≡ true) same (first_so (test y) (list_all test ys) h)
-  | inr there ↦ all_at test ys x (second_so (test y) (list_all test ys) h) there
-]
 
 pub all_from : {X : Type 0} (test : X → Bool) (xs : List X) → ((x : X) → Contains xs x → test x ≡ true) → list_all test xs ≡ true
 all_from test [] h = refl

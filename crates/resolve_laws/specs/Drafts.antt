@@ -27,11 +27,13 @@ moved_symbol base (Range range) = Range range
 moved_symbol base (Token token) = Token token
 moved_symbol base (Nt a) = Nt (record { 0 = base + a.0 })
 
+-- a right side with each number so much higher
 abbrev pub moved_right : ℕ → Right → Right
 moved_right base Empty = Empty
 moved_right base (One a) = One (moved_symbol base a)
 moved_right base (Two a b) = Two (moved_symbol base a) (moved_symbol base b)
 
+-- a production with each number so much higher
 abbrev pub moved : ℕ → Production → Production
 moved base p = record { left = record { 0 = base + p.left.0 }; right = moved_right base p.right }
 
@@ -87,7 +89,8 @@ pub data IsAnyProduction (ps : List Production) (left t : nt.Nt) (set : List Boo
 pub data IsImageProduction (ps : List Production) (left : nt.Nt) (base : ℕ) (image : Grammar) (p : Production) : Type 0 where
   before : Contains ps p → IsImageProduction ps left base image p
   links : p ≡ link_of left (record { 0 = base + image.start.0 }) → IsImageProduction ps left base image p
-  moves : (q : Production) → Contains image.productions.items q → production_without_token q ≡ true → p ≡ moved base q → IsImageProduction ps left base image p
+  moves : (q : Production) → Contains image.productions.items q → production_without_token q ≡ true → p ≡ moved base q
+      → IsImageProduction ps left base image p
 
 -- to the productions a link to a nonterminal is added, and those by which that has all texts over the bytes
 pub record AddsAny (ps : List Production) (left t : nt.Nt) (set : List Bool) (after : List Production) : Type 0 where
@@ -95,7 +98,8 @@ pub record AddsAny (ps : List Production) (left t : nt.Nt) (set : List Bool) (af
   pub only : (p : Production) → Contains after p → IsAnyProduction ps left t set p
   pub link : Contains after (link_of left t)
   pub stop : Contains after (record { left = t; right = Empty })
-  pub has : (byte : ℕ) → byte < 256 → Has set byte → (range : ByteRange) × (range.lo ≡ byte) × (range.hi ≡ byte) × Contains after (record { left = t; right = Two (Range range) (Nt t) })
+  pub has : (byte : ℕ) → byte < 256 → Has set byte
+      → (range : ByteRange) × (range.lo ≡ byte) × (range.hi ≡ byte) × Contains after (record { left = t; right = Two (Range range) (Nt t) })
 
 -- a link to the start of another grammar is added, and its productions with higher numbers, but those with a page token
 pub record AddsImage (ps : List Production) (left : nt.Nt) (base : ℕ) (image : Grammar) (after : List Production) : Type 0 where
@@ -106,4 +110,5 @@ pub record AddsImage (ps : List Production) (left : nt.Nt) (base : ℕ) (image :
 
 -- all rules are done whose left sides have lower numbers
 abbrev pub IsReady : OpSystem → List ℕ → List Production → ℕ → Type 0
-IsReady s numbers ps k = (rule : OpRule) (n : ℕ) → Contains s.ops.items rule → slice_get numbers rule.left.0 ≡ Some n → n < k → IsDone s ps rule
+IsReady s numbers ps k = (rule : OpRule) (n : ℕ) → Contains s.ops.items rule → slice_get numbers rule.left.0 ≡ Some n → n < k
+    → IsDone s ps rule

@@ -21,11 +21,14 @@ use Rattle.system_bytes.specs.Bytes.{HasBytes}
 use Rattle.resolve_laws.specs.Resolved.{AreExact}
 use Rattle.resolve_laws.specs.Drafts.{IsDraft, IsDone, IsReady, AddsAny, AddsImage}
 
+-- the productions of the system alone are a draft
 abbrev pub SystemIsDraft : OpSystem → Type 0
 SystemIsDraft s = IsDraft s s.grammar.productions.items s.grammar.count
 
+-- a rule that is in a cycle is done by all texts over the bytes that it may give, and the productions stay a draft
 abbrev pub AnyIsDone : OpSystem → Type 0
-AnyIsDone s = (ps after : List Production) (count : ℕ) (rule : OpRule) (set : List Bool) → HasBytes s → IsDraft s ps count → Contains s.ops.items rule → IsInCycle s rule
+AnyIsDone s = (ps after : List Production) (count : ℕ) (rule : OpRule) (set : List Bool) → HasBytes s → IsDraft s ps count
+    → Contains s.ops.items rule → IsInCycle s rule
     → ((b : ℕ) → b < 256 → Has set b ↔ ByteOf s (Nt rule.left) b) → AddsAny ps rule.left (record { 0 = count }) set after
     → IsDraft s after (count + 1) × IsDone s after rule
 
@@ -34,14 +37,21 @@ abbrev pub IsImage : List Production → nt.Nt → Table → Grammar → Type 0
 IsImage ps operand table image = (w : List Letter) → Derives image.productions.items (Nt image.start) w
     ↔ Outputs ps (Nt operand) table.start (TableStep table.moves.items) (TableStop table.ends.items) w
 
+-- a rule in no cycle is done by the image of its operand under its machine, where all rules with lower numbers are done
 abbrev pub ImageIsDone : OpSystem → Type 0
-ImageIsDone s = (ps after : List Production) (count : ℕ) (rule : OpRule) (numbers : List ℕ) (k : ℕ) (table : Table) (image : Grammar) → HasBytes s → IsDraft s ps count → Contains s.ops.items rule → (IsInCycle s rule → ⊥)
-    → AreNumbers s numbers → slice_get numbers rule.left.0 ≡ Some k → IsReady s numbers ps k → IsMachine table (size_of rule.op) (Rel rule.op) → IsImage ps rule.operand table image → AddsImage ps rule.left count image after
+ImageIsDone s = (ps after : List Production) (count : ℕ) (rule : OpRule) (numbers : List ℕ) (k : ℕ) (table : Table) (image : Grammar)
+    → HasBytes s → IsDraft s ps count → Contains s.ops.items rule → (IsInCycle s rule → ⊥)
+    → AreNumbers s numbers → slice_get numbers rule.left.0 ≡ Some k → IsReady s numbers ps k
+    → IsMachine table (size_of rule.op) (Rel rule.op) → IsImage ps rule.operand table image → AddsImage ps rule.left count image after
     → IsDraft s after (count + image.count) × IsDone s after rule
 
+-- from the operand of a rule in no cycle a draft derives its texts and no other, where all rules with lower numbers are done
 abbrev pub OperandIsExact : OpSystem → Type 0
-OperandIsExact s = (ps : List Production) (count : ℕ) (rule : OpRule) (numbers : List ℕ) (k : ℕ) → IsDraft s ps count → Contains s.ops.items rule → (IsInCycle s rule → ⊥)
+OperandIsExact s = (ps : List Production) (count : ℕ) (rule : OpRule) (numbers : List ℕ) (k : ℕ) → IsDraft s ps count
+    → Contains s.ops.items rule → (IsInCycle s rule → ⊥)
     → AreNumbers s numbers → slice_get numbers rule.left.0 ≡ Some k → IsReady s numbers ps k → AreExact s ps (Nt rule.operand)
 
+-- a draft in which all rules are done derives from each nonterminal of the system its texts and no other
 abbrev pub StartIsExact : OpSystem → Type 0
-StartIsExact s = (ps : List Production) (count : ℕ) → IsDraft s ps count → ((rule : OpRule) → Contains s.ops.items rule → IsDone s ps rule) → (a : nt.Nt) → a.0 < s.grammar.count → AreExact s ps (Nt a)
+StartIsExact s = (ps : List Production) (count : ℕ) → IsDraft s ps count → ((rule : OpRule) → Contains s.ops.items rule → IsDone s ps rule)
+    → (a : nt.Nt) → a.0 < s.grammar.count → AreExact s ps (Nt a)

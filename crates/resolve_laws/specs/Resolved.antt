@@ -25,7 +25,8 @@ HasLetters s symbol w = (text : List ℕ) × (w ≡ map OfByte text) × TextOf s
 abbrev pub AreExact : OpSystem → List Production → Symbol → Type 0
 AreExact s productions symbol = (w : List Letter) → Derives productions symbol w ↔ HasLetters s symbol w
 
--- the image of some operation that is in no cycle, under a machine of that operation and of a grammar that derives exactly the texts of its operand, has at least so many items
+-- the image of some operation that is in no cycle, under a machine of that operation and of a grammar that derives exactly the texts of its
+-- operand, has at least so many items
 pub record IsTooLarge (s : OpSystem) (items : ℕ) : Type 0 where
   pub rule : OpRule
   pub has : Contains s.ops.items rule

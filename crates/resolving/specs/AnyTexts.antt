@@ -27,7 +27,8 @@ pub record PutsBytes (t : nt.Nt) (set : List Bool) (n : ℕ) (old new : Draft) :
   pub count : length new.places.items ≡ length old.places.items
   pub keeps : (p : Production) → Contains old.productions.items p → Contains new.productions.items p
   pub only : (p : Production) → Contains new.productions.items p → Contains old.productions.items p ⊎ IsByte t set n p
-  pub has : (byte : ℕ) → byte < n → Has set byte → (range : ByteRange) × (range.lo ≡ byte) × (range.hi ≡ byte) × Contains new.productions.items (byte_production t range)
+  pub has : (byte : ℕ) → byte < n → Has set byte
+      → (range : ByteRange) × (range.lo ≡ byte) × (range.hi ≡ byte) × Contains new.productions.items (byte_production t range)
 
 -- all texts over the bytes of the set are added to those of a nonterminal, by one nonterminal more
 pub record AddsAnyTexts (left : nt.Nt) (set : List Bool) (old new : Draft) : Type 0 where

@@ -43,7 +43,8 @@ pub record AddsProductions (base : ℕ) (qs : List Production) (n : ℕ) (old ne
   pub count : length new.places.items ≡ length old.places.items
   pub keeps : (p : Production) → Contains old.productions.items p → Contains new.productions.items p
   pub only : (p : Production) → Contains new.productions.items p → Contains old.productions.items p ⊎ IsMovedOf base qs p
-  pub has : (k : ℕ) (q : Production) → k < n → slice_get qs k ≡ Some q → production_without_token q ≡ true → Contains new.productions.items (moved base q)
+  pub has : (k : ℕ) (q : Production) → k < n → slice_get qs k ≡ Some q → production_without_token q ≡ true
+      → Contains new.productions.items (moved base q)
 
 -- the sentences of the image without page tokens are added to the texts of a nonterminal, by its nonterminals
 pub record AddsMoved (left : nt.Nt) (image : Grammar) (old new : Draft) : Type 0 where

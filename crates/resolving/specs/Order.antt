@@ -24,6 +24,7 @@ pub record AreRankedBelow (s : OpSystem) (numbers : List ℕ) (n : ℕ) (order :
   pub each : All (IsRanked s numbers) order
   pub all : (place : ℕ) → place < n → HasPlace order place
 
+-- each rule of the system is there, with its number
 abbrev pub AreRanked : OpSystem → List ℕ → List Ranked → Type 0
 AreRanked s numbers order = AreRankedBelow s numbers (length s.ops.items) order
 
@@ -50,7 +51,8 @@ pub record AddsRule (s : OpSystem) (rule : OpRule) (old new : Draft) : Type 0 wh
 -- the first n of the order are done
 pub record AreAdded (s : OpSystem) (order : List Ranked) (n : ℕ) (draft : Draft) : Type 0 where
   pub is_draft : IsDraftOf s draft
-  pub done : (i : ℕ) (ranked : Ranked) (rule : OpRule) → i < n → slice_get order i ≡ Some ranked → slice_get s.ops.items ranked.place ≡ Some rule → IsDone s draft.productions.items rule
+  pub done : (i : ℕ) (ranked : Ranked) (rule : OpRule) → i < n → slice_get order i ≡ Some ranked
+      → slice_get s.ops.items ranked.place ≡ Some rule → IsDone s draft.productions.items rule
 
 -- all rules are done
 pub record AllAdded (s : OpSystem) (draft : Draft) : Type 0 where

@@ -30,6 +30,7 @@ IsParseCause tree (parse.TooDeep at) = (tokens : List PlainToken) × Cuts (writt
 IsParseCause tree parse.Memory = ⊤
 IsParseCause tree _ = ⊥
 
+-- why the written file is not read again
 abbrev pub IsCauseOf : PlainFile → Unread → Type 0
 IsCauseOf tree (unread.Lex refusal) = IsLexCause tree refusal
 IsCauseOf tree (unread.Parse refusal) = IsParseCause tree refusal

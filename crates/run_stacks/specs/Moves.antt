@@ -49,6 +49,7 @@ MayTake p (wanted.Turn l) = IsIdle p
 MayTake p (wanted.Step k v l) = IsIdle p
 MayTake p (wanted.Call f args waits) = ⊤
 
+-- where a unit is wanted it may be taken; at an end nothing is asked
 abbrev pub IsSettled : Pending → Settled → Type 0
 IsSettled p (settled.Wants w) = MayTake p w
 IsSettled p (settled.Over how) = ⊤
@@ -74,18 +75,23 @@ pub record Moves (r : PlainRequest) (fs : List PlainFunction) (p : Pending) (n :
   pub leads : LeadsOn p' m (weight p n)
 
 -- a move from where an evaluation stopped
-pub record Resumes (r : PlainRequest) (fs : List PlainFunction) (p : Pending) (waits : Wait) (stop : Pause) (m : Moved) (p' : Pending) : Type 0 where
+pub record Resumes (r : PlainRequest) (fs : List PlainFunction) (p : Pending) (waits : Wait) (stop : Pause) (m : Moved) (p' : Pending) :
+    Type 0 where
   pub same : (left : ℕ) → moved_outcome r fs p' m left ≡ paused_outcome r fs p waits stop left
   pub leads : LeadsOn p' m (suc (wait_weight waits + rest_weight p))
 
 -- a move from the end of a call to what waits for its value
-pub record Returns (r : PlainRequest) (fs : List PlainFunction) (p : Pending) (caller : Caller) (f : Flow) (m : Moved) (p' : Pending) : Type 0 where
-  pub same : (left : ℕ) → moved_outcome r fs p' m left ≡ outcome_of (callers_then r fs (caller ∷ p.callers) (plain_flow f) (state_of left p))
+pub record Returns (r : PlainRequest) (fs : List PlainFunction) (p : Pending) (caller : Caller) (f : Flow) (m : Moved) (p' : Pending) :
+    Type 0 where
+  pub same : (left : ℕ) → moved_outcome r fs p' m left ≡ outcome_of (callers_then r fs (caller ∷ p.callers) (plain_flow f)
+      (state_of left p))
   pub leads : LeadsOn p' m (suc (callers_weight (caller ∷ p.callers)))
 
 -- a move into statements, of which this is the first
-pub record Enters (r : PlainRequest) (fs : List PlainFunction) (p : Pending) (first : Bor Stmt) (rest : Bor (List Stmt)) (m : Moved) (p' : Pending) : Type 0 where
-  pub same : (left : ℕ) → moved_outcome r fs p' m left ≡ outcome_of (statements (world_of r fs p.current) (more_stmts (plain_stmt first.now) (stmts_of rest.now)) (state_of left p) then_do rest_then r fs p)
+pub record Enters (r : PlainRequest) (fs : List PlainFunction) (p : Pending) (first : Bor Stmt) (rest : Bor (List Stmt)) (m : Moved)
+    (p' : Pending) : Type 0 where
+  pub same : (left : ℕ) → moved_outcome r fs p' m left ≡ outcome_of (statements (world_of r fs p.current)
+      (more_stmts (plain_stmt first.now) (stmts_of rest.now)) (state_of left p) then_do rest_then r fs p)
   pub leads : LeadsOn p' m (suc (block_weight rest.now + rest_weight p))
 
 -- a move that hands on how a statement was left

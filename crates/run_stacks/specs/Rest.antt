@@ -39,11 +39,14 @@ module _ (r : PlainRequest) (fs : List PlainFunction) where
   abbrev pub world_of : Call → Environment
   world_of c = scope r fs c.room
 
-  -- what the callers make of how the body of the call above them was left, the innermost first: its value goes to the evaluation that waits,
+  -- what the callers make of how the body of the call above them was left, the innermost first: its value goes to the evaluation that
+  -- waits,
   -- the value of that to what waits for it, and how this was left to the tasks behind it
   unfoldable pub callers_then : List Caller → Flow → State → Run Flow
   callers_then [] f s = Going f s
-  callers_then (c ∷ cs) f s = values_then (world_of c.call) c.call.evaluator.frames (value_returned f) (seeing s c.call.evaluator.variables) then_do λ v s. (wait_after (world_of c.call) c.wait v s then_do λ f s. (tasks_then (world_of c.call) c.call.tasks f s then_do callers_then cs))
+  callers_then (c ∷ cs) f s = values_then (world_of c.call) c.call.evaluator.frames (value_returned f)
+      (seeing s c.call.evaluator.variables) then_do λ v s.
+      (wait_after (world_of c.call) c.wait v s then_do λ f s. (tasks_then (world_of c.call) c.call.tasks f s then_do callers_then cs))
 
   -- what all that waits makes of how a statement was left
   unfoldable pub rest_then : Pending → Flow → State → Run Flow
@@ -59,10 +62,18 @@ module _ (r : PlainRequest) (fs : List PlainFunction) where
 
   -- what is to come once a unit was taken for what is wanted
   unfoldable pub wanted_then : Pending → Wanted → State → Run Flow
-  wanted_then p (wanted.Statement st) s = statement (world_of p.current) (plain_stmt st.now) (record s { left = suc s.left }) then_do rest_then p
-  wanted_then p (wanted.Turn l) s = statements (world_of p.current) (stmts_of l.body.now.items) s then_do λ f s. (task_after (world_of p.current) (task.Loop l) f s then_do rest_then p)
-  wanted_then p (wanted.Step k v l) s = statements (world_of p.current) (stmts_of l.body.now.items) (with_pair (name_of l.key) l.value.now (plain_key k) (plain_of v) s) then_do λ f s. (task_after (world_of p.current) (task.Walk l) f s then_do rest_then p)
-  wanted_then p (wanted.Call f args waits) s = enter_at r fs p.current.room (plain_function f.now) (plain_list args.items) s then_do λ v s. (values_then (world_of p.current) p.current.evaluator.frames v s then_do wait_then p waits)
+  wanted_then p (wanted.Statement st) s =
+      statement (world_of p.current) (plain_stmt st.now) (record s { left = suc s.left }) then_do rest_then p
+  wanted_then p (wanted.Turn l) s =
+      statements (world_of p.current) (stmts_of l.body.now.items) s then_do λ f s.
+      (task_after (world_of p.current) (task.Loop l) f s then_do rest_then p)
+  wanted_then p (wanted.Step k v l) s =
+      statements (world_of p.current) (stmts_of l.body.now.items)
+      (with_pair (name_of l.key) l.value.now (plain_key k) (plain_of v) s) then_do λ f s.
+      (task_after (world_of p.current) (task.Walk l) f s then_do rest_then p)
+  wanted_then p (wanted.Call f args waits) s =
+      enter_at r fs p.current.room (plain_function f.now) (plain_list args.items) s then_do λ v s.
+      (values_then (world_of p.current) p.current.evaluator.frames v s then_do wait_then p waits)
 
   -- the outcome of the rest of a run with so many units left
   abbrev pub outcome : Pending → Next → ℕ → Outcome
@@ -80,4 +91,6 @@ module _ (r : PlainRequest) (fs : List PlainFunction) where
 
   -- the same where an evaluation stopped, for whose value this waits
   unfoldable pub paused_outcome : Pending → Wait → Pause → ℕ → Outcome
-  paused_outcome p waits stop left = outcome_of (paused (enter_at r fs p.current.room) stop (state_of left p) then_do λ v s. (values_then (world_of p.current) p.current.evaluator.frames v s then_do wait_then p waits))
+  paused_outcome p waits stop left =
+      outcome_of (paused (enter_at r fs p.current.room) stop (state_of left p) then_do λ v s.
+      (values_then (world_of p.current) p.current.evaluator.frames v s then_do wait_then p waits))

@@ -18,11 +18,14 @@ use Rattle.program_answers.specs.Answers.{EachIsGood, IsCounterexample}
 use Rattle.script_decision.specs.declared.refusal.CheckRefusal.{CheckRefusal}
 use Rattle.script_decision.specs.declared.refusal.CheckRefusal.TheVariants as refusal
 
--- an image has at least so many items: that of an operation of the program, or that of its loose pages under the reader of the definition's pages
+-- an image has at least so many items: that of an operation of the program, or that of its loose pages under the reader of the definition's
+-- pages
 abbrev pub HasManyItems : Table → PlainProgram → ℕ → Type 0
-HasManyItems table program count = by_machine.HasManyItems first_state (EchoStep (merged_next table) (tokens_at table) (tokens_behind table)) program count
+HasManyItems table program count =
+    by_machine.HasManyItems first_state (EchoStep (merged_next table) (tokens_at table) (tokens_behind table)) program count
 
--- yes: each loose page is good; no: a derivation of one that is not; a stated count that is passed: of sums of the sentences of a nonterminal, of unmatched tags, of items
+-- yes: each loose page is good; no: a derivation of one that is not; a stated count that is passed: of sums of the sentences of a
+-- nonterminal, of unmatched tags, of items
 abbrev pub IsAnswerOf : Goal → Table → PlainProgram → ℕ → Answer → Type 0
 IsAnswerOf goal table program limit Answer.Yes = EachIsGood goal table program
 IsAnswerOf goal table program limit (Answer.No derivation) = IsCounterexample goal table program derivation

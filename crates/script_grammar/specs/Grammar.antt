@@ -28,6 +28,7 @@ open_after_sign n sign.CloseBracket = n - 1
 open_after_sign n sign.CloseBrace = n - 1
 open_after_sign n _ = n
 
+-- the same for any terminal: one that is no sign leaves the number as it is
 abbrev pub open_after : ℕ → Terminal → ℕ
 open_after n (sign_terminal s) = open_after_sign n s
 open_after n _ = n

@@ -23,7 +23,8 @@ tighter_level level.Join = Some level.Sum
 tighter_level level.Sum = Some level.Product
 tighter_level level.Product = None
 
--- How loosely a level binds: the one scale of precedence. Operators before an operand stand at 0, `??` at 8, `?:` at 9 and assignments at 10.
+-- How loosely a level binds: the one scale of precedence. Operators before an operand stand at 0, `??` at 8, `?:` at 9 and assignments at
+-- 10.
 abbrev pub level_rank : Level → ℕ
 level_rank level.Product = 1
 level_rank level.Sum = 2

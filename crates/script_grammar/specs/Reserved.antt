@@ -20,8 +20,10 @@ outside_names = codes "this" ∷ codes "GLOBALS" ∷ codes "_FILES" ∷ codes "_
 abbrev pub eol_name : List ℕ
 eol_name = codes "PHP_EOL"
 
+-- the largest integer
 abbrev pub int_max_name : List ℕ
 int_max_name = codes "PHP_INT_MAX"
 
+-- the least integer
 abbrev pub int_min_name : List ℕ
 int_min_name = codes "PHP_INT_MIN"

@@ -22,6 +22,7 @@ request_named x =
     else (if same_bytes x (request_name request.Server) then Some request.Server
     else None))))
 
+-- whether a name is one of the request's five variables
 abbrev pub is_request : List ℕ → Bool
 is_request x = is_some (request_named x)
 
@@ -36,6 +37,7 @@ is_place (super_expr s) = true
 is_place (member_expr a k) = is_place a
 is_place _ = false
 
+-- whether each of the operands is a variable with subscripts
 abbrev pub all_places : PlainExprs → Bool
 all_places no_exprs = true
 all_places (more_exprs e es) = is_place e && all_places es
@@ -54,6 +56,7 @@ keyed_before_last (more_keys no_expr (more_keys l ks)) = false
 keyed_before_last (more_keys (some_expr k) (more_keys l ks)) = keyed_before_last (more_keys l ks)
 
 unfoldable mutual
+  -- whether an expression keeps the rules: its variables are known, what is written may be written, and keys are left out at an end alone
   pub expr_fits : PlainExpr → Bool
   expr_fits null_expr = true
   expr_fits (flag_expr b) = true
@@ -79,18 +82,22 @@ unfoldable mutual
   expr_fits (step_expr x up before) = is_writable x
   expr_fits (call_expr f es) = exprs_fit es
 
+  -- whether an expression keeps the rules, if there is one
   pub maybe_fits : MaybeExpr → Bool
   maybe_fits no_expr = true
   maybe_fits (some_expr e) = expr_fits e
 
+  -- whether each of the expressions keeps the rules
   pub exprs_fit : PlainExprs → Bool
   exprs_fit no_exprs = true
   exprs_fit (more_exprs e es) = expr_fits e && exprs_fit es
 
+  -- whether each key and each value of the items keeps the rules
   pub items_fit : PlainItems → Bool
   items_fit no_items = true
   items_fit (more_items k e is) = maybe_fits k && (expr_fits e && items_fit is)
 
+  -- whether each key of a target keeps the rules
   pub path_fits : PlainPath → Bool
   path_fits no_keys = true
   path_fits (more_keys k ks) = maybe_fits k && path_fits ks
@@ -106,6 +113,7 @@ is_utf8 t = utf8_valid_len t == length t
 
 -- in a loop of the same body or not, and in a function or not
 unfoldable mutual
+  -- whether a statement keeps the rules; `break` and `continue` stand in a loop, and `return` in a function
   pub stmt_fits : Bool → Bool → PlainStmt → Bool
   stmt_fits in_loop in_function (inline_stmt t) = true
   stmt_fits in_loop in_function (echo_stmt es) = exprs_fit es
@@ -113,7 +121,8 @@ unfoldable mutual
   stmt_fits in_loop in_function (if_stmt a ss) = arms_fit in_loop in_function a && stmts_fit in_loop in_function ss
   stmt_fits in_loop in_function (while_stmt e ss) = expr_fits e && stmts_fit true in_function ss
   stmt_fits in_loop in_function (do_while_stmt ss e) = stmts_fit true in_function ss && expr_fits e
-  stmt_fits in_loop in_function (for_stmt begin e next ss) = exprs_fit begin && (maybe_fits e && (exprs_fit next && stmts_fit true in_function ss))
+  stmt_fits in_loop in_function (for_stmt begin e next ss) =
+      exprs_fit begin && (maybe_fits e && (exprs_fit next && stmts_fit true in_function ss))
   stmt_fits in_loop in_function (each_stmt e k x ss) = expr_fits e && (maybe_writable k && (is_writable x && stmts_fit true in_function ss))
   stmt_fits in_loop in_function break_stmt = in_loop
   stmt_fits in_loop in_function continue_stmt = in_loop
@@ -121,10 +130,12 @@ unfoldable mutual
   stmt_fits in_loop in_function (include_stmt t) = is_utf8 t
   stmt_fits in_loop in_function (quit_stmt e) = maybe_fits e
 
+  -- whether each of the statements keeps the rules
   pub stmts_fit : Bool → Bool → PlainStmts → Bool
   stmts_fit in_loop in_function no_stmts = true
   stmts_fit in_loop in_function (more_stmts s ss) = stmt_fits in_loop in_function s && stmts_fit in_loop in_function ss
 
+  -- whether each condition and each statement in the arms of an `if` keeps the rules
   pub arms_fit : Bool → Bool → PlainArms → Bool
   arms_fit in_loop in_function no_arms = true
   arms_fit in_loop in_function (more_arms e ss a) = expr_fits e && (stmts_fit in_loop in_function ss && arms_fit in_loop in_function a)
@@ -139,6 +150,7 @@ abbrev pub params_fit : List PlainParam → Bool
 params_fit [] = true
 params_fit (p ∷ ps) = is_writable p.name_of && (is_new_name p.name_of ps && params_fit ps)
 
+-- whether each function keeps the rules, in its parameters and in its body, which stands in no loop
 abbrev pub functions_fit : List PlainFunction → Bool
 functions_fit [] = true
 functions_fit (f ∷ fs) = params_fit f.params_of && (stmts_fit false true f.body_of && functions_fit fs)

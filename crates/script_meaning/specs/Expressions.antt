@@ -1,5 +1,6 @@
 -- What an expression gives (PHP manual, "Expressions", "Operators", "Variables", "Arrays"). Parts are evaluated from the left to the right,
--- each once. The manual leaves the order within one expression open; this project's rule is that a variable is read where it stands, so that
+-- each once. The manual leaves the order within one expression open; this project's rule is that a variable is read where it stands, so
+-- that
 -- `$i + $i++` at 1 gives 2, where PHP itself gives 3.
 use Rattle.std.specs.Prelude.{ℕ, Bool, true, false, not, if◌then◌else◌, List, [], ◌∷◌, Option, Some, None, Result, Ok}
 use Rattle.std.specs.List.{list_all}
@@ -77,16 +78,20 @@ unfolding result_of
 store x [] new s = Going new (with_variable s x new)
 store x (k ∷ ks) new s = result_of (write (k ∷ ks) new (value_in s.variables x)) s then_do λ whole s. Going new (with_variable s x whole)
 
--- `.=` and its like: the old value is read, then the right side is evaluated, and then the result is written (this project's order: PHP reads the
+-- `.=` and its like: the old value is read, then the right side is evaluated, and then the result is written (this project's order: PHP
+-- reads the
 -- old value of a plain variable after the right side)
 unfoldable pub update_at : UpdateSign → List ℕ → List Step → (State → Run Plain) → State → Run Plain
 unfolding result_of updated is_kept store
 update_at sign x path right s =
-    result_of (read path (value_in s.variables x)) s then_do λ old s. (if is_kept sign old then Going old s else (right s then_do λ v s. (result_of (updated sign old v) s then_do λ new s. store x path new s)))
+    result_of (read path (value_in s.variables x)) s then_do λ old s.
+    (if is_kept sign old then Going old s
+    else (right s then_do λ v s. (result_of (updated sign old v) s then_do λ new s. store x path new s)))
 
 unfoldable mutual
   unfolding request_array arithmetic comparison stepped assigned update_at result_of
 
+  -- the value of an expression with the state behind it, or the end of the run within it
   pub value : Environment → PlainExpr → State → Run Plain
   value w null_expr s = Going null s
   value w (flag_expr b) s = Going (flag b) s
@@ -105,10 +110,14 @@ unfoldable mutual
   value w (neg_expr a) s = value w a s then_do λ v s. result_of (negation_of v) s
   value w (not_expr a) s = value w a s then_do λ v s. Going (flag (not (truth v))) s
   value w (arith_expr sign a b) s = value w a s then_do λ left s. (value w b s then_do λ right s. result_of (arithmetic sign left right) s)
-  value w (compare_expr sign a b) s = value w a s then_do λ left s. (value w b s then_do λ right s. (result_of (comparison sign left right) s then_do λ answer s. Going (flag answer) s))
+  value w (compare_expr sign a b) s =
+      value w a s then_do λ left s. (value w b s then_do λ right s. (result_of (comparison sign left right) s then_do λ answer s. Going
+      (flag answer) s))
   -- `&&` and `||` evaluate their right side only where they need it
-  value w (and_expr a b) s = value w a s then_do λ v s. (if truth v then (value w b s then_do λ u s. Going (flag (truth u)) s) else Going (flag false) s)
-  value w (or_expr a b) s = value w a s then_do λ v s. (if truth v then Going (flag true) s else (value w b s then_do λ u s. Going (flag (truth u)) s))
+  value w (and_expr a b) s = value w a s then_do λ v s. (if truth v then (value w b s then_do λ u s. Going (flag (truth u)) s)
+      else Going (flag false) s)
+  value w (or_expr a b) s = value w a s then_do λ v s. (if truth v then Going (flag true) s
+      else (value w b s then_do λ u s. Going (flag (truth u)) s))
   -- `a ?? b`
   value w (coalesce_expr a b) s = value w a s then_do λ v s. (if is_null v then value w b s else Going v s)
   -- `c ? a : b`, and `c ?: b`, which gives the value of c where it is true
@@ -118,17 +127,25 @@ unfoldable mutual
   value w (isset_expr parts) s = values w parts s then_do λ vs s. Going (flag (list_all (λ v. not (is_null v)) vs)) s
   value w (empty_expr a) s = value w a s then_do λ v s. Going (flag (not (truth v))) s
   -- `$x[k] = e`: the subscripts, then the value, then the write
-  value w (assign_expr x path e) s = subscripts w path s then_do λ ks s. (value w e s then_do λ new s. (result_of (assigned ks new (value_in s.variables x)) s then_do λ whole s. Going new (with_variable s x whole)))
+  value w (assign_expr x path e) s =
+      subscripts w path s then_do λ ks s.
+      (value w e s then_do λ new s. (result_of (assigned ks new (value_in s.variables x)) s then_do λ whole s. Going new
+      (with_variable s x whole)))
   -- `$x[k] .= e`: the subscripts, which become keys at once, then the old value, then the right side
-  value w (update_expr sign x path e) s = subscripts w path s then_do λ ks s. (result_of (path_of ks) s then_do λ path s. update_at sign x path (value w e) s)
+  value w (update_expr sign x path e) s =
+      subscripts w path s then_do λ ks s. (result_of (path_of ks) s then_do λ path s. update_at sign x path (value w e) s)
   -- `++$x` gives the new value and `$x++` the old one
-  value w (step_expr x up before) s = result_of (stepped up (value_in s.variables x)) s then_do λ new s. Going (if before then new else value_in s.variables x) (with_variable s x new)
+  value w (step_expr x up before) s =
+      result_of (stepped up (value_in s.variables x)) s then_do λ new s. Going (if before then new else value_in s.variables x)
+      (with_variable s x new)
   value w (call_expr name args) s = values w args s then_do λ vs s. w.call name vs s
 
+  -- the values of expressions, which are evaluated from the left to the right
   pub values : Environment → PlainExprs → State → Run (List Plain)
   values w no_exprs s = Going [] s
   values w (more_exprs e es) s = value w e s then_do λ v s. (values w es s then_do λ vs s. Going (v ∷ vs) s)
 
+  -- the value of an expression, where one is written
   pub maybe_value : Environment → MaybeExpr → State → Run (Option Plain)
   maybe_value w no_expr s = Going None s
   maybe_value w (some_expr e) s = value w e s then_do λ v s. Going (Some v) s
@@ -136,8 +153,11 @@ unfoldable mutual
   -- each item is put in after its key and its value
   pub items_in : Environment → PlainItems → Plain → State → Run Plain
   items_in w no_items made s = Going made s
-  items_in w (more_items k e is) made s = maybe_value w k s then_do λ key s. (value w e s then_do λ new s. (result_of (add_item made key new) s then_do λ made s. items_in w is made s))
+  items_in w (more_items k e is) made s =
+      maybe_value w k s then_do λ key s.
+      (value w e s then_do λ new s. (result_of (add_item made key new) s then_do λ made s. items_in w is made s))
 
+  -- the values of subscripts, which are evaluated from the left to the right; `[]` has none
   pub subscripts : Environment → PlainPath → State → Run (List (Option Plain))
   subscripts w no_keys s = Going [] s
   subscripts w (more_keys k ks) s = maybe_value w k s then_do λ v s. (subscripts w ks s then_do λ vs s. Going (v ∷ vs) s)

@@ -33,20 +33,23 @@ builtin_or None args own s = own s
 -- the body of a function, over variables of its own; its caller has its variables again behind it
 unfoldable pub run_body : Environment → PlainFunction → List Plain → State → Run Plain
 unfolding value_returned
-run_body w f args s = statements w f.body_of (record s { variables = arguments_of f.params_of args }) then_do λ flow after. Going (value_returned flow) (record after { variables = s.variables })
+run_body w f args s = statements w f.body_of (record s { variables = arguments_of f.params_of args }) then_do λ flow after. Going
+    (value_returned flow) (record after { variables = s.variables })
 
 -- a call, where so many more calls may be open
 unfoldable pub call_within : PlainRequest → List PlainFunction → ℕ → List ℕ → List Plain → State → Run Plain
 unfolding call_one run_body builtin_or
 call_within r fs zero name args s = builtin_or (builtin_named name) args (call_one (function_named fs name) (λ f s. Over Deep s.printed)) s
 call_within r fs (suc room) name args s =
-    builtin_or (builtin_named name) args (call_one (function_named fs name) (λ f s. run_body (record { request = r; call = call_within r fs room }) f args s)) s
+    builtin_or (builtin_named name) args
+    (call_one (function_named fs name) (λ f s. run_body (record { request = r; call = call_within r fs room }) f args s)) s
 
 -- what a run printed, and how it ended
 pub record Outcome : Type 0 where
   pub printed : List ℕ
   pub end : End
 
+-- statements outside functions that were left, at their end or by `return`, end the run as `exit` does; a run that was over keeps its end
 unfoldable pub outcome_of : Run Flow → Outcome
 outcome_of (Going flow s) = record { printed = s.printed; end = Ended }
 outcome_of (Over how printed) = record { printed = printed; end = how }
@@ -55,4 +58,5 @@ outcome_of (Over how printed) = record { printed = printed; end = how }
 unfoldable pub meaning : PlainProgram → PlainRequest → ℕ → Outcome
 unfolding call_within outcome_of
 meaning program r n =
-    outcome_of (statements (record { request = r; call = call_within r program.functions_of 256 }) program.main_of (record { left = n; variables = []; printed = [] }))
+    outcome_of (statements (record { request = r; call = call_within r program.functions_of 256 }) program.main_of
+    (record { left = n; variables = []; printed = [] }))

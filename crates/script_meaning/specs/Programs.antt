@@ -5,6 +5,7 @@ use Rattle.php_syntax.specs.Trees.{PlainExpr, flag_expr, int_expr, text_expr, ne
 use Rattle.plain_values.specs.Plain.{Plain, null, flag, int, text}
 use Rattle.script_meaning.specs.Runs.{Variables}
 
+-- a program: its statements outside functions, with those of included files in their place, and all its functions
 pub record PlainProgram : Type 0 where
   pub main_of : PlainStmts
   pub functions_of : List PlainFunction
@@ -22,6 +23,7 @@ literal_value (text_expr t) = text t
 literal_value (neg_expr (int_expr z)) = int (neg_ℤ z)
 literal_value _ = null
 
+-- the value of a parameter for which no argument was handed in: its default, and null where none is written
 unfoldable pub default_value : MaybeExpr → Plain
 unfolding literal_value
 default_value no_expr = null

@@ -24,6 +24,7 @@ request_array r Server = r.server_of
 
 -- a text of XML's characters, or an array of such members under integers and such texts; null, truth values and integers are none
 unfoldable mutual
+  -- a text of XML's characters, or an array of members
   pub IsMember : Plain → Type 0
   IsMember null = ⊥
   IsMember (flag b) = ⊥
@@ -31,6 +32,7 @@ unfoldable mutual
   IsMember (text t) = IsText t
   IsMember (array ps) = AreMembers ps
 
+  -- each value is a member, and each text that is a key is of XML's characters
   pub AreMembers : Pairs → Type 0
   AreMembers empty = ⊤
   AreMembers (pair (int_key z) v ps) = IsMember v × AreMembers ps

@@ -47,6 +47,7 @@ unfoldable pub result_of : {A : Type 0} → Result A Fault → State → Run A
 result_of (Ok x) s = Going x s
 result_of (Err fault) s = Over (Faulted fault) s.printed
 
+-- goes on with one unit less, where so many are left; the run is over where none is
 unfoldable pub unit_at : {A : Type 0} → ℕ → State → (State → Run A) → Run A
 unit_at zero s go = Over Spent s.printed
 unit_at (suc n) s go = go (record s { left = n })

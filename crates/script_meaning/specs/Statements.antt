@@ -1,4 +1,5 @@
--- What a statement does (PHP manual, "Control structures", "echo", "exit", "Escaping from HTML"). Each statement takes one unit, and each turn of a loop one
+-- What a statement does (PHP manual, "Control structures", "echo", "exit", "Escaping from HTML"). Each statement takes one unit, and each
+-- turn of a loop one
 -- before its body.
 use Rattle.std.specs.Prelude.{ℕ, zero, suc, Bool, true, if◌then◌else◌, List, [], ◌++◌, Option, Some, None}
 use Rattle.php_syntax.specs.Trees.{PlainExpr, MaybeExpr, no_expr, some_expr, PlainExprs, no_exprs, more_exprs, PlainStmt, inline_stmt, echo_stmt, run_stmt, if_stmt, while_stmt, do_while_stmt, for_stmt, each_stmt, break_stmt, continue_stmt, return_stmt, include_stmt, quit_stmt, PlainStmts, no_stmts, more_stmts, PlainArms, no_arms, more_arms}
@@ -35,11 +36,13 @@ unfoldable pub turn : (State → Run Flow) → State → (State → Run Flow) �
 unfolding unit_at turn_after
 turn body s go = with_unit s λ s. (body s then_do λ flow s. turn_after flow s go)
 
--- turns as long as a test holds, with something to do behind each; no more than some number of them, which is that of the units that are left
+-- turns as long as a test holds, with something to do behind each; no more than some number of them, which is that of the units that are
+-- left
 unfoldable pub turns : ℕ → (State → Run Bool) → (State → Run Flow) → (State → Run (List Plain)) → State → Run Flow
 unfolding turn
 turns zero test body behind s = test s then_do λ holds s. (if holds then Over Spent s.printed else Going goes_on s)
-turns (suc n) test body behind s = test s then_do λ holds s. (if holds then turn body s (λ s. (behind s then_do λ vs s. turns n test body behind s)) else Going goes_on s)
+turns (suc n) test body behind s =
+    test s then_do λ holds s. (if holds then turn body s (λ s. (behind s then_do λ vs s. turns n test body behind s)) else Going goes_on s)
 
 -- a loop: the test, and where it holds a turn and the loop again
 unfoldable pub loop : (State → Run Bool) → (State → Run Flow) → (State → Run (List Plain)) → State → Run Flow
@@ -90,6 +93,7 @@ exit_with (Some _) s = Over (Faulted WrongType) s.printed
 unfoldable mutual
   unfolding unit_at next_after turn loop walk condition for_condition nothing echo returned exit_with
 
+  -- how a statement is left, with the state behind it, or the end of the run within it
   pub statement : Environment → PlainStmt → State → Run Flow
   -- text outside PHP
   statement w (inline_stmt bytes) s = with_unit s λ s. Going goes_on (printing bytes s)
@@ -98,8 +102,10 @@ unfoldable mutual
   statement w (if_stmt arms otherwise) s = with_unit s λ s. arms_in w arms (statements w otherwise) s
   statement w (while_stmt e body) s = with_unit s λ s. loop (condition w e) (statements w body) nothing s
   -- one turn, and then what `while` does
-  statement w (do_while_stmt body e) s = with_unit s λ s. turn (statements w body) s (λ s. loop (condition w e) (statements w body) nothing s)
-  statement w (for_stmt begin e next body) s = with_unit s λ s. (values w begin s then_do λ vs s. loop (for_condition w e) (statements w body) (values w next) s)
+  statement w (do_while_stmt body e) s =
+      with_unit s λ s. turn (statements w body) s (λ s. loop (condition w e) (statements w body) nothing s)
+  statement w (for_stmt begin e next body) s =
+      with_unit s λ s. (values w begin s then_do λ vs s. loop (for_condition w e) (statements w body) (values w next) s)
   -- the array is walked as it was, whatever the body writes
   statement w (each_stmt e key x body) s = with_unit s λ s. (value w e s then_do λ v s. walk (walked v) key x (statements w body) s)
   statement w break_stmt s = with_unit s λ s. Going breaks s
@@ -110,6 +116,7 @@ unfoldable mutual
   -- none stands in a program: the statements of its file stand in its place
   statement w (include_stmt path) s = Going goes_on s
 
+  -- statements in turn, up to the first one that is not left at its end
   pub statements : Environment → PlainStmts → State → Run Flow
   statements w no_stmts s = Going goes_on s
   statements w (more_stmts st ss) s = statement w st s then_do λ flow s. next_after flow s (statements w ss)
@@ -117,4 +124,5 @@ unfoldable mutual
   -- the body of the first arm whose condition holds, or what stands behind `else`
   pub arms_in : Environment → PlainArms → (State → Run Flow) → State → Run Flow
   arms_in w no_arms otherwise s = otherwise s
-  arms_in w (more_arms e body arms) otherwise s = condition w e s then_do λ holds s. (if holds then statements w body s else arms_in w arms otherwise s)
+  arms_in w (more_arms e body arms) otherwise s =
+      condition w e s then_do λ holds s. (if holds then statements w body s else arms_in w arms otherwise s)

@@ -10,6 +10,7 @@ use Rattle.tag_sums.specs.Sum.{Sum}
 use Rattle.tag_sums.specs.Sum.{broken, reduced}
 use Rattle.segment_summary.specs.Equal.{sum_eq, sum_fed}
 
+-- two sets of states are found equal exactly where they are one
 pub states_decide : (a b : List Bool) → Decides (pointwise beq a b) (a ≡ b)
 states_decide = pointwise_decides booleans_Decides
 
@@ -19,6 +20,7 @@ option_decides None (Some b) = (λ h. cc, λ h. cc)
 option_decides (Some a) None = (λ h. cc, λ h. cc)
 option_decides (Some a) (Some b) = (λ h. ap Some ((unsigned_Decides a b).0 h), λ h. (unsigned_Decides a b).1 cc)
 
+-- two sums that are found equal are one
 pub sum_exact : (a b : Sum) → sum_eq a b ≡ true → a ≡ b
 sum_exact broken broken h = refl
 sum_exact broken (reduced d n p) h = cc
@@ -40,17 +42,22 @@ sum_itself (reduced c m o) =
     let z = (pointwise_decides unsigned_Decides o o).1 refl in
     rw (x, y, z) refl
 
+-- two sums are found equal exactly where they are one
 pub sum_decides : (a b : Sum) → Decides (sum_eq a b) (a ≡ b)
 sum_decides a b = (sum_exact a b, λ e. subst (λ (s : Sum). sum_eq a s ≡ true) e (sum_itself a))
 
+-- sets of states that are found equal give the same to a hasher
 pub states_alike : (a b : List Bool) → pointwise beq a b ≡ true → fed.slice fed.bool a ≡ fed.slice fed.bool b
 states_alike a b h = ap (fed.slice fed.bool) ((states_decide a b).0 h)
 
+-- sums that are found equal give the same to a hasher
 pub sum_alike : (a b : Sum) → sum_eq a b ≡ true → sum_fed a ≡ sum_fed b
 sum_alike a b h = ap sum_fed ((sum_decides a b).0 h)
 
+-- the test of two sums is reflexive, symmetric and transitive
 pub sum_equiv : IsEquivalence sum_eq
 sum_equiv = decided sum_eq sum_decides
 
+-- the test of two sums is symmetric and transitive
 pub sum_per : IsPartialEquivalence sum_eq
 sum_per = partial_equiv_from_equiv sum_equiv

@@ -11,10 +11,12 @@ use Rattle.page_model.specs.Valid as sort
 use Rattle.tag_sums.specs.Labels.{Mark, blank, text, misc, doctype}
 use Rattle.page_automata.specs.PageAutomaton.{may_stand}
 
+-- the plain form of a sum
 abbrev pub view_of : Shape → Sum
 view_of Broken = broken
 view_of (Live closers middle openers) = reduced closers.items middle.items openers.items
 
+-- the plain form of what is no element
 abbrev pub mark_of : Kind → Mark
 mark_of kind.Blank = blank
 mark_of kind.Text = text

@@ -9,6 +9,7 @@ abbrev pub piece_bytes : List (List ℕ) → Piece → List ℕ
 piece_bytes known (piece.Byte b) = b ∷ []
 piece_bytes known (piece.Fork n) = slice_index_or known n []
 
+-- the bytes of a fork, those of its first piece before those of its second, where those of forks before it are known
 abbrev pub fork_bytes : List (List ℕ) → Fork → List ℕ
 fork_bytes known f = piece_bytes known f.first ++ piece_bytes known f.second
 
@@ -17,6 +18,7 @@ abbrev pub forks_bytes : List (List ℕ) → List Fork → List (List ℕ)
 forks_bytes known [] = known
 forks_bytes known (f ∷ forks) = forks_bytes (known ++ fork_bytes known f ∷ []) forks
 
+-- the bytes of a piece
 abbrev pub bytes_at : List Fork → Piece → List ℕ
 bytes_at forks p = piece_bytes (forks_bytes [] forks) p
 
@@ -30,6 +32,7 @@ abbrev pub rank : Piece → ℕ
 rank (piece.Byte b) = 0
 rank (piece.Fork n) = n + 1
 
+-- how many forks there must be for a piece, and none for nothing
 abbrev pub maybe_rank : Option Piece → ℕ
 maybe_rank None = 0
 maybe_rank (Some p) = rank p

@@ -27,6 +27,7 @@ Joins old new None q made = (new ≡ old) × (made ≡ q)
 Joins old new (Some p) None made = (new ≡ old) × (made ≡ Some p)
 Joins old new (Some p) (Some q) made = (new ≡ old ++ (record { first = p; second = q }) ∷ []) × (made ≡ Some (piece.Fork (length old)))
 
+-- what stands for the parts of a node, and the fork that is put behind the others for it, if one is
 abbrev pub Makes : List Fork → List Fork → List (Option Piece) → Parts → Option Piece → Type 0
 Makes old new pieces Empty made = (new ≡ old) × (made ≡ None)
 Makes old new pieces (One a) made = (new ≡ old) × (made ≡ piece_of_part pieces a)
@@ -36,4 +37,5 @@ Makes old new pieces (Two a b) made = Joins old new (piece_of_part pieces a) (pi
 pub record ArePieces (nodes : List Node) (forks : List Fork) (pieces : List (Option Piece)) : Type 0 where
   pub forks_are : AreForks forks
   pub within : (n : ℕ) (o : Option Piece) → slice_get pieces n ≡ Some o → maybe_rank o ≤ length forks
-  pub right : (productions : List Production) (n : ℕ) (o : Option Piece) (a : Symbol) (w : List Letter) → slice_get pieces n ≡ Some o → Stands productions nodes (Inner n) a w → maybe_bytes forks o ≡ bytes_in w
+  pub right : (productions : List Production) (n : ℕ) (o : Option Piece) (a : Symbol) (w : List Letter) → slice_get pieces n ≡ Some o
+      → Stands productions nodes (Inner n) a w → maybe_bytes forks o ≡ bytes_in w

@@ -4,6 +4,7 @@ use Rattle.sentence_writing.specs.declared.fork.Piece.{Piece}
 use Rattle.sentence_writing.specs.declared.fork.Fork.{Fork}
 use Rattle.sentence_writing.specs.Forks.{bytes_at, rank}
 
+-- the bytes that are still to be written: those of the last piece of the stack stand first
 abbrev pub pending : List Fork → List Piece → List ℕ
 pending forks [] = []
 pending forks (p ∷ pieces) = pending forks pieces ++ bytes_at forks p

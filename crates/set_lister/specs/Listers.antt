@@ -11,8 +11,10 @@ use Rattle.set_names.specs.declared.name.SetName.TheVariants.{Out}
 use Rattle.set_names.specs.Stands.{StandsFor}
 use Rattle.version_listing.specs.Lists.{Lists}
 
--- each name that may be asked for stands for a set, and its forms are exactly the rows of the set; and it may be asked what is printed from the entry of the first function on
-pub record IsFlowLister (flow : PlainFlow) (linked : Linked) (at : Versioned) (asks : SetName → Type 0) (lists : SetName → List (Form SetName)) : Type 0 where
+-- each name that may be asked for stands for a set, and its forms are exactly the rows of the set; and it may be asked what is printed from
+-- the entry of the first function on
+pub record IsFlowLister (flow : PlainFlow) (linked : Linked) (at : Versioned) (asks : SetName → Type 0)
+    (lists : SetName → List (Form SetName)) : Type 0 where
   pub stands : (n : SetName) → asks n → (m : VersionName) × StandsFor (told_keys flow) m n
   pub exact : (m : VersionName) (n : SetName) → asks n → StandsFor (told_keys flow) m n → Lists flow linked at m (lists n)
   pub start : (main : PlainFlowFunction) (l : Leaving) → function_at flow 0 ≡ Some main → asks (Out main.entry_of l)

@@ -12,6 +12,7 @@ use Rattle.set_names.specs.declared.name.Aspect.TheVariants.{Own, Member, Others
 use Rattle.set_names.specs.declared.name.SetName.{SetName}
 use Rattle.set_listing.specs.Uses.{At, used, all_used, where_so, of_told, may_be_at, member_name}
 
+-- the forms of one set: each of them gives some of its texts
 abbrev pub Forms : Type 0
 Forms = List (Form SetName)
 
@@ -25,6 +26,7 @@ unfoldable pub null_own : Half → Forms
 null_own Text = text_form [] ∷ []
 null_own Array = []
 
+-- a member by its key: the value itself may also be null, its own members and keys are those that stand deep in the array
 unfoldable pub member_forms : List PlainKey → At → ℕ → ℕ → PlainKeyRef → Aspect → Forms
 unfolding null_own
 member_forms told at p x k (Own h) = same_form (member_name told at p h k x) ∷ null_own h
@@ -44,14 +46,17 @@ unfoldable pub item_under : List PlainKey → At → ℕ → ℕ → Half → (O
 unfolding where_so may_be_at
 item_under told at p i h item = where_so (may_be_at told item.0 i) (used at p (Own h) item.1 ∷ [])
 
+-- an item of an array literal as none of the keys told apart: its value where its key may be none of them, and all its members
 unfoldable pub item_elsewhere : List PlainKey → At → ℕ → Half → (Option PlainKeyRef × ℕ) → Forms
 unfolding where_so
 item_elsewhere told at p h item = where_so (may_be_other item.0 told) (used at p (Own h) item.1 ∷ []) ++ all_used at p h item.1 ∷ []
 
+-- an item of an array literal by its keys: those in its value, and its own
 unfoldable pub item_keys : At → ℕ → (Option PlainKeyRef × ℕ) → Forms
 unfolding key_forms
 item_keys at p item = used at p Keys item.1 ∷ key_forms at p item.0
 
+-- an array literal by an aspect of it, item by item
 unfoldable pub array_forms : List PlainKey → At → ℕ → List (Option PlainKeyRef × ℕ) → Aspect → Forms
 unfolding array_own item_under item_elsewhere item_keys
 array_forms told at p items (Own h) = array_own h
@@ -64,10 +69,13 @@ unfoldable pub is_exactly_at : List PlainKey → Option PlainKeyRef → ℕ → 
 unfolding of_told
 is_exactly_at told k i = of_told (is_exactly k) (slice_get told i)
 
+-- a write under one key, by the member of a number: the old one, unless the key is just its own, and the new value, where it may be
 unfoldable pub put_under : List PlainKey → At → ℕ → ℕ → Option PlainKeyRef → ℕ → ℕ → Half → Forms
 unfolding where_so may_be_at is_exactly_at
-put_under told at p x k v i h = where_so (not (is_exactly_at told k i)) (used at p (Member i h) x ∷ []) ++ where_so (may_be_at told k i) (used at p (Own h) v ∷ [])
+put_under told at p x k v i h =
+    where_so (not (is_exactly_at told k i)) (used at p (Member i h) x ∷ []) ++ where_so (may_be_at told k i) (used at p (Own h) v ∷ [])
 
+-- a write under one key, by the members that stand elsewhere or deep: the old ones, those of the new value, and maybe the new value
 unfoldable pub put_elsewhere : List PlainKey → At → ℕ → ℕ → Option PlainKeyRef → ℕ → Half → Forms
 unfolding where_so
 put_elsewhere told at p x k v h = used at p (Others h) x ∷ all_used at p h v ∷ where_so (may_be_other k told) (used at p (Own h) v ∷ [])
@@ -77,14 +85,17 @@ unfoldable pub deep_under : List PlainKey → At → ℕ → ℕ → Option Plai
 unfolding where_so may_be_at array_own
 deep_under told at p x k i h = used at p (Member i h) x ∷ where_so (may_be_at told k i) (array_own h)
 
+-- a deeper write, by the members that stand elsewhere or deep: the old ones, the new value with its members, and arrays
 unfoldable pub deep_elsewhere : At → ℕ → ℕ → ℕ → Half → Forms
 unfolding array_own
 deep_elsewhere at p x v h = used at p (Others h) x ∷ all_used at p h v ∷ used at p (Own h) v ∷ array_own h
 
+-- a write by its keys: the old ones, those in the new value, and those of the path
 unfoldable pub put_keys : At → ℕ → ℕ → List (Option PlainKeyRef) → ℕ → Forms
 unfolding key_forms
 put_keys at p x path v = used at p Keys x ∷ used at p Keys v ∷ flat_map (key_forms at p) path
 
+-- a write at a path of keys, by an aspect of the array that it gives; a path without keys has no form here
 unfoldable pub put_forms : List PlainKey → At → ℕ → ℕ → List (Option PlainKeyRef) → ℕ → Aspect → Forms
 unfolding array_own put_under put_elsewhere deep_under deep_elsewhere put_keys
 put_forms told at p x [] v b = []

@@ -63,6 +63,7 @@ abbrev pub joined_from_place : At → ℕ → ℕ → ℕ → Option ℕ → For
 joined_from_place at p i count (Some x) = join_form (name.Shown (at p x)) (name.Joined p (suc i)) ∷ []
 joined_from_place at p i count None = where_so (nat_eq i count) (text_form [] ∷ [])
 
+-- at a point that joins values: the texts from the value of this place on, from 0; the empty text behind the last one
 unfoldable pub joined_forms : At → ℕ → Option (List ℕ) → ℕ → Forms
 unfolding where_so
 joined_forms at p None i = []
@@ -78,6 +79,7 @@ unfoldable pub further_forms : At → ℕ → Option (ℕ × ℕ) → Forms
 further_forms at p None = []
 further_forms at p (Some slots) = join_form (name.Value (Own Text) (at p slots.0)) (name.Piece p) ∷ []
 
+-- any number of a separator with a member, none among them
 unfoldable pub any_further_forms : ℕ → Option (ℕ × ℕ) → Forms
 any_further_forms p None = []
 any_further_forms p (Some slots) = text_form [] ∷ join_form (name.FurtherPiece p) (name.FurtherPieces p) ∷ []
@@ -86,10 +88,12 @@ any_further_forms p (Some slots) = text_form [] ∷ join_form (name.FurtherPiece
 abbrev pub input_used : At → ℕ → ℕ → Form SetName
 input_used at p x = used at p (Own Text) x
 
+-- the inputs of the operation at a point: the texts of each slot that it reads
 unfoldable pub input_forms : At → ℕ → Option (Op × List ℕ) → Forms
 input_forms at p None = []
 input_forms at p (Some work) = map (input_used at p) work.1
 
+-- the outputs of the operation at a point, on each of its inputs
 unfoldable pub output_forms : ℕ → Option (Op × List ℕ) → Forms
 output_forms p None = []
 output_forms p (Some work) = apply_form work.0 (name.Input p) ∷ []

@@ -32,6 +32,7 @@ unfoldable pub request_own : Half → Forms
 request_own Text = request_form ∷ []
 request_own Array = yes_form ∷ []
 
+-- a variable of the request: an array whose keys are texts of the request and whose members are such texts or arrays
 unfoldable pub super_forms : Aspect → Forms
 unfolding array_own request_own
 super_forms (Own h) = array_own h
@@ -47,6 +48,7 @@ given_at p = name.Value (Own Text) (version.Point p)
 abbrev pub copies : At → ℕ → ℕ → Forms
 copies at p from = text_form [] ∷ join_form (name.Value (Own Text) (at p from)) (given_at p) ∷ []
 
+-- the members of an array with a separator between them; the empty text, where the array is empty
 abbrev pub pieces : ℕ → Forms
 pieces p = text_form [] ∷ join_form (name.Piece p) (name.FurtherPieces p) ∷ []
 
@@ -63,6 +65,7 @@ explode_forms told p (Member i h) = where_so (of_told is_integer_key (slice_get 
 explode_forms told p (Others h) = output_own p h
 explode_forms told p Keys = integer_form ∷ []
 
+-- the value that a source gives at a point, by an aspect of it
 unfoldable pub source_forms : List PlainKey → At → ℕ → PlainSource → Aspect → Forms
 unfolding where_so is_own_text super_forms member_forms array_forms put_forms explode_forms
 source_forms told at p (literal_source v) b = texts_alone (text_form (text_of v) ∷ []) b

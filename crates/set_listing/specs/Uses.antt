@@ -18,6 +18,7 @@ use Rattle.set_names.specs.declared.name.SetName.TheVariants.{Value, Members}
 abbrev pub At : Type 0
 At = ℕ → ℕ → SetVersion
 
+-- the version of a slot at a point, as plain data
 abbrev pub seen_at : At → ℕ → ℕ → PlainVersion
 seen_at at p x = version_seen (at p x)
 
@@ -48,16 +49,19 @@ unfoldable pub number_from : ℕ → PlainKey → List PlainKey → Option ℕ
 number_from n c [] = None
 number_from n c (k ∷ ks) = if same_key c k then Some n else number_from (suc n) c ks
 
+-- of the member under the key of a number, or of the other members
 abbrev pub in_member : Half → Option ℕ → Aspect
 in_member h None = Others h
 in_member h (Some i) = Member i h
 
--- a member under a key: of the member of this key where it is told apart, of the other members where it is another literal, and of all members
+-- a member under a key: of the member of this key where it is told apart, of the other members where it is another literal, and of all
+-- members
 -- where it is no literal
 abbrev pub member_under : List PlainKey → Half → SetVersion → Option PlainKey → SetName
 member_under told h v None = Members h v
 member_under told h v (Some c) = Value (in_member h (number_from 0 c told)) v
 
+-- the set that a member of a slot's value at a point is taken from, by its key
 unfoldable pub member_name : List PlainKey → At → ℕ → Half → PlainKeyRef → ℕ → SetName
 unfolding literal_key number_from
 member_name told at p h k x = member_under told h (at p x) (literal_key k)

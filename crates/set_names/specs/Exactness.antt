@@ -45,7 +45,8 @@ exact_aspect Keys (Others h) e = cc
 exact_aspect Keys Keys e = refl
 
 -- of two parts
-both : {A B : Type 0} {eq : A → A → Bool} {same : B → B → Bool} → IsExact eq → IsExact same → (a c : A) (b d : B) → (eq a c && same b d) ≡ true → ◌≡◌ {A = A × B} (a, b) (c, d)
+both : {A B : Type 0} {eq : A → A → Bool} {same : B → B → Bool} → IsExact eq → IsExact same → (a c : A) (b d : B)
+    → (eq a c && same b d) ≡ true → ◌≡◌ {A = A × B} (a, b) (c, d)
 both {A} {B} {eq} {same} first second a c b d e =
     let p : a ≡ c = first a c (first_so (eq a c) (same b d) e) in
     let q : b ≡ d = second b d (second_so (eq a c) (same b d) e) in
@@ -194,6 +195,7 @@ out n l (name.FurtherPiece n2) e = cc
 out n l (name.FurtherPieces n2) e = cc
 out n l (name.Out n2 l2) e = ap (λ (z : ℕ × Leaving). name.Out z.0 z.1) (both exact_unsigned_eq exact_leaving n n2 l l2 e)
 
+-- names of sets that are found equal are one
 pub exact_name : (a b : SetName) → (names.ghosts).eq a b ≡ true → a ≡ b
 exact_name (name.Value a v) q e = value a v q e
 exact_name (name.Members h v) q e = members h v q e

@@ -5,6 +5,7 @@ use Rattle.set_names.specs.declared.name.SetName.{SetName}
 use Rattle.set_names.specs.declared.form.NamedForm.{NamedForm}
 use Rattle.set_names.specs.declared.form.NamedForm.TheVariants.{Text, Same, Join, Before, Request, Integer, Apply, Yes, Where}
 
+-- the form that a form in memory is
 abbrev pub form_seen : NamedForm → Form SetName
 form_seen (Text w) = text_form w
 form_seen (Same a) = same_form a
@@ -16,5 +17,6 @@ form_seen (Apply op a) = apply_form op a
 form_seen Yes = yes_form
 form_seen (Where w a) = where_form w a
 
+-- the forms that forms in memory are, in their order
 abbrev pub forms_seen : List NamedForm → List (Form SetName)
 forms_seen forms = map form_seen forms

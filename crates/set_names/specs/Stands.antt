@@ -15,10 +15,12 @@ use Rattle.set_names.specs.declared.name.Leaving.TheVariants as leaving
 use Rattle.set_names.specs.declared.name.SetName.{SetName}
 use Rattle.set_names.specs.declared.name.SetName.TheVariants as name
 
+-- what is said of a value, and its name in memory
 pub data IsHalf : sets.Half → Half → Type 0 where
   text : IsHalf sets.text_half half.Text
   array : IsHalf sets.array_half half.Array
 
+-- how a function is left, and its name in memory
 pub data IsLeaving : sets.Leaving → Leaving → Type 0 where
   returns : IsLeaving sets.by_return leaving.Return
   exits : IsLeaving sets.by_exit leaving.Exit
@@ -26,13 +28,17 @@ pub data IsLeaving : sets.Leaving → Leaving → Type 0 where
 -- a member's key stands at its number among those that are told apart
 pub data IsAspect (told : List PlainKey) : sets.Aspect → Aspect → Type 0 where
   own : (g : sets.Half) (h : Half) → IsHalf g h → IsAspect told (sets.own g) (aspect.Own h)
-  member : (c : PlainKey) (i : ℕ) (g : sets.Half) (h : Half) → slice_get told i ≡ Some c → IsHalf g h → IsAspect told (sets.member c g) (aspect.Member i h)
+  member : (c : PlainKey) (i : ℕ) (g : sets.Half) (h : Half) → slice_get told i ≡ Some c → IsHalf g h
+      → IsAspect told (sets.member c g) (aspect.Member i h)
   others : (g : sets.Half) (h : Half) → IsHalf g h → IsAspect told (sets.others g) (aspect.Others h)
   keys : IsAspect told sets.keys_of aspect.Keys
 
+-- the name in memory is that of this set
 pub data StandsFor (told : List PlainKey) : VersionName → SetName → Type 0 where
-  value : (a : sets.Aspect) (b : Aspect) (v : PlainVersion) (w : SetVersion) → IsAspect told a b → version_seen w ≡ v → StandsFor told (value_of a v) (name.Value b w)
-  members : (g : sets.Half) (h : Half) (v : PlainVersion) (w : SetVersion) → IsHalf g h → version_seen w ≡ v → StandsFor told (members_of g v) (name.Members h w)
+  value : (a : sets.Aspect) (b : Aspect) (v : PlainVersion) (w : SetVersion) → IsAspect told a b → version_seen w ≡ v
+      → StandsFor told (value_of a v) (name.Value b w)
+  members : (g : sets.Half) (h : Half) (v : PlainVersion) (w : SetVersion) → IsHalf g h → version_seen w ≡ v
+      → StandsFor told (members_of g v) (name.Members h w)
   shown : (v : PlainVersion) (w : SetVersion) → version_seen w ≡ v → StandsFor told (shown_of v) (name.Shown w)
   result : (a : sets.Aspect) (b : Aspect) (n : ℕ) → IsAspect told a b → StandsFor told (unversioned (sets.result_of a n)) (name.Result b n)
   input : (p : ℕ) → StandsFor told (unversioned (sets.input_of p)) (name.Input p)

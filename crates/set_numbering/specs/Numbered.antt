@@ -14,10 +14,13 @@ abbrev pub IsByNumbers : List SetName → Form SetName → Form ℕ → Type 0
 IsByNumbers names f g = Alike (IsAt names) f g
 
 -- the rows of the first names are those that are listed for them, and no name has others; each name may be asked for
-pub record AreListed (asks : SetName → Type 0) (lists : SetName → List (Form SetName)) (names : List SetName) (taken : ℕ) (rows : List (ℕ × Form ℕ)) : Type 0 where
+pub record AreListed (asks : SetName → Type 0) (lists : SetName → List (Form SetName)) (names : List SetName) (taken : ℕ)
+    (rows : List (ℕ × Form ℕ)) : Type 0 where
   pub asked : (n : SetName) → Contains names n → asks n
-  pub each : (k : ℕ) (g : Form ℕ) → Contains rows (k, g) → (n : SetName) × IsAt names n k × (f : Form SetName) × Contains (lists n) f × IsByNumbers names f g
-  pub all : (k : ℕ) (n : SetName) (f : Form SetName) → k < taken → IsAt names n k → Contains (lists n) f → (g : Form ℕ) × Contains rows (k, g) × IsByNumbers names f g
+  pub each : (k : ℕ) (g : Form ℕ) → Contains rows (k, g)
+      → (n : SetName) × IsAt names n k × (f : Form SetName) × Contains (lists n) f × IsByNumbers names f g
+  pub all : (k : ℕ) (n : SetName) (f : Form SetName) → k < taken → IsAt names n k → Contains (lists n) f
+      → (g : Form ℕ) × Contains rows (k, g) × IsByNumbers names f g
 
 -- the rows of a number are exactly these forms, by numbers of the names in them
 pub record HasForms (names : List SetName) (rows : List (ℕ × Form ℕ)) (k : ℕ) (forms : List (Form SetName)) : Type 0 where
@@ -28,8 +31,10 @@ pub record HasForms (names : List SetName) (rows : List (ℕ × Form ℕ)) (k : 
 abbrev pub same_forms : List SetName → List (Form SetName)
 same_forms ns = map (λ n. same_form n) ns
 
--- no name has two numbers; each may be asked for; the rows of its number are exactly those that are listed for it; and one number more takes over the names to begin with
-pub record AreNumbered (asks : SetName → Type 0) (lists : SetName → List (Form SetName)) (starts names : List SetName) (start count : ℕ) (rows : List (ℕ × Form ℕ)) : Type 0 where
+-- no name has two numbers; each may be asked for; the rows of its number are exactly those that are listed for it; and one number more
+-- takes over the names to begin with
+pub record AreNumbered (asks : SetName → Type 0) (lists : SetName → List (Form SetName)) (starts names : List SetName) (start count : ℕ)
+    (rows : List (ℕ × Form ℕ)) : Type 0 where
   pub once : AreDifferent names
   pub asked : (n : SetName) → Contains names n → asks n
   pub listed : (k : ℕ) (n : SetName) → IsAt names n k → HasForms names rows k (lists n)

@@ -23,11 +23,13 @@ abbrev pub NamedIn : List (Form SetName) → SetName → Type 0
 NamedIn forms n = (f : Form SetName) × Contains forms f × Contains (all_names f) n
 
 -- rows of a number were added, one for each of these forms, and names that stand in them
-pub record AddsRows (asks : SetName → Type 0) (old new : List SetName) (before after : List (ℕ × Form ℕ)) (set : ℕ) (forms : List (Form SetName)) : Type 0 where
+pub record AddsRows (asks : SetName → Type 0) (old new : List SetName) (before after : List (ℕ × Form ℕ)) (set : ℕ)
+    (forms : List (Form SetName)) : Type 0 where
   pub keeps : Keeps old new
   pub adds : (n : SetName) → Contains new n → Contains old n ⊎ asks n
   pub stays : (c : ℕ × Form ℕ) → Contains before c → Contains after c
-  pub each : (k : ℕ) (g : Form ℕ) → Contains after (k, g) → Contains before (k, g) ⊎ ((k ≡ set) × (f : Form SetName) × Contains forms f × IsByNumbers new f g)
+  pub each : (k : ℕ) (g : Form ℕ) → Contains after (k, g)
+      → Contains before (k, g) ⊎ ((k ≡ set) × (f : Form SetName) × Contains forms f × IsByNumbers new f g)
   pub all : (f : Form SetName) → Contains forms f → (g : Form ℕ) × Contains after (set, g) × IsByNumbers new f g
 
 -- the numbers are those of these names, and nothing else was added

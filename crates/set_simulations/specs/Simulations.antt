@@ -37,7 +37,8 @@ pub record HasRow {N M : Type 0} (S : M → Form M → Type 0) (E : N → M → 
   pub row : S b form
   pub alike : Alike (Holds S E) f form
 
--- the second table does what the first does, where its sets stand for those of the first by E: a set that takes over another holds what stands for it, each
+-- the second table does what the first does, where its sets stand for those of the first by E: a set that takes over another holds what
+-- stands for it, each
 -- other row is there, and one set alone stands for one that an operation makes
 pub record Simulates {N M : Type 0} (R : N → Form N → Type 0) (S : M → Form M → Type 0) (E : N → M → Type 0) : Type 0 where
   pub same : (a c : N) (b : M) → E a b → R a (same_form c) → Holds S E c b

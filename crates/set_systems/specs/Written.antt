@@ -24,15 +24,19 @@ pub data IsRight (parts : List Part) : Form Part → Right → Type 0 where
   one : (p : Part) (s : Symbol) → Denotes parts p s → IsRight parts (same_form p) (One s)
   two : (p q : Part) (s t : Symbol) → Denotes parts p s → Denotes parts q t → IsRight parts (join_form p q) (Two s t)
 
--- each production stands for a row of the part at its left side, each rule for an operation of it, and each row of a listed part has its production or rule;
+-- each production stands for a row of the part at its left side, each rule for an operation of it, and each row of a listed part has its
+-- production or rule;
 -- sets are listed once
-pub record IsWritten (cells : Numbered) (says : ℕ → Type 0) (closed : Closed) (parts : List Part) (productions : List Production) (rules : List OpRule) : Type 0 where
+pub record IsWritten (cells : Numbered) (says : ℕ → Type 0) (closed : Closed) (parts : List Part) (productions : List Production)
+    (rules : List OpRule) : Type 0 where
   pub once : (k n m : ℕ) → slice_get parts n ≡ Some (set_part k) → slice_get parts m ≡ Some (set_part k) → n ≡ m
   pub each_production : (left : nt.Nt) (right : Right) → Contains productions (record { left = left; right = right })
       → (p : Part) × (f : Form Part) × (slice_get parts left.0 ≡ Some p) × PartRow cells says closed p f × IsRight parts f right
   pub each_rule : (left operand : nt.Nt) (op : Op) → Contains rules (record { left = left; op = op; operand = operand })
-      → (k : ℕ) × (j : ℕ) × (slice_get parts left.0 ≡ Some (set_part k)) × (slice_get parts operand.0 ≡ Some (set_part j)) × PartRow cells says closed (set_part k) (apply_form op (set_part j))
-  pub all_empty : (p : Part) (n : nt.Nt) → slice_get parts n.0 ≡ Some p → PartRow cells says closed p (text_form []) → Contains productions (record { left = n; right = Empty })
+      → (k : ℕ) × (j : ℕ) × (slice_get parts left.0 ≡ Some (set_part k)) × (slice_get parts operand.0 ≡ Some (set_part j))
+      × PartRow cells says closed (set_part k) (apply_form op (set_part j))
+  pub all_empty : (p : Part) (n : nt.Nt) → slice_get parts n.0 ≡ Some p → PartRow cells says closed p (text_form [])
+      → Contains productions (record { left = n; right = Empty })
   pub all_same : (p q : Part) (n : nt.Nt) → slice_get parts n.0 ≡ Some p → PartRow cells says closed p (same_form q)
       → (s : Symbol) × Denotes parts q s × Contains productions (record { left = n; right = One s })
   pub all_join : (p q r : Part) (n : nt.Nt) → slice_get parts n.0 ≡ Some p → PartRow cells says closed p (join_form q r)

@@ -17,6 +17,7 @@ numbers_of (Apply op a) = a ∷ []
 numbers_of Yes = []
 numbers_of (Where w a) = a ∷ []
 
+-- whether the number is below the count
 abbrev pub is_below : ℕ → ℕ → Bool
 is_below count a = nat_lt a count
 
@@ -24,5 +25,6 @@ is_below count a = nat_lt a count
 abbrev pub row_below : ℕ → Row → Bool
 row_below count row = nat_lt row.set count && list_all (is_below count) (numbers_of row.form)
 
+-- each number in the rows is below the count
 abbrev pub RowsAreBelow : ℕ → List Row → Type 0
 RowsAreBelow count rows = IsTrue (list_all (row_below count) rows)

@@ -5,6 +5,7 @@ use Rattle.set_tables.specs.declared.rows.RowForm.{RowForm}
 use Rattle.set_tables.specs.declared.rows.RowForm.TheVariants.{Text, Same, Join, Before, Request, Integer, Apply, Yes, Where}
 use Rattle.set_tables.specs.declared.rows.Row.{Row}
 
+-- the form that a form in memory is
 abbrev pub form_of : RowForm → Form ℕ
 form_of (Text w) = text_form w
 form_of (Same a) = same_form a
@@ -16,6 +17,7 @@ form_of (Apply op a) = apply_form op a
 form_of Yes = yes_form
 form_of (Where w a) = where_form w a
 
+-- the set of a row with its form
 abbrev pub cell_of : Row → ℕ × Form ℕ
 cell_of row = (row.set, form_of row.form)
 

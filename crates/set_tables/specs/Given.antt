@@ -2,5 +2,6 @@
 use Rattle.set_systems.specs.Parts.{Closed}
 use Rattle.set_tables.specs.declared.given.GivenTexts.{GivenTexts}
 
+-- the closed grammar: its productions, the nonterminal of a text of the request and that of an integer
 abbrev pub closed_of : GivenTexts → Closed
 closed_of given = record { productions = given.grammar.productions.items; request = given.grammar.start.0; integer = given.integer.0 }

@@ -8,6 +8,7 @@ use Rattle.set_names.specs.declared.name.SetVersion.{SetVersion}
 use Rattle.set_names.specs.declared.name.SetVersion.TheVariants as version
 use Rattle.set_listing.specs.Uses.{At}
 
+-- the version by numbers alone
 abbrev pub version_back : PlainVersion → SetVersion
 version_back (of_definition (at_point p)) = version.Point p
 version_back (of_definition (at_entry f x)) = version.Entry f x
@@ -18,5 +19,6 @@ abbrev pub or_join : ℕ → ℕ → Option PlainVersion → SetVersion
 or_join p x (Some v) = version_back v
 or_join p x None = version.Join p x
 
+-- the version of a slot at a point; a join at the point where none is held
 abbrev pub read_at : Versions → At
 read_at versions p x = or_join p x (version_of versions p x)

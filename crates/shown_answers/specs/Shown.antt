@@ -20,7 +20,8 @@ pub record IsShownCounterexample (goal : Goal) (table : Table) (program : PlainP
   pub bad : IsGood goal table page → ⊥
   pub shows : Shows page shown
 
--- yes: each loose page is good; no: what is shown of one that is not; a stated count that is passed: of sums of the sentences of a nonterminal, of unmatched tags, of items
+-- yes: each loose page is good; no: what is shown of one that is not; a stated count that is passed: of sums of the sentences of a
+-- nonterminal, of unmatched tags, of items
 abbrev pub IsShownAnswer : Goal → Table → PlainProgram → ℕ → ShownAnswer → Type 0
 IsShownAnswer goal table program limit ShownAnswer.Yes = EachIsGood goal table program
 IsShownAnswer goal table program limit (ShownAnswer.No shown) = IsShownCounterexample goal table program shown
@@ -28,7 +29,8 @@ IsShownAnswer goal table program limit (ShownAnswer.Pairs count height) = HasMan
 IsShownAnswer goal table program limit (ShownAnswer.Tags count height) = HasManyOpenTags table (IsLoosePage program) goal count height
 IsShownAnswer goal table program limit (ShownAnswer.Items count) = (ITEM_LIMIT < count) × HasManyItems table program count
 
--- what it says of the program's runs: a yes, that every one, for every admitted request and every number of units, that ends prints a good page
+-- what it says of the program's runs: a yes, that every one, for every admitted request and every number of units, that ends prints a good
+-- page
 abbrev pub ShownSaysOfRuns : Goal → Table → PlainProgram → ShownAnswer → Type 0
 ShownSaysOfRuns goal table program ShownAnswer.Yes = RunsAreGood goal table program
 ShownSaysOfRuns goal table program _ = ⊤

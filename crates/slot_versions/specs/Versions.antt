@@ -1,4 +1,5 @@
--- Versions of a slot at a point, and the definitions behind them (static single assignment: Cytron and others, 1991, but with a join at each
+-- Versions of a slot at a point, and the definitions behind them (static single assignment: Cytron and others, 1991, but with a join at
+-- each
 -- point into which several edges lead, so that no dominators are needed).
 use Rattle.std.specs.Prelude.{◌≡◌, ◌≢◌, ⊤, ℕ, List, Some, Contains}
 use Rattle.loose_sets.specs.Points.{PlainPoint, PlainFlowFunction, PlainFlow, point_at, function_at}
@@ -22,6 +23,7 @@ pub record Sets (flow : PlainFlow) (p x : ℕ) : Type 0 where
   pub there : point_at flow p ≡ Some point
   pub it : sets point ≡ Some x
 
+-- the point does not set the slot
 pub record Leaves (flow : PlainFlow) (p x : ℕ) : Type 0 where
   pub point : PlainPoint
   pub there : point_at flow p ≡ Some point
@@ -44,7 +46,8 @@ pub data Stands (flow : PlainFlow) : ℕ → ℕ → PlainVersion → Type 0 whe
 pub data Link (flow : PlainFlow) : ℕ → ℕ → PlainVersion → Type 0 where
   from_set : (p q x : ℕ) → Edge flow q p → Sets flow q x → Link flow p x (of_definition (at_point q))
   from_left : (p q x : ℕ) (v : PlainVersion) → Edge flow q p → Leaves flow q x → Stands flow q x v → Link flow p x v
-  from_entry : (f x : ℕ) (g : PlainFlowFunction) → function_at flow f ≡ Some g → IsOwnSlot g x → Link flow g.entry_of x (of_definition (at_entry f x))
+  from_entry : (f x : ℕ) (g : PlainFlowFunction) → function_at flow f ≡ Some g → IsOwnSlot g x
+      → Link flow g.entry_of x (of_definition (at_entry f x))
 
 -- the joins that are asked for: of a slot at a point
 abbrev pub Asked : Type 1
@@ -65,7 +68,8 @@ pub record AreLinks (flow : PlainFlow) (asked : Asked) (linked : Linked) : Type 
   pub closed : (p x : ℕ) (v : PlainVersion) → linked p x v → IsKept asked v
   pub set : (p q x : ℕ) → asked p x → Edge flow q p → Sets flow q x → linked p x (of_definition (at_point q))
   pub left : (p q x : ℕ) → asked p x → Edge flow q p → Leaves flow q x → (v : PlainVersion) × linked p x v × Stands flow q x v
-  pub entry : (f x : ℕ) (g : PlainFlowFunction) → function_at flow f ≡ Some g → IsOwnSlot g x → asked g.entry_of x → linked g.entry_of x (of_definition (at_entry f x))
+  pub entry : (f x : ℕ) (g : PlainFlowFunction) → function_at flow f ≡ Some g → IsOwnSlot g x → asked g.entry_of x
+      → linked g.entry_of x (of_definition (at_entry f x))
 
 -- the definitions behind a version
 pub data Behind (linked : Linked) : PlainVersion → Definition → Type 0 where
@@ -82,5 +86,6 @@ pub record PlainJoin : Type 0 where
 abbrev pub asked_in : List PlainJoin → Asked
 asked_in joins p x = (vs : List PlainVersion) × Contains joins (record { point = p; slot = x; versions = vs })
 
+-- the links of the joins of a list
 abbrev pub linked_in : List PlainJoin → Linked
 linked_in joins p x v = (vs : List PlainVersion) × Contains joins (record { point = p; slot = x; versions = vs }) × Contains vs v

@@ -18,6 +18,7 @@ abbrev pub found : Option ℕ → ℕ → ℕ → PlainVersion
 found (Some q) h x = of_definition (at_point q)
 found None h x = join_at h x
 
+-- the version of a slot by the last definitions that a map holds for a row of points, which is named by its first point
 abbrev pub found_in : {S : Type 0} → IndexMap (ℕ × ℕ) ℕ S → ℕ → ℕ → PlainVersion
 found_in last h x = found (held last h x) h x
 
@@ -29,7 +30,8 @@ pub data Leaving (flow : PlainFlow) : ℕ → ℕ → PlainVersion → Type 0 wh
 -- the points so far: behind each that is the last of its row so far, the versions are those that are found
 pub record AreLast (flow : PlainFlow) (heads : List ℕ) (marks : Marks) (n : ℕ) : Type 0 where
   pub nothing : (h x : ℕ) → n ≤ h → held marks.last h x ≡ None
-  pub ends : (q h : ℕ) → q < n → slice_get heads q ≡ Some h → (suc q ≡ n) ⊎ (slice_get heads (suc q) ≢ Some h) → (x : ℕ) → Leaving flow q x (found_in marks.last h x)
+  pub ends : (q h : ℕ) → q < n → slice_get heads q ≡ Some h → (suc q ≡ n) ⊎ (slice_get heads (suc q) ≢ Some h) → (x : ℕ)
+      → Leaving flow q x (found_in marks.last h x)
 
 -- the joins that are asked for
 abbrev pub asked_by : List (ℕ × ℕ) → Asked
@@ -52,7 +54,8 @@ pub record AreMarked (flow : PlainFlow) (heads : List ℕ) (marks : Marks) (n : 
 pub record Reads (old new : Marks) (head point : ℕ) (slots : List ℕ) : Type 0 where
   pub last : new.last ≡ old.last
   pub each : (p x : ℕ) (v : Version) → held new.versions p x ≡ Some v
-      → (held old.versions p x ≡ Some v) ⊎ ((p ≡ point) × (version_seen v ≡ found_in old.last head x) × IsKept (asked_by new.asks.keys) (version_seen v))
+      → (held old.versions p x ≡ Some v)
+      ⊎ ((p ≡ point) × (version_seen v ≡ found_in old.last head x) × IsKept (asked_by new.asks.keys) (version_seen v))
   pub all : (x : ℕ) → Contains slots x → held new.versions point x ≢ None
   pub grows : (p x : ℕ) → held old.versions p x ≢ None → held new.versions p x ≢ None
   pub asks : (h x : ℕ) → Contains new.asks.keys (h, x) → Contains old.asks.keys (h, x) ⊎ (h ≡ head)

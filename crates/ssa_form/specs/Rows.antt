@@ -12,10 +12,12 @@ use Rattle.ssa_form.specs.Marks.{found_in}
 unfoldable pub owns : PlainFlowFunction → ℕ → Bool
 owns g x = nat_le g.first_slot_of x && nat_lt (x - g.first_slot_of) g.slots_of
 
+-- the version of a slot that comes from a point, by the first point of its row
 abbrev pub link_from : {S : Type 0} → Option ℕ → IndexMap (ℕ × ℕ) ℕ S → ℕ → List PlainVersion
 link_from None last x = []
 link_from (Some h) last x = found_in last h x ∷ []
 
+-- the version of a slot that comes by an entry of a function: its definition there, where the slot is the function's own
 abbrev pub link_into : Option PlainFlowFunction → ℕ → ℕ → List PlainVersion
 link_into None f x = []
 link_into (Some g) f x = if owns g x then of_definition (at_entry f x) ∷ [] else []
@@ -25,15 +27,18 @@ unfoldable pub link_of : {S : Type 0} → List PlainFlowFunction → List ℕ �
 link_of fs heads last x (Edge q) = link_from (slice_get heads q) last x
 link_of fs heads last x (Entry f) = link_into (slice_get fs f) f x
 
+-- the version of a slot that comes by an arrival, if there is one
 abbrev pub link_by : {S : Type 0} → List PlainFlowFunction → List ℕ → IndexMap (ℕ × ℕ) ℕ S → ℕ → Option (ℕ × Arrival) → List PlainVersion
 link_by fs heads last x None = []
 link_by fs heads last x (Some a) = link_of fs heads last x a.1
 
 -- by the arrival at a place of their list
-unfoldable pub link_at : {S : Type 0} → List PlainFlowFunction → List ℕ → IndexMap (ℕ × ℕ) ℕ S → ℕ → List (ℕ × Arrival) → ℕ → List PlainVersion
+unfoldable pub link_at : {S : Type 0} → List PlainFlowFunction → List ℕ → IndexMap (ℕ × ℕ) ℕ S → ℕ → List (ℕ × Arrival) → ℕ
+    → List PlainVersion
 link_at fs heads last x all i = link_by fs heads last x (slice_get all i)
 
 -- all versions that come by what leads to a point
-pub record IsRow {S : Type 0} (fs : List PlainFlowFunction) (heads : List ℕ) (last : IndexMap (ℕ × ℕ) ℕ S) (all : List (ℕ × Arrival)) (p x : ℕ) (row : List PlainVersion) : Type 0 where
+pub record IsRow {S : Type 0} (fs : List PlainFlowFunction) (heads : List ℕ) (last : IndexMap (ℕ × ℕ) ℕ S) (all : List (ℕ × Arrival))
+    (p x : ℕ) (row : List PlainVersion) : Type 0 where
   pub each : (v : PlainVersion) → Contains row v → (a : Arrival) × Contains all (p, a) × Contains (link_of fs heads last x a) v
   pub all_are : (a : Arrival) (v : PlainVersion) → Contains all (p, a) → Contains (link_of fs heads last x a) v → Contains row v

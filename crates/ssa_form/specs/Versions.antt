@@ -18,6 +18,7 @@ abbrev pub joins_in : List (ℕ × ℕ) → List (Vec Version Global) → List P
 joins_in (k ∷ ks) (r ∷ rs) = record { point = k.0; slot = k.1; versions = versions_seen r.items } ∷ joins_in ks rs
 joins_in ks rs = []
 
+-- all joins with what each joins, in the order in which they were asked for
 abbrev pub joins_of : Versions → List PlainJoin
 joins_of versions = joins_in versions.asks.keys versions.rows.items
 
@@ -35,6 +36,7 @@ abbrev pub in_row : Option (Vec Version Global) → List PlainVersion
 in_row None = []
 in_row (Some row) = versions_seen row.items
 
+-- what the join of this number joins, in turn; nothing where there is none
 abbrev pub row_of : List (Vec Version Global) → Option ℕ → List PlainVersion
 row_of rows None = []
 row_of rows (Some i) = in_row (slice_get rows i)
@@ -55,4 +57,5 @@ version_of versions p x = option_map version_seen (held versions.versions p x)
 -- there is a version for each slot that a point reads, and the definitions behind it are exactly those that reach the point
 pub record IsExact (flow : PlainFlow) (versions : Versions) : Type 0 where
   pub all : (p x : ℕ) (i : PlainPoint) → point_at flow p ≡ Some i → Contains (reads i) x → version_of versions p x ≢ None
-  pub behind : (p x : ℕ) (v : PlainVersion) → version_of versions p x ≡ Some v → (d : Definition) → Behind (linked_in (joins_of versions)) v d ↔ Reaches flow d x p
+  pub behind : (p x : ℕ) (v : PlainVersion) → version_of versions p x ≡ Some v → (d : Definition)
+      → Behind (linked_in (joins_of versions)) v d ↔ Reaches flow d x p

@@ -8,14 +8,17 @@ use Rattle.ssa_form.specs.declared.version.Definition.TheVariants as definition
 use Rattle.ssa_form.specs.declared.version.Version.{Version}
 use Rattle.ssa_form.specs.declared.version.Version.TheVariants as version
 
+-- the plain form of a definition
 abbrev pub definition_seen : Definition → reaching.Definition
 definition_seen (definition.At p) = reaching.at_point p.0
 definition_seen (definition.Entry f x) = reaching.at_entry f x.0
 
+-- the plain form of a version
 abbrev pub version_seen : Version → PlainVersion
 version_seen (version.Of d) = of_definition (definition_seen d)
 version_seen (version.Join p x) = join_at p.0 x.0
 
+-- the plain form of versions, in their order
 abbrev pub versions_seen : List Version → List PlainVersion
 versions_seen vs = map version_seen vs
 

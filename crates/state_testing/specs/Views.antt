@@ -10,6 +10,7 @@ use Rattle.state_testing.specs.declared.attributes.Testing.TheVariants.{Element,
 abbrev pub begins_so : List ℕ → List ℕ → Bool
 begins_so front name = begins name front
 
+-- the names of the elements, in the order of the rules
 abbrev pub names_of_elements : List Rule → List (List ℕ)
 names_of_elements rules = map (λ (r : Rule). r.name) rules
 

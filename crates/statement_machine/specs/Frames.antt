@@ -1,4 +1,5 @@
--- What the rest of a run comes to that these values stand for: what is to be done next, what waits for a value, what waits for the end of a statement.
+-- What the rest of a run comes to that these values stand for: what is to be done next, what waits for a value, what waits for the end of a
+-- statement.
 use Rattle.std.specs.Prelude.{◌≡◌, ℕ, Bool, true, false, if◌then◌else◌, List, [], ◌∷◌, Option, Some, None}
 use Rattle.std.specs.Borrow.{Bor}
 use Rattle.std.specs.declared.vec.Vec.{Vec}
@@ -98,6 +99,7 @@ each_value w key x body v s = walk (walked v) (name_of key) x.now (statements w 
 unfoldable pub returning : Environment → MaybeExpr → State → Run meaning.Flow
 returning w e s = maybe_value w e s then_do λ v s. Going (returned v) s
 
+-- `exit`, with a value or without
 unfoldable pub quitting : Environment → MaybeExpr → State → Run meaning.Flow
 quitting w e s = maybe_value w e s then_do λ v s. exit_with v s
 
@@ -105,7 +107,9 @@ quitting w e s = maybe_value w e s then_do λ v s. exit_with v s
 unfoldable pub wait_after : Environment → Wait → Plain → State → Run meaning.Flow
 wait_after w (wait.Echo es) v s = echo w (exprs_of es.now) (printing (text_of v) s)
 wait_after w wait.Run v s = Going meaning.goes_on s
-wait_after w (wait.Arm body arms otherwise) v s = if truth v then statements w (stmts_of body.now.items) s else arms_in w (arms_of arms.now) (statements w (stmts_of otherwise.now.items)) s
+wait_after w (wait.Arm body arms otherwise) v s =
+    if truth v then statements w (stmts_of body.now.items) s
+    else arms_in w (arms_of arms.now) (statements w (stmts_of otherwise.now.items)) s
 wait_after w (wait.Test l) v s = if truth v then turning w l s else Going meaning.goes_on s
 wait_after w (wait.Before es l) v s = values_before w (exprs_of es.now) l s
 wait_after w (wait.Each key x body) v s = each_value w key x body v s
@@ -129,7 +133,9 @@ focused w (next.Block ss) s = statements w (stmts_of ss.now) s
 focused w (next.Left f) s = Going (plain_flow f) s
 focused w (next.Eval e waits) s = value w (plain_expr e.now) s then_do wait_after w waits
 focused w (next.Turn l) s = turning w l s
-focused w (next.Step k v l) s = turn (λ s. statements w (stmts_of l.body.now.items) (with_pair (name_of l.key) l.value.now (plain_key k) (plain_of v) s)) s (walking w l)
+focused w (next.Step k v l) s =
+    turn (λ s. statements w (stmts_of l.body.now.items) (with_pair (name_of l.key) l.value.now (plain_key k) (plain_of v) s)) s
+    (walking w l)
 focused w (next.Over how) s = Over (plain_end how) s.printed
 
 -- `while`: a loop with nothing behind its turns
@@ -142,5 +148,6 @@ pub record IsWhile (e : Bor Expr) (body : Bor (Vec Stmt Global)) (l : Looping) :
 abbrev pub StaysInLoop : meaning.Flow → Type 0
 StaysInLoop f = (s : State) (go : State → Run meaning.Flow) → turn_after f s go ≡ go s
 
+-- behind a turn that was left in the first way the loop is over, and was left in the second way
 abbrev pub LeavesLoop : meaning.Flow → meaning.Flow → Type 0
 LeavesLoop f left = (s : State) (go : State → Run meaning.Flow) → turn_after f s go ≡ Going left s

@@ -22,7 +22,8 @@ pub record Means (n : Next) (act : Environment → State → Run meaning.Flow) (
 -- a statement was begun, once its unit was taken: what is next comes to the statement
 pub record Begins (st : Stmt) (before : List ℕ) (n : Next) (after : List ℕ) : Type 0 where
   pub same : is_include (plain_stmt st) ≡ false → (r : PlainRequest) (fs : List PlainFunction) (room : ℕ) (s : State)
-      → focused (scope r fs room) n (record s { printed = after }) ≡ statement (scope r fs room) (plain_stmt st) (record s { left = suc s.left; printed = before })
+      → focused (scope r fs room) n (record s { printed = after })
+      ≡ statement (scope r fs room) (plain_stmt st) (record s { left = suc s.left; printed = before })
 
 -- a value was given to what waits for it
 pub record Gives (waits : Wait) (v : Plain) (before : List ℕ) (n : Next) (after : List ℕ) : Type 0 where

@@ -4,6 +4,7 @@ use Rattle.php_syntax.specs.Trees.{MaybeExpr}
 use Rattle.expr_machine.specs.Actions.{Action}
 use Rattle.stmt_machine.specs.declared.frame.Loop.{Loop}
 
+-- one thing done to what was made so far
 pub data StmtAction : Type 0 where
   -- an expression is made by these actions
   value_action : List Action → StmtAction

@@ -23,6 +23,7 @@ focus_weight (focus.Listed l n) = 2
 focus_weight focus.Parameters = 1
 focus_weight _ = 0
 
+-- 64 for each terminal that is left, 2 for each thing begun, and the weight of the place
 abbrev pub weight : Focus → List Frame → List Terminal → ℕ
 weight f fs ts = 64 * length ts + 2 * length fs + focus_weight f
 
@@ -54,6 +55,7 @@ file_at ts = run_on focus.Behind [] ts
 abbrev pub makes_on : Focus → List Frame → List Terminal → Made → Option Made
 makes_on f fs ts m = on_some (run_on f fs ts) (λ acts. execute_stmts acts m)
 
+-- what a run makes of a whole file
 abbrev pub makes_file : List Terminal → Option Made
 makes_file ts = makes_on focus.Behind [] ts nothing_made
 
@@ -62,6 +64,7 @@ abbrev pub makes_after : Option Made → Focus → List Frame → List Terminal 
 makes_after None f fs r = None
 makes_after (Some m) f fs r = makes_on f fs r m
 
+-- what a move leads to, with what was made before it
 abbrev pub makes_next : Made → Move → Option Made
 makes_next m (moves f fs r acts) = makes_after (execute_stmts acts m) f fs r
 makes_next m finished = Some m

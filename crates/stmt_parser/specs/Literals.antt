@@ -3,6 +3,7 @@ use Rattle.php_syntax.specs.Trees.{PlainExpr, null_expr, flag_expr, int_expr, te
 use Rattle.stmt_parser.specs.declared.literal.Literal.{Literal}
 use Rattle.stmt_parser.specs.declared.literal.Literal.TheVariants as literal
 
+-- the tree of a literal; a minus sign before an integer is an operator
 abbrev pub literal_tree : Literal → PlainExpr
 literal_tree (literal.Minus z) = neg_expr (int_expr z)
 literal_tree (literal.Int z) = int_expr z

@@ -23,6 +23,7 @@ pub data Outcome : Type 0 where
   ended : Made → Outcome
   failed : Outcome
 
+-- on to another place with what was made, or no file where nothing was
 abbrev pub gone_with : Option Made → Focus → List Frame → List Terminal → Outcome
 gone_with None f fs r = failed
 gone_with (Some m) f fs r = gone f fs r m
@@ -84,6 +85,7 @@ abbrev pub with_read : Option (List PlainValue × List Terminal) → Made → (L
 with_read None m next = failed
 with_read (Some found) m next = next found.1 (with_values found.0 m)
 
+-- what follows an expression, whose value is put to those that were made
 abbrev pub reads_as : Option (List Action × List Terminal) → Made → (List Terminal → Made → Outcome) → Outcome
 reads_as found m next = with_read (executed found m.values) m next
 
@@ -91,5 +93,6 @@ reads_as found m next = with_read (executed found m.values) m next
 abbrev pub Fails : Option (List Action × List Terminal) → Made → Type 0
 Fails found m = (next : List Terminal → Made → Outcome) → reads_as found m next ≡ failed
 
+-- the expression is read, with this left and that made
 abbrev pub Reads : Option (List Action × List Terminal) → Made → List Terminal → Made → Type 0
 Reads found m r n = (next : List Terminal → Made → Outcome) → reads_as found m next ≡ next r n

@@ -10,4 +10,5 @@ OccursFrom sep text place = (before after : List ℕ) → text ≡ before ++ (se
 abbrev pub AreLeftmost : List ℕ → List (List ℕ) → Type 0
 AreLeftmost sep [] = ⊥
 AreLeftmost sep (piece ∷ []) = (before after : List ℕ) → piece ≡ before ++ (sep ++ after) → ⊥
-AreLeftmost sep (piece ∷ next ∷ pieces) = OccursFrom sep (join_of sep (piece ∷ next ∷ pieces)) (length piece) × AreLeftmost sep (next ∷ pieces)
+AreLeftmost sep (piece ∷ next ∷ pieces) =
+    OccursFrom sep (join_of sep (piece ∷ next ∷ pieces)) (length piece) × AreLeftmost sep (next ∷ pieces)

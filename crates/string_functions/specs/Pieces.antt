@@ -7,7 +7,8 @@ abbrev pub in_first : ℕ → List (List ℕ) → List (List ℕ)
 in_first b [] = (b ∷ []) ∷ []
 in_first b (piece ∷ pieces) = (b ∷ piece) ∷ pieces
 
--- the pieces of what follows the first `left` bytes, which belong to an occurrence of the separator: from the left, where the separator stands a piece ends, and else the byte is the piece's
+-- the pieces of what follows the first `left` bytes, which belong to an occurrence of the separator: from the left, where the separator
+-- stands a piece ends, and else the byte is the piece's
 abbrev pub pieces_past : List ℕ → ℕ → List ℕ → List (List ℕ)
 pieces_past sep left [] = [] ∷ []
 pieces_past sep (suc left) (b ∷ rest) = pieces_past sep left rest
@@ -25,7 +26,8 @@ join_of sep [] = []
 join_of sep (text ∷ []) = text
 join_of sep (text ∷ next ∷ texts) = text ++ (sep ++ join_of sep (next ∷ texts))
 
--- `str_replace(search, with, text)`: each of the leftmost occurrences that do not overlap is replaced, and what is put in is not searched again; an empty search leaves the text
+-- `str_replace(search, with, text)`: each of the leftmost occurrences that do not overlap is replaced, and what is put in is not searched
+-- again; an empty search leaves the text
 abbrev pub replaced_text : List ℕ → List ℕ → List ℕ → List ℕ
 replaced_text [] with text = text
 replaced_text (c ∷ search) with text = join_of with (pieces_of (c ∷ search) text)

@@ -29,6 +29,7 @@ outs_of Slashes b = if b == 39 || b == 34 || b == 92 then Byte 92 ∷ Same ∷ [
 abbrev pub bytewise_rows : Bytewise → ℕ → ℕ → List (ℕ × List Out)
 bytewise_rows kind s b = if s == 0 then (0, outs_of kind b) ∷ [] else []
 
+-- the one state may end, with nothing more put out
 abbrev pub bytewise_lasts : ℕ → List (List Out)
 bytewise_lasts s = if s == 0 then [] ∷ [] else []
 

@@ -34,6 +34,7 @@ abbrev pub front_rows : ℕ → ℕ → Bool → Rows
 front_rows count from rest s byte =
     (if is_within 0 count s then count_turn from (s - 0) byte ∷ [] else []) ++ (if count == s then (count, copy_if rest) ∷ [] else [])
 
+-- the text may end in each state from 0 to `count`, with nothing more put out
 abbrev pub front_lasts : ℕ → Lasts
 front_lasts count s = if is_within 0 (count + 1) s then [] ∷ [] else []
 
@@ -41,6 +42,7 @@ front_lasts count s = if is_within 0 (count + 1) s then [] ∷ [] else []
 abbrev pub middle_of : ℕ → ℕ
 middle_of count = count + 1
 
+-- the state with none of the last bytes left, behind the counting states 0 to `count` and the middle; in the k-th behind it k are left
 abbrev pub left_of : ℕ → ℕ
 left_of count = count + 2
 
@@ -48,14 +50,19 @@ left_of count = count + 2
 abbrev pub down_turn : ℕ → ℕ → ℕ → ℕ × List Out
 down_turn base k byte = (base + k, [])
 
--- the states from 0 count the bytes of a text of at most `start + last` bytes, of which none is copied; from state `start` on the middle of a longer text is copied, and then come its last bytes
+-- the states from 0 count the bytes of a text of at most `start + last` bytes, of which none is copied; from state `start` on the middle of
+-- a longer text is copied, and then come its last bytes
 abbrev pub inner_rows : ℕ → ℕ → Rows
 inner_rows start last s byte =
-    (if is_within 0 (start + last) s then count_turn (start + last) (s - 0) byte ∷ [] else []) ++ (if start == s then (middle_of (start + last), Same ∷ []) ∷ [] else [])
-    ++ (if start == s then (left_of (start + last) + last, Same ∷ []) ∷ [] else []) ++ (if middle_of (start + last) == s then (middle_of (start + last), Same ∷ []) ∷ [] else [])
+    (if is_within 0 (start + last) s then count_turn (start + last) (s - 0) byte ∷ [] else [])
+    ++ (if start == s then (middle_of (start + last), Same ∷ []) ∷ [] else [])
+    ++ (if start == s then (left_of (start + last) + last, Same ∷ []) ∷ [] else [])
+    ++ (if middle_of (start + last) == s then (middle_of (start + last), Same ∷ []) ∷ [] else [])
     ++ (if middle_of (start + last) == s then (left_of (start + last) + last, Same ∷ []) ∷ [] else [])
-    ++ (if is_within (left_of (start + last) + 1) last s then down_turn (left_of (start + last)) (s - (left_of (start + last) + 1)) byte ∷ [] else [])
+    ++ (if is_within (left_of (start + last) + 1) last s then down_turn (left_of (start + last)) (s - (left_of (start + last) + 1)) byte
+    ∷ [] else [])
 
+-- the text may end in the states up to `start + last`, where it is that short, and where none of its last bytes is left
 abbrev pub inner_lasts : ℕ → ℕ → Lasts
 inner_lasts start last s =
     (if is_within 0 (start + last + 1) s then [] ∷ [] else []) ++ (if left_of (start + last) == s then [] ∷ [] else [])

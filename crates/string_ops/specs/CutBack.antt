@@ -1,4 +1,5 @@
--- The machine of `substr` from a place counted from the end, `last` bytes before it. A state is a phase and a number, as eight times the number and the phase. By each byte a state does the same.
+-- The machine of `substr` from a place counted from the end, `last` bytes before it. A state is a phase and a number, as eight times the
+-- number and the phase. By each byte a state does the same.
 use Rattle.std.specs.Prelude.{ℕ, suc, ◌==◌, ◌+◌, ◌-◌, ◌*◌, ◌/◌, ◌%◌, ◌&&◌, Bool, true, false, not, nat_lt, nat_le, List, [], ◌∷◌, ◌++◌, Option, None, Some, ℤ, pos, negsuc, if◌then◌else◌}
 use Rattle.fst_core.specs.declared.out.Out.{Out}
 use Rattle.fst_core.specs.declared.out.Out.TheVariants.{Same}
@@ -9,6 +10,7 @@ use Rattle.string_ops.specs.Plans.{rows_below, lasts_below}
 abbrev pub state_of : ℕ → ℕ → ℕ
 state_of phase k = 8 * k + phase
 
+-- the phase of a state: what is left over by 8; 5 for 6 and 7 too
 abbrev pub phase_of : ℕ → ℕ
 phase_of s = if nat_lt (s % 8) 5 then s % 8 else 5
 
@@ -42,13 +44,18 @@ last_choices last len phase k = if nat_lt 0 k && nat_lt k last then (state_of ph
 abbrev pub drop_choices : ℕ → List (ℕ × List Out)
 drop_choices k = if nat_lt 0 k then (state_of 5 (k - 1), []) ∷ [] else []
 
--- phase 0 has read nothing; 1 has passed over some bytes, and at least the last bytes follow; 2 is among the last bytes, of which just k follow; in 3 and 4 the text is no longer than the last bytes, and at most k follow, in 3 all but those that are dropped are kept, in 4 they are counted; 5 drops at most k bytes
+-- phase 0 has read nothing; 1 has passed over some bytes, and at least the last bytes follow; 2 is among the last bytes, of which just k
+-- follow; in 3 and 4 the text is no longer than the last bytes, and at most k follow, in 3 all but those that are dropped are kept, in 4
+-- they are counted; 5 drops at most k bytes
 abbrev pub back_choices : ℕ → Option ℤ → ℕ → ℕ → List (ℕ × List Out)
 back_choices last len phase k =
-    if phase == 0 then (state_of 1 0, []) ∷ (if is_counted len then (state_of 4 (last - 1), put_of (kept_of_last last len last)) ∷ [] else (state_of 3 (last - 1), Same ∷ []) ∷ (if nat_lt 0 (dropped_of len) then (state_of 5 (dropped_of len - 1), []) ∷ [] else []))
+    if phase == 0 then (state_of 1 0, [])
+    ∷ (if is_counted len then (state_of 4 (last - 1), put_of (kept_of_last last len last)) ∷ [] else (state_of 3 (last - 1), Same ∷ [])
+    ∷ (if nat_lt 0 (dropped_of len) then (state_of 5 (dropped_of len - 1), []) ∷ [] else []))
     else (if phase == 1 then (state_of 1 0, []) ∷ (state_of 2 (last - 1), put_of (kept_of_last last len last)) ∷ []
     else (if phase == 2 then last_choices last len 2 k
-    else (if phase == 3 then (if nat_lt 0 k && nat_lt k last then (state_of 3 (k - 1), Same ∷ []) ∷ (if nat_lt 0 (dropped_of len) && nat_le (dropped_of len) k then (state_of 2 (dropped_of len - 1), []) ∷ [] else []) else [])
+    else (if phase == 3 then (if nat_lt 0 k && nat_lt k last then (state_of 3 (k - 1), Same ∷ [])
+    ∷ (if nat_lt 0 (dropped_of len) && nat_le (dropped_of len) k then (state_of 2 (dropped_of len - 1), []) ∷ [] else []) else [])
     else (if phase == 4 then last_choices last len 4 k
     else drop_choices k))))
 
@@ -62,14 +69,18 @@ back_ends last len phase k =
     else (if phase == 4 then (if nat_lt k last && is_counted len then [] ∷ [] else [])
     else [] ∷ []))))
 
+-- the choices of a state, by its phase and its number
 abbrev pub back_row : ℕ → Option ℤ → Rows
 back_row last len s b = back_choices last len (phase_of s) (s / 8)
 
+-- how a state may end, by its phase and its number
 abbrev pub back_last : ℕ → Option ℤ → Lasts
 back_last last len s = back_ends last len (phase_of s) (s / 8)
 
+-- the choices of so many states, and none elsewhere
 abbrev pub back_rows : ℕ → ℕ → Option ℤ → Rows
 back_rows states last len = rows_below states (back_row last len)
 
+-- the ends of so many states, and none elsewhere
 abbrev pub back_lasts : ℕ → ℕ → Option ℤ → Lasts
 back_lasts states last len = lasts_below states (back_last last len)

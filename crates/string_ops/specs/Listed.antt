@@ -41,7 +41,8 @@ byte_of byte (Token token) = 0
 abbrev pub Follows : Rows → Lasts → ℕ → List ℕ → List ℕ → Type 0
 Follows rows lasts s [] out = (last : List Out) × Contains (lasts s) last × (map (byte_of 0) last ≡ out)
 Follows rows lasts s (byte ∷ text) out =
-    (p : ℕ × List Out) × Contains (rows s byte) p × (rest : List ℕ) × Follows rows lasts p.0 text rest × (map (byte_of byte) p.1 ++ rest ≡ out)
+    (p : ℕ × List Out) × Contains (rows s byte) p × (rest : List ℕ) × Follows rows lasts p.0 text rest
+    × (map (byte_of byte) p.1 ++ rest ≡ out)
 
 -- it puts out bytes alone, and at most so many
 abbrev pub IsShort : ℕ → List Out → Type 0
@@ -57,7 +58,8 @@ pub record AreSmall (rows : Rows) (lasts : Lasts) (most : ℕ) : Type 0 where
 abbrev pub AreBytes : List ℕ → Type 0
 AreBytes text = All (λ byte. byte < 256) text
 
--- the table relates just these texts, and is small for an operation of this size: no page token in it, at most 8 * (size + 8) states, at most four moves from one state to another by a byte, no output longer than size + 8
+-- the table relates just these texts, and is small for an operation of this size: no page token in it, at most 8 * (size + 8) states, at
+-- most four moves from one state to another by a byte, no output longer than size + 8
 pub record IsMachine (table : Table) (size : ℕ) (relates : List ℕ → List ℕ → Type 0) : Type 0 where
   pub exact : (input output : List ℕ) → AreBytes input → TableRelates table input (map OfByte output) ↔ relates input output
   pub states : table.states ≤ 8 * (size + 8)

@@ -1,4 +1,5 @@
--- The machine that gives one piece between separators: state 0 stands at a separator or the beginning; from state 1 on those before the piece, where so many bytes of the separator are read; then those in the piece; and the last, behind it.
+-- The machine that gives one piece between separators: state 0 stands at a separator or the beginning; from state 1 on those before the
+-- piece, where so many bytes of the separator are read; then those in the piece; and the last, behind it.
 use Rattle.std.specs.Prelude.{◌==◌, ℕ, ◌+◌, ◌-◌, ◌*◌, Bool, true, false, List, [], ◌∷◌, ◌++◌, length, take, map, if◌then◌else◌}
 use Rattle.fst_core.specs.declared.out.Out.{Out}
 use Rattle.fst_core.specs.declared.out.Out.TheVariants.{Byte}
@@ -17,6 +18,7 @@ before_turn sep at byte = turn_by sep 1 (0, []) false at byte
 abbrev pub inside_turn : List ℕ → ℕ → ℕ → ℕ × List Out
 inside_turn sep at byte = turn_by sep (1 + length sep) (behind sep, []) true at byte
 
+-- at a separator or the beginning the next piece is passed over or given; before and in the piece the separator is searched for
 abbrev pub piece_rows : List ℕ → Rows
 piece_rows sep s byte =
     (if 0 == s then before_turn sep 0 byte ∷ [] else []) ++ (if 0 == s then inside_turn sep 0 byte ∷ [] else [])
@@ -24,7 +26,9 @@ piece_rows sep s byte =
     ++ (if is_within (1 + length sep) (length sep) s then inside_turn sep (s - (1 + length sep)) byte ∷ [] else [])
     ++ (if behind sep == s then (behind sep, []) ∷ [] else [])
 
+-- the text may end at a separator, in the piece, with the bytes of the separator that were held back, and behind the piece
 abbrev pub piece_lasts : List ℕ → Lasts
 piece_lasts sep s =
-    (if 0 == s then [] ∷ [] else []) ++ (if is_within (1 + length sep) (length sep) s then map Byte (take (s - (1 + length sep)) sep) ∷ [] else [])
+    (if 0 == s then [] ∷ [] else [])
+    ++ (if is_within (1 + length sep) (length sep) s then map Byte (take (s - (1 + length sep)) sep) ∷ [] else [])
     ++ (if behind sep == s then [] ∷ [] else [])

@@ -33,18 +33,21 @@ LeadBelow states actions = All (λ action. action.to < states) actions
 
 -- to what a table does, one state's choices at one turn are added
 abbrev pub AddsTurn : List TableMove → List TableMove → ℕ → (ℕ → Option (ℕ × List Out)) → Type 0
-AddsTurn old new from row = (s byte : ℕ) → choices new s byte ≡ choices old s byte ++ (if from == s && nat_lt byte 256 then option_to_list (row byte) else [])
+AddsTurn old new from row = (s byte : ℕ)
+    → choices new s byte ≡ choices old s byte ++ (if from == s && nat_lt byte 256 then option_to_list (row byte) else [])
 
 -- to what a table does, all that one state does is added
 pub record AddsState (old new : Table) (from : ℕ) (row : ℕ → List (ℕ × List Out)) (lasts : List (List Out)) : Type 0 where
   pub all : new.states ≡ old.states
   pub first : new.start ≡ old.start
-  pub moves : (s byte : ℕ) → choices new.moves.items s byte ≡ choices old.moves.items s byte ++ (if from == s && nat_lt byte 256 then row byte else [])
+  pub moves : (s byte : ℕ) → choices new.moves.items s byte ≡ choices old.moves.items s byte
+      ++ (if from == s && nat_lt byte 256 then row byte else [])
   pub ends : (s : ℕ) → stops new.ends.items s ≡ stops old.ends.items s ++ (if from == s then lasts else [])
 
 -- what is written down for the states below a number, and nothing for the others
 abbrev pub rows_below : ℕ → Rows → Rows
 rows_below states rows s byte = if nat_lt s states then rows s byte else []
 
+-- how the states below a number may end, as it is written down, and no end for the others
 abbrev pub lasts_below : ℕ → Lasts → Lasts
 lasts_below states lasts s = if nat_lt s states then lasts s else []

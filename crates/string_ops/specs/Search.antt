@@ -28,21 +28,25 @@ is_within base count s = nat_le base s && nat_lt s (base + count)
 -- one choice of one state by one byte is added, if any of the pattern is read after it
 abbrev pub AddsTurn : List TableMove → List TableMove → ℕ → ℕ → ℕ → ℕ × List Out → Type 0
 AddsTurn old new from own part choice =
-    (s byte : ℕ) → choices new s byte ≡ choices old s byte ++ (if from == s && ((nat_le own byte && nat_le byte own) && not (part == 0)) then choice ∷ [] else [])
+    (s byte : ℕ) → choices new s byte ≡ choices old s byte ++ (if from == s
+    && ((nat_le own byte && nat_le byte own) && not (part == 0)) then choice ∷ [] else [])
 
 -- one choice of one state is added by each byte after which nothing of the pattern is read
 abbrev pub AddsFirst : List TableMove → List TableMove → ℕ → List ℕ → ℕ × List Out → Type 0
 AddsFirst old new from row choice =
-    (s byte : ℕ) → choices new s byte ≡ choices old s byte ++ (if from == s && (nat_lt byte 256 && slice_index row byte == 0) then choice ∷ [] else [])
+    (s byte : ℕ) → choices new s byte ≡ choices old s byte ++ (if from == s && (nat_lt byte 256 && slice_index row byte == 0) then choice
+    ∷ [] else [])
 
 -- one choice of one state by each byte is added
 abbrev pub AddsTurns : List TableMove → List TableMove → ℕ → (ℕ → ℕ × List Out) → Type 0
-AddsTurns old new from by = (s byte : ℕ) → choices new s byte ≡ choices old s byte ++ (if from == s && nat_lt byte 256 then by byte ∷ [] else [])
+AddsTurns old new from by = (s byte : ℕ)
+    → choices new s byte ≡ choices old s byte ++ (if from == s && nat_lt byte 256 then by byte ∷ [] else [])
 
 -- the states of a search are added
 abbrev pub AddsSearch : List TableMove → List TableMove → ℕ → ℕ → (ℕ → ℕ → ℕ × List Out) → Type 0
 AddsSearch old new base count by =
-    (s byte : ℕ) → choices new s byte ≡ choices old s byte ++ (if is_within base count s && nat_lt byte 256 then by (s - base) byte ∷ [] else [])
+    (s byte : ℕ) → choices new s byte ≡ choices old s byte ++ (if is_within base count s && nat_lt byte 256 then by (s - base) byte
+    ∷ [] else [])
 
 -- the text may end in these states, and the bytes of the pattern that were read are put out
 abbrev pub AddsEnds : List TableEnd → List TableEnd → ℕ → ℕ → List ℕ → Type 0

@@ -43,6 +43,7 @@ IsLast starts p = (s : ℕ) → Contains starts s → s ≤ p
 abbrev pub AreBefore : List Waiting → ℕ → Type 0
 AreBefore waiting place = (w : Waiting) → Contains waiting w → w.from < place
 
+-- the work that is left to a search
 abbrev pub work_of : Search → ℕ
 work_of s = work_left s.marks.items s.starts s.waiting
 

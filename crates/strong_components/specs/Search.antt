@@ -57,10 +57,13 @@ pub record IsGrounded (starts : List ℕ) (p : ℕ) : Type 0 where
   pub has : Contains starts start
   pub before : start ≤ p
 
--- the path goes through groups of nodes that reach one another (Gabow, Path-based depth-first search for strong and biconnected components, 2000)
-pub record IsSearch (edges : List (Vec ℕ Global)) (marks : List Mark) (path starts : List ℕ) (waiting : List Waiting) (found : ℕ) : Type 0 where
+-- the path goes through groups of nodes that reach one another (Gabow, Path-based depth-first search for strong and biconnected components,
+-- 2000)
+pub record IsSearch (edges : List (Vec ℕ Global)) (marks : List Mark) (path starts : List ℕ) (waiting : List Waiting) (found : ℕ) :
+    Type 0 where
   pub size : length marks ≡ length edges
-  pub degrees : (u degree : ℕ) (targets : Vec ℕ Global) → slice_get marks u ≡ Some (New degree) → slice_get edges u ≡ Some targets → degree ≡ length targets.items
+  pub degrees : (u degree : ℕ) (targets : Vec ℕ Global) → slice_get marks u ≡ Some (New degree) → slice_get edges u ≡ Some targets
+      → degree ≡ length targets.items
   pub placed : (u p : ℕ) → slice_get marks u ≡ Some (Open p) → slice_get path p ≡ Some u
   pub opened : (p u : ℕ) → slice_get path p ≡ Some u → slice_get marks u ≡ Some (Open p)
   pub joined : (p q u v : ℕ) → slice_get path p ≡ Some u → slice_get path q ≡ Some v → Back starts p q → Reaches edges u v
@@ -84,7 +87,8 @@ pub record Closes (marks : List Mark) (path : List ℕ) (n number : ℕ) (after 
   pub long : length after ≡ length marks
   pub cases : (u : ℕ) (m : Mark) → slice_get after u ≡ Some m → IsClosedMark marks path n number u m
   pub done : (p u : ℕ) → n ≤ p → slice_get path p ≡ Some u → slice_get after u ≡ Some (Done number)
-  pub kept : (u : ℕ) (m : Mark) → slice_get marks u ≡ Some m → ((p : ℕ) → n ≤ p → slice_get path p ≡ Some u → ⊥) → slice_get after u ≡ Some m
+  pub kept : (u : ℕ) (m : Mark) → slice_get marks u ≡ Some m → ((p : ℕ) → n ≤ p → slice_get path p ≡ Some u → ⊥)
+      → slice_get after u ≡ Some m
   pub weight : sum_by weight_of after ≤ sum_by weight_of marks
 
 -- no more nodes are new

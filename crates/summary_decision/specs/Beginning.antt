@@ -21,9 +21,12 @@ module _ {S : Type 0} (sum_of : List PageToken → S) (composed : S → S → S)
   abbrev pub IsBegun : List (Pair S) → ℕ → Right → Type 0
   IsBegun pairs left Empty = Contains pairs (left, sum_of [])
   IsBegun pairs left (One a) = (s : S) → HasSum sum_of composed [] 0 a s → Contains pairs (left, s)
-  IsBegun pairs left (Two a b) = (s t : S) → HasSum sum_of composed [] 0 a s → HasSum sum_of composed [] 0 b t → Contains pairs (left, composed s t)
+  IsBegun pairs left (Two a b) = (s t : S) → HasSum sum_of composed [] 0 a s → HasSum sum_of composed [] 0 b t
+      → Contains pairs (left, composed s t)
 
   -- of the productions at some places with useful left sides
-  pub record Begins (whole : S → Bool) (productions : List Production) (start : nt.Nt) (count : ℕ) (old new : Table S) (Asked : ℕ → Type 0) : Type 0 where
+  pub record Begins (whole : S → Bool) (productions : List Production) (start : nt.Nt) (count : ℕ) (old new : Table S)
+      (Asked : ℕ → Type 0) : Type 0 where
     pub goes : GoesOn sum_of composed whole productions start count old new
-    pub begun : (place : ℕ) (p : Production) → Asked place → slice_get productions place ≡ Some p → IsUseful productions start p.left → IsBegun (known new) p.left.0 p.right
+    pub begun : (place : ℕ) (p : Production) → Asked place → slice_get productions place ≡ Some p → IsUseful productions start p.left
+        → IsBegun (known new) p.left.0 p.right

@@ -11,13 +11,16 @@ use Rattle.summary_fixpoint.specs.Closed.{Pair, IsClosed}
 use Rattle.summary_fixpoint.specs.Tables.{known, IsTable, GoesOn}
 use Rattle.summary_fixpoint.specs.Joints.{number_by, AreTaken}
 
-module _ {S : Type 0} (sum_of : List PageToken → S) (composed : S → S → S) (whole : S → Bool) (productions : List Production) (start : nt.Nt) where
+module _ {S : Type 0} (sum_of : List PageToken → S) (composed : S → S → S) (whole : S → Bool) (productions : List Production)
+    (start : nt.Nt) where
   -- the pair's nonterminal stands on the side of the productions at these places, whose left sides are useful
   pub record UsesAt (t : Table S) (side : Side) (pair : ℕ) (s : S) (places : List ℕ) : Type 0 where
     pub nonterminal : nt.Nt
     pub here : slice_get (known t) pair ≡ Some (nonterminal.0, s)
     pub within : pair < t.bound
-    pub uses : (place : ℕ) → Contains places place → (p : Production) × (slice_get productions place ≡ Some p) × IsUseful productions start p.left × (number_by side p.right ≡ Some nonterminal.0)
+    pub uses : (place : ℕ) → Contains places place
+        → (p : Production) × (slice_get productions place ≡ Some p) × IsUseful productions start p.left
+        × (number_by side p.right ≡ Some nonterminal.0)
 
   -- the first pairs are taken up
   pub record AreUp (count : ℕ) (t : Table S) (taken : Taken) : Type 0 where

@@ -11,13 +11,17 @@ use Rattle.summary_fixpoint.specs.declared.halt.Halt.TheVariants.{Memory, NotWho
 use Rattle.summary_fixpoint.specs.declared.verdict.TheConstants.{TAG_LIMIT}
 use Rattle.summary_fixpoint.specs.Pairs.{tokens_in, IsPair, HasPairs, AreWholeBelow}
 
-module _ {S : Type 0} (sum_of : List PageToken → S) (whole : S → Bool) (tags : S → ℕ) (productions : List Production) (start : nt.Nt) (limit : ℕ) where
+module _ {S : Type 0} (sum_of : List PageToken → S) (whole : S → Bool) (tags : S → ℕ) (productions : List Production) (start : nt.Nt)
+    (limit : ℕ) where
   -- the last node is a derivation of a sentence that is not whole; or a limit is passed one above a height
   abbrev pub Explains : List Node → ℕ → Halt → Type 0
   Explains nodes k Memory = Unit {0}
   Explains nodes k NotWhole = (w : List Letter) × IsDerivation productions nodes start w × (whole (sum_of (tokens_in w)) ≡ false)
-  Explains nodes k (TooMany count) = (limit < count) × HasPairs sum_of productions start (k + 1) count × AreWholeBelow sum_of whole productions start (k + 1)
-  Explains nodes k (TooLong count) = (TAG_LIMIT < count) × ((a : nt.Nt) × (s : S) × IsPair sum_of productions start (k + 1) a s × (tags s ≡ count)) × AreWholeBelow sum_of whole productions start (k + 1)
+  Explains nodes k (TooMany count) =
+      (limit < count) × HasPairs sum_of productions start (k + 1) count × AreWholeBelow sum_of whole productions start (k + 1)
+  Explains nodes k (TooLong count) =
+      (TAG_LIMIT < count) × ((a : nt.Nt) × (s : S) × IsPair sum_of productions start (k + 1) a s × (tags s ≡ count))
+      × AreWholeBelow sum_of whole productions start (k + 1)
 
 -- what ends the work once a pair is added: it is of the start and not whole, or a limit is passed
 abbrev pub Judges : Bool → ℕ → ℕ → ℕ → Halt → Type 0

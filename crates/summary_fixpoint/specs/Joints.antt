@@ -28,14 +28,17 @@ abbrev pub right_by : Side → Symbol → Symbol → Right
 right_by First a b = Two a b
 right_by Second a b = Two b a
 
+-- a part on a side, and the other part
 abbrev pub parts_by : Side → Part → Part → Parts
 parts_by First p q = parts.Two p q
 parts_by Second p q = parts.Two q p
 
+-- the composition of the sum on a side with the other sum
 abbrev pub composed_by : {S : Type 0} → (S → S → S) → Side → S → S → S
 composed_by composed First s t = composed s t
 composed_by composed Second s t = composed t s
 
+-- of two symbols, the one that does not stand on the side
 abbrev pub other_by : Side → Symbol → Symbol → Symbol
 other_by First a b = b
 other_by Second a b = a
@@ -61,13 +64,17 @@ IsLetterOf sum_of (Nt a) (Some piece) = ⊥
 -- for each nonterminal, the places of the productions with useful left sides in which it stands on a side
 abbrev pub AreUses : Side → List Production → nt.Nt → ℕ → List (Vec ℕ Global) → Type 0
 AreUses side productions start count lists =
-    (a : ℕ) (v : Vec ℕ Global) → a < count → slice_get lists a ≡ Some v → (i : ℕ) → Contains v.items i ↔ ((p : Production) × (slice_get productions i ≡ Some p) × IsUseful productions start p.left × (number_by side p.right ≡ Some a))
+    (a : ℕ) (v : Vec ℕ Global) → a < count → slice_get lists a ≡ Some v → (i : ℕ)
+    → Contains v.items i ↔ ((p : Production) × (slice_get productions i ≡ Some p) × IsUseful productions start p.left
+    × (number_by side p.right ≡ Some a))
 
 -- for each nonterminal, its pairs among the first so many
 abbrev pub AreTaken : {S : Type 0} → List (Pair S) → ℕ → List (Vec ℕ Global) → Type 0
-AreTaken {S} pairs n lists = (a : ℕ) (v : Vec ℕ Global) → slice_get lists a ≡ Some v → (i : ℕ) → Contains v.items i ↔ ((i < n) × ((s : S) × (slice_get pairs i ≡ Some (a, s))))
+AreTaken {S} pairs n lists = (a : ℕ) (v : Vec ℕ Global) → slice_get lists a ≡ Some v → (i : ℕ)
+    → Contains v.items i ↔ ((i < n) × ((s : S) × (slice_get pairs i ≡ Some (a, s))))
 
-module _ {S : Type 0} (sum_of : List PageToken → S) (composed : S → S → S) (whole : S → Bool) (productions : List Production) (start : nt.Nt) where
+module _ {S : Type 0} (sum_of : List PageToken → S) (composed : S → S → S) (whole : S → Bool) (productions : List Production)
+    (start : nt.Nt) where
   -- a pair with the sum stands on a side of a production with a useful left side
   pub record IsAt (t : Table S) (joint : Joint) (s : S) : Type 0 where
     pub production : Production
@@ -95,12 +102,14 @@ module _ {S : Type 0} (sum_of : List PageToken → S) (composed : S → S → S)
   -- the compositions with these pairs are there
   pub record MeetsPairs (count : ℕ) (old new : Table S) (joint : Joint) (s : S) (c : ℕ) (Asked : ℕ → Type 0) : Type 0 where
     pub goes : GoesOn sum_of composed whole productions start count old new
-    pub met : (j : ℕ) (u : S) (p : Production) → Asked j → slice_get (known old) j ≡ Some (c, u) → slice_get productions joint.place ≡ Some p → Contains (known new) (p.left.0, composed_by composed joint.side s u)
+    pub met : (j : ℕ) (u : S) (p : Production) → Asked j → slice_get (known old) j ≡ Some (c, u)
+        → slice_get productions joint.place ≡ Some p → Contains (known new) (p.left.0, composed_by composed joint.side s u)
 
   -- the compositions with each sum of the symbol are there, as far as its pairs are among the first so many
   pub record MeetsSymbol (count : ℕ) (old new : Table S) (joint : Joint) (s : S) (n : ℕ) (b : Symbol) : Type 0 where
     pub goes : GoesOn sum_of composed whole productions start count old new
-    pub met : (u : S) (p : Production) → HasSum sum_of composed (known old) n b u → slice_get productions joint.place ≡ Some p → Contains (known new) (p.left.0, composed_by composed joint.side s u)
+    pub met : (u : S) (p : Production) → HasSum sum_of composed (known old) n b u → slice_get productions joint.place ≡ Some p
+        → Contains (known new) (p.left.0, composed_by composed joint.side s u)
 
   -- what a pair on a side of a right side is to give is there
   abbrev pub IsGiven : List (Pair S) → List (Pair S) → ℕ → ℕ → Side → Right → S → Type 0
@@ -114,4 +123,5 @@ module _ {S : Type 0} (sum_of : List PageToken → S) (composed : S → S → S)
   -- what the pair gives at productions
   pub record Gives (count : ℕ) (old new : Table S) (side : Side) (s : S) (n : ℕ) (Asked : ℕ → Type 0) : Type 0 where
     pub goes : GoesOn sum_of composed whole productions start count old new
-    pub given : (place : ℕ) (p : Production) → Asked place → slice_get productions place ≡ Some p → IsGiven (known old) (known new) n p.left.0 side p.right s
+    pub given : (place : ℕ) (p : Production) → Asked place → slice_get productions place ≡ Some p
+        → IsGiven (known old) (known new) n p.left.0 side p.right s

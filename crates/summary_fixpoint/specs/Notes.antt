@@ -11,7 +11,9 @@ pub record Notes {S : Type 0} (old new : Table S) (place : ℕ) (parts : Parts) 
   pub pairs : known new ≡ (if is_new then known old ++ (left, s) ∷ [] else known old)
   pub has : Contains (known new) (left, s)
   pub fresh : is_new ≡ true → Contains (known old) (left, s) → ⊥
-  pub nodes : new.nodes.nodes.items ≡ (if is_new then old.nodes.nodes.items ++ (record { production = place; parts = parts; length = parts_length old.nodes.nodes.items parts }) ∷ [] else old.nodes.nodes.items)
+  pub nodes : new.nodes.nodes.items
+      ≡ (if is_new then old.nodes.nodes.items
+      ++ (record { production = place; parts = parts; length = parts_length old.nodes.nodes.items parts }) ∷ [] else old.nodes.nodes.items)
   pub counts : new.counts.items ≡ (if is_new then set old.counts.items left (get_or old.counts.items left 0 + 1) else old.counts.items)
   pub height : new.height ≡ old.height
   pub bound : new.bound ≡ old.bound

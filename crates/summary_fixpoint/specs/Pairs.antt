@@ -31,11 +31,14 @@ module _ {S : Type 0} (sum_of : List PageToken → S) where
   -- one nonterminal has at least so many pairs
   abbrev pub HasPairs : List Production → nt.Nt → ℕ → ℕ → Type 0
   HasPairs productions start k count =
-      (a : nt.Nt) × (sums : List S) × (length sums ≡ count) × AllPairs (λ x y. x ≢ y) sums × ((s : S) → Contains sums s → IsPair productions start k a s)
+      (a : nt.Nt) × (sums : List S) × (length sums ≡ count) × AllPairs (λ x y. x ≢ y) sums
+      × ((s : S) → Contains sums s → IsPair productions start k a s)
 
   -- each sentence of the start of a smaller height is whole
   abbrev pub AreWholeBelow : (S → Bool) → List Production → nt.Nt → ℕ → Type 0
-  AreWholeBelow whole productions start k = (w : List Letter) (h : ℕ) → h < k → DerivesIn productions (Nt start) w h → whole (sum_of (tokens_in w)) ≡ true
+  AreWholeBelow whole productions start k = (w : List Letter) (h : ℕ) → h < k → DerivesIn productions (Nt start) w h
+      → whole (sum_of (tokens_in w)) ≡ true
 
+  -- each sentence of the start is whole
   abbrev pub AreWhole : (S → Bool) → List Production → nt.Nt → Type 0
   AreWhole whole productions start = (w : List Letter) → Derives productions (Nt start) w → whole (sum_of (tokens_in w)) ≡ true

@@ -34,6 +34,7 @@ module _ {S : Type 0} where
   known_of sums [] = []
   known_of sums (entry ∷ entries) = with_sum entry.nonterminal (slice_get sums entry.sum) (known_of sums entries)
 
+  -- the pairs of a table, in the order in which they were found
   abbrev pub known : Table S → List (Pair S)
   known t = known_of t.sums.keys t.entries.keys
 
@@ -46,7 +47,8 @@ module _ {S : Type 0} where
   abbrev pub AreNumbered : List S → List Entry → Type 0
   AreNumbered sums entries = All (λ entry. entry.sum < length sums) entries
 
-module _ {S : Type 0} (sum_of : List PageToken → S) (composed : S → S → S) (whole : S → Bool) (productions : List Production) (start : nt.Nt) where
+module _ {S : Type 0} (sum_of : List PageToken → S) (composed : S → S → S) (whole : S → Bool) (productions : List Production)
+    (start : nt.Nt) where
   -- the part is a derivation of at most a height, of a sentence with the sum
   pub record Supports (nodes : List Node) (k : ℕ) (p : Part) (a : Symbol) (s : S) : Type 0 where
     pub sentence : List Letter

@@ -10,5 +10,6 @@ use Rattle.least_sets.specs.Bytes.{Adds}
 
 -- what stands in the system as bytes is below 256
 pub record HasBytes (s : OpSystem) : Type 0 where
-  pub ranges : (p : Production) (range : ByteRange) → Contains s.grammar.productions.items p → Contains (symbols_of p.right) (Range range) → range.hi < 256
+  pub ranges : (p : Production) (range : ByteRange) → Contains s.grammar.productions.items p → Contains (symbols_of p.right) (Range range)
+      → range.hi < 256
   pub literals : (rule : OpRule) (byte : ℕ) → Contains s.ops.items rule → Adds rule.op byte → byte < 256

@@ -13,12 +13,14 @@ unfoldable pub before_row : List ℕ → ℕ → Form Part
 before_row [] j = same_form (set_part j)
 before_row (b ∷ w) j = join_form (end_part (b ∷ w)) (set_part j)
 
+-- a text where a set says yes; nothing where it does not, or is none of the list
 unfoldable pub where_row : Option Bool → List ℕ → Option (Form Part)
 unfolding text_row
 where_row None w = None
 where_row (Some false) w = None
 where_row (Some true) w = Some (text_row w)
 
+-- the row of parts of a form; none for one that only says yes, or asks it of a set that does not
 unfoldable pub row_of : List Bool → Closed → Form ℕ → Option (Form Part)
 unfolding text_row before_row where_row
 row_of flags closed (text_form w) = Some (text_row w)

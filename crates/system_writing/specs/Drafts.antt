@@ -8,8 +8,10 @@ use Rattle.set_systems.specs.Parts.{Part, set_part, end_part, closed_part, Close
 use Rattle.set_systems.specs.Written.{Denotes, IsWritten}
 use Rattle.system_rows.specs.Listed.{listed, is_said}
 
--- the productions and rules are written for the rows, over so many nonterminals, of which the first are the sets, and behind them those of the closed grammar
-pub record IsDraft (rows : List (ℕ × Form ℕ)) (flags : List Bool) (closed : Closed) (sets : ℕ) (count : ℕ) (productions : List Production) (rules : List OpRule) : Type 0 where
+-- the productions and rules are written for the rows, over so many nonterminals, of which the first are the sets, and behind them those of
+-- the closed grammar
+pub record IsDraft (rows : List (ℕ × Form ℕ)) (flags : List Bool) (closed : Closed) (sets : ℕ) (count : ℕ) (productions : List Production)
+    (rules : List OpRule) : Type 0 where
   pub parts : List Part
   pub all : length parts ≡ count
   pub written : IsWritten (listed rows) (is_said flags) closed parts productions rules

@@ -8,7 +8,9 @@ use Rattle.set_systems.specs.Parts.{Closed}
 use Rattle.system_rows.specs.Listed.{listed, is_said}
 use Rattle.system_writing.specs.Drafts.{IsDraft}
 
-pub record IsSystemOf (rows : List (ℕ × Form ℕ)) (closed : Closed) (sets : ℕ) (count : ℕ) (productions : List Production) (rules : List OpRule) : Type 0 where
+-- some flags say which of the sets have rows, and the productions and rules are a draft of the rows with them
+pub record IsSystemOf (rows : List (ℕ × Form ℕ)) (closed : Closed) (sets : ℕ) (count : ℕ) (productions : List Production)
+    (rules : List OpRule) : Type 0 where
   pub flags : List Bool
   pub said : (j : ℕ) → is_said flags j ↔ Says (listed rows) j
   pub draft : IsDraft rows flags closed sets count productions rules

@@ -17,13 +17,15 @@ use Rattle.page_insides.specs.Laws.{read, ends_with}
 
 -- the types of the attributes are lawful
 abbrev pub HasLawfulKinds : Table → Type 0
-HasLawfulKinds table = (name : List ℕ) (rule : Rule) → find_rule table.elements name ≡ Some rule → list_all (λ (d : Declared). is_lawful_kind d.kind) rule.attributes ≡ true
+HasLawfulKinds table = (name : List ℕ) (rule : Rule) → find_rule table.elements name ≡ Some rule
+    → list_all (λ (d : Declared). is_lawful_kind d.kind) rule.attributes ≡ true
 
 -- `>`, or `/>` of an empty element
 abbrev pub end_then : Bool → List ℕ → List ℕ
 end_then false rest = 62 ∷ rest
 end_then true rest = 47 ∷ 62 ∷ rest
 
+-- the tokens of a tag, by whether it is that of an empty element
 abbrev pub tag_tokens : Table → Bool → List ℕ → List PageToken
 tag_tokens table false name = token.Start (element_of table name) ∷ []
 tag_tokens table true name = token.Start (element_of table name) ∷ token.End (element_of table name) ∷ []
@@ -40,9 +42,11 @@ pub record IsTagThen (table : Table) (cs rest : List ℕ) (behind_it : Place) (g
 
 -- the first character of the name is read
 pub record StartTagsRead : Type 0 where
-  pub complete : (table : Table) → HasLawfulKinds table → (place : Place) (tag : Tag) (empty : Bool) (n : ℕ) (cs rest : List ℕ) → IsTag tag → tag_fits table tag ≡ true → tag_then tag (end_then empty rest) ≡ n ∷ cs
+  pub complete : (table : Table) → HasLawfulKinds table → (place : Place) (tag : Tag) (empty : Bool) (n : ℕ) (cs rest : List ℕ) → IsTag tag
+      → tag_fits table tag ≡ true → tag_then tag (end_then empty rest) ≡ n ∷ cs
       → read table place (in_tag_name (n ∷ [])) cs ≡ ends_with (tag_tokens table empty tag.name) rest
-  pub sound : (table : Table) → HasLawfulKinds table → (place next : Place) (n : ℕ) (cs : List ℕ) (given : List PageToken) (rest : List ℕ) → is_name (n ∷ []) ≡ true → read table place (in_tag_name (n ∷ [])) cs ≡ whole next given rest
+  pub sound : (table : Table) → HasLawfulKinds table → (place next : Place) (n : ℕ) (cs : List ℕ) (given : List PageToken) (rest : List ℕ)
+      → is_name (n ∷ []) ≡ true → read table place (in_tag_name (n ∷ [])) cs ≡ whole next given rest
       → IsTagThen table (n ∷ cs) rest next given
 
 -- a name, white space, `>`, and the rest
@@ -56,7 +60,10 @@ pub record IsEndThen (table : Table) (cs rest : List ℕ) (behind_it : Place) (g
   pub leads : behind_it ≡ behind 0
   pub gives : given ≡ token.End (element_of table name) ∷ []
 
+-- behind `</` the reader comes to an end exactly behind a name of a declared element, white space and `>`
 pub record EndTagsRead : Type 0 where
-  pub complete : (table : Table) (place : Place) (name space rest : List ℕ) → is_name name ≡ true → list_all is_blank space ≡ true → is_some_rule (find_rule table.elements name) ≡ true
+  pub complete : (table : Table) (place : Place) (name space rest : List ℕ) → is_name name ≡ true → list_all is_blank space ≡ true
+      → is_some_rule (find_rule table.elements name) ≡ true
       → read table place (in_end_tag [] false) (name ++ (space ++ 62 ∷ rest)) ≡ ends_with (token.End (element_of table name) ∷ []) rest
-  pub sound : (table : Table) (place next : Place) (cs : List ℕ) (given : List PageToken) (rest : List ℕ) → read table place (in_end_tag [] false) cs ≡ whole next given rest → IsEndThen table cs rest next given
+  pub sound : (table : Table) (place next : Place) (cs : List ℕ) (given : List PageToken) (rest : List ℕ)
+      → read table place (in_end_tag [] false) cs ≡ whole next given rest → IsEndThen table cs rest next given

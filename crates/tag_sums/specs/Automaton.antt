@@ -3,6 +3,7 @@
 use Rattle.std.specs.Prelude.{◌≡◌, ℕ, ◌<◌, Bool, true, List, [], ◌∷◌, Option, Some, None}
 use Rattle.tag_sums.specs.Labels.{Label}
 
+-- the automaton: its states, where elements begin and end in it, and where the page does
 pub record Automaton : Type 0 where
   -- the states are the numbers below this one
   pub count : ℕ
@@ -27,6 +28,7 @@ pub record IsAutomaton (a : Automaton) : Type 0 where
   pub step_own : (q r : ℕ) (l : Label) → a.step q l ≡ Some r → a.owner r ≡ a.owner q
   pub closes_own : (e q : ℕ) → a.closes e q ≡ true → a.owner q ≡ e
 
+-- what the second gives for the first, where there is a first
 abbrev pub and_then : {A B : Type 0} → Option A → (A → Option B) → Option B
 and_then None f = None
 and_then (Some a) f = f a

@@ -10,11 +10,13 @@ pub data Mark : Type 0 where
   misc : Mark
   doctype : Mark
 
+-- one thing that stands in an element
 pub data Label : Type 0 where
   -- a whole element, by its place among the declared ones
   child : ℕ → Label
   other : Mark → Label
 
+-- the token of what is no element
 abbrev pub token_of : Mark → PageToken
 token_of blank = Blank
 token_of text = Text

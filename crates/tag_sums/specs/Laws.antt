@@ -22,6 +22,7 @@ OneToken = (a : Automaton) → IsAutomaton a → (t : PageToken) → sum_of a (t
 abbrev pub WholeIsPage : Type 0
 WholeIsPage = (a : Automaton) → IsAutomaton a → (ts : List PageToken) → IsWhole a (sum_of a ts) ↔ IsPage a ts
 
+-- the sum of nesting of a concatenation is the composition of the sums
 abbrev pub NestsCompose : Type 0
 NestsCompose = (u v : List PageToken) → nest_of (u ++ v) ≡ join (nest_of u) (nest_of v)
 

@@ -19,17 +19,21 @@ pub data Sum : Type 0 where
 abbrev pub target : List (Option ℕ) → ℕ → Option ℕ
 target m q = slice_index_or m q None
 
+-- whether the set has the state
 abbrev pub has : List Bool → ℕ → Bool
 has s q = slice_index_or s q false
 
+-- where the map leads from the state, if there is one
 abbrev pub follow : List (Option ℕ) → Option ℕ → Option ℕ
 follow m None = None
 follow m (Some q) = target m q
 
+-- whether there is a state and the set has it
 abbrev pub admits : List Bool → Option ℕ → Bool
 admits s None = false
 admits s (Some q) = has s q
 
+-- whether there is a state
 abbrev pub is_some : Option ℕ → Bool
 is_some None = false
 is_some (Some q) = true
@@ -38,6 +42,7 @@ is_some (Some q) = true
 abbrev pub after : List (Option ℕ) → List (Option ℕ) → List (Option ℕ)
 after first second = map (follow second) first
 
+-- the states that a map leads into a set
 abbrev pub preimage : List (Option ℕ) → List Bool → List Bool
 preimage m s = map (admits s) m
 
@@ -45,6 +50,7 @@ preimage m s = map (admits s) m
 abbrev pub some_move : List (Option ℕ) → Bool
 some_move = list_any is_some
 
+-- the set has a state
 abbrev pub some_state : List Bool → Bool
 some_state = list_any (λ b. b)
 
@@ -74,23 +80,29 @@ compose (reduced ca ma oa) (reduced cb mb ob) = meet ca ma oa cb mb ob
 abbrev pub by_state : {X : Type 0} → Automaton → (ℕ → X) → List X
 by_state a f = map f (range_with_len 0 a.count)
 
+-- the sum of no token: each state leads to itself, and nothing is unmatched
 abbrev pub unit : Automaton → Sum
 unit a = reduced [] (by_state a Some) []
 
+-- the map of a label: for each state the one behind it, if the label may stand there
 abbrev pub by_label : Automaton → Label → List (Option ℕ)
 by_label a l = by_state a (λ q. a.step q l)
 
+-- the sum of a label alone; broken where it may stand nowhere
 abbrev pub with_label : Automaton → Label → Sum
 with_label a l = joined [] (by_label a l) []
 
 -- an end tag; behind it its element is a label
 abbrev pub closing : Automaton → ℕ → Sum
-closing a e = if some_state (by_state a (a.closes e)) then (if some_move (by_label a (child e)) then reduced (by_state a (a.closes e) ∷ []) (by_label a (child e)) [] else broken) else broken
+closing a e = if some_state (by_state a (a.closes e)) then (if some_move (by_label a (child e))
+    then reduced (by_state a (a.closes e) ∷ []) (by_label a (child e)) [] else broken) else broken
 
+-- a start tag, by the state that its element begins in; broken where the element is not declared
 abbrev pub opening : Automaton → Option ℕ → Sum
 opening a None = broken
 opening a (Some q) = reduced [] (by_state a Some) (q ∷ [])
 
+-- the sum of one token
 abbrev pub of_token : Automaton → PageToken → Sum
 of_token a Doctype = with_label a (other doctype)
 of_token a (Start e) = opening a (a.init e.0)
@@ -100,6 +112,7 @@ of_token a Text = with_label a (other text)
 of_token a Misc = with_label a (other misc)
 of_token a Bad = broken
 
+-- the sum of the tokens from the first to the last
 abbrev pub sum_of : Automaton → List PageToken → Sum
 sum_of a [] = unit a
 sum_of a (t ∷ ts) = compose (of_token a t) (sum_of a ts)
@@ -113,6 +126,7 @@ abbrev pub tag_count : Sum → ℕ
 tag_count broken = 0
 tag_count (reduced closers m openers) = length closers + length openers
 
+-- whether no page can have these tokens in it
 abbrev pub is_broken : Sum → Bool
 is_broken broken = true
 is_broken (reduced closers m openers) = false

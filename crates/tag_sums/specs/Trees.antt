@@ -15,9 +15,11 @@ pub data Nodes : Type 0 where
 abbrev pub start_tag : ℕ → PageToken
 start_tag e = Start (record { 0 = e })
 
+-- the end tag of the element at a place
 abbrev pub end_tag : ℕ → PageToken
 end_tag e = End (record { 0 = e })
 
+-- the tokens of the nodes in the order of the page, those of an element between its tags
 abbrev pub tokens_of : Nodes → List PageToken
 tokens_of no_nodes = []
 tokens_of (mark m rest) = token_of m ∷ tokens_of rest
@@ -37,4 +39,5 @@ AreValid a (element e inside rest) = Holds a e (labels_of inside) × AreValid a 
 
 -- the tokens are those of such nodes, which lead from before the page to behind its root
 abbrev pub IsPage : Automaton → List PageToken → Type 0
-IsPage a tokens = (nodes : Nodes) × (tokens_of nodes ≡ tokens) × AreValid a nodes × (along a a.page_start (labels_of nodes) ≡ Some a.page_done)
+IsPage a tokens = (nodes : Nodes) × (tokens_of nodes ≡ tokens) × AreValid a nodes
+    × (along a a.page_start (labels_of nodes) ≡ Some a.page_done)

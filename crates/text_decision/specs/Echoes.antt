@@ -20,8 +20,11 @@ module _ {S : Type 0} (first : S) (steps : S → ℕ → S → List Letter → T
   abbrev pub PutsTokens : List ℕ → List PageToken → Type 0
   PutsTokens text tokens = (letters : List Letter) × Relates first steps ends text letters × (tokens_in letters ≡ tokens)
 
--- the productions derive texts with their tokens: the bytes of each sentence are a text, its tokens are tokens of that text, and each text has a sentence
-pub record EchoTexts (IsText : List ℕ → Type 0) (HasTokens : List ℕ → List PageToken → Type 0) (productions : List Production) (start : nt.Nt) : Type 0 where
+-- the productions derive texts with their tokens: the bytes of each sentence are a text, its tokens are tokens of that text, and each text
+-- has a sentence
+pub record EchoTexts (IsText : List ℕ → Type 0) (HasTokens : List ℕ → List PageToken → Type 0) (productions : List Production)
+    (start : nt.Nt) : Type 0 where
   pub texts : (letters : List Letter) → Derives productions (Nt start) letters → IsText (bytes_in letters)
   pub tokens : (letters : List Letter) → Derives productions (Nt start) letters → HasTokens (bytes_in letters) (tokens_in letters)
-  pub sentences : (text : List ℕ) → IsText text → (letters : List Letter) × Derives productions (Nt start) letters × (bytes_in letters ≡ text)
+  pub sentences : (text : List ℕ) → IsText text
+      → (letters : List Letter) × Derives productions (Nt start) letters × (bytes_in letters ≡ text)

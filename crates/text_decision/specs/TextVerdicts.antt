@@ -21,7 +21,8 @@ pub record WritesText (derivation : Derivation) (text : List ℕ) : Type 0 where
   pub derived : IsDerivation productions derivation.nodes.nodes.items left letters
   pub bytes : bytes_in letters ≡ text
 
-module _ (IsText : List ℕ → Type 0) (HasTokens : List ℕ → List PageToken → Type 0) {S : Type 0} (sum_of : List PageToken → S) (whole : S → Bool) where
+module _ (IsText : List ℕ → Type 0) (HasTokens : List ℕ → List PageToken → Type 0) {S : Type 0} (sum_of : List PageToken → S)
+    (whole : S → Bool) where
   -- the text has tokens whose sum is whole, or is not
   pub record HasSum (text : List ℕ) (is_whole : Bool) : Type 0 where
     pub tokens : List PageToken
@@ -35,7 +36,8 @@ module _ (IsText : List ℕ → Type 0) (HasTokens : List ℕ → List PageToken
     pub not_whole : HasSum text false
     pub writes : WritesText derivation text
 
-  -- a nonterminal of productions that derive the texts with their tokens has so many different sums of sentences of at most a height, over the limit, and
+  -- a nonterminal of productions that derive the texts with their tokens has so many different sums of sentences of at most a height, over
+  -- the limit, and
   -- each sentence of a smaller height is whole
   pub record HasManySums (limit count height : ℕ) : Type 0 where
     pub productions : List Production

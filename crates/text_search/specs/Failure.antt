@@ -1,4 +1,5 @@
--- The failure function of a pattern, and how far a text that is read ends in its front (Knuth, Morris and Pratt, Fast pattern matching in strings).
+-- The failure function of a pattern, and how far a text that is read ends in its front (Knuth, Morris and Pratt, Fast pattern matching in
+-- strings).
 use Rattle.std.specs.Prelude.{◌≡◌, ℕ, zero, suc, ◌+◌, ◌-◌, ◌<◌, ◌≤◌, List, [], ◌∷◌, ◌++◌, length, take, drop, nat_eq, slice_index, if◌then◌else◌}
 use Rattle.std.specs.Cmp.Lexicographic.{pointwise}
 
@@ -21,7 +22,8 @@ pub record AreFailures (pattern failures : List ℕ) (count : ℕ) : Type 0 wher
 abbrev pub longest_front : List ℕ → ℕ → ℕ → ℕ → ℕ
 longest_front pattern at byte zero = 0
 longest_front pattern at byte (suc most) =
-    if pointwise nat_eq (take (suc most) pattern) (drop (at - most) (take at pattern ++ byte ∷ [])) then suc most else longest_front pattern at byte most
+    if pointwise nat_eq (take (suc most) pattern) (drop (at - most) (take at pattern ++ byte ∷ [])) then suc most
+    else longest_front pattern at byte most
 
 -- how much of the pattern is read after the byte, where `at` bytes of it were read before
 abbrev pub next_length : List ℕ → ℕ → ℕ → ℕ

@@ -2,6 +2,7 @@
 use Rattle.std.specs.Prelude.{ℕ, suc, List, [], ◌∷◌, Option, Some, None, nat_eq, if◌then◌else◌}
 use Rattle.std.specs.List.{starts_with}
 
+-- the place behind this one, if there is one
 abbrev pub one_later : Option ℕ → Option ℕ
 one_later None = None
 one_later (Some i) = Some (suc i)

@@ -12,12 +12,14 @@ IsName (b ∷ more) = (is_name_start b ≡ true) × (list_all is_name_byte more 
 -- an integer literal: digits without a leading zero, in range
 abbrev pub IsInteger : List ℕ → Type 0
 IsInteger [] = ⊥
-IsInteger (b ∷ more) = (is_digit b ≡ true) × (list_all is_digit more ≡ true) × (has_leading_zero (b ∷ more) ≡ false) × (value_of (b ∷ more) ≤ largest)
+IsInteger (b ∷ more) = (is_digit b ≡ true) × (list_all is_digit more ≡ true) × (has_leading_zero (b ∷ more) ≡ false)
+    × (value_of (b ∷ more) ≤ largest)
 
 -- what may stand behind a name, and behind an integer
 abbrev pub EndsName : List ℕ → Type 0
 EndsName rest = head_is is_name_byte rest ≡ false
 
+-- what may stand behind an integer: no byte of a name, no digit, and nothing by which it would go on as a float
 abbrev pub EndsInteger : List ℕ → Type 0
 EndsInteger rest = EndsName rest × (head_is is_digit rest ≡ false) × (goes_on_as_float rest ≡ false)
 

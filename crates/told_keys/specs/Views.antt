@@ -5,10 +5,12 @@ use Rattle.set_listing.specs.Uses.{number_from}
 use Rattle.told_keys.specs.declared.key.ToldKey.{ToldKey}
 use Rattle.told_keys.specs.declared.key.ToldKey.TheVariants.{Int, Text}
 
+-- the plain form of a key
 abbrev pub key_seen : ToldKey → PlainKey
 key_seen (Int z) = int_key z
 key_seen (Text t) = text_key t
 
+-- the plain form of keys in their order
 abbrev pub keys_seen : List ToldKey → List PlainKey
 keys_seen ks = map key_seen ks
 

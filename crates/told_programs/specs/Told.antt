@@ -32,7 +32,8 @@ TellsAll content held name = (path : List ℕ) → Reads held name path → cont
 abbrev pub AreShort : Held → List ℕ → Type 0
 AreShort held name = (path bytes : List ℕ) → Reads held name path → held path ≡ Some bytes → length bytes ≤ FILE_LIMIT
 
--- the source tells of each name that the program of this name reads, at most 256 beside its own, and it is this one; the rules on functions are
+-- the source tells of each name that the program of this name reads, at most 256 beside its own, and it is this one; the rules on functions
+-- are
 -- kept file by file
 pub record HoldsProgram (content : Content) (name : List ℕ) (program : PlainProgram) : Type 0 where
   pub held : Held

@@ -1,5 +1,6 @@
 -- Plain forms of lists, side by side, where the first are copied.
 use Rattle.std.proofs.Common.{◌≡◌, ◌∙◌, ℕ, zero, suc, drop, arith, ◌≤◌, ◌+◌, ◌<◌, List, [], ◌∷◌, ◌++◌, length, get_or, refl, sym, ap}
+use Rattle.std.proofs.lemmas.List.{drop_more, drop_all}
 use Rattle.std.specs.Prelude.{Option}
 use Rattle.php_syntax.specs.declared.tree.Expr.{Expr}
 use Rattle.php_syntax.specs.declared.tree.Param.{Param}
@@ -55,19 +56,8 @@ params_then_none [] = refl
 params_then_none (y ∷ ys) = ap (λ (ps : List PlainParam). plain_param y ∷ ps) (params_then_none ys)
 
 -- what is left, from a place that there is, and from the end on
-drop_core : {X : Type 0} (xs : List X) (i : ℕ) (x : X) → i < length xs → x ≡ get_or xs i x → drop i xs ≡ x ∷ drop (suc i) xs
-drop_core [] i x lt is = absurd (omega arith)
-drop_core (y ∷ ys) zero x lt is = ap (λ z. z ∷ ys) (sym is)
-drop_core (y ∷ ys) (suc i) x lt is = drop_core ys i x (omega arith) is
-
-drop_here : {X : Type 0} (xs : List X) (i : ℕ) (x : X) → i < length xs → x ≡ get_or xs i x → drop i xs ≡ x ∷ drop (i + 1) xs
-drop_here xs i x lt is = let e : suc i ≡ i + 1 = omega arith in drop_core xs i x lt is ∙ ap (λ (k : ℕ). x ∷ drop k xs) e
-
-drop_past : {X : Type 0} (xs : List X) (i : ℕ) → length xs ≤ i → drop i xs ≡ []
-drop_past [] zero le = refl
-drop_past [] (suc i) le = refl
-drop_past (y ∷ ys) zero le = absurd (omega arith)
-drop_past (y ∷ ys) (suc i) le = drop_past ys i (omega arith)
+pub drop_here : {X : Type 0} (xs : List X) (i : ℕ) (x : X) → i < length xs → x ≡ get_or xs i x → drop i xs ≡ x ∷ drop (i + 1) xs
+drop_here xs i x lt is = drop_more xs i x lt ∙ ap (λ z. z ∷ drop (i + 1) xs) (sym is)
 
 pub exprs_step : (xs old new : List Expr) (i : ℕ) (x copy : Expr) → i < length xs → x ≡ get_or xs i x → plain_expr copy ≡ plain_expr x → new ≡ old ++ copy ∷ [] → exprs_then old (exprs_of (drop i xs)) ≡ exprs_of xs
     → exprs_then new (exprs_of (drop (i + 1) xs)) ≡ exprs_of xs
@@ -76,7 +66,7 @@ exprs_step xs old new i x copy lt is same push inv =
     ∙ sym (ap (λ (l : List Expr). exprs_then old (exprs_of l)) (drop_here xs i x lt is)) ∙ inv
 
 pub exprs_end : (xs old : List Expr) (i : ℕ) → length xs ≤ i → exprs_then old (exprs_of (drop i xs)) ≡ exprs_of xs → exprs_of old ≡ exprs_of xs
-exprs_end xs old i le inv = sym (exprs_then_none old) ∙ sym (ap (λ (l : List Expr). exprs_then old (exprs_of l)) (drop_past xs i le)) ∙ inv
+exprs_end xs old i le inv = sym (exprs_then_none old) ∙ sym (ap (λ (l : List Expr). exprs_then old (exprs_of l)) (drop_all i xs le)) ∙ inv
 
 pub items_step : (xs old new : List (Option Expr × Expr)) (i : ℕ) (x : Option Expr × Expr) (key : Option Expr) (value : Expr) → i < length xs → x ≡ get_or xs i x → maybe_of key ≡ maybe_of x.0 → plain_expr value ≡ plain_expr x.1
     → new ≡ old ++ (key, value) ∷ [] → items_then old (items_of (drop i xs)) ≡ items_of xs → items_then new (items_of (drop (i + 1) xs)) ≡ items_of xs
@@ -85,7 +75,7 @@ items_step xs old new i x key value lt is same_key same push inv =
     ∙ ap (λ p. items_then old (more_items (maybe_of x.0) p (items_of (drop (i + 1) xs)))) same ∙ sym (ap (λ (l : List (Option Expr × Expr)). items_then old (items_of l)) (drop_here xs i x lt is)) ∙ inv
 
 pub items_end : (xs old : List (Option Expr × Expr)) (i : ℕ) → length xs ≤ i → items_then old (items_of (drop i xs)) ≡ items_of xs → items_of old ≡ items_of xs
-items_end xs old i le inv = sym (items_then_none old) ∙ sym (ap (λ (l : List (Option Expr × Expr)). items_then old (items_of l)) (drop_past xs i le)) ∙ inv
+items_end xs old i le inv = sym (items_then_none old) ∙ sym (ap (λ (l : List (Option Expr × Expr)). items_then old (items_of l)) (drop_all i xs le)) ∙ inv
 
 pub path_step : (xs old new : List (Option Expr)) (i : ℕ) (x copy : Option Expr) → i < length xs → x ≡ get_or xs i x → maybe_of copy ≡ maybe_of x → new ≡ old ++ copy ∷ [] → path_then old (path_of (drop i xs)) ≡ path_of xs
     → path_then new (path_of (drop (i + 1) xs)) ≡ path_of xs
@@ -94,7 +84,7 @@ path_step xs old new i x copy lt is same push inv =
     ∙ sym (ap (λ (l : List (Option Expr)). path_then old (path_of l)) (drop_here xs i x lt is)) ∙ inv
 
 pub path_end : (xs old : List (Option Expr)) (i : ℕ) → length xs ≤ i → path_then old (path_of (drop i xs)) ≡ path_of xs → path_of old ≡ path_of xs
-path_end xs old i le inv = sym (path_then_none old) ∙ sym (ap (λ (l : List (Option Expr)). path_then old (path_of l)) (drop_past xs i le)) ∙ inv
+path_end xs old i le inv = sym (path_then_none old) ∙ sym (ap (λ (l : List (Option Expr)). path_then old (path_of l)) (drop_all i xs le)) ∙ inv
 
 pub params_step : (xs old new : List Param) (i : ℕ) (x copy : Param) → i < length xs → x ≡ get_or xs i x → plain_param copy ≡ plain_param x → new ≡ old ++ copy ∷ [] → params_then old (params_of_list (drop i xs)) ≡ params_of_list xs
     → params_then new (params_of_list (drop (i + 1) xs)) ≡ params_of_list xs
@@ -103,7 +93,7 @@ params_step xs old new i x copy lt is same push inv =
     ∙ sym (ap (λ (l : List Param). params_then old (params_of_list l)) (drop_here xs i x lt is)) ∙ inv
 
 pub params_end : (xs old : List Param) (i : ℕ) → length xs ≤ i → params_then old (params_of_list (drop i xs)) ≡ params_of_list xs → params_of_list old ≡ params_of_list xs
-params_end xs old i le inv = sym (params_then_none old) ∙ sym (ap (λ (l : List Param). params_then old (params_of_list l)) (drop_past xs i le)) ∙ inv
+params_end xs old i le inv = sym (params_then_none old) ∙ sym (ap (λ (l : List Param). params_then old (params_of_list l)) (drop_all i xs le)) ∙ inv
 
 pub same_param : (a b : Param) → a.name ≡ b.name → maybe_of a.default ≡ maybe_of b.default → plain_param a ≡ plain_param b
 same_param a b e f = λ i. record { name_of = e i; default_of = f i }

@@ -6,7 +6,8 @@ use Rattle.useful_nonterminals.specs.declared.rule.Rule.{Rule}
 -- a fact follows, and the conclusion of a rule whose premises follow
 pub data Follows (facts : List ℕ) (rules : List Rule) : ℕ → Type 0 where
   by_fact : (n : ℕ) → Contains facts n → Follows facts rules n
-  by_rule : (a b n : ℕ) → Contains rules (record { first = a; second = b; conclusion = n }) → Follows facts rules a → Follows facts rules b → Follows facts rules n
+  by_rule : (a b n : ℕ) → Contains rules (record { first = a; second = b; conclusion = n }) → Follows facts rules a → Follows facts rules b
+      → Follows facts rules n
 
 -- the rule speaks of numbers below a count
 pub record IsRuleBelow (count : ℕ) (rule : Rule) : Type 0 where

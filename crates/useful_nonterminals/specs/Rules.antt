@@ -27,10 +27,12 @@ numbers_in Empty = None
 numbers_in (One a) = both (number_in a) None
 numbers_in (Two a b) = both (number_in a) (number_in b)
 
+-- the left side, where no nonterminal stands on the right
 abbrev pub fact_for : ℕ → Option (ℕ × ℕ) → List ℕ
 fact_for left None = left ∷ []
 fact_for left (Some ab) = []
 
+-- where there are nonterminals on the right, the left side follows from them
 abbrev pub rule_for : ℕ → Option (ℕ × ℕ) → List Rule
 rule_for left None = []
 rule_for left (Some ab) = record { first = ab.0; second = ab.1; conclusion = left } ∷ []
@@ -39,6 +41,7 @@ rule_for left (Some ab) = record { first = ab.0; second = ab.1; conclusion = lef
 abbrev pub facts_of : List Production → List ℕ
 facts_of ps = flat_map (λ p. fact_for p.left.0 (numbers_in p.right)) ps
 
+-- from the nonterminals on the right of a production its left side follows, for each production that has some
 abbrev pub rules_of : List Production → List Rule
 rules_of ps = flat_map (λ p. rule_for p.left.0 (numbers_in p.right)) ps
 
@@ -51,6 +54,7 @@ step_for marks left (Some ab) =
     else
     []
 
+-- from the left side of each production what stands on its right follows, where these are marked as deriving something
 abbrev pub steps_of : List Bool → List Production → List Rule
 steps_of marks ps = flat_map (λ p. step_for marks p.left.0 (numbers_in p.right)) ps
 

@@ -17,6 +17,11 @@ IsProductive productions a = (w : List Letter) × Derives productions (Nt a) w
 -- derives something too
 pub data IsUseful (productions : List Production) (start : nt.Nt) : nt.Nt → Type 0 where
   at_start : (w : List Letter) → Derives productions (Nt start) w → IsUseful productions start start
-  alone : (left a : nt.Nt) (w : List Letter) → IsUseful productions start left → Contains productions (record { left = left; right = One (Nt a) }) → Derives productions (Nt a) w → IsUseful productions start a
-  as_first : (left a : nt.Nt) (b : Symbol) (v w : List Letter) → IsUseful productions start left → Contains productions (record { left = left; right = Two (Nt a) b }) → Derives productions (Nt a) v → Derives productions b w → IsUseful productions start a
-  as_second : (left a : nt.Nt) (b : Symbol) (v w : List Letter) → IsUseful productions start left → Contains productions (record { left = left; right = Two b (Nt a) }) → Derives productions b v → Derives productions (Nt a) w → IsUseful productions start a
+  alone : (left a : nt.Nt) (w : List Letter) → IsUseful productions start left
+      → Contains productions (record { left = left; right = One (Nt a) }) → Derives productions (Nt a) w → IsUseful productions start a
+  as_first : (left a : nt.Nt) (b : Symbol) (v w : List Letter) → IsUseful productions start left
+      → Contains productions (record { left = left; right = Two (Nt a) b }) → Derives productions (Nt a) v → Derives productions b w
+      → IsUseful productions start a
+  as_second : (left a : nt.Nt) (b : Symbol) (v w : List Letter) → IsUseful productions start left
+      → Contains productions (record { left = left; right = Two b (Nt a) }) → Derives productions b v → Derives productions (Nt a) w
+      → IsUseful productions start a

@@ -3,6 +3,7 @@ use Rattle.std.specs.Prelude.{⊤, Option, Some, None}
 use Rattle.plain_values.specs.Plain.{Plain}
 use Rattle.plain_values.specs.Lawful.{IsValue}
 
+-- what may be left out is a value of a run where it stands
 abbrev pub IsMaybeValue : Option Plain → Type 0
 IsMaybeValue None = ⊤
 IsMaybeValue (Some v) = IsValue v

@@ -4,5 +4,6 @@ use Rattle.plain_values.specs.Text.{text_of}
 use Rattle.php_values.specs.View.{plain_list}
 use Rattle.php_values.specs.declared.array.Value.{Value}
 
+-- the text forms of values, one behind the other
 abbrev pub joined : List Value → List ℕ
 joined values = flat_map text_of (plain_list values)

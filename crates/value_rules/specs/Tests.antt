@@ -14,6 +14,7 @@ has_value d value = has_kind d.kind value && has_fixed d.presence value
 
 -- What private functions compute and promise of each other. Nobody has to believe it.
 
+-- the test of one word: a name, a name token, or one of an enumeration
 abbrev pub word_test : WordTest → List ℕ → Bool
 word_test Name word = is_name word
 word_test Token word = is_name_token word

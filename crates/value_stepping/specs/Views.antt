@@ -18,8 +18,10 @@ plain_next (Some v) = Some (plain_value v)
 abbrev pub choice_next : List ℕ → Bool → ℕ → Option value.OpenValue
 choice_next word spaced c = if is_blank c then Some (value.in_choice word (spaced || is_some word)) else choice_step word spaced c
 
+-- one character more among names or name tokens
 abbrev pub words_next : Kind → Bool → Bool → ℕ → Option value.OpenValue
 words_next kind inside one c = if is_blank c then Some (value.in_words false (inside || one)) else words_step kind inside one c
 
+-- behind the `;` of a reference, where it may end there
 abbrev pub reference_ended : List (List ℕ) → value.OpenReference → Option value.OpenValue
 reference_ended entities r = if reference_good entities r then Some value.in_text else None

@@ -42,6 +42,7 @@ ArePairs P pairs = (p x : ℕ) → Contains pairs (p, x) ↔ P p x
 abbrev pub used_pair : At → Aspect → (ℕ × ℕ) → Form SetName
 used_pair at b pair = used at pair.0 b pair.1
 
+-- the values of slots at points, one form for each pair
 abbrev pub used_pairs : At → List (ℕ × ℕ) → Aspect → Forms
 used_pairs at pairs b = map (used_pair at b) pairs
 

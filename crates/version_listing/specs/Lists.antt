@@ -17,5 +17,6 @@ FormStands told f g = Alike (StandsFor told) f g
 
 -- each form is that of a row, and each row's form is there
 pub record Lists (flow : PlainFlow) (linked : Linked) (at : Versioned) (m : VersionName) (forms : List (Form SetName)) : Type 0 where
-  pub each : (g : Form SetName) → Contains forms g → (f : Form VersionName) × VersionRow flow linked at m f × FormStands (told_keys flow) f g
+  pub each : (g : Form SetName) → Contains forms g
+      → (f : Form VersionName) × VersionRow flow linked at m f × FormStands (told_keys flow) f g
   pub all : (f : Form VersionName) → VersionRow flow linked at m f → (g : Form SetName) × Contains forms g × FormStands (told_keys flow) f g

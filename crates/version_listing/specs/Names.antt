@@ -28,7 +28,8 @@ point_of (Out p l) = Some p
 
 -- its forms, from the point; a set that belongs to no point has none here
 unfoldable pub forms_from : List PlainKey → List PlainFlowFunction → At → SetName → PlainPoint → Forms
-unfolding value_forms source_at joined_slots imploded_slots operation_of joined_forms piece_forms further_forms any_further_forms input_forms output_forms out_forms
+unfolding value_forms source_at joined_slots imploded_slots operation_of joined_forms piece_forms further_forms any_further_forms
+    input_forms output_forms out_forms
 forms_from told fs at (Value b (Point p)) k = value_forms told at p k b
 forms_from told fs at (Input p) k = input_forms at p (operation_of (source_at k))
 forms_from told fs at (Output p) k = output_forms p (operation_of (source_at k))

@@ -29,5 +29,6 @@ shown_forms v = same_form (Value (Own Text) v) ∷ where_form (codes "Array") (V
 abbrev pub link_form : Aspect → SetVersion → Form SetName
 link_form b w = same_form (Value b w)
 
+-- what a join takes over, one form for each version that it joins
 abbrev pub link_forms : List SetVersion → Aspect → Forms
 link_forms links b = map (link_form b) links

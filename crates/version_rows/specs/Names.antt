@@ -5,6 +5,7 @@ use Rattle.slot_versions.specs.Lawful.{reads}
 use Rattle.slot_versions.specs.Names.{Half, Aspect, Leaving, Name, set_of, use_of, all_of, shown_at, result_of, input_of, output_of, joined_from, piece_of, further_piece_of, further_pieces_of, out_of}
 use Rattle.slot_versions.specs.Versions.{PlainVersion, of_definition}
 
+-- a set of the analysis by versions
 pub data VersionName : Type 0 where
   -- of the value of a version
   value_of : Aspect → PlainVersion → VersionName

@@ -8,11 +8,14 @@ use Rattle.slot_versions.specs.Table.{Row}
 use Rattle.slot_versions.specs.Versions.{PlainVersion, join_at, Linked, Behind}
 use Rattle.version_rows.specs.Names.{VersionName, value_of, Versioned, by_version, is_use, ReadsSlot, IsRead}
 
--- each row as it was, with versions for slots at points; but a join takes over the versions that it joins, where a slot at a point took over the
+-- each row as it was, with versions for slots at points; but a join takes over the versions that it joins, where a slot at a point took
+-- over the
 -- definitions that reach it
 pub data VersionRow (flow : PlainFlow) (linked : Linked) (at : Versioned) : VersionName → Form VersionName → Type 0 where
-  by_row : (n : Name) (f : Form Name) → Row flow n f → is_use n ≡ false → IsRead flow n → VersionRow flow linked at (by_version at n) (renamed (by_version at) f)
-  joins : (a : Aspect) (p x : ℕ) (v : PlainVersion) → linked p x v → VersionRow flow linked at (value_of a (join_at p x)) (same_form (value_of a v))
+  by_row : (n : Name) (f : Form Name) → Row flow n f → is_use n ≡ false → IsRead flow n
+      → VersionRow flow linked at (by_version at n) (renamed (by_version at) f)
+  joins : (a : Aspect) (p x : ℕ) (v : PlainVersion) → linked p x v
+      → VersionRow flow linked at (value_of a (join_at p x)) (same_form (value_of a v))
 
 -- the definitions behind the version of a slot where it is read are those that reach the point
 pub record AreExact (flow : PlainFlow) (linked : Linked) (at : Versioned) : Type 0 where

@@ -1,5 +1,5 @@
 -- The document type definition of XHTML 1.0 Strict.
-use Rattle.std.specs.Prelude.{◌≡◌, ℕ, List, ◌++◌, Some, None, if◌then◌else◌, bytes_eq, codes}
+use Rattle.std.specs.Prelude.{◌≡◌, ℕ, List, ◌++◌, codes}
 use Rattle.dtd_model.specs.Table.{Table}
 use Rattle.dtd_model.specs.declared.dtd.DoctypeRule.TheVariants.{Strict, Free}
 use Rattle.dtd_texts.specs.Reading.{Content}
@@ -7,6 +7,7 @@ use Rattle.dtd_texts.specs.Spells.{DtdSpells}
 use Rattle.dtd_reader.specs.Source.{source_call}
 use Rattle.dtd_reader.specs.Refusals.{IsCause}
 use Rattle.dtd_reader.specs.declared.refusal.DtdRefusal.{DtdRefusal}
+use Rattle.xhtml_strict.specs.OneFile.{file_alone}
 use Rattle.xhtml_strict.specs.declared.declarations.TheConstants.{DECLARATIONS}
 use Rattle.xhtml_strict.specs.declared.entities.TheConstants.{ENTITIES}
 
@@ -20,7 +21,7 @@ file_name = codes "xhtml1-strict.dtd"
 
 -- there is this text of that name, and no other file
 abbrev pub only_file : List ℕ → Content
-only_file text name = Some (if bytes_eq name file_name then Some text else None)
+only_file = file_alone file_name
 
 -- the table that the text spells, for pages that declare XHTML 1.0 Strict (XHTML 1.0, 3.1.1)
 pub record IsStrict (text : List ℕ) (table : Table) : Type 0 where

@@ -4,12 +4,15 @@ ghost use Rattle.std.specs.Prelude.{IfOk, IfErr};
 ghost use Rattle.dtd_model.specs.TableOf.{table_of};
 ghost use Rattle.xhtml_strict.specs.Strict.{strict_bytes, IsStrict, IsRefused};
 
-use crate::one_file::{FILE_NAME, OneFile};
+use crate::one_file::OneFile;
 use crate::text::strict_text;
 use dtd_model::{DoctypeRule, Dtd};
 use dtd_reader::{DtdRefusal, read_dtd};
 use std::alloc::Global;
 use text_base::Bytes;
+
+/// The name of the one file.
+const FILE_NAME: &str = "xhtml1-strict.dtd";
 
 /// The document type definition that a text spells, for pages that have to declare XHTML 1.0 Strict
 /// (XHTML 1.0, 3.1.1).
@@ -22,6 +25,7 @@ pub fn read_strict(alloc: Global, text: Bytes) -> Result<Dtd, DtdRefusal>
     ensures refused { IfErr result (IsRefused text) }
 {
     let mut files = OneFile {
+        name: FILE_NAME,
         text,
         misses: 0,
         reads: 0,

@@ -9,4 +9,5 @@ mod one_file;
 mod text;
 
 pub use built_in::{read_strict, strict};
+pub use one_file::OneFile;
 pub use text::strict_text;

@@ -1,18 +1,18 @@
 //! A source of files with one file.
 
-ghost use Rattle.xhtml_strict.specs.Strict.{only_file};
+ghost use Rattle.xhtml_strict.specs.OneFile.{file_alone};
 
 use io_edge::{FileFault, Files};
 use std::alloc::Global;
 use text_base::Bytes;
 use text_base::limits::FILE_LIMIT;
 
-/// The name of the one file.
-pub const FILE_NAME: &str = "xhtml1-strict.dtd";
-
-/// A source that has this text under one name and no other file, and never fails.
+/// A source that has this text under this name and no other file, and never fails.
 #[derive(Drop)]
 pub struct OneFile {
+    /// The name of the file.
+    pub name: &'static str,
+    /// The bytes of the file.
     pub text: Bytes,
     /// How often it was asked for another name.
     pub misses: u64,
@@ -21,7 +21,7 @@ pub struct OneFile {
 }
 
 impl Files for OneFile {
-    ghost content = { λ f. only_file f.text };
+    ghost content = { λ f. file_alone f.name.now f.text };
 
     ghost faults = { λ f. 0 };
 
@@ -31,7 +31,7 @@ impl Files for OneFile {
 
     fn read(&mut self, alloc: Global, name: &str) -> Result<Bytes, FileFault> {
         self.reads = self.reads.saturating_add(1);
-        if name != FILE_NAME {
+        if name != self.name {
             self.misses = self.misses.saturating_add(1);
             return Err(FileFault::Missing);
         }

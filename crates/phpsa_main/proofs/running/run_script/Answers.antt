@@ -16,7 +16,8 @@ returns-in-Err-request_of g c =
     source_call (g.F.Files.content c.args.files.now) (g.F.Files.faults c.args.files.now) (g.F.Files.faults c.request_of.new.files) (g.F.Files.misses c.args.files.now) (g.F.Files.misses c.request_of.new.files) (g.F.Files.reads c.args.files.now) (g.F.Files.reads c.request_of.new.files) in
     let loaded = c.in-Ok.ensures.ok in
     let request = option_map (λ text. text.now) c.args.request in
-    lacks_request files c.args.file.now request c.args.steps (g.F.Files.reads c.load.new.source) (program_of c.in-Ok.program) c.in-Err-request_of.refusal
+    lacks_request files c.args.file.now request c.args.steps (g.F.Files.faults c.load.new.source) (g.F.Files.misses c.load.new.source) (g.F.Files.reads c.load.new.source)
+    (program_of c.in-Ok.program) c.in-Err-request_of.refusal loaded
     (c.loads_are_loaded.ensures
     (source_call (g.F.Files.content c.args.files.now) (g.F.Files.faults c.args.files.now) (g.F.Files.faults c.load.new.source) (g.F.Files.misses c.args.files.now) (g.F.Files.misses c.load.new.source) (g.F.Files.reads c.args.files.now) (g.F.Files.reads c.load.new.source))
     c.args.file.now (program_of c.in-Ok.program) loaded)

@@ -1,8 +1,8 @@
 use Rattle.std.proofs.Common.{refl, sym, subst}
 use Rattle.program_files.specs.Source.{source_call}
-use Rattle.phpsa_tasks.specs.Outcomes.{Does}
+use Rattle.phpsa_tasks.specs.Results.{Does}
 use Rattle.phpsa_tasks.specs.Views.{task_as}
-use Rattle.phpsa_main.proofs.doing.outcome_of.Goals as goal
+use Rattle.phpsa_main.proofs.doing.result_of.Goals as goal
 
 pub returns-in-ScriptMaking : goal.returns-in-ScriptMaking
 returns-in-ScriptMaking g c =
