@@ -1,10 +1,7 @@
 //! The lexer over large files of one kind each. Without a word on the command line it prints how
 //! many tokens each file has, and with the word `time` also how fast it is cut, beside a plain
-//! pass over the same bytes. Then the same of the reader of pages: how many states a page meets, and
-//! with the word how long a step takes.
+//! pass over the same bytes.
 #![tactic(auto)]
-
-mod pages;
 
 use anyhow::Result;
 use php_lexer::lex;
@@ -16,13 +13,8 @@ use std::time::Instant;
 /// How many bytes each file has at most.
 const BYTES: usize = 1_048_576;
 
-/// The head, then the middle as often as it fits, then the tail.
-pub fn file_of(
-    alloc: Global,
-    head: &[u8],
-    middle: &[u8],
-    tail: &[u8],
-) -> Result<Vec<u8>, AllocError> {
+// The head, then the middle as often as it fits, then the tail.
+fn file_of(alloc: Global, head: &[u8], middle: &[u8], tail: &[u8]) -> Result<Vec<u8>, AllocError> {
     let mut file = Vec::from_slice(alloc, head)?;
     for _ in 0..BYTES {
         if file
@@ -125,5 +117,5 @@ fn main(rt: HostRuntime) -> Result<()> {
         let file = file_of(alloc, head, middle, tail)?;
         report(&rt, kind, file.as_slice(), timed)?;
     }
-    pages::report(&rt, timed)
+    Ok(())
 }

@@ -1,11 +1,8 @@
 //! How long runs of scripts take: a few turns of each script without an argument, and with a number
 //! as an argument that many times as many and twice as many, with the seconds of the first and how
 //! many times as long the second run takes. The scripts stand in `scripts.txt` in the folder that it
-//! runs in, a line each: the turns, a name, and the script, in which `N` stands for the turns. Then how
-//! long the versions of a script take.
+//! runs in, a line each: the turns, a name, and the script, in which `N` stands for the turns.
 #![tactic(auto)]
-
-mod versions;
 
 use anyhow::{Context, Result};
 use io_edge::{DiskFiles, Files, MemFiles};
@@ -40,8 +37,7 @@ fn source_of(alloc: Global, script: &str) -> Result<MemFiles, NoMemory> {
     Ok(MemFiles::new(held, Vec::new(alloc)))
 }
 
-/// The program of a script, if it is one.
-pub fn program_of(alloc: Global, script: &str) -> Result<Option<Program>, NoMemory> {
+fn program_of(alloc: Global, script: &str) -> Result<Option<Program>, NoMemory> {
     let mut source = source_of(alloc, script)?;
     Ok(load(alloc, &mut source, "t.php").ok())
 }
@@ -134,5 +130,5 @@ fn main(rt: HostRuntime) -> Result<()> {
     for line in text.lines() {
         measure_line(&rt, line, asked)?;
     }
-    versions::measure(&rt, asked)
+    Ok(())
 }

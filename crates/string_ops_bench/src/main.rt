@@ -1,17 +1,13 @@
 //! Builds the machines of a search of a thousand bytes and of a cut of 1,024, and copies their
-//! tables; and puts grammars through the machines of three operations. Without an argument it prints
-//! how large the machines and the images are; with any word it prints too how much longer than the
-//! copy the building takes, and how long larger images take.
+//! tables. Without an argument it prints how large they are; with any word it prints too how much
+//! longer than the copy the building takes.
 #![tactic(auto)]
-
-mod images;
 
 ghost use Rattle.std.specs.Prelude.{◌≢◌, IfOk};
 ghost use Rattle.op_system.specs.declared.op.Op.TheVariants.{Any};
 
 use anyhow::Result;
 use fst_core::{Out, Table};
-use images::{Work, measure};
 use op_system::Op;
 use std::alloc::{AllocError, Global};
 use std::env;
@@ -20,12 +16,12 @@ use std::time::Instant;
 use string_ops::machine_of;
 use text_base::{Bytes, NoMemory};
 
-/// A search of so many bytes and one, whose fronts have many borders.
-fn search(alloc: Global, count: u32) -> Result<Op, NoMemory>
+/// A search whose fronts have many borders.
+fn search(alloc: Global) -> Result<Op, NoMemory>
     ensures { IfOk result (λ op. op ≢ Any) }
 {
     let mut search = Bytes::new(alloc);
-    for _ in 0..count {
+    for _ in 0..999u32 {
         search.push(b'a')?;
     }
     search.push(b'b')?;
@@ -66,21 +62,10 @@ fn figures(rt: &(impl Clock + AllocGlobal + Print), name: &str, op: &Op, timed: 
     Ok(())
 }
 
-/// Prints how large the images under the machine of an operation are, and how long they take.
-fn images(rt: &(impl Clock + AllocGlobal + Print), name: &str, op: &Op, timed: bool) -> Result<()>
-    requires { op.now ≢ Any }
-{
-    let table = machine_of(rt.alloc(), op)?;
-    for work in [Work::Chain, Work::Choices, Work::Texts] {
-        measure(rt, &table, name, work, timed)?;
-    }
-    Ok(())
-}
-
 fn main(rt: HostRuntime) -> Result<()> {
     let timed = env::args(&rt)?.nth(1).is_some();
-    let thousand = search(rt.alloc(), 999)?;
-    figures(&rt, "search of 1000 bytes", &thousand, timed)?;
+    let search = search(rt.alloc())?;
+    figures(&rt, "search of 1000 bytes", &search, timed)?;
     let cut = Op::Cut {
         start: 0,
         len: Some(1024),
@@ -91,13 +76,5 @@ fn main(rt: HostRuntime) -> Result<()> {
         len: None,
     };
     figures(&rt, "cut of the last 1024 bytes", &back, timed)?;
-    images(&rt, "escapes", &Op::Html, timed)?;
-    let twenty = search(rt.alloc(), 19)?;
-    images(&rt, "search of 20 bytes", &twenty, timed)?;
-    let front = Op::Cut {
-        start: 0,
-        len: Some(256),
-    };
-    images(&rt, "cut of 256 bytes", &front, timed)?;
     Ok(())
 }
