@@ -127,7 +127,25 @@ fn add(
     Ok(())
 }
 
-// One round over all that is asked for, from what was asked for last.
+// Adds what all productions of a nonterminal derive from a place on.
+fn add_all(
+    alloc: Global,
+    page: &[u8],
+    lines: &[Line],
+    found: &mut Found,
+    asked: &mut IndexSet<(u64, usize)>,
+    wanted: (u64, usize),
+) -> Result<(), NoMemory> {
+    for (place, line) in lines.iter().enumerate() {
+        if line.left == wanted.0 {
+            add(alloc, page, found, asked, (place, line), wanted.1)?;
+        }
+    }
+    Ok(())
+}
+
+// One round: over all that is asked for, also of what comes to be asked for meanwhile, and back
+// from what was asked for last.
 fn round(
     alloc: Global,
     page: &[u8],
@@ -135,16 +153,18 @@ fn round(
     found: &mut Found,
     asked: &mut IndexSet<(u64, usize)>,
 ) -> Result<(), NoMemory> {
+    for place in 0..100_000usize {
+        let Some(wanted) = asked.get_index(place).copied() else {
+            break;
+        };
+        add_all(alloc, page, lines, found, asked, wanted)?;
+    }
     let count = asked.len();
     for back in 0..count {
-        let Some((left, from)) = asked.get_index(count - 1 - back).copied() else {
-            return Ok(());
+        let Some(wanted) = asked.get_index(count - 1 - back).copied() else {
+            break;
         };
-        for (place, line) in lines.iter().enumerate() {
-            if line.left == left {
-                add(alloc, page, found, asked, (place, line), from)?;
-            }
-        }
+        add_all(alloc, page, lines, found, asked, wanted)?;
     }
     Ok(())
 }
