@@ -1,2 +1,1 @@
 pub mod DocumentTypes
-pub use Rattle.xhtml_strict.specs.OneFile

@@ -11,4 +11,3 @@ mod refusal;
 
 pub use document_type::DocumentType;
 pub use refusal::DefinitionRefusal;
-pub use xhtml_strict::OneFile;

@@ -20,6 +20,7 @@ mod doing;
 mod grammars;
 mod made;
 mod making;
+mod one_script;
 mod page;
 mod report;
 mod running;

@@ -1,11 +1,10 @@
 -- What a task speaks of: a program, or a page, that stands under the name of a file, and the table of a definition.
-use Rattle.std.specs.Prelude.{◌⊎◌, ℕ, List, Some, codes, ⊤}
+use Rattle.std.specs.Prelude.{◌⊎◌, ℕ, List, None, Some, if◌then◌else◌, bytes_eq, codes, ⊤}
 use Rattle.io_edge.specs.Told.{Tells}
 use Rattle.script_meaning.specs.Programs.{PlainProgram}
 use Rattle.script_meaning.specs.Requests.{PlainRequest, Admitted}
 use Rattle.told_programs.specs.Told.{Content, IsLoaded, HoldsProgram, AreShort}
 use Rattle.dtd_model.specs.Table.{Table}
-use Rattle.document_types.specs.OneFile.{file_alone}
 use Rattle.document_types.specs.DocumentTypes.{NamedType, strict_type, HasTable, NamesAreTold, NamesAreShort, IsTooLarge}
 use Rattle.shown_answers.specs.Decision.{HasManyStates}
 use Rattle.script_maker.specs.Made.{made, IsSize}
@@ -34,7 +33,7 @@ made_name = codes "made.php"
 
 -- a source that has a file of this name alone, with this text
 abbrev pub only_script : List ℕ → Content
-only_script = file_alone made_name
+only_script text name = Some (if bytes_eq name made_name then Some text else None)
 
 -- a source that has the generated script of so many functions alone
 abbrev pub only_made : ℕ → Content
@@ -112,7 +111,8 @@ abbrev pub HoldsDefinition : Content → NamedType → Type 0
 HoldsDefinition content document_type = (table : Table) × HoldsTable content document_type table × IsSmall content document_type table
 
 -- the document type has a table, where there is one to ask for, and under the file's name nothing is found, or no request under its own; or
--- there is no generated script of this size
+-- there is no
+-- generated script of this size
 abbrev pub LacksFile : Content → Task → Type 0
 LacksFile content (script_check file document_type goal limit form) =
     HoldsDefinition content document_type × ((program : PlainProgram) → IsLoaded content file program → ⊥)
