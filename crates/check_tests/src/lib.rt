@@ -10,15 +10,11 @@ mod decided;
 #[cfg(test)]
 mod definitions;
 #[cfg(test)]
-mod derived;
-#[cfg(test)]
 mod ending;
 #[cfg(test)]
 mod grammars;
 #[cfg(test)]
 mod hostile;
-#[cfg(test)]
-mod passed;
 #[cfg(test)]
 mod programs;
 #[cfg(test)]
