@@ -1,5 +1,6 @@
 -- The places of the files that a file includes.
 use Rattle.std.proofs.Common.{◌≡◌, ◌∙◌, ◌<◌, ◌≤◌, ◌+◌, ℕ, zero, suc, List, [], ◌∷◌, ◌++◌, length, drop, get_or, Option, Some, None, slice_get, append_assoc, inl, inr, refl, sym, ap, subst, arith, length-append}
+use Rattle.std.proofs.lemmas.List.{append-nil, drop_more, drop_all}
 use Rattle.std.specs.Prelude.{◌⊎◌}
 use Rattle.std.specs.List.{Contains}
 use Rattle.std.specs.declared.vec.Vec.{Vec}
@@ -41,38 +42,23 @@ named files (p ∷ ps) place c = elim (put_cases (place_of files p) (places_of f
 ]
 
 -- what is left of a list from a place on
-drop_here : {X : Type 0} (xs : List X) (i : ℕ) (x : X) → i < length xs → x ≡ get_or xs i x → drop i xs ≡ x ∷ drop (suc i) xs
-drop_here [] i x lt is = absurd (omega arith)
-drop_here (y ∷ ys) zero x lt is = ap (λ z. z ∷ ys) (sym is)
-drop_here (y ∷ ys) (suc i) x lt is = drop_here ys i x (omega arith) is
-
-drop_past : {X : Type 0} (xs : List X) (i : ℕ) → length xs ≤ i → drop i xs ≡ []
-drop_past [] zero le = refl
-drop_past [] (suc i) le = refl
-drop_past (y ∷ ys) zero le = absurd (omega arith)
-drop_past (y ∷ ys) (suc i) le = drop_past ys i (omega arith)
-
-nothing_behind : (xs : List ℕ) → xs ++ [] ≡ xs
-nothing_behind [] = refl
-nothing_behind (x ∷ xs) = ap (λ (ys : List ℕ). x ∷ ys) (nothing_behind xs)
+drop_here : {X : Type 0} (xs : List X) (i : ℕ) (x : X) → i < length xs → x ≡ get_or xs i x → drop i xs ≡ x ∷ drop (i + 1) xs
+drop_here xs i x lt is = drop_more xs i x lt ∙ ap (λ z. z ∷ drop (i + 1) xs) (sym is)
 
 -- a loop over paths: what is found, before what is left to find
 pub found_none : (files : List ReadFile) (paths : List (List ℕ)) (found : List ℕ) (i : ℕ) (path : List ℕ) → i < length paths → path ≡ get_or paths i path → place_of files path ≡ None
     → found ++ places_of files (drop i paths) ≡ places_of files paths → found ++ places_of files (drop (i + 1) paths) ≡ places_of files paths
 found_none files paths found i path lt is none inv =
-    let e : suc i ≡ i + 1 = omega arith in
-    ap (λ (k : ℕ). found ++ places_of files (drop k paths)) (sym e)
-    ∙ sym (ap (λ (ps : List (List ℕ)). found ++ places_of files ps) (drop_here paths i path lt is) ∙ ap (λ (o : Option ℕ). found ++ with_place o (places_of files (drop (suc i) paths))) none) ∙ inv
+    sym (ap (λ (ps : List (List ℕ)). found ++ places_of files ps) (drop_here paths i path lt is) ∙ ap (λ (o : Option ℕ). found ++ with_place o (places_of files (drop (i + 1) paths))) none) ∙ inv
 
 pub found_one : (files : List ReadFile) (paths : List (List ℕ)) (found more : List ℕ) (i : ℕ) (path : List ℕ) (place : ℕ) → i < length paths → path ≡ get_or paths i path → place_of files path ≡ Some place
     → more ≡ found ++ place ∷ [] → found ++ places_of files (drop i paths) ≡ places_of files paths → more ++ places_of files (drop (i + 1) paths) ≡ places_of files paths
 found_one files paths found more i path place lt is one push inv =
-    let e : suc i ≡ i + 1 = omega arith in
-    ap (λ (k : ℕ). more ++ places_of files (drop k paths)) (sym e) ∙ ap (λ (xs : List ℕ). xs ++ places_of files (drop (suc i) paths)) push ∙ append_assoc found (place ∷ []) (places_of files (drop (suc i) paths))
-    ∙ sym (ap (λ (ps : List (List ℕ)). found ++ places_of files ps) (drop_here paths i path lt is) ∙ ap (λ (o : Option ℕ). found ++ with_place o (places_of files (drop (suc i) paths))) one) ∙ inv
+    ap (λ (xs : List ℕ). xs ++ places_of files (drop (i + 1) paths)) push ∙ append_assoc found (place ∷ []) (places_of files (drop (i + 1) paths))
+    ∙ sym (ap (λ (ps : List (List ℕ)). found ++ places_of files ps) (drop_here paths i path lt is) ∙ ap (λ (o : Option ℕ). found ++ with_place o (places_of files (drop (i + 1) paths))) one) ∙ inv
 
 pub found_all : (files : List ReadFile) (paths : List (List ℕ)) (found : List ℕ) (i : ℕ) → length paths ≤ i → found ++ places_of files (drop i paths) ≡ places_of files paths → found ≡ places_of files paths
-found_all files paths found i le inv = sym (nothing_behind found) ∙ sym (ap (λ (ps : List (List ℕ)). found ++ places_of files ps) (drop_past paths i le)) ∙ inv
+found_all files paths found i le inv = sym (append-nil found) ∙ sym (ap (λ (ps : List (List ℕ)). found ++ places_of files ps) (drop_all i paths le)) ∙ inv
 
 -- the edges of the first files
 pub record AreFirstEdges (files : List ReadFile) (edges : List (Vec ℕ Global)) (n : ℕ) : Type 0 where

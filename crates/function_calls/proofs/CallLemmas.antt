@@ -1,6 +1,6 @@
 -- The calls of files, one after another.
 use Rattle.std.proofs.Common.{◌≡◌, ◌∙◌, ◌≤◌, ℕ, zero, suc, ◌+◌, List, [], ◌∷◌, ◌++◌, length, drop, Option, Some, None, option_map, slice_get, append_assoc, refl, sym, ap, arith}
-use Rattle.std.proofs.lemmas.List.{append-nil}
+use Rattle.std.proofs.lemmas.List.{append-nil, drop_all}
 use Rattle.std.proofs.lemmas.Option.{same_Some}
 use Rattle.php_syntax.specs.declared.tree.FileTree.{FileTree}
 use Rattle.php_syntax.specs.Trees.{PlainFile, plain_file, stmts_of, functions_of_list}
@@ -17,12 +17,6 @@ drop_file [] k file e = absurd (cc)
 drop_file (f ∷ fs) zero file e = ap (λ (g : ReadFile). g ∷ fs) (same_Some f file e)
 drop_file (f ∷ fs) (suc k) file e = drop_file fs k file e
 
-pub drop_past : {X : Type 0} (xs : List X) (i : ℕ) → length xs ≤ i → drop i xs ≡ []
-drop_past [] zero le = refl
-drop_past [] (suc i) le = refl
-drop_past (y ∷ ys) zero le = absurd (omega arith)
-drop_past (y ∷ ys) (suc i) le = drop_past ys i (omega arith)
-
 pub calls_step : (files : List ReadFile) (place : ℕ) (tree : FileTree) (old new init : List PlainCall) → Some (plain_file tree) ≡ option_map (λ (file : ReadFile). file.tree) (slice_get files place)
     → new ≡ old ++ (statement_calls (stmts_of tree.body.items) ++ function_calls (functions_of_list tree.functions.items)) → old ++ calls_in_files (drop place files) ≡ init → new ++ calls_in_files (drop (place + 1) files) ≡ init
 unfolding calls_in_files
@@ -36,4 +30,4 @@ calls_step files place tree old new init own push inv =
 
 pub calls_end : (files : List ReadFile) (place : ℕ) (old init : List PlainCall) → length files ≤ place → old ++ calls_in_files (drop place files) ≡ init → old ≡ init
 unfolding calls_in_files
-calls_end files place old init le inv = sym (append-nil old) ∙ sym (ap (λ (fs : List ReadFile). old ++ calls_in_files fs) (drop_past files place le)) ∙ inv
+calls_end files place old init le inv = sym (append-nil old) ∙ sym (ap (λ (fs : List ReadFile). old ++ calls_in_files fs) (drop_all place files le)) ∙ inv

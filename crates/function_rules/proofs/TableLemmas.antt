@@ -3,7 +3,7 @@ use Rattle.std.proofs.Common.{◌≡◌, ◌∙◌, ◌<◌, ◌≤◌, ◌+◌,
 use Rattle.std.specs.Prelude.{MatchOption, bytes_eq}
 use Rattle.std.specs.Cmp.Lexicographic.{pointwise, bytes_decides}
 use Rattle.std.specs.Map.{lookup}
-use Rattle.std.proofs.lemmas.List.{append-nil, drop_more}
+use Rattle.std.proofs.lemmas.List.{append-nil, drop_more, drop_all}
 use Rattle.indexmap.specs.IndexMap.{IndexMap, get}
 use Rattle.php_syntax.specs.declared.tree.FileTree.{FileTree}
 use Rattle.php_syntax.specs.declared.tree.FunctionDef.{FunctionDef}
@@ -14,7 +14,7 @@ use Rattle.program_rules.specs.Programs.{ReadFile, functions_in}
 use Rattle.program_rules.specs.Rules.{is_there, DefinesTwice}
 use Rattle.function_calls.specs.declared.arity.Numbers.{Numbers}
 use Rattle.function_calls.specs.Arguments.{AreNumbersOf}
-use Rattle.function_calls.proofs.CallLemmas.{tree_of, drop_file, drop_past}
+use Rattle.function_calls.proofs.CallLemmas.{tree_of, drop_file}
 use Rattle.function_rules.specs.Table.{IsTable, Takes, HasPut}
 use Rattle.function_rules.proofs.NameLemmas.{push_new, push_other, once_push, builtin_twice, again_twice}
 
@@ -117,7 +117,7 @@ table_step rows files place tree functions all same own has = subst (λ (fs : Li
 
 pub table_end : {S : Type 0} (rows : IndexMap (List ℕ) Numbers S) (files : List ReadFile) (place : ℕ) (all : List PlainFunction) → length files ≤ place → HasPut rows (functions_in (drop place files)) all → HasPut rows [] all
 unfolding functions_in
-table_end rows files place all le has = subst (λ (fs : List ReadFile). HasPut rows (functions_in fs) all) (drop_past files place le) has
+table_end rows files place all le has = subst (λ (fs : List ReadFile). HasPut rows (functions_in fs) all) (drop_all place files le) has
 
 pub tree_there : (files : List ReadFile) (place : ℕ) → place < length files → None ≡ option_map (λ (file : ReadFile). file.tree) (slice_get files place) → ⊥
 tree_there [] place lt e = omega arith

@@ -1,5 +1,7 @@
 -- Arms that are copied, before those that are left.
-use Rattle.std.proofs.Common.{◌≡◌, ◌∙◌, ℕ, zero, suc, drop, arith, ◌≤◌, ◌+◌, ◌<◌, List, [], ◌∷◌, ◌++◌, length, get_or, refl, sym, ap}
+use Rattle.std.proofs.Common.{◌≡◌, ◌∙◌, ℕ, drop, ◌≤◌, ◌+◌, ◌<◌, List, [], ◌∷◌, ◌++◌, length, get_or, refl, sym, ap}
+use Rattle.std.proofs.lemmas.List.{drop_all}
+use Rattle.tree_copies.proofs.CopyLemmas.{drop_here}
 use Rattle.std.specs.declared.vec.Vec.{Vec}
 use Rattle.std.specs.declared.alloc.Global.{Global}
 use Rattle.php_syntax.specs.declared.tree.Expr.{Expr}
@@ -22,20 +24,6 @@ arms_then_none : (xs : List Arm) → arms_then xs no_arms ≡ arms_of xs
 arms_then_none [] = refl
 arms_then_none (y ∷ ys) = ap (more_arms (plain_expr y.0) (stmts_of y.1.items)) (arms_then_none ys)
 
-drop_core : {X : Type 0} (xs : List X) (i : ℕ) (x : X) → i < length xs → x ≡ get_or xs i x → drop i xs ≡ x ∷ drop (suc i) xs
-drop_core [] i x lt is = absurd (omega arith)
-drop_core (y ∷ ys) zero x lt is = ap (λ z. z ∷ ys) (sym is)
-drop_core (y ∷ ys) (suc i) x lt is = drop_core ys i x (omega arith) is
-
-drop_here : {X : Type 0} (xs : List X) (i : ℕ) (x : X) → i < length xs → x ≡ get_or xs i x → drop i xs ≡ x ∷ drop (i + 1) xs
-drop_here xs i x lt is = let e : suc i ≡ i + 1 = omega arith in drop_core xs i x lt is ∙ ap (λ (k : ℕ). x ∷ drop k xs) e
-
-drop_past : {X : Type 0} (xs : List X) (i : ℕ) → length xs ≤ i → drop i xs ≡ []
-drop_past [] zero le = refl
-drop_past [] (suc i) le = refl
-drop_past (y ∷ ys) zero le = absurd (omega arith)
-drop_past (y ∷ ys) (suc i) le = drop_past ys i (omega arith)
-
 pub arms_step : (bodies : List ℕ → PlainStmts) (xs old new : List Arm) (i : ℕ) (x : Arm) (test : Expr) (body : Vec Stmt Global) → i < length xs → x ≡ get_or xs i x → plain_expr test ≡ plain_expr x.0 → stmts_of body.items ≡ with_bodies bodies (stmts_of x.1.items)
     → new ≡ old ++ (test, body) ∷ [] → arms_then old (with_bodies_in_arms bodies (arms_of (drop i xs))) ≡ with_bodies_in_arms bodies (arms_of xs) → arms_then new (with_bodies_in_arms bodies (arms_of (drop (i + 1) xs))) ≡ with_bodies_in_arms bodies (arms_of xs)
 unfolding with_bodies
@@ -51,4 +39,4 @@ arms_begin bodies (x ∷ xs) none e = ap (λ (v : List Arm). arms_then v (with_b
 
 pub arms_end : (bodies : List ℕ → PlainStmts) (xs old : List Arm) (i : ℕ) → length xs ≤ i → arms_then old (with_bodies_in_arms bodies (arms_of (drop i xs))) ≡ with_bodies_in_arms bodies (arms_of xs) → arms_of old ≡ with_bodies_in_arms bodies (arms_of xs)
 unfolding with_bodies
-arms_end bodies xs old i le inv = sym (arms_then_none old) ∙ sym (ap (λ (l : List Arm). arms_then old (with_bodies_in_arms bodies (arms_of l))) (drop_past xs i le)) ∙ inv
+arms_end bodies xs old i le inv = sym (arms_then_none old) ∙ sym (ap (λ (l : List Arm). arms_then old (with_bodies_in_arms bodies (arms_of l))) (drop_all i xs le)) ∙ inv

@@ -1,5 +1,7 @@
 -- Loops over statements, functions and files.
 use Rattle.std.proofs.Common.{◌≡◌, ◌∙◌, ℕ, zero, suc, ◌+◌, ◌<◌, ◌≤◌, Bool, true, false, if◌then◌else◌, List, [], ◌∷◌, ◌++◌, length, drop, get_or, map, Option, Some, None, option_map, slice_get, append_assoc, refl, sym, ap, subst, arith}
+use Rattle.std.proofs.lemmas.List.{drop_all}
+use Rattle.tree_copies.proofs.CopyLemmas.{drop_here}
 use Rattle.std.specs.Prelude.{◌||◌, bytes_eq}
 use Rattle.std.proofs.lemmas.Option.{same_Some}
 use Rattle.php_syntax.specs.declared.tree.Stmt.{Stmt}
@@ -63,20 +65,6 @@ body_below files place tree own =
     let P : PlainFile → Type 0 = λ t. stmts_height t.body_of ≤ tallest files in
     subst P (sym f.2) (below_tallest files place f.0 f.1)
 
-drop_core : {X : Type 0} (xs : List X) (i : ℕ) (x : X) → i < length xs → x ≡ get_or xs i x → drop i xs ≡ x ∷ drop (suc i) xs
-drop_core [] i x lt is = absurd (omega arith)
-drop_core (y ∷ ys) zero x lt is = ap (λ z. z ∷ ys) (sym is)
-drop_core (y ∷ ys) (suc i) x lt is = drop_core ys i x (omega arith) is
-
-drop_here : {X : Type 0} (xs : List X) (i : ℕ) (x : X) → i < length xs → x ≡ get_or xs i x → drop i xs ≡ x ∷ drop (i + 1) xs
-drop_here xs i x lt is = let e : suc i ≡ i + 1 = omega arith in drop_core xs i x lt is ∙ ap (λ (k : ℕ). x ∷ drop k xs) e
-
-drop_past : {X : Type 0} (xs : List X) (i : ℕ) → length xs ≤ i → drop i xs ≡ []
-drop_past [] zero le = refl
-drop_past [] (suc i) le = refl
-drop_past (y ∷ ys) zero le = absurd (omega arith)
-drop_past (y ∷ ys) (suc i) le = drop_past ys i (omega arith)
-
 pub stmts_step : (bodies : List ℕ → PlainStmts) (xs : List Stmt) (i : ℕ) (x : Stmt) (old new init : PlainStmts) → i < length xs → x ≡ get_or xs i x → new ≡ followed_by old (with_bodies_in bodies (plain_stmt x))
     → followed_by old (with_bodies bodies (stmts_of (drop i xs))) ≡ init → followed_by new (with_bodies bodies (stmts_of (drop (i + 1) xs))) ≡ init
 unfolding with_bodies
@@ -87,7 +75,7 @@ stmts_step bodies xs i x old new init lt is push inv =
 
 pub stmts_end : (bodies : List ℕ → PlainStmts) (xs : List Stmt) (i : ℕ) (old init : PlainStmts) → length xs ≤ i → followed_by old (with_bodies bodies (stmts_of (drop i xs))) ≡ init → old ≡ init
 unfolding with_bodies
-stmts_end bodies xs i old init le inv = sym (followed-none old) ∙ sym (ap (λ (l : List Stmt). followed_by old (with_bodies bodies (stmts_of l))) (drop_past xs i le)) ∙ inv
+stmts_end bodies xs i old init le inv = sym (followed-none old) ∙ sym (ap (λ (l : List Stmt). followed_by old (with_bodies bodies (stmts_of l))) (drop_all i xs le)) ∙ inv
 
 list_append : (xs ys : List FunctionDef) → functions_of_list (xs ++ ys) ≡ functions_of_list xs ++ functions_of_list ys
 list_append [] ys = refl

@@ -1,5 +1,6 @@
 -- Loops over parts: the size so far, and that of what is left.
-use Rattle.std.proofs.Common.{◌≡◌, ◌∙◌, ◌<◌, ◌≤◌, ℕ, zero, suc, ◌+◌, max, List, [], ◌∷◌, length, drop, get_or, refl, sym, ap, subst, arith}
+use Rattle.std.proofs.Common.{◌≡◌, ◌∙◌, ◌<◌, ◌≤◌, ℕ, ◌+◌, max, List, [], ◌∷◌, length, drop, get_or, refl, sym, ap, subst, arith}
+use Rattle.std.proofs.lemmas.List.{drop_more, drop_all}
 use Rattle.std.specs.Prelude.{Option}
 use Rattle.std.specs.declared.vec.Vec.{Vec}
 use Rattle.std.specs.declared.alloc.Global.{Global}
@@ -45,19 +46,8 @@ pub begin_at : {X : Type 0} (f : List X → Size) (xs : List X) (size : Size) �
 begin_at f xs size e = let P : Size → Type 0 = λ rest. SoFar size rest (f xs) in subst P (sym (ap f (drop_none xs))) (begin size (f xs) e)
 
 -- what is left, from a place that there is, and from the end on
-drop_core : {X : Type 0} (xs : List X) (i : ℕ) (x : X) → i < length xs → x ≡ get_or xs i x → drop i xs ≡ x ∷ drop (suc i) xs
-drop_core [] i x lt is = absurd (omega arith)
-drop_core (y ∷ ys) zero x lt is = ap (λ z. z ∷ ys) (sym is)
-drop_core (y ∷ ys) (suc i) x lt is = drop_core ys i x (omega arith) is
-
 pub drop_here : {X : Type 0} (xs : List X) (i : ℕ) (x : X) → i < length xs → x ≡ get_or xs i x → drop i xs ≡ x ∷ drop (i + 1) xs
-drop_here xs i x lt is = let e : suc i ≡ i + 1 = omega arith in drop_core xs i x lt is ∙ ap (λ (k : ℕ). x ∷ drop k xs) e
-
-pub drop_past : {X : Type 0} (xs : List X) (i : ℕ) → length xs ≤ i → drop i xs ≡ []
-drop_past [] zero le = refl
-drop_past [] (suc i) le = refl
-drop_past (y ∷ ys) zero le = absurd (omega arith)
-drop_past (y ∷ ys) (suc i) le = drop_past ys i (omega arith)
+drop_here xs i x lt is = drop_more xs i x lt ∙ ap (λ z. z ∷ drop (i + 1) xs) (sym is)
 
 pub exprs_left : (xs : List Expr) (i : ℕ) (x : Expr) → i < length xs → x ≡ get_or xs i x → sizes.of_exprs (exprs_of (drop i xs)) ≡ sizes.beside (sizes.of_expr (plain_expr x)) (sizes.of_exprs (exprs_of (drop (i + 1) xs)))
 unfolding nodes height
@@ -65,7 +55,7 @@ exprs_left xs i x lt is = ap (λ (l : List Expr). sizes.of_exprs (exprs_of l)) (
 
 pub no_exprs_left : (xs : List Expr) (i : ℕ) → length xs ≤ i → sizes.of_exprs (exprs_of (drop i xs)) ≡ sizes.none
 unfolding nodes height
-no_exprs_left xs i le = ap (λ (l : List Expr). sizes.of_exprs (exprs_of l)) (drop_past xs i le)
+no_exprs_left xs i le = ap (λ (l : List Expr). sizes.of_exprs (exprs_of l)) (drop_all i xs le)
 
 item_first : (a b c d e f : ℕ) → sizes.of (a + b + c) (max d (max e f)) ≡ sizes.beside (sizes.beside (sizes.of a d) (sizes.of b e)) (sizes.of c f)
 item_first a b c d e f = same_size (sizes.of (a + b + c) (max d (max e f))) (sizes.beside (sizes.beside (sizes.of a d) (sizes.of b e)) (sizes.of c f)) refl refl (omega arith)
@@ -80,7 +70,7 @@ items_left xs i x lt is =
 
 pub no_items_left : (xs : List (Option Expr × Expr)) (i : ℕ) → length xs ≤ i → sizes.of_items (items_of (drop i xs)) ≡ sizes.none
 unfolding nodes height
-no_items_left xs i le = ap (λ (l : List (Option Expr × Expr)). sizes.of_items (items_of l)) (drop_past xs i le)
+no_items_left xs i le = ap (λ (l : List (Option Expr × Expr)). sizes.of_items (items_of l)) (drop_all i xs le)
 
 pub keys_left : (xs : List (Option Expr)) (i : ℕ) (x : Option Expr) → i < length xs → x ≡ get_or xs i x → sizes.of_path (path_of (drop i xs)) ≡ sizes.beside (sizes.of_maybe (maybe_of x)) (sizes.of_path (path_of (drop (i + 1) xs)))
 unfolding nodes height
@@ -88,7 +78,7 @@ keys_left xs i x lt is = ap (λ (l : List (Option Expr)). sizes.of_path (path_of
 
 pub no_keys_left : (xs : List (Option Expr)) (i : ℕ) → length xs ≤ i → sizes.of_path (path_of (drop i xs)) ≡ sizes.none
 unfolding nodes height
-no_keys_left xs i le = ap (λ (l : List (Option Expr)). sizes.of_path (path_of l)) (drop_past xs i le)
+no_keys_left xs i le = ap (λ (l : List (Option Expr)). sizes.of_path (path_of l)) (drop_all i xs le)
 
 pub stmts_left : (table : List ℕ → Size) (xs : List Stmt) (i : ℕ) (x : Stmt) → i < length xs → x ≡ get_or xs i x → sizes.of_stmts table (stmts_of (drop i xs)) ≡ sizes.beside (sizes.of_stmt table (plain_stmt x)) (sizes.of_stmts table (stmts_of (drop (i + 1) xs)))
 unfolding sizes.of_stmts
@@ -96,7 +86,7 @@ stmts_left table xs i x lt is = ap (λ (l : List Stmt). sizes.of_stmts table (st
 
 pub no_stmts_left : (table : List ℕ → Size) (xs : List Stmt) (i : ℕ) → length xs ≤ i → sizes.of_stmts table (stmts_of (drop i xs)) ≡ sizes.none
 unfolding sizes.of_stmts
-no_stmts_left table xs i le = ap (λ (l : List Stmt). sizes.of_stmts table (stmts_of l)) (drop_past xs i le)
+no_stmts_left table xs i le = ap (λ (l : List Stmt). sizes.of_stmts table (stmts_of l)) (drop_all i xs le)
 
 pub arms_left : (table : List ℕ → Size) (xs : List (Expr × Vec Stmt Global)) (i : ℕ) (x : Expr × Vec Stmt Global) → i < length xs → x ≡ get_or xs i x
     → sizes.of_arms table (arms_of (drop i xs)) ≡ sizes.beside (sizes.beside (sizes.of_expr (plain_expr x.0)) (sizes.of_stmts table (stmts_of x.1.items))) (sizes.of_arms table (arms_of (drop (i + 1) xs)))
@@ -105,7 +95,7 @@ arms_left table xs i x lt is = ap (λ (l : List (Expr × Vec Stmt Global)). size
 
 pub no_arms_left : (table : List ℕ → Size) (xs : List (Expr × Vec Stmt Global)) (i : ℕ) → length xs ≤ i → sizes.of_arms table (arms_of (drop i xs)) ≡ sizes.none
 unfolding sizes.of_stmts
-no_arms_left table xs i le = ap (λ (l : List (Expr × Vec Stmt Global)). sizes.of_arms table (arms_of l)) (drop_past xs i le)
+no_arms_left table xs i le = ap (λ (l : List (Expr × Vec Stmt Global)). sizes.of_arms table (arms_of l)) (drop_all i xs le)
 
 pub params_left : (xs : List Param) (i : ℕ) (x : Param) → i < length xs → x ≡ get_or xs i x → sizes.of_params (params_of_list (drop i xs)) ≡ sizes.beside (sizes.above (sizes.of_maybe (maybe_of x.default))) (sizes.of_params (params_of_list (drop (i + 1) xs)))
 unfolding sizes.of_params
@@ -113,7 +103,7 @@ params_left xs i x lt is = ap (λ (l : List Param). sizes.of_params (params_of_l
 
 pub no_params_left : (xs : List Param) (i : ℕ) → length xs ≤ i → sizes.of_params (params_of_list (drop i xs)) ≡ sizes.none
 unfolding sizes.of_params
-no_params_left xs i le = ap (λ (l : List Param). sizes.of_params (params_of_list l)) (drop_past xs i le)
+no_params_left xs i le = ap (λ (l : List Param). sizes.of_params (params_of_list l)) (drop_all i xs le)
 
 pub functions_left : (table : List ℕ → Size) (xs : List FunctionDef) (i : ℕ) (x : FunctionDef) → i < length xs → x ≡ get_or xs i x
     → sizes.of_functions table (functions_of_list (drop i xs)) ≡ sizes.beside (sizes.above (sizes.beside (sizes.of_params (params_of_list x.params.items)) (sizes.of_stmts table (stmts_of x.body.items)))) (sizes.of_functions table (functions_of_list (drop (i + 1) xs)))
@@ -122,4 +112,4 @@ functions_left table xs i x lt is = ap (λ (l : List FunctionDef). sizes.of_func
 
 pub no_functions_left : (table : List ℕ → Size) (xs : List FunctionDef) (i : ℕ) → length xs ≤ i → sizes.of_functions table (functions_of_list (drop i xs)) ≡ sizes.none
 unfolding sizes.of_functions
-no_functions_left table xs i le = ap (λ (l : List FunctionDef). sizes.of_functions table (functions_of_list l)) (drop_past xs i le)
+no_functions_left table xs i le = ap (λ (l : List FunctionDef). sizes.of_functions table (functions_of_list l)) (drop_all i xs le)

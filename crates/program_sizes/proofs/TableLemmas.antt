@@ -3,6 +3,7 @@ use Rattle.std.proofs.Common.{◌≡◌, ◌∙◌, ◌≤◌, ◌<◌, ℕ, zer
 use Rattle.std.specs.Prelude.{◌⊎◌}
 use Rattle.std.specs.List.{Contains}
 use Rattle.std.proofs.lemmas.Grind.{common_steps}
+use Rattle.std.proofs.lemmas.List.{drop_all}
 use Rattle.std.proofs.lemmas.List.Elements.{Contains-append_left, Contains-append_right, Contains-append_cases}
 use Rattle.std.proofs.lemmas.Option.{same_Some, slice_get-map, slice_get-get_or, slice_get_within}
 use Rattle.include_order.proofs.ListLemmas.{set_at}
@@ -27,7 +28,6 @@ use Rattle.program_sizes.specs.Limits.{program_places, PassesLimit}
 use Rattle.program_sizes.proofs.SizeLemmas.{same_size, within_capped}
 use Rattle.program_sizes.proofs.CappedLemmas.{capped_stmts, capped_program}
 use Rattle.program_sizes.proofs.BodyLemmas.{body_sized, program_sized, functions_append}
-use Rattle.program_sizes.proofs.LoopLemmas.{drop_past}
 
 same_or_not : (a b : ℕ) → (a ≡ b) ⊎ (a ≡ b → ⊥)
 same_or_not zero zero = inl refl
@@ -195,7 +195,7 @@ files_left table files place tree functions own same =
 
 pub no_files_left : (table : List ℕ → Size) (files : List ReadFile) (place : ℕ) → length files ≤ place → sizes.of_functions table (functions_in (drop place files)) ≡ sizes.none
 unfolding functions_in sizes.of_functions
-no_files_left table files place le = ap (λ (fs : List ReadFile). sizes.of_functions table (functions_in fs)) (drop_past files place le)
+no_files_left table files place le = ap (λ (fs : List ReadFile). sizes.of_functions table (functions_in fs)) (drop_all place files le)
 
 -- what the functions of files include, a file includes
 functions_include : (fs gs : List PlainFunction) → includes_in_functions (fs ++ gs) ≡ includes_in_functions fs ++ includes_in_functions gs
