@@ -109,7 +109,7 @@ fn opened(alloc: Global, groups: Groups) -> Result<Stage, Fault>
     }
 }
 
-// Where a particle is due.
+/// Where a particle is due.
 #[tactic(auto, using(crate::proofs::Passing::passed_on))]
 pub fn particle_step(
     alloc: Global,
@@ -168,7 +168,7 @@ fn close(groups: Groups) -> Stage
     }
 }
 
-// Behind a particle that is put into its group.
+/// Behind a particle that is put into its group.
 pub fn behind_step(groups: Groups, token: &Token<'_>) -> Result<Stage, Fault>
     ensures { Gives stage_of result (spec.behind_step (groups_of groups) (token_of token.now)) }
 {
@@ -181,7 +181,7 @@ pub fn behind_step(groups: Groups, token: &Token<'_>) -> Result<Stage, Fault>
     }
 }
 
-// Directly behind a particle.
+/// Directly behind a particle.
 pub fn on_step(
     alloc: Global,
     groups: Groups,
@@ -199,7 +199,7 @@ pub fn on_step(
     }
 }
 
-// Behind the last bracket.
+/// Behind the last bracket.
 pub fn group_step(alloc: Global, particle: Particle, token: &Token<'_>) -> Result<Stage, Fault>
     ensures { Gives stage_of result (spec.group_step (model_of particle) (token_of token.now)) }
 {

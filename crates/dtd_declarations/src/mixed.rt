@@ -13,7 +13,7 @@ use dtd_tokens::Token;
 use std::alloc::Global;
 use text_base::{Elem, NoMemory};
 
-// Behind `(#`.
+/// Behind `(#`.
 pub fn text_step(alloc: Global, token: &Token<'_>) -> Result<Stage, Fault>
     ensures { Gives stage_of result (spec.text_step (token_of token.now)) }
 {
@@ -29,7 +29,7 @@ pub fn text_step(alloc: Global, token: &Token<'_>) -> Result<Stage, Fault>
     }
 }
 
-// Behind text or an element.
+/// Behind text or an element.
 pub fn behind_text_step(elements: Vec<Elem>, token: &Token<'_>) -> Result<Stage, Fault>
     ensures { Gives stage_of result
         (spec.behind_text_step (numbers_of elements.items) (token_of token.now)) }
@@ -50,7 +50,7 @@ fn with_element(mut elements: Vec<Elem>, element: Elem) -> Result<Vec<Elem>, NoM
     Ok(elements)
 }
 
-// Behind a bar.
+/// Behind a bar.
 #[tactic(auto, using(crate::proofs::Passing::passed_on))]
 pub fn element_step(
     alloc: Global,
@@ -71,7 +71,7 @@ pub fn element_step(
     }
 }
 
-// Behind the closing bracket.
+/// Behind the closing bracket.
 pub fn mixed_step(elements: Vec<Elem>, token: &Token<'_>) -> Result<Stage, Fault>
     ensures { Gives stage_of result
         (spec.mixed_step (numbers_of elements.items) (token_of token.now)) }

@@ -1,4 +1,3 @@
 pub mod Opened
 pub mod Held
 pub mod Tokens
-pub mod Decoded

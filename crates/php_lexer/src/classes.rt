@@ -3,6 +3,7 @@
 ghost use Rattle.std.specs.Prelude.{◌≡◌};
 ghost use Rattle.lexical_grammar.specs.Characters as spec;
 
+/// A decimal digit.
 pub fn is_digit(byte: u8) -> bool
     ensures { result ≡ spec.is_digit byte }
 {
@@ -15,12 +16,14 @@ fn is_letter(byte: u8) -> bool
     (65 <= byte && byte <= 90) || (97 <= byte && byte <= 122)
 }
 
+/// A letter or `_`, with which a name may begin.
 pub fn is_name_start(byte: u8) -> bool
     ensures { result ≡ spec.is_name_start byte }
 {
     is_letter(byte) || byte == 95
 }
 
+/// A byte that may stand in a name: a letter, `_` or a digit.
 pub fn is_name_byte(byte: u8) -> bool
     ensures { result ≡ spec.is_name_byte byte }
 {
@@ -41,6 +44,7 @@ pub fn is_line_end(byte: u8) -> bool
     byte == 10 || byte == 13
 }
 
+/// A space, a tab, LF or CR.
 pub fn is_blank(byte: u8) -> bool
     ensures { result ≡ spec.is_blank byte }
 {

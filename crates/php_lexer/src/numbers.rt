@@ -67,6 +67,7 @@ fn goes_on_as_float(bytes: &[u8]) -> bool
     begins(bytes, b".") || begins_exponent(bytes)
 }
 
+/// Whether a 0 stands before other digits.
 pub fn has_leading_zero(digits: &[u8]) -> bool
     ensures value { result ≡ spec.has_leading_zero digits.now }
     ensures long { IsTrue result → 1 < length digits.now }

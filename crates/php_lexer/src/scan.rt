@@ -15,6 +15,7 @@ pub fn begins(bytes: &[u8], text: &[u8]) -> bool
     bytes.starts_with(text)
 }
 
+/// Whether a digit stands at the head.
 pub fn head_is_digit(bytes: &[u8]) -> bool
     ensures value { result ≡ spec.head_is spec.is_digit bytes.now }
     ensures some { IsTrue result → 0 < length bytes.now }
@@ -25,6 +26,7 @@ pub fn head_is_digit(bytes: &[u8]) -> bool
     }
 }
 
+/// Whether a byte of a name stands at the head.
 pub fn head_is_name_byte(bytes: &[u8]) -> bool
     ensures value { result ≡ spec.head_is spec.is_name_byte bytes.now }
     ensures some { IsTrue result → 0 < length bytes.now }
@@ -45,6 +47,7 @@ fn head_is_name_start(bytes: &[u8]) -> bool
     }
 }
 
+/// Whether LF or CR stands at the head.
 pub fn head_is_line_end(bytes: &[u8]) -> bool
     ensures value { result ≡ spec.head_is spec.is_line_end bytes.now }
     ensures some { IsTrue result → 0 < length bytes.now }

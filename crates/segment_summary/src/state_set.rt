@@ -63,6 +63,7 @@ impl StateSet {
         }
     }
 
+    /// A second set with the same states.
     pub fn copy(&self, alloc: Global) -> Result<StateSet, NoMemory>
         ensures { IfOk result (λ s. s ≡ self.now) }
     {

@@ -14,9 +14,14 @@ use std::hash::{Hash, Hasher};
 use std::marker::Model;
 use text_base::{Exact, NoMemory};
 
+/// What a sum is made of.
 #[derive(Debug, Drop)]
 pub enum Shape {
+    /// No page holds the tokens.
     Broken,
+    /// For each unmatched end tag in order the states of its element from which what stands before it
+    /// leads to a match; where each state is led between the last of them and the first unmatched
+    /// start tag; and for each of these, the innermost first, the state behind what follows it.
     Live {
         closers: Vec<StateSet>,
         middle: Vec<Option<u16>>,
