@@ -3,7 +3,6 @@ use Rattle.std.proofs.Common.{◌≡◌, ◌⊎◌, inl, inr, ℕ, suc, ◌+◌,
 use Rattle.std.specs.Prelude.{if◌then◌else◌, nat_eq, nat_le, nat_lt, bytes_eq, min}
 use Rattle.std.specs.Char.{encode_utf8}
 use Rattle.std.specs.List.{list_all}
-use Rattle.std.specs.Str.{chars}
 use Rattle.std.proofs.lemmas.Bool.{and_parts, and_from, cases_lt, le-leb, leb-true, ltb-true, cond_both}
 use Rattle.std.proofs.lemmas.Bool.Decides.{nat_tests}
 use Rattle.std.proofs.lemmas.Slice.Eq.{bytes_eq-Decides}
@@ -15,12 +14,13 @@ use Rattle.dtd_model.specs.Table.{Table}
 use Rattle.page_model.specs.Parts.{is_quote}
 use Rattle.page_model.specs.Places.{Place}
 use Rattle.piece_steps.specs.Readers.{Move, go, done, fail}
-use Rattle.character_steps.specs.Bytes.{only, decoded, is_second, is_begun}
+use Rattle.character_steps.specs.Bytes.{decoded, is_second, is_begun}
 use Rattle.character_steps.specs.Encoded.{Held, lifted, by_character, byte_step, is_some_byte}
 use Rattle.page_steps.specs.DoctypeSteps.{begins}
 use Rattle.page_steps.specs.PageSteps.{OpenMove, more_target, may_be_target, is_reserved, is_xml, is_started, open_move, PageState, put_place, page_step, page_reader, page_hold}
 use Rattle.broken_pages.specs.Coarse.{Coarse, content, reference, opener, tag, quotes, end_tag, comment, section, target, instruction, words, word_quotes, closing, doctype, doctype_quotes, in_quotes, from_opener, coarse_step, wide, coarse_byte}
 use Rattle.broken_pages.specs.Seen.{seen_open, seen, is_right, SeesByte}
+use Rattle.page_step_laws.proofs.Decoded.{spelled}
 use Rattle.broken_pages.proofs.Opens.{opens}
 use Rattle.broken_pages.proofs.Steps.{Sees, if_then, if_else}
 
@@ -63,22 +63,6 @@ high_bytes c h =
     (λ e. cond_both (nat_lt c 65536) _ _ AllHigh
     (λ e. three_high (c / 4096) (c / 64 % 64) (c % 64))
     (λ e. four_high (c / 262144) (c / 4096 % 64) (c / 64 % 64) (c % 64))))
-
-spelled : (bytes : List ℕ) (c : ℕ) → decoded bytes ≡ Some c → encode_utf8 c ≡ bytes
-unfolding decoded
-spelled bytes c e = at (chars bytes) e
-  where
-    same : (x y : ℕ) → (let z : Option ℕ = Some x in z ≡ Some y) → x ≡ y
-    same x y e = cc
-
-    by : (d : ℕ) (b : Bool) → (is_character d && bytes_eq (encode_utf8 d) bytes) ≡ b → (if b then Some d else None) ≡ Some c → encode_utf8 c ≡ bytes
-    by d true h e = subst (λ (x : ℕ). encode_utf8 x ≡ bytes) (same d c e) ((bytes_eq-Decides (encode_utf8 d) bytes).0 (and_parts (is_character d) (bytes_eq (encode_utf8 d) bytes) h).1)
-    by d false h e = cc
-
-    at : (cs : List ℕ) → only cs bytes ≡ Some c → encode_utf8 c ≡ bytes
-    at [] e = cc
-    at (d ∷ []) e = by d (is_character d && bytes_eq (encode_utf8 d) bytes) refl e
-    at (d ∷ f ∷ cs) e = cc
 
 last_high : (u : List ℕ) (b : ℕ) → AllHigh (u ++ b ∷ []) → nat_le 128 b ≡ true
 last_high [] b h = (and_parts (nat_le 128 b) true h).0

@@ -12,7 +12,7 @@ ghost use Rattle.flow_lowering.specs.Emits.{Emits};
 ghost use Rattle.literal_trees.specs.Literals.{IsNoNegative};
 
 use crate::error::LoweringError;
-use expression_pieces::values::{lower_value, number_of_one, text_value};
+use expression_pieces::values::{Gives, lower_value, operation_on_one, text_value};
 use flow_code::Work;
 use flow_lowering::PointBuilder;
 use literal_trees::{Literal, literal_negative, unsigned_literal};
@@ -59,7 +59,7 @@ fn lower_negative(
         (default_code (some_expr (neg_expr (int_expr number)))) slot.0) }
 {
     let operand = lower_value(Value::Int(number), points)?;
-    let slot = number_of_one(alloc, Work::Neg, operand, points)?;
+    let slot = operation_on_one(alloc, Work::Neg, Gives::Number, operand, points)?;
     Ok(slot)
 }
 

@@ -1,3 +1,4 @@
 pub mod Below
+pub mod Bytes
 pub mod Derives
 pub mod Tokens

@@ -3,12 +3,14 @@
 //! grammar derives is `Derives` of specs/. Below stands text_base alone.
 #![tactic(auto)]
 
+mod bytes;
 mod grammar;
 mod production;
 mod symbol;
 #[cfg(test)]
 mod tests;
 
+pub use bytes::productions_fit;
 pub use grammar::Grammar;
 pub use production::{Production, Right};
 pub use symbol::Symbol;

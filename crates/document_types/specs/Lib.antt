@@ -1,1 +1,2 @@
 pub mod DocumentTypes
+pub use Rattle.xhtml_strict.specs.OneFile

@@ -11,3 +11,4 @@ mod refusal;
 
 pub use document_type::DocumentType;
 pub use refusal::DefinitionRefusal;
+pub use xhtml_strict::OneFile;

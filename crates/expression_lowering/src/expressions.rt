@@ -2,18 +2,17 @@
 
 ghost use Rattle.std.specs.Prelude.{◌≡◌, length, vec_len, map, true, false, IfOk};
 ghost use Rattle.php_syntax.specs.Trees.{plain_expr, exprs_of, items_of, path_of, maybe_of, target_name, target_path, update_expr, member_expr, array_expr, join_expr, isset_expr, assign_expr, call_expr};
-ghost use Rattle.flow_code.specs.Points.{number_source, truth_source};
 ghost use Rattle.flow_code.specs.View.{slot_number, plain_item, plain_key_ref, plain_maybe_key};
 ghost use Rattle.flow_code.specs.Expressions.{code, codes, maybe_key, path_code, items_code, key_code, of_one, of_two, first_there, chosen, chosen_itself, variable, length_of_path, old_value, updated_at, filled};
 ghost use Rattle.flow_lowering.specs.View.{progress};
 ghost use Rattle.flow_lowering.specs.Emits.{Emits};
 ghost use Rattle.function_scopes.specs.View.{scope_in};
-ghost use Rattle.expression_pieces.specs.Forms.{connected};
+ghost use Rattle.expression_pieces.specs.Forms.{connected, source_for};
 
 use crate::alone::{lower_literal, lower_name, lower_request, lower_step, lower_text, number_key};
 use call_lowering::{LoweringError, finish_call};
 use expression_pieces::choices::{begin_itself, begin_there, branching, finish_copy, finish_truth};
-use expression_pieces::values::{number_of_one, number_of_two, truth_of_one, truth_of_two};
+use expression_pieces::values::{Gives, operation_on_one, operation_on_two};
 use expression_pieces::writes::{finish_filled, finish_updated, lower_members, write};
 use flow_code::{KeyRef, Source, Work};
 use flow_lowering::PointBuilder;
@@ -133,79 +132,44 @@ fn lower_items(
     Ok(lowered)
 }
 
-// An operation on one value that gives a number.
+// An operation on one value.
 #[cycle(expressions)]
-fn lower_number(
+fn lower_one(
     alloc: Global,
     scope: &FunctionScope<'_>,
     work: Work,
+    gives: Gives,
     operand: &Expr,
     points: &mut PointBuilder,
 ) -> Result<Slot, LoweringError>
     ensures { IfOk result
         (λ slot. Emits (progress points.old) (progress points.new)
-        (of_one work number_source (code (scope_in scope.now) (plain_expr operand.now))) slot.0) }
+        (of_one work (source_for gives) (code (scope_in scope.now) (plain_expr operand.now)))
+        slot.0) }
 {
     let operand = lower_expr(alloc, scope, operand, points)?;
-    let slot = number_of_one(alloc, work, operand, points)?;
+    let slot = operation_on_one(alloc, work, gives, operand, points)?;
     Ok(slot)
 }
 
-// An operation on two values that gives a number.
+// An operation on two values.
 #[cycle(expressions)]
-fn lower_numbers(
+fn lower_two(
     alloc: Global,
     scope: &FunctionScope<'_>,
     work: Work,
+    gives: Gives,
     left: &Expr,
     right: &Expr,
     points: &mut PointBuilder,
 ) -> Result<Slot, LoweringError>
     ensures { IfOk result (λ slot. Emits (progress points.old) (progress points.new)
-        (of_two work number_source (code (scope_in scope.now) (plain_expr left.now))
+        (of_two work (source_for gives) (code (scope_in scope.now) (plain_expr left.now))
         (code (scope_in scope.now) (plain_expr right.now))) slot.0) }
 {
     let left = lower_expr(alloc, scope, left, points)?;
     let right = lower_expr(alloc, scope, right, points)?;
-    let slot = number_of_two(alloc, work, left, right, points)?;
-    Ok(slot)
-}
-
-// An operation on one value that gives a truth value.
-#[cycle(expressions)]
-fn lower_truth(
-    alloc: Global,
-    scope: &FunctionScope<'_>,
-    work: Work,
-    operand: &Expr,
-    points: &mut PointBuilder,
-) -> Result<Slot, LoweringError>
-    ensures { IfOk result
-        (λ slot. Emits (progress points.old) (progress points.new)
-        (of_one work truth_source (code (scope_in scope.now) (plain_expr operand.now))) slot.0) }
-{
-    let operand = lower_expr(alloc, scope, operand, points)?;
-    let slot = truth_of_one(alloc, work, operand, points)?;
-    Ok(slot)
-}
-
-// An operation on two values that gives a truth value.
-#[cycle(expressions)]
-fn lower_truths(
-    alloc: Global,
-    scope: &FunctionScope<'_>,
-    work: Work,
-    left: &Expr,
-    right: &Expr,
-    points: &mut PointBuilder,
-) -> Result<Slot, LoweringError>
-    ensures { IfOk result (λ slot. Emits (progress points.old) (progress points.new)
-        (of_two work truth_source (code (scope_in scope.now) (plain_expr left.now))
-        (code (scope_in scope.now) (plain_expr right.now))) slot.0) }
-{
-    let left = lower_expr(alloc, scope, left, points)?;
-    let right = lower_expr(alloc, scope, right, points)?;
-    let slot = truth_of_two(alloc, work, left, right, points)?;
+    let slot = operation_on_two(alloc, work, gives, left, right, points)?;
     Ok(slot)
 }
 
@@ -527,13 +491,15 @@ pub fn lower_expr(
         Expr::Member(base, key) => lower_member(alloc, scope, base, key, points),
         Expr::ArrayOf(items) => lower_array(alloc, scope, items.as_slice(), points),
         Expr::Join(parts) => lower_join(alloc, scope, parts.as_slice(), points),
-        Expr::Neg(operand) => lower_number(alloc, scope, Work::Neg, operand, points),
-        Expr::Not(operand) => lower_truth(alloc, scope, Work::Not, operand, points),
+        Expr::Neg(operand) => lower_one(alloc, scope, Work::Neg, Gives::Number, operand, points),
+        Expr::Not(operand) => lower_one(alloc, scope, Work::Not, Gives::Truth, operand, points),
         Expr::Arith(sign, left, right) => {
-            lower_numbers(alloc, scope, Work::Arith(*sign), left, right, points)
+            let work = Work::Arith(*sign);
+            lower_two(alloc, scope, work, Gives::Number, left, right, points)
         }
         Expr::Compare(sign, left, right) => {
-            lower_truths(alloc, scope, Work::Compare(*sign), left, right, points)
+            let work = Work::Compare(*sign);
+            lower_two(alloc, scope, work, Gives::Truth, left, right, points)
         }
         Expr::And(left, right) => lower_connected(alloc, scope, left, right, true, points),
         Expr::Or(left, right) => lower_connected(alloc, scope, left, right, false, points),
@@ -549,7 +515,7 @@ pub fn lower_expr(
             }
         },
         Expr::Isset(places) => lower_isset(alloc, scope, places.as_slice(), points),
-        Expr::Empty(place) => lower_truth(alloc, scope, Work::Empty, place, points),
+        Expr::Empty(place) => lower_one(alloc, scope, Work::Empty, Gives::Truth, place, points),
         Expr::Assign(target, value) => lower_assign(alloc, scope, target, value, points),
         Expr::Update(sign, target, value) => {
             let slot = lower_update(alloc, scope, *sign, target, value, points)?;

@@ -3,12 +3,13 @@
 ghost use Rattle.std.specs.Prelude.{◌≡◌, ◌+◌, ◌≤◌, [], ◌∷◌, length, map, IfOk};
 ghost use Rattle.plain_values.specs.Plain.{text};
 ghost use Rattle.php_values.specs.View.{plain_of};
-ghost use Rattle.flow_code.specs.Points.{literal_source, number_source, truth_source};
+ghost use Rattle.flow_code.specs.Points.{literal_source};
 ghost use Rattle.flow_code.specs.View.{plain_source, plain_key_ref, slot_number};
 ghost use Rattle.flow_code.specs.Code.{from_source};
 ghost use Rattle.flow_code.specs.Expressions.{literal};
 ghost use Rattle.flow_lowering.specs.View.{progress};
 ghost use Rattle.flow_lowering.specs.Emits.{Emits, Sets, place};
+ghost use Rattle.expression_pieces.specs.Forms.{source_for};
 
 use flow_code::{KeyRef, Source, Work};
 use flow_lowering::PointBuilder;
@@ -78,64 +79,52 @@ pub fn lower_value(value: Value, points: &mut PointBuilder) -> Result<Slot, NoMe
     points.compute(Source::Lit(value))
 }
 
-/// An operation on one value that gives a number.
-pub fn number_of_one(
+/// Whether an operation gives a number or a truth value.
+#[derive(Clone, Copy)]
+pub enum Gives {
+    Number,
+    Truth,
+}
+
+/// The operation on these slots, as a source.
+fn source_of(work: Work, gives: Gives, args: Vec<Slot>) -> Source
+    ensures { plain_source result ≡ source_for gives work (map slot_number args.items) }
+{
+    match gives {
+        Gives::Number => Source::Number { work, args },
+        Gives::Truth => Source::Truth { work, args },
+    }
+}
+
+/// An operation on one value.
+pub fn operation_on_one(
     alloc: Global,
     work: Work,
+    gives: Gives,
     operand: Slot,
     points: &mut PointBuilder,
 ) -> Result<Slot, NoMemory>
     ensures { IfOk result
         (λ slot. Sets (progress points.old) (progress points.new)
-        (number_source work (operand.0 ∷ [])) (place (progress points.old) + 1) slot.0) }
+        (source_for gives work (operand.0 ∷ [])) (place (progress points.old) + 1) slot.0) }
 {
     let args = one_slot(alloc, operand)?;
-    points.compute(Source::Number { work, args })
+    points.compute(source_of(work, gives, args))
 }
 
-/// An operation on two values that gives a number.
-pub fn number_of_two(
+/// An operation on two values.
+pub fn operation_on_two(
     alloc: Global,
     work: Work,
+    gives: Gives,
     left: Slot,
     right: Slot,
     points: &mut PointBuilder,
 ) -> Result<Slot, NoMemory>
     ensures { IfOk result
         (λ slot. Sets (progress points.old) (progress points.new)
-        (number_source work (left.0 ∷ right.0 ∷ [])) (place (progress points.old) + 1) slot.0) }
+        (source_for gives work (left.0 ∷ right.0 ∷ [])) (place (progress points.old) + 1) slot.0) }
 {
     let args = two_slots(alloc, left, right)?;
-    points.compute(Source::Number { work, args })
-}
-
-/// An operation on one value that gives a truth value.
-pub fn truth_of_one(
-    alloc: Global,
-    work: Work,
-    operand: Slot,
-    points: &mut PointBuilder,
-) -> Result<Slot, NoMemory>
-    ensures { IfOk result
-        (λ slot. Sets (progress points.old) (progress points.new)
-        (truth_source work (operand.0 ∷ [])) (place (progress points.old) + 1) slot.0) }
-{
-    let args = one_slot(alloc, operand)?;
-    points.compute(Source::Truth { work, args })
-}
-
-/// An operation on two values that gives a truth value.
-pub fn truth_of_two(
-    alloc: Global,
-    work: Work,
-    left: Slot,
-    right: Slot,
-    points: &mut PointBuilder,
-) -> Result<Slot, NoMemory>
-    ensures { IfOk result
-        (λ slot. Sets (progress points.old) (progress points.new)
-        (truth_source work (left.0 ∷ right.0 ∷ [])) (place (progress points.old) + 1) slot.0) }
-{
-    let args = two_slots(alloc, left, right)?;
-    points.compute(Source::Truth { work, args })
+    points.compute(source_of(work, gives, args))
 }

@@ -1,23 +1,25 @@
 -- The layers of a table over an input.
-use Rattle.std.proofs.Common.{◌≡◌, ◌≢◌, ℕ, ◌+◌, ◌<◌, ◌≤◌, ◌⊎◌, ◌↔◌, inl, inr, Bool, true, ◌&&◌, List, [], ◌∷◌, ◌++◌, length, map, take, drop, get_or, slice_get, Some, None, Contains, refl, sym, ◌∙◌, ap, subst, arith, cond, nat_eq, append_assoc, append-nil}
-use Rattle.std.proofs.lemmas.List.{append_cancel_left, map-append, take_more, drop_more, drop_all, take_all, take-append-drop, length-set, get_or-set_same, set_past, length-map, length-drop, nil_from_length}
+use Rattle.std.proofs.Common.{◌≡◌, ◌≢◌, ℕ, ◌+◌, ◌<◌, ◌≤◌, ◌⊎◌, ◌↔◌, inl, inr, Bool, true, ◌&&◌, List, [], ◌∷◌, ◌++◌, length, map, take, drop, get_or, slice_get, Option, Some, None, Contains, refl, sym, ◌∙◌, ap, subst, arith, cond, nat_eq, append_assoc, append-nil}
+use Rattle.std.proofs.lemmas.List.{append_cancel_left, map-append, take_more, drop_more, drop_all, take_all, take-append-drop, length-map, length-drop, nil_from_length}
 use Rattle.std.proofs.lemmas.List.Elements.{Contains-push_cases, Contains-append_left, Contains-append_right, Contains-append_cases, Contains-get_or, Contains-push, All-contains, All-cons, All-nil}
-use Rattle.std.proofs.lemmas.Bool.{cases_Bool, cond-true, cond-false, cases_eq, ltb-true}
-use Rattle.std.proofs.Common.{zero, suc, set, ◌-◌, IsTrue, ltb, length-append}
+use Rattle.std.proofs.lemmas.Bool.{cases_Bool, cond-true, cond-false, ltb-true}
+use Rattle.std.proofs.Common.{zero, suc, ◌-◌, IsTrue, ltb, length-append}
 use Rattle.std.specs.List.{list_any, All}
 use Rattle.fst_core.specs.Fits.{moves_fit}
 use Rattle.fst_core.specs.declared.moves.TableEnd.{TableEnd}
 use Rattle.std.specs.declared.vec.Vec.{Vec}
 use Rattle.std.specs.declared.alloc.Global.{Global}
-use Rattle.std.proofs.lemmas.Option.{slice_get_within, slice_get_read, get_or_from_slice_get}
+use Rattle.std.specs.Option.{option_map}
+use Rattle.std.proofs.lemmas.Option.{slice_get_within, slice_get_read, slice_get_cases, slice_get-map, same_Some, get_or_from_slice_get}
 use Rattle.std.specs.Cmp.{first_so, second_so, IsEquivalence}
 use Rattle.std.proofs.lemmas.Cmp.{nat_eq_equiv}
 use Rattle.std.proofs.lemmas.Map.Views.{exact_unsigned_eq}
 use Rattle.indexmap.proofs.CallerLemmas.{Contains-list_any}
+use Rattle.numbered_sets.specs.Places.{ArePlaces}
 use Rattle.text_base.specs.declared.letter.Letter.{Letter}
 use Rattle.text_base.specs.declared.letter.Letter.TheVariants.{OfByte}
 use Rattle.fst_core.specs.Letter.{letter_of}
-use Rattle.fst_core.specs.Layers.{letters_from, SomeGives, ByMove, ByMoves, TableGives, IsIndex, AddsPlace, StopsBy}
+use Rattle.fst_core.specs.Layers.{letters_from, SomeGives, ByMove, ByMoves, TableGives, IsIndex, StopsBy}
 use Rattle.fst_core.specs.Tables.{TableStep}
 use Rattle.fst_core.specs.declared.out.Out.{Out}
 use Rattle.fst_core.specs.declared.moves.TableMove.{TableMove}
@@ -198,15 +200,15 @@ contains_found : (moves : List TableMove) (i : ℕ) (m : TableMove) → slice_ge
 contains_found moves i m e = (i, slice_get_within moves i m e, get_or_from_slice_get moves i m m e)
 
 -- the places of a state are places of moves
-pub places_within : (moves : List TableMove) (n : ℕ) (index : List (Vec ℕ Global)) (s : ℕ) (places : Vec ℕ Global) → IsIndex moves n index → slice_get index s ≡ Some places → All (λ (i : ℕ). i < length moves) places.items
-places_within moves n index s places whole found =
+pub places_within : (moves : List TableMove) (index : List (Vec ℕ Global)) (s : ℕ) (places : Vec ℕ Global) → IsIndex moves index → slice_get index s ≡ Some places → All (λ (i : ℕ). i < length moves) places.items
+places_within moves index s places whole found =
     All-from_contains (λ (i : ℕ). i < length moves) places.items (λ i c. let m = whole.sound s places found i c in slice_get_within moves i m.0 m.1)
 
 found_at : (moves : List TableMove) (m : TableMove) → Contains moves m → (i : ℕ) × (i < length moves) × (slice_get moves i ≡ Some m)
 found_at moves m c = (c.0, c.1, slice_get_read moves (length moves) c.0 m refl c.1 (sym c.2))
 
 -- the moves of a state are those at its places
-pub by_places : (table : Table) (index : List (Vec ℕ Global)) (r : Reached) (places : Vec ℕ Global) (byte : ℕ) (text output : List ℕ) → IsIndex table.moves.items (length table.moves.items) index → slice_get index r.state ≡ Some places → ByMoves table places.items r.written byte text output ↔ SomeGives table (r ∷ []) (byte ∷ text) output
+pub by_places : (table : Table) (index : List (Vec ℕ Global)) (r : Reached) (places : Vec ℕ Global) (byte : ℕ) (text output : List ℕ) → IsIndex table.moves.items index → slice_get index r.state ≡ Some places → ByMoves table places.items r.written byte text output ↔ SomeGives table (r ∷ []) (byte ∷ text) output
 by_places table index r places byte text output whole found = (
   λ h.
       let m : TableMove = h.2 in
@@ -223,7 +225,7 @@ by_places table index r places byte text output whole found = (
       let step : TableStep table.moves.items (h.0).state byte h.3.0 h.3.1 = h.3.3 in
       let m : TableMove = step.0 in
       let at = found_at table.moves.items m step.1 in
-      let full = whole.full at.0 m at.1 at.2 in
+      let full = whole.full at.0 m at.2 in
       let state : m.from ≡ r.state = step.2 ∙ ap (λ (x : Reached). x.state) one in
       let two : Some full.0 ≡ Some places = sym full.1 ∙ (ap (slice_get index) state ∙ found) in
       let same : full.0 ≡ places = cc in
@@ -236,7 +238,7 @@ by_places table index r places byte text output whole found = (
 )
 
 -- a state without a list has no move
-pub no_places : (table : Table) (index : List (Vec ℕ Global)) (r : Reached) (keys : List Reached) (byte : ℕ) (text output : List ℕ) → IsIndex table.moves.items (length table.moves.items) index → slice_get index r.state ≡ None → SomeGives table keys text output ↔ (SomeGives table keys text output ⊎ SomeGives table (r ∷ []) (byte ∷ text) output)
+pub no_places : (table : Table) (index : List (Vec ℕ Global)) (r : Reached) (keys : List Reached) (byte : ℕ) (text output : List ℕ) → IsIndex table.moves.items index → slice_get index r.state ≡ None → SomeGives table keys text output ↔ (SomeGives table keys text output ⊎ SomeGives table (r ∷ []) (byte ∷ text) output)
 no_places table index r keys byte text output whole none = (
   λ h. inl h,
   λ h. elim h [
@@ -246,7 +248,7 @@ no_places table index r keys byte text output whole none = (
         let step : TableStep table.moves.items (h.0).state byte h.3.0 h.3.1 = h.3.3 in
         let m : TableMove = step.0 in
         let at = found_at table.moves.items m step.1 in
-        let full = whole.full at.0 m at.1 at.2 in
+        let full = whole.full at.0 m at.2 in
         let state : m.from ≡ r.state = step.2 ∙ ap (λ (x : Reached). x.state) one in
         let two : Some full.0 ≡ None = sym full.1 ∙ (ap (slice_get index) state ∙ none) in
         absurd (cc)
@@ -282,85 +284,29 @@ pub followed_all : (table : Table) (layer next : List Reached) (i byte : ℕ) (o
 followed_all table layer next i byte output h before =
     subst (λ (x : List Reached). Followed table x next byte output) (take_all i layer h) before
 
-slice_get-set_other : (xs : List (Vec ℕ Global)) (i k : ℕ) (v : Vec ℕ Global) → (k ≡ i → ⊥) → slice_get (set xs i v) k ≡ slice_get xs k
-slice_get-set_other [] i k v differs = ap (λ (x : List (Vec ℕ Global)). slice_get x k) (set_past [] i v (omega arith))
-slice_get-set_other (x ∷ xs) zero zero v differs = absurd (differs refl)
-slice_get-set_other (x ∷ xs) zero (suc k) v differs = refl
-slice_get-set_other (x ∷ xs) (suc i) zero v differs = refl
-slice_get-set_other (x ∷ xs) (suc i) (suc k) v differs = slice_get-set_other xs i k v (λ e. differs (ap (λ (n : ℕ). suc n) e))
-
--- a place is added to a list of places
-pub adds_place : (old : List (Vec ℕ Global)) (state place : ℕ) (was now : Vec ℕ Global) → state < length old → was ≡ get_or old state was → now.items ≡ was.items ++ place ∷ [] → AddsPlace old (set old state now) state place
-adds_place old state place was now h is e =
-    let l : length (set old state now) ≡ length old = length-set old state now in
-    let same : slice_get (set old state now) state ≡ Some now = slice_get_read (set old state now) (length old) state now (sym l) h (sym (get_or-set_same old state now now h)) in
-    let here : slice_get old state ≡ Some was = slice_get_read old (length old) state was refl h is in
-    record {
-      back = λ s places found. elim (cases_eq s state) [
-        | inl eq ↦
-            let one : Some places ≡ Some now = sym found ∙ (ap (slice_get (set old state now)) eq ∙ same) in
-            let two : places ≡ now = cc in (
-              was,
-              ap (slice_get old) eq ∙ here,
-              λ i c.
-                  let d : Contains (was.items ++ place ∷ []) i = subst (λ (x : List ℕ). Contains x i) (ap (λ (x : Vec ℕ Global). x.items) two ∙ e) c in
-                  elim (Contains-push_cases was.items place i d) [ inl f ↦ inl f | inr f ↦ inr (eq, sym f) ],
-            )
-        | inr other ↦ (places, sym (slice_get-set_other old state s now other) ∙ found, λ i c. inl c)
-      ];
-      kept = λ s places found. elim (cases_eq s state) [
-        | inl eq ↦
-            let one : Some places ≡ Some was = sym found ∙ (ap (slice_get old) eq ∙ here) in
-            let two : places ≡ was = cc in (
-              now,
-              ap (slice_get (set old state now)) eq ∙ same,
-              λ i c.
-                  let d : Contains was.items i = subst (λ (x : Vec ℕ Global). Contains x.items i) two c in
-                  subst (λ (x : List ℕ). Contains x i) (sym e) (Contains-append_left was.items (place ∷ []) i d),
-            )
-        | inr other ↦ (places, slice_get-set_other old state s now other ∙ found, λ i c. c)
-      ];
-      added = (now, same, subst (λ (x : List ℕ). Contains x place) (sym e) (Contains-push was.items place));
-    }
-
--- no place is listed yet
-pub index_none : (moves : List TableMove) (index : List (Vec ℕ Global)) → All (λ (places : Vec ℕ Global). places.items ≡ []) index → IsIndex moves 0 index
-index_none moves index empty =
-    record {
-      sound = λ s places found i c.
-          let e : places.items ≡ [] = All-contains (λ (x : Vec ℕ Global). x.items ≡ []) index places empty (s, slice_get_within index s places found, get_or_from_slice_get index s places places found) in
-          absurd (none_in i (subst (λ (x : List ℕ). Contains x i) e c));
-      full = λ i m h. absurd (omega arith);
-    }
-
--- one move more is listed
-pub index_more : (moves : List TableMove) (n : ℕ) (index new : List (Vec ℕ Global)) (m : TableMove) → IsIndex moves n index → slice_get moves n ≡ Some m → AddsPlace index new m.from n → IsIndex moves (n + 1) new
-index_more moves n index new m whole at adds =
-    record {
-      sound = λ s places found i c.
-          let b = adds.back s places found in
-          elim (b.2 i c) [
-            | inl d ↦ whole.sound s b.0 b.1 i d
-            | inr e ↦ (m, ap (slice_get moves) e.1 ∙ at, sym e.0)
-          ];
-      full = λ i x h found. elim (cases_eq i n) [
-        | inl e ↦
-            let one : Some x ≡ Some m = sym found ∙ (ap (slice_get moves) e ∙ at) in
-            let two : x ≡ m = cc in
-            let a = adds.added in
-            (a.0, ap (λ (y : TableMove). slice_get new y.from) two ∙ a.1, subst (λ (y : ℕ). Contains (a.0).items y) (sym e) a.2)
-        | inr other ↦
-            let f = whole.full i x (omega arith) found in
-            let k = adds.kept x.from f.0 f.1 in
-            (k.0, k.1, k.2 i f.2)
-      ];
-    }
-
 -- the state of a move is one of the table's
 pub from_within : (states : ℕ) (moves : List TableMove) (i : ℕ) (d : TableMove) → IsTrue (moves_fit states moves) → i < length moves → (get_or moves i d).from < states
 from_within states [] i d t h = absurd (omega arith)
 from_within states (m ∷ moves) zero d t h = ltb-true m.from states (first_so (ltb m.from states) (ltb m.to states) (first_so (ltb m.from states && ltb m.to states) (moves_fit states moves) t))
 from_within states (m ∷ moves) (suc i) d t h = from_within states moves i d (second_so (ltb m.from states && ltb m.to states) (moves_fit states moves) t) (omega arith)
+
+-- the place of a move is listed under the state that it is from, and nothing else
+from_some : (o : Option TableMove) (s : ℕ) → option_map (λ (m : TableMove). m.from) o ≡ Some s → (m : TableMove) × (o ≡ Some m) × (m.from ≡ s)
+from_some None s e = absurd (cc)
+from_some (Some m) s e = (m, refl, same_Some m.from s e)
+
+list_at : (index : List (Vec ℕ Global)) (s : ℕ) → s < length index → (places : Vec ℕ Global) × (slice_get index s ≡ Some places)
+list_at index s lt = elim (slice_get_cases index s).1 [ inl h ↦ (h.0, h.2) | inr h ↦ absurd (omega (arith, h.0)) ]
+
+pub index_of : (moves : List TableMove) (index : List (Vec ℕ Global)) → All (λ (m : TableMove). m.from < length index) moves → ArePlaces (map (λ (m : TableMove). m.from) moves) index → IsIndex moves index
+index_of moves index below exact =
+    record {
+      sound = λ s places found i c. from_some (slice_get moves i) s (sym (slice_get-map (λ (m : TableMove). m.from) moves i) ∙ (exact s places found i).0 c);
+      full = λ i m found.
+          let lt : m.from < length index = All-contains (λ (x : TableMove). x.from < length index) moves m below (contains_found moves i m found) in
+          let at = list_at index m.from lt in
+          (at.0, at.1, (exact m.from at.0 at.1 i).1 (slice_get-map (λ (x : TableMove). x.from) moves i ∙ ap (option_map (λ (x : TableMove). x.from)) found));
+    }
 
 -- no end among the first stops there
 abbrev pub NoneStops : List TableEnd → List Reached → List ℕ → Type 0

@@ -1,5 +1,5 @@
 -- The states that a table may have come to after a part of the input, each with how much of the output it has put out.
-use Rattle.std.specs.Prelude.{◌≡◌, ℕ, ◌<◌, ◌≤◌, ◌⊎◌, List, ◌++◌, map, drop, length, Some, slice_get, Contains}
+use Rattle.std.specs.Prelude.{◌≡◌, ℕ, ◌≤◌, List, ◌++◌, map, drop, length, Some, slice_get, Contains}
 use Rattle.std.specs.declared.vec.Vec.{Vec}
 use Rattle.std.specs.declared.alloc.Global.{Global}
 use Rattle.text_base.specs.ByteRange.{InRange}
@@ -43,18 +43,9 @@ StopsBy keys output e =
     (r : Reached) × Contains keys r × (r.written ≤ length output) × (e.state ≡ r.state)
     × (map (letter_of 0) e.out.items ≡ letters_from output r.written)
 
--- a place is added to those of a state
-pub record AddsPlace (old new : List (Vec ℕ Global)) (state place : ℕ) : Type 0 where
-  pub back : (s : ℕ) (places : Vec ℕ Global) → slice_get new s ≡ Some places
-      → (was : Vec ℕ Global) × (slice_get old s ≡ Some was)
-      × ((i : ℕ) → Contains places.items i → Contains was.items i ⊎ ((s ≡ state) × (i ≡ place)))
-  pub kept : (s : ℕ) (was : Vec ℕ Global) → slice_get old s ≡ Some was
-      → (places : Vec ℕ Global) × (slice_get new s ≡ Some places) × ((i : ℕ) → Contains was.items i → Contains places.items i)
-  pub added : (places : Vec ℕ Global) × (slice_get new state ≡ Some places) × Contains places.items place
-
--- of the first moves, the places of those that each state has
-pub record IsIndex (moves : List TableMove) (count : ℕ) (index : List (Vec ℕ Global)) : Type 0 where
+-- the places of the moves that each state has
+pub record IsIndex (moves : List TableMove) (index : List (Vec ℕ Global)) : Type 0 where
   pub sound : (s : ℕ) (places : Vec ℕ Global) → slice_get index s ≡ Some places → (i : ℕ) → Contains places.items i
       → (m : TableMove) × (slice_get moves i ≡ Some m) × (m.from ≡ s)
-  pub full : (i : ℕ) (m : TableMove) → i < count → slice_get moves i ≡ Some m
+  pub full : (i : ℕ) (m : TableMove) → slice_get moves i ≡ Some m
       → (places : Vec ℕ Global) × (slice_get index m.from ≡ Some places) × Contains places.items i

@@ -4,14 +4,16 @@
 ghost use Rattle.std.specs.Prelude.{◌≡◌, ◌≢◌, ℕ, ◌<◌, ◌≤◌, ◌++◌, ◌∷◌, [], ◌⊎◌, ◌↔◌, List, map, length, slice_index_or, vec_len, slice_get, All, Contains, IfOk, OnOk, IfSome, IsTrue, MatchOption, if◌then◌else◌};
 ghost use Rattle.text_base.specs.declared.letter.Letter.{Letter};
 ghost use Rattle.text_base.specs.declared.letter.Letter.TheVariants.{OfByte};
+ghost use Rattle.numbered_sets.specs.Places.{ArePlaces};
 ghost use Rattle.fst_core.specs.Letter.{letter_of};
 ghost use Rattle.fst_core.specs.Tables.{TableRelates};
-ghost use Rattle.fst_core.specs.Layers.{letters_from, SomeGives, ByMove, ByMoves, TableGives, IsIndex, AddsPlace, StopsBy};
+ghost use Rattle.fst_core.specs.Layers.{letters_from, SomeGives, ByMove, ByMoves, TableGives, IsIndex, StopsBy};
 
 use crate::moves::{TableEnd, TableMove};
 use crate::out::Out;
 use crate::table::Table;
 use indexmap::IndexSet;
+use numbered_sets::places_by;
 use std::alloc::Global;
 use text_base::NoMemory;
 
@@ -123,7 +125,7 @@ fn follow(
     byte: u8,
     output: &[u8],
 ) -> Result<(), NoMemory>
-    requires { IsIndex table.now.moves.items (length table.now.moves.items) index.now }
+    requires { IsIndex table.now.moves.items index.now }
     ensures { OnOk result ((text : List ℕ) → SomeGives table.now next.new.keys text output.now
         ↔ (SomeGives table.now next.old.keys text output.now
         ⊎ SomeGives table.now (reached ∷ []) (byte ∷ text) output.now)) }
@@ -151,7 +153,7 @@ fn next_layer(
     byte: u8,
     output: &[u8],
 ) -> Result<IndexSet<Reached>, NoMemory>
-    requires { IsIndex table.now.moves.items (length table.now.moves.items) index.now }
+    requires { IsIndex table.now.moves.items index.now }
     ensures { IfOk result (λ next. (text : List ℕ) → SomeGives table.now next.keys text output.now
         ↔ SomeGives table.now layer.now (byte ∷ text) output.now) }
 {
@@ -204,38 +206,26 @@ fn stops_at(table: &Table, layer: &IndexSet<Reached>, output: &[u8]) -> bool
     false
 }
 
-/// A list with no places for each state.
-fn empty_index(alloc: Global, states: u64) -> Result<Vec<Vec<usize>>, NoMemory>
-    ensures len { IfOk result (λ index. vec_len index ≡ states) }
-    ensures empty { IfOk result (λ index. All (λ places. places.items ≡ []) index.items) }
+/// For each state below the count, the places of its moves.
+fn by_state(
+    alloc: Global,
+    states: u64,
+    moves: &[TableMove],
+) -> Result<Vec<Vec<usize>>, NoMemory>
+    requires { All (λ m. m.from < states) moves.now }
+    ensures len { IfOk result (λ places. vec_len places ≡ states) }
+    ensures exact { IfOk result (λ places. ArePlaces (map (λ m. m.from) moves.now) places.items) }
 {
-    let mut index = Vec::new(alloc);
-    for _ in 0..states {
-        index.push(Vec::new(alloc))?;
-    }
-    Ok(index)
-}
-
-/// Adds a place to those of a state.
-fn add_place(index: &mut Vec<Vec<usize>>, state: u64, place: usize) -> Result<(), NoMemory>
-    requires { state < vec_len index.old }
-    ensures len { vec_len index.new ≡ vec_len index.old }
-    ensures adds { OnOk result (AddsPlace index.old.items index.new.items state place) }
-{
-    index[state as usize].push(place)?;
-    Ok(())
+    let keys: Vec<u64> = moves.iter().map(|step| step.from).collect(alloc)?;
+    let places = places_by(alloc, states, keys.as_slice())?;
+    Ok(places)
 }
 
 /// For each state, the places of its moves in the table.
 fn moves_by_state(alloc: Global, table: &Table) -> Result<Vec<Vec<usize>>, NoMemory>
-    ensures { IfOk result
-        (λ index. IsIndex table.now.moves.items (length table.now.moves.items) index.items) }
+    ensures { IfOk result (λ index. IsIndex table.now.moves.items index.items) }
 {
-    let mut index = empty_index(alloc, table.states)?;
-    for place in 0..table.moves.len() {
-        let state = table.moves[place].from;
-        add_place(&mut index, state, place)?;
-    }
+    let index = by_state(alloc, table.states, table.moves.as_slice())?;
     Ok(index)
 }
 

@@ -1,16 +1,11 @@
 -- What is listed of a join is what it joins.
-use Rattle.std.proofs.Common.{◌≡◌, ◌↔◌, ℕ, zero, suc, Bool, true, false, ◌&&◌, if◌then◌else◌, List, [], ◌∷◌, Option, Some, None, refl, sym, subst, ap, ◌∙◌, slice_get, Contains, map}
-use Rattle.std.specs.Prelude.{nat_eq}
-use Rattle.std.specs.Option.{option_map}
+use Rattle.std.proofs.Common.{◌≡◌, ◌↔◌, ℕ, List, [], ◌∷◌, Option, Some, None, refl, sym, subst, ap, ◌∙◌, slice_get, Contains, map}
 use Rattle.std.specs.declared.vec.Vec.{Vec}
 use Rattle.std.specs.declared.alloc.Global.{Global}
-use Rattle.std.proofs.lemmas.Map.Views.{exact_unsigned_eq}
-use Rattle.std.proofs.lemmas.Option.{same_Some}
-use Rattle.text_base.specs.Exactness.{exact_pair}
 use Rattle.numbered_sets.specs.Numbers.{AreDifferent}
 use Rattle.loose_sets.specs.Reaching.{at_point, at_entry}
 use Rattle.function_pairs.specs.Found.{number_in}
-use Rattle.function_pairs.proofs.FoundLemmas.{found, contains_at}
+use Rattle.function_pairs.proofs.FoundLemmas.{found, contains_at, number_is}
 use Rattle.slot_versions.specs.Versions.{PlainVersion, of_definition, join_at, linked_in}
 use Rattle.ssa_form.specs.declared.version.Version.{Version}
 use Rattle.ssa_form.specs.declared.versions.Versions.{Versions}
@@ -29,24 +24,6 @@ back (join_at p x) = refl
 backs : (vs : List PlainVersion) → versions_seen (map version_back vs) ≡ vs
 backs [] = refl
 backs (v ∷ vs) = ap (λ (u : PlainVersion). u ∷ versions_seen (map version_back vs)) (back v) ∙ ap (λ (us : List PlainVersion). v ∷ us) (backs vs)
-
--- a number is that of the key
-number_is : (ks : List (ℕ × ℕ)) (p : ℕ × ℕ) (i : ℕ) → number_in ks p.0 p.1 ≡ Some i → slice_get ks i ≡ Some p
-unfolding number_in
-number_is [] p i e = absurd (cc)
-number_is (k ∷ ks) p i e = by (nat_eq k.0 p.0 && nat_eq k.1 p.1) refl (number_in ks p.0 p.1) refl (number_is ks p)
-  where
-    by : (b : Bool) → (nat_eq k.0 p.0 && nat_eq k.1 p.1) ≡ b → (o : Option ℕ) → number_in ks p.0 p.1 ≡ o → ((j : ℕ) → number_in ks p.0 p.1 ≡ Some j → slice_get ks j ≡ Some p) → slice_get (k ∷ ks) i ≡ Some p
-    by true same o later below =
-        let here : Some zero ≡ Some i = sym (ap (λ z. if z then Some zero else option_map suc (number_in ks p.0 p.1)) same) ∙ e in
-        let first : zero ≡ i = same_Some zero i here in
-        subst (λ (n : ℕ). slice_get (k ∷ ks) n ≡ Some p) first (ap (λ (z : ℕ × ℕ). Some z) (exact_pair exact_unsigned_eq k p same))
-    by false same None later below =
-        let none : None ≡ Some i = sym (ap (λ (z : Option ℕ). option_map suc z) later) ∙ (sym (ap (λ z. if z then Some zero else option_map suc (number_in ks p.0 p.1)) same) ∙ e) in
-        absurd (cc)
-    by false same (Some j) later below =
-        let next : Some (suc j) ≡ Some i = sym (ap (λ (z : Option ℕ). option_map suc z) later) ∙ (sym (ap (λ z. if z then Some zero else option_map suc (number_in ks p.0 p.1)) same) ∙ e) in
-        subst (λ (n : ℕ). slice_get (k ∷ ks) n ≡ Some p) (same_Some (suc j) i next) (below j later)
 
 -- the row of a number, where no key stands twice
 row_law : (ks : List (ℕ × ℕ)) (rs : List (Vec Version Global)) (p x : ℕ) → AreDifferent ks → (v : PlainVersion) → Contains (row_of rs (number_in ks p x)) v ↔ linked_in (joins_in ks rs) p x v

@@ -1,9 +1,7 @@
 -- The keys that written keys come to.
-use Rattle.std.proofs.Common.{◌≡◌, ℕ, ℤ, pos, Bool, true, false, not, ◌&&◌, if◌then◌else◌, nat_eq, List, [], ◌∷◌, Option, Some, None, Result, Ok, refl, sym, ap, subst, ◌∙◌}
+use Rattle.std.proofs.Common.{◌≡◌, ℕ, ℤ, pos, Bool, true, false, not, List, [], ◌∷◌, Option, Some, None, Result, Ok, refl, sym, ap, subst, ◌∙◌}
 use Rattle.std.specs.Prelude.{⊤}
 use Rattle.std.specs.Fmt.{signed_decimal}
-use Rattle.std.specs.Str.Parse.{signed_digits_value}
-use Rattle.std.specs.Cmp.Lexicographic.{pointwise}
 use Rattle.plain_values.specs.Plain.{Plain, PlainKey, int_key, text_key, null, flag, int, text, array}
 use Rattle.plain_values.specs.Keys.{canonical_integer, canonical_key, key_of, same_key}
 use Rattle.plain_values.specs.Numeric.{is_in_range}
@@ -18,7 +16,8 @@ use Rattle.loose_sets.specs.Reaching.{at_point}
 use Rattle.loose_sets.specs.Keys.{literal_key, is_among, may_be, may_be_other, is_exactly}
 use Rattle.loose_sets.specs.Names.{text_half, own, keys_of, Name, set_of, use_of}
 use Rattle.loose_sets.specs.Table.{Row, KeyText, of_integer, of_text, of_value, of_false, of_next}
-use Rattle.plain_values.proofs.SameKeys.{same_is, same_itself, same_back}
+use Rattle.plain_values.proofs.CanonicalLemmas.{spelled}
+use Rattle.plain_values.proofs.SameKeys.{same_itself, same_back}
 use Rattle.loose_soundness.proofs.Decimals.{integer_is, decimal_none, decimal_one}
 use Rattle.loose_soundness.proofs.Lying.{Def, UseLies, same_in}
 
@@ -64,21 +63,6 @@ not_exactly f (Some (read_ref x)) _ j (by_key _ c e) h = refl
 not_exactly f None _ j (by_next z i) h = refl
 
 -- a canonical text is the decimal form of its integer
-and_second : (a b : Bool) → (a && b) ≡ true → b ≡ true
-and_second true b e = e
-and_second false b e = cc
-
-spelled : (t : List ℕ) (z : ℤ) → canonical_integer t ≡ Some z → signed_decimal z ≡ t
-spelled t z e = by (is_in_range (signed_digits_value 10 t) && pointwise nat_eq (signed_decimal (signed_digits_value 10 t)) t) refl e
-  where
-    by : (b : Bool) → (is_in_range (signed_digits_value 10 t) && pointwise nat_eq (signed_decimal (signed_digits_value 10 t)) t) ≡ b → (if b then Some (signed_digits_value 10 t) else None) ≡ Some z → signed_decimal z ≡ t
-    by true h g =
-        let is : z ≡ signed_digits_value 10 t = cc in
-        let same : text_key (signed_decimal (signed_digits_value 10 t)) ≡ text_key t = same_is (text_key (signed_decimal (signed_digits_value 10 t))) (text_key t) (and_second (is_in_range (signed_digits_value 10 t)) _ h) in
-        let texts : signed_decimal (signed_digits_value 10 t) ≡ t = cc in
-        ap signed_decimal is ∙ texts
-    by false h g = cc
-
 pub canonical_text : (t : List ℕ) → text_of (value_of_key (canonical_key t (canonical_integer t))) ≡ t
 canonical_text t = by (canonical_integer t) refl
   where

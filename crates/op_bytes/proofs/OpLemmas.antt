@@ -1,7 +1,6 @@
--- What operations add, and make of a byte, by their kinds.
-use Rattle.std.proofs.Common.{◌≡◌, ◌<◌, ◌≤◌, ◌+◌, ℕ, Bool, true, false, List, [], ◌∷◌, Contains, inl, inr, refl, sym, ◌∙◌, ap, subst, arith}
+-- Sets with more bytes, and what operations make of a byte, by their kinds.
+use Rattle.std.proofs.Common.{◌≡◌, ◌<◌, ◌≤◌, ◌+◌, ℕ, Bool, true, false, List, Contains, inl, inr, sym, ◌∙◌, subst, arith}
 use Rattle.std.specs.Prelude.{◌⊎◌, ◌↔◌, codes, IsTrue}
-use Rattle.std.specs.Char.{to_ascii_uppercase}
 use Rattle.std.proofs.lemmas.Bool.{cases_eq}
 use Rattle.std.proofs.lemmas.List.{get_or-replicate}
 use Rattle.text_base.specs.ByteSet.{Has, no_bytes}
@@ -9,23 +8,7 @@ use Rattle.op_bytes.specs.Work.{IsTurned}
 use Rattle.string_functions.specs.Breaks.{is_line_end}
 use Rattle.op_system.specs.declared.op.Op.{Op}
 use Rattle.op_system.specs.declared.op.Op.TheVariants as op
-use Rattle.least_sets.specs.Bytes.{Adds, Turns}
-
--- an operation with a text that it puts in
-pub adds_text : (o : Op) (search with : List ℕ) → o ≡ op.Replace search with → (c : ℕ) → Adds o c → Contains with c
-unfolding Adds
-adds_text o search with is c h = subst (λ (x : Op). Adds x c) is h
-
-pub text_adds : (o : Op) (search with : List ℕ) → o ≡ op.Replace search with → (c : ℕ) → Contains with c → Adds o c
-unfolding Adds
-text_adds o search with is c h = subst (λ (x : Op). Adds x c) (sym is) h
-
--- an operation that puts nothing in
-abbrev pub AddsNothing : Op → Type 0
-AddsNothing k = (c : ℕ) → Adds k c → ⊥
-
-pub nothing_added : (o k : Op) → o ≡ k → AddsNothing k → AddsNothing o
-nothing_added o k is h c a = h c (subst (λ (x : Op). Adds x c) is a)
+use Rattle.least_sets.specs.Bytes.{Turns}
 
 -- sets with more bytes
 abbrev pub IsMore : List Bool → List Bool → (ℕ → Type 0) → Type 0
@@ -48,9 +31,6 @@ more_two a b d E F h g c lt = (
 
 pub more_turned : (old new : List Bool) (o k : Op) (byte : ℕ) → o ≡ k → IsMore old new (Turns k byte) → IsMore old new (Turns o byte)
 more_turned old new o k byte is h = subst (λ (x : Op). IsMore old new (Turns x byte)) (sym is) h
-
-pub more_text : (old new : List Bool) (o : Op) (search with text : List ℕ) → o ≡ op.Replace search with → text ≡ with → IsMore old new (Contains text) → IsMore old new (Adds o)
-more_text old new o search with text is same h = more_like old new (Contains text) (Adds o) (λ c. (λ x. text_adds o search with is c (subst (λ (t : List ℕ). Contains t c) same x), λ x. subst (λ (t : List ℕ). Contains t c) (sym same) (adds_text o search with is c x))) h
 
 -- line breaks
 pub breaks_yes : (old mid new : List Bool) (byte : ℕ) → is_line_end byte ≡ true → IsMore old mid (λ c. c ≡ byte) → IsMore mid new (Contains (codes "<br />")) → IsMore old new (Turns op.Breaks byte)

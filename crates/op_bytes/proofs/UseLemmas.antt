@@ -4,7 +4,6 @@ use Rattle.std.specs.Prelude.{◌⊎◌, ◌↔◌, nat_lt}
 use Rattle.std.specs.List.{All, list_all, flat_map}
 use Rattle.std.proofs.lemmas.Bool.{cases_eq, ltb-true}
 use Rattle.std.proofs.lemmas.Option.{slice_get_within, same_Some}
-use Rattle.text_base.specs.declared.byte_range.ByteRange.{ByteRange}
 use Rattle.std.proofs.lemmas.List.Elements.{Contains-append_cases, Contains-append_left, Contains-append_right, Contains-get_or}
 use Rattle.text_base.specs.declared.numbers.Nt as nt
 use Rattle.cfg_grammar.specs.declared.symbol.Symbol.{Symbol}
@@ -19,7 +18,8 @@ use Rattle.op_system.specs.declared.system.OpSystem.{OpSystem}
 use Rattle.op_system.specs.Rules.{rule_below}
 use Rattle.least_sets.specs.Bytes.{Adds}
 use Rattle.system_bytes.specs.Bytes.{HasBytes}
-use Rattle.op_bytes.specs.Fitting.{AreFitting, AreFittingRules}
+use Rattle.cfg_grammar.specs.Bytes.{FirstHaveBytes}
+use Rattle.op_bytes.specs.Fitting.{AreFittingRules}
 use Rattle.op_bytes.specs.declared.uses.Use.{Use}
 use Rattle.op_bytes.specs.Work.{uses_in, uses_on, uses_of}
 use Rattle.system_bytes.proofs.ListLemmas.{one_of, none_in, only_in, first_in, later_in, all_at, first_so, second_so, placed, contained}
@@ -85,15 +85,6 @@ pub left_below_so : (count : ℕ) (ps : List Production) (p : Production) → li
 left_below_so count ps p h has = ltb-true p.left.0 count (first_so (nat_lt p.left.0 count) (list_all (symbol_below count) (symbols_of p.right)) (all_at (production_below count) ps p h has))
 
 -- bytes are below 256
-pub fitting_more : (ps : List Production) (n : ℕ) (p : Production) → slice_get ps n ≡ Some p → AreFitting ps n → ((range : ByteRange) → Contains (symbols_of p.right) (Range range) → range.hi < 256) → AreFitting ps (n + 1)
-fitting_more ps n p at before here k q range lt found on = elim (cases_eq k n) [
-  | inl same ↦ (let own : q ≡ p = same_Some q p (sym found ∙ (ap (slice_get ps) same ∙ at)) in here range (subst (λ (x : Production). Contains (symbols_of x.right) (Range range)) own on))
-  | inr other ↦ before k q range (omega arith) found on
-]
-
-pub fitting_all : (ps : List Production) (n : ℕ) → length ps ≤ n → AreFitting ps n → AreFitting ps (length ps)
-fitting_all ps n le before k q range lt found on = before k q range (omega arith) found on
-
 pub fitting_more_rules : (rs : List OpRule) (n : ℕ) (r : OpRule) → slice_get rs n ≡ Some r → AreFittingRules rs n → ((byte : ℕ) → Adds r.op byte → byte < 256) → AreFittingRules rs (n + 1)
 fitting_more_rules rs n r at before here k q byte lt found adds = elim (cases_eq k n) [
   | inl same ↦ (let own : q ≡ r = same_Some q r (sym found ∙ (ap (slice_get rs) same ∙ at)) in here byte (subst (λ (x : OpRule). Adds x.op byte) own adds))
@@ -103,9 +94,9 @@ fitting_more_rules rs n r at before here k q byte lt found adds = elim (cases_eq
 pub fitting_all_rules : (rs : List OpRule) (n : ℕ) → length rs ≤ n → AreFittingRules rs n → AreFittingRules rs (length rs)
 fitting_all_rules rs n le before k q byte lt found adds = before k q byte (omega arith) found adds
 
-pub has_bytes : (s : OpSystem) → AreFitting s.grammar.productions.items (length s.grammar.productions.items) → AreFittingRules s.ops.items (length s.ops.items) → HasBytes s
+pub has_bytes : (s : OpSystem) → FirstHaveBytes s.grammar.productions.items (length s.grammar.productions.items) → AreFittingRules s.ops.items (length s.ops.items) → HasBytes s
 has_bytes s f g = record {
-  ranges = λ p range has on. let at = placed s.grammar.productions.items p has in f at.0 p range (slice_get_within s.grammar.productions.items at.0 p at.1) at.1 on;
+  ranges = λ p range has on. let at = placed s.grammar.productions.items p has in f at.0 p (slice_get_within s.grammar.productions.items at.0 p at.1) at.1 range on;
   literals = λ rule byte has adds. let at = placed s.ops.items rule has in g at.0 rule byte (slice_get_within s.ops.items at.0 rule at.1) at.1 adds;
 }
 

@@ -1,6 +1,6 @@
 //! The bytes that stand in a system.
 
-ghost use Rattle.std.specs.Prelude.{◌≡◌, ◌<◌, ◌⊎◌, ◌↔◌, ℕ, Contains, All, length, IfOk, OnOk};
+ghost use Rattle.std.specs.Prelude.{◌≡◌, ◌<◌, ◌⊎◌, ◌↔◌, ℕ, Contains, All, length, IfOk};
 ghost use Rattle.text_base.specs.declared.byte_range.ByteRange as byte_range;
 ghost use Rattle.text_base.specs.ByteRange.{InRange};
 ghost use Rattle.text_base.specs.ByteSet.{Has, no_bytes};

@@ -1,65 +1,19 @@
 //! That bytes are below 256, as contracts see them.
 
-ghost use Rattle.std.specs.Prelude.{◌≡◌, ◌<◌, ℕ, Contains, All, slice_get, length, Some};
-ghost use Rattle.text_base.specs.declared.byte_range.ByteRange as byte_range;
-ghost use Rattle.cfg_grammar.specs.Below.{symbols_of};
-ghost use Rattle.cfg_grammar.specs.declared.symbol.Symbol as symbols;
+ghost use Rattle.std.specs.Prelude.{◌<◌, ℕ, Contains, length};
 ghost use Rattle.least_sets.specs.Bytes.{Adds};
 ghost use Rattle.system_bytes.specs.Bytes.{HasBytes};
-ghost use Rattle.op_bytes.specs.Fitting.{AreFitting, AreFittingRules};
+ghost use Rattle.op_bytes.specs.Fitting.{AreFittingRules};
 
 use crate::literals::literal_of;
-use cfg_grammar::{Production, Right, Symbol};
+use cfg_grammar::productions_fit;
 use op_system::{Op, OpRule, OpSystem};
-
-/// A byte.
-fn byte_fits(byte: u8)
-    ensures { byte < 256 }
-{
-    let _ = byte;
-}
 
 /// The bytes of a text.
 fn text_fits(text: &[u8])
     ensures { (byte : ℕ) → Contains text.now byte → byte < 256 }
 {
     let _ = text;
-}
-
-/// The bytes of a range.
-fn symbol_fits(symbol: Symbol)
-    ensures { (range : byte_range.ByteRange) → symbol ≡ symbols.Symbol.Range range
-        → range.hi < 256 }
-{
-    match symbol {
-        Symbol::Range(range) => byte_fits(range.hi),
-        Symbol::Token(_) => {}
-        Symbol::Nt(_) => {}
-    }
-}
-
-/// The ranges of a production.
-fn production_fits(p: Production)
-    ensures { (range : byte_range.ByteRange)
-        → Contains (symbols_of p.right) (symbols.Symbol.Range range) → range.hi < 256 }
-{
-    match p.right {
-        Right::Empty => {}
-        Right::One(a) => symbol_fits(a),
-        Right::Two(a, b) => {
-            symbol_fits(a);
-            symbol_fits(b);
-        }
-    }
-}
-
-/// The ranges of all productions.
-fn productions_fit(productions: &[Production])
-    ensures { AreFitting productions.now (length productions.now) }
-{
-    for p in productions {
-        production_fits(*p);
-    }
 }
 
 /// The bytes that an operation adds.

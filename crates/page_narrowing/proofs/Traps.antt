@@ -1,16 +1,14 @@
 -- A test of states that fails from then on where it failed once: no piece comes of it, by characters and by bytes.
 use Rattle.std.proofs.Common.{◌≡◌, ◌⊎◌, inl, inr, ℕ, ◌≤◌, ◌<◌, Bool, true, false, ◌&&◌, List, [], ◌∷◌, ◌++◌, Option, Some, None, refl, sym, ◌∙◌, ap, subst}
-use Rattle.std.specs.Prelude.{if◌then◌else◌, bytes_eq}
+use Rattle.std.specs.Prelude.{if◌then◌else◌}
 use Rattle.std.specs.Char.{encode_utf8}
-use Rattle.std.specs.Str.{chars}
-use Rattle.std.proofs.lemmas.Bool.{and_parts, cases_lt}
-use Rattle.std.proofs.lemmas.Slice.Eq.{bytes_eq-Decides}
+use Rattle.std.proofs.lemmas.Bool.{cases_lt}
 use Rattle.std.proofs.lemmas.Str.{encode_ascii}
-use Rattle.xml_text.specs.Characters.{is_character}
 use Rattle.piece_steps.specs.Readers.{Move, go, done, fail, Reader, whole, next, ends}
 use Rattle.piece_steps.proofs.Narrowed.{AllPass}
-use Rattle.character_steps.specs.Bytes.{only, decoded, is_begun}
+use Rattle.character_steps.specs.Bytes.{decoded, is_begun}
 use Rattle.character_steps.specs.Encoded.{Held, lifted, by_character, byte_step, is_some_byte, encoded}
+use Rattle.page_step_laws.proofs.Decoded.{spelled}
 
 -- the move fails, or leads where the test fails
 abbrev pub Trapped : {P T S : Type 0} → (S → Bool) → Move P T S → Type 0
@@ -46,23 +44,6 @@ pub record Trap {P T S : Type 0} (r : Reader P T S) (hold : S → S) (test takes
 
 abbrev pub both : {S : Type 0} → (S → Bool) → (S → Bool) → Held S → Bool
 both test takes h = test h.state && (if is_some_byte h.begun then takes h.state else true)
-
--- what bytes are read as has these bytes
-spelled : (bytes : List ℕ) (c : ℕ) → decoded bytes ≡ Some c → encode_utf8 c ≡ bytes
-unfolding decoded
-spelled bytes c e = at (chars bytes) e
-  where
-    same : (x y : ℕ) → (let z : Option ℕ = Some x in z ≡ Some y) → x ≡ y
-    same x y e = cc
-
-    by : (d : ℕ) (b : Bool) → (is_character d && bytes_eq (encode_utf8 d) bytes) ≡ b → (if b then Some d else None) ≡ Some c → encode_utf8 c ≡ bytes
-    by d true h e = subst (λ (x : ℕ). encode_utf8 x ≡ bytes) (same d c e) ((bytes_eq-Decides (encode_utf8 d) bytes).0 (and_parts (is_character d) (bytes_eq (encode_utf8 d) bytes) h).1)
-    by d false h e = cc
-
-    at : (cs : List ℕ) → only cs bytes ≡ Some c → encode_utf8 c ≡ bytes
-    at [] e = cc
-    at (d ∷ []) e = by d (is_character d && bytes_eq (encode_utf8 d) bytes) refl e
-    at (d ∷ f ∷ cs) e = cc
 
 -- a character of several bytes is no ASCII
 several : (u : List ℕ) (b c : ℕ) → is_some_byte u ≡ true → decoded (u ++ b ∷ []) ≡ Some c → 128 ≤ c

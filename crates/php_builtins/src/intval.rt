@@ -3,42 +3,12 @@
 ghost use Rattle.std.specs.Prelude.{◌≡◌, ◌≤◌, ◌+◌, length, nat_lt, ◌++◌, Ok};
 ghost use Rattle.std.specs.Char.{is_ascii_digit};
 ghost use Rattle.std.specs.List.{prefix_len};
-ghost use Rattle.std.specs.Str.Parse.{without_leading_sign};
-ghost use Rattle.plain_values.specs.Numeric as numeric;
 ghost use Rattle.plain_values.specs.Arithmetic.{in_64_bits};
 ghost use Rattle.plain_values.specs.Intval as spec;
 ghost use Rattle.php_builtins.specs.Front.{outcome as outcome_of};
 
 use crate::cases::{behind, front};
-use plain_values::{Fault, Numeric, numeric_of};
-
-fn is_blank(byte: u8) -> bool
-    ensures { result ≡ numeric.is_blank byte }
-{
-    byte == b' ' || byte == b'\t' || byte == b'\n' || byte == b'\r' || byte == 0x0b || byte == 0x0c
-}
-
-fn skip_blanks(text: &[u8]) -> &[u8]
-    ensures { result.now ≡ numeric.skip_blanks text.now }
-{
-    let mut rest = text;
-    while let Some((first, others)) = rest.split_first() {
-        if !is_blank(*first) {
-            break;
-        }
-        rest = others;
-    }
-    rest
-}
-
-fn without_sign(body: &[u8]) -> &[u8]
-    ensures { result.now ≡ without_leading_sign body.now }
-{
-    match body.split_first() {
-        Some((b'-' | b'+', rest)) => rest,
-        _ => body,
-    }
-}
+use plain_values::{Fault, Numeric, numeric_of, skip_blanks, without_sign};
 
 fn sign_length(body: &[u8]) -> usize
     ensures value { result ≡ length (spec.leading_sign body.now) }

@@ -20,7 +20,6 @@ mod doing;
 mod grammars;
 mod made;
 mod making;
-mod one_script;
 mod page;
 mod report;
 mod running;

@@ -13,8 +13,7 @@ ghost use Rattle.phpsa_main.specs.Decided.{Decides};
 
 use crate::answers::conclusion_of;
 use crate::deciding::decide_script;
-use crate::one_script::{MADE_NAME, OneScript};
-use document_types::DocumentType;
+use document_types::{DocumentType, OneFile};
 use page_goals::Goal;
 use phpsa_tasks::{PAIR_LIMIT, Reply, ShownAnswer};
 use phpsa_texts::{Refusal, size_refusal, summary_message};
@@ -22,12 +21,16 @@ use script_maker::{MakeRefusal, make};
 use std::alloc::Global;
 use text_base::{Bytes, NoMemory};
 
+/// The name of a generated script, where it is loaded.
+const MADE_NAME: &str = "made.php";
+
 /// The answer for this script, by the built-in definition.
 fn decided(alloc: Global, script: Bytes) -> Result<ShownAnswer, Refusal>
     ensures { (misses reads : ℕ) × Decides (source_call (only_script script) 0 0 0 misses 0 reads)
         made_name strict_type Valid task.PAIR_LIMIT result }
 {
-    let mut files = OneScript {
+    let mut files = OneFile {
+        name: MADE_NAME,
         text: script,
         misses: 0,
         reads: 0,

@@ -1,10 +1,11 @@
 -- What a task speaks of: a program, or a page, that stands under the name of a file, and the table of a definition.
-use Rattle.std.specs.Prelude.{◌⊎◌, ℕ, List, None, Some, if◌then◌else◌, bytes_eq, codes, ⊤}
+use Rattle.std.specs.Prelude.{◌⊎◌, ℕ, List, Some, codes, ⊤}
 use Rattle.io_edge.specs.Told.{Tells}
 use Rattle.script_meaning.specs.Programs.{PlainProgram}
 use Rattle.script_meaning.specs.Requests.{PlainRequest, Admitted}
 use Rattle.told_programs.specs.Told.{Content, IsLoaded, HoldsProgram, AreShort}
 use Rattle.dtd_model.specs.Table.{Table}
+use Rattle.document_types.specs.OneFile.{file_alone}
 use Rattle.document_types.specs.DocumentTypes.{NamedType, strict_type, HasTable, NamesAreTold, NamesAreShort, IsTooLarge}
 use Rattle.shown_answers.specs.Decision.{HasManyStates}
 use Rattle.script_maker.specs.Made.{made, IsSize}
@@ -33,7 +34,7 @@ made_name = codes "made.php"
 
 -- a source that has a file of this name alone, with this text
 abbrev pub only_script : List ℕ → Content
-only_script text name = Some (if bytes_eq name made_name then Some text else None)
+only_script = file_alone made_name
 
 -- a source that has the generated script of so many functions alone
 abbrev pub only_made : ℕ → Content

@@ -1,6 +1,6 @@
 //! The lines that texts are made of.
 
-ghost use Rattle.std.specs.Prelude.{◌≡◌, ◌++◌, OnOk, IfOk};
+ghost use Rattle.std.specs.Prelude.{◌≡◌, ◌++◌, ◌∷◌, [], codes, OnOk, IfOk};
 ghost use Rattle.std.specs.Fmt.{decimal};
 ghost use Rattle.phpsa_texts.specs.Texts.{counted_text, named_text, dtd_text};
 
@@ -21,16 +21,23 @@ pub(crate) fn append_number(alloc: Global, text: &mut Bytes, number: u64) -> Res
     Ok(())
 }
 
+/// A text, a kind, a space, a value and LF.
+fn line(alloc: Global, head: &[u8], kind: &[u8], value: &[u8]) -> Result<Bytes, NoMemory>
+    ensures { IfOk result (λ text. text ≡ head.now ++ kind.now ++ codes " " ++ value.now ++ 10 ∷ []) }
+{
+    let mut text = Bytes::from_slice(alloc, head)?;
+    text.append(kind)?;
+    text.append(b" ")?;
+    text.append(value)?;
+    text.append(b"\n")?;
+    Ok(text)
+}
+
 /// `phpsa: KIND NAME`.
 pub(crate) fn named_text(alloc: Global, kind: &[u8], name: &[u8]) -> Result<Bytes, NoMemory>
     ensures { IfOk result (λ text. text ≡ named_text kind.now name.now) }
 {
-    let mut text = Bytes::from_slice(alloc, b"phpsa: ")?;
-    text.append(kind)?;
-    text.append(b" ")?;
-    text.append(name)?;
-    text.append(b"\n")?;
-    Ok(text)
+    line(alloc, b"phpsa: ", kind, name)
 }
 
 /// `phpsa: KIND COUNT`.
@@ -64,12 +71,7 @@ pub(crate) fn counted_text(
 pub(crate) fn dtd_text(alloc: Global, kind: &[u8], value: &[u8]) -> Result<Bytes, NoMemory>
     ensures { IfOk result (λ text. text ≡ dtd_text kind.now value.now) }
 {
-    let mut text = Bytes::from_slice(alloc, b"phpsa: Dtd ")?;
-    text.append(kind)?;
-    text.append(b" ")?;
-    text.append(value)?;
-    text.append(b"\n")?;
-    Ok(text)
+    line(alloc, b"phpsa: Dtd ", kind, value)
 }
 
 /// `phpsa: Dtd KIND NUMBER`.

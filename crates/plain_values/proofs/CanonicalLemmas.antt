@@ -1,5 +1,5 @@
 -- When a text is the decimal form of no integer.
-use Rattle.std.proofs.Common.{◌≡◌, ℕ, ℤ, pos, negsuc, [], length, Bool, true, false, ◌&&◌, if◌then◌else◌, List, Option, Some, None, Ok, Err, refl, sym, ap, subst, nat_eq, arith, w64}
+use Rattle.std.proofs.Common.{◌≡◌, ℕ, ℤ, pos, negsuc, [], length, Bool, true, false, ◌&&◌, if◌then◌else◌, List, Option, Some, None, Ok, Err, refl, sym, ap, ◌∙◌, subst, nat_eq, arith, w64}
 use Rattle.std.specs.Prelude.{FitsSigned}
 use Rattle.std.specs.Cmp.{first_so, second_so}
 use Rattle.std.specs.Cmp.Lexicographic.{pointwise}
@@ -23,6 +23,16 @@ no_integer t apart = by (is_in_range (signed_digits_value 10 t) && pointwise nat
         (fits_if (signed_digits_value 10 t) (first_so (is_in_range (signed_digits_value 10 t)) (pointwise nat_eq (signed_decimal (signed_digits_value 10 t)) t) e))
         (sym (exact_bytes (signed_decimal (signed_digits_value 10 t)) t (second_so (is_in_range (signed_digits_value 10 t)) (pointwise nat_eq (signed_decimal (signed_digits_value 10 t)) t) e))))
     by false e = refl
+
+-- an integer that a text stands for is spelled by it
+pub spelled : (t : List ℕ) (z : ℤ) → canonical_integer t ≡ Some z → signed_decimal z ≡ t
+spelled t z e = by (is_in_range (signed_digits_value 10 t) && pointwise nat_eq (signed_decimal (signed_digits_value 10 t)) t) refl e
+  where
+    by : (b : Bool) → (is_in_range (signed_digits_value 10 t) && pointwise nat_eq (signed_decimal (signed_digits_value 10 t)) t) ≡ b → (if b then Some (signed_digits_value 10 t) else None) ≡ Some z → signed_decimal z ≡ t
+    by true h g =
+        let is : z ≡ signed_digits_value 10 t = cc in
+        ap signed_decimal is ∙ exact_bytes (signed_decimal (signed_digits_value 10 t)) t (second_so (is_in_range (signed_digits_value 10 t)) _ h)
+    by false h g = cc
 
 pub none_unless_utf8 : (t : List ℕ) → (IsUtf8 t → ⊥) → None ≡ canonical_integer t
 none_unless_utf8 t h = no_integer t (λ z fits e. h (IsUtf8-from_ascii t (subst IsAscii (sym e) (IsAscii-signed z fits.sfits))))

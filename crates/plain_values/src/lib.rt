@@ -12,4 +12,4 @@ mod numeric;
 pub use fault::Fault;
 pub use integers::{canonical_integer, decimal};
 pub use laws::numeric_texts;
-pub use numeric::{Numeric, numeric_of};
+pub use numeric::{Numeric, numeric_of, skip_blanks, without_sign};

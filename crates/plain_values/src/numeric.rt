@@ -52,7 +52,8 @@ fn is_blank(byte: u8) -> bool
     byte == b' ' || byte == b'\t' || byte == b'\n' || byte == b'\r' || byte == 0x0b || byte == 0x0c
 }
 
-fn skip_blanks(text: &[u8]) -> &[u8]
+/// The text without the blanks that it begins with (PHP manual, "Numeric strings": WHITESPACES).
+pub fn skip_blanks(text: &[u8]) -> &[u8]
     ensures { result.now ≡ spec.skip_blanks text.now }
 {
     let mut rest = text;
@@ -84,7 +85,8 @@ fn trimmed(text: &[u8]) -> &[u8]
     skip_blanks_behind(skip_blanks(text))
 }
 
-fn without_sign(body: &[u8]) -> &[u8]
+/// The text without the sign that it begins with, if it does.
+pub fn without_sign(body: &[u8]) -> &[u8]
     ensures { result.now ≡ without_leading_sign body.now }
 {
     match body.split_first() {

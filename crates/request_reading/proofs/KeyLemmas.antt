@@ -1,30 +1,18 @@
 -- Names as keys: different names are different keys.
-use Rattle.std.proofs.Common.{◌≡◌, ℕ, ℤ, Bool, true, false, ◌&&◌, if◌then◌else◌, List, Option, Some, None, Less, Equal, refl, sym, ap, ◌∙◌, nat_eq}
-use Rattle.std.specs.Cmp.{second_so}
-use Rattle.std.specs.Cmp.Lexicographic.{pointwise, slice_cmp}
+use Rattle.std.proofs.Common.{◌≡◌, ℕ, ℤ, Bool, true, false, List, Option, Some, None, Less, Equal, refl, sym, ap, ◌∙◌}
+use Rattle.std.specs.Cmp.Lexicographic.{slice_cmp}
 use Rattle.std.specs.Fmt.{signed_decimal}
 use Rattle.std.specs.Ordering.{nat_cmp}
-use Rattle.std.specs.Str.Parse.{signed_digits_value}
 use Rattle.std.proofs.lemmas.Bool.{leb-true, false_from_ne_true}
 use Rattle.std.proofs.lemmas.Bool.Decides.{Decides-int_eq}
 use Rattle.text_base.specs.Exactness.{exact_bytes}
 use Rattle.plain_values.specs.Plain.{text}
 use Rattle.plain_values.specs.Keys.{canonical_integer, canonical_key, same_key}
 use Rattle.plain_values.specs.Lawful.{IsKey}
-use Rattle.plain_values.specs.Numeric.{is_in_range}
+use Rattle.plain_values.proofs.CanonicalLemmas.{spelled}
 use Rattle.std.proofs.lemmas.Cmp.{nat_list_cmp_total, tied_itself}
 use Rattle.value_laws.proofs.Arrays.{key_is}
 use Rattle.request_reading.specs.RequestFile.{name_key, fits_text}
-
--- an integer that a text stands for is spelled by it
-pub spelled : (t : List ℕ) (z : ℤ) → canonical_integer t ≡ Some z → signed_decimal z ≡ t
-spelled t z e = by (is_in_range (signed_digits_value 10 t) && pointwise nat_eq (signed_decimal (signed_digits_value 10 t)) t) refl e
-  where
-    by : (b : Bool) → (is_in_range (signed_digits_value 10 t) && pointwise nat_eq (signed_decimal (signed_digits_value 10 t)) t) ≡ b → (if b then Some (signed_digits_value 10 t) else None) ≡ Some z → signed_decimal z ≡ t
-    by true h g =
-        let is : z ≡ signed_digits_value 10 t = cc in
-        ap signed_decimal is ∙ exact_bytes (signed_decimal (signed_digits_value 10 t)) t (second_so (is_in_range (signed_digits_value 10 t)) _ h)
-    by false h g = cc
 
 same_name : (a b : List ℕ) → same_key (name_key a) (name_key b) ≡ true → a ≡ b
 same_name a b h = by (canonical_integer a) (canonical_integer b) refl refl h

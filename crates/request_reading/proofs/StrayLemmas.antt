@@ -30,7 +30,7 @@ use Rattle.request_reading.specs.Outcome.{not_request, not_admitted, stands_for,
 use Rattle.request_reading.specs.Laws.{HasMembers, HasForm, GoesByMembers}
 use Rattle.request_reading.proofs.AdmittedLemmas.{IsArray, array_found, names_admitted}
 use Rattle.request_reading.proofs.TextLemmas.{is_the_text}
-use Rattle.request_reading.proofs.KeyLemmas.{spelled}
+use Rattle.plain_values.proofs.CanonicalLemmas.{spelled}
 use Rattle.request_reading.proofs.OrderLemmas.{AreFound, all_found, parsed_ordered, parsed_nests}
 
 -- the decimal form of an integer is a text

@@ -1,8 +1,7 @@
 -- The texts that productions derive are of bytes where the ranges in the productions are.
-use Rattle.std.proofs.Common.{◌≡◌, ◌<◌, ◌≤◌, ◌+◌, ℕ, List, [], ◌∷◌, ◌++◌, length, map, Some, slice_get, Contains, inl, inr, refl, sym, ◌∙◌, ap, subst, arith}
+use Rattle.std.proofs.Common.{◌≡◌, ◌<◌, ◌+◌, ℕ, List, [], ◌∷◌, ◌++◌, length, map, Some, slice_get, Contains, refl, ◌∙◌, ap, arith}
 use Rattle.std.specs.Prelude.{All}
-use Rattle.std.proofs.lemmas.Bool.{cases_eq}
-use Rattle.std.proofs.lemmas.Option.{slice_get-get_or, slice_get_within, same_Some}
+use Rattle.std.proofs.lemmas.Option.{slice_get-get_or, slice_get_within}
 use Rattle.std.proofs.lemmas.List.Elements.{All-nil, All-cons}
 use Rattle.text_base.specs.declared.byte_range.ByteRange.{ByteRange}
 use Rattle.text_base.specs.declared.numbers.Nt as nt
@@ -13,20 +12,10 @@ use Rattle.cfg_grammar.specs.declared.symbol.Symbol.TheVariants.{Range, Token, N
 use Rattle.cfg_grammar.specs.declared.production.Production.{Production}
 use Rattle.cfg_grammar.specs.Derives.{Derives, by_range, by_token, by_empty, by_one, by_two}
 use Rattle.image_meaning.specs.Outputs.{DerivesText}
-use Rattle.text_decision.specs.Bytes.{HasBytes, FirstHaveBytes}
+use Rattle.cfg_grammar.specs.Bytes.{HasBytes, FirstHaveBytes}
 
 placed : {X : Type 0} (xs : List X) (x : X) → Contains xs x → (n : ℕ) × (slice_get xs n ≡ Some x)
 placed xs x c = (c.0, slice_get-get_or xs c.0 x c.1 ∙ ap Some c.2)
-
--- one production more
-pub first_more : (ps : List Production) (n : ℕ) (p : Production) → slice_get ps n ≡ Some p → FirstHaveBytes ps n → HasBytes p → FirstHaveBytes ps (n + 1)
-first_more ps n p at before here k q lt found range on = elim (cases_eq k n) [
-  | inl same ↦ (let own : q ≡ p = same_Some q p (sym found ∙ (ap (slice_get ps) same ∙ at)) in subst (λ (x : Production). HasBytes x) (sym own) here range on)
-  | inr other ↦ before k q (omega arith) found range on
-]
-
-pub first_all : (ps : List Production) (n : ℕ) → length ps ≤ n → FirstHaveBytes ps n → FirstHaveBytes ps (length ps)
-first_all ps n le before k q lt found = before k q (omega arith) found
 
 -- the bytes among letters are below 256
 abbrev AreFit : List Letter → Type 0

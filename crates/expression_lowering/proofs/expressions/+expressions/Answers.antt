@@ -9,13 +9,14 @@ use Rattle.flow_code.specs.declared.source.KeyRef.{KeyRef}
 use Rattle.flow_code.specs.Code.{Code, both}
 use Rattle.std.proofs.lemmas.List.{length-map}
 use Rattle.flow_code.specs.declared.source.Work.TheVariants as work
-use Rattle.flow_code.specs.Points.{PlainSource, PlainKeyRef, number_source, truth_source, concat_source, array_source, member_source}
+use Rattle.flow_code.specs.Points.{PlainSource, PlainKeyRef, truth_source, concat_source, array_source, member_source}
 use Rattle.flow_code.specs.View.{plain_key_ref, plain_maybe_key}
 use Rattle.flow_code.specs.Expressions.{code, codes, variable, path_code, length_of_path, stored, old_value, members_along, filled, chosen, chosen_itself}
 use Rattle.flow_lowering.specs.View.{progress}
 use Rattle.flow_lowering.specs.Emits.{Puts, Emits, place}
 use Rattle.flow_lowering.proofs.EmitLemmas.{emits_known, emits_computed, emits_both, puts_length}
 use Rattle.function_scopes.specs.View.{scope_in}
+use Rattle.expression_pieces.specs.Forms.{source_for}
 use Rattle.expression_pieces.proofs.ChoiceLemmas.{emits_connected, emits_there, emits_itself}
 use Rattle.expression_lowering.proofs.RowEmits.{exprs_further, exprs_end, path_further, path_end, items_further, items_end, pushed_length, key_text, key_slot, length_of_keys, by_form}
 use Rattle.expression_pieces.proofs.WriteLemmas.{emits_stored, emits_old, emits_filled}
@@ -53,17 +54,11 @@ lower_items-loop-item-preserved t c =
 pub lower_items-returns : goal.lower_items-returns
 lower_items-returns t c = items_end (scope_in c.args.scope.now) c.args.items.now c.loop-item.item-index c.loop-item.lowered.items c.loop-item-test.false c.loop-item.invariant
 
-pub lower_number-returns : goal.lower_number-returns
-lower_number-returns t c = emits_computed (λ (x : ℕ). number_source c.args.work (x ∷ [])) c.in_ok-operand.ensures c.in_ok-slot.ensures
+pub lower_one-returns : goal.lower_one-returns
+lower_one-returns t c = emits_computed (λ (x : ℕ). source_for c.args.gives c.args.work (x ∷ [])) c.in_ok-operand.ensures c.in_ok-slot.ensures
 
-pub lower_truth-returns : goal.lower_truth-returns
-lower_truth-returns t c = emits_computed (λ (x : ℕ). truth_source c.args.work (x ∷ [])) c.in_ok-operand.ensures c.in_ok-slot.ensures
-
-pub lower_numbers-returns : goal.lower_numbers-returns
-lower_numbers-returns t c = emits_computed (number_source c.args.work) (emits_both (λ (x y : ℕ). x ∷ y ∷ []) c.in_ok-left.ensures c.in_ok-right.ensures) c.in_ok-slot.ensures
-
-pub lower_truths-returns : goal.lower_truths-returns
-lower_truths-returns t c = emits_computed (truth_source c.args.work) (emits_both (λ (x y : ℕ). x ∷ y ∷ []) c.in_ok-left.ensures c.in_ok-right.ensures) c.in_ok-slot.ensures
+pub lower_two-returns : goal.lower_two-returns
+lower_two-returns t c = emits_computed (source_for c.args.gives c.args.work) (emits_both (λ (x y : ℕ). x ∷ y ∷ []) c.in_ok-left.ensures c.in_ok-right.ensures) c.in_ok-slot.ensures
 
 pub lower_connected-finish_truth-requires : goal.lower_connected-finish_truth-requires
 lower_connected-finish_truth-requires t c = omega (arith, c.in_ok-branch.ensures.index_is, puts_length c.in_ok-branch.ensures.puts, c.in_ok-right.ensures.size)

@@ -29,17 +29,11 @@ decreases-lower_path l = 8 * goal.size-lower_path l + 3
 abbrev pub decreases-lower_items : goal.decreases-lower_items
 decreases-lower_items l = 8 * goal.size-lower_items l + 3
 
-abbrev pub decreases-lower_number : goal.decreases-lower_number
-decreases-lower_number l = 8 * size-Expr l.operand.now + 2
+abbrev pub decreases-lower_one : goal.decreases-lower_one
+decreases-lower_one l = 8 * size-Expr l.operand.now + 2
 
-abbrev pub decreases-lower_truth : goal.decreases-lower_truth
-decreases-lower_truth l = 8 * size-Expr l.operand.now + 2
-
-abbrev pub decreases-lower_numbers : goal.decreases-lower_numbers
-decreases-lower_numbers l = 8 * max (size-Expr l.left.now) (size-Expr l.right.now) + 3
-
-abbrev pub decreases-lower_truths : goal.decreases-lower_truths
-decreases-lower_truths l = 8 * max (size-Expr l.left.now) (size-Expr l.right.now) + 3
+abbrev pub decreases-lower_two : goal.decreases-lower_two
+decreases-lower_two l = 8 * max (size-Expr l.left.now) (size-Expr l.right.now) + 3
 
 abbrev pub decreases-lower_connected : goal.decreases-lower_connected
 decreases-lower_connected l = 8 * max (size-Expr l.left.now) (size-Expr l.right.now) + 3

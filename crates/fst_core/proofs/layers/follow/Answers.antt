@@ -7,7 +7,7 @@ use Rattle.fst_core.proofs.layers.follow.Goals as goal
 pub try_moves-requires : goal.try_moves-requires
 try_moves-requires c =
     let found : slice_get c.args.index.now c.args.reached.state ≡ Some c.in-Some.places.now = sym (got_copied _ _ _ c.get.ensures.lookup) ∙ ap (option_copied {T = Vec ℕ Global}) c.in-Some.is in
-    let within = places_within c.args.table.now.moves.items _ _ _ _ c.requires found in
+    let within = places_within c.args.table.now.moves.items _ _ _ c.requires found in
     subst (λ (x : List ℕ). All (λ i. i < length c.args.table.now.moves.items) x) (sym c.as_slice.ensures.value) within
 
 pub returns : goal.returns

@@ -1,6 +1,6 @@
 use Rattle.std.proofs.Common.{List, length, subst}
 use Rattle.cfg_grammar.specs.declared.production.Production.{Production}
-use Rattle.text_decision.specs.Bytes.{FirstHaveBytes}
+use Rattle.cfg_grammar.specs.Bytes.{FirstHaveBytes}
 use Rattle.text_decision.proofs.ByteLemmas.{text_fits}
 use Rattle.text_decision.proofs.bytes.texts_fit.Goals as goal
 

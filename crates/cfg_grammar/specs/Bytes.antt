@@ -1,4 +1,4 @@
--- The bytes that stand in productions.
+-- The bytes that stand in productions, as numbers below 256.
 use Rattle.std.specs.Prelude.{◌≡◌, ◌<◌, ℕ, List, Some, slice_get, Contains}
 use Rattle.text_base.specs.declared.byte_range.ByteRange.{ByteRange}
 use Rattle.cfg_grammar.specs.declared.symbol.Symbol.TheVariants.{Range}

@@ -1,7 +1,7 @@
 use Rattle.std.proofs.Common.{length, refl}
 use Rattle.std.proofs.lemmas.Option.{slice_get_read}
-use Rattle.text_decision.proofs.ByteLemmas.{first_more, first_all}
-use Rattle.text_decision.proofs.bytes.productions_fit.Goals as goal
+use Rattle.cfg_grammar.proofs.ByteLemmas.{first_more, first_all}
+use Rattle.cfg_grammar.proofs.bytes.productions_fit.Goals as goal
 
 pub loop-p-preserved : goal.loop-p-preserved
 loop-p-preserved c =

@@ -1,5 +1,0 @@
-use Rattle.text_decision.specs.Bytes.{FirstHaveBytes}
-use Rattle.text_decision.proofs.bytes.productions_fit.Given as goal
-
-abbrev pub invariant-loop-p : goal.invariant-loop-p
-invariant-loop-p l = FirstHaveBytes l.productions l.p-index
