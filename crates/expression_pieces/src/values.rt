@@ -1,6 +1,7 @@
 //! Values that stand in the script, slots in a row, and operations on them.
 
 ghost use Rattle.std.specs.Prelude.{◌≡◌, ◌+◌, ◌≤◌, [], ◌∷◌, length, map, IfOk};
+ghost use Rattle.text_base.specs.declared.limits.TheConstants.{TEXT_LIMIT};
 ghost use Rattle.plain_values.specs.Plain.{text};
 ghost use Rattle.php_values.specs.View.{plain_of};
 ghost use Rattle.flow_code.specs.Points.{literal_source};
@@ -38,7 +39,7 @@ pub fn two_slots(alloc: Global, first: Slot, second: Slot) -> Result<Vec<Slot>, 
 
 /// A text that stands in the script, as a value.
 pub fn text_value(alloc: Global, bytes: &Bytes) -> Result<Value, NoMemory>
-    requires { length bytes.now ≤ 16777216 }
+    requires { length bytes.now ≤ TEXT_LIMIT }
     ensures { IfOk result (λ value. plain_of value ≡ text bytes.now) }
 {
     let text = Text::from_short(alloc, bytes.as_slice())?;

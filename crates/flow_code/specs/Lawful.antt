@@ -1,5 +1,6 @@
 -- What every program of points keeps, so that whoever takes one asks nothing more of it.
 use Rattle.std.specs.Prelude.{◌≡◌, ◌≢◌, ◌≤◌, ◌<◌, ◌+◌, ⊤, ℕ, ℤ, true, false, slice_get, List, [], ◌∷◌, ◌++◌, length, Option, Some, None, All, flat_map}
+use Rattle.text_base.specs.declared.limits.TheConstants.{TEXT_LIMIT}
 use Rattle.plain_values.specs.Plain.{Plain, array}
 use Rattle.php_syntax.specs.declared.tree.ArithSign.{ArithSign}
 use Rattle.php_syntax.specs.declared.tree.CompareSign.{CompareSign}
@@ -104,7 +105,7 @@ pub record IsOwnPoint (g : PlainFlowFunction) (p : ℕ) : Type 0 where
 -- a key that stands in the script is a key of a run
 abbrev pub IsKeyLiteral : PlainKeyRef → Type 0
 IsKeyLiteral (int_ref z) = is_in_range z ≡ true
-IsKeyLiteral (text_ref t) = length t ≤ 16777216
+IsKeyLiteral (text_ref t) = length t ≤ TEXT_LIMIT
 IsKeyLiteral (read_ref x) = ⊤
 
 -- a key that may be left out; where it stands in the script it is a key of a run

@@ -207,11 +207,7 @@ fn stops_at(table: &Table, layer: &IndexSet<Reached>, output: &[u8]) -> bool
 }
 
 /// For each state below the count, the places of its moves.
-fn by_state(
-    alloc: Global,
-    states: u64,
-    moves: &[TableMove],
-) -> Result<Vec<Vec<usize>>, NoMemory>
+fn by_state(alloc: Global, states: u64, moves: &[TableMove]) -> Result<Vec<Vec<usize>>, NoMemory>
     requires { All (λ m. m.from < states) moves.now }
     ensures len { IfOk result (λ places. vec_len places ≡ states) }
     ensures exact { IfOk result (λ places. ArePlaces (map (λ m. m.from) moves.now) places.items) }

@@ -1,6 +1,7 @@
 //! Copies of a text in a row.
 
 ghost use Rattle.std.specs.Prelude.{◌≡◌, ◌⊎◌, ◌*◌, ◌≤◌, length, nat_lt, IfOk, IfErr, Ok, Err};
+ghost use Rattle.text_base.specs.declared.limits.TheConstants.{TEXT_LIMIT};
 ghost use Rattle.plain_values.specs.Plain.{Plain};
 ghost use Rattle.plain_values.specs.Members.{within_length};
 ghost use Rattle.builtin_meaning.specs.Values.{copies_at};
@@ -13,7 +14,7 @@ use text_base::NoMemory;
 use text_base::limits::TEXT_LIMIT;
 
 fn copies(alloc: Global, text: &[u8], count: usize) -> Result<Vec<u8>, NoMemory>
-    requires { count * length text.now ≤ 16777216 }
+    requires { count * length text.now ≤ TEXT_LIMIT }
     ensures { IfOk result (λ bytes. bytes.items ≡ copies_of count text.now) }
 {
     let mut out = Vec::new(alloc);
@@ -27,7 +28,7 @@ fn copies(alloc: Global, text: &[u8], count: usize) -> Result<Vec<u8>, NoMemory>
 
 // Whether so many texts of a length are longer than a text may be.
 fn is_too_long(count: usize, len: usize) -> bool
-    ensures { result ≡ nat_lt 16777216 (count * len) }
+    ensures { result ≡ nat_lt TEXT_LIMIT (count * len) }
 {
     match count.checked_mul(len) {
         None => true,

@@ -2,6 +2,7 @@
 //! `rawurlencode` and `addslashes`.
 
 ghost use Rattle.std.specs.Prelude.{◌≡◌, ◌≤◌, ◌⊎◌, ◌++◌, length, nat_lt, IfOk, IfErr, OnOk, Ok, Err};
+ghost use Rattle.text_base.specs.declared.limits.TheConstants.{TEXT_LIMIT};
 ghost use Rattle.plain_values.specs.Plain.{Plain};
 ghost use Rattle.plain_values.specs.Members.{within_length};
 ghost use Rattle.string_functions.specs.Url.{percent_of_byte};
@@ -152,7 +153,7 @@ fn length_for(encoding: Encoding, byte: u8) -> usize
 
 // Whether more bytes than a text may have are written.
 fn is_too_long(encoding: Encoding, text: &[u8]) -> bool
-    ensures { result ≡ nat_lt 16777216 (length (encoded encoding text.now)) }
+    ensures { result ≡ nat_lt TEXT_LIMIT (length (encoded encoding text.now)) }
 {
     let mut total: usize = 0;
     let mut rest = text;
@@ -168,7 +169,7 @@ fn is_too_long(encoding: Encoding, text: &[u8]) -> bool
 }
 
 fn written(alloc: Global, encoding: Encoding, text: &[u8]) -> Result<Vec<u8>, NoMemory>
-    requires { length (encoded encoding text.now) ≤ 16777216 }
+    requires { length (encoded encoding text.now) ≤ TEXT_LIMIT }
     ensures { IfOk result (λ bytes. bytes.items ≡ encoded encoding text.now) }
 {
     let mut out = Vec::new(alloc);

@@ -1,6 +1,7 @@
 //! Joining the members of an array.
 
 ghost use Rattle.std.specs.Prelude.{◌≡◌, ◌⊎◌, ◌++◌, ◌≤◌, length, nat_lt, IfOk, IfErr, Ok, Err};
+ghost use Rattle.text_base.specs.declared.limits.TheConstants.{TEXT_LIMIT};
 ghost use Rattle.plain_values.specs.Plain.{Plain};
 ghost use Rattle.plain_values.specs.Text.{text_of as text_form};
 ghost use Rattle.plain_values.specs.Members.{within_length};
@@ -23,7 +24,7 @@ fn is_too_long(
     first: &Value,
     others: &[(Key, Value)],
 ) -> Result<bool, NoMemory>
-    ensures { IfOk result (λ long. long ≡ nat_lt 16777216 (length (text_form (plain_of first.now)
+    ensures { IfOk result (λ long. long ≡ nat_lt TEXT_LIMIT (length (text_form (plain_of first.now)
         ++ behind_first sep.now (pairs_of others.now)))) }
 {
     let mut total = length_of(alloc, first)?;
@@ -60,7 +61,7 @@ fn joined(
     others: &[(Key, Value)],
 ) -> Result<Vec<u8>, NoMemory>
     requires { length (text_form (plain_of first.now)
-        ++ behind_first sep.now (pairs_of others.now)) ≤ 16777216 }
+        ++ behind_first sep.now (pairs_of others.now)) ≤ TEXT_LIMIT }
     ensures { IfOk result
         (λ bytes. bytes.items ≡ text_form (plain_of first.now)
         ++ behind_first sep.now (pairs_of others.now)) }

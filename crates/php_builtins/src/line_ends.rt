@@ -1,6 +1,7 @@
 //! Line breaks for HTML.
 
 ghost use Rattle.std.specs.Prelude.{◌≡◌, ◌⊎◌, ◌++◌, ◌≤◌, length, nat_lt, false, IfOk, IfErr, Ok, Err};
+ghost use Rattle.text_base.specs.declared.limits.TheConstants.{TEXT_LIMIT};
 ghost use Rattle.plain_values.specs.Plain.{Plain};
 ghost use Rattle.plain_values.specs.Members.{within_length};
 ghost use Rattle.string_functions.specs.Breaks.{breaks_of, breaks_past, begins_pair as begins_pair_of};
@@ -23,7 +24,7 @@ fn begins_pair(byte: u8, rest: &[u8]) -> bool
 }
 
 fn is_too_long(text: &[u8]) -> bool
-    ensures { result ≡ nat_lt 16777216 (length (breaks_of text.now)) }
+    ensures { result ≡ nat_lt TEXT_LIMIT (length (breaks_of text.now)) }
 {
     let mut total: usize = 0;
     let mut second = false;
@@ -42,7 +43,7 @@ fn is_too_long(text: &[u8]) -> bool
 }
 
 fn written(alloc: Global, text: &[u8]) -> Result<Vec<u8>, NoMemory>
-    requires { length (breaks_of text.now) ≤ 16777216 }
+    requires { length (breaks_of text.now) ≤ TEXT_LIMIT }
     ensures { IfOk result (λ bytes. bytes.items ≡ breaks_of text.now) }
 {
     let mut out = Vec::new(alloc);

@@ -1,6 +1,7 @@
 //! Replacing and cutting at the leftmost occurrences of a text.
 
 ghost use Rattle.std.specs.Prelude.{◌≡◌, ◌⊎◌, ◌++◌, ◌<◌, ◌≤◌, length, nat_lt, IfOk, IfErr, OnOk, Ok, Err};
+ghost use Rattle.text_base.specs.declared.limits.TheConstants.{TEXT_LIMIT};
 ghost use Rattle.plain_values.specs.Plain.{Plain};
 ghost use Rattle.plain_values.specs.Members.{within_length};
 ghost use Rattle.string_functions.specs.Pieces.{replaced_text, pieces_of};
@@ -19,7 +20,7 @@ use text_search::{failures, find};
 fn is_too_long(search: &[u8], failures: &[usize], with: &[u8], text: &[u8]) -> bool
     requires search { 0 < length search.now }
     requires failures { AreFailures search.now failures.now (length search.now) }
-    ensures { result ≡ nat_lt 16777216 (length (replaced_text search.now with.now text.now)) }
+    ensures { result ≡ nat_lt TEXT_LIMIT (length (replaced_text search.now with.now text.now)) }
 {
     let mut total: usize = 0;
     let mut rest = text;
@@ -54,7 +55,7 @@ fn replaced(
 ) -> Result<Vec<u8>, NoMemory>
     requires search { 0 < length search.now }
     requires failures { AreFailures search.now failures.now (length search.now) }
-    requires short { length (replaced_text search.now with.now text.now) ≤ 16777216 }
+    requires short { length (replaced_text search.now with.now text.now) ≤ TEXT_LIMIT }
     ensures { IfOk result (λ bytes. bytes.items ≡ replaced_text search.now with.now text.now) }
 {
     let mut out = Vec::new(alloc);
@@ -92,7 +93,7 @@ pub fn replace(alloc: Global, search: &[u8], with: &[u8], text: &[u8]) -> Result
 fn cut(alloc: Global, sep: &[u8], failures: &[usize], text: &[u8]) -> Result<Vec<Text>, NoMemory>
     requires sep { 0 < length sep.now }
     requires failures { AreFailures sep.now failures.now (length sep.now) }
-    requires short { length text.now ≤ 16777216 }
+    requires short { length text.now ≤ TEXT_LIMIT }
     ensures { IfOk result (λ pieces. pieces.items ≡ pieces_of sep.now text.now) }
 {
     let mut out = Vec::new(alloc);

@@ -2,6 +2,7 @@
 use Rattle.std.specs.Prelude.{◌≡◌, ℕ, suc, ℤ, ◌+◌, ◌<◌, nat_eq, true, if◌then◌else◌, List, [], ◌∷◌, Option, Some, None}
 use Rattle.std.specs.BTreeMap.{BTreeMap}
 use Rattle.std.specs.BTreeMap as tree
+use Rattle.text_base.specs.declared.limits.TheConstants.{DEPTH_LIMIT}
 use Rattle.plain_values.specs.Plain.{PlainKey, keys, depth, deepest}
 use Rattle.plain_values.specs.Keys.{same_key, are_distinct}
 use Rattle.plain_values.specs.Members.{largest_key}
@@ -36,5 +37,5 @@ pub record IsIndexed (pairs : List (Key × Value)) (places : BTreeMap Key ℕ) (
   pub next : largest ≡ largest_key (pairs_of pairs)
   pub distinct : are_distinct (keys (pairs_of pairs)) ≡ true
   pub depth : deep ≡ deepest (pairs_of pairs)
-  pub shallow : deep < 1000
+  pub shallow : deep < DEPTH_LIMIT
   pub count : many ≡ how_many deep pairs

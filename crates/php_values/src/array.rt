@@ -1,6 +1,7 @@
 //! Values, and arrays of them.
 
 ghost use Rattle.std.specs.Prelude.{◌≡◌, ◌⊎◌, ℕ, ◌<◌, ◌≤◌, length, true, IfOk, IfErr, OnOk, OnErr, IfSome, IfNone, MatchResult, is_none, Ok, Err};
+ghost use Rattle.text_base.specs.declared.limits.TheConstants.{DEPTH_LIMIT};
 ghost use Rattle.plain_values.specs.Plain.{Plain, Pairs, keys, empty, depth, deepest};
 ghost use Rattle.plain_values.specs.Keys.{is_absent, are_distinct};
 ghost use Rattle.plain_values.specs.Members.{member, put_pair, within_depth, push_at, key_after, largest_key};
@@ -151,7 +152,7 @@ impl Value {
     /// without arrays in it.
     pub fn depth(&self) -> u64
         ensures depth { result ≡ depth (plain_of self.now) }
-        ensures small { result ≤ 1000 }
+        ensures small { result ≤ DEPTH_LIMIT }
     {
         match self {
             Value::Array(array) => 1 + array.members.deepest(),
@@ -181,7 +182,7 @@ impl Array {
     pub fn pairs(&self) -> &[(Key, Value)]
         ensures pairs { pairs_of result.now ≡ self.now }
         ensures distinct { are_distinct (keys self.now) ≡ true }
-        ensures shallow { depth (Plain.array self.now) ≤ 1000 }
+        ensures shallow { depth (Plain.array self.now) ≤ DEPTH_LIMIT }
     {
         self.members.pairs()
     }
@@ -224,10 +225,10 @@ impl Array {
 
     // Puts a value at a key: at its place, or behind the others.
     fn set(&mut self, key: Key, value: Value) -> Result<(), NoMemory>
-        requires { depth (plain_of value) < 1000 }
+        requires { depth (plain_of value) < DEPTH_LIMIT }
         ensures ok { OnOk result (self.new ≡ put_pair self.old (plain_key key) (plain_of value)) }
         ensures err { OnErr result (self.new ≡ self.old) }
-        ensures shallow { deepest self.old < 1000 }
+        ensures shallow { deepest self.old < DEPTH_LIMIT }
     {
         // For its clause: no array is too deep.
         let _deep = self.members.deepest();

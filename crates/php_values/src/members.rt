@@ -1,6 +1,7 @@
 //! The members of an array: its pairs, and the index of their keys.
 
 ghost use Rattle.std.specs.Prelude.{◌≡◌, ◌⊎◌, ◌∷◌, [], ◌++◌, ◌^◌, ℕ, List, length, ◌<◌, ◌≤◌, true, IfOk, IfErr, OnOk, OnErr, IfSome, IfNone, is_none, Some, None, slice_index_or, slice_set};
+ghost use Rattle.text_base.specs.declared.limits.TheConstants.{DEPTH_LIMIT};
 ghost use Rattle.plain_values.specs.Plain.{Plain, keys, empty, depth, deepest};
 ghost use Rattle.plain_values.specs.Plain.{depth as depth_of};
 ghost use Rattle.plain_values.specs.Keys.{is_absent, are_distinct};
@@ -35,7 +36,7 @@ impl Members {
     pub(crate) fn pairs(&self) -> &[(Key, Value)]
         ensures pairs { pairs_of result.now ≡ self.now }
         ensures distinct { are_distinct (keys self.now) ≡ true }
-        ensures shallow { deepest self.now < 1000 }
+        ensures shallow { deepest self.now < DEPTH_LIMIT }
     {
         self.pairs.as_slice()
     }
@@ -43,7 +44,7 @@ impl Members {
     // The depth of the deepest member.
     pub(crate) fn deepest(&self) -> u64
         ensures depth { result ≡ deepest self.now }
-        ensures small { result < 1000 }
+        ensures small { result < DEPTH_LIMIT }
     {
         self.deepest.depth
     }
@@ -82,7 +83,7 @@ impl Members {
     // The place of a key.
     pub(crate) fn place(&self, key: &Key) -> Option<u64>
         ensures place { result ≡ place_of (keys self.now) (plain_key key.now) }
-        ensures shallow { deepest self.now < 1000 }
+        ensures shallow { deepest self.now < DEPTH_LIMIT }
     {
         self.places.get(key).copied()
     }
@@ -102,7 +103,7 @@ impl Members {
     // Changes the value at a place.
     pub(crate) fn replace(&mut self, key: &Key, place: u64, value: Value)
         requires known { place_of (keys self.old) (plain_key key.now) ≡ Some place }
-        requires shallow { depth (plain_of value) < 1000 }
+        requires shallow { depth (plain_of value) < DEPTH_LIMIT }
         ensures { self.new ≡ put_pair self.old (plain_key key.now) (plain_of value) }
     {
         let member = &mut self.pairs[place as usize].1;
@@ -115,7 +116,7 @@ impl Members {
     // Puts a pair behind the others.
     pub(crate) fn add(&mut self, key: Key, value: Value) -> Result<(), NoMemory>
         requires absent { place_of (keys self.old) (plain_key key) ≡ None }
-        requires shallow { depth (plain_of value) < 1000 }
+        requires shallow { depth (plain_of value) < DEPTH_LIMIT }
         ensures ok { OnOk result (self.new ≡ put_pair self.old (plain_key key) (plain_of value)) }
         ensures err { OnErr result (self.new ≡ self.old) }
     {
@@ -132,7 +133,7 @@ impl Members {
 
     // Puts a value at a key: at its place, or behind the others.
     pub(crate) fn put(&mut self, key: Key, value: Value) -> Result<(), NoMemory>
-        requires { depth (plain_of value) < 1000 }
+        requires { depth (plain_of value) < DEPTH_LIMIT }
         ensures ok { OnOk result (self.new ≡ put_pair self.old (plain_key key) (plain_of value)) }
         ensures err { OnErr result (self.new ≡ self.old) }
     {

@@ -1,6 +1,7 @@
 //! Reading and writing at the end of a path of subscripts.
 
 ghost use Rattle.std.specs.Prelude.{◌≡◌, ◌⊎◌, ℕ, ◌+◌, ◌<◌, ◌≤◌, length, nat_le, true, IfOk, IfErr, OnOk, OnErr, MatchOption, Ok, Err};
+ghost use Rattle.text_base.specs.declared.limits.TheConstants.{DEPTH_LIMIT};
 ghost use Rattle.plain_values.specs.Plain.{Plain, depth, deepest, array};
 ghost use Rattle.plain_values.specs.Members.{member, get};
 ghost use Rattle.plain_values.specs.Paths as spec;
@@ -130,7 +131,7 @@ impl Value {
         path: &[Option<Key>],
         new: Value,
     ) -> Result<(), Fault>
-        requires { (fits ≡ true) → (length (plain_path path.now) + depth (plain_of new) ≤ 1000) }
+        requires { (fits ≡ true) → (length (plain_path path.now) + depth (plain_of new) ≤ DEPTH_LIMIT) }
         ensures ok { OnOk result
             (write_if fits (plain_path path.now) (plain_of new) (plain_of self.old)
             ≡ Ok (plain_of self.new)) }
@@ -172,7 +173,7 @@ impl Array {
         rest: &[Option<Key>],
         new: Value,
     ) -> Result<(), Fault>
-        requires { (fits ≡ true) → (length (plain_path rest.now) + depth (plain_of new) < 1000) }
+        requires { (fits ≡ true) → (length (plain_path rest.now) + depth (plain_of new) < DEPTH_LIMIT) }
         ensures ok { OnOk result (change_in (write_if fits (plain_path rest.now) (plain_of new))
             (plain_step step.now) (Ok self.old) ≡ Ok (array self.new)) }
         ensures err { IfErr result (λ fault. (fault ≡ Fault.Memory)
@@ -211,7 +212,7 @@ impl Members {
         rest: &[Option<Key>],
         new: Value,
     ) -> Result<(), Fault>
-        requires { (fits ≡ true) → (length (plain_path rest.now) + depth (plain_of new) < 1000) }
+        requires { (fits ≡ true) → (length (plain_path rest.now) + depth (plain_of new) < DEPTH_LIMIT) }
         ensures ok { OnOk result (put_back self.old (plain_key key.now)
             (write_if fits (plain_path rest.now) (plain_of new)
             (member self.old (plain_key key.now))) ≡ Ok (array self.new)) }
@@ -262,7 +263,7 @@ impl Members {
 
 // Whether a value at the end of a path is nested no deeper than 1,000.
 fn fits_below(path: &[Option<Key>], value: &Value) -> bool
-    ensures { result ≡ nat_le (length (plain_path path.now) + depth (plain_of value.now)) 1000 }
+    ensures { result ≡ nat_le (length (plain_path path.now) + depth (plain_of value.now)) DEPTH_LIMIT }
 {
     path.len() as u64 <= DEPTH_LIMIT - value.depth()
 }

@@ -5,6 +5,7 @@ ghost use Rattle.std.proofs.Common.{rules};
 ghost use Rattle.std.specs.Cmp.Rules.{comparing};
 ghost use Rattle.std.specs.Cmp.Lexicographic.{pointwise, slice_cmp, slice_partial_cmp};
 ghost use Rattle.std.specs.Ordering.{nat_cmp, as_partial_cmp};
+ghost use Rattle.text_base.specs.declared.limits.TheConstants.{TEXT_LIMIT};
 ghost use Rattle.plain_values.specs.Plain.{Plain};
 ghost use Rattle.plain_values.specs.Members.{within_length};
 
@@ -25,12 +26,13 @@ pub struct Text {
 
 impl Model for Text {
     ghost use Rattle.std.specs.Prelude.{ℕ, ◌≤◌, List, length};
+    ghost use Rattle.text_base.specs.declared.limits.TheConstants.{TEXT_LIMIT};
 
     ghost Value = { List ℕ };
 
     ghost view = { λ t. t.bytes.value.items };
 
-    ghost invariant = { λ t. length t.bytes.value.items ≤ 16777216 };
+    ghost invariant = { λ t. length t.bytes.value.items ≤ TEXT_LIMIT };
 }
 
 impl PartialEq for Text {
@@ -88,7 +90,7 @@ impl Text {
 
     /// A text of these bytes, which are no more than 16,777,216.
     pub fn from_short(alloc: Global, bytes: &[u8]) -> Result<Text, NoMemory>
-        requires { length bytes.now ≤ 16777216 }
+        requires { length bytes.now ≤ TEXT_LIMIT }
         ensures { IfOk result (λ t. t ≡ bytes.now) }
     {
         let own = Vec::from_slice(alloc, bytes)?;
@@ -113,7 +115,7 @@ impl Text {
     /// The bytes.
     pub fn as_slice(&self) -> &[u8]
         ensures bytes { result.now ≡ self.now }
-        ensures short { length self.now ≤ 16777216 }
+        ensures short { length self.now ≤ TEXT_LIMIT }
     {
         self.bytes.as_slice()
     }

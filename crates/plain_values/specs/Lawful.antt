@@ -3,6 +3,7 @@
 -- distinct, and under which a text is no canonical decimal integer (PHP manual, "Integers" and "Arrays"; the limits of size are this
 -- project's own).
 use Rattle.std.specs.Prelude.{◌≡◌, ◌≤◌, ℕ, true, length, None, ⊤}
+use Rattle.text_base.specs.declared.limits.TheConstants.{DEPTH_LIMIT, TEXT_LIMIT}
 use Rattle.plain_values.specs.Plain.{Plain, PlainKey, Pairs, int_key, text_key, null, flag, int, text, array, empty, pair, keys, depth}
 use Rattle.plain_values.specs.Keys.{canonical_integer, are_distinct}
 use Rattle.plain_values.specs.Numeric.{is_in_range}
@@ -10,7 +11,7 @@ use Rattle.plain_values.specs.Numeric.{is_in_range}
 -- an integer of 64 bits, or a text of at most 16,777,216 bytes that is not the decimal form of one
 abbrev pub IsKey : PlainKey → Type 0
 IsKey (int_key z) = is_in_range z ≡ true
-IsKey (text_key t) = (length t ≤ 16777216) × (canonical_integer t ≡ None)
+IsKey (text_key t) = (length t ≤ TEXT_LIMIT) × (canonical_integer t ≡ None)
 
 abbrev mutual
   -- the parts of a value are values, whatever its depth
@@ -18,7 +19,7 @@ abbrev mutual
   HasValues null = ⊤
   HasValues (flag b) = ⊤
   HasValues (int z) = is_in_range z ≡ true
-  HasValues (text t) = length t ≤ 16777216
+  HasValues (text t) = length t ≤ TEXT_LIMIT
   HasValues (array ps) = (are_distinct (keys ps) ≡ true) × PairsHaveValues ps
 
   -- each key is one that a run may have, and the parts of each value are values
@@ -29,4 +30,4 @@ abbrev mutual
 -- a value that a run may have
 pub record IsValue (v : Plain) : Type 0 where
   pub parts : HasValues v
-  pub shallow : depth v ≤ 1000
+  pub shallow : depth v ≤ DEPTH_LIMIT

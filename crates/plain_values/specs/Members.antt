@@ -2,6 +2,7 @@
 use Rattle.std.specs.Prelude.{ℕ, nat_le, nat_lt, ℤ, pos, ◌+ℤ◌, if◌then◌else◌, List, [], ◌∷◌, length, Option, Some, None, Result, Ok, Err}
 use Rattle.std.specs.Int.{int_max}
 use Rattle.std.specs.Ordering.{int_eq}
+use Rattle.text_base.specs.declared.limits.TheConstants.{DEPTH_LIMIT, TEXT_LIMIT}
 use Rattle.plain_values.specs.Plain.{Plain, PlainKey, Pairs, int_key, text_key, null, flag, int, text, array, empty, pair, keys, deepest}
 use Rattle.plain_values.specs.Keys.{same_key}
 use Rattle.plain_values.specs.declared.fault.Fault.{Fault}
@@ -27,11 +28,11 @@ put_pair (pair j v ps) k new = if same_key j k then pair j new ps else pair j v 
 
 -- no array is nested deeper than 1,000
 abbrev pub within_depth : Pairs → Result Plain Fault
-within_depth ps = if nat_lt (deepest ps) 1000 then Ok (array ps) else Err Long
+within_depth ps = if nat_lt (deepest ps) DEPTH_LIMIT then Ok (array ps) else Err Long
 
 -- no text is longer than 16,777,216 bytes
 abbrev pub within_length : List ℕ → Result Plain Fault
-within_length t = if nat_le (length t) 16777216 then Ok (text t) else Err Long
+within_length t = if nat_le (length t) TEXT_LIMIT then Ok (text t) else Err Long
 
 -- null becomes an array by the write; into another value that is no array nothing is written
 abbrev pub put : Plain → PlainKey → Plain → Result Plain Fault

@@ -1,5 +1,6 @@
 -- Reading and writing at the end of a path of subscripts (PHP manual, "Arrays", and "Assignment operators").
 use Rattle.std.specs.Prelude.{◌≡◌, nat_le, ℤ, if◌then◌else◌, List, [], ◌∷◌, Option, Some, None, Result, Ok, Err}
+use Rattle.text_base.specs.declared.limits.TheConstants.{DEPTH_LIMIT}
 use Rattle.plain_values.specs.Plain.{Plain, PlainKey, Pairs, int_key, null, flag, int, text, array, empty, depth}
 use Rattle.plain_values.specs.Keys.{key_of}
 use Rattle.plain_values.specs.Members.{member, get, put, push, put_pair, key_after, largest_key}
@@ -75,7 +76,7 @@ put_in (s ∷ ss) new old = change_in (put_in ss new) s (container old)
 
 -- no array is nested deeper than 1,000
 abbrev pub no_deeper : Result Plain Fault → Result Plain Fault
-no_deeper (Ok v) = if nat_le (depth v) 1000 then Ok v else Err Long
+no_deeper (Ok v) = if nat_le (depth v) DEPTH_LIMIT then Ok v else Err Long
 no_deeper (Err fault) = Err fault
 
 -- a write at the end of a path: a value that is no array on the way faults first, from the outermost in, then an array that is full, then

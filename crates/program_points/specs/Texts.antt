@@ -1,6 +1,7 @@
 -- The texts that stand in a program.
 use Rattle.std.specs.Prelude.{◌≤◌, ℕ, List, [], ◌∷◌, ◌++◌, length}
 use Rattle.std.specs.List.{Contains}
+use Rattle.text_base.specs.declared.limits.TheConstants.{TEXT_LIMIT}
 use Rattle.php_syntax.specs.Trees.{PlainExpr, null_expr, flag_expr, int_expr, text_expr, var_expr, super_expr, member_expr, array_expr, join_expr, neg_expr, not_expr, arith_expr, compare_expr, and_expr, or_expr, coalesce_expr, choice_expr, isset_expr, empty_expr, assign_expr, update_expr, step_expr, call_expr, MaybeExpr, no_expr, some_expr, PlainExprs, no_exprs, more_exprs, PlainItems, no_items, more_items, PlainPath, no_keys, more_keys, PlainStmt, inline_stmt, echo_stmt, run_stmt, if_stmt, while_stmt, do_while_stmt, for_stmt, each_stmt, break_stmt, continue_stmt, return_stmt, include_stmt, quit_stmt, PlainStmts, no_stmts, more_stmts, PlainArms, no_arms, more_arms, PlainParam, PlainFunction}
 use Rattle.script_meaning.specs.Programs.{PlainProgram}
 
@@ -92,4 +93,4 @@ function_texts (f ∷ fs) = param_texts f.params_of ++ (statement_texts f.body_o
 
 -- each text literal of a program is a text of a run
 abbrev pub TextsFit : PlainProgram → Type 0
-TextsFit program = (t : List ℕ) → Contains (statement_texts program.main_of ++ function_texts program.functions_of) t → length t ≤ 16777216
+TextsFit program = (t : List ℕ) → Contains (statement_texts program.main_of ++ function_texts program.functions_of) t → length t ≤ TEXT_LIMIT

@@ -1,6 +1,7 @@
 //! Joining values as texts.
 
 ghost use Rattle.std.specs.Prelude.{◌≡◌, ◌⊎◌, ◌≤◌, ◌++◌, length, IfOk, IfErr, Ok, Err};
+ghost use Rattle.text_base.specs.declared.limits.TheConstants.{TEXT_LIMIT};
 ghost use Rattle.plain_values.specs.Text.{text_of};
 ghost use Rattle.plain_values.specs.Members.{within_length};
 ghost use Rattle.plain_values.specs.Joins.{join_of, appended_to};
@@ -17,7 +18,7 @@ use text_base::limits::TEXT_LIMIT;
 /// How many bytes the text form of a value has. A text is not copied.
 pub fn length_of(alloc: Global, value: &Value) -> Result<usize, NoMemory>
     ensures value { IfOk result (λ n. n ≡ length (text_of (plain_of value.now))) }
-    ensures short { IfOk result (λ n. n ≤ 16777216) }
+    ensures short { IfOk result (λ n. n ≤ TEXT_LIMIT) }
 {
     match value {
         Value::Null | Value::Flag(false) => Ok(0),
