@@ -4,7 +4,6 @@
 #![tactic(auto)]
 
 mod blanks;
-mod classes;
 mod double;
 mod found;
 mod heredoc;

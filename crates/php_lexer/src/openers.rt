@@ -6,9 +6,9 @@ ghost use Rattle.lexical_grammar.specs.Cuts as spec;
 ghost use Rattle.lexical_grammar.specs.Steps.{outside};
 ghost use Rattle.php_lexer.specs.View.{maybe_step, plain_step, Reads, ReadsWithin, IsWithin};
 
-use crate::classes::{is_gap, is_line_end, lower};
 use crate::scan::{begins, behind, front, newline_length};
 use crate::step::{Mode, Step};
+use byte_classes::{is_gap, is_line_end, lower};
 use php_syntax::token::TokenKind;
 use std::alloc::Global;
 use text_base::{Bytes, NoMemory};

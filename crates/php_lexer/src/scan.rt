@@ -4,7 +4,7 @@ ghost use Rattle.std.specs.Prelude.{◌≡◌, ◌<◌, ◌≤◌, length, IsTru
 ghost use Rattle.std.specs.List.{prefix_len};
 ghost use Rattle.lexical_grammar.specs.Characters as spec;
 
-use crate::classes::{is_digit, is_gap, is_high, is_line_end, is_name_byte, is_name_start};
+use byte_classes::{is_digit, is_gap, is_high, is_line_end, is_name_byte, is_name_start};
 pub use byte_slices::{behind, front};
 
 /// Whether the bytes begin with this text.

@@ -7,9 +7,9 @@ ghost use Rattle.php_syntax.specs.Tokens.{sign as sign_kind};
 ghost use Rattle.lexical_grammar.specs.Signs as spec;
 ghost use Rattle.php_lexer.specs.View.{maybe_step, IsWithin};
 
-use crate::classes::lower;
 use crate::scan::{begins, behind, front, gap_length, name_bytes_length};
 use crate::step::{Mode, Step};
+use byte_classes::lower;
 use php_syntax::token::{Sign, TokenKind};
 
 // The signs that begin with this byte, the longer ones first.

@@ -6,11 +6,11 @@ ghost use Rattle.lexical_grammar.specs.Texts as spec;
 ghost use Rattle.php_lexer.specs.Rows.{plain_found, FoundWithin};
 ghost use Rattle.php_lexer.specs.Templates.{enclosure_of, unit_of};
 
-use crate::classes::is_high;
 use crate::found::Found;
 use crate::keys::{closed_simple_key, subscripts};
 use crate::scan::{begins, behind, front, name_length};
 use crate::template::{Enclosure, TextUnit};
+use byte_classes::is_high;
 use std::alloc::Global;
 use text_base::{Bytes, NoMemory};
 

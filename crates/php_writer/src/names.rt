@@ -9,32 +9,9 @@ ghost use Rattle.script_grammar.specs.Terminals.{same_bytes};
 ghost use Rattle.php_writer.specs.Spellable as spelled;
 ghost use Rattle.php_writer.specs.Tested as tested;
 
+use byte_classes::{is_name_byte, is_name_start};
 use script_grammar::keyword::keyword_named;
 use script_grammar::reserved::{is_request, is_writable};
-
-fn is_digit(byte: u8) -> bool
-    ensures { result ≡ chars.is_digit byte }
-{
-    48 <= byte && byte <= 57
-}
-
-fn is_letter(byte: u8) -> bool
-    ensures { result ≡ chars.is_letter byte }
-{
-    (65 <= byte && byte <= 90) || (97 <= byte && byte <= 122)
-}
-
-fn is_name_start(byte: u8) -> bool
-    ensures { result ≡ chars.is_name_start byte }
-{
-    is_letter(byte) || byte == 95
-}
-
-fn is_name_byte(byte: u8) -> bool
-    ensures { result ≡ chars.is_name_byte byte }
-{
-    is_name_start(byte) || is_digit(byte)
-}
 
 // Whether each byte may stand in a name.
 fn are_name_bytes(bytes: &[u8]) -> bool

@@ -1,16 +1,10 @@
 //! Bytes outside PHP.
 
 ghost use Rattle.std.specs.Prelude.{◌≡◌, ◌<◌, length, drop};
-ghost use Rattle.lexical_grammar.specs.Characters as chars;
 ghost use Rattle.php_writer.specs.Openers as spec;
 ghost use Rattle.php_writer.specs.Spellable as spelled;
 
-// Whether a byte is a blank.
-fn is_blank(byte: u8) -> bool
-    ensures { result ≡ chars.is_blank byte }
-{
-    (byte == 32 || byte == 9) || (byte == 10 || byte == 13)
-}
+use byte_classes::is_blank;
 
 // Whether `<?php` in any case and a blank stand first.
 fn opens_php(bytes: &[u8]) -> bool

@@ -1,4 +1,5 @@
-//! The classes of bytes.
+//! The classes of the bytes of a script, as the lexical grammar of the script language has them.
+#![tactic(auto)]
 
 ghost use Rattle.std.specs.Prelude.{◌≡◌};
 ghost use Rattle.lexical_grammar.specs.Characters as spec;
@@ -10,7 +11,8 @@ pub fn is_digit(byte: u8) -> bool
     48 <= byte && byte <= 57
 }
 
-fn is_letter(byte: u8) -> bool
+/// An ASCII letter.
+pub fn is_letter(byte: u8) -> bool
     ensures { result ≡ spec.is_letter byte }
 {
     (65 <= byte && byte <= 90) || (97 <= byte && byte <= 122)
