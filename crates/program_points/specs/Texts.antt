@@ -93,4 +93,5 @@ function_texts (f ∷ fs) = param_texts f.params_of ++ (statement_texts f.body_o
 
 -- each text literal of a program is a text of a run
 abbrev pub TextsFit : PlainProgram → Type 0
-TextsFit program = (t : List ℕ) → Contains (statement_texts program.main_of ++ function_texts program.functions_of) t → length t ≤ TEXT_LIMIT
+TextsFit program = (t : List ℕ) → Contains (statement_texts program.main_of ++ function_texts program.functions_of) t
+    → length t ≤ TEXT_LIMIT
