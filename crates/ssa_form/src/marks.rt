@@ -56,31 +56,17 @@ pub fn ask(asks: &mut IndexSet<(u64, u64)>, version: Version) -> Result<(), NoMe
     }
 }
 
-// Notes that a point of the row sets a slot.
-fn note(
-    last: &mut IndexMap<(u64, u64), u64>,
-    head: u64,
-    slot: u64,
-    point: u64,
+// Holds a value for two numbers.
+fn put<T: Drop>(
+    table: &mut IndexMap<(u64, u64), T>,
+    first: u64,
+    second: u64,
+    value: T,
 ) -> Result<(), NoMemory>
-    ensures { OnOk result ((h x : ℕ) → held last.new h x
-        ≡ cond (nat_eq head h && nat_eq slot x) (Some point) (held last.old h x)) }
+    ensures { OnOk result ((a b : ℕ) → held table.new a b
+        ≡ cond (nat_eq first a && nat_eq second b) (Some value) (held table.old a b)) }
 {
-    last.insert((head, slot), point)?;
-    Ok(())
-}
-
-// Holds a version for a point and a slot.
-fn hold(
-    versions: &mut IndexMap<(u64, u64), Version>,
-    point: u64,
-    slot: u64,
-    version: Version,
-) -> Result<(), NoMemory>
-    ensures { OnOk result ((p x : ℕ) → held versions.new p x
-        ≡ cond (nat_eq point p && nat_eq slot x) (Some version) (held versions.old p x)) }
-{
-    versions.insert((point, slot), version)?;
+    table.insert((first, second), value)?;
     Ok(())
 }
 
@@ -90,7 +76,7 @@ fn read(marks: &mut Marks, head: u64, point: u64, slot: u64) -> Result<(), NoMem
 {
     let version = found(&marks.last, head, slot);
     ask(&mut marks.asks, version)?;
-    hold(&mut marks.versions, point, slot, version)?;
+    put(&mut marks.versions, point, slot, version)?;
     Ok(())
 }
 
@@ -112,7 +98,7 @@ fn mark(marks: &mut Marks, head: u64, point: u64, step: &Step) -> Result<(), NoM
 {
     read_all(marks, head, point, &step.reads)?;
     if let Some(slot) = step.sets {
-        note(&mut marks.last, head, slot.0, point)?;
+        put(&mut marks.last, head, slot.0, point)?;
     }
     Ok(())
 }
