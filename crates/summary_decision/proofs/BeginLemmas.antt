@@ -1,6 +1,6 @@
 -- The pairs that letters make.
-use Rattle.std.proofs.Common.{◌≡◌, ℕ, zero, suc, ◌+◌, ◌<◌, ◌≤◌, ◌⊎◌, ◌↔◌, inl, inr, Bool, true, false, List, [], ◌∷◌, ◌++◌, length, Contains, refl, sym, ◌∙◌, ap, subst, arith, Option, None, Some, slice_get, Result, Ok, Err, OnOk}
-use Rattle.std.proofs.lemmas.Option.{same_Some, slice_get_within}
+use Rattle.std.proofs.Common.{◌≡◌, ℕ, ◌+◌, ◌<◌, ◌≤◌, ◌⊎◌, inl, inr, Bool, List, [], length, Contains, sym, ◌∙◌, ap, subst, arith, None, Some, slice_get, Result, Ok, Err, OnOk}
+use Rattle.std.proofs.lemmas.Option.{same_Some}
 use Rattle.std.proofs.lemmas.Bool.{cases_lt}
 use Rattle.text_base.specs.declared.page_token.PageToken.{PageToken}
 use Rattle.text_base.specs.declared.numbers.Nt as nt
@@ -16,12 +16,12 @@ use Rattle.useful_nonterminals.specs.Useful.{IsUseful}
 use Rattle.summary_fixpoint.specs.declared.letters.Piece.{Piece}
 use Rattle.summary_fixpoint.specs.declared.table.Table.{Table}
 use Rattle.summary_fixpoint.specs.Closed.{Pair, HasSum, IsClosed}
-use Rattle.summary_fixpoint.specs.Tables.{known, Supports, IsTable, GoesOn, MakesAt, Adds}
+use Rattle.summary_fixpoint.specs.Tables.{known, IsTable, GoesOn, MakesAt, Adds}
 use Rattle.summary_fixpoint.specs.Joints.{IsLetterOf}
 use Rattle.summary_fixpoint.proofs.ClosedLemmas.{placed}
 use Rattle.summary_fixpoint.proofs.KnownLemmas.{keeps_member}
 use Rattle.summary_fixpoint.proofs.JointLemmas.{letter_supports, letter_is, goes_none, goes_both}
-use Rattle.summary_decision.specs.Beginning.{IsBegun, StandsAt, Begins}
+use Rattle.summary_decision.specs.Beginning.{IsBegun, AreMadeOf, IsMadeOf, StandsAt, Begins}
 
 module _ {S : Type 0} (sum_of : List PageToken → S) (composed : S → S → S) (whole : S → Bool) (ps : List Production) (start : nt.Nt) where
   pub no_letter : (b : Symbol) → IsLetterOf sum_of b None → (s : S) → HasSum sum_of composed [] 0 b s → ⊥
@@ -34,22 +34,37 @@ module _ {S : Type 0} (sum_of : List PageToken → S) (composed : S → S → S)
   begun_on pairs more left (One a) keeps h = λ s k. keeps_member pairs more (left, s) keeps (h s k)
   begun_on pairs more left (Two a b) keeps h = λ s t k l. keeps_member pairs more (left, composed s t) keeps (h s t k l)
 
-  -- what makes the pairs
-  pub empty_makes : (t : Table S) (place : ℕ) (s : S) → s ≡ sum_of [] → StandsAt ps start place Empty → MakesAt sum_of composed whole ps start t place parts.Empty s
-  empty_makes t place s e stands = record { production = record { left = stands.left; right = Empty }; at = stands.at; useful = stands.useful; makes = sym e }
+  -- what letters make
+  pub made_empty : (s : S) → s ≡ sum_of [] → IsMadeOf sum_of composed whole ps start Empty (Some (parts.Empty, s))
+  made_empty s e = record { makes = λ nodes height. sym e; alone = λ pairs left has. subst (λ (x : S). Contains pairs (left, x)) e has }
 
-  pub one_makes : (t : Table S) (place : ℕ) (a : Symbol) (piece : Piece S) → IsLetterOf sum_of a (Some piece) → StandsAt ps start place (One a) → MakesAt sum_of composed whole ps start t place (parts.One piece.part) piece.sum
-  one_makes t place a piece is stands =
-      record { production = record { left = stands.left; right = One a }; at = stands.at; useful = stands.useful; makes = letter_supports sum_of composed whole ps start t.nodes.nodes.items t.height a piece is }
+  pub made_one : (a : Symbol) (x : Piece S) → IsLetterOf sum_of a (Some x) → IsMadeOf sum_of composed whole ps start (One a) (Some (parts.One x.part, x.sum))
+  made_one a x is = record {
+    makes = λ nodes height. letter_supports sum_of composed whole ps start nodes height a x is;
+    alone = λ pairs left has s is_sum. subst (λ (z : S). Contains pairs (left, z)) (letter_is sum_of composed whole ps start [] 0 a x s is is_sum) has;
+  }
 
-  pub two_makes : (t : Table S) (place : ℕ) (a b : Symbol) (x y : Piece S) (s : S) → s ≡ composed x.sum y.sum → IsLetterOf sum_of a (Some x) → IsLetterOf sum_of b (Some y) → StandsAt ps start place (Two a b) → MakesAt sum_of composed whole ps start t place (parts.Two x.part y.part) s
-  two_makes t place a b x y s e is is' stands =
-      record {
-        production = record { left = stands.left; right = Two a b };
-        at = stands.at;
-        useful = stands.useful;
-        makes = (x.sum, y.sum, letter_supports sum_of composed whole ps start t.nodes.nodes.items t.height a x is, letter_supports sum_of composed whole ps start t.nodes.nodes.items t.height b y is', sym e);
-      }
+  pub made_two : (a b : Symbol) (x y : Piece S) (s : S) → s ≡ composed x.sum y.sum → IsLetterOf sum_of a (Some x) → IsLetterOf sum_of b (Some y) → IsMadeOf sum_of composed whole ps start (Two a b) (Some (parts.Two x.part y.part, s))
+  made_two a b x y s e is is' = record {
+    makes = λ nodes height. (x.sum, y.sum, letter_supports sum_of composed whole ps start nodes height a x is, letter_supports sum_of composed whole ps start nodes height b y is', sym e);
+    alone = λ pairs left has t u is_first is_second.
+        let same : s ≡ composed t u = e ∙ (ap (λ (z : S). composed z y.sum) (letter_is sum_of composed whole ps start [] 0 a x t is is_first) ∙ ap (composed t) (letter_is sum_of composed whole ps start [] 0 b y u is' is_second)) in
+        subst (λ (z : S). Contains pairs (left, z)) same has;
+  }
+
+  pub none_of_one : (a : Symbol) → IsLetterOf sum_of a None → IsMadeOf sum_of composed whole ps start (One a) None
+  none_of_one a is pairs left s has = absurd (no_letter a is s has)
+
+  pub none_of_two : (a b : Symbol) → IsLetterOf sum_of a None ⊎ IsLetterOf sum_of b None → IsMadeOf sum_of composed whole ps start (Two a b) None
+  none_of_two a b is pairs left s t has has' = elim is [
+    | inl h ↦ absurd (no_letter a h s has)
+    | inr h ↦ absurd (no_letter b h t has')
+  ]
+
+  -- what makes the pair
+  pub made_at : (t : Table S) (place : ℕ) (r : Right) (made : Parts × S) → AreMadeOf sum_of composed whole ps start r made → StandsAt ps start place r → MakesAt sum_of composed whole ps start t place made.0 made.1
+  made_at t place r made are stands =
+      record { production = record { left = stands.left; right = r }; at = stands.at; useful = stands.useful; makes = are.makes t.nodes.nodes.items t.height }
 
   module _ (count : ℕ) where
     begins_with : (old new : Table S) (place : ℕ) (r : Right) → StandsAt ps start place r → GoesOn sum_of composed whole ps start count old new → ((left : ℕ) → ((p : Production) → slice_get ps place ≡ Some p → p.left.0 ≡ left) → IsBegun sum_of composed (known new) left r) → Begins sum_of composed whole ps start count old new (λ (k : ℕ). k ≡ place)
@@ -62,34 +77,13 @@ module _ {S : Type 0} (sum_of : List PageToken → S) (composed : S → S → S)
               (f stands.left.0 (λ q e. ap (λ (z : Production). z.left.0) (same_Some q _ (sym e ∙ stands.at))));
         }
 
-    pub begins_empty : {E : Type 0} (r : Result (Unit {0}) E) (old new : Table S) (place : ℕ) (s : S) → s ≡ sum_of [] → StandsAt ps start place Empty → OnOk r (Adds sum_of composed whole ps start count old new place s) → OnOk r (Begins sum_of composed whole ps start count old new (λ (k : ℕ). k ≡ place))
-    begins_empty (Err e) old new place s same stands adds = tt
-    begins_empty (Ok e) old new place s same stands adds =
-        begins_with old new place Empty stands adds.goes (λ left f. subst (λ (n : ℕ). Contains (known new) (n, sum_of [])) (f _ stands.at) (subst (λ (x : S). Contains (known new) (stands.left.0, x)) same (adds.has _ stands.at)))
+    pub begins_made : {E : Type 0} (result : Result (Unit {0}) E) (old new : Table S) (place : ℕ) (r : Right) (made : Parts × S) → AreMadeOf sum_of composed whole ps start r made → StandsAt ps start place r → OnOk result (Adds sum_of composed whole ps start count old new place made.1) → OnOk result (Begins sum_of composed whole ps start count old new (λ (k : ℕ). k ≡ place))
+    begins_made (Err e) old new place r made are stands adds = tt
+    begins_made (Ok e) old new place r made are stands adds =
+        begins_with old new place r stands adds.goes (λ left f. subst (λ (n : ℕ). IsBegun sum_of composed (known new) n r) (f _ stands.at) (are.alone (known new) stands.left.0 (adds.has _ stands.at)))
 
-    pub begins_one : {E : Type 0} (r : Result (Unit {0}) E) (old new : Table S) (place : ℕ) (a : Symbol) (piece : Piece S) → IsLetterOf sum_of a (Some piece) → StandsAt ps start place (One a) → OnOk r (Adds sum_of composed whole ps start count old new place piece.sum) → OnOk r (Begins sum_of composed whole ps start count old new (λ (k : ℕ). k ≡ place))
-    begins_one (Err e) old new place a piece is stands adds = tt
-    begins_one (Ok e) old new place a piece is stands adds =
-        begins_with old new place (One a) stands adds.goes (λ left f s has.
-        subst (λ (n : ℕ). Contains (known new) (n, s)) (f _ stands.at) (subst (λ (x : S). Contains (known new) (stands.left.0, x)) (letter_is sum_of composed whole ps start [] 0 a piece s is has) (adds.has _ stands.at)))
-
-    pub begins_one_none : (t : Table S) (place : ℕ) (a : Symbol) → IsTable sum_of composed whole ps start count t → IsLetterOf sum_of a None → StandsAt ps start place (One a) → Begins sum_of composed whole ps start count t t (λ (k : ℕ). k ≡ place)
-    begins_one_none t place a table is stands =
-        begins_with t t place (One a) stands (goes_none sum_of composed whole ps start count t table) (λ left f s has. absurd (no_letter a is s has))
-
-    pub begins_two : {E : Type 0} (r : Result (Unit {0}) E) (old new : Table S) (place : ℕ) (a b : Symbol) (x y : Piece S) (s : S) → s ≡ composed x.sum y.sum → IsLetterOf sum_of a (Some x) → IsLetterOf sum_of b (Some y) → StandsAt ps start place (Two a b) → OnOk r (Adds sum_of composed whole ps start count old new place s) → OnOk r (Begins sum_of composed whole ps start count old new (λ (k : ℕ). k ≡ place))
-    begins_two (Err e) old new place a b x y s same is is' stands adds = tt
-    begins_two (Ok e) old new place a b x y s same is is' stands adds =
-        begins_with old new place (Two a b) stands adds.goes (λ left f t u has has'.
-        let one : s ≡ composed t u = same ∙ (ap (λ (z : S). composed z y.sum) (letter_is sum_of composed whole ps start [] 0 a x t is has) ∙ ap (composed t) (letter_is sum_of composed whole ps start [] 0 b y u is' has')) in
-        subst (λ (n : ℕ). Contains (known new) (n, composed t u)) (f _ stands.at) (subst (λ (z : S). Contains (known new) (stands.left.0, z)) one (adds.has _ stands.at)))
-
-    pub begins_two_none : (t : Table S) (place : ℕ) (a b : Symbol) → IsTable sum_of composed whole ps start count t → IsLetterOf sum_of a None ⊎ IsLetterOf sum_of b None → StandsAt ps start place (Two a b) → Begins sum_of composed whole ps start count t t (λ (k : ℕ). k ≡ place)
-    begins_two_none t place a b table is stands =
-        begins_with t t place (Two a b) stands (goes_none sum_of composed whole ps start count t table) (λ left f s u has has'. elim is [
-          | inl h ↦ absurd (no_letter a h s has)
-          | inr h ↦ absurd (no_letter b h u has')
-        ])
+    pub begins_unmade : (t : Table S) (place : ℕ) (r : Right) → IsTable sum_of composed whole ps start count t → IsMadeOf sum_of composed whole ps start r None → StandsAt ps start place r → Begins sum_of composed whole ps start count t t (λ (k : ℕ). k ≡ place)
+    begins_unmade t place r table is stands = begins_with t t place r stands (goes_none sum_of composed whole ps start count t table) (λ left f. is (known t) left)
 
     pub begins_useless : (t : Table S) (place : ℕ) (p : Production) → IsTable sum_of composed whole ps start count t → slice_get ps place ≡ Some p → (IsUseful ps start p.left → ⊥) → Begins sum_of composed whole ps start count t t (λ (k : ℕ). k ≡ place)
     begins_useless t place p table at useless =

@@ -1,114 +1,50 @@
 //! The pairs of productions in which no nonterminal stands on the right.
 
-ghost use Rattle.std.specs.Prelude.{◌≡◌, ◌↔◌, ◌<◌, ℕ, Some, slice_get, Contains, IfErr, OnOk, length};
+ghost use Rattle.std.specs.Prelude.{◌≡◌, ◌↔◌, ◌<◌, Some, slice_get, IfOk, IfErr, OnOk, length};
 ghost use Rattle.text_base.specs.declared.numbers.Nt as nt;
-ghost use Rattle.cfg_grammar.specs.declared.production.Right as plain;
 ghost use Rattle.useful_nonterminals.specs.Follows.{IsMarked};
 ghost use Rattle.useful_nonterminals.specs.Useful.{IsUseful};
-ghost use Rattle.summary_fixpoint.specs.Tables.{known, IsTable, GoesOn};
+ghost use Rattle.summary_fixpoint.specs.Tables.{IsTable};
 ghost use Rattle.summary_fixpoint.specs.Halts.{Explains};
-ghost use Rattle.summary_decision.specs.Beginning.{Begins, StandsAt};
+ghost use Rattle.summary_decision.specs.Beginning.{IsMadeOf, Begins, StandsAt};
 
 use crate::using::is_marked;
-use cfg_grammar::{Production, Right, Symbol};
+use cfg_grammar::{Production, Right};
 use derivations::Parts;
 use summary_fixpoint::{Halt, Question, Side, Table, add, compose, letter};
 use tag_sums::Summary;
+use text_base::NoMemory;
 
-/// Adds the pair of a production whose right side is empty.
-fn begin_empty<S: Summary>(
+/// The parts that letters on the right make, with their sum. None where a nonterminal stands there.
+fn made_of<S: Summary>(
     question: &Question<S>,
-    table: &mut Table<S::Sum>,
-    place: usize,
-) -> Result<(), Halt>
-    requires table { IsTable (S.sum_of question.now.summary.now)
-        (S.composed question.now.summary.now)
+    right: Right,
+) -> Result<Option<(Parts, S::Sum)>, NoMemory>
+    ensures { IfOk result
+        (IsMadeOf (S.sum_of question.now.summary.now) (S.composed question.now.summary.now)
         (S.is_whole question.now.summary.now) question.now.grammar.now.productions.items
-        question.now.grammar.now.start question.now.grammar.now.count table.old }
-    requires stands { StandsAt question.now.grammar.now.productions.items
-        question.now.grammar.now.start place (plain.Right.Empty) }
-    ensures ok { OnOk result
-        (Begins (S.sum_of question.now.summary.now) (S.composed question.now.summary.now)
-        (S.is_whole question.now.summary.now) question.now.grammar.now.productions.items
-        question.now.grammar.now.start question.now.grammar.now.count table.old table.new
-        (λ k. k ≡ place)) }
-    ensures err { IfErr result (λ h. Explains (S.sum_of question.now.summary.now)
-        (S.is_whole question.now.summary.now) (S.tag_count question.now.summary.now)
-        question.now.grammar.now.productions.items question.now.grammar.now.start question.now.limit
-        table.new.nodes.nodes.items table.new.height h) }
+        question.now.grammar.now.start right) }
 {
-    let sum = question.summary.unit(question.alloc)?;
-    add(question, table, place, Parts::Empty, sum)
-}
-
-/// Adds the pair of a production with one letter on the right.
-fn begin_one<S: Summary>(
-    question: &Question<S>,
-    table: &mut Table<S::Sum>,
-    place: usize,
-    symbol: Symbol,
-) -> Result<(), Halt>
-    requires table { IsTable (S.sum_of question.now.summary.now)
-        (S.composed question.now.summary.now)
-        (S.is_whole question.now.summary.now) question.now.grammar.now.productions.items
-        question.now.grammar.now.start question.now.grammar.now.count table.old }
-    requires stands { StandsAt question.now.grammar.now.productions.items
-        question.now.grammar.now.start place (plain.Right.One symbol) }
-    ensures ok { OnOk result
-        (Begins (S.sum_of question.now.summary.now) (S.composed question.now.summary.now)
-        (S.is_whole question.now.summary.now) question.now.grammar.now.productions.items
-        question.now.grammar.now.start question.now.grammar.now.count table.old table.new
-        (λ k. k ≡ place)) }
-    ensures err { IfErr result (λ h. Explains (S.sum_of question.now.summary.now)
-        (S.is_whole question.now.summary.now) (S.tag_count question.now.summary.now)
-        question.now.grammar.now.productions.items question.now.grammar.now.start question.now.limit
-        table.new.nodes.nodes.items table.new.height h) }
-{
-    let letter = letter(question, symbol)?;
-    match letter {
-        Some(piece) => add(question, table, place, Parts::One(piece.part), piece.sum),
-        None => Ok(()),
+    match right {
+        Right::Empty => {
+            let sum = question.summary.unit(question.alloc)?;
+            Ok(Some((Parts::Empty, sum)))
+        }
+        Right::One(symbol) => match letter(question, symbol)? {
+            Some(piece) => Ok(Some((Parts::One(piece.part), piece.sum))),
+            None => Ok(None),
+        },
+        Right::Two(first, second) => {
+            let Some(left) = letter(question, first)? else {
+                return Ok(None);
+            };
+            let Some(right) = letter(question, second)? else {
+                return Ok(None);
+            };
+            let sum = compose(question, Side::First, &left.sum, &right.sum)?;
+            Ok(Some((Parts::Two(left.part, right.part), sum)))
+        }
     }
-}
-
-/// Adds the pair of a production with two letters on the right.
-fn begin_two<S: Summary>(
-    question: &Question<S>,
-    table: &mut Table<S::Sum>,
-    place: usize,
-    first: Symbol,
-    second: Symbol,
-) -> Result<(), Halt>
-    requires table { IsTable (S.sum_of question.now.summary.now)
-        (S.composed question.now.summary.now)
-        (S.is_whole question.now.summary.now) question.now.grammar.now.productions.items
-        question.now.grammar.now.start question.now.grammar.now.count table.old }
-    requires stands { StandsAt question.now.grammar.now.productions.items
-        question.now.grammar.now.start place (plain.Right.Two first second) }
-    ensures ok { OnOk result
-        (Begins (S.sum_of question.now.summary.now) (S.composed question.now.summary.now)
-        (S.is_whole question.now.summary.now) question.now.grammar.now.productions.items
-        question.now.grammar.now.start question.now.grammar.now.count table.old table.new
-        (λ k. k ≡ place)) }
-    ensures err { IfErr result (λ h. Explains (S.sum_of question.now.summary.now)
-        (S.is_whole question.now.summary.now) (S.tag_count question.now.summary.now)
-        question.now.grammar.now.productions.items question.now.grammar.now.start question.now.limit
-        table.new.nodes.nodes.items table.new.height h) }
-{
-    let Some(left) = letter(question, first)? else {
-        return Ok(());
-    };
-    let Some(right) = letter(question, second)? else {
-        return Ok(());
-    };
-    let sum = compose(question, Side::First, &left.sum, &right.sum)?;
-    add(
-        question,
-        table,
-        place,
-        Parts::Two(left.part, right.part),
-        sum,
-    )
 }
 
 /// Adds the pair of a production in which no nonterminal stands on the right.
@@ -123,7 +59,7 @@ fn begin_at<S: Summary>(
         (S.is_whole question.now.summary.now) question.now.grammar.now.productions.items
         question.now.grammar.now.start question.now.grammar.now.count table.old }
     requires stands { StandsAt question.now.grammar.now.productions.items
-        question.now.grammar.now.start place (right) }
+        question.now.grammar.now.start place right }
     ensures ok { OnOk result
         (Begins (S.sum_of question.now.summary.now) (S.composed question.now.summary.now)
         (S.is_whole question.now.summary.now) question.now.grammar.now.productions.items
@@ -134,11 +70,10 @@ fn begin_at<S: Summary>(
         question.now.grammar.now.productions.items question.now.grammar.now.start question.now.limit
         table.new.nodes.nodes.items table.new.height h) }
 {
-    match right {
-        Right::Empty => begin_empty(question, table, place),
-        Right::One(symbol) => begin_one(question, table, place, symbol),
-        Right::Two(first, second) => begin_two(question, table, place, first, second),
-    }
+    let Some((parts, sum)) = made_of(question, right)? else {
+        return Ok(());
+    };
+    add(question, table, place, parts, sum)
 }
 
 /// The same, where the left side is useful.
