@@ -1,3 +1,4 @@
 pub mod Encodings
 pub mod Front
 pub mod Joined
+pub mod OfText

@@ -6,10 +6,10 @@ ghost use Rattle.plain_values.specs.Walks as walks;
 ghost use Rattle.builtin_meaning.specs.Values.{builtin_value, value_of_one, value_of_two, value_of_three};
 ghost use Rattle.php_values.specs.View.{plain_of, plain_list};
 
+use crate::encodings::Encoding;
 use crate::values::{
-    addslashes, count, explode_of, htmlspecialchars, implode_of, intval, nl2br, rawurlencode,
-    str_repeat, str_replace, strlen, strtolower, strtoupper, substr_of, trimmed, ucfirst,
-    urlencode,
+    OfText, count, explode_of, htmlspecialchars, implode_of, intval, of_text, str_repeat,
+    str_replace, strlen, substr_of,
 };
 use builtin_meaning::Builtin;
 use php_values::Value;
@@ -32,16 +32,37 @@ fn apply_one(alloc: Global, builtin: Builtin, a: &Value) -> Result<Value, Fault>
 {
     match builtin {
         Builtin::Htmlspecialchars => htmlspecialchars(alloc, a),
-        Builtin::Strtolower => strtolower(alloc, a),
-        Builtin::Strtoupper => strtoupper(alloc, a),
-        Builtin::Ucfirst => ucfirst(alloc, a),
-        Builtin::Trim => trimmed(alloc, true, true, a),
-        Builtin::Ltrim => trimmed(alloc, true, false, a),
-        Builtin::Rtrim => trimmed(alloc, false, true, a),
-        Builtin::Nl2br => nl2br(alloc, a),
-        Builtin::Urlencode => urlencode(alloc, a),
-        Builtin::Rawurlencode => rawurlencode(alloc, a),
-        Builtin::Addslashes => addslashes(alloc, a),
+        Builtin::Strtolower => of_text(alloc, OfText::Lower, a),
+        Builtin::Strtoupper => of_text(alloc, OfText::Upper, a),
+        Builtin::Ucfirst => of_text(alloc, OfText::FirstUpper, a),
+        Builtin::Trim => of_text(
+            alloc,
+            OfText::Trim {
+                left: true,
+                right: true,
+            },
+            a,
+        ),
+        Builtin::Ltrim => of_text(
+            alloc,
+            OfText::Trim {
+                left: true,
+                right: false,
+            },
+            a,
+        ),
+        Builtin::Rtrim => of_text(
+            alloc,
+            OfText::Trim {
+                left: false,
+                right: true,
+            },
+            a,
+        ),
+        Builtin::Nl2br => of_text(alloc, OfText::Breaks, a),
+        Builtin::Urlencode => of_text(alloc, OfText::Encoded(Encoding::Url), a),
+        Builtin::Rawurlencode => of_text(alloc, OfText::Encoded(Encoding::RawUrl), a),
+        Builtin::Addslashes => of_text(alloc, OfText::Encoded(Encoding::Slashes), a),
         Builtin::Strlen => strlen(alloc, a),
         Builtin::Count => count(a),
         Builtin::Intval => intval(a),

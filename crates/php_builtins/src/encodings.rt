@@ -7,8 +7,8 @@ ghost use Rattle.plain_values.specs.Plain.{Plain};
 ghost use Rattle.plain_values.specs.Members.{within_length};
 ghost use Rattle.string_functions.specs.Url.{percent_of_byte};
 ghost use Rattle.string_functions.specs.Html.{html_of_byte, html_of};
-ghost use Rattle.string_functions.specs.Slashes.{slashes_of_byte, slashes_of};
-ghost use Rattle.string_functions.specs.Url.{url_of_byte, raw_url_of_byte, url_of, raw_url_of};
+ghost use Rattle.string_functions.specs.Slashes.{slashes_of_byte};
+ghost use Rattle.string_functions.specs.Url.{url_of_byte, raw_url_of_byte};
 ghost use Rattle.php_builtins.specs.Encodings.{bytes_for, encoded};
 
 use php_values::Text;
@@ -183,7 +183,7 @@ fn written(alloc: Global, encoding: Encoding, text: &[u8]) -> Result<Vec<u8>, No
 
 /// The text with each byte written so. Faults Long exactly where it would be longer than
 /// 16,777,216 bytes, before anything is built.
-fn encode(alloc: Global, encoding: Encoding, text: &[u8]) -> Result<Text, Fault>
+pub(crate) fn encode(alloc: Global, encoding: Encoding, text: &[u8]) -> Result<Text, Fault>
     ensures ok { IfOk result (λ t. within_length (encoded encoding text.now) ≡ Ok (Plain.text t)) }
     ensures err { IfErr result
         (λ fault. (fault ≡ Fault.Memory) ⊎ (within_length (encoded encoding text.now) ≡ Err fault)) }
@@ -203,34 +203,4 @@ pub fn html(alloc: Global, text: &[u8]) -> Result<Text, Fault>
         ⊎ (within_length (html_of text.now) ≡ Err fault)) }
 {
     encode(alloc, Encoding::Html, text)
-}
-
-/// `urlencode(text)` (PHP manual). Faults Long exactly where it would be longer than 16,777,216
-/// bytes, before anything is built.
-pub fn url(alloc: Global, text: &[u8]) -> Result<Text, Fault>
-    ensures ok { IfOk result (λ t. within_length (url_of text.now) ≡ Ok (Plain.text t)) }
-    ensures err { IfErr result (λ fault. (fault ≡ Fault.Memory)
-        ⊎ (within_length (url_of text.now) ≡ Err fault)) }
-{
-    encode(alloc, Encoding::Url, text)
-}
-
-/// `rawurlencode(text)` (PHP manual). Faults Long exactly where it would be longer than 16,777,216
-/// bytes, before anything is built.
-pub fn raw_url(alloc: Global, text: &[u8]) -> Result<Text, Fault>
-    ensures ok { IfOk result (λ t. within_length (raw_url_of text.now) ≡ Ok (Plain.text t)) }
-    ensures err { IfErr result (λ fault. (fault ≡ Fault.Memory)
-        ⊎ (within_length (raw_url_of text.now) ≡ Err fault)) }
-{
-    encode(alloc, Encoding::RawUrl, text)
-}
-
-/// `addslashes(text)` (PHP manual). Faults Long exactly where it would be longer than 16,777,216
-/// bytes, before anything is built.
-pub fn slashes(alloc: Global, text: &[u8]) -> Result<Text, Fault>
-    ensures ok { IfOk result (λ t. within_length (slashes_of text.now) ≡ Ok (Plain.text t)) }
-    ensures err { IfErr result (λ fault. (fault ≡ Fault.Memory)
-        ⊎ (within_length (slashes_of text.now) ≡ Err fault)) }
-{
-    encode(alloc, Encoding::Slashes, text)
 }

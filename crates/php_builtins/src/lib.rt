@@ -17,7 +17,7 @@ mod values;
 pub use application::apply;
 pub use cases::{first_upper, lower, substr, trim, upper};
 pub use copying::repeat;
-pub use encodings::{html, raw_url, slashes, url};
+pub use encodings::html;
 pub use intval::text_integer;
 pub use joining::implode;
 pub use line_ends::breaks;

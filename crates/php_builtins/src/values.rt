@@ -4,11 +4,6 @@ ghost use Rattle.std.specs.Prelude.{◌≡◌, ◌⊎◌, pos, length, if◌then
 ghost use Rattle.std.specs.Str.{is_utf8};
 ghost use Rattle.string_functions.specs.Html.{html_of};
 ghost use Rattle.plain_values.specs.Members.{within_length};
-ghost use Rattle.string_functions.specs.Breaks.{breaks_of};
-ghost use Rattle.string_functions.specs.Case.{lower_of, upper_of, first_upper_of};
-ghost use Rattle.string_functions.specs.Slashes.{slashes_of};
-ghost use Rattle.string_functions.specs.Trim.{trim_of};
-ghost use Rattle.string_functions.specs.Url.{url_of, raw_url_of};
 ghost use Rattle.plain_values.specs.Arithmetic.{in_64_bits, integer};
 ghost use Rattle.plain_values.specs.Intval.{integer_of};
 ghost use Rattle.plain_values.specs.Plain.{Plain, keys};
@@ -16,10 +11,11 @@ ghost use Rattle.plain_values.specs.Walks.{count_of};
 ghost use Rattle.builtin_meaning.specs.Arguments as argument;
 ghost use Rattle.builtin_meaning.specs.Values as spec;
 ghost use Rattle.php_values.specs.View.{plain_of};
+ghost use Rattle.php_builtins.specs.OfText.{made_by};
 
 use crate::cases::{first_upper, lower, substr, trim, upper};
 use crate::copying::repeat;
-use crate::encodings::{html, raw_url, slashes, url};
+use crate::encodings::{Encoding, encode, html};
 use crate::intval::text_integer;
 use crate::joining::implode;
 use crate::line_ends::breaks;
@@ -29,6 +25,23 @@ use plain_values::Fault;
 use std::alloc::Global;
 use string_functions::of_byte;
 use value_operations::{number_of, text_of};
+
+/// A function of one text, whose result is a text.
+#[derive(Clone, Copy, Debug)]
+pub(crate) enum OfText {
+    /// `strtolower`.
+    Lower,
+    /// `strtoupper`.
+    Upper,
+    /// `ucfirst`.
+    FirstUpper,
+    /// `trim`, `ltrim` or `rtrim`, by the ends that are stripped.
+    Trim { left: bool, right: bool },
+    /// `nl2br`.
+    Breaks,
+    /// A function that writes each byte as some bytes.
+    Encoded(Encoding),
+}
 
 // An argument as a text.
 fn as_text(alloc: Global, value: &Value) -> Result<Text, Fault>
@@ -57,92 +70,31 @@ fn as_optional_number(value: &Value) -> Result<Option<i64>, Fault>
     }
 }
 
-/// `strtolower` of a value.
-pub(crate) fn strtolower(alloc: Global, a: &Value) -> Result<Value, Fault>
-    ensures ok { IfOk result (λ v. spec.of_text lower_of (plain_of a.now) ≡ Ok (plain_of v)) }
+// What the function makes of a text.
+fn made_by(alloc: Global, function: OfText, text: &[u8]) -> Result<Text, Fault>
+    ensures ok { IfOk result (λ t. within_length (made_by function text.now) ≡ Ok (Plain.text t)) }
     ensures err { IfErr result (λ fault. (fault ≡ Fault.Memory)
-        ⊎ (spec.of_text lower_of (plain_of a.now) ≡ Err fault)) }
+        ⊎ (within_length (made_by function text.now) ≡ Err fault)) }
 {
-    let text = as_text(alloc, a)?;
-    let made = lower(alloc, text.as_slice())?;
-    Ok(Value::Text(made))
+    match function {
+        OfText::Lower => lower(alloc, text),
+        OfText::Upper => upper(alloc, text),
+        OfText::FirstUpper => first_upper(alloc, text),
+        OfText::Trim { left, right } => trim(alloc, left, right, text),
+        OfText::Breaks => breaks(alloc, text),
+        OfText::Encoded(encoding) => encode(alloc, encoding, text),
+    }
 }
 
-/// `strtoupper` of a value.
-pub(crate) fn strtoupper(alloc: Global, a: &Value) -> Result<Value, Fault>
-    ensures ok { IfOk result (λ v. spec.of_text upper_of (plain_of a.now) ≡ Ok (plain_of v)) }
-    ensures err { IfErr result (λ fault. (fault ≡ Fault.Memory)
-        ⊎ (spec.of_text upper_of (plain_of a.now) ≡ Err fault)) }
-{
-    let text = as_text(alloc, a)?;
-    let made = upper(alloc, text.as_slice())?;
-    Ok(Value::Text(made))
-}
-
-/// `ucfirst` of a value.
-pub(crate) fn ucfirst(alloc: Global, a: &Value) -> Result<Value, Fault>
-    ensures ok { IfOk result (λ v. spec.of_text first_upper_of (plain_of a.now) ≡ Ok (plain_of v)) }
-    ensures err { IfErr result (λ fault. (fault ≡ Fault.Memory)
-        ⊎ (spec.of_text first_upper_of (plain_of a.now) ≡ Err fault)) }
-{
-    let text = as_text(alloc, a)?;
-    let made = first_upper(alloc, text.as_slice())?;
-    Ok(Value::Text(made))
-}
-
-/// `nl2br` of a value.
-pub(crate) fn nl2br(alloc: Global, a: &Value) -> Result<Value, Fault>
-    ensures ok { IfOk result (λ v. spec.of_text breaks_of (plain_of a.now) ≡ Ok (plain_of v)) }
-    ensures err { IfErr result (λ fault. (fault ≡ Fault.Memory)
-        ⊎ (spec.of_text breaks_of (plain_of a.now) ≡ Err fault)) }
-{
-    let text = as_text(alloc, a)?;
-    let made = breaks(alloc, text.as_slice())?;
-    Ok(Value::Text(made))
-}
-
-/// `urlencode` of a value.
-pub(crate) fn urlencode(alloc: Global, a: &Value) -> Result<Value, Fault>
-    ensures ok { IfOk result (λ v. spec.of_text url_of (plain_of a.now) ≡ Ok (plain_of v)) }
-    ensures err { IfErr result (λ fault. (fault ≡ Fault.Memory)
-        ⊎ (spec.of_text url_of (plain_of a.now) ≡ Err fault)) }
-{
-    let text = as_text(alloc, a)?;
-    let made = url(alloc, text.as_slice())?;
-    Ok(Value::Text(made))
-}
-
-/// `rawurlencode` of a value.
-pub(crate) fn rawurlencode(alloc: Global, a: &Value) -> Result<Value, Fault>
-    ensures ok { IfOk result (λ v. spec.of_text raw_url_of (plain_of a.now) ≡ Ok (plain_of v)) }
-    ensures err { IfErr result (λ fault. (fault ≡ Fault.Memory)
-        ⊎ (spec.of_text raw_url_of (plain_of a.now) ≡ Err fault)) }
-{
-    let text = as_text(alloc, a)?;
-    let made = raw_url(alloc, text.as_slice())?;
-    Ok(Value::Text(made))
-}
-
-/// `addslashes` of a value.
-pub(crate) fn addslashes(alloc: Global, a: &Value) -> Result<Value, Fault>
-    ensures ok { IfOk result (λ v. spec.of_text slashes_of (plain_of a.now) ≡ Ok (plain_of v)) }
-    ensures err { IfErr result (λ fault. (fault ≡ Fault.Memory)
-        ⊎ (spec.of_text slashes_of (plain_of a.now) ≡ Err fault)) }
-{
-    let text = as_text(alloc, a)?;
-    let made = slashes(alloc, text.as_slice())?;
-    Ok(Value::Text(made))
-}
-
-/// `trim`, `ltrim` or `rtrim` of a value.
-pub(crate) fn trimmed(alloc: Global, left: bool, right: bool, a: &Value) -> Result<Value, Fault>
+/// A function of one text, of a value.
+pub(crate) fn of_text(alloc: Global, function: OfText, a: &Value) -> Result<Value, Fault>
     ensures ok { IfOk result
-        (λ v. spec.of_text (trim_of left right) (plain_of a.now) ≡ Ok (plain_of v)) }
+        (λ v. spec.of_text (made_by function) (plain_of a.now) ≡ Ok (plain_of v)) }
     ensures err { IfErr result (λ fault. (fault ≡ Fault.Memory)
-        ⊎ (spec.of_text (trim_of left right) (plain_of a.now) ≡ Err fault)) }
+        ⊎ (spec.of_text (made_by function) (plain_of a.now) ≡ Err fault)) }
 {
     let text = as_text(alloc, a)?;
-    let made = trim(alloc, left, right, text.as_slice())?;
+    let made = made_by(alloc, function, text.as_slice())?;
     Ok(Value::Text(made))
 }
 
