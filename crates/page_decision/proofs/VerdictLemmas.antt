@@ -8,6 +8,7 @@ use Rattle.derivations.specs.declared.derivation.Derivation.{Derivation}
 use Rattle.page_model.specs.PageTokens.{PageTokens}
 use Rattle.page_automata.specs.PageAutomaton.{Parts, parts_of, page_automaton}
 use Rattle.page_automata.specs.Whole.{is_whole}
+use Rattle.dyck_balance.specs.declared.summary.Nesting.{Nesting}
 use Rattle.tag_sums.specs.Nesting.{nest_of, is_balanced, nest_count}
 use Rattle.tag_sums.specs.Sum.{sum_of, tag_count}
 use Rattle.segment_summary.specs.declared.segments.Segments.{Segments}
@@ -21,8 +22,18 @@ use Rattle.text_decision.specs.Echoes.{PutsTokens}
 use Rattle.text_decision.specs.TextVerdicts.{HasSum, IsNotWhole, IsTextVerdict}
 use Rattle.text_decision.proofs.AlongLemmas.{verdict_along}
 use Rattle.page_decision.specs.Machines.{IsPageMachine, IsBrokenMachine}
-use Rattle.page_decision.specs.PageSums.{AreSegmentsOf}
+use Rattle.page_decision.specs.declared.sums.PageSums.{PageSums}
+use Rattle.page_decision.specs.PageSums.{AreSegmentsOf, AreSumsOf}
 use Rattle.page_decision.specs.PageVerdicts.{IsBadPage, IsPageVerdict}
+
+-- segments are the sums of one goal alone, and nesting is that of the other
+pub only_valid : (P : Goal → Type 0) (table : Table) (goal : Goal) (segments : Segments) → AreSumsOf goal table (PageSums.BySegments segments) → (AreSegmentsOf table segments → P Goal.Valid) → P goal
+only_valid P table Goal.Valid segments are make = make are
+only_valid P table Goal.Nested segments are make = absurd are
+
+pub only_nested : (P : Goal → Type 0) (table : Table) (goal : Goal) (nesting : Nesting) → AreSumsOf goal table (PageSums.ByNesting nesting) → P Goal.Nested → P goal
+only_nested P table Goal.Valid nesting are make = absurd are
+only_nested P table Goal.Nested nesting are make = make
 
 itself : (IsPage : List ℕ → Type 0) (page : List ℕ) → IsPage page ↔ IsPage page
 itself IsPage page = (λ h. h, λ h. h)

@@ -6,9 +6,8 @@ ghost use Rattle.dtd_model.specs.TableOf.{table_of};
 ghost use Rattle.image_meaning.specs.Outputs.{DerivesText};
 ghost use Rattle.grammar_image.specs.Refusals.{IsCause};
 ghost use Rattle.page_decision.specs.Machines.{IsBrokenMachine, IsPageMachine};
-ghost use Rattle.page_decision.specs.PageSums.{AreSegmentsOf, AreSumsOf};
+ghost use Rattle.page_decision.specs.PageSums.{AreSumsOf};
 ghost use Rattle.page_decision.specs.PageVerdicts.{IsBadPage, IsPageVerdict};
-ghost use Rattle.page_goals.specs.declared.goal.Goal as goals;
 
 use crate::sums::PageSums;
 use cfg_grammar::Grammar;
@@ -19,62 +18,10 @@ use fst_core::Machine;
 use grammar_image::ImageRefusal;
 use page_goals::Goal;
 use page_goals::laws::{nests_tell_nested, sums_tell_valid};
-use segment_summary::Segments;
 use std::alloc::Global;
 use summary_fixpoint::Verdict;
 use text_base::NoMemory;
 use text_decision::{decide_texts, find_wrong, texts_fit};
-
-/// Whether each page is valid.
-fn decide_valid<M: Machine>(
-    alloc: Global,
-    grammar: &Grammar,
-    dtd: &Dtd,
-    machine: &M,
-    segments: &Segments,
-    items: u64,
-    pairs: u64,
-) -> Result<Verdict, ImageRefusal>
-    requires machine { IsPageMachine (table_of dtd.now) (M.first machine.now) (M.steps machine.now)
-        (M.ends machine.now) }
-    requires segments { AreSegmentsOf (table_of dtd.now) segments.now }
-    ensures verdict { IfOk result (IsPageVerdict (table_of dtd.now)
-        (DerivesText grammar.now.productions.items (symbols.Symbol.Nt grammar.now.start))
-        goals.Goal.Valid pairs) }
-    ensures cause { IfErr result
-        (IsCause grammar.now.productions.items (M.steps machine.now) grammar.now.start
-        (M.first machine.now) items) }
-{
-    sums_tell_valid();
-    texts_fit(grammar);
-    let _ = dtd;
-    decide_texts(alloc, grammar, machine, segments, items, pairs)
-}
-
-/// Whether each page is nested.
-fn decide_nested<M: Machine>(
-    alloc: Global,
-    grammar: &Grammar,
-    dtd: &Dtd,
-    machine: &M,
-    nesting: &Nesting,
-    items: u64,
-    pairs: u64,
-) -> Result<Verdict, ImageRefusal>
-    requires { IsPageMachine (table_of dtd.now) (M.first machine.now) (M.steps machine.now)
-        (M.ends machine.now) }
-    ensures verdict { IfOk result (IsPageVerdict (table_of dtd.now)
-        (DerivesText grammar.now.productions.items (symbols.Symbol.Nt grammar.now.start))
-        goals.Goal.Nested pairs) }
-    ensures cause { IfErr result
-        (IsCause grammar.now.productions.items (M.steps machine.now) grammar.now.start
-        (M.first machine.now) items) }
-{
-    nests_tell_nested();
-    texts_fit(grammar);
-    let _ = dtd;
-    decide_texts(alloc, grammar, machine, nesting, items, pairs)
-}
 
 /// Whether each page that the grammar derives is good by the goal and the definition, with at most
 /// `items` items of the image, at most `pairs` different sums of sentences a nonterminal, and
@@ -104,14 +51,18 @@ pub fn decide_pages<M: Machine>(
         (IsCause grammar.now.productions.items (M.steps machine.now) grammar.now.start
         (M.first machine.now) items) }
 {
+    let _ = dtd;
     let _ = goal;
+    texts_fit(grammar);
     match sums {
-        PageSums::BySegments(segments) => decide_valid(
-            alloc, grammar, dtd, machine, segments, items, pairs,
-        ),
-        PageSums::ByNesting(nesting) => decide_nested(
-            alloc, grammar, dtd, machine, nesting, items, pairs,
-        ),
+        PageSums::BySegments(segments) => {
+            sums_tell_valid();
+            decide_texts(alloc, grammar, machine, segments, items, pairs)
+        }
+        PageSums::ByNesting(nesting) => {
+            nests_tell_nested();
+            decide_texts(alloc, grammar, machine, nesting, items, pairs)
+        }
     }
 }
 
