@@ -5,6 +5,7 @@ ghost use Rattle.cfg_grammar.specs.declared.symbol.Symbol as symbols;
 ghost use Rattle.flow_code.specs.View.{plain_flow};
 ghost use Rattle.loose_sets.specs.Loose.{Loose};
 ghost use Rattle.op_cycles.specs.Texts.{TextOf};
+ghost use Rattle.flow_listing.specs.Rules.{AreLooseRules};
 
 use flow_code::FlowProgram;
 use flow_listing::{FlowLister, extract_by};
@@ -13,11 +14,12 @@ use std::alloc::Global;
 use text_base::NoMemory;
 
 /// The system of productions and operations whose start has exactly the loose pages of a program
-/// (Minamide, WWW 2005). Sets are made only where they are used. Linear in their rows, beside the
-/// program.
+/// (Minamide, WWW 2005), and whose operations are in cycles exactly where those of the loose sets
+/// are. Sets are made only where they are used. Linear in their rows, beside the program.
 pub fn extract(alloc: Global, flow: &FlowProgram) -> Result<OpSystem, NoMemory>
-    ensures { IfOk result (λ s. (w : List ℕ) → TextOf s (symbols.Symbol.Nt s.start) w
+    ensures pages { IfOk result (λ s. (w : List ℕ) → TextOf s (symbols.Symbol.Nt s.start) w
         ↔ Loose (plain_flow flow.now) w) }
+    ensures rules { IfOk result (AreLooseRules (plain_flow flow.now)) }
 {
     let lister = FlowLister::new(alloc, flow)?;
     let system = extract_by(alloc, flow, &lister)?;

@@ -1,1 +1,2 @@
 pub mod Asked
+pub use Rattle.page_extraction.specs.Rules

@@ -10,4 +10,4 @@ pub returns : goal.returns
 returns c =
     IfOk-weaker c.extract.result _ _
     (λ s is page. subst (λ (flow : PlainFlow). TextOf s (Nt s.start) page ↔ Loose flow page) c.requires (is page))
-    c.extract.ensures
+    c.extract.ensures.pages
