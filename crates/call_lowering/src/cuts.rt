@@ -5,7 +5,7 @@ ghost use Rattle.php_syntax.specs.Trees.{plain_expr};
 ghost use Rattle.flow_code.specs.Builtins.{literal_integer, is_small, cutting_from, cutting_out};
 ghost use Rattle.call_lowering.specs.Small.{IsNotSmall, IsSmall};
 
-use literal_trees::literal_number;
+use literal_trees::{literal_negative, literal_number};
 use op_system::Op;
 use php_syntax::tree::Expr;
 
@@ -40,38 +40,17 @@ fn kept_turned(number: i64) -> Option<i64>
 }
 
 // An integer literal, or `-` and one, that a machine is made for.
-#[tactic(auto, using(php_syntax::proofs::Views::views), unfolding(flow_code::specs::Builtins::literal_integer))]
+#[tactic(auto, using(crate::proofs::SmallLemmas::no_integer), unfolding(flow_code::specs::Builtins::literal_integer))]
 fn small_integer(expr: &Expr) -> Option<i64>
     ensures { MatchOption result (IsNotSmall (literal_integer (plain_expr expr.now)))
         (λ z. IsSmall (literal_integer (plain_expr expr.now)) z) }
 {
-    match expr {
-        Expr::Int(number) => kept(*number),
-        Expr::Neg(operand) => match literal_number(operand) {
-            Some(number) => kept_turned(number),
-            None => None,
-        },
-        Expr::Null
-        | Expr::Flag(_)
-        | Expr::Text(_)
-        | Expr::Var(_)
-        | Expr::Super(_)
-        | Expr::Member(_, _)
-        | Expr::ArrayOf(_)
-        | Expr::Join(_)
-        | Expr::Not(_)
-        | Expr::Arith(_, _, _)
-        | Expr::Compare(_, _, _)
-        | Expr::And(_, _)
-        | Expr::Or(_, _)
-        | Expr::Coalesce(_, _)
-        | Expr::Choice(_, _, _)
-        | Expr::Isset(_)
-        | Expr::Empty(_)
-        | Expr::Assign(_, _)
-        | Expr::Update(_, _, _)
-        | Expr::Step { .. }
-        | Expr::Call(_, _) => None,
+    if let Some(number) = literal_negative(expr) {
+        return kept_turned(number);
+    }
+    match literal_number(expr) {
+        Some(number) => kept(number),
+        None => None,
     }
 }
 
