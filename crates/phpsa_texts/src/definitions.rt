@@ -7,7 +7,8 @@ ghost use Rattle.phpsa_texts.specs.declared.exit.Exit.TheVariants.{Dtd};
 
 use crate::exit::Exit;
 use crate::lines::{NO_MEMORY, counted_text, dtd_text, named_text, numbered_text};
-use crate::message::{Message, Refusal};
+use crate::message::Refusal;
+use crate::telling::told;
 use document_types::DefinitionRefusal;
 use dtd_reader::DtdRefusal;
 use std::alloc::Global;
@@ -100,24 +101,12 @@ fn definition_status(refusal: &DefinitionRefusal) -> Exit
 pub fn definition_refusal(alloc: Global, refusal: &DefinitionRefusal) -> Refusal
     ensures { IsTold result (definition_status refusal.now) (definition_text refusal.now) }
 {
-    match definition_text(alloc, refusal) {
-        Ok(text) => Refusal::Told(Message {
-            status: definition_status(refusal),
-            text,
-        }),
-        Err(NoMemory) => Refusal::Memory,
-    }
+    told(definition_status(refusal), definition_text(alloc, refusal))
 }
 
 /// That the content models of a definition have over 4,096 states, at least `count`.
 pub fn states_refusal(alloc: Global, count: u64) -> Refusal
     ensures { IsTold result Dtd (states_text count) }
 {
-    match numbered_text(alloc, b"Limit", count) {
-        Ok(text) => Refusal::Told(Message {
-            status: Exit::Dtd,
-            text,
-        }),
-        Err(NoMemory) => Refusal::Memory,
-    }
+    told(Exit::Dtd, numbered_text(alloc, b"Limit", count))
 }

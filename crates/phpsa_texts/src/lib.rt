@@ -12,6 +12,7 @@ mod message;
 mod other_refusals;
 mod programs;
 mod runs;
+mod telling;
 
 pub use answers::{
     AnswerForm, Conclusion, PassedCount, judgment_message, no_message, passed_message,

@@ -8,7 +8,8 @@ ghost use Rattle.phpsa_texts.specs.declared.exit.Exit.TheVariants.{Input, Usage}
 
 use crate::exit::Exit;
 use crate::lines::{NO_MEMORY, count_text, counted_text, named_text};
-use crate::message::{Message, Refusal};
+use crate::message::Refusal;
+use crate::telling::told;
 use io_edge::FileFault;
 use request_reading::RequestRefusal;
 use std::alloc::Global;
@@ -40,26 +41,14 @@ fn file_status(fault: FileFault) -> Exit
 pub fn file_refusal(alloc: Global, fault: FileFault, file: &[u8]) -> Refusal
     ensures { IsTold result (file_status fault) (file_text fault file.now) }
 {
-    match file_text(alloc, fault, file) {
-        Ok(text) => Refusal::Told(Message {
-            status: file_status(fault),
-            text,
-        }),
-        Err(NoMemory) => Refusal::Memory,
-    }
+    told(file_status(fault), file_text(alloc, fault, file))
 }
 
 /// That a text in the script of the file of this name is over the limit of a run.
 pub fn long_text_refusal(alloc: Global, file: &[u8]) -> Refusal
     ensures { IsTold result Input (long_text file.now) }
 {
-    match named_text(alloc, b"LongText", file) {
-        Ok(text) => Refusal::Told(Message {
-            status: Exit::Input,
-            text,
-        }),
-        Err(NoMemory) => Refusal::Memory,
-    }
+    told(Exit::Input, named_text(alloc, b"LongText", file))
 }
 
 fn request_text(alloc: Global, refusal: &RequestRefusal) -> Result<Bytes, NoMemory>
@@ -87,26 +76,17 @@ fn request_status(refusal: &RequestRefusal) -> Exit
 pub fn request_refusal(alloc: Global, refusal: &RequestRefusal) -> Refusal
     ensures { IsTold result (request_status refusal.now) (request_text refusal.now) }
 {
-    match request_text(alloc, refusal) {
-        Ok(text) => Refusal::Told(Message {
-            status: request_status(refusal),
-            text,
-        }),
-        Err(NoMemory) => Refusal::Memory,
-    }
+    told(request_status(refusal), request_text(alloc, refusal))
 }
 
 /// That a script cannot have so many functions.
 pub fn size_refusal(alloc: Global, functions: u32) -> Refusal
     ensures { IsTold result Input (size_text functions) }
 {
-    match count_text(alloc, b"Size", u64::from(functions)) {
-        Ok(text) => Refusal::Told(Message {
-            status: Exit::Input,
-            text,
-        }),
-        Err(NoMemory) => Refusal::Memory,
-    }
+    told(
+        Exit::Input,
+        count_text(alloc, b"Size", u64::from(functions)),
+    )
 }
 
 fn usage_text(alloc: Global) -> Result<Bytes, NoMemory>
@@ -125,11 +105,5 @@ fn usage_text(alloc: Global) -> Result<Bytes, NoMemory>
 pub fn usage_refusal(alloc: Global) -> Refusal
     ensures { IsTold result Usage usage_text }
 {
-    match usage_text(alloc) {
-        Ok(text) => Refusal::Told(Message {
-            status: Exit::Usage,
-            text,
-        }),
-        Err(NoMemory) => Refusal::Memory,
-    }
+    told(Exit::Usage, usage_text(alloc))
 }

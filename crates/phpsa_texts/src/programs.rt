@@ -6,7 +6,8 @@ ghost use Rattle.phpsa_texts.specs.Texts.{IsTold, counted_text, fault_name, load
 
 use crate::exit::Exit;
 use crate::lines::{NO_MEMORY, count_text, counted_text, named_text};
-use crate::message::{Message, Refusal};
+use crate::message::Refusal;
+use crate::telling::told;
 use lexical_grammar::fault::LexicalFault;
 use php_lexer::LexRefusal;
 use php_parser::ParseRefusal;
@@ -109,11 +110,5 @@ fn load_status(refusal: &LoadRefusal) -> Exit
 pub fn load_refusal(alloc: Global, refusal: &LoadRefusal) -> Refusal
     ensures { IsTold result (load_status refusal.now) (load_text refusal.now) }
 {
-    match load_text(alloc, refusal) {
-        Ok(text) => Refusal::Told(Message {
-            status: load_status(refusal),
-            text,
-        }),
-        Err(NoMemory) => Refusal::Memory,
-    }
+    told(load_status(refusal), load_text(alloc, refusal))
 }
