@@ -35,30 +35,9 @@ fn apply_one(alloc: Global, builtin: Builtin, a: &Value) -> Result<Value, Fault>
         Builtin::Strtolower => of_text(alloc, OfText::Lower, a),
         Builtin::Strtoupper => of_text(alloc, OfText::Upper, a),
         Builtin::Ucfirst => of_text(alloc, OfText::FirstUpper, a),
-        Builtin::Trim => of_text(
-            alloc,
-            OfText::Trim {
-                left: true,
-                right: true,
-            },
-            a,
-        ),
-        Builtin::Ltrim => of_text(
-            alloc,
-            OfText::Trim {
-                left: true,
-                right: false,
-            },
-            a,
-        ),
-        Builtin::Rtrim => of_text(
-            alloc,
-            OfText::Trim {
-                left: false,
-                right: true,
-            },
-            a,
-        ),
+        Builtin::Trim => of_text(alloc, OfText::Trim(true, true), a),
+        Builtin::Ltrim => of_text(alloc, OfText::Trim(true, false), a),
+        Builtin::Rtrim => of_text(alloc, OfText::Trim(false, true), a),
         Builtin::Nl2br => of_text(alloc, OfText::Breaks, a),
         Builtin::Urlencode => of_text(alloc, OfText::Encoded(Encoding::Url), a),
         Builtin::Rawurlencode => of_text(alloc, OfText::Encoded(Encoding::RawUrl), a),

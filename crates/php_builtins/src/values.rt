@@ -35,8 +35,8 @@ pub(crate) enum OfText {
     Upper,
     /// `ucfirst`.
     FirstUpper,
-    /// `trim`, `ltrim` or `rtrim`, by the ends that are stripped.
-    Trim { left: bool, right: bool },
+    /// `trim`, `ltrim` or `rtrim`: whether the left end is stripped, and whether the right one is.
+    Trim(bool, bool),
     /// `nl2br`.
     Breaks,
     /// A function that writes each byte as some bytes.
@@ -80,7 +80,7 @@ fn made_by(alloc: Global, function: OfText, text: &[u8]) -> Result<Text, Fault>
         OfText::Lower => lower(alloc, text),
         OfText::Upper => upper(alloc, text),
         OfText::FirstUpper => first_upper(alloc, text),
-        OfText::Trim { left, right } => trim(alloc, left, right, text),
+        OfText::Trim(left, right) => trim(alloc, left, right, text),
         OfText::Breaks => breaks(alloc, text),
         OfText::Encoded(encoding) => encode(alloc, encoding, text),
     }
