@@ -1,0 +1,6 @@
+mod Characters
+mod Passing
+mod Loose
+mod Tags
+mod Pieces
+mod Found
