@@ -8,6 +8,8 @@ mod command_line;
 pub mod laws;
 mod numbers;
 mod refusal;
+#[cfg(test)]
+mod tests;
 mod values;
 
 ghost use Rattle.std.specs.Prelude.{◌≡◌, IfOk, IfErr, map, string_bytes};

@@ -1,6 +1,6 @@
-// Words, and what they ask for.
+//! Words, and what they ask for.
 
-use command_words::{CommandLine, WordsRefusal, read_words};
+use crate::{CommandLine, WordsRefusal, read_words};
 use std::alloc::Global;
 use std::test::Fail;
 
