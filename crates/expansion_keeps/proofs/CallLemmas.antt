@@ -4,6 +4,7 @@ use Rattle.std.specs.Prelude.{bytes_eq}
 use Rattle.std.specs.List.{Contains}
 use Rattle.std.proofs.lemmas.List.Elements.{Contains-append_cases, Contains-append_left, Contains-append_right}
 use Rattle.php_syntax.specs.Trees.{PlainStmt, inline_stmt, echo_stmt, run_stmt, if_stmt, while_stmt, do_while_stmt, for_stmt, each_stmt, break_stmt, continue_stmt, return_stmt, include_stmt, quit_stmt, PlainStmts, no_stmts, more_stmts, PlainArms, no_arms, more_arms, PlainFunction}
+use Rattle.program_expressions.specs.Collected.{collected_of, bodies_collected}
 use Rattle.program_rules.specs.Calls.{PlainCall, calls_in, maybe_calls, part_calls, calls_of, statement_calls, arm_calls, function_calls, calls_of_program}
 use Rattle.program_rules.specs.Expansion.{followed_by, with_bodies, with_bodies_in, with_bodies_in_arms}
 use Rattle.program_rules.specs.Programs.{ReadFile, functions_in}
@@ -30,16 +31,16 @@ sub_same : (xs ys zs : List PlainCall) → xs ≡ ys → Sub xs zs → Sub ys zs
 sub_same xs ys zs e f = subst (λ (l : List PlainCall). Sub l zs) e f
 
 followed : (a b : PlainStmts) → statement_calls (followed_by a b) ≡ statement_calls a ++ statement_calls b
-unfolding calls_of followed_by
+unfolding collected_of followed_by
 followed no_stmts b = refl
 followed (more_stmts s ss) b = ap (λ (cs : List PlainCall). calls_of s ++ cs) (followed ss b) ∙ sym (append_assoc (calls_of s) (statement_calls ss) (statement_calls b))
 
 alone : (s : PlainStmt) (L : List PlainCall) → Sub (calls_of s) L → Sub (statement_calls (more_stmts s no_stmts)) L
-unfolding calls_of
+unfolding collected_of
 alone s L f = sub_both (calls_of s) [] L f (sub_none L)
 
 mutual
-  unfolding calls_of with_bodies
+  unfolding collected_of with_bodies
 
   in_stmts : (L : List PlainCall) (bodies : List ℕ → PlainStmts) → ((path : List ℕ) → Sub (statement_calls (bodies path)) L) → (ss : PlainStmts) → Sub (statement_calls ss) L → Sub (statement_calls (with_bodies bodies ss)) L
   in_stmts L bodies h no_stmts f = sub_none L
@@ -80,18 +81,18 @@ mutual
       (sub_both (statement_calls (with_bodies bodies ss)) (arm_calls (with_bodies_in_arms bodies a)) L (in_stmts L bodies h ss (sub_left (statement_calls ss) (arm_calls a) L rest)) (in_arms L bodies h a (sub_right (statement_calls ss) (arm_calls a) L rest)))
 
 in_functions : (L : List PlainCall) (bodies : List ℕ → PlainStmts) → ((path : List ℕ) → Sub (statement_calls (bodies path)) L) → (fs : List PlainFunction) → Sub (function_calls fs) L → Sub (function_calls (map (with_body bodies) fs)) L
-unfolding function_calls
+unfolding bodies_collected
 in_functions L bodies h [] f = sub_none L
 in_functions L bodies h (g ∷ gs) f =
     sub_both (statement_calls (with_bodies bodies g.body_of)) (function_calls (map (with_body bodies) gs)) L (in_stmts L bodies h g.body_of (sub_left (statement_calls g.body_of) (function_calls gs) L f)) (in_functions L bodies h gs (sub_right (statement_calls g.body_of) (function_calls gs) L f))
 
 functions_append : (a b : List PlainFunction) → function_calls (a ++ b) ≡ function_calls a ++ function_calls b
-unfolding function_calls
+unfolding bodies_collected
 functions_append [] b = refl
 functions_append (f ∷ fs) b = ap (λ (cs : List PlainCall). statement_calls f.body_of ++ cs) (functions_append fs b) ∙ sym (append_assoc (statement_calls f.body_of) (function_calls fs) (function_calls b))
 
 functions_sub : (files : List ReadFile) → Sub (function_calls (functions_in files)) (calls_in_files files)
-unfolding functions_in calls_in_files function_calls
+unfolding functions_in calls_in_files bodies_collected
 functions_sub [] = sub_none []
 functions_sub (file ∷ files) =
     sub_same (function_calls file.tree.functions_of ++ function_calls (functions_in files)) (function_calls (file.tree.functions_of ++ functions_in files)) (calls_of_file file.tree ++ calls_in_files files) (sym (functions_append file.tree.functions_of (functions_in files)))
@@ -100,7 +101,7 @@ functions_sub (file ∷ files) =
     (λ call c. Contains-append_right (calls_of_file file.tree) (calls_in_files files) call (functions_sub files call c)))
 
 named_sub : (files : List ReadFile) (path : List ℕ) → Sub (statement_calls (tree_named files path).body_of) (calls_in_files files)
-unfolding tree_named calls_in_files calls_of
+unfolding tree_named calls_in_files collected_of
 named_sub [] path = sub_none []
 named_sub (file ∷ files) path = by (bytes_eq path file.name) (named_sub files path)
   where
@@ -109,7 +110,7 @@ named_sub (file ∷ files) path = by (bytes_eq path file.name) (named_sub files 
     by false go call c = Contains-append_right (calls_of_file file.tree) (calls_in_files files) call (go call c)
 
 bodies_sub : (files : List ReadFile) (n : ℕ) (path : List ℕ) → Sub (statement_calls (bodies_within files n path)) (calls_in_files files)
-unfolding bodies_within calls_of
+unfolding bodies_within collected_of
 bodies_sub files zero path = sub_none (calls_in_files files)
 bodies_sub files (suc n) path = in_stmts (calls_in_files files) (bodies_within files n) (bodies_sub files n) (tree_named files path).body_of (named_sub files path)
 

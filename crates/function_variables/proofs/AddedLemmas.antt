@@ -1,6 +1,5 @@
 -- Names that are put one by one are each name once.
 use Rattle.std.proofs.Common.{◌≡◌, ◌∙◌, ℕ, zero, suc, ◌+◌, ◌<◌, ◌≤◌, List, [], ◌∷◌, ◌++◌, length, map, drop, get_or, refl, sym, ap, arith, append_assoc}
-use Rattle.std.specs.Prelude.{Option}
 use Rattle.std.specs.declared.vec.Vec.{Vec}
 use Rattle.std.specs.declared.alloc.Global.{Global}
 use Rattle.std.proofs.Math.Seq.{drop-cons}
@@ -8,10 +7,13 @@ use Rattle.std.proofs.Math.ListN.{drop_of_length-le}
 use Rattle.php_syntax.specs.declared.tree.Expr.{Expr}
 use Rattle.php_syntax.specs.declared.tree.Stmt.{Stmt}
 use Rattle.php_syntax.specs.declared.tree.Param.{Param}
-use Rattle.php_syntax.specs.Trees.{plain_expr, plain_stmt, exprs_of, items_of, path_of, maybe_of, stmts_of, arms_of, params_of_list}
+use Rattle.std.specs.List.{fold}
+use Rattle.php_syntax.specs.Trees.{PlainExpr, MaybeExpr, PlainExprs, plain_expr, plain_stmt, stmts_of, arms_of, params_of_list}
 use Rattle.std.specs.Prelude.{Bool, true, false, if◌then◌else◌, bytes_eq, Contains, slice_get, Some}
 use Rattle.std.proofs.lemmas.Slice.Eq.{bytes_eq-Decides}
-use Rattle.flow_code.specs.Variables.{Name, names_in, maybe_names, names_in_all, item_names, path_names, names_of_stmt, names_of, names_of_arms, name_of_param, without, once}
+use Rattle.program_expressions.specs.Collected.{itself, collected, maybe_collected, part_collected}
+use Rattle.program_expressions.proofs.CollectedLemmas.{TakesUp, takes_expr, takes_maybe, takes_exprs}
+use Rattle.flow_code.specs.Variables.{Name, own_names, names_in, maybe_names, names_in_all, names_of_stmt, names_of, names_of_arms, name_of_param, without, once}
 use Rattle.function_variables.specs.Added.{has, with_name, put, added}
 
 pub added_none : (known : List Name) → added known [] ≡ known
@@ -29,6 +31,20 @@ added_append known (x ∷ xs) ys = added_append (put known x) xs ys
 
 pub ruleset ends = (added_none, added_one, added_append)
 
+-- the names of expressions, each where it is new
+
+added_up : TakesUp added
+added_up = record { nothing = added_none; one_by_one = added_append }
+
+pub of_expr : (known : List Name) (e : PlainExpr) → fold (λ known e. added known (own_names e)) known (collected itself e) ≡ added known (names_in e)
+of_expr known e = takes_expr added own_names added_up known e
+
+pub of_exprs : (known : List Name) (es : PlainExprs) → fold (λ known e. added known (own_names e)) known (part_collected itself es) ≡ added known (names_in_all es)
+of_exprs known es = takes_exprs added own_names added_up known es
+
+pub of_maybe : (known : List Name) (e : MaybeExpr) → fold (λ known e. added known (own_names e)) known (maybe_collected itself e) ≡ added known (maybe_names e)
+of_maybe known e = takes_maybe added own_names added_up known e
+
 -- one more of a row, and its end
 
 further : {all new cur : List Name} (old xs next : List Name) → cur ≡ xs ++ next → new ≡ added old xs → added old cur ≡ all → added new next ≡ all
@@ -40,35 +56,6 @@ done {all} {known} {rest} e inv = sym (added_none known) ∙ ap (λ (l : List Na
 
 here : {X : Type 0} (xs : List X) (i : ℕ) (x : X) → i < length xs → x ≡ get_or xs i x → drop i xs ≡ x ∷ drop (i + 1) xs
 here xs i x lt is = let e : suc i ≡ i + 1 = omega arith in drop-cons xs i x lt ∙ (λ j. sym is j ∷ drop (e j) xs)
-
-pub exprs_further : {all new : List Name} (old : List Name) (es : List Expr) (i : ℕ) (e : Expr) → i < length es → e ≡ get_or es i e → new ≡ added old (names_in (plain_expr e))
-    → added old (names_in_all (exprs_of (drop i es))) ≡ all → added new (names_in_all (exprs_of (drop (i + 1) es))) ≡ all
-unfolding names_in
-exprs_further old es i e lt is push inv = further old (names_in (plain_expr e)) (names_in_all (exprs_of (drop (i + 1) es))) (ap (λ (l : List Expr). names_in_all (exprs_of l)) (here es i e lt is)) push inv
-
-pub exprs_end : {all known : List Name} (es : List Expr) (i : ℕ) → length es ≤ i → added known (names_in_all (exprs_of (drop i es))) ≡ all → known ≡ all
-unfolding names_in
-exprs_end es i le inv = done (ap (λ (l : List Expr). names_in_all (exprs_of l)) (drop_of_length-le es le)) inv
-
-pub items_further : {all mid new : List Name} (old : List Name) (es : List (Option Expr × Expr)) (i : ℕ) (e : Option Expr × Expr) → i < length es → e ≡ get_or es i e → mid ≡ added old (maybe_names (maybe_of e.0))
-    → new ≡ added mid (names_in (plain_expr e.1)) → added old (item_names (items_of (drop i es))) ≡ all → added new (item_names (items_of (drop (i + 1) es))) ≡ all
-unfolding names_in
-items_further {all} {mid} old es i e lt is key value inv =
-    further mid (names_in (plain_expr e.1)) (item_names (items_of (drop (i + 1) es))) refl value
-    (further old (maybe_names (maybe_of e.0)) (names_in (plain_expr e.1) ++ item_names (items_of (drop (i + 1) es))) (ap (λ (l : List (Option Expr × Expr)). item_names (items_of l)) (here es i e lt is)) key inv)
-
-pub items_end : {all known : List Name} (es : List (Option Expr × Expr)) (i : ℕ) → length es ≤ i → added known (item_names (items_of (drop i es))) ≡ all → known ≡ all
-unfolding names_in
-items_end es i le inv = done (ap (λ (l : List (Option Expr × Expr)). item_names (items_of l)) (drop_of_length-le es le)) inv
-
-pub path_further : {all new : List Name} (old : List Name) (es : List (Option Expr)) (i : ℕ) (e : Option Expr) → i < length es → e ≡ get_or es i e → new ≡ added old (maybe_names (maybe_of e))
-    → added old (path_names (path_of (drop i es))) ≡ all → added new (path_names (path_of (drop (i + 1) es))) ≡ all
-unfolding names_in
-path_further old es i e lt is push inv = further old (maybe_names (maybe_of e)) (path_names (path_of (drop (i + 1) es))) (ap (λ (l : List (Option Expr)). path_names (path_of l)) (here es i e lt is)) push inv
-
-pub path_end : {all known : List Name} (es : List (Option Expr)) (i : ℕ) → length es ≤ i → added known (path_names (path_of (drop i es))) ≡ all → known ≡ all
-unfolding names_in
-path_end es i le inv = done (ap (λ (l : List (Option Expr)). path_names (path_of l)) (drop_of_length-le es le)) inv
 
 pub stmts_further : {all new : List Name} (old : List Name) (es : List Stmt) (i : ℕ) (e : Stmt) → i < length es → e ≡ get_or es i e → new ≡ added old (names_of_stmt (plain_stmt e))
     → added old (names_of (stmts_of (drop i es))) ≡ all → added new (names_of (stmts_of (drop (i + 1) es))) ≡ all

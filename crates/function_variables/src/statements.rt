@@ -5,7 +5,7 @@ ghost use Rattle.php_syntax.specs.Trees.{plain_expr, plain_stmt, stmts_of, arms_
 ghost use Rattle.flow_code.specs.Variables.{names_in, maybe_names, names_in_all, key_names, names_of_stmt, names_of, names_of_arms, name_of_param, once};
 ghost use Rattle.function_variables.specs.Added.{added};
 
-use crate::expressions::{in_expr, in_exprs, in_maybe, note};
+use crate::names::{Names, in_expr, in_exprs, in_maybe};
 use indexmap::IndexSet;
 use php_syntax::tree::{Expr, Param, Stmt};
 use std::alloc::Global;
@@ -14,11 +14,12 @@ use text_base::{Bytes, NoMemory};
 // In statements.
 #[cycle(statements)]
 #[tactic(auto, using(crate::proofs::AddedLemmas::ends), unfolding(flow_code::specs::Variables::names_of_stmt))]
-fn in_stmts(alloc: Global, stmts: &[Stmt], names: &mut IndexSet<Bytes>) -> Result<(), NoMemory>
-    ensures { OnOk result (names.new.keys ≡ added names.old.keys (names_of (stmts_of stmts.now))) }
+fn in_stmts(names: &mut Names, stmts: &[Stmt]) -> Result<(), NoMemory>
+    ensures { OnOk result
+        (names.new.known.keys ≡ added names.old.known.keys (names_of (stmts_of stmts.now))) }
 {
     for stmt in stmts {
-        in_stmt(alloc, stmt, names)?;
+        in_stmt(names, stmt)?;
     }
     Ok(())
 }
@@ -26,30 +27,23 @@ fn in_stmts(alloc: Global, stmts: &[Stmt], names: &mut IndexSet<Bytes>) -> Resul
 // In an arm of an `if`.
 #[cycle(statements)]
 #[tactic(auto, using(crate::proofs::AddedLemmas::ends))]
-fn in_arm(
-    alloc: Global,
-    arm: &(Expr, Vec<Stmt>),
-    names: &mut IndexSet<Bytes>,
-) -> Result<(), NoMemory>
-    ensures { OnOk result (names.new.keys ≡ added names.old.keys
+fn in_arm(names: &mut Names, arm: &(Expr, Vec<Stmt>)) -> Result<(), NoMemory>
+    ensures { OnOk result (names.new.known.keys ≡ added names.old.known.keys
         (names_in (plain_expr arm.now.0) ++ names_of (stmts_of arm.now.1.items))) }
 {
-    in_expr(alloc, &arm.0, names)?;
-    in_stmts(alloc, arm.1.as_slice(), names)
+    in_expr(names, &arm.0)?;
+    in_stmts(names, arm.1.as_slice())
 }
 
 // In the arms of an `if`.
 #[cycle(statements)]
 #[tactic(auto, using(crate::proofs::AddedLemmas::ends), unfolding(flow_code::specs::Variables::names_of_stmt))]
-fn in_arms(
-    alloc: Global,
-    arms: &[(Expr, Vec<Stmt>)],
-    names: &mut IndexSet<Bytes>,
-) -> Result<(), NoMemory>
-    ensures { OnOk result (names.new.keys ≡ added names.old.keys (names_of_arms (arms_of arms.now))) }
+fn in_arms(names: &mut Names, arms: &[(Expr, Vec<Stmt>)]) -> Result<(), NoMemory>
+    ensures { OnOk result
+        (names.new.known.keys ≡ added names.old.known.keys (names_of_arms (arms_of arms.now))) }
 {
     for arm in arms {
-        in_arm(alloc, arm, names)?;
+        in_arm(names, arm)?;
     }
     Ok(())
 }
@@ -58,30 +52,29 @@ fn in_arms(
 #[cycle(statements)]
 #[tactic(auto, using(crate::proofs::AddedLemmas::ends))]
 fn in_for(
-    alloc: Global,
+    names: &mut Names,
     begin: &[Expr],
     test: &Option<Expr>,
     next: &[Expr],
     body: &[Stmt],
-    names: &mut IndexSet<Bytes>,
 ) -> Result<(), NoMemory>
-    ensures { OnOk result (names.new.keys ≡ added names.old.keys (names_in_all (exprs_of begin.now)
-        ++ (maybe_names (maybe_of test.now)
+    ensures { OnOk result (names.new.known.keys ≡ added names.old.known.keys
+        (names_in_all (exprs_of begin.now) ++ (maybe_names (maybe_of test.now)
         ++ (names_of (stmts_of body.now) ++ names_in_all (exprs_of next.now))))) }
 {
-    in_exprs(alloc, begin, names)?;
-    in_maybe(alloc, test, names)?;
-    in_stmts(alloc, body, names)?;
-    in_exprs(alloc, next, names)
+    in_exprs(names, begin)?;
+    in_maybe(names, test)?;
+    in_stmts(names, body)?;
+    in_exprs(names, next)
 }
 
 // The variable of the keys of a `foreach`, if it has one.
 #[tactic(auto, using(crate::proofs::AddedLemmas::ends))]
-fn in_key(alloc: Global, key: &Option<Bytes>, names: &mut IndexSet<Bytes>) -> Result<(), NoMemory>
-    ensures { OnOk result (names.new.keys ≡ added names.old.keys (key_names key.now)) }
+fn in_key(names: &mut Names, key: &Option<Bytes>) -> Result<(), NoMemory>
+    ensures { OnOk result (names.new.known.keys ≡ added names.old.known.keys (key_names key.now)) }
 {
     match key {
-        Some(name) => note(alloc, name, names),
+        Some(name) => names.note(name),
         None => Ok(()),
     }
 }
@@ -90,54 +83,53 @@ fn in_key(alloc: Global, key: &Option<Bytes>, names: &mut IndexSet<Bytes>) -> Re
 #[cycle(statements)]
 #[tactic(auto, using(crate::proofs::AddedLemmas::ends))]
 fn in_each(
-    alloc: Global,
+    names: &mut Names,
     array: &Expr,
     key: &Option<Bytes>,
     value: &Bytes,
     body: &[Stmt],
-    names: &mut IndexSet<Bytes>,
 ) -> Result<(), NoMemory>
-    ensures { OnOk result (names.new.keys ≡ added names.old.keys
+    ensures { OnOk result (names.new.known.keys ≡ added names.old.known.keys
         (names_in (plain_expr array.now)
         ++ (key_names key.now ++ value.now ∷ names_of (stmts_of body.now)))) }
 {
-    in_expr(alloc, array, names)?;
-    in_key(alloc, key, names)?;
-    note(alloc, value, names)?;
-    in_stmts(alloc, body, names)
+    in_expr(names, array)?;
+    in_key(names, key)?;
+    names.note(value)?;
+    in_stmts(names, body)
 }
 
 // In a statement.
 #[cycle(statements)]
 #[tactic(auto, using(php_syntax::proofs::Views::views, crate::proofs::AddedLemmas::ends), unfolding(flow_code::specs::Variables::names_of_stmt))]
-fn in_stmt(alloc: Global, stmt: &Stmt, names: &mut IndexSet<Bytes>) -> Result<(), NoMemory>
+fn in_stmt(names: &mut Names, stmt: &Stmt) -> Result<(), NoMemory>
     ensures { OnOk result
-        (names.new.keys ≡ added names.old.keys (names_of_stmt (plain_stmt stmt.now))) }
+        (names.new.known.keys ≡ added names.old.known.keys (names_of_stmt (plain_stmt stmt.now))) }
 {
     match stmt {
-        Stmt::Echo(exprs) => in_exprs(alloc, exprs.as_slice(), names),
-        Stmt::Run(expr) => in_expr(alloc, expr, names),
+        Stmt::Echo(exprs) => in_exprs(names, exprs.as_slice()),
+        Stmt::Run(expr) => in_expr(names, expr),
         Stmt::If(arms, otherwise) => {
-            in_arms(alloc, arms.as_slice(), names)?;
-            in_stmts(alloc, otherwise.as_slice(), names)
+            in_arms(names, arms.as_slice())?;
+            in_stmts(names, otherwise.as_slice())
         }
         Stmt::While(test, body) => {
-            in_expr(alloc, test, names)?;
-            in_stmts(alloc, body.as_slice(), names)
+            in_expr(names, test)?;
+            in_stmts(names, body.as_slice())
         }
         Stmt::DoWhile(body, test) => {
-            in_stmts(alloc, body.as_slice(), names)?;
-            in_expr(alloc, test, names)
+            in_stmts(names, body.as_slice())?;
+            in_expr(names, test)
         }
         Stmt::For(begin, test, next, body) => {
             let (begin, next) = (begin.as_slice(), next.as_slice());
-            in_for(alloc, begin, test, next, body.as_slice(), names)
+            in_for(names, begin, test, next, body.as_slice())
         }
         Stmt::Each(array, key, value, body) => {
-            in_each(alloc, array, key, value, body.as_slice(), names)
+            in_each(names, array, key, value, body.as_slice())
         }
-        Stmt::Return(value) => in_maybe(alloc, value, names),
-        Stmt::Quit(value) => in_maybe(alloc, value, names),
+        Stmt::Return(value) => in_maybe(names, value),
+        Stmt::Quit(value) => in_maybe(names, value),
         Stmt::Inline(_) => Ok(()),
         Stmt::Break => Ok(()),
         Stmt::Continue => Ok(()),
@@ -147,12 +139,12 @@ fn in_stmt(alloc: Global, stmt: &Stmt, names: &mut IndexSet<Bytes>) -> Result<()
 
 // The parameters of a function.
 #[tactic(auto, using(crate::proofs::AddedLemmas::ends))]
-fn in_params(alloc: Global, params: &[Param], names: &mut IndexSet<Bytes>) -> Result<(), NoMemory>
+fn in_params(names: &mut Names, params: &[Param]) -> Result<(), NoMemory>
     ensures { OnOk result
-        (names.new.keys ≡ added names.old.keys (map name_of_param (params_of_list params.now))) }
+        (names.new.known.keys ≡ added names.old.known.keys (map name_of_param (params_of_list params.now))) }
 {
     for param in params {
-        note(alloc, &param.name, names)?;
+        names.note(&param.name)?;
     }
     Ok(())
 }
@@ -169,8 +161,11 @@ pub fn variables_of(
         (λ names. names.keys
         ≡ once (map name_of_param (params_of_list params.now) ++ names_of (stmts_of body.now))) }
 {
-    let mut names = IndexSet::new(alloc);
-    in_params(alloc, params, &mut names)?;
-    in_stmts(alloc, body, &mut names)?;
-    Ok(names)
+    let mut names = Names {
+        alloc,
+        known: IndexSet::new(alloc),
+    };
+    in_params(&mut names, params)?;
+    in_stmts(&mut names, body)?;
+    Ok(names.known)
 }

@@ -2,8 +2,7 @@
 #![tactic(auto)]
 
 mod call;
-mod expressions;
-mod statements;
+mod finding;
 
 pub use call::Call;
-pub use statements::find_calls;
+pub use finding::find_calls;

@@ -1,21 +1,15 @@
--- Rows of parts of a program: whether the texts of all are short, from the first that are and the rest.
-use Rattle.std.proofs.Common.{◌≡◌, ◌∙◌, ℕ, zero, suc, ◌+◌, ◌<◌, ◌≤◌, Bool, true, false, ◌&&◌, List, [], ◌∷◌, ◌++◌, length, drop, get_or, refl, sym, ap, arith, leb-true, leb-false}
-use Rattle.std.specs.Prelude.{Option}
-use Rattle.std.specs.List.{Contains}
-use Rattle.std.specs.declared.vec.Vec.{Vec}
-use Rattle.std.specs.declared.alloc.Global.{Global}
-use Rattle.std.proofs.Math.Seq.{drop-cons}
-use Rattle.std.proofs.Math.ListN.{drop_of_length-le}
+-- Whether texts are short.
+use Rattle.std.proofs.Common.{◌≡◌, ◌∙◌, ℕ, zero, suc, ◌<◌, ◌≤◌, Bool, true, false, ◌&&◌, List, [], ◌∷◌, ◌++◌, length, refl, sym, ap, arith, leb-true, leb-false}
+use Rattle.std.specs.List.{Contains, fold}
 use Rattle.std.proofs.lemmas.List.Folds.{list_all-append}
 use Rattle.std.proofs.lemmas.List.Elements.{Contains-append_right}
 use Rattle.text_base.specs.declared.limits.TheConstants.{TEXT_LIMIT}
-use Rattle.php_syntax.specs.declared.tree.Expr.{Expr}
-use Rattle.php_syntax.specs.declared.tree.Stmt.{Stmt}
-use Rattle.php_syntax.specs.declared.tree.Param.{Param}
-use Rattle.php_syntax.specs.declared.tree.FunctionDef.{FunctionDef}
-use Rattle.php_syntax.specs.Trees.{plain_expr, plain_stmt, exprs_of, items_of, path_of, maybe_of, stmts_of, arms_of, params_of_list, functions_of_list}
+use Rattle.php_syntax.specs.declared.tree.Expr.{Expr, Text}
+use Rattle.php_syntax.specs.Trees.{PlainStmts, PlainFunction, plain_expr}
+use Rattle.program_expressions.specs.Collected.{itself, stmts_collected, functions_collected}
+use Rattle.program_expressions.proofs.CollectedLemmas.{TakesUp, takes_stmts, takes_functions}
 use Rattle.script_meaning.specs.Programs.{PlainProgram}
-use Rattle.program_points.specs.Texts.{texts_in, maybe_texts, part_texts, item_texts, path_texts, texts_of, statement_texts, arm_texts, param_texts, function_texts, TextsFit}
+use Rattle.program_points.specs.Texts.{own_text, statement_texts, function_texts, TextsFit}
 use Rattle.program_literals.specs.Short.{is_short, all_short, HasLongText}
 
 pub short_none : all_short [] ≡ true
@@ -36,64 +30,39 @@ short_both xs ys = list_all-append is_short xs ys
 
 pub ruleset shorts = (short_none, short_one, short_both)
 
--- one more of a row, one that is too long, and the end of a row
+-- an expression of another form has no text of its own
+no_own : (e : Expr) → ((t : List ℕ) → e ≡ Text t → ⊥) → own_text (plain_expr e) ≡ []
+unfolding plain_expr own_text
+no_own (Text t) h = absurd (h t refl)
+no_own _ h = refl
 
-further : (all : Bool) (xs next cur : List (List ℕ)) → cur ≡ xs ++ next → all_short xs ≡ true → all_short cur ≡ all → all_short next ≡ all
-further all xs next cur is short inv = sym (ap (λ (b : Bool). b && all_short next) short) ∙ sym (short_both xs next) ∙ sym (ap all_short is) ∙ inv
+-- whether all are short, so far and with more
+and_all : TakesUp (λ (short : Bool) (texts : List (List ℕ)). short && all_short texts)
+and_all = record {
+  nothing = λ short. ap (λ (b : Bool). short && b) short_none ∙ one_of short;
+  one_by_one = λ short xs ys. ap (λ (b : Bool). short && b) (short_both xs ys) ∙ regroup short (all_short xs) (all_short ys);
+}
+  where
+    regroup : (a b c : Bool) → (a && (b && c)) ≡ ((a && b) && c)
+    regroup true b c = refl
+    regroup false b c = refl
 
-stops : (all : Bool) (xs next cur : List (List ℕ)) → cur ≡ xs ++ next → all_short xs ≡ false → all_short cur ≡ all → false ≡ all
-stops all xs next cur is long inv = sym (ap (λ (b : Bool). b && all_short next) long) ∙ sym (short_both xs next) ∙ sym (ap all_short is) ∙ inv
+pub unchanged : (short : Bool) (e : Expr) → ((t : List ℕ) → e ≡ Text t → ⊥) → short ≡ (short && all_short (own_text (plain_expr e)))
+unchanged short e h = sym (ap (λ (ts : List (List ℕ)). short && all_short ts) (no_own e h) ∙ and_all.nothing short)
 
-here : {X : Type 0} (xs : List X) (i : ℕ) (x : X) → i < length xs → x ≡ get_or xs i x → drop i xs ≡ x ∷ drop (i + 1) xs
-here xs i x lt is = let e : suc i ≡ i + 1 = omega arith in drop-cons xs i x lt ∙ (λ j. sym is j ∷ drop (e j) xs)
-
--- a row whose texts are those of its first, and those of the rest
-pub record IsRow {X : Type 0} (row : List X → List (List ℕ)) (one : X → List (List ℕ)) : Type 0 where
-  pub none : row [] ≡ []
-  pub more : (x : X) (xs : List X) → row (x ∷ xs) ≡ one x ++ row xs
-
-pub row_further : {X : Type 0} {row : List X → List (List ℕ)} {one : X → List (List ℕ)} {all : Bool} → IsRow row one → (xs : List X) (i : ℕ) (x : X) → i < length xs → x ≡ get_or xs i x
-    → all_short (one x) ≡ true → all_short (row (drop i xs)) ≡ all → all_short (row (drop (i + 1) xs)) ≡ all
-row_further {X} {row} {one} {all} r xs i x lt is short inv = further all (one x) (row (drop (i + 1) xs)) (row (drop i xs)) (ap row (here xs i x lt is) ∙ r.more x (drop (i + 1) xs)) short inv
-
-pub row_stops : {X : Type 0} {row : List X → List (List ℕ)} {one : X → List (List ℕ)} {all : Bool} → IsRow row one → (xs : List X) (i : ℕ) (x : X) → i < length xs → x ≡ get_or xs i x
-    → all_short (one x) ≡ false → all_short (row (drop i xs)) ≡ all → false ≡ all
-row_stops {X} {row} {one} {all} r xs i x lt is long inv = stops all (one x) (row (drop (i + 1) xs)) (row (drop i xs)) (ap row (here xs i x lt is) ∙ r.more x (drop (i + 1) xs)) long inv
-
-pub row_ends : {X : Type 0} {row : List X → List (List ℕ)} {one : X → List (List ℕ)} {all : Bool} → IsRow row one → (xs : List X) (i : ℕ) → length xs ≤ i → all_short (row (drop i xs)) ≡ all → true ≡ all
-row_ends {X} {row} {one} {all} r xs i le inv = sym short_none ∙ sym (ap all_short (ap row (drop_of_length-le xs le) ∙ r.none)) ∙ inv
-
--- the rows of a program
-
-pub exprs_row : IsRow (λ (es : List Expr). part_texts (exprs_of es)) (λ (e : Expr). texts_in (plain_expr e))
-unfolding texts_in
-exprs_row = record { none = refl; more = λ x xs. refl }
-
-append_assoc_of : (xs ys zs : List (List ℕ)) → xs ++ (ys ++ zs) ≡ (xs ++ ys) ++ zs
-append_assoc_of [] ys zs = refl
-append_assoc_of (x ∷ xs) ys zs = ap (λ (l : List (List ℕ)). x ∷ l) (append_assoc_of xs ys zs)
-
-pub items_row : IsRow (λ (es : List (Option Expr × Expr)). item_texts (items_of es)) (λ (e : Option Expr × Expr). maybe_texts (maybe_of e.0) ++ texts_in (plain_expr e.1))
-unfolding texts_in
-items_row = record { none = refl; more = λ x xs. append_assoc_of (maybe_texts (maybe_of x.0)) (texts_in (plain_expr x.1)) (item_texts (items_of xs)) }
-
-pub path_row : IsRow (λ (es : List (Option Expr)). path_texts (path_of es)) (λ (e : Option Expr). maybe_texts (maybe_of e))
-unfolding texts_in
-path_row = record { none = refl; more = λ x xs. refl }
-
-pub stmts_row : IsRow (λ (es : List Stmt). statement_texts (stmts_of es)) (λ (e : Stmt). texts_of (plain_stmt e))
-unfolding texts_of
-stmts_row = record { none = refl; more = λ x xs. refl }
-
-pub arms_row : IsRow (λ (es : List (Expr × Vec Stmt Global)). arm_texts (arms_of es)) (λ (e : Expr × Vec Stmt Global). texts_in (plain_expr e.0) ++ statement_texts (stmts_of e.1.items))
-unfolding texts_of
-arms_row = record { none = refl; more = λ x xs. append_assoc_of (texts_in (plain_expr x.0)) (statement_texts (stmts_of x.1.items)) (arm_texts (arms_of xs)) }
-
-pub params_row : IsRow (λ (es : List Param). param_texts (params_of_list es)) (λ (e : Param). maybe_texts (maybe_of e.default))
-params_row = record { none = refl; more = λ x xs. refl }
-
-pub functions_row : IsRow (λ (es : List FunctionDef). function_texts (functions_of_list es)) (λ (e : FunctionDef). param_texts (params_of_list e.params.items) ++ statement_texts (stmts_of e.body.items))
-functions_row = record { none = refl; more = λ x xs. append_assoc_of (param_texts (params_of_list x.params.items)) (statement_texts (stmts_of x.body.items)) (function_texts (functions_of_list xs)) }
+-- the texts of statements and then those of functions
+pub looked : (short first last : Bool) (ss body : PlainStmts) (fs functions : List PlainFunction) → body ≡ ss → functions ≡ fs
+    → first ≡ fold (λ short e. short && all_short (own_text e)) short (stmts_collected itself body)
+    → last ≡ fold (λ short e. short && all_short (own_text e)) first (functions_collected itself functions)
+    → last ≡ (short && all_short (statement_texts ss ++ function_texts fs))
+looked short first last ss body fs functions is_body are_functions one two =
+    let main : first ≡ (short && all_short (statement_texts ss)) =
+    one ∙ takes_stmts (λ (short : Bool) (texts : List (List ℕ)). short && all_short texts) own_text and_all short body
+    ∙ ap (λ (b : PlainStmts). short && all_short (statement_texts b)) is_body in
+    two ∙ takes_functions (λ (short : Bool) (texts : List (List ℕ)). short && all_short texts) own_text and_all first functions
+    ∙ ap (λ (g : List PlainFunction). first && all_short (function_texts g)) are_functions
+    ∙ ap (λ (b : Bool). b && all_short (function_texts fs)) main
+    ∙ sym (and_all.one_by_one short (statement_texts ss) (function_texts fs))
 
 -- what is found of all texts
 
@@ -134,9 +103,3 @@ fits_of program e = each_short (statement_texts program.main_of ++ function_text
 
 pub long_of : (program : PlainProgram) → all_short (statement_texts program.main_of ++ function_texts program.functions_of) ≡ false → HasLongText program
 long_of program e = let s = some_long (statement_texts program.main_of ++ function_texts program.functions_of) e in record { long = s.long; stands = s.stands; is_long = s.is_long }
-
-pub both_short : (xs ys : List (List ℕ)) (b : Bool) → all_short xs ≡ true → all_short ys ≡ b → all_short (xs ++ ys) ≡ b
-both_short xs ys b h k = short_both xs ys ∙ (λ i. h i && k i)
-
-pub first_long : (xs ys : List (List ℕ)) → all_short xs ≡ false → all_short (xs ++ ys) ≡ false
-first_long xs ys h = short_both xs ys ∙ ap (λ (b : Bool). b && all_short ys) h

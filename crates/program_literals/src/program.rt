@@ -1,12 +1,26 @@
 //! The texts in a program.
 
-ghost use Rattle.std.specs.Prelude.{◌≡◌, true, false};
+ghost use Rattle.std.specs.Prelude.{◌≡◌, ◌++◌, ◌&&◌, true, false, OnOk};
+ghost use Rattle.php_syntax.specs.Trees.{stmts_of, functions_of_list};
 ghost use Rattle.php_program.specs.View.{program_of};
-ghost use Rattle.program_points.specs.Texts.{TextsFit};
-ghost use Rattle.program_literals.specs.Short.{HasLongText};
+ghost use Rattle.program_points.specs.Texts.{statement_texts, function_texts, TextsFit};
+ghost use Rattle.program_literals.specs.Short.{all_short, HasLongText};
 
-use crate::statements::{short_in_functions, short_in_stmts};
+use crate::texts::Texts;
+use expression_visits::{visit_functions, visit_stmts};
 use php_program::Program;
+use std::convert::Infallible;
+
+// Looks at all text literals of a program.
+fn look(texts: &mut Texts, program: &Program) -> Result<(), Infallible>
+    ensures { OnOk result (texts.new.short ≡ (texts.old.short
+        && all_short (statement_texts (stmts_of program.now.main.items)
+        ++ function_texts (functions_of_list program.now.functions.items)))) }
+{
+    visit_stmts(texts, program.main.as_slice())?;
+    visit_functions(texts, program.functions.as_slice())?;
+    Ok(())
+}
 
 /// Whether each text literal of a program has at most 16,777,216 bytes. Takes time linear in the
 /// program, and calls itself as deep as the program is high.
@@ -14,6 +28,8 @@ pub fn literals_are_short(program: &Program) -> bool
     ensures short { result ≡ true → TextsFit (program_of program.now) }
     ensures long { result ≡ false → HasLongText (program_of program.now) }
 {
-    let (main, functions) = (program.main.as_slice(), program.functions.as_slice());
-    short_in_stmts(main) && short_in_functions(functions)
+    let mut texts = Texts { short: true };
+    match look(&mut texts, program) {
+        Ok(()) => texts.short,
+    }
 }

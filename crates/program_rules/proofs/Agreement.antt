@@ -3,7 +3,7 @@ use Rattle.std.proofs.Common.{◌≡◌, ℕ, suc, ◌+◌, List, [], ◌∷◌,
 use Rattle.std.specs.List.{Contains}
 use Rattle.std.proofs.lemmas.List.Elements.{Contains-append_left, Contains-append_right}
 use Rattle.php_syntax.specs.Trees.{PlainStmt, inline_stmt, echo_stmt, run_stmt, if_stmt, while_stmt, do_while_stmt, for_stmt, each_stmt, break_stmt, continue_stmt, return_stmt, include_stmt, quit_stmt, PlainStmts, no_stmts, more_stmts, PlainArms, no_arms, more_arms, PlainFile}
-use Rattle.program_rules.specs.Files.{Held, HasTree, HasOneTree}
+use Rattle.program_rules.specs.Files.{Held, HasOneTree}
 use Rattle.program_rules.specs.Includes.{includes_in, includes_of, includes_in_arms}
 use Rattle.program_rules.specs.Limits.{one_each, HasPlaces, counted}
 use Rattle.program_rules.specs.Expansion.{followed_by, with_bodies, with_bodies_in, with_bodies_in_arms, StandsFor, stands}

@@ -1,5 +1,6 @@
 -- What a program means: what a run of it prints for a request within a number of units, and how the run ends.
 use Rattle.std.specs.Prelude.{ℕ, zero, suc, List, [], Option, Some, None}
+use Rattle.text_base.specs.declared.limits.TheConstants.{CALL_LIMIT}
 use Rattle.php_syntax.specs.Trees.{PlainFunction}
 use Rattle.plain_values.specs.Plain.{Plain, null}
 use Rattle.builtin_meaning.specs.declared.builtin.Builtin.{Builtin}
@@ -54,9 +55,9 @@ unfoldable pub outcome_of : Run Flow → Outcome
 outcome_of (Going flow s) = record { printed = s.printed; end = Ended }
 outcome_of (Over how printed) = record { printed = printed; end = how }
 
--- the outcome of a program for a request within n units; units, and that at most 256 calls are open at once, are this project's own
+-- the outcome of a program for a request within n units; units, and that only so many calls are open at once, are this project's own
 unfoldable pub meaning : PlainProgram → PlainRequest → ℕ → Outcome
 unfolding call_within outcome_of
 meaning program r n =
-    outcome_of (statements (record { request = r; call = call_within r program.functions_of 256 }) program.main_of
+    outcome_of (statements (record { request = r; call = call_within r program.functions_of CALL_LIMIT }) program.main_of
     (record { left = n; variables = []; printed = [] }))

@@ -10,13 +10,13 @@ use Rattle.function_variables.proofs.AddedLemmas.{arms_end, arms_further, stmts_
 use Rattle.function_variables.proofs.statements.+statements.Goals as goal
 
 pub in_stmts-loop-stmt-preserved : goal.in_stmts-loop-stmt-preserved
-in_stmts-loop-stmt-preserved t c = stmts_further c.loop-stmt.names.keys c.args.stmts.now c.loop-stmt.stmt-index c.stmt-item.result c.loop-stmt-test.true c.stmt-item.is c.in_ok-in_stmt.ensures c.loop-stmt.invariant
+in_stmts-loop-stmt-preserved t c = stmts_further c.loop-stmt.names.known.keys c.args.stmts.now c.loop-stmt.stmt-index c.stmt-item.result c.loop-stmt-test.true c.stmt-item.is c.in_ok-in_stmt.ensures c.loop-stmt.invariant
 
 pub in_stmts-returns : goal.in_stmts-returns
 in_stmts-returns t c = stmts_end c.args.stmts.now c.loop-stmt.stmt-index c.loop-stmt-test.false c.loop-stmt.invariant
 
 pub in_arms-loop-arm-preserved : goal.in_arms-loop-arm-preserved
-in_arms-loop-arm-preserved t c = arms_further c.loop-arm.names.keys c.args.arms.now c.loop-arm.arm-index c.arm-item.result c.loop-arm-test.true c.arm-item.is c.in_ok-in_arm.ensures c.loop-arm.invariant
+in_arms-loop-arm-preserved t c = arms_further c.loop-arm.names.known.keys c.args.arms.now c.loop-arm.arm-index c.arm-item.result c.loop-arm-test.true c.arm-item.is c.in_ok-in_arm.ensures c.loop-arm.invariant
 
 pub in_arms-returns : goal.in_arms-returns
 in_arms-returns t c = arms_end c.args.arms.now c.loop-arm.arm-index c.loop-arm-test.false c.loop-arm.invariant

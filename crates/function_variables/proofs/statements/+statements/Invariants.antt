@@ -25,7 +25,7 @@ decreases-in_each l = 8 * stmts_height (stmts_of l.body.now) + 2
 
 -- what is left to put and what is put is all
 abbrev pub invariant-in_stmts-loop-stmt : goal.invariant-in_stmts-loop-stmt
-invariant-in_stmts-loop-stmt l = added l.names.keys (names_of (stmts_of (drop l.stmt-index l.stmts))) ≡ added l.initial.names.keys (names_of (stmts_of l.stmts))
+invariant-in_stmts-loop-stmt l = added l.names.known.keys (names_of (stmts_of (drop l.stmt-index l.stmts))) ≡ added l.initial.names.known.keys (names_of (stmts_of l.stmts))
 
 abbrev pub invariant-in_arms-loop-arm : goal.invariant-in_arms-loop-arm
-invariant-in_arms-loop-arm l = added l.names.keys (names_of_arms (arms_of (drop l.arm-index l.arms))) ≡ added l.initial.names.keys (names_of_arms (arms_of l.arms))
+invariant-in_arms-loop-arm l = added l.names.known.keys (names_of_arms (arms_of (drop l.arm-index l.arms))) ≡ added l.initial.names.known.keys (names_of_arms (arms_of l.arms))

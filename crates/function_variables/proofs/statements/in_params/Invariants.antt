@@ -5,4 +5,4 @@ use Rattle.function_variables.specs.Added.{added}
 use Rattle.function_variables.proofs.statements.in_params.Given as goal
 
 abbrev pub invariant-loop-param : goal.invariant-loop-param
-invariant-loop-param l = added l.names.keys (map name_of_param (params_of_list (drop l.param-index l.params))) ≡ added l.initial.names.keys (map name_of_param (params_of_list l.params))
+invariant-loop-param l = added l.names.known.keys (map name_of_param (params_of_list (drop l.param-index l.params))) ≡ added l.initial.names.known.keys (map name_of_param (params_of_list l.params))

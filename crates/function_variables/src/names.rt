@@ -1,0 +1,89 @@
+//! The names of variables in expressions.
+
+ghost use Rattle.std.specs.Prelude.{◌≡◌, [], ◌∷◌, List, OnOk};
+ghost use Rattle.php_syntax.specs.Trees.{plain_expr, exprs_of, maybe_of};
+ghost use Rattle.flow_code.specs.Variables.{Name, own_names, names_in, maybe_names, names_in_all};
+ghost use Rattle.function_variables.specs.Added.{put, added};
+
+use expression_visits::{Visitor, visit_expr, visit_exprs, visit_maybe};
+use indexmap::IndexSet;
+use numbered_sets::{number, number_of};
+use php_syntax::tree::Expr;
+use std::alloc::Global;
+use text_base::{Bytes, NoMemory};
+
+/// The names so far, in the order in which they first stood.
+#[derive(Drop)]
+pub(crate) struct Names {
+    pub(crate) alloc: Global,
+    pub(crate) known: IndexSet<Bytes>,
+}
+
+impl Names {
+    /// A name, which is put behind the others where it is new.
+    #[tactic(auto, using(crate::proofs::AddedLemmas::put_there, crate::proofs::AddedLemmas::put_new))]
+    pub(crate) fn note(&mut self, name: &Bytes) -> Result<(), NoMemory>
+        ensures { OnOk result (self.new.known.keys ≡ put self.old.known.keys name.now) }
+    {
+        match number_of(&self.known, name) {
+            Some(_) => Ok(()),
+            None => {
+                let name = name.copy(self.alloc)?;
+                number(&mut self.known, name)?;
+                Ok(())
+            }
+        }
+    }
+}
+
+impl Visitor for Names {
+    type Stop = NoMemory;
+
+    ghost State = { List Name };
+
+    ghost state = { λ names. names.known.keys };
+
+    ghost next = { λ known e. added known (own_names e) };
+
+    #[tactic(auto, using(php_syntax::proofs::Views::views, crate::proofs::AddedLemmas::ends), unfolding(flow_code::specs::Variables::own_names))]
+    fn visit(&mut self, expr: &Expr) -> Result<(), NoMemory> {
+        match expr {
+            Expr::Var(name) => self.note(name),
+            Expr::Assign(target, _) => self.note(&target.name),
+            Expr::Update(_, target, _) => self.note(&target.name),
+            Expr::Step { name, .. } => self.note(name),
+            Expr::Null | Expr::Flag(_) | Expr::Int(_) | Expr::Text(_) => Ok(()),
+            Expr::Super(_) | Expr::Member(..) | Expr::ArrayOf(_) | Expr::Join(_) => Ok(()),
+            Expr::Neg(_) | Expr::Not(_) | Expr::Arith(..) | Expr::Compare(..) => Ok(()),
+            Expr::And(..) | Expr::Or(..) | Expr::Coalesce(..) | Expr::Choice(..) => Ok(()),
+            Expr::Isset(_) | Expr::Empty(_) | Expr::Call(..) => Ok(()),
+        }
+    }
+}
+
+/// In an expression.
+pub(crate) fn in_expr(names: &mut Names, expr: &Expr) -> Result<(), NoMemory>
+    ensures { OnOk result
+        (names.new.known.keys ≡ added names.old.known.keys (names_in (plain_expr expr.now))) }
+{
+    visit_expr(names, expr)?;
+    Ok(())
+}
+
+/// In expressions.
+pub(crate) fn in_exprs(names: &mut Names, exprs: &[Expr]) -> Result<(), NoMemory>
+    ensures { OnOk result
+        (names.new.known.keys ≡ added names.old.known.keys (names_in_all (exprs_of exprs.now))) }
+{
+    visit_exprs(names, exprs)?;
+    Ok(())
+}
+
+/// In an expression that may be left out.
+pub(crate) fn in_maybe(names: &mut Names, expr: &Option<Expr>) -> Result<(), NoMemory>
+    ensures { OnOk result
+        (names.new.known.keys ≡ added names.old.known.keys (maybe_names (maybe_of expr.now))) }
+{
+    visit_maybe(names, expr)?;
+    Ok(())
+}

@@ -1,0 +1,2 @@
+pub mod CollectedLemmas
+mod Examples
