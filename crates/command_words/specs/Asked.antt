@@ -4,6 +4,7 @@ use Rattle.std.specs.List.{list_all}
 use Rattle.std.specs.Str.Parse.{digits_value}
 use Rattle.std.specs.Str.{bytes_eq}
 use Rattle.clap.specs.Words.{Row, Text, fault_of, first_of, subcommand_of, takes}
+use Rattle.command_words.specs.declared.values.TheConstants.{PAIR_LIMIT}
 use Rattle.command_words.specs.Program.{phpsa}
 
 -- a command, with the file or the number that it is for; a document type and limits that are left out are `strict`, 10,000 and 10,000,000
@@ -45,7 +46,7 @@ definition_of values = unwrap_or (values (codes "dtd")) (codes "strict")
 abbrev pub asked_check : Values → Option Asked
 asked_check values = option_and_then (λ file. option_map
     (λ limit. check file (definition_of values) limit (is_given (values (codes "nesting"))) (is_given (values (codes "json"))))
-    (number_or 10000 (values (codes "limit")))) (values (codes "FILE"))
+    (number_or PAIR_LIMIT (values (codes "limit")))) (values (codes "FILE"))
 
 -- what `run` asks for; None where the file is missing or the most steps are no number
 abbrev pub asked_run : Values → Option Asked

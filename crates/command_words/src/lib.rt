@@ -8,8 +8,6 @@ mod command_line;
 pub mod laws;
 mod numbers;
 mod refusal;
-#[cfg(test)]
-mod tests;
 mod values;
 
 ghost use Rattle.std.specs.Prelude.{◌≡◌, IfOk, IfErr, map, string_bytes};
@@ -21,6 +19,7 @@ use builder::matches_of;
 pub use command_line::CommandLine;
 pub use refusal::WordsRefusal;
 use std::alloc::Global;
+pub use values::PAIR_LIMIT;
 use values::line_by;
 
 /// What the words after the program's name ask for.

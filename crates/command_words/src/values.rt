@@ -9,6 +9,10 @@ use crate::command_line::CommandLine;
 use crate::numbers::{number_of, number_or};
 use clap::ArgMatches;
 
+/// The most different sums of the sentences of one nonterminal for which a script is decided, where
+/// nothing else is asked for.
+pub const PAIR_LIMIT: u32 = 10_000;
+
 /// The text of the argument of this name.
 fn value<'a>(matches: &ArgMatches<'a>, name: &str) -> Option<&'a str>
     ensures { option_map (λ text. text.now) result
@@ -41,7 +45,7 @@ fn check_line<'a>(matches: &ArgMatches<'a>) -> Option<CommandLine<'a>>
         ≡ spec.asked_check (spec.values_of (rows_of (found_of matches.now))) }
 {
     let file = value(matches, "FILE")?;
-    let limit = number_or(10_000, value(matches, "limit"))?;
+    let limit = number_or(PAIR_LIMIT, value(matches, "limit"))?;
     Some(CommandLine::Check {
         file,
         definition: definition_of(matches),

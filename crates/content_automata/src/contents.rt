@@ -3,6 +3,7 @@
 ghost use Rattle.std.specs.Prelude.{◌≡◌, ◌≤◌, ◌<◌, ◌↔◌, IsTrue, length, map, IfOk, IfErr};
 ghost use Rattle.dtd_model.specs.declared.dtd.ElementRule.{ElementRule};
 ghost use Rattle.dtd_model.specs.Table.{holding_of};
+ghost use Rattle.content_automata.specs.declared.table.TheConstants.{STATE_LIMIT};
 ghost use Rattle.content_automata.specs.Shapes.{shape};
 ghost use Rattle.dtd_model.specs.TableOf.{table_of};
 ghost use Rattle.content_automata.specs.Tables as spec;
@@ -70,7 +71,7 @@ fn owners_of(alloc: Global, keys: &IndexSet<(u64, Flags)>) -> Result<Vec<u64>, N
 fn tabled(alloc: Global, models: &[Allowed]) -> Result<Contents, ContentRefusal>
     requires { AreSized (shapes_of models.now) }
     ensures table { IfOk result (λ c. IsTable (shapes_of models.now) c) }
-    ensures few { IfOk result (λ c. length c.1 ≤ 4096) }
+    ensures few { IfOk result (λ c. length c.1 ≤ STATE_LIMIT) }
     ensures limit { IfErr result (IsCause (shapes_of models.now)) }
 {
     let mut keys = IndexSet::new(alloc);
@@ -97,7 +98,7 @@ pub fn build(alloc: Global, dtd: &Dtd) -> Result<Contents, ContentRefusal>
     ensures owners { IfOk result (λ c. HasOwners (length (table_of dtd.now).elements) c) }
     ensures goes_on { IfOk result (λ c. GoesOn (table_of dtd.now) c) }
     ensures reached { IfOk result (λ c. ReachesAll (length (table_of dtd.now).elements) c) }
-    ensures few { IfOk result (λ c. length c.1 ≤ 4096) }
+    ensures few { IfOk result (λ c. length c.1 ≤ STATE_LIMIT) }
     ensures elements { IfOk result (λ c. length c.0 ≡ length (table_of dtd.now).elements) }
     ensures limit { IfErr result (IsCause (shapes_in (table_of dtd.now))) }
 {

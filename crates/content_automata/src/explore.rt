@@ -3,6 +3,7 @@
 ghost use Rattle.std.specs.Prelude.{◌≡◌, ◌≤◌, ◌<◌, [], length, map, Some, slice_get, IfOk, IfErr, OnOk};
 ghost use Rattle.std.specs.List.{IsDistinct};
 ghost use Rattle.content_automata.specs.Tables.{key_eq, Keeps, AllReached, AreSized, RowFits, RowsFit, FirstsFit};
+ghost use Rattle.content_automata.specs.declared.table.TheConstants.{STATE_LIMIT};
 ghost use Rattle.content_automata.specs.Refusals.{IsOver};
 ghost use Rattle.content_automata.specs.Views.{shape_of, shapes_of, row_of, BeginsAt, HasRow};
 
@@ -29,7 +30,7 @@ fn begin_one(
 ) -> Result<u16, ContentRefusal>
     requires { element < length models.now }
     ensures number { IfOk result (λ n. BeginsAt (shapes_of models.now) keys.new.keys element n) }
-    ensures few { OnOk result (length keys.new.keys ≤ 4096) }
+    ensures few { OnOk result (length keys.new.keys ≤ STATE_LIMIT) }
     ensures keeps { Keeps keys.old.keys keys.new.keys }
     ensures reached { AllReached (shapes_of models.now) keys.old.keys
         → AllReached (shapes_of models.now) keys.new.keys }
@@ -48,7 +49,7 @@ pub fn begin(
     requires { keys.old.keys ≡ [] }
     ensures firsts { IfOk result
         (λ v. FirstsFit (shapes_of models.now) keys.new.keys v.items (length models.now)) }
-    ensures few { OnOk result (length keys.new.keys ≤ 4096) }
+    ensures few { OnOk result (length keys.new.keys ≤ STATE_LIMIT) }
     ensures reached { AllReached (shapes_of models.now) keys.new.keys }
     ensures limit { IfErr result (IsOver keys.new.keys) }
 {
@@ -99,7 +100,7 @@ fn state_at(
     requires reached { AllReached (shapes_of models.now) keys.old.keys }
     ensures row { IfOk result
         (λ s. HasRow (shapes_of models.now) keys.old.keys keys.new.keys at (row_of s)) }
-    ensures few { OnOk result (length keys.old.keys ≤ 4096 → length keys.new.keys ≤ 4096) }
+    ensures few { OnOk result (length keys.old.keys ≤ STATE_LIMIT → length keys.new.keys ≤ STATE_LIMIT) }
     ensures keeps { Keeps keys.old.keys keys.new.keys }
     ensures reached { AllReached (shapes_of models.now) keys.new.keys }
     ensures limit { IfErr result (IsOver keys.new.keys) }
@@ -119,13 +120,13 @@ pub fn explore(
     models: &[Model],
     keys: &mut IndexSet<(u64, Flags)>,
 ) -> Result<Vec<State>, ContentRefusal>
-    requires few { length keys.old.keys ≤ 4096 }
+    requires few { length keys.old.keys ≤ STATE_LIMIT }
     requires sized { AreSized (shapes_of models.now) }
     requires reached { AllReached (shapes_of models.now) keys.old.keys }
     ensures rows { IfOk result
         (λ v. RowsFit (shapes_of models.now) keys.new.keys (map row_of v.items)
         (length keys.new.keys)) }
-    ensures few { OnOk result (length keys.new.keys ≤ 4096) }
+    ensures few { OnOk result (length keys.new.keys ≤ STATE_LIMIT) }
     ensures apart { OnOk result (IsDistinct key_eq keys.new.keys) }
     ensures keeps { Keeps keys.old.keys keys.new.keys }
     ensures reached { AllReached (shapes_of models.now) keys.new.keys }

@@ -30,7 +30,7 @@ fn insert(keys: &mut IndexSet<(u64, Flags)>, key: (u64, Flags)) -> Result<usize,
 /// The number of a state, a new one if it has none.
 pub fn number(keys: &mut IndexSet<(u64, Flags)>, key: (u64, Flags)) -> Result<u16, ContentRefusal>
     ensures number { IfOk result (λ n. slice_get keys.new.keys n ≡ Some key) }
-    ensures few { OnOk result (length keys.new.keys ≤ 4096) }
+    ensures few { OnOk result (length keys.new.keys ≤ STATE_LIMIT) }
     ensures keeps { Keeps keys.old.keys keys.new.keys }
     ensures only { (k : Key) → Contains keys.new.keys k → Contains keys.old.keys k ⊎ (k ≡ key) }
     ensures limit { IfErr result (IsOver keys.new.keys) }
@@ -53,7 +53,7 @@ fn cell(
     keys: &mut IndexSet<(u64, Flags)>,
 ) -> Result<Option<u16>, ContentRefusal>
     ensures cell { IfOk result (λ cell. CellFits keys.new.keys element cell behind.now) }
-    ensures few { OnOk result (length keys.old.keys ≤ 4096 → length keys.new.keys ≤ 4096) }
+    ensures few { OnOk result (length keys.old.keys ≤ STATE_LIMIT → length keys.new.keys ≤ STATE_LIMIT) }
     ensures keeps { Keeps keys.old.keys keys.new.keys }
     ensures adds { AddsFound keys.old.keys keys.new.keys element behind.now }
     ensures limit { IfErr result (IsOver keys.new.keys) }
@@ -80,7 +80,7 @@ pub fn cells(
     requires { IsSized (shape_of model.now) flags.now }
     ensures cells { IfOk result (λ v. CellsFit keys.new.keys element
         (shapes.state_behind count (shape_of model.now) flags.now) v.items count) }
-    ensures few { OnOk result (length keys.old.keys ≤ 4096 → length keys.new.keys ≤ 4096) }
+    ensures few { OnOk result (length keys.old.keys ≤ STATE_LIMIT → length keys.new.keys ≤ STATE_LIMIT) }
     ensures keeps { Keeps keys.old.keys keys.new.keys }
     ensures adds { Adds keys.old.keys keys.new.keys element count
         (shapes.state_behind count (shape_of model.now) flags.now) }

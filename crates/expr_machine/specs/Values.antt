@@ -1,6 +1,7 @@
 -- The values that a reader makes. A value that is too high is not kept, but for whether it is a variable with subscripts.
 use Rattle.std.specs.Prelude.{ℕ, ◌+◌, ◌&&◌, max, nat_lt, nat_le, Bool, true, false, not, List, [], ◌∷◌, Option, Some, None, if◌then◌else◌, zero, suc}
 use Rattle.std.specs.Str.{str_to_ascii_lowercase}
+use Rattle.text_base.specs.declared.limits.TheConstants.{HEIGHT_LIMIT}
 use Rattle.script_grammar.specs.declared.operator.Operator.{Operator}
 use Rattle.script_grammar.specs.declared.operator.Prefix.{Prefix}
 use Rattle.php_syntax.specs.declared.tree.UpdateSign.{UpdateSign}
@@ -12,7 +13,7 @@ use Rattle.expr_machine.specs.Actions.{Action, leaf_action, variable_action, abs
 
 -- a value that was made: a tree, or a key that is left out
 pub data PlainValue : Type 0 where
-  -- a tree and its height, at most 200
+  -- a tree and its height, where it is no higher than a tree may be
   known_value : PlainExpr → ℕ → PlainValue
   -- a tree that is higher, and whether it is a variable with subscripts
   tall_value : Bool → PlainValue
@@ -21,11 +22,11 @@ pub data PlainValue : Type 0 where
 
 -- a tree whose parts are at most so high, with whether it is a variable with subscripts
 abbrev pub node_value : PlainExpr → ℕ → Bool → PlainValue
-node_value e h place = if nat_lt h 200 then known_value e (h + 1) else tall_value place
+node_value e h place = if nat_lt h HEIGHT_LIMIT then known_value e (h + 1) else tall_value place
 
 -- the value of a tree
 abbrev pub value_of_tree : PlainExpr → PlainValue
-value_of_tree e = if nat_le (height e) 200 then known_value e (height e) else tall_value (is_place e)
+value_of_tree e = if nat_le (height e) HEIGHT_LIMIT then known_value e (height e) else tall_value (is_place e)
 
 -- whether a value is a variable with subscripts
 abbrev pub is_place_value : PlainValue → Bool

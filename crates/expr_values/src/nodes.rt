@@ -12,6 +12,7 @@ use crate::value::{Value, both_known};
 use php_syntax::tree::{Expr, Target, UpdateSign};
 use script_grammar::operator::{Operator, Prefix};
 use std::alloc::Global;
+use text_base::limits::HEIGHT_LIMIT;
 use text_base::{Bytes, NoMemory};
 
 /// An operator before an operand.
@@ -251,7 +252,7 @@ fn over_path(tree: Expr, path_height: u32, height: u32) -> Value
     ensures { plain_value result
         ≡ plain.node_value (plain_expr tree) (max (1 + path_height) height) false }
 {
-    if path_height < 200 {
+    if path_height < HEIGHT_LIMIT {
         return node(tree, (path_height + 1).max(height), false);
     }
     Value::Tall { place: false }

@@ -11,6 +11,7 @@ use php_syntax::tree::Expr;
 use script_grammar::operator::{Operator, Prefix};
 use script_grammar::reserved::request_named;
 use std::alloc::Global;
+use text_base::limits::HEIGHT_LIMIT;
 use text_base::{Bytes, NoMemory};
 
 /// The tree of a variable: those of the request are their own.
@@ -28,7 +29,7 @@ pub(crate) fn variable_tree(name: Bytes) -> Expr
 pub(crate) fn node(expr: Expr, height: u32, place: bool) -> Value
     ensures { plain_value result ≡ plain.node_value (plain_expr expr) height place }
 {
-    if height < 200 {
+    if height < HEIGHT_LIMIT {
         return Value::Known {
             tree: expr,
             height: height + 1,

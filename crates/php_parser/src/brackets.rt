@@ -12,7 +12,7 @@ use text_base::limits::HEIGHT_LIMIT;
 
 // How many are open behind a sign.
 fn behind_sign(count: u32, sign: Sign) -> u32
-    requires { count ≤ 200 }
+    requires { count ≤ HEIGHT_LIMIT }
     ensures { result ≡ open_after_sign count sign }
 {
     match sign {
@@ -28,7 +28,7 @@ fn behind_sign(count: u32, sign: Sign) -> u32
 
 // How many are open behind a token.
 fn behind(count: u32, kind: &TokenKind) -> u32
-    requires { count ≤ 200 }
+    requires { count ≤ HEIGHT_LIMIT }
     ensures { result ≡ open_after count (terminal_of (plain_kind kind.now)) }
 {
     match sign_of(kind) {
@@ -40,8 +40,8 @@ fn behind(count: u32, kind: &TokenKind) -> u32
 /// Where one bracket too many is opened, if more than 200 are open at once.
 pub(crate) fn too_many(tokens: &[Token]) -> Option<u32>
     ensures { MatchOption result
-        (most_open 0 (terminals_of tokens.now) ≤ 200)
-        (λ _. 200 < most_open 0 (terminals_of tokens.now)) }
+        (most_open 0 (terminals_of tokens.now) ≤ HEIGHT_LIMIT)
+        (λ _. HEIGHT_LIMIT < most_open 0 (terminals_of tokens.now)) }
 {
     let mut rest = tokens;
     let mut count = 0;

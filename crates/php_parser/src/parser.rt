@@ -1,6 +1,7 @@
 //! Tokens to the one tree that they spell.
 
 ghost use Rattle.std.specs.Prelude.{◌≡◌, ◌≤◌, IfOk, IfErr};
+ghost use Rattle.text_base.specs.declared.limits.TheConstants.{HEIGHT_LIMIT};
 ghost use Rattle.php_syntax.specs.Tokens.{plain_tokens};
 ghost use Rattle.php_syntax.specs.Trees.{PlainFile, plain_file};
 ghost use Rattle.script_grammar.specs.Terminals.{terminals};
@@ -33,8 +34,8 @@ pub fn parse(alloc: Global, tokens: &[Token]) -> Result<FileTree, ParseRefusal>
 
     // They are not too deep.
     ensures within { IfOk result (λ tree.
-        (most_open 0 (terminals (plain_tokens tokens.now)) ≤ 200)
-        × (file_height (plain_file tree) ≤ 200)) }
+        (most_open 0 (terminals (plain_tokens tokens.now)) ≤ HEIGHT_LIMIT)
+        × (file_height (plain_file tree) ≤ HEIGHT_LIMIT)) }
 
     // A refusal has its cause.
     ensures refused { IfErr result (IsCauseOf (plain_tokens tokens.now)) }

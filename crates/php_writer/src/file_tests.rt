@@ -13,6 +13,7 @@ use crate::names::{is_call_name, is_target};
 use crate::shapes::is_default;
 use crate::statement_tests::are_good_stmts;
 use php_syntax::tree::{FileTree, FunctionDef, Param};
+use text_base::limits::HEIGHT_LIMIT;
 
 // Whether none of the parameters has the name.
 fn is_new_name(name: &[u8], params: &[Param]) -> bool
@@ -90,7 +91,7 @@ fn is_good_file(tree: &FileTree, room: usize) -> bool
 /// deeper into a tree that is higher.
 pub fn well_formed(tree: &FileTree) -> bool
     ensures { IsTrue result ↔ (IsSpelled (plain_file tree.now) × (file_height (plain_file tree.now)
-        ≤ 200)) }
+        ≤ HEIGHT_LIMIT)) }
 {
-    is_good_file(tree, 200)
+    is_good_file(tree, HEIGHT_LIMIT as usize)
 }

@@ -1,6 +1,7 @@
 -- The texts that the program writes, each ended by one LF (10); this project's own.
 use Rattle.std.specs.Prelude.{◌≡◌, ℕ, Bool, true, false, List, [], ◌∷◌, ◌++◌, codes, ⊤}
 use Rattle.std.specs.Fmt.{decimal}
+use Rattle.text_base.specs.declared.limits.TheConstants.{CALL_LIMIT}
 use Rattle.lexical_grammar.specs.declared.fault.LexicalFault.{LexicalFault}
 use Rattle.lexical_grammar.specs.declared.fault.LexicalFault.TheVariants.{BadByte, Unclosed, Float, BigInt, Escape}
 use Rattle.php_lexer.specs.declared.refusal.LexRefusal.TheVariants as lexed
@@ -230,9 +231,9 @@ fault_text other = numbered_fault (fault_number other) (fault_kind other)
 abbrev pub spent_text : ℕ → List ℕ
 spent_text steps = named_text (codes "Spent") (decimal steps)
 
--- on `err`, where a run would have had one more call open at once than 256
+-- on `err`, where a run would have had one more call open at once than may be
 abbrev pub deep_text : List ℕ
-deep_text = named_text (codes "Deep") (decimal 256)
+deep_text = named_text (codes "Deep") (decimal CALL_LIMIT)
 
 -- on `err`, where a script cannot have so many functions
 abbrev pub size_text : ℕ → List ℕ

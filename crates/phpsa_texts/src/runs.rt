@@ -10,6 +10,7 @@ use crate::lines::{NO_MEMORY, append_number, count_text};
 use crate::message::Message;
 use plain_values::Fault;
 use std::alloc::Global;
+use text_base::limits::CALL_LIMIT;
 use text_base::{Bytes, NoMemory};
 
 fn fault_number(fault: Fault) -> u64
@@ -105,11 +106,11 @@ pub fn spent_message(alloc: Global, steps: u64) -> Result<Message, NoMemory>
     })
 }
 
-/// That a run would have had one more call open at once than 256.
+/// That a run would have had one more call open at once than may be.
 pub fn deep_message(alloc: Global) -> Result<Message, NoMemory>
     ensures { IfOk result (λ message. Says message Deep deep_text) }
 {
-    let text = count_text(alloc, b"Deep", 256)?;
+    let text = count_text(alloc, b"Deep", u64::from(CALL_LIMIT))?;
     Ok(Message {
         status: Exit::Deep,
         text,

@@ -1,5 +1,6 @@
 -- Which tree a token list spells.
 use Rattle.std.specs.Prelude.{◌≡◌, ℕ, ◌+◌, ◌-◌, ◌<◌, max, true, List, [], ◌∷◌, ◌⊎◌}
+use Rattle.text_base.specs.declared.limits.TheConstants.{HEIGHT_LIMIT}
 use Rattle.php_syntax.specs.declared.token.Sign.{Sign}
 use Rattle.php_syntax.specs.declared.token.Sign.TheVariants as sign
 use Rattle.php_syntax.specs.Tokens.{PlainToken}
@@ -38,6 +39,7 @@ abbrev pub most_open : ℕ → List Terminal → ℕ
 most_open n [] = n
 most_open n (t ∷ ts) = max n (most_open (open_after n t) ts)
 
--- more than 200 brackets are open at once, or the tokens spell a tree of a height over 200
+-- more brackets are open at once than may be, or the tokens spell a tree that is higher than may be
 abbrev pub IsTooDeep : List PlainToken → Type 0
-IsTooDeep tokens = (200 < most_open 0 (terminals tokens)) ⊎ ((tree : PlainFile) × SpellsTree tokens tree × (200 < file_height tree))
+IsTooDeep tokens = (HEIGHT_LIMIT < most_open 0 (terminals tokens))
+    ⊎ ((tree : PlainFile) × SpellsTree tokens tree × (HEIGHT_LIMIT < file_height tree))

@@ -1,7 +1,8 @@
 //! The words of the language that no function may have as its name (PHP manual, "List of
 //! Keywords").
 
-ghost use Rattle.std.specs.Prelude.{◌≡◌, Option, Some, None};
+ghost use Rattle.std.specs.Prelude.{◌≡◌, Option, Some, None, map};
+ghost use Rattle.std.specs.Str.{str_eq_ignore_ascii_case};
 ghost use Rattle.script_grammar.specs.Terminals.{keyword_of, find_word, cased_word, first_of_two, loop_words, branch_words, jump_words, value_words};
 
 /// A word that stands in the grammar. It is spelled in any case, but for the three constants.
@@ -90,113 +91,95 @@ pub fn keyword_named(name: &[u8]) -> Option<Keyword>
     constant_word(name)
 }
 
+// Whether the name is this word, in any case.
+fn is_word(name: &[u8], word: &[u8]) -> bool
+    ensures { result ≡ str_eq_ignore_ascii_case name.now word.now }
+{
+    name.eq_ignore_ascii_case(word)
+}
+
+// The keyword of the first row whose word the name is, in any case.
+fn word_in(rows: &[(&[u8], Keyword)], name: &[u8]) -> Option<Keyword>
+    ensures { result ≡ find_word (map (λ row. (row.0.now, row.1)) rows.now) name.now }
+{
+    for (word, keyword) in rows {
+        if is_word(name, word) {
+            return Some(*keyword);
+        }
+    }
+    None
+}
+
 // The words of loops, in any case.
 fn loop_word(name: &[u8]) -> Option<Keyword>
     ensures { result ≡ find_word loop_words name.now }
 {
-    if name.eq_ignore_ascii_case(b"while") {
-        return Some(Keyword::While);
-    }
-    if name.eq_ignore_ascii_case(b"endwhile") {
-        return Some(Keyword::EndWhile);
-    }
-    if name.eq_ignore_ascii_case(b"do") {
-        return Some(Keyword::Do);
-    }
-    if name.eq_ignore_ascii_case(b"for") {
-        return Some(Keyword::For);
-    }
-    if name.eq_ignore_ascii_case(b"endfor") {
-        return Some(Keyword::EndFor);
-    }
-    if name.eq_ignore_ascii_case(b"foreach") {
-        return Some(Keyword::Foreach);
-    }
-    if name.eq_ignore_ascii_case(b"as") {
-        return Some(Keyword::As);
-    }
-    if name.eq_ignore_ascii_case(b"endforeach") {
-        return Some(Keyword::EndForeach);
-    }
-    None
+    word_in(
+        &[
+            (b"while", Keyword::While),
+            (b"endwhile", Keyword::EndWhile),
+            (b"do", Keyword::Do),
+            (b"for", Keyword::For),
+            (b"endfor", Keyword::EndFor),
+            (b"foreach", Keyword::Foreach),
+            (b"as", Keyword::As),
+            (b"endforeach", Keyword::EndForeach),
+        ],
+        name,
+    )
 }
 
 // The words of branches, and those that print, in any case.
 fn branch_word(name: &[u8]) -> Option<Keyword>
     ensures { result ≡ find_word branch_words name.now }
 {
-    if name.eq_ignore_ascii_case(b"if") {
-        return Some(Keyword::If);
-    }
-    if name.eq_ignore_ascii_case(b"elseif") {
-        return Some(Keyword::ElseIf);
-    }
-    if name.eq_ignore_ascii_case(b"else") {
-        return Some(Keyword::Else);
-    }
-    if name.eq_ignore_ascii_case(b"endif") {
-        return Some(Keyword::EndIf);
-    }
-    if name.eq_ignore_ascii_case(b"echo") {
-        return Some(Keyword::Echo);
-    }
-    if name.eq_ignore_ascii_case(b"print") {
-        return Some(Keyword::Print);
-    }
-    None
+    word_in(
+        &[
+            (b"if", Keyword::If),
+            (b"elseif", Keyword::ElseIf),
+            (b"else", Keyword::Else),
+            (b"endif", Keyword::EndIf),
+            (b"echo", Keyword::Echo),
+            (b"print", Keyword::Print),
+        ],
+        name,
+    )
 }
 
 // The words that leave a body or end the run, include a file or begin a function, in any case.
 fn jump_word(name: &[u8]) -> Option<Keyword>
     ensures { result ≡ find_word jump_words name.now }
 {
-    if name.eq_ignore_ascii_case(b"break") {
-        return Some(Keyword::Break);
-    }
-    if name.eq_ignore_ascii_case(b"continue") {
-        return Some(Keyword::Continue);
-    }
-    if name.eq_ignore_ascii_case(b"return") {
-        return Some(Keyword::Return);
-    }
-    if name.eq_ignore_ascii_case(b"include") {
-        return Some(Keyword::Include);
-    }
-    if name.eq_ignore_ascii_case(b"require") {
-        return Some(Keyword::Require);
-    }
-    if name.eq_ignore_ascii_case(b"function") {
-        return Some(Keyword::Function);
-    }
-    if name.eq_ignore_ascii_case(b"exit") || name.eq_ignore_ascii_case(b"die") {
-        return Some(Keyword::Exit);
-    }
-    None
+    word_in(
+        &[
+            (b"break", Keyword::Break),
+            (b"continue", Keyword::Continue),
+            (b"return", Keyword::Return),
+            (b"include", Keyword::Include),
+            (b"require", Keyword::Require),
+            (b"function", Keyword::Function),
+            (b"exit", Keyword::Exit),
+            (b"die", Keyword::Exit),
+        ],
+        name,
+    )
 }
 
 // The words of expressions, in any case.
 fn value_word(name: &[u8]) -> Option<Keyword>
     ensures { result ≡ find_word value_words name.now }
 {
-    if name.eq_ignore_ascii_case(b"true") {
-        return Some(Keyword::True);
-    }
-    if name.eq_ignore_ascii_case(b"false") {
-        return Some(Keyword::False);
-    }
-    if name.eq_ignore_ascii_case(b"null") {
-        return Some(Keyword::Null);
-    }
-    if name.eq_ignore_ascii_case(b"isset") {
-        return Some(Keyword::Isset);
-    }
-    if name.eq_ignore_ascii_case(b"empty") {
-        return Some(Keyword::Empty);
-    }
-    if name.eq_ignore_ascii_case(b"array") {
-        return Some(Keyword::Array);
-    }
-    None
+    word_in(
+        &[
+            (b"true", Keyword::True),
+            (b"false", Keyword::False),
+            (b"null", Keyword::Null),
+            (b"isset", Keyword::Isset),
+            (b"empty", Keyword::Empty),
+            (b"array", Keyword::Array),
+        ],
+        name,
+    )
 }
 
 // The three constants, which have case.

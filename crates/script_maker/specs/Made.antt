@@ -1,5 +1,6 @@
 -- Generated scripts: functions that call one another inside loops, on a page of XHTML 1.0 Strict; this project's own.
 use Rattle.std.specs.Prelude.{ℕ, suc, zero, List, [], ◌++◌, ◌+◌, ◌-◌, ◌≤◌, codes, decimal}
+use Rattle.script_maker.specs.declared.TheConstants.{FUNCTION_LIMIT}
 
 -- the page in front of what the functions print: the document type of XHTML 1.0 Strict, and all up to the open body
 abbrev pub head : List ℕ
@@ -34,6 +35,6 @@ page_of last = codes "?>" ++ (head ++ (codes "<?php f" ++ (decimal last ++ (code
 abbrev pub made : ℕ → List ℕ
 made functions = codes "<?php\n" ++ (first_line ++ (lines_from 0 (functions - 1) ++ page_of (functions - 1)))
 
--- a script has at least one function and at most 1,000
+-- a script has at least one function, and no more than there may be
 abbrev pub IsSize : ℕ → Type 0
-IsSize functions = (1 ≤ functions) × (functions ≤ 1000)
+IsSize functions = (1 ≤ functions) × (functions ≤ FUNCTION_LIMIT)

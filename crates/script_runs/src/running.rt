@@ -17,9 +17,7 @@ use run_stacks::{Pending, Settled, go_on, settle};
 use statement_machine::{End, Next};
 use std::alloc::Global;
 use text_base::NoMemory;
-
-/// How many calls may be open at once.
-pub const CALL_ROOM: u16 = 256;
+use text_base::limits::CALL_LIMIT;
 
 // Goes on with what is next to the end of the run.
 fn finish<'a>(
@@ -65,7 +63,7 @@ pub fn run(
     let functions = Functions {
         all: &program.functions,
     };
-    let mut pending = Pending::new(alloc, CALL_ROOM);
+    let mut pending = Pending::new(alloc, CALL_LIMIT);
     let first = Next::Block(&program.main);
     let end = finish(alloc, request, &functions, &mut pending, first, steps)?;
     Ok(Ended {

@@ -1,6 +1,7 @@
 -- What a reader of statements has made. A row of statements with one that is too high is not kept.
 use Rattle.std.specs.Prelude.{ℕ, ◌+◌, ◌&&◌, max, nat_lt, nat_le, Bool, true, false, List, [], ◌∷◌, Option, Some, None, if◌then◌else◌, zero, suc}
 use Rattle.std.specs.Str.{str_to_ascii_lowercase}
+use Rattle.text_base.specs.declared.limits.TheConstants.{HEIGHT_LIMIT}
 use Rattle.php_syntax.specs.Trees.{MaybeExpr, no_expr, some_expr, PlainExprs, PlainStmt, inline_stmt, echo_stmt, run_stmt, if_stmt, while_stmt, do_while_stmt, for_stmt, each_stmt, break_stmt, continue_stmt, return_stmt, include_stmt, quit_stmt, PlainStmts, no_stmts, more_stmts, PlainArms, no_arms, more_arms, PlainParam, PlainFunction, PlainFile}
 use Rattle.script_grammar.specs.Statements.{is_status}
 use Rattle.script_grammar.specs.Rules.{is_writable, maybe_writable, is_utf8, is_new_name}
@@ -16,7 +17,7 @@ Row = Option (PlainStmts × ℕ)
 
 -- the row of statements
 abbrev pub row_of : PlainStmts → Row
-row_of ss = if nat_le (stmts_height ss) 200 then Some (ss, stmts_height ss) else None
+row_of ss = if nat_le (stmts_height ss) HEIGHT_LIMIT then Some (ss, stmts_height ss) else None
 
 -- a body that is being read: whether it stands in a loop and in a function, and its statements so far
 pub record PlainBody : Type 0 where
@@ -68,7 +69,7 @@ Node = Option (PlainStmt × ℕ)
 
 -- a row with one more statement
 abbrev pub add_node : Node → Row → Row
-add_node (Some node) (Some row) = if nat_lt node.1 200 then Some (add_stmt row.0 node.0, max row.1 (node.1 + 1)) else None
+add_node (Some node) (Some row) = if nat_lt node.1 HEIGHT_LIMIT then Some (add_stmt row.0 node.0, max row.1 (node.1 + 1)) else None
 add_node _ _ = None
 
 -- the innermost body with one more statement
@@ -266,7 +267,7 @@ function_of header ss = record { name_of = str_to_ascii_lowercase header.0; para
 -- the functions with one more, whose height is one more than that of its highest part
 abbrev pub put_function : List ℕ × List PlainParam → Row → Functions → Functions
 put_function header (Some row) (Some fs) =
-    if nat_lt (max (params_height header.1) row.1) 200
+    if nat_lt (max (params_height header.1) row.1) HEIGHT_LIMIT
     then Some (add_function fs.0 (function_of header row.0), max fs.1 (max (params_height header.1) row.1 + 1)) else None
 put_function header _ _ = None
 
@@ -310,7 +311,8 @@ execute_stmts (a ∷ acts) m = on_some (apply_stmt a m) (execute_stmts acts)
 
 -- the tree of a file that was read, where it is at most 200 high
 abbrev pub file_of_row : Row → Functions → Option PlainFile
-file_of_row (Some row) (Some fs) = if nat_lt (max row.1 fs.1) 200 then Some (record { body_of = row.0; functions_of = fs.0 }) else None
+file_of_row (Some row) (Some fs) =
+    if nat_lt (max row.1 fs.1) HEIGHT_LIMIT then Some (record { body_of = row.0; functions_of = fs.0 }) else None
 file_of_row _ _ = None
 
 -- the tree of a file: the body that is left is that outside functions

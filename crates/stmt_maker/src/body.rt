@@ -12,9 +12,7 @@ use php_syntax::tree::{Expr, Stmt};
 use stacks::Stack;
 use std::alloc::Global;
 use text_base::NoMemory;
-
-/// The most that a tree may be high.
-pub const MOST_HEIGHT: u32 = 200;
+use text_base::limits::HEIGHT_LIMIT;
 
 /// Statements in a row, each at most 200 high.
 #[derive(Debug, Drop)]
@@ -66,7 +64,7 @@ pub fn add(row: Option<Row>, node: Option<(Stmt, u32)>) -> Result<Option<Row>, N
     let Some(mut row) = row else {
         return Ok(None);
     };
-    if height >= MOST_HEIGHT {
+    if height >= HEIGHT_LIMIT {
         return Ok(None);
     }
     row.stmts.push(stmt)?;

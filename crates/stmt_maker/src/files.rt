@@ -5,10 +5,11 @@ ghost use Rattle.php_syntax.specs.Trees.{plain_file};
 ghost use Rattle.stmt_machine.specs.Made.{file_of, file_of_row};
 ghost use Rattle.stmt_maker.specs.Views.{made_of, row_of, kept_functions};
 
-use crate::body::{MOST_HEIGHT, Row};
+use crate::body::Row;
 use crate::functions::Functions;
 use crate::maker::Maker;
 use php_syntax::tree::FileTree;
+use text_base::limits::HEIGHT_LIMIT;
 
 // The tree of a file of these statements and functions, where it is at most 200 high.
 fn tree_of(row: Option<Row>, functions: Option<Functions>) -> Option<FileTree>
@@ -21,7 +22,7 @@ fn tree_of(row: Option<Row>, functions: Option<Functions>) -> Option<FileTree>
         Some(row) => match functions {
             None => None,
             Some(functions) => {
-                if row.height.max(functions.height) >= MOST_HEIGHT {
+                if row.height.max(functions.height) >= HEIGHT_LIMIT {
                     return None;
                 }
                 Some(FileTree {

@@ -10,7 +10,7 @@ ghost use Rattle.stmt_machine.specs.Made.{apply_stmt};
 ghost use Rattle.stmt_maker.specs.Views.{made_of, row_of, kept_functions, with_default};
 ghost use Rattle.stmt_maker.specs.Answers.{Does};
 
-use crate::body::{Body, MOST_HEIGHT, Row, empty_row};
+use crate::body::{Body, Row, empty_row};
 use crate::maker::Maker;
 use crate::names::lower_case;
 use indexmap::IndexSet;
@@ -18,6 +18,7 @@ use php_syntax::tree::{Expr, FunctionDef, Param};
 use script_grammar::reserved::is_writable;
 use std::alloc::Global;
 use std::marker::Model;
+use text_base::limits::HEIGHT_LIMIT;
 use text_base::{Bytes, NoMemory};
 
 /// The parameters of a function so far, whose names differ.
@@ -64,7 +65,7 @@ impl Parameters {
         default: Option<Expr>,
         height: u32,
     ) -> Result<Option<Parameters>, NoMemory>
-        requires { (height ≡ maybe_height (maybe_of default)) × (height < 200) }
+        requires { (height ≡ maybe_height (maybe_of default)) × (height < HEIGHT_LIMIT) }
         ensures { IfOk result (λ found. MatchOption found
             (is_new_name name.now (params_of_list self) ≡ false)
             (λ more. (is_new_name name.now (params_of_list self) ≡ true)
@@ -149,7 +150,7 @@ fn put_function(
     let name = lower_case(alloc, &header.name)?;
     let (params, highest) = header.params.into_parts();
     let height = highest.max(row.height);
-    if height >= MOST_HEIGHT {
+    if height >= HEIGHT_LIMIT {
         return Ok(None);
     }
     functions.functions.push(FunctionDef {
@@ -184,7 +185,7 @@ impl Maker {
         default: Option<Expr>,
         height: u32,
     ) -> Result<bool, NoMemory>
-        requires { (height ≡ maybe_height (maybe_of default)) × (height < 200) }
+        requires { (height ≡ maybe_height (maybe_of default)) × (height < HEIGHT_LIMIT) }
         ensures { IfOk result (λ done.
             Does (apply_stmt (parameter_action name.now (maybe_of default)) (made_of self.old)) done
             (made_of self.new)) }

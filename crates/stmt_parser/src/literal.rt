@@ -1,6 +1,7 @@
 //! Literals as defaults of parameters.
 
 ghost use Rattle.std.specs.Prelude.{◌≡◌, ◌<◌, IfOk};
+ghost use Rattle.text_base.specs.declared.limits.TheConstants.{HEIGHT_LIMIT};
 ghost use Rattle.php_syntax.specs.Trees.{plain_expr, neg_expr, int_expr};
 ghost use Rattle.php_syntax.specs.Height.{height};
 ghost use Rattle.stmt_parser.specs.Literals.{literal_tree};
@@ -37,7 +38,7 @@ fn negated(alloc: Global, number: i64) -> Result<Expr, NoMemory>
 pub(crate) fn tree_of(alloc: Global, literal: Literal) -> Result<(Expr, u32), NoMemory>
     ensures { IfOk result (λ made.
         (plain_expr made.0 ≡ literal_tree literal.entry) ×
-        (made.1 ≡ height (literal_tree literal.entry)) × (made.1 < 200)) }
+        (made.1 ≡ height (literal_tree literal.entry)) × (made.1 < HEIGHT_LIMIT)) }
 {
     match literal {
         Literal::Minus(number) => {

@@ -3,6 +3,7 @@
 #![tactic(auto)]
 
 ghost use Rattle.std.specs.Prelude.{◌≡◌, Some, None, nat_le, if◌then◌else◌};
+ghost use Rattle.text_base.specs.declared.limits.TheConstants.{HEIGHT_LIMIT};
 ghost use Rattle.script_grammar.specs.Statements.{FileForm, file_tree};
 ghost use Rattle.script_grammar.specs.Rules.{file_fits};
 ghost use Rattle.php_syntax.specs.Height.{file_height};
@@ -15,7 +16,7 @@ pub fn actions_make_files()
     ensures { (f : FileForm)
         → on_some (execute_stmts (file_actions f) nothing_made) (λ m. Some (file_of m)) ≡
         (if file_fits (file_tree f) then Some
-        (if nat_le (file_height (file_tree f)) 200 then Some (file_tree f) else None) else None) }
+        (if nat_le (file_height (file_tree f)) HEIGHT_LIMIT then Some (file_tree f) else None) else None) }
 {
     expr_trees::actions_make_trees();
 }
