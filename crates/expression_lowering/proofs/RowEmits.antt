@@ -6,12 +6,12 @@ use Rattle.text_base.specs.declared.numbers.Slot.{Slot}
 use Rattle.php_syntax.specs.declared.tree.Expr.{Expr}
 use Rattle.php_syntax.specs.Trees.{plain_expr, exprs_of, items_of, path_of, maybe_of, PlainExpr, text_expr}
 use Rattle.flow_code.specs.declared.source.KeyRef.{KeyRef}
-use Rattle.flow_code.specs.Points.{PlainKeyRef, text_ref, read_ref}
+use Rattle.flow_code.specs.Points.{PlainKeyRef, text_ref, read_ref, put_source}
 use Rattle.flow_code.specs.View.{slot_number, plain_item, plain_maybe_key}
-use Rattle.flow_code.specs.Code.{Code, known}
-use Rattle.flow_code.specs.Expressions.{Scope, code, codes, maybe_key, path_code, items_code, length_of_path, key_code}
-use Rattle.flow_lowering.specs.Emits.{Progress, Emits}
-use Rattle.flow_lowering.proofs.EmitLemmas.{emits_known, emits_both, emits_left}
+use Rattle.flow_code.specs.Code.{Code, known, left, both}
+use Rattle.flow_code.specs.Expressions.{Scope, code, codes, maybe_key, path_code, Begun, the_items, no_item, one_item, items_code, length_of_path, key_code}
+use Rattle.flow_lowering.specs.Emits.{Progress, Emits, Sets, place}
+use Rattle.flow_lowering.proofs.EmitLemmas.{emits_known, emits_both, emits_left, emits_with}
 use Rattle.literal_trees.specs.Literals.{IsNoNumber, IsNoText}
 use Rattle.expression_pieces.proofs.FormLemmas.{read_key}
 use Rattle.expression_pieces.proofs.RowLemmas.{drop_here, drop_past}
@@ -64,28 +64,41 @@ path_end {s0} {start} w es i path le go =
     subst (λ (l : List (Option PlainKeyRef)). Emits start s0 (path_code w (path_of es)) l) (append_none (map plain_maybe_key path))
     (go s0 [] (subst (λ (l : List (Option Expr)). Emits s0 s0 (path_code w (path_of l)) []) (sym (drop_past es i le)) none))
 
-pub items_further : {s0 s1 s2 start : Progress} (w : Scope) (es : List (Option Expr × Expr)) (i : ℕ) (e : Option Expr × Expr) (old new : List (Option KeyRef × Slot)) (key : Option KeyRef) (x : Slot)
+-- the code of the items so far, of which one is the next, leaves this
+pub record SoFar (w : Scope) (first now : Progress) (array : ℕ) (es : List (Option Expr × Expr)) (i made : ℕ) (items : List (Option PlainKeyRef × ℕ)) : Type 0 where
+  pub begun : Code Begun
+  pub emits : (start : Progress) → Emits start first no_item (array, []) → Emits start now begun (made, items)
+  pub rest : items_code w (items_of (drop i es)) begun ≡ items_code w (items_of es) no_item
+
+pub items_begin : (w : Scope) (first : Progress) (array : ℕ) (es : List (Option Expr × Expr)) → SoFar w first first array es 0 array []
+items_begin w first array es = record { begun = no_item; emits = λ start e. e; rest = refl }
+
+pub items_further : {s0 s1 s2 s3 first : Progress} (w : Scope) (array : ℕ) (es : List (Option Expr × Expr)) (i : ℕ) (e : Option Expr × Expr) (old new : List (Option KeyRef × Slot)) (key : Option KeyRef) (x made more : Slot)
     → i < length es → e ≡ get_or es i e → new ≡ old ++ (key, x) ∷ []
     → Emits s0 s1 (maybe_key w (maybe_of e.0)) (plain_maybe_key key) → Emits s1 s2 (code w (plain_expr e.1)) x.0
-    → ((s : Progress) (ys : List (Option PlainKeyRef × ℕ)) → Emits s0 s (items_code w (items_of (drop i es))) ys → Emits start s (items_code w (items_of es)) (map plain_item old ++ ys))
-    → (s : Progress) (ys : List (Option PlainKeyRef × ℕ)) → Emits s2 s (items_code w (items_of (drop (i + 1) es))) ys → Emits start s (items_code w (items_of es)) (map plain_item new ++ ys)
+    → Sets s2 s3 (put_source made.0 (plain_maybe_key key ∷ []) x.0) (place s2 + 1) more.0
+    → SoFar w first s0 array es i made.0 (map plain_item old) → SoFar w first s3 array es (i + 1) more.0 (map plain_item new)
 unfolding items_code
-items_further {s0} {s1} {s2} {start} w es i e old new key x lt is push d f go s ys k =
+items_further {s0} {s1} {s2} {s3} {first} w array es i e old new key x made more lt is push d f put so_far =
     let here : e ∷ drop (i + 1) es ≡ drop i es = sym (drop_here es i e lt is) in
-    let item : Option PlainKeyRef × ℕ = (plain_maybe_key key, x.0) in
-    let one : Emits s0 s (items_code w (items_of (e ∷ drop (i + 1) es))) (item ∷ ys) =
-    emits_both (λ (y : Option PlainKeyRef × ℕ) (zs : List (Option PlainKeyRef × ℕ)). y ∷ zs) (emits_both (λ (y : Option PlainKeyRef) (z : ℕ). (y, z)) d f) k in
-    subst (λ (l : List (Option PlainKeyRef × ℕ)). Emits start s (items_code w (items_of es)) l) (sym (pushed plain_item old new (key, x) ys push))
-    (go s (item ∷ ys) (subst (λ (l : List (Option Expr × Expr)). Emits s0 s (items_code w (items_of l)) (item ∷ ys)) here one))
+    let item : Code (Option PlainKeyRef × ℕ) = both (maybe_key w (maybe_of e.0)) (code w (plain_expr e.1)) (λ (y : Option PlainKeyRef) (z : ℕ). (y, z)) in
+    let last : map plain_item new ≡ map plain_item old ++ (plain_maybe_key key, x.0) ∷ [] = ap (map plain_item) push ∙ map-append plain_item old ((key, x) ∷ []) in
+    record {
+      begun = one_item so_far.begun item;
+      emits = λ start k.
+          (let one : Emits start s3 (one_item so_far.begun item) (more.0, map plain_item old ++ (plain_maybe_key key, x.0) ∷ []) =
+          emits_with (λ (two : Begun × (Option PlainKeyRef × ℕ)). put_source (two.0).0 ((two.1).0 ∷ []) (two.1).1) (λ (two : Begun × (Option PlainKeyRef × ℕ)) (y : ℕ). (let b : Begun = (y, (two.0).1 ++ two.1 ∷ []) in b))
+          (emits_both (λ (b : Begun) (one : Option PlainKeyRef × ℕ). (let two : Begun × (Option PlainKeyRef × ℕ) = (b, one) in two)) (so_far.emits start k) (emits_both (λ (y : Option PlainKeyRef) (z : ℕ). (let one : Option PlainKeyRef × ℕ = (y, z) in one)) d f)) put in
+          subst (λ (l : List (Option PlainKeyRef × ℕ)). Emits start s3 (one_item so_far.begun item) (more.0, l)) (sym last) one);
+      rest = ap (λ (l : List (Option Expr × Expr)). items_code w (items_of l) so_far.begun) here ∙ so_far.rest;
+    }
 
-pub items_end : {s0 start : Progress} (w : Scope) (es : List (Option Expr × Expr)) (i : ℕ) (items : List (Option KeyRef × Slot)) → length es ≤ i
-    → ((s : Progress) (ys : List (Option PlainKeyRef × ℕ)) → Emits s0 s (items_code w (items_of (drop i es))) ys → Emits start s (items_code w (items_of es)) (map plain_item items ++ ys))
-    → Emits start s0 (items_code w (items_of es)) (map plain_item items)
+pub items_end : {s0 first : Progress} (w : Scope) (array : ℕ) (es : List (Option Expr × Expr)) (i made : ℕ) (items : List (Option PlainKeyRef × ℕ)) → length es ≤ i → SoFar w first s0 array es i made items
+    → (start : Progress) → Emits start first no_item (array, []) → Emits start s0 (left (items_code w (items_of es) no_item) the_items) items
 unfolding items_code
-items_end {s0} {start} w es i items le go =
-    let none : Emits s0 s0 (items_code w (items_of [])) [] = emits_known s0 [] in
-    subst (λ (l : List (Option PlainKeyRef × ℕ)). Emits start s0 (items_code w (items_of es)) l) (append_none (map plain_item items))
-    (go s0 [] (subst (λ (l : List (Option Expr × Expr)). Emits s0 s0 (items_code w (items_of l)) []) (sym (drop_past es i le)) none))
+items_end {s0} {first} w array es i made items le so_far start k =
+    let all : so_far.begun ≡ items_code w (items_of es) no_item = ap (λ (l : List (Option Expr × Expr)). items_code w (items_of l) so_far.begun) (sym (drop_past es i le)) ∙ so_far.rest in
+    emits_left the_items (subst (λ (c : Code Begun). Emits start s0 c (made, items)) all (so_far.emits start k))
 
 pub length_of_keys : (ks : List (Option Expr)) → length_of_path (path_of ks) ≡ length ks
 unfolding length_of_path

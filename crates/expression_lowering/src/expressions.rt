@@ -1,17 +1,19 @@
 //! Expressions.
 
-ghost use Rattle.std.specs.Prelude.{◌≡◌, length, vec_len, map, true, false, IfOk};
+ghost use Rattle.std.specs.Prelude.{◌≡◌, [], length, vec_len, map, true, false, IfOk};
 ghost use Rattle.php_syntax.specs.Trees.{plain_expr, exprs_of, items_of, path_of, maybe_of, target_name, target_path, update_expr, member_expr, array_expr, join_expr, isset_expr, assign_expr, call_expr};
 ghost use Rattle.flow_code.specs.View.{slot_number, plain_item, plain_key_ref, plain_maybe_key};
-ghost use Rattle.flow_code.specs.Expressions.{code, codes, maybe_key, path_code, items_code, key_code, of_one, of_two, first_there, chosen, chosen_itself, variable, length_of_path, old_value, updated_at, filled};
+ghost use Rattle.flow_code.specs.Code.{left};
+ghost use Rattle.flow_code.specs.Expressions.{code, codes, maybe_key, path_code, no_item, the_items, items_code, key_code, of_one, of_two, first_there, chosen, chosen_itself, variable, length_of_path, old_value, updated_at, filled};
 ghost use Rattle.flow_lowering.specs.View.{progress};
-ghost use Rattle.flow_lowering.specs.Emits.{Emits};
+ghost use Rattle.flow_lowering.specs.Emits.{Progress, Emits};
 ghost use Rattle.function_scopes.specs.View.{scope_in};
 ghost use Rattle.expression_pieces.specs.Forms.{connected, source_for};
 
 use crate::alone::{lower_literal, lower_name, lower_request, lower_step, lower_text, number_key};
 use call_lowering::{LoweringError, finish_call};
 use expression_pieces::choices::{begin_itself, begin_there, branching, finish_copy, finish_truth};
+use expression_pieces::rows::{empty_array, finish_join, put_item};
 use expression_pieces::values::{Gives, operation_on_one, operation_on_two};
 use expression_pieces::writes::{finish_filled, finish_updated, lower_members, write};
 use flow_code::{KeyRef, Source, Work};
@@ -111,22 +113,27 @@ fn lower_path(
     Ok(path)
 }
 
-// The items of an array.
+// The items of an array, which are put one by one into the array in a slot, so far without items.
 #[cycle(expressions)]
 fn lower_items(
     alloc: Global,
     scope: &FunctionScope<'_>,
     items: &[(Option<Expr>, Expr)],
+    array: Slot,
     points: &mut PointBuilder,
 ) -> Result<Vec<(Option<KeyRef>, Slot)>, LoweringError>
     ensures { IfOk result
-        (λ lowered. Emits (progress points.old) (progress points.new)
-        (items_code (scope_in scope.now) (items_of items.now)) (map plain_item lowered.items)) }
+        (λ lowered. (start : Progress) → Emits start (progress points.old) no_item (array.0, []) →
+        Emits start (progress points.new)
+        (left (items_code (scope_in scope.now) (items_of items.now) no_item) the_items)
+        (map plain_item lowered.items)) }
 {
     let mut lowered = Vec::new(alloc);
+    let mut made = array;
     for item in items {
         let key = lower_maybe_key(alloc, scope, &item.0, points)?;
         let value = lower_expr(alloc, scope, &item.1, points)?;
+        made = put_item(alloc, made, &key, value, points)?;
         lowered.push((key, value))?;
     }
     Ok(lowered)
@@ -404,7 +411,8 @@ fn lower_array(
         (λ slot. Emits (progress points.old) (progress points.new)
         (code (scope_in scope.now) (array_expr (items_of items.now))) slot.0) }
 {
-    let items = lower_items(alloc, scope, items, points)?;
+    let array = empty_array(alloc, points)?;
+    let items = lower_items(alloc, scope, items, array, points)?;
     let slot = points.compute(Source::ArrayOf(items))?;
     Ok(slot)
 }
@@ -422,7 +430,7 @@ fn lower_join(
         (code (scope_in scope.now) (join_expr (exprs_of parts.now))) slot.0) }
 {
     let slots = lower_exprs(alloc, scope, parts, points)?;
-    let slot = points.compute(Source::Concat(slots))?;
+    let slot = finish_join(alloc, parts, slots, points)?;
     Ok(slot)
 }
 

@@ -8,5 +8,6 @@
 
 pub mod builtins;
 pub mod choices;
+pub mod rows;
 pub mod values;
 pub mod writes;

@@ -5,7 +5,7 @@ ghost use Rattle.text_base.specs.declared.limits.TheConstants.{TEXT_LIMIT};
 ghost use Rattle.plain_values.specs.Plain.{text};
 ghost use Rattle.php_values.specs.View.{plain_of};
 ghost use Rattle.flow_code.specs.Points.{literal_source};
-ghost use Rattle.flow_code.specs.View.{plain_source, plain_key_ref, slot_number};
+ghost use Rattle.flow_code.specs.View.{plain_source, plain_key_ref, plain_maybe_key, slot_number};
 ghost use Rattle.flow_code.specs.Code.{from_source};
 ghost use Rattle.flow_code.specs.Expressions.{literal};
 ghost use Rattle.flow_lowering.specs.View.{progress};
@@ -58,6 +58,30 @@ pub fn copy_key(alloc: Global, key: &KeyRef) -> Result<KeyRef, NoMemory>
         }
         KeyRef::Read(slot) => Ok(KeyRef::Read(*slot)),
     }
+}
+
+// A second key like this one, if there is one.
+fn copy_maybe(alloc: Global, key: &Option<KeyRef>) -> Result<Option<KeyRef>, NoMemory>
+    ensures { IfOk result (λ copy. plain_maybe_key copy ≡ plain_maybe_key key.now) }
+{
+    match key {
+        Some(key) => {
+            let copy = copy_key(alloc, key)?;
+            Ok(Some(copy))
+        }
+        None => Ok(None),
+    }
+}
+
+/// A key like this one in a row of its own.
+pub fn one_key(alloc: Global, key: &Option<KeyRef>) -> Result<Vec<Option<KeyRef>>, NoMemory>
+    ensures { IfOk result
+        (λ path. map plain_maybe_key path.items ≡ plain_maybe_key key.now ∷ []) }
+{
+    let key = copy_maybe(alloc, key)?;
+    let mut path = Vec::new(alloc);
+    path.push(key)?;
+    Ok(path)
 }
 
 /// A source that needs nothing before it.

@@ -41,6 +41,15 @@ computed a source = record {
   gives = λ t. t + a.slots;
 }
 
+-- the same, which leaves something made of what was left before and of the fresh slot
+abbrev pub computed_with : {A B : Type 0} → Code A → (A → PlainSource) → (A → ℕ → B) → Code B
+computed_with a source join = record {
+  size = a.size + 1;
+  slots = a.slots + 1;
+  points = λ p t. a.points p t ++ set_point (t + a.slots) (source (a.gives t)) (p + a.size + 1) ∷ [];
+  gives = λ t. join (a.gives t) (t + a.slots);
+}
+
 -- a fresh slot set to a source that needs nothing before it
 abbrev pub from_source : PlainSource → Code ℕ
 from_source source = computed (known source) (λ s. s)

@@ -12,7 +12,7 @@ use Rattle.flow_code.specs.declared.source.Work.{Work}
 use Rattle.flow_code.specs.declared.source.Work.TheVariants as work
 use Rattle.flow_code.specs.Points.{PlainKeyRef, int_ref, text_ref, read_ref, PlainSource, literal_source, copy_source, super_source, member_source, array_source, put_source, concat_source, number_source, truth_source, PlainPoint, set_point, call_point, branch_point}
 use Rattle.flow_code.specs.Variables.{Name, place_of}
-use Rattle.flow_code.specs.Code.{Code, known, left, both, computed, from_source}
+use Rattle.flow_code.specs.Code.{Code, known, left, both, computed, computed_with, from_source}
 use Rattle.flow_code.specs.Builtins.{builtin_source}
 
 -- what names stand for in a function: the variables, whose slots are numbered from the function's first one, and the functions of the
@@ -273,8 +273,32 @@ key_code (int_expr z) a = known (int_ref z)
 key_code (text_expr t) a = known (text_ref t)
 key_code e a = left a read_ref
 
+-- texts joined; a part that stands alone is joined with the empty text, so that a text that is too long faults here as well
+unfoldable pub join_code : PlainExprs → Code (List ℕ) → Code ℕ
+join_code (more_exprs e no_exprs) parts = computed (both parts (literal (text [])) (λ xs x. xs ++ x ∷ [])) concat_source
+join_code _ parts = computed parts concat_source
+
+-- the slot of an array that is put together, and its items so far
+abbrev pub Begun : Type 0
+Begun = ℕ × List (Option PlainKeyRef × ℕ)
+
+-- the items of an array that is put together
+abbrev pub the_items : Begun → List (Option PlainKeyRef × ℕ)
+the_items begun = begun.1
+
+-- an array without items
+abbrev pub no_item : Code Begun
+no_item = left (from_source (array_source [])) (λ x. (x, []))
+
+-- one more item, put behind the others into a fresh slot, so that a key that is none, a full array and one that is too deep fault before
+-- the next item is evaluated
+abbrev pub one_item : Code Begun → Code (Option PlainKeyRef × ℕ) → Code Begun
+one_item begun item =
+    let parts : Code (Begun × (Option PlainKeyRef × ℕ)) = both begun item (λ made one. (made, one)) in
+    computed_with parts (λ two. put_source (two.0).0 ((two.1).0 ∷ []) (two.1).1) (λ two x. (x, (two.0).1 ++ two.1 ∷ []))
+
 unfoldable mutual
-  unfolding key_code variable call_code update_code step_code function_in length_of_path
+  unfolding key_code variable call_code update_code step_code function_in length_of_path join_code
 
   -- the points of an expression, which leave its value in a slot
   pub code : Scope → PlainExpr → Code ℕ
@@ -285,8 +309,9 @@ unfoldable mutual
   code w (var_expr x) = from_source (copy_source (variable w x))
   code w (super_expr name) = from_source (super_source name)
   code w (member_expr a k) = computed (both (code w a) (key_code k (code w k)) (λ x key. member_source x key)) (λ source. source)
-  code w (array_expr items) = computed (items_code w items) array_source
-  code w (join_expr parts) = computed (codes w parts) concat_source
+  -- the items one by one, and then the array of them all
+  code w (array_expr items) = computed (left (items_code w items no_item) the_items) array_source
+  code w (join_expr parts) = join_code parts (codes w parts)
   code w (neg_expr a) = of_one work.Neg number_source (code w a)
   code w (not_expr a) = of_one work.Not truth_source (code w a)
   code w (arith_expr sign a b) = of_two (work.Arith sign) number_source (code w a) (code w b)
@@ -319,7 +344,7 @@ unfoldable mutual
   path_code w no_keys = known []
   path_code w (more_keys k ks) = both (maybe_key w k) (path_code w ks) (λ first rest. first ∷ rest)
 
-  -- the points of the items of an array literal, a key before its value, and the keys and the slots of the values
-  pub items_code : Scope → PlainItems → Code (List (Option PlainKeyRef × ℕ))
-  items_code w no_items = known []
-  items_code w (more_items k e is) = both (both (maybe_key w k) (code w e) (λ key x. (key, x))) (items_code w is) (λ item rest. item ∷ rest)
+  -- the points of the items of an array literal behind those so far, a key before its value
+  pub items_code : Scope → PlainItems → Code Begun → Code Begun
+  items_code w no_items begun = begun
+  items_code w (more_items k e is) begun = items_code w is (one_item begun (both (maybe_key w k) (code w e) (λ key x. (key, x))))

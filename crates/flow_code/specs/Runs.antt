@@ -1,6 +1,7 @@
 -- What a run of points does: it follows the points with values in slots, and ends where the first function returns or at a `Quit`.
 use Rattle.std.specs.Prelude.{◌≡◌, ℕ, suc, true, false, not, if◌then◌else◌, List, [], ◌∷◌, ◌++◌, Option, Some, None, map, nat_eq, Result, Ok, Err}
 use Rattle.std.specs.List.{list_all}
+use Rattle.text_base.specs.declared.limits.TheConstants.{CALL_LIMIT}
 use Rattle.plain_values.specs.Plain.{Plain, PlainKey, Pairs, null, flag, int, text, array, empty, pair}
 use Rattle.plain_values.specs.Text.{text_of, truth}
 use Rattle.plain_values.specs.Arithmetic.{negation_of}
@@ -169,9 +170,9 @@ pub data RunsFrom (flow : PlainFlow) (r : PlainRequest) : ℕ → ℕ → Frame 
   quit_with : (room p x : ℕ) (f : Frame) (t : List ℕ)
       → point_at flow p ≡ Some (quit_point (Some x)) → f.slots x ≡ text t → RunsFrom flow r room p f t exited
 
--- the first function is entered with all slots null, and 256 calls may be open at once; the run ends and prints these bytes
+-- the first function is entered with all slots null, and only so many calls may be open at once; the run ends and prints these bytes
 pub record FlatRun (flow : PlainFlow) (r : PlainRequest) (printed : List ℕ) : Type 0 where
   pub main : PlainFlowFunction
   pub is_main : function_at flow 0 ≡ Some main
   pub end : FlowEnd
-  pub runs : RunsFrom flow r 256 main.entry_of (fresh (λ x. null)) printed end
+  pub runs : RunsFrom flow r CALL_LIMIT main.entry_of (fresh (λ x. null)) printed end

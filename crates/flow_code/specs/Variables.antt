@@ -1,58 +1,40 @@
 -- The variables of a function: the names that stand in its parameters and its body, each once, in the order in which they are first met
 -- where loops are read as they run: what stands behind each turn of a `for` after its body.
 use Rattle.std.specs.Prelude.{ℕ, suc, List, [], ◌∷◌, ◌++◌, Option, Some, None, if◌then◌else◌, bytes_eq, map}
-use Rattle.php_syntax.specs.Trees.{PlainExpr, null_expr, flag_expr, int_expr, text_expr, var_expr, super_expr, member_expr, array_expr, join_expr, neg_expr, not_expr, arith_expr, compare_expr, and_expr, or_expr, coalesce_expr, choice_expr, isset_expr, empty_expr, assign_expr, update_expr, step_expr, call_expr, MaybeExpr, no_expr, some_expr, PlainExprs, no_exprs, more_exprs, PlainItems, no_items, more_items, PlainPath, no_keys, more_keys, PlainStmt, inline_stmt, echo_stmt, run_stmt, if_stmt, while_stmt, do_while_stmt, for_stmt, each_stmt, break_stmt, continue_stmt, return_stmt, include_stmt, quit_stmt, PlainStmts, no_stmts, more_stmts, PlainArms, no_arms, more_arms, PlainParam, PlainFunction}
+use Rattle.php_syntax.specs.Trees.{PlainExpr, var_expr, assign_expr, update_expr, step_expr, MaybeExpr, PlainExprs, PlainItems, PlainPath, PlainStmt, inline_stmt, echo_stmt, run_stmt, if_stmt, while_stmt, do_while_stmt, for_stmt, each_stmt, break_stmt, continue_stmt, return_stmt, include_stmt, quit_stmt, PlainStmts, no_stmts, more_stmts, PlainArms, no_arms, more_arms, PlainParam, PlainFunction}
+use Rattle.program_expressions.specs.Collected.{collected, maybe_collected, part_collected, item_collected, path_collected}
 
 -- a variable's name
 abbrev pub Name : Type 0
 Name = List ℕ
 
-unfoldable mutual
-  -- the variables that stand in an expression, from the left, as often as they stand there; those of the request are none
-  pub names_in : PlainExpr → List Name
-  names_in null_expr = []
-  names_in (flag_expr b) = []
-  names_in (int_expr z) = []
-  names_in (text_expr t) = []
-  names_in (var_expr x) = x ∷ []
-  names_in (super_expr name) = []
-  names_in (member_expr a k) = names_in a ++ names_in k
-  names_in (array_expr items) = item_names items
-  names_in (join_expr parts) = names_in_all parts
-  names_in (neg_expr a) = names_in a
-  names_in (not_expr a) = names_in a
-  names_in (arith_expr sign a b) = names_in a ++ names_in b
-  names_in (compare_expr sign a b) = names_in a ++ names_in b
-  names_in (and_expr a b) = names_in a ++ names_in b
-  names_in (or_expr a b) = names_in a ++ names_in b
-  names_in (coalesce_expr a b) = names_in a ++ names_in b
-  names_in (choice_expr c m b) = names_in c ++ (maybe_names m ++ names_in b)
-  names_in (isset_expr parts) = names_in_all parts
-  names_in (empty_expr a) = names_in a
-  names_in (assign_expr x path e) = x ∷ path_names path ++ names_in e
-  names_in (update_expr sign x path e) = x ∷ path_names path ++ names_in e
-  names_in (step_expr x up before) = x ∷ []
-  names_in (call_expr name args) = names_in_all args
+-- the variable that an expression itself reads or writes, if it does; those of the request are none
+unfoldable pub own_names : PlainExpr → List Name
+own_names (var_expr x) = x ∷ []
+own_names (assign_expr x path e) = x ∷ []
+own_names (update_expr sign x path e) = x ∷ []
+own_names (step_expr x up before) = x ∷ []
+own_names _ = []
 
-  -- the variables in an expression that may be left out
-  pub maybe_names : MaybeExpr → List Name
-  maybe_names no_expr = []
-  maybe_names (some_expr e) = names_in e
+-- the variables that stand in an expression, from the left, as often as they stand there
+abbrev pub names_in : PlainExpr → List Name
+names_in e = collected own_names e
 
-  -- the variables in expressions, from the left
-  pub names_in_all : PlainExprs → List Name
-  names_in_all no_exprs = []
-  names_in_all (more_exprs e es) = names_in e ++ names_in_all es
+-- the variables in an expression that may be left out
+abbrev pub maybe_names : MaybeExpr → List Name
+maybe_names e = maybe_collected own_names e
 
-  -- the variables in the items of an array literal, from the left, a key before its value
-  pub item_names : PlainItems → List Name
-  item_names no_items = []
-  item_names (more_items k e is) = maybe_names k ++ (names_in e ++ item_names is)
+-- the variables in expressions
+abbrev pub names_in_all : PlainExprs → List Name
+names_in_all es = part_collected own_names es
 
-  -- the variables in the keys of a target, from the left
-  pub path_names : PlainPath → List Name
-  path_names no_keys = []
-  path_names (more_keys k ks) = maybe_names k ++ path_names ks
+-- the variables in the items of an array literal
+abbrev pub item_names : PlainItems → List Name
+item_names is = item_collected own_names is
+
+-- the variables in the keys of a target
+abbrev pub path_names : PlainPath → List Name
+path_names ks = path_collected own_names ks
 
 -- the variable of the key of a `foreach`, if it has one
 abbrev pub key_names : Option Name → List Name
@@ -60,7 +42,7 @@ key_names None = []
 key_names (Some x) = x ∷ []
 
 unfoldable mutual
-  unfolding names_in
+  unfolding collected own_names
 
   -- the variables that stand in a statement, in the order of a run that goes through each of its parts once
   pub names_of_stmt : PlainStmt → List Name

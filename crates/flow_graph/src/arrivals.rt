@@ -2,7 +2,7 @@
 
 ghost use Rattle.std.specs.Prelude.{◌≡◌, ◌<◌, ◌++◌, All, length, map, vec_len, IfOk, OnOk};
 ghost use Rattle.flow_code.specs.View.{plain_flow_function};
-ghost use Rattle.numbered_sets.specs.Places.{ArePlaces};
+ghost use Rattle.numbered_sets.specs.Places.{ArePlaces, AreInOrder};
 ghost use Rattle.flow_graph.specs.Steps.{exits_seen, steps_seen};
 ghost use Rattle.flow_graph.specs.Arrivals.{target, within, from_exits, from_steps, from_functions};
 
@@ -117,6 +117,8 @@ pub fn arrivals_of(
         ++ from_functions (length steps.now) 0 (map plain_flow_function functions.now)) }
     ensures at { IfOk result
         (λ arrivals. ArePlaces (map target arrivals.all.items) arrivals.at.items) }
+    ensures order { IfOk result
+        (λ arrivals. AreInOrder (map target arrivals.all.items) arrivals.at.items) }
     ensures len { IfOk result (λ arrivals. vec_len arrivals.at ≡ length steps.now) }
 {
     let count = steps.len() as u64;

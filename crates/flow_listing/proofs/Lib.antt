@@ -1,4 +1,4 @@
 mod Entries
-mod Exact
+pub mod Exact
 mod Closed
 mod Listing

@@ -1,8 +1,8 @@
 //! The lister of a program.
 
-ghost use Rattle.std.specs.Prelude.{IfOk};
+ghost use Rattle.std.specs.Prelude.{◌≡◌, IfOk};
 ghost use Rattle.flow_code.specs.View.{plain_flow};
-ghost use Rattle.flow_tables.specs.Tables.{lists_of};
+ghost use Rattle.flow_tables.specs.Tables.{flow_of, lists_of, AreTables};
 ghost use Rattle.page_extraction.specs.Ends.{IsExactLister};
 ghost use Rattle.flow_listing.specs.Asked.{IsAsked};
 
@@ -24,7 +24,9 @@ impl<'a> FlowLister<'a> {
     /// The lister of a program. Linear in the program, and for each slot that is joined where
     /// several points lead, in these points.
     pub fn new(alloc: Global, flow: &'a FlowProgram) -> Result<FlowLister<'a>, NoMemory>
-        ensures { IfOk result
+        ensures flow { IfOk result (λ lister. flow_of lister.tables ≡ plain_flow flow.now) }
+        ensures tables { IfOk result (λ lister. AreTables lister.tables) }
+        ensures exact { IfOk result
             (λ lister. IsExactLister (plain_flow flow.now) (IsAsked lister.tables)
             (lists_of lister.tables)) }
     {

@@ -1,7 +1,7 @@
 -- Code that is emitted piece by piece is the code put together.
 use Rattle.std.proofs.Common.{◌≡◌, ◌∙◌, ℕ, ◌+◌, List, [], ◌∷◌, ◌++◌, length, refl, sym, ap, arith, append_assoc, length-append}
 use Rattle.flow_code.specs.Points.{PlainPoint, PlainSource, set_point}
-use Rattle.flow_code.specs.Code.{Code, known, left, both, computed, from_source}
+use Rattle.flow_code.specs.Code.{Code, known, left, both, computed, computed_with, from_source}
 use Rattle.flow_lowering.specs.Emits.{Progress, place, Puts, Sets, Emits}
 
 append_none : {X : Type 0} (xs : List X) → xs ++ [] ≡ xs
@@ -73,6 +73,13 @@ emits_computed {A} {s0} {s1} {s2} {a} {x} {y} source d p =
       size = omega (arith, d.size, puts_length p.puts);
       gives = p.slot ∙ slot;
     }
+
+-- the same, where something is made of what was left before and of the fresh slot
+pub emits_with : {A B : Type 0} {s0 s1 s2 : Progress} {a : Code A} {x : A} {y : ℕ} → (source : A → PlainSource) → (join : A → ℕ → B) → Emits s0 s1 a x → Sets s1 s2 (source x) (place s1 + 1) y
+    → Emits s0 s2 (computed_with a source join) (join x y)
+emits_with {A} {B} {s0} {s1} {s2} {a} {x} {y} source join d p =
+    let e = emits_computed source d p in
+    record { puts = e.puts; size = e.size; gives = λ i. join (d.gives i) (e.gives i) }
 
 -- a fresh slot is set to a source that needs nothing before it
 pub emits_source : {s0 s1 : Progress} {y : ℕ} → (source : PlainSource) → Sets s0 s1 source (place s0 + 1) y → Emits s0 s1 (from_source source) y

@@ -23,8 +23,8 @@ pub ends_self : {A : Type 0} (r : Run A) → EndsAs r r
 ends_self (Going v s) = refl
 ends_self (Over Ended w) = refl
 ends_self (Over (Faulted fault) w) = tt
-ends_self (Over Spent w) = tt
-ends_self (Over Deep w) = tt
+ends_self (Over Spent w) = refl
+ends_self (Over Deep w) = refl
 
 pub ends_same : {A : Type 0} (r r' : Run A) → r' ≡ r → EndsAs r r'
 ends_same r r' e = subst (EndsAs r) (sym e) (ends_self r)
@@ -44,48 +44,6 @@ pub flagged : (c : Result Bool Fault) (s : State) → result_of (go_on c (λ ans
 unfolding result_of ◌then_do◌
 flagged (Ok b) s = refl
 flagged (Err fault) s = refl
-
-one_join : (v u : Plain) (b : Bool) → (if b then Ok (text (text_of v ++ [])) else Err Long) ≡ Ok u → concatenated (v ∷ []) ≡ Ok u
-unfolding concatenated
-one_join v u true e = ap (λ t. Ok (text t)) (sym (append-nil (text_of v))) ∙ e
-one_join v u false e = cc
-
-pub join_value : (vs : List Plain) (u : Plain) → join_of vs ≡ Ok u → concatenated vs ≡ Ok u
-unfolding concatenated
-join_value [] u e = e
-join_value (v ∷ []) u e = one_join v u (nat_le (length (text_of v ++ [])) 16777216) e
-join_value (v ∷ a ∷ vs) u e = e
-
--- all items of an array literal, evaluated
-unfoldable pub item_values : Environment → PlainItems → State → Run (List (Option Plain × Plain))
-item_values w no_items s = Going [] s
-item_values w (more_items k e is) s = (maybe_value w k s then_do λ key s. (value w e s then_do λ new s. Going (key, new) s)) then_do λ item s. (item_values w is s then_do λ rest s. Going (item ∷ rest) s)
-
-added : (made made' : Plain) (item : Option Plain × Plain) (r : Run (List (Option Plain × Plain))) → add_item made item.0 item.1 ≡ Ok made' → (r then_do λ rest s. result_of (add_items rest made') s) ≡ ((r then_do λ rest s. Going (item ∷ rest) s) then_do λ items s. result_of (add_items items made) s)
-unfolding ◌then_do◌
-added made made' item (Going rest s) e = ap (λ a. result_of (go_on a (add_items rest)) s) (sym e)
-added made made' item (Over end w) e = refl
-
-module _ (w : Environment) (is : PlainItems) (rest : (made : Plain) (s : State) → EndsAs (items_in w is made s) (item_values w is s then_do λ items s. result_of (add_items items made) s)) where
-  by_added : (made : Plain) (item : Option Plain × Plain) (s : State) (c : Result Plain Fault) → add_item made item.0 item.1 ≡ c → EndsAs (result_of c s then_do λ made s. items_in w is made s) ((item_values w is s then_do λ rest s. Going (item ∷ rest) s) then_do λ items s. result_of (add_items items made) s)
-  unfolding ◌then_do◌ result_of
-  by_added made item s (Ok made') e = subst (EndsAs (items_in w is made' s)) (added made made' item (item_values w is s) e) (rest made' s)
-  by_added made item s (Err fault) e = tt
-
-  by_value : (made : Plain) (key : Option Plain) (r : Run Plain) → EndsAs (r then_do λ new s. (result_of (add_item made key new) s then_do λ made s. items_in w is made s)) (((r then_do λ new s. Going (key, new) s) then_do λ item s. (item_values w is s then_do λ rest s. Going (item ∷ rest) s)) then_do λ items s. result_of (add_items items made) s)
-  unfolding ◌then_do◌
-  by_value made key (Going new s) = by_added made (key, new) s (add_item made key new) refl
-  by_value made key (Over end printed) = ends_self (Over end printed)
-
-  by_key : (made : Plain) (e : State → Run Plain) (r : Run (Option Plain)) → EndsAs (r then_do λ key s. (e s then_do λ new s. (result_of (add_item made key new) s then_do λ made s. items_in w is made s))) (((r then_do λ key s. (e s then_do λ new s. Going (key, new) s)) then_do λ item s. (item_values w is s then_do λ rest s. Going (item ∷ rest) s)) then_do λ items s. result_of (add_items items made) s)
-  unfolding ◌then_do◌
-  by_key made e (Going key s) = by_value made key (e s)
-  by_key made e (Over end printed) = ends_self (Over end printed)
-
-pub items_agree : (w : Environment) (is : PlainItems) (made : Plain) (s : State) → EndsAs (items_in w is made s) (item_values w is s then_do λ items s. result_of (add_items items made) s)
-unfolding value item_values ◌then_do◌ result_of
-items_agree w no_items made s = refl
-items_agree w (more_items k e is) made s = by_key w is (items_agree w is) made (value w e) (maybe_value w k s)
 
 -- a write with the path that the subscripts are
 not_empty : (first : Result Step Fault) (rest : Result (List Step) Fault) → go_on first (λ a. go_on rest (λ b. Ok (a ∷ b))) ≡ Ok [] → ⊥

@@ -20,7 +20,7 @@ use Rattle.flow_code.specs.Expressions.{Scope, function_in, literal, default_cod
 use Rattle.flow_code.specs.Builtins.{builtin_source}
 use Rattle.flow_code.specs.Runs.{Slots, Frame, set_slot, source_value, worked}
 use Rattle.flow_runs.specs.Defaults.{IsDefault, AreDefaults, HaveDefaults}
-use Rattle.flow_runs.proofs.Ends.{World, Follows, here, land, onward, then_same}
+use Rattle.flow_runs.proofs.Ends.{World, Follows, Meets, meets_same, here, land, onward, then_same}
 use Rattle.flow_runs.proofs.Has.{has_front, has_back, two_long, last_long}
 use Rattle.flow_runs.proofs.Frames.{Shows, kept_same, kept_join}
 use Rattle.flow_runs.proofs.Codes.{at_slot, Did, Does, bind_did, does_same, does_known, does_both, does_known_computed, does_computed, did_set, sets}
@@ -51,7 +51,7 @@ handed f vs = take (length f.params_of) vs ++ map default_of (drop (length vs) f
 abbrev pub CallsDo : World → List PlainFunction → Type 0
 CallsDo m fs = (name : Name) (n : ℕ) (f : PlainFunction) → builtin_named name ≡ None → function_in 1 fs name ≡ Some (n, f)
     → (p x next : ℕ) (args : List ℕ) (g : Frame) (s : State) (vs : List Plain) → point_at m.flow p ≡ Some (call_point x n args next) → map g.slots args ≡ handed f vs
-    → Follows m Plain p g s.printed (call_within m.request fs m.room name vs s) (Came x next g s)
+    → Follows m 0 Plain p g s.left s.printed (call_within m.request fs m.room name vs s) (Came x next g s)
 
 by_builtin : (o : Option Builtin) (b : Builtin) (vs : List Plain) (own : State → Run Plain) (s : State) → o ≡ Some b → builtin_or o vs own s ≡ result_of (builtin_value b vs) s
 unfolding builtin_or
@@ -115,9 +115,9 @@ found_defaults (g ∷ fs) k n f name h e = by_test (found_defaults fs (k + 1) n 
     by_test go true e = let same : g ≡ f = ap (second g) e in subst (λ f. AreDefaults f.params_of) same h.0
     by_test go false e = go e
 
-pub neg_value : (r : PlainRequest) (f : Slots) (x : ℕ) (v : Plain) → negation_of (f x) ≡ Ok v → source_value r f (number_source work.Neg (x ∷ [])) ≡ Ok v
+pub neg_value : (r : PlainRequest) (f : Slots) (x : ℕ) → Meets (source_value r f (number_source work.Neg (x ∷ []))) (negation_of (f x))
 unfolding source_value worked
-neg_value r f x v e = e
+neg_value r f x = meets_same _ _ refl
 
 pub shows_same : (w : Scope) (s s' : State) (f : Frame) → s'.variables ≡ s.variables → Shows w s f → Shows w s' f
 shows_same w s s' f e h x hx = h x hx ∙ ap (λ vs. value_in vs x) (sym e)
@@ -168,14 +168,14 @@ module _ {m : World} {w : Scope} where
             let many : number ≡ length vs = sym (ap length (sym gives1) ∙ map_long g1.slots (args.gives t) ∙ count t) in
             let given : map g2.slots slots ≡ handed fn vs = map_both g2.slots (take (length fn.params_of) (args.gives t)) (rest.gives (t + args.slots)) ∙ ap₂ (λ (us vs : List Plain). us ++ vs) (map_take g2.slots (length fn.params_of) (args.gives t) ∙ ap (take (length fn.params_of)) same) (did.gives ∙ ap (λ n. map default_of (drop n fn.params_of)) many) in
             onward (calls name n fn not_builtin found q2 x next slots g2 s1 vs at' given) (λ v s3 q3 g3 came.
-            subst (λ q. Follows m Plain q g3 s3.printed (Going v s3) (Did w ℕ Plain all at_slot t (p + all.size) f)) (sym came.at) (subst (λ g. Follows m Plain next g s3.printed (Going v s3) (Did w ℕ Plain all at_slot t (p + all.size) f)) (sym came.frame)
+            subst (λ q. Follows m 0 Plain q g3 s3.left s3.printed (Going v s3) (Did w ℕ Plain all at_slot t (p + all.size) f)) (sym came.at) (subst (λ g. Follows m 0 Plain next g s3.left s3.printed (Going v s3) (Did w ℕ Plain all at_slot t (p + all.size) f)) (sym came.frame)
             (here (did_set {c = all} {q = p + all.size} x next v s3 g2 refl (omega arith) (omega arith) le (shows_same w s1 s3 g2 came.variables did.shows) (kept_join kept1 did.kept (omega arith) (omega arith))))))));
       }
 
   pub does_call : {args : Code (List ℕ)} {run : State → Run (List Plain)} (name : Name) (trees : PlainExprs) (b : Option Builtin) (own : Option (ℕ × PlainFunction)) → builtin_named name ≡ b → function_in 1 w.functions name ≡ own → CallsDo m w.functions → HaveDefaults w.functions → ((t : ℕ) → length (args.gives t) ≡ number_of trees) → ((s t : State) (vs : List Plain) → run s ≡ Going vs t → Literals trees vs) → Does m w (List ℕ) (List Plain) args read_slots run → Does m w ℕ Plain (call_code b own trees args) at_slot (λ s. run s then_do λ vs s. call_within m.request w.functions m.room name vs s)
   unfolding call_code call_own source_value result_of
   does_call {args} {run} name trees (Some b) own eb eo calls defaults count literals d =
-      does_same _ _ (λ s. then_same (run s) _ _ (λ vs t. sym (call_builtin m.request w.functions m.room name b vs t eb))) (does_known_computed (Literals trees) (builtin_source b trees) (builtin_value b) literals (λ f xs v k e. call_value m.request f b trees xs k ∙ e) d)
+      does_same _ _ (λ s. then_same (run s) _ _ (λ vs t. sym (call_builtin m.request w.functions m.room name b vs t eb))) (does_known_computed (Literals trees) (builtin_source b trees) (builtin_value b) literals (λ f xs k. meets_same _ _ (call_value m.request f b trees xs k)) d)
   does_call {args} {run} name trees None None eb eo calls defaults count literals d =
-      does_same _ _ (λ s. then_same (run s) _ _ (λ vs t. sym (call_missing m.request w.functions m.room name vs t eb (missing w.functions 1 name eo)))) (does_computed (λ xs. literal_source null) (λ vs. Ok null) (λ f xs v e. e) d)
+      does_same _ _ (λ s. then_same (run s) _ _ (λ vs t. sym (call_missing m.request w.functions m.room name vs t eb (missing w.functions 1 name eo)))) (does_computed (λ xs. literal_source null) (λ vs. Ok null) (λ f xs. refl) d)
   does_call name trees None (Some found) eb eo calls defaults count literals d = does_called name found.0 (number_of trees) found.1 calls eb eo (found_defaults w.functions 1 found.0 found.1 name defaults eo) count d

@@ -9,10 +9,10 @@ use Rattle.script_meaning.specs.Requests.{PlainRequest}
 use Rattle.script_meaning.specs.Runs.{State, Run, Going, ◌then_do◌, result_of}
 use Rattle.flow_code.specs.declared.source.Work.TheVariants as work
 use Rattle.flow_code.specs.Points.{PlainSource, copy_source, truth_source, set_point, branch_point, point_at}
-use Rattle.flow_code.specs.Code.{Code, known, left, both, computed}
+use Rattle.flow_code.specs.Code.{Code, known, left, both, computed, computed_with}
 use Rattle.flow_code.specs.Expressions.{Scope, both_true, one_true, first_there, chosen, chosen_itself}
 use Rattle.flow_code.specs.Runs.{Slots, Frame, set_slot, source_value, worked}
-use Rattle.flow_runs.proofs.Ends.{World, Post, Follows, after, here, bind, knows, onward, computes, EndsAs, follows_as, set_comes, branch_comes}
+use Rattle.flow_runs.proofs.Ends.{World, Post, Follows, Meets, after, here, bind, knows, onward, computes, EndsAs, follows_as, set_comes, branch_comes}
 use Rattle.flow_runs.proofs.Has.{HasAt, has_front, has_back, two_long, mid_long, last_long}
 use Rattle.flow_runs.proofs.Frames.{slot_same, slot_other, free, Shows, Kept, kept_same, kept_join, kept_temporary, shows_temporary}
 
@@ -31,7 +31,7 @@ pub record Does (m : World) (w : Scope) (A V : Type 0) (c : Code A) (read : Slot
   pub long : (p t : ℕ) → length (c.points p t) ≡ c.size
   -- what it leaves is read in its own slots
   pub reads : (t : ℕ) (f g : Slots) → ((y : ℕ) → t ≤ y → y < t + c.slots → f y ≡ g y) → read f (c.gives t) ≡ read g (c.gives t)
-  pub follows : (p t : ℕ) (f : Frame) (s : State) → HasAt m.flow p (c.points p t) → free w ≤ t → Shows w s f → Follows m V p f s.printed (run s) (Did w A V c read t (p + c.size) f)
+  pub follows : (p t : ℕ) (f : Frame) (s : State) → HasAt m.flow p (c.points p t) → free w ≤ t → Shows w s f → Follows m 0 V p f s.left s.printed (run s) (Did w A V c read t (p + c.size) f)
 
 module _ {w : Scope} where
   -- a temporary slot was set, from which the value is read
@@ -44,27 +44,31 @@ module _ {w : Scope} where
   }
 
 module _ {m : World} where
-  pub sets : {A : Type 0} {p x next : ℕ} {source : PlainSource} {f : Frame} {P : Post A} {v : Plain} {a : A} (s : State) → point_at m.flow p ≡ Some (set_point x source next) → source_value m.request f.slots source ≡ Ok v → P a s next (set_slot f x v) → Follows m A p f s.printed (Going a s) P
+  pub sets : {A : Type 0} {p x next : ℕ} {source : PlainSource} {f : Frame} {P : Post A} {v : Plain} {a : A} (s : State) → point_at m.flow p ≡ Some (set_point x source next) → source_value m.request f.slots source ≡ Ok v → P a s next (set_slot f x v) → Follows m 0 A p f s.left s.printed (Going a s) P
   sets {p} {x} {next} {source} {f} {v} s at is holds = after (set_comes m p x next source f v s.printed at is) (here holds)
 
-  pub branches : {A : Type 0} {p x a b : ℕ} {f : Frame} {out : List ℕ} {r1 r2 : Run A} {P : Post A} (v : Bool) → point_at m.flow p ≡ Some (branch_point x a b) → truth (f.slots x) ≡ v → (v ≡ true → Follows m A a f out r1 P) → (v ≡ false → Follows m A b f out r2 P) → Follows m A p f out (if v then r1 else r2) P
-  branches {p} {x} {a} {b} {f} {out} true at is h1 h2 = after (branch_comes m p x a b f out true at is) (h1 refl)
-  branches {p} {x} {a} {b} {f} {out} false at is h1 h2 = after (branch_comes m p x a b f out false at is) (h2 refl)
+  pub branches : {A : Type 0} {c p x a b : ℕ} {f : Frame} {n : ℕ} {out : List ℕ} {r1 r2 : Run A} {P : Post A} (v : Bool) → point_at m.flow p ≡ Some (branch_point x a b) → truth (f.slots x) ≡ v → (v ≡ true → Follows m c A a f n out r1 P) → (v ≡ false → Follows m c A b f n out r2 P) → Follows m c A p f n out (if v then r1 else r2) P
+  branches {p = p} {x} {a} {b} {f} {out = out} true at is h1 h2 = after (branch_comes m p x a b f out true at is) (h1 refl)
+  branches {p = p} {x} {a} {b} {f} {out = out} false at is h1 h2 = after (branch_comes m p x a b f out false at is) (h2 refl)
 
   -- the same where the slot is true where the test is not
-  pub branches_not : {A : Type 0} {p x a b : ℕ} {f : Frame} {out : List ℕ} {r1 r2 : Run A} {P : Post A} (v : Bool) → point_at m.flow p ≡ Some (branch_point x a b) → truth (f.slots x) ≡ not v → (v ≡ true → Follows m A b f out r1 P) → (v ≡ false → Follows m A a f out r2 P) → Follows m A p f out (if v then r1 else r2) P
-  branches_not {p} {x} {a} {b} {f} {out} true at is h1 h2 = after (branch_comes m p x a b f out false at is) (h1 refl)
-  branches_not {p} {x} {a} {b} {f} {out} false at is h1 h2 = after (branch_comes m p x a b f out true at is) (h2 refl)
+  pub branches_not : {A : Type 0} {c p x a b : ℕ} {f : Frame} {n : ℕ} {out : List ℕ} {r1 r2 : Run A} {P : Post A} (v : Bool) → point_at m.flow p ≡ Some (branch_point x a b) → truth (f.slots x) ≡ not v → (v ≡ true → Follows m c A b f n out r1 P) → (v ≡ false → Follows m c A a f n out r2 P) → Follows m c A p f n out (if v then r1 else r2) P
+  branches_not {p = p} {x} {a} {b} {f} {out = out} true at is h1 h2 = after (branch_comes m p x a b f out false at is) (h1 refl)
+  branches_not {p = p} {x} {a} {b} {f} {out = out} false at is h1 h2 = after (branch_comes m p x a b f out true at is) (h2 refl)
 
 module _ {m : World} {w : Scope} where
-  pub bind_did : {A V B : Type 0} {c : Code A} {read : Slots → A → V} {t q : ℕ} {f : Frame} {p : ℕ} {f0 : Frame} {out : List ℕ} {run : Run V} {Q : Post B} (go : V → State → Run B) → Follows m V p f0 out run (Did w A V c read t q f) → ((s : State) (g : Frame) (v : V) → read g.slots (c.gives t) ≡ v → Shows w s g → Kept w t f g → Follows m B q g s.printed (go v s) Q) → Follows m B p f0 out (run then_do go) Q
-  bind_did {A} {V} {B} {Q} go h next = bind h (λ v s p g d. subst (λ p. Follows m B p g s.printed (go v s) Q) (sym d.at) (next s g v d.gives d.shows d.kept))
+  pub bind_did : {A V B : Type 0} {c : Code A} {read : Slots → A → V} {t q : ℕ} {f : Frame} {k p : ℕ} {f0 : Frame} {n : ℕ} {out : List ℕ} {run : Run V} {Q : Post B} (go : V → State → Run B) → Follows m 0 V p f0 n out run (Did w A V c read t q f) → ((s : State) (g : Frame) (v : V) → read g.slots (c.gives t) ≡ v → Shows w s g → Kept w t f g → Follows m k B q g s.left s.printed (go v s) Q) → Follows m k B p f0 n out (run then_do go) Q
+  bind_did {A} {V} {B} {k = k} {Q = Q} go h next = bind h (λ v s p g d. subst (λ p. Follows m k B p g s.left s.printed (go v s) Q) (sym d.at) (next s g v d.gives d.shows d.kept))
+
+  -- the same, with what is known of the value
+  pub bind_known : {A V B : Type 0} {c : Code A} {read : Slots → A → V} {t q : ℕ} {f : Frame} {k p : ℕ} {f0 : Frame} {n : ℕ} {out : List ℕ} {run : Run V} {Q : Post B} (K : V → Type 0) (go : V → State → Run B) → ((v : V) (s : State) → run ≡ Going v s → K v) → Follows m 0 V p f0 n out run (Did w A V c read t q f) → ((s : State) (g : Frame) (v : V) → read g.slots (c.gives t) ≡ v → Shows w s g → Kept w t f g → K v → Follows m k B q g s.left s.printed (go v s) Q) → Follows m k B p f0 n out (run then_do go) Q
+  bind_known {A} {V} {B} {k = k} {run = run} {Q = Q} K go known h next = bind (knows K run known h) (λ v s p g both. let d = both.0 in subst (λ p. Follows m k B p g s.left s.printed (go v s) Q) (sym d.at) (next s g v d.gives d.shows d.kept both.1))
 
   pub does_as : {A V : Type 0} {c : Code A} {read : Slots → A → V} (run run' : State → Run V) → ((s : State) → EndsAs (run s) (run' s)) → Does m w A V c read run' → Does m w A V c read run
   does_as run run' e d = record { long = d.long; reads = d.reads; follows = λ p t f s has le shows. follows_as (run s) (run' s) (e s) (d.follows p t f s has le shows) }
 
   pub does_same : {A V : Type 0} {c : Code A} {read : Slots → A → V} (run run' : State → Run V) → ((s : State) → run' s ≡ run s) → Does m w A V c read run' → Does m w A V c read run
-  does_same {A} {V} {c} {read} run run' e d = record { long = d.long; reads = d.reads; follows = λ p t f s has le shows. subst (λ r. Follows m V p f s.printed r (Did w A V c read t (p + c.size) f)) (e s) (d.follows p t f s has le shows) }
+  does_same {A} {V} {c} {read} run run' e d = record { long = d.long; reads = d.reads; follows = λ p t f s has le shows. subst (λ r. Follows m 0 V p f s.left s.printed r (Did w A V c read t (p + c.size) f)) (e s) (d.follows p t f s has le shows) }
 
   pub does_known : {A V : Type 0} (read : Slots → A → V) (x : A) (v : V) → ((f : Slots) → read f x ≡ v) → Does m w A V (known x) read (λ s. Going v s)
   does_known read x v h = record {
@@ -96,7 +100,7 @@ module _ {m : World} {w : Scope} where
   }
 
   -- the same, with what is known of the values
-  pub does_known_computed : {A V : Type 0} {a : Code A} {ra : Slots → A → V} {run : State → Run V} (K : V → Type 0) (source : A → PlainSource) (op : V → Result Plain Fault) → ((s t : State) (v : V) → run s ≡ Going v t → K v) → ((f : Slots) (x : A) (v : Plain) → K (ra f x) → op (ra f x) ≡ Ok v → source_value m.request f (source x) ≡ Ok v) → Does m w A V a ra run → Does m w ℕ Plain (computed a source) at_slot (λ s. run s then_do λ v s. result_of (op v) s)
+  pub does_known_computed : {A V : Type 0} {a : Code A} {ra : Slots → A → V} {run : State → Run V} (K : V → Type 0) (source : A → PlainSource) (op : V → Result Plain Fault) → ((s t : State) (v : V) → run s ≡ Going v t → K v) → ((f : Slots) (x : A) → K (ra f x) → Meets (source_value m.request f (source x)) (op (ra f x))) → Does m w A V a ra run → Does m w ℕ Plain (computed a source) at_slot (λ s. run s then_do λ v s. result_of (op v) s)
   does_known_computed {a} {ra} {run} K source op known h d = record {
     long = λ p t. last_long _ _ a.size (d.long p t);
     reads = λ t f g e. e (t + a.slots) (omega arith) (omega arith);
@@ -105,17 +109,17 @@ module _ {m : World} {w : Scope} where
         bind (knows K (run s) (λ v t. known s t v) (d.follows p t f s (has_front m.flow p _ _ has) le shows)) (λ u s1 q g both.
         let did = both.0 in
         let at' = subst (λ q. point_at m.flow q ≡ Some (set_point (t + a.slots) (source (a.gives t)) (p + a.size + 1))) (sym did.at) at in
-        computes (op u) s1 at' (λ v e. h g.slots (a.gives t) v (subst K (sym did.gives) both.1) (ap op did.gives ∙ e)) (λ v e. did_set (t + a.slots) _ v s1 g refl (omega arith) (omega arith) le did.shows did.kept));
+        computes (op u) s1 at' (subst (λ v. Meets (source_value m.request g.slots (source (a.gives t))) (op v)) did.gives (h g.slots (a.gives t) (subst K (sym did.gives) both.1))) (λ v e. did_set (t + a.slots) _ v s1 g refl (omega arith) (omega arith) le did.shows did.kept));
   }
 
-  pub does_computed : {A V : Type 0} {a : Code A} {ra : Slots → A → V} {run : State → Run V} (source : A → PlainSource) (op : V → Result Plain Fault) → ((f : Slots) (x : A) (v : Plain) → op (ra f x) ≡ Ok v → source_value m.request f (source x) ≡ Ok v) → Does m w A V a ra run → Does m w ℕ Plain (computed a source) at_slot (λ s. run s then_do λ v s. result_of (op v) s)
+  pub does_computed : {A V : Type 0} {a : Code A} {ra : Slots → A → V} {run : State → Run V} (source : A → PlainSource) (op : V → Result Plain Fault) → ((f : Slots) (x : A) → Meets (source_value m.request f (source x)) (op (ra f x))) → Does m w A V a ra run → Does m w ℕ Plain (computed a source) at_slot (λ s. run s then_do λ v s. result_of (op v) s)
   does_computed {a} {ra} source op h d = record {
     long = λ p t. last_long _ _ a.size (d.long p t);
     reads = λ t f g e. e (t + a.slots) (omega arith) (omega arith);
     follows = λ p t f s has le shows.
         let at = (has_back m.flow p a.size _ _ (d.long p t) has).0 in
         bind_did _ (d.follows p t f s (has_front m.flow p _ _ has) le shows) (λ s1 g u gives shows1 kept1.
-        computes (op u) s1 at (λ v e. h g.slots (a.gives t) v (ap op gives ∙ e)) (λ v e. did_set (t + a.slots) _ v s1 g refl (omega arith) (omega arith) le shows1 kept1));
+        computes (op u) s1 at (subst (λ v. Meets (source_value m.request g.slots (source (a.gives t))) (op v)) gives (h g.slots (a.gives t))) (λ v e. did_set (t + a.slots) _ v s1 g refl (omega arith) (omega arith) le shows1 kept1));
   }
 
 pub as_truth : (r : PlainRequest) (f : Slots) (y : ℕ) (u : Plain) (b : Bool) → f y ≡ u → truth u ≡ b → source_value r f (truth_source work.AsTruth (y ∷ [])) ≡ Ok (flag b)
@@ -160,10 +164,10 @@ module _ {m : World} {w : Scope} where
   }
 
   -- the value of code is copied behind it
-  pub copies : {a : Code ℕ} {run : State → Run Plain} {c : Code ℕ} {t0 q : ℕ} {f : Frame} (d : Does m w ℕ Plain a at_slot run) (p t x next : ℕ) (g : Frame) (s : State) → HasAt m.flow p (a.points p t) → free w ≤ t → Shows w s g → point_at m.flow (p + a.size) ≡ Some (set_point x (copy_source (a.gives t)) next) → c.gives t0 ≡ x → next ≡ q → t0 ≤ x → t0 ≤ t → free w ≤ t0 → Kept w t0 f g → Follows m Plain p g s.printed (run s) (Did w ℕ Plain c at_slot t0 q f)
+  pub copies : {a : Code ℕ} {run : State → Run Plain} {c : Code ℕ} {t0 q : ℕ} {f : Frame} (d : Does m w ℕ Plain a at_slot run) (p t x next : ℕ) (g : Frame) (s : State) → HasAt m.flow p (a.points p t) → free w ≤ t → Shows w s g → point_at m.flow (p + a.size) ≡ Some (set_point x (copy_source (a.gives t)) next) → c.gives t0 ≡ x → next ≡ q → t0 ≤ x → t0 ≤ t → free w ≤ t0 → Kept w t0 f g → Follows m 0 Plain p g s.left s.printed (run s) (Did w ℕ Plain c at_slot t0 q f)
   copies {c} {t0} {q} {f} d p t x next g s has le shows at is to ge ge' le' kept =
       onward (d.follows p t g s has le shows) (λ v s1 p1 g1 did.
-      subst (λ p. Follows m Plain p g1 s1.printed (Going v s1) (Did w ℕ Plain c at_slot t0 q f)) (sym did.at)
+      subst (λ p. Follows m 0 Plain p g1 s1.left s1.printed (Going v s1) (Did w ℕ Plain c at_slot t0 q f)) (sym did.at)
       (sets s1 at (as_copy m.request g1.slots _ v did.gives) (did_set x next v s1 g1 is to ge le' did.shows (kept_join kept did.kept (omega arith) ge'))))
 
   pub does_first_there : {a b : Code ℕ} {run_a run_b : State → Run Plain} → Does m w ℕ Plain a at_slot run_a → Does m w ℕ Plain b at_slot run_b → Does m w ℕ Plain (first_there a b) at_slot (λ s. run_a s then_do λ v s. (if is_null v then run_b s else Going v s))

@@ -4,7 +4,8 @@ use Rattle.std.proofs.lemmas.List.Elements.{All-from_recursion}
 use Rattle.php_syntax.specs.Trees.{MaybeExpr, no_expr, some_expr, PlainExprs, no_exprs, more_exprs, PlainStmt, inline_stmt, echo_stmt, run_stmt, if_stmt, while_stmt, do_while_stmt, for_stmt, each_stmt, break_stmt, continue_stmt, return_stmt, include_stmt, quit_stmt, PlainStmts, no_stmts, more_stmts, PlainArms, no_arms, more_arms}
 use Rattle.plain_values.specs.Plain.{null}
 use Rattle.flow_code.specs.Points.{PlainPoint, print_point, echo_point, jump_point, begin_point, next_point, key_point, value_point, return_point, quit_point, PlainFlowFunction}
-use Rattle.flow_code.specs.Variables.{Name, names_in, maybe_names, names_in_all, key_names, names_of_stmt, names_of, names_of_arms}
+use Rattle.program_expressions.specs.Collected.{collected}
+use Rattle.flow_code.specs.Variables.{Name, own_names, names_in, maybe_names, names_in_all, key_names, names_of_stmt, names_of, names_of_arms}
 use Rattle.flow_code.specs.Code.{Code, no_code, Targets, Block, no_block, ◌before◌, run_code, ending}
 use Rattle.flow_code.specs.Expressions.{Scope, variable}
 use Rattle.flow_code.specs.Statements.{either, Test, test_of, test_code, looping, repeating, pair_points, pair_size, walking, key_variable, echo_block, return_block, quit_block, stmt_block, block, arms_block}
@@ -166,24 +167,24 @@ module _ {fs : List PlainFlowFunction} {g : PlainFlowFunction} {w : Scope} where
 
     module _ (callees : Callees fs w.functions) where
       echo_all : (es : PlainExprs) → ExprsFit es → HasAll w.names (names_in_all es) → BlockFits fs g w (echo_block w es)
-      unfolding echo_block ExprFits names_in
+      unfolding echo_block ExprFits collected own_names
       echo_all no_exprs h n = fits_nothing
       echo_all (more_exprs e es) h n =
           fits_before (fits_ending (λ x to p. echo_point x (p + 1)) (λ x to p hx hs ha hn. echo_fits x (p + 1) hx hn) (expr_fits lies callees e h.0 (all_front w.names (names_in e) (names_in_all es) n)))
           (echo_all es h.1 (all_back w.names (names_in e) (names_in_all es) n))
 
       test_fits : (e : MaybeExpr) → MaybeFits e → HasAll w.names (maybe_names e) → TestFits fs g w (test_code w e)
-      unfolding test_code ExprFits names_in
+      unfolding test_code ExprFits collected own_names
       test_fits no_expr h n = record { fits = λ stop p t hs lp up lt ut. tt }
       test_fits (some_expr e) h n = fits_test (expr_fits lies callees e h n)
 
       return_all : (e : MaybeExpr) → MaybeFits e → HasAll w.names (maybe_names e) → BlockFits fs g w (return_block w e)
-      unfolding return_block ExprFits names_in
+      unfolding return_block ExprFits collected own_names
       return_all no_expr h n = fits_ending (λ x to p. return_point x) (λ x to p hx hs ha hn. return_fits x hx) (fits_literal lies null null_literal)
       return_all (some_expr e) h n = fits_ending (λ x to p. return_point x) (λ x to p hx hs ha hn. return_fits x hx) (expr_fits lies callees e h n)
 
       quit_all : (e : MaybeExpr) → MaybeFits e → HasAll w.names (maybe_names e) → BlockFits fs g w (quit_block w e)
-      unfolding quit_block ExprFits names_in
+      unfolding quit_block ExprFits collected own_names
       quit_all no_expr h n = fits_ending (λ none to p. quit_point None) (λ x to p hx hs ha hn. quit_fits) no_code_fits
       quit_all (some_expr e) h n = fits_ending (λ x to p. quit_point (Some x)) (λ x to p hx hs ha hn. quit_with_fits x hx) (expr_fits lies callees e h n)
 

@@ -5,7 +5,7 @@ use Rattle.std.proofs.lemmas.List.Elements.{All-from_recursion}
 use Rattle.flow_code.specs.declared.source.Work.TheVariants as work
 use Rattle.flow_code.specs.Points.{PlainSource, copy_source, truth_source, PlainPoint, set_point, branch_point, PlainFlowFunction}
 use Rattle.flow_code.specs.Variables.{Name}
-use Rattle.flow_code.specs.Code.{Code, known, left, both, computed}
+use Rattle.flow_code.specs.Code.{Code, known, left, both, computed, computed_with}
 use Rattle.flow_code.specs.Expressions.{Scope, variable, both_true, one_true, first_there, chosen, chosen_itself}
 use Rattle.flow_code.specs.Lawful.{source_reads, reads, sets, nexts, IsOwnSlot, IsOwnPoint, SourceFits, PointFits, not_null, as_truth}
 use Rattle.flow_runs.proofs.Frames.{free}
@@ -102,6 +102,13 @@ module _ {fs : List PlainFlowFunction} {g : PlainFlowFunction} {w : Scope} where
     fits_computed {a} source h d = record {
       fits = λ p t lp up lt ut. all_both (PointFits fs g) _ _ (d.fits p t lp (omega (arith, up)) lt (omega (arith, ut))) (set_fits (t + a.slots) (p + a.size + 1) (source (a.gives t)) (own_temporary lies (t + a.slots) (omega (arith, lt)) (omega (arith, ut))) (h (a.gives t) (d.gives t lt (omega (arith, ut)))) (own_point (p + a.size + 1) (omega (arith, lp)) (omega (arith, up))), tt);
       gives = λ t lt ut. own_temporary lies (t + a.slots) (omega (arith, lt)) (omega (arith, ut));
+    }
+
+    -- the same, which leaves something made of the slot
+    pub fits_with : {A B : Type 0} {a : Code A} {FA : A → Type 0} (FB : B → Type 0) (source : A → PlainSource) (join : A → ℕ → B) → ((x : A) → FA x → SourceIs g (source x)) → ((x : A) (y : ℕ) → FA x → IsOwnSlot g y → FB (join x y)) → CodeFits fs g w A a FA → CodeFits fs g w B (computed_with a source join) FB
+    fits_with {a} FB source join h k d = record {
+      fits = λ p t lp up lt ut. all_both (PointFits fs g) _ _ (d.fits p t lp (omega (arith, up)) lt (omega (arith, ut))) (set_fits (t + a.slots) (p + a.size + 1) (source (a.gives t)) (own_temporary lies (t + a.slots) (omega (arith, lt)) (omega (arith, ut))) (h (a.gives t) (d.gives t lt (omega (arith, ut)))) (own_point (p + a.size + 1) (omega (arith, lp)) (omega (arith, up))), tt);
+      gives = λ t lt ut. k (a.gives t) (t + a.slots) (d.gives t lt (omega (arith, ut))) (own_temporary lies (t + a.slots) (omega (arith, lt)) (omega (arith, ut)));
     }
 
     pub fits_and : {a b : Code ℕ} → CodeFits fs g w ℕ a (IsOwnSlot g) → CodeFits fs g w ℕ b (IsOwnSlot g) → CodeFits fs g w ℕ (both_true a b) (IsOwnSlot g)

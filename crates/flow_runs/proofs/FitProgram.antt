@@ -1,5 +1,5 @@
 -- The points of a program are of their form.
-use Rattle.std.proofs.Common.{◌≡◌, ℕ, zero, suc, ◌+◌, List, [], ◌∷◌, length, length-append, Some, refl, subst, arith, map, slice_get}
+use Rattle.std.proofs.Common.{◌≡◌, ℕ, zero, suc, ◌+◌, List, [], ◌∷◌, length, length-append, Some, refl, subst, arith, map, slice_get, false}
 use Rattle.std.specs.List.{AllByRecursion}
 use Rattle.std.proofs.lemmas.List.Elements.{All-from_recursion}
 use Rattle.php_syntax.specs.Trees.{PlainParam, PlainFunction}
@@ -19,8 +19,8 @@ use Rattle.flow_runs.proofs.Ends.{world}
 use Rattle.flow_runs.proofs.Has.{has_all}
 use Rattle.flow_runs.proofs.Names.{HasAll, all_front, all_back}
 use Rattle.flow_runs.proofs.Calls.{CallsDo}
-use Rattle.flow_runs.proofs.Stmts.{block_does}
-use Rattle.flow_runs.proofs.Program.{Stands, placed, found, names_there, calls_do}
+use Rattle.flow_runs.proofs.Stmts.{stmts_units, block_does}
+use Rattle.flow_runs.proofs.Program.{Stands, placed, found, names_there, calls_do, no_calls, none_asked}
 use Rattle.flow_runs.proofs.FitCodes.{all_both, Lies, own_temporary, own_variable, own_point, set_fits}
 use Rattle.flow_runs.proofs.FitWrites.{null_is}
 use Rattle.flow_runs.proofs.FitTrees.{Callees}
@@ -51,7 +51,7 @@ params_own g w lies (p ∷ ps) h = (own_variable w lies p.name_of h.0, params_ow
 pub no_request : PlainRequest
 no_request = record { get_of = empty; post_of = empty; cookie_of = empty; request_of = empty; server_of = empty }
 
-pub function_long : (flow : PlainFlow) (table : List PlainFunction) → HaveDefaults table → CallsDo (world flow no_request zero) table → (f : PlainFunction) (point slot : ℕ) → length (flat_function table f point slot).points_of ≡ (block (scope_of table f slot) f.body_of).size + 2
+pub function_long : (flow : PlainFlow) (table : List PlainFunction) → HaveDefaults table → ((cost : ℕ) → CallsDo (world flow no_request false cost zero) table) → (f : PlainFunction) (point slot : ℕ) → length (flat_function table f point slot).points_of ≡ (block (scope_of table f slot) f.body_of).size + 2
 unfolding flat_function body_of_function scope_of
 function_long flow table defaults calls f point slot =
     let w = scope_of table f slot in
@@ -60,20 +60,13 @@ function_long flow table defaults calls f point slot =
     let start = slot + length (variables_of f) in
     let y = start + body.slots in
     let to : Targets = record { stop = e; again = e } in
-    let d = block_does {m = world flow no_request zero} {w = w} calls defaults f.body_of (all_back w.names (map name_of_param f.params_of) (names_of f.body_of) (names_there table f slot)) in
+    let d = block_does {m = world flow no_request false (stmts_units f.body_of) zero} {w = w} (calls (stmts_units f.body_of)) defaults f.body_of (all_back w.names (map name_of_param f.params_of) (names_of f.body_of) (names_there table f slot)) none_asked (omega arith) in
     omega (arith, length-append (body.points to point start) (set_point y (literal_source null) (e + 1) ∷ return_point y ∷ []), d.long to point start)
 
-pub program_calls : (program : PlainProgram) → HaveDefaults program.functions_of → CallsDo (world (flat program) no_request zero) program.functions_of
-unfolding flat main_function
-program_calls program defaults =
-    let main = main_function program in
-    let table = program.functions_of in
-    let flow = flat program in
-    let has = has_all flow in
-    let stands : (k : ℕ) (f : PlainFunction) → slice_get table k ≡ Some f → Stands flow table (suc k) f = λ k f is. (let pl = placed flow table (main ∷ table) 0 0 has (suc k) f is in record { point = pl.at_point; slot = pl.at_slot; is = pl.is; has = pl.has }) in
-    calls_do {flow = flow} {r = no_request} table defaults stands zero
+pub program_calls : (program : PlainProgram) (cost : ℕ) → CallsDo (world (flat program) no_request false cost zero) program.functions_of
+program_calls program cost = no_calls program.functions_of
 
-module _ (flow : PlainFlow) (table : List PlainFunction) (defaults : HaveDefaults table) (calls : CallsDo (world flow no_request zero) table) (fs : List PlainFlowFunction) (callees : Callees fs table) where
+module _ (flow : PlainFlow) (table : List PlainFunction) (defaults : HaveDefaults table) (calls : (cost : ℕ) → CallsDo (world flow no_request false cost zero) table) (fs : List PlainFlowFunction) (callees : Callees fs table) where
   function_fits : (f : PlainFunction) (point slot : ℕ) → StmtsFit f.body_of → FunctionFits fs (flat_function table f point slot)
   unfolding flat_function body_of_function scope_of
   function_fits f point slot h =
@@ -86,7 +79,7 @@ module _ (flow : PlainFlow) (table : List PlainFunction) (defaults : HaveDefault
       let to : Targets = record { stop = e; again = e } in
       let names = names_there table f slot in
       let of_body = all_back w.names (map name_of_param f.params_of) (names_of f.body_of) names in
-      let d = block_does {m = world flow no_request zero} {w = w} calls defaults f.body_of of_body in
+      let d = block_does {m = world flow no_request false (stmts_units f.body_of) zero} {w = w} (calls (stmts_units f.body_of)) defaults f.body_of of_body none_asked (omega arith) in
       let n : length g.points_of ≡ body.size + 2 = omega (arith, length-append (body.points to point start) (set_point y (literal_source null) (e + 1) ∷ return_point y ∷ []), d.long to point start) in
       let lies : Lies g w = record { low = omega arith; high = omega arith } in
       let own_e : IsOwnPoint g e = own_point e (omega arith) (omega (arith, n)) in
@@ -112,7 +105,6 @@ flat_fits program defaults fit =
     let flow = flat program in
     let fs = flat_functions table (main ∷ table) 0 0 in
     let has = has_all flow in
-    let stands : (k : ℕ) (f : PlainFunction) → slice_get table k ≡ Some f → Stands flow table (suc k) f = λ k f is. (let pl = placed flow table (main ∷ table) 0 0 has (suc k) f is in record { point = pl.at_point; slot = pl.at_slot; is = pl.is; has = pl.has }) in
     let callees : Callees fs table = record {
       there = λ name n f is. (let fd = found table 1 n f name is in let pl = placed flow table (main ∷ table) 0 0 has (suc fd.place) f fd.is in let number = fd.number in let at : suc fd.place ≡ n = omega (arith, number) in
           (flat_function table f pl.at_point pl.at_slot, subst (λ n. slice_get fs n ≡ Some (flat_function table f pl.at_point pl.at_slot)) at pl.is, map_long _ f.params_of));
@@ -123,5 +115,5 @@ flat_fits program defaults fit =
       is_main = refl;
       no_params = refl;
       numbered = numbered table (main ∷ table) 0 0;
-      functions = All-from_recursion (FunctionFits fs) fs (functions_fit flow table defaults (calls_do {flow = flow} {r = no_request} table defaults stands zero) fs callees (main ∷ table) 0 0 (fit.main, bodies_fit table fit.functions));
+      functions = All-from_recursion (FunctionFits fs) fs (functions_fit flow table defaults (program_calls program) fs callees (main ∷ table) 0 0 (fit.main, bodies_fit table fit.functions));
     }

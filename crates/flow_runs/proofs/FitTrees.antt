@@ -9,18 +9,19 @@ use Rattle.builtin_meaning.specs.declared.builtin.Builtin.{Builtin}
 use Rattle.builtin_meaning.specs.Names.{builtin_named}
 use Rattle.script_meaning.specs.Programs.{literal_value}
 use Rattle.flow_code.specs.declared.source.Work.TheVariants as work
-use Rattle.flow_code.specs.Points.{PlainKeyRef, int_ref, text_ref, read_ref, PlainSource, literal_source, copy_source, super_source, member_source, array_source, concat_source, number_source, truth_source, PlainFlowFunction}
-use Rattle.flow_code.specs.Variables.{Name, names_in, maybe_names, names_in_all, item_names, path_names}
+use Rattle.flow_code.specs.Points.{PlainKeyRef, int_ref, text_ref, read_ref, PlainSource, literal_source, copy_source, super_source, member_source, array_source, put_source, concat_source, number_source, truth_source, PlainFlowFunction}
+use Rattle.program_expressions.specs.Collected.{collected}
+use Rattle.flow_code.specs.Variables.{own_names, Name, names_in, maybe_names, names_in_all, item_names, path_names}
 use Rattle.flow_code.specs.Code.{Code, both, computed, from_source}
-use Rattle.flow_code.specs.Expressions.{Scope, variable, function_in, literal, default_code, default_codes, code, codes, maybe_key, path_code, items_code, key_code, call_code, call_own, number_of, length_of_path}
+use Rattle.flow_code.specs.Expressions.{Begun, no_item, one_item, join_code, Scope, variable, function_in, literal, default_code, default_codes, code, codes, maybe_key, path_code, items_code, key_code, call_code, call_own, number_of, length_of_path}
 use Rattle.flow_code.specs.Builtins.{builtin_source}
 use Rattle.flow_code.specs.Lawful.{key_slots, maybe_key_slots, item_slots, source_reads, IsOwnSlot, IsKeyLiteral, IsItemKey, IsLiteral, arithmetic, comparison, negation, isset, empty}
 use Rattle.flow_runs.specs.Fits.{CallFits, ExprFits, MaybeFits, ExprsFit, ItemsFit, PathFits, ParamsFit}
 use Rattle.flow_runs.proofs.Names.{HasAll, all_front, all_back}
 use Rattle.flow_runs.proofs.Trees.{path_count}
-use Rattle.flow_runs.proofs.FitCodes.{AllOwn, SourceIs, all_both, Lies, CodeFits, own_variable, copy_is, fits_known, fits_left, fits_both, fits_computed, fits_and, fits_or, fits_first_there, fits_chosen, fits_chosen_itself}
+use Rattle.flow_runs.proofs.FitCodes.{AllOwn, SourceIs, all_both, Lies, CodeFits, own_variable, copy_is, fits_known, fits_left, fits_both, fits_computed, fits_with, fits_and, fits_or, fits_first_there, fits_chosen, fits_chosen_itself}
 use Rattle.flow_runs.proofs.FitBuiltins.{call_is}
-use Rattle.flow_runs.proofs.FitWrites.{KeyIs, KeysAre, WriteIs, keys_more, null_is, SlotsAre, fits_stored, fits_update, fits_step, fits_called}
+use Rattle.flow_runs.proofs.FitWrites.{KeyIs, KeysAre, WriteIs, keys_more, keys_one, keys_rest, written_is, null_is, SlotsAre, fits_stored, fits_update, fits_step, fits_called}
 
 abbrev KeyRefIs : PlainFlowFunction → PlainKeyRef → Type 0
 KeyRefIs g k = AllOwn g (key_slots k) × IsKeyLiteral k
@@ -31,8 +32,21 @@ ItemsAre g items = AllOwn g (flat_map item_slots items) × AllByRecursion IsItem
 abbrev ItemIs : PlainFlowFunction → Option PlainKeyRef × ℕ → Type 0
 ItemIs g item = KeyIs g item.0 × IsOwnSlot g item.1
 
+-- an array so far, and its items
+abbrev BegunIs : PlainFlowFunction → Begun → Type 0
+BegunIs g b = IsOwnSlot g b.0 × ItemsAre g b.1
+
+abbrev TwoAre : PlainFlowFunction → Begun × (Option PlainKeyRef × ℕ) → Type 0
+TwoAre g two = BegunIs g two.0 × ItemIs g two.1
+
 items_more : (g : PlainFlowFunction) (item : Option PlainKeyRef × ℕ) (items : List (Option PlainKeyRef × ℕ)) → ItemIs g item → ItemsAre g items → ItemsAre g (item ∷ items)
 items_more g item items h hs = (all_both (IsOwnSlot g) (item_slots item) (flat_map item_slots items) (all_both (IsOwnSlot g) (maybe_key_slots item.0) (item.1 ∷ []) (h.0).0 (h.1, tt)) hs.0, ((h.0).1, hs.1))
+
+items_last : (g : PlainFlowFunction) (item : Option PlainKeyRef × ℕ) (items : List (Option PlainKeyRef × ℕ)) → ItemIs g item → ItemsAre g items → ItemsAre g (items ++ item ∷ [])
+items_last g item [] h hs = items_more g item [] h (tt, tt)
+items_last g item (first ∷ items) h hs =
+    let rest = items_last g item items h (keys_rest g (item_slots first) (flat_map item_slots items) hs.0, (hs.1).1) in
+    (all_both (IsOwnSlot g) (item_slots first) (flat_map item_slots (items ++ item ∷ [])) (keys_one g (item_slots first) (flat_map item_slots items) hs.0) rest.0, ((hs.1).0, rest.1))
 
 slots_more : (g : PlainFlowFunction) (n x : ℕ) (xs : List ℕ) → IsOwnSlot g x → SlotsAre g n xs → SlotsAre g (suc n) (x ∷ xs)
 slots_more g n x xs h hs = let e = hs.1 in ((h, hs.0), omega (arith, e))
@@ -106,13 +120,27 @@ module _ {fs : List PlainFlowFunction} {g : PlainFlowFunction} {w : Scope} (lies
   unfolding source_reads
   member_fits d e = fits_computed lies (λ source. source) (λ s h. h) (fits_both (SourceIs g) (λ x key. member_source x key) (λ x key hx hk. ((hx, hk.0), hk.1)) d e)
 
-  array_fits : {items : Code (List (Option PlainKeyRef × ℕ))} → CodeFits fs g w (List (Option PlainKeyRef × ℕ)) items (ItemsAre g) → CodeFits fs g w ℕ (computed items array_source) (IsOwnSlot g)
+  array_fits : {items : Code Begun} → CodeFits fs g w Begun items (BegunIs g) → CodeFits fs g w ℕ (computed items (λ made. array_source made.1)) (IsOwnSlot g)
   unfolding source_reads
-  array_fits d = fits_computed lies array_source (λ items h. (h.0, All-from_recursion IsItemKey items h.1)) d
+  array_fits d = fits_computed lies (λ made. array_source made.1) (λ made h. ((h.1).0, All-from_recursion IsItemKey made.1 (h.1).1)) d
 
-  join_fits : {parts : Code (List ℕ)} (n : ℕ) → CodeFits fs g w (List ℕ) parts (SlotsAre g n) → CodeFits fs g w ℕ (computed parts concat_source) (IsOwnSlot g)
+  no_item_fits : CodeFits fs g w Begun no_item (BegunIs g)
   unfolding source_reads
-  join_fits n d = fits_computed lies concat_source (λ xs h. (h.0, tt)) d
+  no_item_fits = fits_left (BegunIs g) (λ x. (x, [])) (λ x h. (h, (tt, tt))) (fits_computed lies (λ s. s) (λ s h. h) (fits_known (SourceIs g) (array_source []) (tt, All-from_recursion IsItemKey [] tt)))
+
+  one_item_fits : {begun : Code Begun} {item : Code (Option PlainKeyRef × ℕ)} → CodeFits fs g w Begun begun (BegunIs g) → CodeFits fs g w (Option PlainKeyRef × ℕ) item (ItemIs g) → CodeFits fs g w Begun (one_item begun item) (BegunIs g)
+  unfolding source_reads
+  one_item_fits d e =
+      fits_with lies (BegunIs g) (λ two. put_source (two.0).0 ((two.1).0 ∷ []) (two.1).1) (λ two x. (x, (two.0).1 ++ two.1 ∷ []))
+      (λ two h. written_is g (two.0).0 (two.1).1 ((two.1).0 ∷ []) (keys_more g (two.1).0 [] (h.1).0 (tt, tt)) (h.0).0 (h.1).1)
+      (λ two x h own. (own, items_last g two.1 (two.0).1 h.1 (h.0).1))
+      (fits_both (TwoAre g) (λ made one. (made, one)) (λ x y hx hy. (hx, hy)) d e)
+
+  join_fits : {parts : Code (List ℕ)} (n : ℕ) (es : PlainExprs) → CodeFits fs g w (List ℕ) parts (SlotsAre g n) → CodeFits fs g w ℕ (join_code es parts) (IsOwnSlot g)
+  unfolding source_reads join_code
+  join_fits n no_exprs d = fits_computed lies concat_source (λ xs h. (h.0, tt)) d
+  join_fits n (more_exprs e no_exprs) d = fits_computed lies concat_source (λ xs h. (h, tt)) (fits_both (AllOwn g) (λ xs x. xs ++ x ∷ []) (λ xs x hs h. all_both (IsOwnSlot g) xs (x ∷ []) hs.0 (h, tt)) d (fits_literal (text []) (text_is [] (omega arith))))
+  join_fits n (more_exprs a (more_exprs b es)) d = fits_computed lies concat_source (λ xs h. (h.0, tt)) d
 
   isset_fits : {parts : Code (List ℕ)} (n : ℕ) → CodeFits fs g w (List ℕ) parts (SlotsAre g n) → CodeFits fs g w ℕ (computed parts (truth_source work.Isset)) (IsOwnSlot g)
   unfolding source_reads
@@ -140,7 +168,7 @@ module _ {fs : List PlainFlowFunction} {g : PlainFlowFunction} {w : Scope} (lies
 
   module _ (callees : Callees fs w.functions) where
     mutual
-      unfolding code names_in ExprFits number_of
+      unfolding code collected own_names ExprFits number_of
 
       pub expr_fits : (e : PlainExpr) → ExprFits e → HasAll w.names (names_in e) → CodeFits fs g w ℕ (code w e) (IsOwnSlot g)
       expr_fits null_expr h n = fits_literal null null_literal
@@ -150,8 +178,8 @@ module _ {fs : List PlainFlowFunction} {g : PlainFlowFunction} {w : Scope} (lies
       expr_fits (var_expr x) h n = fits_source (copy_source (variable w x)) (copy_is g (variable w x) (own_variable w lies x n.0))
       expr_fits (super_expr name) h n = super_fits name
       expr_fits (member_expr a k) h n = member_fits (expr_fits a h.0 (all_front w.names (names_in a) (names_in k) n)) (key_fits k h.1 (expr_fits k h.1 (all_back w.names (names_in a) (names_in k) n)))
-      expr_fits (array_expr items) h n = array_fits (items_fit items h n)
-      expr_fits (join_expr parts) h n = join_fits (number_of parts) (exprs_fit parts h n)
+      expr_fits (array_expr items) h n = array_fits (items_fit items h n no_item_fits)
+      expr_fits (join_expr parts) h n = join_fits (number_of parts) parts (exprs_fit parts h n)
       expr_fits (neg_expr a) h n = neg_fits (expr_fits a h n)
       expr_fits (not_expr a) h n = not_fits (expr_fits a h n)
       expr_fits (arith_expr sign a b) h n = arith_fits sign (expr_fits a h.0 (all_front w.names (names_in a) (names_in b) n)) (expr_fits b h.1 (all_back w.names (names_in a) (names_in b) n))
@@ -182,10 +210,9 @@ module _ {fs : List PlainFlowFunction} {g : PlainFlowFunction} {w : Scope} (lies
       path_fits no_keys h n = fits_known (KeysAre g) [] (tt, tt)
       path_fits (more_keys k ks) h n = fits_both (KeysAre g) (λ x xs. x ∷ xs) (keys_more g) (maybe_fits k h.0 (all_front w.names (maybe_names k) (path_names ks) n)) (path_fits ks h.1 (all_back w.names (maybe_names k) (path_names ks) n))
 
-      pub items_fit : (is : PlainItems) → ItemsFit is → HasAll w.names (item_names is) → CodeFits fs g w (List (Option PlainKeyRef × ℕ)) (items_code w is) (ItemsAre g)
-      items_fit no_items h n = fits_known (ItemsAre g) [] (tt, tt)
-      items_fit (more_items k e is) h n =
+      pub items_fit : (is : PlainItems) → ItemsFit is → HasAll w.names (item_names is) → {begun : Code Begun} → CodeFits fs g w Begun begun (BegunIs g) → CodeFits fs g w Begun (items_code w is begun) (BegunIs g)
+      items_fit no_items h n d = d
+      items_fit (more_items k e is) h n d =
           let rest = all_back w.names (maybe_names k) (names_in e ++ item_names is) n in
-          fits_both (ItemsAre g) (λ x xs. x ∷ xs) (items_more g)
-          (fits_both (ItemIs g) (λ key x. (key, x)) (λ key x hk hx. (hk, hx)) (maybe_fits k h.0 (all_front w.names (maybe_names k) (names_in e ++ item_names is) n)) (expr_fits e h.1 (all_front w.names (names_in e) (item_names is) rest)))
-          (items_fit is h.2 (all_back w.names (names_in e) (item_names is) rest))
+          items_fit is h.2 (all_back w.names (names_in e) (item_names is) rest)
+          (one_item_fits d (fits_both (ItemIs g) (λ key x. (key, x)) (λ key x hk hx. (hk, hx)) (maybe_fits k h.0 (all_front w.names (maybe_names k) (names_in e ++ item_names is) n)) (expr_fits e h.1 (all_front w.names (names_in e) (item_names is) rest))))

@@ -30,11 +30,11 @@ WriteIs g p = KeysAre g p.0 × IsOwnSlot g p.1
 pub keys_more : (g : PlainFlowFunction) (k : Option PlainKeyRef) (ks : Keys) → KeyIs g k → KeysAre g ks → KeysAre g (k ∷ ks)
 keys_more g k ks h hs = (all_both (IsOwnSlot g) (maybe_key_slots k) (flat_map maybe_key_slots ks) h.0 hs.0, (h.1, hs.1))
 
-keys_one : (g : PlainFlowFunction) (xs ys : List ℕ) → AllOwn g (xs ++ ys) → AllOwn g xs
+pub keys_one : (g : PlainFlowFunction) (xs ys : List ℕ) → AllOwn g (xs ++ ys) → AllOwn g xs
 keys_one g [] ys h = tt
 keys_one g (x ∷ xs) ys h = (h.0, keys_one g xs ys h.1)
 
-keys_rest : (g : PlainFlowFunction) (xs ys : List ℕ) → AllOwn g (xs ++ ys) → AllOwn g ys
+pub keys_rest : (g : PlainFlowFunction) (xs ys : List ℕ) → AllOwn g (xs ++ ys) → AllOwn g ys
 keys_rest g [] ys h = h
 keys_rest g (x ∷ xs) ys h = keys_rest g xs ys h.1
 
@@ -45,7 +45,7 @@ split_keys g (k ∷ ks) h = ((keys_one g (maybe_key_slots k) (flat_map maybe_key
 cons_some : (k : Option PlainKeyRef) (ks : Keys) → (k ∷ ks) ≡ [] → ⊥
 cons_some k ks e = cc
 
-written_is : (g : PlainFlowFunction) (x v : ℕ) (ks : Keys) → KeysAre g ks → IsOwnSlot g x → IsOwnSlot g v → SourceIs g (written x ks v)
+pub written_is : (g : PlainFlowFunction) (x v : ℕ) (ks : Keys) → KeysAre g ks → IsOwnSlot g x → IsOwnSlot g v → SourceIs g (written x ks v)
 unfolding source_reads
 written_is g x v [] hs hx hv = copy_is g v hv
 written_is g x v (k ∷ ks) hs hx hv = (all_both (IsOwnSlot g) (x ∷ flat_map maybe_key_slots (k ∷ ks)) (v ∷ []) (hx, hs.0) (hv, tt), (cons_some k ks, All-from_recursion IsMaybeKey (k ∷ ks) hs.1))

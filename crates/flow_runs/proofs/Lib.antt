@@ -1,3 +1,4 @@
+pub mod Steps
 pub mod Ends
 pub mod Has
 pub mod Names
@@ -7,6 +8,7 @@ pub mod Writes
 pub mod Literals
 pub mod BuiltinValues
 pub mod Calls
+pub mod Items
 pub mod Agreement
 pub mod Trees
 pub mod Blocks

@@ -1,5 +1,5 @@
 -- The points of a program do what it does.
-use Rattle.std.proofs.Common.{◌≡◌, ℕ, zero, suc, ◌+◌, List, [], ◌∷◌, ◌++◌, length, Some, None, Option, refl, sym, ap, ◌∙◌, subst, arith, Bool, true, false, map, take, drop, nat_eq, bytes_eq, slice_get}
+use Rattle.std.proofs.Common.{◌≡◌, ℕ, zero, suc, ◌+◌, List, [], ◌∷◌, ◌++◌, length, Some, None, Option, refl, sym, ap, ◌∙◌, subst, arith, ◌≤◌, ◌⊎◌, inl, inr, Bool, true, false, map, take, drop, nat_eq, bytes_eq, slice_get}
 use Rattle.std.specs.Prelude.{if◌then◌else◌}
 use Rattle.std.proofs.lemmas.Bool.{eq-eqb, ne_eqb}
 use Rattle.php_syntax.specs.Trees.{PlainParam, PlainFunction}
@@ -19,13 +19,15 @@ use Rattle.flow_code.specs.Statements.{block}
 use Rattle.flow_code.specs.Flat.{scope_of, body_of_function, flat_function, flat_functions, main_function, flat}
 use Rattle.flow_code.specs.Runs.{Frame, set_slot, fresh, arguments_in, source_value, FlowEnd, returned, exited, RunsFrom, FlatRun}
 use Rattle.flow_runs.specs.Defaults.{HaveDefaults}
-use Rattle.flow_runs.proofs.Ends.{world, Ends, Comes_to, Post, Follows, here, onward, unit, set_comes, return_ends, call_comes, call_quits}
+use Rattle.flow_runs.specs.Keyed.{StmtsKeyed, FunctionsKeyed, ProgramKeyed}
+use Rattle.flow_runs.proofs.Steps.{World, world, credit, Inner, Comes_back, Stays_in, Calls_on, first, suc_same, some_same, returned_same, ends_apart, one_run}
+use Rattle.flow_runs.proofs.Ends.{Ends, Rest, Lands, Comes_to, Post, Stuck, Follows, here, onward, unit_paid, set_comes, return_ends, call_returns, call_quits}
 use Rattle.flow_runs.proofs.Has.{HasAt, has_front, has_back, has_all}
 use Rattle.flow_runs.proofs.Names.{Has, HasAll, all_front, all_back, once_has, place_is, name_is, other_name}
 use Rattle.flow_runs.proofs.Frames.{slot_same, Shows}
 use Rattle.flow_runs.proofs.Calls.{env, default_of, handed, Came, CallsDo, by_own}
 use Rattle.flow_runs.proofs.Blocks.{Went}
-use Rattle.flow_runs.proofs.Stmts.{block_does}
+use Rattle.flow_runs.proofs.Stmts.{stmts_units, block_does}
 
 -- a function stands among the points
 pub record Stands (flow : PlainFlow) (table : List PlainFunction) (n : ℕ) (f : PlainFunction) : Type 0 where
@@ -121,80 +123,128 @@ deep_call : (r : PlainRequest) (fs : List PlainFunction) (name : Name) (f : Plai
 unfolding call_within call_one
 deep_call r fs name f vs s e k = by_own (builtin_named name) vs _ s e ∙ ap (λ o. call_one o (λ f s. Over Deep s.printed) s) k
 
-module _ {flow : PlainFlow} {r : PlainRequest} {room : ℕ} where
+-- what is run inside of a call
+record Called (m : World) (room : ℕ) (g : PlainFlowFunction) (vs : List Plain) (most : ℕ) : Type 0 where
+  w : List ℕ
+  end : FlowEnd
+  inner : Inner m room g vs w end
+  paid : m.cost + credit m.cost inner ≤ most
+
+inside : {m : World} {room x next : ℕ} {callee : PlainFlowFunction} {vs : List Plain} {f : Frame} {w : List ℕ} {end : FlowEnd} {most : ℕ} → Comes_back m room x next callee vs f w end most ⊎ Stays_in m room callee vs w end most → Called m room callee vs most
+inside (inl b) = let paid = b.paid in record { w = b.u; end = returned b.v; inner = b.inner; paid = omega (arith, paid) }
+inside {w = w} (inr b) = let paid = b.paid in record { w = w; end = exited; inner = b.inner; paid = omega (arith, paid) }
+
+module _ {flow : PlainFlow} {r : PlainRequest} {strict : Bool} {cost room : ℕ} where
   -- the points behind a body
-  body_ends : (w : Scope) (to : Targets) (e t y q : ℕ) (f g : Frame) (how : Flow) (s : State) → to.stop ≡ e → to.again ≡ e → point_at flow e ≡ Some (set_point y (literal_source null) (e + 1)) → point_at flow (e + 1) ≡ Some (return_point y) → Went (world flow r room) w to e t f how s q g → Ends (world flow r room) q g s.printed s.printed (returned (value_returned how))
+  body_ends : (w : Scope) (to : Targets) (e t y q : ℕ) (f g : Frame) (how : Flow) (s : State) → to.stop ≡ e → to.again ≡ e → point_at flow e ≡ Some (set_point y (literal_source null) (e + 1)) → point_at flow (e + 1) ≡ Some (return_point y) → Went (world flow r strict cost room) w to e t f how s q g → Ends (world flow r strict cost room) q g s.printed s.printed (returned (value_returned how))
   unfolding value_returned source_value
   body_ends w to e t y q f g how s stop again sets back went = by_flow how went
     where
-      null_ends : Ends (world flow r room) e g s.printed s.printed (returned null)
-      null_ends = set_comes (world flow r room) e y (e + 1) (literal_source null) g null s.printed sets refl s.printed (returned null) (return_ends (world flow r room) (e + 1) y (set_slot g y null) s.printed null back (slot_same g y null))
+      null_ends : Ends (world flow r strict cost room) e g s.printed s.printed (returned null)
+      null_ends = (set_comes (world flow r strict cost room) e y (e + 1) (literal_source null) g null s.printed sets refl).forth s.printed (returned null) (return_ends (world flow r strict cost room) (e + 1) y (set_slot g y null) s.printed null back (slot_same g y null))
 
-      by_flow : (how : Flow) → Went (world flow r room) w to e t f how s q g → Ends (world flow r room) q g s.printed s.printed (returned (value_returned how))
-      by_flow goes_on went = subst (λ q. Ends (world flow r room) q g s.printed s.printed (returned null)) (sym went.at) null_ends
-      by_flow breaks went = subst (λ q. Ends (world flow r room) q g s.printed s.printed (returned null)) (sym (went.at ∙ stop)) null_ends
-      by_flow continues went = subst (λ q. Ends (world flow r room) q g s.printed s.printed (returned null)) (sym (went.at ∙ again)) null_ends
-      by_flow (returns v) went = return_ends (world flow r room) q went.at.0 g s.printed v went.at.1 went.at.2
+      by_flow : (how : Flow) → Went (world flow r strict cost room) w to e t f how s q g → Ends (world flow r strict cost room) q g s.printed s.printed (returned (value_returned how))
+      by_flow goes_on went = subst (λ q. Ends (world flow r strict cost room) q g s.printed s.printed (returned null)) (sym went.at) null_ends
+      by_flow breaks went = subst (λ q. Ends (world flow r strict cost room) q g s.printed s.printed (returned null)) (sym (went.at ∙ stop)) null_ends
+      by_flow continues went = subst (λ q. Ends (world flow r strict cost room) q g s.printed s.printed (returned null)) (sym (went.at ∙ again)) null_ends
+      by_flow (returns v) went = return_ends (world flow r strict cost room) q went.at.0 g s.printed v went.at.1 went.at.2
+
+  goes_in : {x next n : ℕ} {args : List ℕ} {callee : PlainFlowFunction} {f : Frame} {w : List ℕ} {end : FlowEnd} {most : ℕ} → function_at flow n ≡ Some callee → Calls_on (world flow r strict cost (suc room)) x n args next f w end most → Comes_back (world flow r strict cost (suc room)) room x next callee (map f.slots args) f w end most ⊎ Stays_in (world flow r strict cost (suc room)) room callee (map f.slots args) w end most
+  goes_in {x} {next} {n} {args} {callee} {f} {w} {end} {most} is a =
+      let there = suc_same room a.room a.is_room in
+      let same = some_same a.g callee (function_at flow n) a.is is in
+      let Went_in : ℕ → PlainFlowFunction → Type 0 = λ k g. Comes_back (world flow r strict cost (suc room)) k x next g (map f.slots args) f w end most ⊎ Stays_in (world flow r strict cost (suc room)) k g (map f.slots args) w end most in
+      subst (λ k. Went_in k callee) (sym there) (subst (λ g. Went_in a.room g) same a.went)
 
   -- a call's point, where the body of the function follows
-  enters : (p x n next : ℕ) (args : List ℕ) (callee : PlainFlowFunction) (g : Frame) (s : State) (run : Run Flow) (P : Post Flow) → point_at flow p ≡ Some (call_point x n args next) → function_at flow n ≡ Some callee → ((how : Flow) (s : State) (q : ℕ) (h : Frame) → P how s q h → Ends (world flow r room) q h s.printed s.printed (returned (value_returned how))) → Follows (world flow r room) Flow callee.entry_of (fresh (arguments_in callee.params_of (map g.slots args))) s.printed run P → Follows (world flow r (suc room)) Plain p g s.printed (run then_do λ how after. Going (value_returned how) (record after { variables = s.variables })) (Came x next g s)
-  unfolding ◌then_do◌
-  enters p x n next args callee g s run P at is ends h = record { is = by_run run h.is }
-    where
-      by_run : (run : Run Flow) → Comes_to (world flow r room) callee.entry_of (fresh (arguments_in callee.params_of (map g.slots args))) s.printed run P → Comes_to (world flow r (suc room)) p g s.printed (run then_do λ how after. Going (value_returned how) (record after { variables = s.variables })) (Came x next g s)
-      by_run (Going how t) c =
-          let inner = c.comes t.printed (returned (value_returned how)) (ends how t c.at c.frame c.holds) in
-          record {
-            at = next;
-            frame = set_slot g x (value_returned how);
-            holds = record { at = refl; frame = refl; variables = refl };
-            comes = call_comes flow r room p x n next args callee g (value_returned how) s.printed t.printed at is inner;
-          }
-      by_run (Over Ended w) c = call_quits flow r room p x n next args callee g s.printed w at is c
-      by_run (Over (Faulted fault) w) c = tt
-      by_run (Over Spent w) c = tt
-      by_run (Over Deep w) c = tt
+  module _ (p x n next : ℕ) (args : List ℕ) (callee : PlainFlowFunction) (g : Frame) (s : State) (left c : ℕ) (few : suc c ≤ cost) (at : point_at flow p ≡ Some (call_point x n args next)) (is : function_at flow n ≡ Some callee) where
+    called_back : (how : Flow) (t : State) (P : Post Flow) → (l : Lands (world flow r strict cost room) c callee.entry_of (fresh (arguments_in callee.params_of (map g.slots args))) left s.printed t (P how t)) → Ends (world flow r strict cost room) callee.entry_of (fresh (arguments_in callee.params_of (map g.slots args))) s.printed t.printed (returned (value_returned how)) → (w : List ℕ) (end : FlowEnd) (most : ℕ) → Comes_back (world flow r strict cost (suc room)) room x next callee (map g.slots args) g w end most ⊎ Stays_in (world flow r strict cost (suc room)) room callee (map g.slots args) w end most → Rest (world flow r strict cost (suc room)) next (set_slot g x (value_returned how)) (suc left) (t.left + most + 0)
+    called_back how t P l inner w end most (inl b) =
+        let same = one_run inner.runs b.inner in
+        let a = l.back b.u (returned b.v) b.inner in
+        let paid = b.paid in
+        let whole : Rest (world flow r strict cost (suc room)) next (set_slot g x b.v) (suc left) (t.left + most + 0) = record { more = b.more; end = end; rest = b.rest; paid = omega (arith, a.paid, paid, few) } in
+        subst (λ v. Rest (world flow r strict cost (suc room)) next (set_slot g x v) (suc left) (t.left + most + 0)) (sym (returned_same (value_returned how) b.v same.ends)) whole
+    called_back how t P l inner w end most (inr b) = absurd (ends_apart (value_returned how) (one_run inner.runs b.inner).ends)
+
+    enters : (run : Run Flow) (P : Post Flow) → ((how : Flow) (s : State) (q : ℕ) (h : Frame) → P how s q h → Ends (world flow r strict cost room) q h s.printed s.printed (returned (value_returned how))) → Follows (world flow r strict cost room) c Flow callee.entry_of (fresh (arguments_in callee.params_of (map g.slots args))) left s.printed run P → Follows (world flow r strict cost (suc room)) 0 Plain p g (suc left) s.printed (run then_do λ how after. Going (value_returned how) (record after { variables = s.variables })) (Came x next g s)
+    unfolding ◌then_do◌
+    enters run P ends h = record { is = by_run run h.is }
+      where
+        sticks : Stuck (world flow r strict cost room) callee.entry_of (fresh (arguments_in callee.params_of (map g.slots args))) → Stuck (world flow r strict cost (suc room)) p g
+        sticks stuck asked w end run =
+            let a = inside (goes_in is (first (world flow r strict cost (suc room)) run (call_point x n args next) at)) in
+            stuck asked a.w a.end a.inner
+
+        by_run : (run : Run Flow) → Comes_to (world flow r strict cost room) c callee.entry_of (fresh (arguments_in callee.params_of (map g.slots args))) left s.printed run P → Comes_to (world flow r strict cost (suc room)) 0 p g (suc left) s.printed (run then_do λ how after. Going (value_returned how) (record after { variables = s.variables })) (Came x next g s)
+        by_run (Going how t) l =
+            let inner = l.forth t.printed (returned (value_returned how)) (ends how t l.at l.frame l.holds) in
+            record {
+              at = next;
+              frame = set_slot g x (value_returned how);
+              holds = record { at = refl; frame = refl; variables = refl };
+              falls = let a = l.falls in omega (arith, a);
+              forth = call_returns flow r strict cost room p x n next args callee g (value_returned how) s.printed t.printed at is inner;
+              back = λ w end run. called_back how t P l inner w end (credit cost run) (goes_in is (first (world flow r strict cost (suc room)) run (call_point x n args next) at));
+            }
+        by_run (Over Ended w) l = call_quits flow r strict cost room p x n next args callee g s.printed w at is l
+        by_run (Over (Faulted fault) w) l = sticks l
+        by_run (Over Spent w) l = λ w end run.
+            let a = inside (goes_in is (first (world flow r strict cost (suc room)) run (call_point x n args next) at)) in
+            let b = l a.w a.end a.inner in
+            omega (arith, a.paid, b, few)
+        by_run (Over Deep w) l = sticks l
+
+none_open : (room : ℕ) → zero ≡ suc room → ⊥
+none_open room e = cc
 
 pub names_there : (table : List PlainFunction) (f : PlainFunction) (slot : ℕ) → HasAll (scope_of table f slot).names (map name_of_param f.params_of ++ names_of f.body_of)
 unfolding scope_of variables_of
 names_there table f slot = once_has (map name_of_param f.params_of ++ names_of f.body_of)
 
-module _ {flow : PlainFlow} {r : PlainRequest} (table : List PlainFunction) (defaults : HaveDefaults table) (stands : (k : ℕ) (f : PlainFunction) → slice_get table k ≡ Some f → Stands flow table (suc k) f) where
+-- where no call may be open, a call of a function of the script opens too many
+pub no_calls : {flow : PlainFlow} {r : PlainRequest} {strict : Bool} {cost : ℕ} (table : List PlainFunction) → CallsDo (world flow r strict cost zero) table
+no_calls {flow} {r} {strict} {cost} table name n f not_builtin is p x next args g s vs at given =
+    let fd = found table 1 n f name is in
+    subst (λ run. Follows (world flow r strict cost zero) 0 Plain p g s.left s.printed run (Came x next g s)) (sym (deep_call r table name f vs s not_builtin fd.named)) (unit_paid s _ (λ left taken. record { is = λ asked w end run. none_open (first (world flow r strict cost zero) run (call_point x n args next) at).room (first (world flow r strict cost zero) run (call_point x n args next) at).is_room }))
+
+module _ {flow : PlainFlow} {r : PlainRequest} {strict : Bool} {cost : ℕ} (table : List PlainFunction) (defaults : HaveDefaults table) (stands : (k : ℕ) (f : PlainFunction) → slice_get table k ≡ Some f → Stands flow table (suc k) f)
+    (keyed : (k : ℕ) (f : PlainFunction) → slice_get table k ≡ Some f → strict ≡ true → StmtsKeyed f.body_of) (few : (k : ℕ) (f : PlainFunction) → slice_get table k ≡ Some f → suc (stmts_units f.body_of) ≤ cost) where
   -- a function whose points stand here, from a state whose variables its slots show
-  function_follows : (room : ℕ) → CallsDo (world flow r room) table → (f : PlainFunction) (point slot : ℕ) (frame : Frame) (s : State) → HasAt flow point (flat_function table f point slot).points_of → Shows (scope_of table f slot) s frame → Follows (world flow r room) Flow point frame s.printed (statements (env (world flow r room) table) f.body_of s) (λ how t q g. Ends (world flow r room) q g t.printed t.printed (returned (value_returned how)))
+  function_follows : (room : ℕ) → CallsDo (world flow r strict cost room) table → (f : PlainFunction) (point slot : ℕ) (frame : Frame) (s : State) → (strict ≡ true → StmtsKeyed f.body_of) → suc (stmts_units f.body_of) ≤ cost → HasAt flow point (flat_function table f point slot).points_of → Shows (scope_of table f slot) s frame → Follows (world flow r strict cost room) (stmts_units f.body_of) Flow point frame s.left s.printed (statements (env (world flow r strict cost room) table) f.body_of s) (λ how t q g. Ends (world flow r strict cost room) q g t.printed t.printed (returned (value_returned how)))
   unfolding flat_function body_of_function scope_of
-  function_follows room calls f point slot frame s has shows =
+  function_follows room calls f point slot frame s own_keyed own_few has shows =
       let w = scope_of table f slot in
       let body = block w f.body_of in
       let e = point + body.size in
       let start = slot + length (variables_of f) in
       let to : Targets = record { stop = e; again = e } in
-      let d = block_does {m = world flow r room} {w = w} calls defaults f.body_of (all_back w.names (map name_of_param f.params_of) (names_of f.body_of) (names_there table f slot)) in
+      let d = block_does {m = world flow r strict cost room} {w = w} calls defaults f.body_of (all_back w.names (map name_of_param f.params_of) (names_of f.body_of) (names_there table f slot)) own_keyed (omega (arith, own_few)) in
       let ends = has_back flow point body.size (body.points to point start) _ (d.long to point start) has in
       onward (d.follows to point start frame s (has_front flow point (body.points to point start) _ has) (omega arith) shows)
       (λ how t q g went. here (body_ends w to e start _ q frame g how t refl refl ends.0 ends.1.0 went))
 
-  called_follows : (room : ℕ) → CallsDo (world flow r room) table → (n : ℕ) (f : PlainFunction) (point slot : ℕ) → HasAt flow point (flat_function table f point slot).points_of → function_at flow n ≡ Some (flat_function table f point slot) → (p x next : ℕ) (args : List ℕ) (g : Frame) (s : State) (vs : List Plain) → point_at flow p ≡ Some (call_point x n args next) → map g.slots args ≡ handed f vs → Follows (world flow r (suc room)) Plain p g s.printed (run_body (env (world flow r room) table) f vs s) (Came x next g s)
+  called_follows : (room : ℕ) → CallsDo (world flow r strict cost room) table → (n : ℕ) (f : PlainFunction) (point slot : ℕ) → (strict ≡ true → StmtsKeyed f.body_of) → suc (stmts_units f.body_of) ≤ cost → HasAt flow point (flat_function table f point slot).points_of → function_at flow n ≡ Some (flat_function table f point slot) → (p x next : ℕ) (args : List ℕ) (g : Frame) (s : State) (left : ℕ) (vs : List Plain) → s.left ≡ left → point_at flow p ≡ Some (call_point x n args next) → map g.slots args ≡ handed f vs → Follows (world flow r strict cost (suc room)) 0 Plain p g (suc left) s.printed (run_body (env (world flow r strict cost room) table) f vs s) (Came x next g s)
   unfolding run_body flat_function scope_of fresh
-  called_follows room calls n f point slot has is p x next args g s vs at given =
+  called_follows room calls n f point slot own_keyed own_few has is p x next args g s left vs same at given =
       let w = scope_of table f slot in
       let callee = flat_function table f point slot in
       let s1 : State = record s { variables = arguments_of f.params_of vs } in
       let shows : Shows w s1 (fresh (arguments_in callee.params_of (map g.slots args))) = λ y hy. ap (λ vs. arguments_in callee.params_of vs (variable w y)) given ∙ arguments_show w f.params_of vs y (all_front w.names (map name_of_param f.params_of) (names_of f.body_of) (names_there table f slot)) hy in
-      enters p x n next args callee g s _ (λ how t q g. Ends (world flow r room) q g t.printed t.printed (returned (value_returned how))) at is (λ how t q h e. e) (function_follows room calls f point slot _ s1 has shows)
+      enters p x n next args callee g s left (stmts_units f.body_of) own_few at is _ (λ how t q g. Ends (world flow r strict cost room) q g t.printed t.printed (returned (value_returned how))) (λ how t q h e. e)
+      (subst (λ n. Follows (world flow r strict cost room) (stmts_units f.body_of) Flow point (fresh (arguments_in callee.params_of (map g.slots args))) n s.printed (statements (env (world flow r strict cost room) table) f.body_of s1) (λ how t q g. Ends (world flow r strict cost room) q g t.printed t.printed (returned (value_returned how)))) same
+      (function_follows room calls f point slot _ s1 own_keyed own_few has shows))
 
-  pub calls_do : (room : ℕ) → CallsDo (world flow r room) table
-  calls_do zero name n f not_builtin is p x next args g s vs at given =
-      let fd = found table 1 n f name is in
-      subst (λ run. Follows (world flow r zero) Plain p g s.printed run (Came x next g s)) (sym (deep_call r table name f vs s not_builtin fd.named)) (unit s _ (λ left. record { is = tt }))
-  calls_do (suc room) name n f not_builtin is p x next args g s vs at given =
+  pub calls_do : (room : ℕ) → CallsDo (world flow r strict cost room) table
+  calls_do zero = no_calls {flow = flow} {r = r} {strict = strict} {cost = cost} table
+  calls_do (suc room) = λ name n f not_builtin is p x next args g s vs at given.
       let fd = found table 1 n f name is in
       let st = stands fd.place f fd.is in
       let number = fd.number in
       let callee = flat_function table f st.point st.slot in
       let is_callee : function_at flow n ≡ Some callee = subst (λ n. function_at flow n ≡ Some callee) (omega (arith, number)) st.is in
-      subst (λ run. Follows (world flow r (suc room)) Plain p g s.printed run (Came x next g s)) (sym (found_call r table room name f vs s not_builtin fd.named))
-      (unit {P = Came x next g s} s _ (λ left. onward (called_follows room (calls_do room) n f st.point st.slot st.has is_callee p x next args g (record s { left = left }) vs at given) (λ v t q h came. here (record { at = came.at; frame = came.frame; variables = came.variables }))))
+      subst (λ run. Follows (world flow r strict cost (suc room)) 0 Plain p g s.left s.printed run (Came x next g s)) (sym (found_call r table room name f vs s not_builtin fd.named))
+      (unit_paid {P = Came x next g s} s _ (λ left taken. onward (called_follows room (calls_do room) n f st.point st.slot (keyed fd.place f fd.is) (few fd.place f fd.is) st.has is_callee p x next args g (record s { left = left }) left vs refl at given) (λ v t q h came. here (record { at = came.at; frame = came.frame; variables = came.variables }))))
 
 faulted_apart : (fault : Fault) → Faulted fault ≡ Ended → ⊥
 faulted_apart fault e = cc
@@ -205,27 +255,84 @@ spent_apart e = cc
 deep_apart : Deep ≡ Ended → ⊥
 deep_apart e = cc
 
-outcome_ends : (run : Run Flow) (w : List ℕ) → outcome_of run ≡ record { printed = w; end = Ended } → (flow : PlainFlow) (r : PlainRequest) (point : ℕ) (frame : Frame) → Follows (world flow r 256) Flow point frame [] run (λ how t q g. Ends (world flow r 256) q g t.printed t.printed (returned (value_returned how))) → (end : FlowEnd) × Ends (world flow r 256) point frame [] w end
+outcome_ends : (run : Run Flow) (w : List ℕ) → outcome_of run ≡ record { printed = w; end = Ended } → (flow : PlainFlow) (r : PlainRequest) (strict : Bool) (cost c point n : ℕ) (frame : Frame) → Follows (world flow r strict cost 256) c Flow point frame n [] run (λ how t q g. Ends (world flow r strict cost 256) q g t.printed t.printed (returned (value_returned how))) → (end : FlowEnd) × Ends (world flow r strict cost 256) point frame [] w end
 unfolding outcome_of
-outcome_ends (Going how s) w e flow r point frame h =
-    let c = h.is in
+outcome_ends (Going how s) w e flow r strict cost c point n frame h =
+    let l = h.is in
     let same : s.printed ≡ w = ap (λ (o : Outcome). o.printed) e in
-    (returned (value_returned how), subst (λ w. Ends (world flow r 256) point frame [] w (returned (value_returned how))) same (c.comes s.printed (returned (value_returned how)) c.holds))
-outcome_ends (Over Ended u) w e flow r point frame h =
+    (returned (value_returned how), subst (λ w. Ends (world flow r strict cost 256) point frame [] w (returned (value_returned how))) same (l.forth s.printed (returned (value_returned how)) l.holds))
+outcome_ends (Over Ended u) w e flow r strict cost c point n frame h =
     let same : u ≡ w = ap (λ (o : Outcome). o.printed) e in
-    (exited, subst (λ w. Ends (world flow r 256) point frame [] w exited) same h.is)
-outcome_ends (Over (Faulted fault) u) w e flow r point frame h = absurd (faulted_apart fault (ap (λ (o : Outcome). o.end) e))
-outcome_ends (Over Spent u) w e flow r point frame h = absurd (spent_apart (ap (λ (o : Outcome). o.end) e))
-outcome_ends (Over Deep u) w e flow r point frame h = absurd (deep_apart (ap (λ (o : Outcome). o.end) e))
+    (exited, subst (λ w. Ends (world flow r strict cost 256) point frame [] w exited) same h.is)
+outcome_ends (Over (Faulted fault) u) w e flow r strict cost c point n frame h = absurd (faulted_apart fault (ap (λ (o : Outcome). o.end) e))
+outcome_ends (Over Spent u) w e flow r strict cost c point n frame h = absurd (spent_apart (ap (λ (o : Outcome). o.end) e))
+outcome_ends (Over Deep u) w e flow r strict cost c point n frame h = absurd (deep_apart (ap (λ (o : Outcome). o.end) e))
+
+-- where the points have a run that costs less than the units that there are, the run of the script has ended, and printed the same
+ends_outcome : (run : Run Flow) (w : List ℕ) (end : FlowEnd) (flow : PlainFlow) (r : PlainRequest) (cost c point n : ℕ) (frame : Frame) → Follows (world flow r true cost 256) c Flow point frame n [] run (λ how t q g. Ends (world flow r true cost 256) q g t.printed t.printed (returned (value_returned how))) → (points : RunsFrom flow r 256 point frame w end) → suc (credit cost points + c) ≤ n → outcome_of run ≡ record { printed = w; end = Ended }
+unfolding outcome_of
+ends_outcome (Going how s) w end flow r cost c point n frame h points more =
+    let l = h.is in
+    let ends = l.forth s.printed (returned (value_returned how)) l.holds in
+    let same : s.printed ≡ w = ends.all ∙ (one_run ends.runs points).bytes in
+    ap (λ (w : List ℕ). (let o : Outcome = record { printed = w; end = Ended } in o)) same
+ends_outcome (Over Ended u) w end flow r cost c point n frame h points more =
+    let ends = h.is in
+    let same : u ≡ w = ends.all ∙ (one_run ends.runs points).bytes in
+    ap (λ (w : List ℕ). (let o : Outcome = record { printed = w; end = Ended } in o)) same
+ends_outcome (Over (Faulted fault) u) w end flow r cost c point n frame h points more = absurd (h.is refl w end points)
+ends_outcome (Over Spent u) w end flow r cost c point n frame h points more = let few = h.is w end points in absurd (omega (arith, few, more))
+ends_outcome (Over Deep u) w end flow r cost c point n frame h points more = absurd (h.is refl w end points)
+
+-- the units of all functions
+abbrev functions_units : List PlainFunction → ℕ
+functions_units [] = 0
+functions_units (f ∷ fs) = stmts_units f.body_of + functions_units fs
+
+units_within : (fs : List PlainFunction) (k : ℕ) (f : PlainFunction) → slice_get fs k ≡ Some f → stmts_units f.body_of ≤ functions_units fs
+units_within [] k f e = absurd cc
+units_within (g ∷ fs) zero f e = let same : g ≡ f = cc in subst (λ (f : PlainFunction). stmts_units f.body_of ≤ functions_units (g ∷ fs)) same (omega arith)
+units_within (g ∷ fs) (suc k) f e = let h = units_within fs k f e in omega (arith, h)
+
+keyed_within : (fs : List PlainFunction) → FunctionsKeyed fs → (k : ℕ) (f : PlainFunction) → slice_get fs k ≡ Some f → StmtsKeyed f.body_of
+keyed_within [] h k f e = absurd cc
+keyed_within (g ∷ fs) h zero f e = let same : g ≡ f = cc in subst (λ (f : PlainFunction). StmtsKeyed f.body_of) same h.0
+keyed_within (g ∷ fs) h (suc k) f e = keyed_within fs h.1 k f e
+
+-- what a point of the program is to cost
+abbrev cost_of : PlainProgram → ℕ
+cost_of program = suc (stmts_units program.main_of + functions_units program.functions_of)
+
+module _ (program : PlainProgram) (r : PlainRequest) (strict : Bool) (defaults : HaveDefaults program.functions_of) (keyed : strict ≡ true → ProgramKeyed program) where
+  main_follows : (n : ℕ) → Follows (world (flat program) r strict (cost_of program) 256) (stmts_units program.main_of) Flow 0 (fresh (λ x. null)) n [] (statements (env (world (flat program) r strict (cost_of program) 256) program.functions_of) program.main_of (record { left = n; variables = []; printed = [] })) (λ how t q g. Ends (world (flat program) r strict (cost_of program) 256) q g t.printed t.printed (returned (value_returned how)))
+  unfolding flat flat_functions flat_function main_function fresh points_in
+  main_follows n =
+      let main = main_function program in
+      let table = program.functions_of in
+      let flow = flat program in
+      let has = has_all flow in
+      let stands : (k : ℕ) (f : PlainFunction) → slice_get table k ≡ Some f → Stands flow table (suc k) f = λ k f is. (let pl = placed flow table (main ∷ table) 0 0 has (suc k) f is in record { point = pl.at_point; slot = pl.at_slot; is = pl.is; has = pl.has }) in
+      let first = has_front flow 0 (flat_function table main 0 0).points_of _ has in
+      let all_keyed : (k : ℕ) (f : PlainFunction) → slice_get table k ≡ Some f → strict ≡ true → StmtsKeyed f.body_of = λ k f is asked. keyed_within table (keyed asked).functions k f is in
+      let few : (k : ℕ) (f : PlainFunction) → slice_get table k ≡ Some f → suc (stmts_units f.body_of) ≤ cost_of program = λ k f is. (let a = units_within table k f is in omega (arith, a)) in
+      function_follows table defaults stands all_keyed few 256 (calls_do table defaults stands all_keyed few 256) main 0 0 (fresh (λ x. null)) (record { left = n; variables = []; printed = [] }) (λ asked. (keyed asked).main) (omega arith) first (λ x hx. refl)
+
+pub none_asked : {A : Type 0} → false ≡ true → A
+none_asked e = absurd cc
 
 pub ended_runs : (program : PlainProgram) (r : PlainRequest) (n : ℕ) (w : List ℕ) → HaveDefaults program.functions_of → meaning program r n ≡ record { printed = w; end = Ended } → FlatRun (flat program) r w
-unfolding meaning flat flat_functions flat_function main_function fresh points_in
+unfolding meaning flat flat_functions flat_function main_function fresh
 ended_runs program r n w defaults e =
-    let main = main_function program in
-    let table = program.functions_of in
     let flow = flat program in
-    let has = has_all flow in
-    let stands : (k : ℕ) (f : PlainFunction) → slice_get table k ≡ Some f → Stands flow table (suc k) f = λ k f is. (let pl = placed flow table (main ∷ table) 0 0 has (suc k) f is in record { point = pl.at_point; slot = pl.at_slot; is = pl.is; has = pl.has }) in
-    let first = has_front flow 0 (flat_function table main 0 0).points_of _ has in
-    let ends = outcome_ends _ w e flow r 0 (fresh (λ x. null)) (function_follows table defaults stands 256 (calls_do table defaults stands 256) main 0 0 (fresh (λ x. null)) (record { left = n; variables = []; printed = [] }) first (λ x hx. refl)) in
-    record { main = flat_function table main 0 0; is_main = refl; end = ends.0; runs = subst (λ w. RunsFrom flow r 256 0 (fresh (λ x. null)) w ends.0) (sym (ends.1).all) (ends.1).runs }
+    let ends = outcome_ends _ w e flow r false (cost_of program) (stmts_units program.main_of) 0 n (fresh (λ x. null)) (main_follows program r false defaults none_asked n) in
+    record { main = flat_function program.functions_of (main_function program) 0 0; is_main = refl; end = ends.0; runs = subst (λ w. RunsFrom flow r 256 0 (fresh (λ x. null)) w ends.0) (sym (ends.1).all) (ends.1).runs }
+
+pub runs_ended : (program : PlainProgram) (r : PlainRequest) (w : List ℕ) → HaveDefaults program.functions_of → ProgramKeyed program → FlatRun (flat program) r w → (n : ℕ) × (meaning program r n ≡ record { printed = w; end = Ended })
+unfolding meaning flat flat_functions flat_function main_function fresh
+runs_ended program r w defaults keyed run =
+    let flow = flat program in
+    let main : PlainFlowFunction = flat_function program.functions_of (main_function program) 0 0 in
+    let same : run.main ≡ main = some_same run.main main (function_at flow 0) run.is_main refl in
+    let points : RunsFrom flow r 256 0 (fresh (λ x. null)) w run.end = subst (λ (g : PlainFlowFunction). RunsFrom flow r 256 g.entry_of (fresh (λ x. null)) w run.end) same run.runs in
+    let n = suc (credit (cost_of program) points + stmts_units program.main_of) in
+    (n, ends_outcome _ w run.end flow r (cost_of program) (stmts_units program.main_of) 0 n (fresh (λ x. null)) (main_follows program r true defaults (λ asked. keyed) n) points (omega arith))

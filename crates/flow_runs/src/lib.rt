@@ -4,4 +4,6 @@
 
 mod laws;
 
-pub use laws::{ended_runs_are_runs_of_points, points_are_of_their_form};
+pub use laws::{
+    ended_runs_are_runs_of_points, points_are_of_their_form, runs_of_points_are_ended_runs,
+};

@@ -3,7 +3,7 @@ use Rattle.std.specs.Prelude.{◌≡◌, ℕ, List, [], Option, Some, None, map,
 use Rattle.flow_code.specs.Points.{PlainFlowFunction, PlainFlow, points_in}
 use Rattle.flow_code.specs.View.{plain_flow}
 use Rattle.loose_sets.specs.Keys.{told_keys}
-use Rattle.ssa_form.specs.Versions.{IsExact, AreOnce}
+use Rattle.ssa_form.specs.Versions.{IsExact, AreOnce, AreJoins}
 use Rattle.set_names.specs.declared.name.Aspect.{Aspect}
 use Rattle.set_names.specs.declared.name.SetVersion.TheVariants.{Point, Entry, Join}
 use Rattle.set_names.specs.declared.name.SetName.{SetName}
@@ -38,6 +38,7 @@ pub record AreTables (t : FlowTables) : Type 0 where
   pub told : keys_seen t.told.items ≡ told_keys (flow_of t)
   pub exact : IsExact (flow_of t) t.versions
   pub once : AreOnce t.versions
+  pub joins : AreJoins (flow_of t) t.versions
   pub returned : pairs_seen t.returned.items ≡ map (returned_pairs (points_seen t.row)) (functions_of t)
   pub handed : t.handed.all.items ≡ handings_from (functions_of t) 0 (points_seen t.row)
   pub groups : AreGroups t.handed.all.items t.handed.groups.keys.keys t.handed.groups.places.items

@@ -4,6 +4,7 @@ use Rattle.std.specs.List.{list_any}
 use Rattle.plain_values.specs.Plain.{PlainKey, int_key, text_key}
 use Rattle.plain_values.specs.Keys.{canonical_integer, canonical_key, same_key}
 use Rattle.flow_code.specs.Points.{PlainKeyRef, int_ref, text_ref, read_ref, PlainSource, member_source, array_source, put_source, PlainPoint, set_point, PlainFlow, points_in}
+use Rattle.loose_sets.specs.declared.TheConstants.{TOLD_KEYS}
 
 -- the key that a literal stands for
 unfoldable pub literal_key : PlainKeyRef → Option PlainKey
@@ -57,7 +58,7 @@ keys_once (k ∷ ks) = k ∷ without_key k (keys_once ks)
 -- the keys that are told apart, in the order of points
 unfoldable pub told_keys : PlainFlow → List PlainKey
 unfolding points_in point_keys keys_once
-told_keys flow = take 64 (keys_once (flat_map point_keys (points_in flow.functions_of)))
+told_keys flow = take TOLD_KEYS (keys_once (flat_map point_keys (points_in flow.functions_of)))
 
 -- whether the key is an integer
 abbrev pub is_integer_key : PlainKey → Bool

@@ -1,7 +1,6 @@
 -- The table of the sets: a row says one way in which the texts of a set are made (after Minamide, Static Approximation of Dynamically
--- Generated
--- Web Pages, WWW 2005; members by key are this project's own). Rows that hand on all aspects of a value also name keys that are not told
--- apart; no set that is used asks for those.
+-- Generated Web Pages, WWW 2005; members by key are this project's own). Rows that hand on all aspects of a value also name keys that are
+-- not told apart; no set that is used asks for those.
 use Rattle.std.specs.Prelude.{◌≡◌, ⊤, ℕ, ℤ, suc, true, false, if◌then◌else◌, List, [], ◌∷◌, Option, Some, None, Contains, codes, slice_get, length}
 use Rattle.std.specs.Fmt.{signed_decimal}
 use Rattle.plain_values.specs.Plain.{Plain, PlainKey}

@@ -3,3 +3,6 @@
 //! its loose pages, as definitions. Below stand flow_code, which has the points, and least_sets,
 //! which says what the least sets of a table are.
 #![tactic(auto)]
+
+/// How many keys are told apart at most.
+pub const TOLD_KEYS: usize = 64;

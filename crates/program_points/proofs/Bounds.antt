@@ -10,10 +10,11 @@ use Rattle.builtin_meaning.specs.Names.{builtin_named}
 use Rattle.script_meaning.specs.Programs.{PlainProgram, function_named, literal_value}
 use Rattle.program_rules.specs.Limits.{as_file}
 use Rattle.php_program.specs.Lawful.{IsLawful}
-use Rattle.program_rules.specs.Calls.{PlainCall, calls_in, maybe_calls, part_calls, item_calls, path_calls, calls_of, statement_calls, arm_calls, function_calls, calls_of_program, number_of}
+use Rattle.program_expressions.specs.Collected.{collected, collected_of, bodies_collected}
+use Rattle.program_rules.specs.Calls.{PlainCall, own_call, calls_in, maybe_calls, part_calls, item_calls, path_calls, calls_of, statement_calls, arm_calls, function_calls, calls_of_program, number_of}
 use Rattle.flow_code.specs.Points.{PlainKeyRef}
-use Rattle.flow_code.specs.Code.{Code, Block}
-use Rattle.flow_code.specs.Expressions.{Scope, variable, function_in, default_code, default_codes, code, codes, maybe_key, path_code, items_code, key_code, call_code, call_own, update_code, step_code, old_value, length_of_path, number_of as slots_asked}
+use Rattle.flow_code.specs.Code.{Code, both, Block}
+use Rattle.flow_code.specs.Expressions.{Scope, variable, function_in, default_code, default_codes, code, codes, maybe_key, path_code, join_code, Begun, no_item, one_item, items_code, key_code, call_code, call_own, update_code, step_code, old_value, length_of_path, number_of as slots_asked}
 use Rattle.flow_code.specs.Statements.{test_code, return_block, quit_block, echo_block, stmt_block, block, arms_block, pair_size, key_variable}
 use Rattle.flow_code.specs.Points.{PlainFlow, points_in}
 use Rattle.flow_code.specs.Flat.{scope_of, flat_function, flat_functions, main_function, flat}
@@ -70,8 +71,14 @@ unfolding step_code
 step_size x up true = refl
 step_size x up false = refl
 
+join_size : (es : PlainExprs) (parts : Code (List ℕ)) → (join_code es parts).size ≤ parts.size + 2
+unfolding join_code
+join_size no_exprs parts = omega arith
+join_size (more_exprs e no_exprs) parts = omega arith
+join_size (more_exprs e (more_exprs f es)) parts = omega arith
+
 mutual
-  unfolding code nodes calls_in expr_fits length_of_path
+  unfolding code nodes collected own_call expr_fits length_of_path
 
   expr_size : (w : Scope) (e : PlainExpr) → expr_fits e ≡ true → (code w e).size + 2 ≤ 8 * nodes e + 2 * left_out w.functions (calls_in e)
   expr_size w null_expr s = omega arith
@@ -83,8 +90,8 @@ mutual
   expr_size w (member_expr a b) s =
       let h = expr_size w a (left (expr_fits a) (expr_fits b) s) in let k = expr_size w b (right (expr_fits a) (expr_fits b) s) in
       let l = left_both w.functions (calls_in a) (calls_in b) in let m = key_size w b in omega (arith, h, k, l, m)
-  expr_size w (array_expr items) s = let h = items_size w items s in omega (arith, h)
-  expr_size w (join_expr parts) s = let h = exprs_size w parts s in omega (arith, h)
+  expr_size w (array_expr items) s = let h = items_size w items s no_item in omega (arith, h)
+  expr_size w (join_expr parts) s = let h = exprs_size w parts s in let k = join_size parts (codes w parts) in omega (arith, h, k)
   expr_size w (neg_expr a) s = let h = expr_size w a s in omega (arith, h)
   expr_size w (not_expr a) s = let h = expr_size w a s in omega (arith, h)
   expr_size w (arith_expr sign a b) s =
@@ -139,12 +146,12 @@ mutual
   maybe_size w no_expr s = omega arith
   maybe_size w (some_expr e) s = let h = expr_size w e s in let k = key_size w e in omega (arith, h, k)
 
-  items_size : (w : Scope) (is : PlainItems) → items_fit is ≡ true → (items_code w is).size ≤ 8 * items_nodes is + 2 * left_out w.functions (item_calls is)
-  items_size w no_items s = omega arith
-  items_size w (more_items m e is) s =
+  items_size : (w : Scope) (is : PlainItems) → items_fit is ≡ true → (begun : Code Begun) → (items_code w is begun).size ≤ begun.size + 8 * items_nodes is + 2 * left_out w.functions (item_calls is)
+  items_size w no_items s begun = omega arith
+  items_size w (more_items m e is) s begun =
       let s1 = right (maybe_fits m) (expr_fits e && items_fit is) s in
       let h = maybe_size w m (left (maybe_fits m) (expr_fits e && items_fit is) s) in
-      let k = expr_size w e (left (expr_fits e) (items_fit is) s1) in let n = items_size w is (right (expr_fits e) (items_fit is) s1) in
+      let k = expr_size w e (left (expr_fits e) (items_fit is) s1) in let n = items_size w is (right (expr_fits e) (items_fit is) s1) (one_item begun (both (maybe_key w m) (code w e) (λ key x. (key, x)))) in
       let l = left_both w.functions (maybe_calls m) (calls_in e ++ item_calls is) in let o = left_both w.functions (calls_in e) (item_calls is) in omega (arith, h, k, n, l, o)
 
   path_size : (w : Scope) (ks : PlainPath) → path_fits ks ≡ true → (path_code w ks).size ≤ 8 * path_nodes ks + 2 * left_out w.functions (path_calls ks)
@@ -166,29 +173,29 @@ pair_few None = omega arith
 pair_few (Some key) = omega arith
 
 echo_size : (w : Scope) (es : PlainExprs) → exprs_fit es ≡ true → (echo_block w es).size ≤ 8 * exprs_nodes es + 2 * left_out w.functions (part_calls es)
-unfolding echo_block nodes calls_in expr_fits
+unfolding echo_block nodes collected own_call expr_fits
 echo_size w no_exprs s = omega arith
 echo_size w (more_exprs e es) s =
     let h = expr_size w e (left (expr_fits e) (exprs_fit es) s) in let k = echo_size w es (right (expr_fits e) (exprs_fit es) s) in
     let l = left_both w.functions (calls_in e) (part_calls es) in omega (arith, h, k, l)
 
 test_size : (w : Scope) (m : MaybeExpr) → maybe_fits m ≡ true → (test_code w m).size ≤ 8 * maybe_nodes m + 2 * left_out w.functions (maybe_calls m)
-unfolding test_code nodes calls_in expr_fits
+unfolding test_code nodes collected own_call expr_fits
 test_size w no_expr s = omega arith
 test_size w (some_expr e) s = let h = expr_size w e s in omega (arith, h)
 
 return_size : (w : Scope) (m : MaybeExpr) → maybe_fits m ≡ true → (return_block w m).size ≤ 2 + 8 * maybe_nodes m + 2 * left_out w.functions (maybe_calls m)
-unfolding return_block nodes calls_in expr_fits
+unfolding return_block nodes collected own_call expr_fits
 return_size w no_expr s = omega arith
 return_size w (some_expr e) s = let h = expr_size w e s in omega (arith, h)
 
 quit_size : (w : Scope) (m : MaybeExpr) → maybe_fits m ≡ true → (quit_block w m).size ≤ 2 + 8 * maybe_nodes m + 2 * left_out w.functions (maybe_calls m)
-unfolding quit_block nodes calls_in expr_fits
+unfolding quit_block nodes collected own_call expr_fits
 quit_size w no_expr s = omega arith
 quit_size w (some_expr e) s = let h = expr_size w e s in omega (arith, h)
 
 mutual
-  unfolding stmt_block stmt_nodes calls_of stmt_fits
+  unfolding stmt_block stmt_nodes collected_of own_call stmt_fits
 
   stmt_size : (w : Scope) (i f : Bool) (st : PlainStmt) → stmt_fits i f st ≡ true → (stmt_block w st).size ≤ 8 * stmt_nodes st + 2 * left_out w.functions (calls_of st)
   stmt_size w i f (inline_stmt bytes) s = omega arith
@@ -237,7 +244,7 @@ mutual
       let k = stmts_size w i f ss (left (stmts_fit i f ss) (arms_fit i f arms) s1) in let n = arms_size w i f arms (right (stmts_fit i f ss) (arms_fit i f arms) s1) other in
       let l = left_both w.functions (calls_in e) (statement_calls ss ++ arm_calls arms) in let m = left_both w.functions (statement_calls ss) (arm_calls arms) in omega (arith, h, k, n, l, m)
 
-module _ (flow : PlainFlow) (table : List PlainFunction) (defaults : HaveDefaults table) (calls : CallsDo (world flow no_request zero) table) where
+module _ (flow : PlainFlow) (table : List PlainFunction) (defaults : HaveDefaults table) (calls : (cost : ℕ) → CallsDo (world flow no_request false cost zero) table) where
   function_points : (i g : Bool) (f : PlainFunction) (p t : ℕ) → stmts_fit i g f.body_of ≡ true → length (flat_function table f p t).points_of ≤ 8 * stmts_nodes f.body_of + 2 + 2 * left_out table (statement_calls f.body_of)
   unfolding scope_of
   function_points i g f p t s =
@@ -246,7 +253,7 @@ module _ (flow : PlainFlow) (table : List PlainFunction) (defaults : HaveDefault
       omega (arith, h, e)
 
   functions_points : (fs : List PlainFunction) (p t : ℕ) → functions_fit fs ≡ true → length (points_in (flat_functions table fs p t)) ≤ 8 * functions_nodes fs + 2 * length fs + 2 * left_out table (function_calls fs)
-  unfolding flat_functions points_in function_calls
+  unfolding flat_functions points_in bodies_collected
   functions_points [] p t s = omega arith
   functions_points (f ∷ fs) p t s =
       let s1 = right (params_fit f.params_of) (stmts_fit false true f.body_of && functions_fit fs) s in
@@ -262,7 +269,7 @@ unfolding flat flat_functions points_in main_function calls_of_program
 points_few program lawful =
     let table = program.functions_of in
     let defaults = have_defaults program lawful in
-    let calls = program_calls program defaults in
+    let calls = program_calls program in
     let main = main_function program in
     let first = flat_function table main 0 0 in
     let rest = flat_functions table table (0 + length first.points_of) (0 + first.slots_of) in

@@ -15,13 +15,14 @@ use Rattle.builtin_meaning.specs.Names.{builtin_named}
 use Rattle.builtin_meaning.specs.Arity.{arity_of}
 use Rattle.script_meaning.specs.Programs.{PlainProgram}
 use Rattle.php_writer.specs.Spellable.{is_name, is_call_name, is_integer, is_unsigned, is_maybe_name, is_some_arms, is_some_exprs, is_printed, are_parts, expr_spellable, maybe_spellable, exprs_spellable, items_spellable, path_spellable, stmt_spellable, stmts_spellable, arms_spellable, is_default, params_spellable, functions_spellable}
-use Rattle.program_rules.specs.Calls.{PlainCall, calls_in, maybe_calls, part_calls, item_calls, path_calls, calls_of, statement_calls, arm_calls, function_calls, calls_of_program, number_of}
+use Rattle.program_expressions.specs.Collected.{collected, collected_of, bodies_collected, defaults_collected, functions_collected}
+use Rattle.program_rules.specs.Calls.{PlainCall, own_call, calls_in, maybe_calls, part_calls, item_calls, path_calls, calls_of, statement_calls, arm_calls, function_calls, calls_of_program, number_of}
 use Rattle.program_rules.specs.Rules.{serves_builtin, serves_call}
 use Rattle.php_program.specs.Lawful.{IsLawful}
 use Rattle.flow_code.specs.Expressions.{number_of as slots_asked}
 use Rattle.flow_runs.specs.Defaults.{IsDefault, AreDefaults, HaveDefaults}
 use Rattle.flow_runs.specs.Fits.{CallFits, ExprFits, MaybeFits, ExprsFit, ItemsFit, PathFits, StmtFits, StmtsFit, ArmsFit, ParamsFit, FunctionsFit, ProgramFits}
-use Rattle.program_points.specs.Texts.{texts_in, maybe_texts, part_texts, item_texts, path_texts, texts_of, statement_texts, arm_texts, param_texts, function_texts, TextsFit}
+use Rattle.program_points.specs.Texts.{own_text, texts_in, maybe_texts, part_texts, item_texts, path_texts, texts_of, statement_texts, arm_texts, param_texts, function_texts, TextsFit}
 
 pub left : (a b : Bool) → (a && b) ≡ true → a ≡ true
 left true b e = refl
@@ -85,7 +86,7 @@ abbrev Texts : List (List ℕ) → Type 0
 Texts ts = AllByRecursion Short ts
 
 mutual
-  unfolding ExprFits expr_spellable calls_in texts_in
+  unfolding ExprFits expr_spellable collected own_call own_text
 
   expr_fits : (e : PlainExpr) → expr_spellable e ≡ true → Calls (calls_in e) → Texts (texts_in e) → ExprFits e
   expr_fits null_expr s c t = tt
@@ -147,7 +148,7 @@ mutual
   path_fits (more_keys k ks) s c t = (maybe_fits k (left (maybe_spellable k) (path_spellable ks) s) (front Serves (maybe_calls k) (path_calls ks) c) (front Short (maybe_texts k) (path_texts ks) t), path_fits ks (right (maybe_spellable k) (path_spellable ks) s) (back Serves (maybe_calls k) (path_calls ks) c) (back Short (maybe_texts k) (path_texts ks) t))
 
 mutual
-  unfolding StmtFits stmt_spellable calls_of texts_of
+  unfolding StmtFits stmt_spellable collected_of own_call own_text
 
   stmt_fits : (st : PlainStmt) → stmt_spellable st ≡ true → Calls (calls_of st) → Texts (texts_of st) → StmtFits st
   stmt_fits (inline_stmt bytes) s c t = tt
@@ -203,7 +204,7 @@ default_is (some_expr (neg_expr (int_expr z))) s = negation_is z (is_in_range (n
 default_is m s = tt
 
 default_fits : (m : MaybeExpr) → is_default m ≡ true → Texts (maybe_texts m) → MaybeFits m
-unfolding ExprFits texts_in
+unfolding ExprFits collected own_text
 default_fits no_expr s t = tt
 default_fits (some_expr null_expr) s t = tt
 default_fits (some_expr (flag_expr b)) s t = tt
@@ -219,6 +220,7 @@ params_are (p ∷ ps) s =
     (default_is p.default_of (left (is_default p.default_of) (params_spellable ps) s1), params_are ps (right (is_default p.default_of) (params_spellable ps) s1))
 
 params_fit : (ps : List PlainParam) → params_spellable ps ≡ true → Texts (param_texts ps) → ParamsFit ps
+unfolding defaults_collected
 params_fit [] s t = tt
 params_fit (p ∷ ps) s t =
     let s1 = right (is_name p.name_of) (is_default p.default_of && params_spellable ps) s in
@@ -232,7 +234,7 @@ functions_are (f ∷ fs) s =
     (params_are f.params_of (left (params_spellable f.params_of) (stmts_spellable f.body_of && functions_spellable fs) s1), functions_are fs (right (stmts_spellable f.body_of) (functions_spellable fs) s2))
 
 functions_fit : (fs : List PlainFunction) → functions_spellable fs ≡ true → Calls (function_calls fs) → Texts (function_texts fs) → FunctionsFit fs
-unfolding function_calls
+unfolding bodies_collected functions_collected
 functions_fit [] s c t = tt
 functions_fit (f ∷ fs) s c t =
     let s1 = right (is_call_name f.name_of) (params_spellable f.params_of && (stmts_spellable f.body_of && functions_spellable fs)) s in

@@ -1,2 +1,3 @@
 mod Fitting
 mod Bounds
+pub mod Keys

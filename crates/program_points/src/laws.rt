@@ -16,7 +16,9 @@ ghost use Rattle.flow_code.specs.Runs.{FlatRun};
 ghost use Rattle.program_points.specs.Texts.{TextsFit};
 ghost use Rattle.program_points.specs.LeftOut.{left_out};
 
-use flow_runs::{ended_runs_are_runs_of_points, points_are_of_their_form};
+use flow_runs::{
+    ended_runs_are_runs_of_points, points_are_of_their_form, runs_of_points_are_ended_runs,
+};
 
 /// Where a run of a lawful program ended, its points have a run that printed the same.
 pub fn lawful_runs_are_runs_of_points()
@@ -24,6 +26,16 @@ pub fn lawful_runs_are_runs_of_points()
         meaning program r n ≡ record { printed = w; end = Ended } → FlatRun (flat program) r w }
 {
     ended_runs_are_runs_of_points();
+}
+
+/// Where the points of a lawful program have a run that ended, the run of the program ended within
+/// some number of units, and printed the same.
+pub fn runs_of_points_are_lawful_runs()
+    ensures { (program : PlainProgram) (r : PlainRequest) (w : List ℕ) → IsLawful program →
+        FlatRun (flat program) r w
+        → (n : ℕ) × (meaning program r n ≡ record { printed = w; end = Ended }) }
+{
+    runs_of_points_are_ended_runs();
 }
 
 /// The points of a lawful program keep what is asked of points, where its texts are texts of a run.

@@ -7,4 +7,5 @@ mod laws;
 
 pub use laws::{
     lawful_points_are_few, lawful_points_are_of_their_form, lawful_runs_are_runs_of_points,
+    runs_of_points_are_lawful_runs,
 };

@@ -5,12 +5,13 @@ use Rattle.php_syntax.proofs.Views.{plain_expr-Text, plain_expr-Super, plain_exp
 use Rattle.std.specs.declared.boxed.Box.{Box}
 use Rattle.std.specs.declared.alloc.Global.{Global}
 use Rattle.php_syntax.specs.declared.tree.Expr.{Expr}
+use Rattle.text_base.specs.declared.numbers.Slot.{Slot}
 use Rattle.flow_code.specs.declared.source.KeyRef.{KeyRef}
 use Rattle.flow_code.specs.Code.{Code, both}
 use Rattle.std.proofs.lemmas.List.{length-map}
 use Rattle.flow_code.specs.declared.source.Work.TheVariants as work
-use Rattle.flow_code.specs.Points.{PlainSource, PlainKeyRef, truth_source, concat_source, array_source, member_source}
-use Rattle.flow_code.specs.View.{plain_key_ref, plain_maybe_key}
+use Rattle.flow_code.specs.Points.{PlainSource, PlainKeyRef, truth_source, array_source, member_source}
+use Rattle.flow_code.specs.View.{plain_item, plain_key_ref, plain_maybe_key}
 use Rattle.flow_code.specs.Expressions.{code, codes, variable, path_code, length_of_path, stored, old_value, members_along, filled, chosen, chosen_itself}
 use Rattle.flow_lowering.specs.View.{progress}
 use Rattle.flow_lowering.specs.Emits.{Puts, Emits, place}
@@ -18,7 +19,7 @@ use Rattle.flow_lowering.proofs.EmitLemmas.{emits_known, emits_computed, emits_b
 use Rattle.function_scopes.specs.View.{scope_in}
 use Rattle.expression_pieces.specs.Forms.{source_for}
 use Rattle.expression_pieces.proofs.ChoiceLemmas.{emits_connected, emits_there, emits_itself}
-use Rattle.expression_lowering.proofs.RowEmits.{exprs_further, exprs_end, path_further, path_end, items_further, items_end, pushed_length, key_text, key_slot, length_of_keys, by_form}
+use Rattle.expression_lowering.proofs.RowEmits.{exprs_further, exprs_end, path_further, path_end, SoFar, items_begin, items_further, items_end, pushed_length, key_text, key_slot, length_of_keys, by_form}
 use Rattle.expression_pieces.proofs.WriteLemmas.{emits_stored, emits_old, emits_filled}
 use Rattle.expression_lowering.proofs.expressions.+expressions.Goals as goal
 
@@ -46,13 +47,19 @@ lower_path-returns t c = record {
   long = omega (arith, c.loop-key.path.ok.0, c.loop-key.invariant.long, c.loop-key-test.false);
 }
 
+pub lower_items-loop-item-init : goal.lower_items-loop-item-init
+lower_items-loop-item-init t c =
+    let w = scope_in c.args.scope.now in
+    let start = progress c.args.points.now in
+    subst (λ (l : List (Option KeyRef × Slot)). SoFar w start start c.args.array.0 c.args.items.now 0 c.args.array.0 (map plain_item l)) (sym c.new-lowered.ensures.items) (items_begin w start c.args.array.0 c.args.items.now)
+
 pub lower_items-loop-item-preserved : goal.lower_items-loop-item-preserved
 lower_items-loop-item-preserved t c =
-    items_further (scope_in c.args.scope.now) c.args.items.now c.loop-item.item-index c.item-item.result c.loop-item.lowered.items c.push.new.self.items c.in_ok-key.key c.in_ok-value.value c.loop-item-test.true c.item-item.is c.in_ok-push.ensures.items
-    c.in_ok-key.ensures c.in_ok-value.ensures c.loop-item.invariant
+    items_further (scope_in c.args.scope.now) c.args.array.0 c.args.items.now c.loop-item.item-index c.item-item.result c.loop-item.lowered.items c.push.new.self.items c.in_ok-key.key c.in_ok-value.value c.loop-item.made c.in_ok-made.made c.loop-item-test.true c.item-item.is c.in_ok-push.ensures.items
+    c.in_ok-key.ensures c.in_ok-value.ensures c.in_ok-made.ensures c.loop-item.invariant
 
 pub lower_items-returns : goal.lower_items-returns
-lower_items-returns t c = items_end (scope_in c.args.scope.now) c.args.items.now c.loop-item.item-index c.loop-item.lowered.items c.loop-item-test.false c.loop-item.invariant
+lower_items-returns t c = items_end (scope_in c.args.scope.now) c.args.array.0 c.args.items.now c.loop-item.item-index c.loop-item.made.0 (map plain_item c.loop-item.lowered.items) c.loop-item-test.false c.loop-item.invariant
 
 pub lower_one-returns : goal.lower_one-returns
 lower_one-returns t c = emits_computed (λ (x : ℕ). source_for c.args.gives c.args.work (x ∷ [])) c.in_ok-operand.ensures c.in_ok-slot.ensures
@@ -84,11 +91,11 @@ lower_member-returns t c = emits_computed (λ (s : PlainSource). s) (emits_both 
 
 pub lower_array-returns : goal.lower_array-returns
 unfolding code
-lower_array-returns t c = emits_computed array_source c.in_ok-items.ensures c.in_ok-slot.ensures
+lower_array-returns t c = emits_computed array_source (c.in_ok-items.ensures (progress c.args.points.now) c.in_ok-array.ensures) c.in_ok-slot.ensures
 
 pub lower_join-returns : goal.lower_join-returns
 unfolding code
-lower_join-returns t c = emits_computed concat_source c.in_ok-slots.ensures.emits c.in_ok-slot.ensures
+lower_join-returns t c = c.in_ok-slot.ensures (progress c.args.points.now) (codes (scope_in c.args.scope.now) (exprs_of c.args.parts.now)) c.in_ok-slots.ensures.emits
 
 pub lower_isset-returns : goal.lower_isset-returns
 unfolding code

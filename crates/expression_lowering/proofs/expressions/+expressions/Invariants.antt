@@ -2,13 +2,14 @@ use Rattle.std.proofs.Common.{◌≡◌, max, ◌+◌, ◌*◌, ◌++◌, drop, 
 use Rattle.std.specs.Prelude.{Option}
 use Rattle.php_syntax.specs.declared.tree.Expr.{size-Expr}
 use Rattle.php_syntax.specs.declared.tree.Target.{size-Target}
-use Rattle.php_syntax.specs.Trees.{exprs_of, items_of, path_of}
+use Rattle.php_syntax.specs.Trees.{exprs_of, path_of}
 use Rattle.flow_code.specs.Points.{PlainKeyRef}
 use Rattle.flow_code.specs.View.{slot_number, plain_item, plain_maybe_key}
-use Rattle.flow_code.specs.Expressions.{codes, path_code, items_code}
+use Rattle.flow_code.specs.Expressions.{codes, path_code}
 use Rattle.flow_lowering.specs.View.{progress}
 use Rattle.flow_lowering.specs.Emits.{Progress, Emits}
 use Rattle.function_scopes.specs.View.{scope_in}
+use Rattle.expression_lowering.proofs.RowEmits.{SoFar}
 use Rattle.expression_lowering.proofs.expressions.+expressions.Given as goal
 
 abbrev pub decreases-lower_expr : goal.decreases-lower_expr
@@ -93,5 +94,4 @@ invariant-lower_path-loop-key l = record {
 }
 
 abbrev pub invariant-lower_items-loop-item : goal.invariant-lower_items-loop-item
-invariant-lower_items-loop-item l = (s : Progress) (ys : List (Option PlainKeyRef × ℕ)) → Emits (progress l.points) s (items_code (scope_in l.scope) (items_of (drop l.item-index l.items))) ys
-    → Emits (progress l.initial.points) s (items_code (scope_in l.scope) (items_of l.items)) (map plain_item l.lowered.items ++ ys)
+invariant-lower_items-loop-item l = SoFar (scope_in l.scope) (progress l.initial.points) (progress l.points) l.fn.array.0 l.items l.item-index l.made.0 (map plain_item l.lowered.items)
