@@ -21,6 +21,9 @@ use Rattle.chart_grammar.specs.Fronts.{StandsFor, nothing, longer}
 use Rattle.chart_grammar.specs.Lifts.{nt_of, RightLift, front_right, end_by, FrontLift, IsLift, whole, of_reading, of_front, of_end, AreLifts, HasWhole, HasReading, HasFronts, HasEnd}
 use Rattle.chart_grammar.specs.Written.{WritesAll}
 use Rattle.chart_grammar.specs.Writing.{WholeMade, WholeHas, ReadMade, ReadHas, EndMade, EndHas}
+use Rattle.chart_grammar.specs.declared.saying.Outputs.{Outputs}
+use Rattle.chart_grammar.specs.Paid.{IsPaid, ReadingsPay, EndsPay}
+use Rattle.chart_grammar.proofs.PaidLemmas.{none_paid}
 use Rattle.chart_grammar.proofs.MonoLemmas.{whole_has, read_has, read_lift_kept, end_has}
 
 none_in : {X : Type 0} (xs : List X) (x : X) → xs ≡ [] → Contains xs x → ⊥
@@ -128,3 +131,21 @@ assembled_at ps from bs bs' fs rs rs' base ls start first fr fr' old one two thr
     (subst (λ (xs : List Reading). WritesAll (ReadMade fs base) (ReadHas fs base) xs start first one two) er b) c keeps
     (λ p h. subst (λ (xs : List Front). Contains three p ⊎ FrontLift xs base p) ef (only p h))
     (subst (λ (xs : List Front). HasFronts xs base four) ef has))
+
+-- the same with outputs
+pub assembled_outputs : (ps : List Production) (from : nt.Nt) (bs bs' : List Begun) (fs : List Passage) (rs rs' : List Reading) (base : ℕ) (ls : List Last) (o1 o2 o3 : Outputs) (fr : List Front) (wholes old out four : List Production) → old ≡ [] → bs' ≡ bs → rs' ≡ rs → fr ≡ o3.fronts.keys → base ≡ suc (length fs) → o1.out.items ≡ wholes → out ≡ o3.out.items
+    → WritesAll {X = Front} (WholeMade ps fs) (WholeHas ps fs) bs' [] [] old wholes → WritesAll (ReadMade fs base) (ReadHas fs base) rs' o1.fronts.keys o2.fronts.keys o1.out.items o2.out.items → WritesAll (EndMade from fs base) (EndHas from fs base) ls o2.fronts.keys o3.fronts.keys o2.out.items o3.out.items
+    → ((p : Production) → Contains out p → Contains four p) → ((p : Production) → Contains four p → Contains out p ⊎ FrontLift fr base p) → HasFronts fr base four → AreLifts ps from bs fs rs o3.fronts.keys (suc (length fs)) ls four
+assembled_outputs ps from bs bs' fs rs rs' base ls o1 o2 o3 fr wholes old out four empty eb er ef based e1 e3 a b c keeps only has =
+    assembled_at ps from bs bs' fs rs rs' base ls o1.fronts.keys o2.fronts.keys o3.fronts.keys fr old wholes o2.out.items o3.out.items four empty eb er ef based a
+    (subst (λ (qs : List Production). WritesAll (ReadMade fs base) (ReadHas fs base) rs' o1.fronts.keys o2.fronts.keys qs o2.out.items) e1 b) c
+    (λ p h. keeps p (subst (λ (qs : List Production). Contains qs p) (sym e3) h))
+    (λ p h. elim (only p h) [ inl x ↦ inl (subst (λ (qs : List Production). Contains qs p) e3 x) | inr x ↦ inr x ]) has
+
+-- all that is written is paid for
+pub assembled_paid : (from : nt.Nt) (fs : List Passage) (rs rs' : List Reading) (ls : List Last) (base : ℕ) (wholes : List Production) (o1 o2 o3 : Outputs) → rs' ≡ rs → base ≡ suc (length fs) → o1.out.items ≡ wholes → o1.fronts.keys ≡ [] → o1.said.keys ≡ [] → o1.heads.keys ≡ [] → o1.wide.items ≡ []
+    → ReadingsPay fs base rs' o1 o2 → EndsPay from fs base ls o2 o3 → IsPaid from fs rs ls (suc (length fs)) (length wholes) o3
+assembled_paid from fs rs rs' ls base wholes o1 o2 o3 er based e1 fronts said heads wide reads ends =
+    let none = none_paid from fs rs ls base (length wholes) o1 (ap length e1) fronts said heads wide in
+    let mid = reads from rs ls (length wholes) (λ r h. subst (λ (xs : List Reading). Contains xs r) er h) none in
+    subst (λ (n : ℕ). IsPaid from fs rs ls n (length wholes) o3) based (ends rs ls (length wholes) (λ l h. h) mid)

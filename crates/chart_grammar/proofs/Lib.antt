@@ -5,4 +5,5 @@ pub mod RightLemmas
 pub mod MonoLemmas
 pub mod OutputLemmas
 pub mod SayLemmas
+pub mod PaidLemmas
 pub mod AssembleLemmas

@@ -13,7 +13,7 @@ use Rattle.fst_core.specs.declared.out.Out.{Out}
 use Rattle.fst_core.specs.declared.out.Out.TheVariants.{Same, Shift, Byte, Token}
 use Rattle.fst_core.specs.Letter.{letter_of}
 use Rattle.fst_core.specs.Fits.{is_fixed}
-use Rattle.chart_grammar.specs.Outs.{Puts, IsOutput, ByOne}
+use Rattle.chart_grammar.specs.Outs.{Puts, IsOutput, ByOne, AreFixed}
 
 fixed_letter : (out : Out) (a b : ℕ) → is_fixed out ≡ true → letter_of a out ≡ letter_of b out
 fixed_letter Same a b h = cc
@@ -35,10 +35,6 @@ zip_pushed [] x [] c z p = (p, tt)
 zip_pushed [] x (d ∷ v) c z p = absurd z
 zip_pushed (y ∷ xs) x [] c z p = absurd z
 zip_pushed (y ∷ xs) x (d ∷ v) c z p = (z.0, zip_pushed xs x v c z.1 p)
-
--- no output so far depends on the byte
-abbrev pub AreFixed : List Out → Type 0
-AreFixed out = (a b : ℕ) → map (letter_of a) out ≡ map (letter_of b) out
 
 pub record SymbolsSoFar (range : ByteRange) (out : List Out) (i : ℕ) (symbols : List Symbol) (depends : Bool) : Type 0 where
   pub puts : IsOutput range (take i out) symbols
@@ -91,6 +87,14 @@ fixed_more out o f is a b =
     map-append (letter_of a) out (o ∷ [])
     ∙ (ap (λ (u : List Letter). u ++ letter_of a o ∷ []) (f a b)
     ∙ (ap (λ (c : Letter). map (letter_of b) out ++ c ∷ []) (fixed_letter o a b is) ∙ sym (map-append (letter_of b) out (o ∷ []))))
+
+pub fixed_upto : (out : List Out) (i : ℕ) (d o : Out) → i < length out → o ≡ get_or out i d → AreFixed (take i out) → is_fixed o ≡ true → AreFixed (take (i + 1) out)
+fixed_upto out i d o h is so fixed =
+    let more : take (i + 1) out ≡ take i out ++ o ∷ [] = take_more out i d h ∙ ap (λ (y : Out). take i out ++ y ∷ []) (sym is) in
+    subst AreFixed (sym more) (fixed_more (take i out) o so fixed)
+
+pub fixed_all : (out : List Out) (i : ℕ) → length out ≤ i → AreFixed (take i out) → AreFixed out
+fixed_all out i h so = subst AreFixed (take_all i out h) so
 
 pub symbols_more : (range : ByteRange) (out : List Out) (i : ℕ) (d o : Out) (old new : List Symbol) (x : Symbol) (was depends : Bool) → i < length out → o ≡ get_or out i d → SymbolsSoFar range out i old was → ((c : Letter) → Puts x c ↔ ((b : ℕ) × InRange range b × (letter_of b o ≡ c))) → new ≡ old ++ x ∷ [] → (is_fixed o ≡ true) ⊎ ((was ≡ false) ⊎ (range.hi ≤ range.lo)) → (depends ≡ false → (was ≡ false) × (is_fixed o ≡ true)) → SymbolsSoFar range out (i + 1) new depends
 symbols_more range out i d o old new x was depends h is so puts e why free =

@@ -5,3 +5,5 @@ pub mod Lifts
 pub mod Written
 pub mod Writing
 pub mod Images
+pub mod Saying
+pub mod Paid

@@ -87,6 +87,11 @@ abbrev pub end_by : ℕ → ℕ → Right
 end_by passage zero = One (nt_of passage)
 end_by passage (suc n) = Two (nt_of passage) (nt_of (suc n))
 
+-- what stands for a nonterminal, where it is not 0, and then an output
+abbrev pub said_right : ℕ → ℕ → Right
+said_right zero front = front_right front
+said_right (suc n) front = end_by (suc n) front
+
 -- the production of an output at the end
 pub record EndLift (from : nt.Nt) (fs : List Passage) (fr : List Front) (base : ℕ) (l : Last) (p : Production) : Type 0 where
   pub number : ℕ

@@ -25,3 +25,7 @@ ByOne range by c = (b : ℕ) × InRange range b × ((b + by) % 256 ≡ c)
 -- the symbols put out exactly what is put out as some byte of the range is read
 abbrev pub IsOutput : ByteRange → List Out → List Symbol → Type 0
 IsOutput range out symbols = (w : List Letter) → AllZip Puts symbols w ↔ ((b : ℕ) × InRange range b × (map (letter_of b) out ≡ w))
+
+-- what is put out depends on no byte
+abbrev pub AreFixed : List Out → Type 0
+AreFixed out = (a b : ℕ) → map (letter_of a) out ≡ map (letter_of b) out

@@ -1,10 +1,12 @@
 -- What the writers write.
-use Rattle.std.specs.Prelude.{◌≡◌, ◌≤◌, ◌⊎◌, ℕ, List, Option, None, Some, Contains, Bool, true, IfOk, IsTrue}
+use Rattle.std.specs.Prelude.{◌≡◌, ◌≤◌, ◌⊎◌, ℕ, List, Option, None, Some, Contains, Bool, true, IfOk, IsTrue, map}
 use Rattle.text_base.specs.declared.byte_range.ByteRange.{ByteRange}
 use Rattle.text_base.specs.declared.numbers.Nt as nt
 use Rattle.text_base.specs.ByteRange.{InRange}
 use Rattle.cfg_grammar.specs.declared.symbol.Symbol.TheVariants.{Range, Nt}
 use Rattle.cfg_grammar.specs.declared.production.Production.{Production}
+use Rattle.fst_core.specs.declared.out.Out.{Out}
+use Rattle.fst_core.specs.Letter.{letter_of}
 use Rattle.numbered_sets.specs.Numbers.{Keeps}
 use Rattle.grammar_chart.specs.declared.keys.Begun.{Begun}
 use Rattle.grammar_chart.specs.declared.keys.Passage.{Passage}
@@ -65,3 +67,7 @@ pub record AddsFront (base count n : ℕ) (f : Front) (old new : List Production
   pub keeps : (p : Production) → Contains old p → Contains new p
   pub only : (p : Production) → Contains new p → Contains old p ⊎ ((p ≡ front_production base n f) × IsTrue (production_below count p))
   pub has : IsTrue (production_below count (front_production base n f)) → Contains new (front_production base n f)
+
+-- one text is put out by all bytes of the range
+abbrev pub GivesOne : ByteRange → List Out → Type 0
+GivesOne range out = (b c : ℕ) → InRange range b → InRange range c → map (letter_of b) out ≡ map (letter_of c) out

@@ -2,7 +2,7 @@
 
 ghost use Rattle.std.specs.Prelude.{◌≡◌, ◌<◌, ◌≤◌, ℕ, IfOk, OnOk, take};
 ghost use Rattle.numbered_sets.specs.Numbers.{Keeps};
-ghost use Rattle.chart_grammar.specs.Fronts.{StandsFor};
+ghost use Rattle.chart_grammar.specs.Fronts.{StandsFor, AddsFronts};
 ghost use Rattle.chart_grammar.specs.Exactness.{exact_front};
 
 use cfg_grammar::Symbol;
@@ -32,6 +32,7 @@ pub fn front_of(
     requires { base ≤ 9223372036854775808 }
     ensures stands { IfOk result (λ n. StandsFor base fronts.new.keys n symbols.now) }
     ensures keeps { OnOk result (Keeps fronts.old.keys fronts.new.keys) }
+    ensures adds { OnOk result (AddsFronts base fronts.old.keys fronts.new.keys symbols.now) }
 {
     let mut before = 0;
     for symbol in symbols {

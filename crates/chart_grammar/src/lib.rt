@@ -8,10 +8,12 @@ mod assembly;
 mod fronts;
 mod lifts;
 mod outputs;
+mod saying;
 mod symbols;
 
 pub use assembly::grammar_of;
 pub use fronts::{Front, front_of};
 pub use lifts::{Last, write_wholes};
 pub use outputs::{write_ends, write_fronts, write_readings};
+pub use saying::{Head, Outputs, Said};
 pub use symbols::symbols_of;

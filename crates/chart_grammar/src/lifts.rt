@@ -106,10 +106,11 @@ fn write_whole(
     out: &mut Vec<Production>,
     one: Begun,
 ) -> Result<(), NoMemory>
-    ensures { OnOk result
+    ensures writes { OnOk result
         (WritesOne {X = front.Front} (WholeMade productions.now passages.now.keys)
         (WholeHas productions.now passages.now.keys)
         one [] [] out.old.items out.new.items) }
+    ensures few { OnOk result (length out.new.items ≤ length out.old.items + 1) }
 {
     if awaited(productions, one).is_some() {
         return Ok(());
@@ -130,10 +131,12 @@ pub fn write_wholes(
     out: &mut Vec<Production>,
     begun: &[Begun],
 ) -> Result<(), NoMemory>
-    ensures { OnOk result
+    ensures writes { OnOk result
         (WritesAll {X = front.Front} (WholeMade productions.now passages.now.keys)
         (WholeHas productions.now passages.now.keys)
         begun.now [] [] out.old.items out.new.items) }
+    ensures few { OnOk result
+        (length out.new.items ≤ length out.old.items + length begun.now) }
 {
     for one in begun {
         write_whole(productions, passages, out, *one)?;

@@ -5,38 +5,46 @@ ghost use Rattle.text_base.specs.ByteRange.{InRange};
 ghost use Rattle.cfg_grammar.specs.declared.production.Production as plain;
 ghost use Rattle.chart_grammar.specs.Lifts.{HasFronts, FrontLift};
 ghost use Rattle.chart_grammar.specs.Written.{WritesOne, WritesAll};
-ghost use Rattle.chart_grammar.specs.Writing.{ReadMade, ReadHas, EndMade, EndHas, HasPart, HasByte, WritesSome, AddsFront};
+ghost use Rattle.chart_grammar.specs.Writing.{ReadMade, ReadHas, EndMade, EndHas, HasPart, HasByte, WritesSome, AddsFront, GivesOne};
+ghost use Rattle.chart_grammar.specs.Saying.{IsFiled};
+ghost use Rattle.chart_grammar.specs.Paid.{ReadingPays, ReadingsPay, EndPays, EndsPay};
 
-use crate::fronts::{Front, front_of};
-use crate::lifts::{Last, nonterminal_of, right_of, right_of_end, right_of_front};
-use crate::symbols::symbols_of;
+use crate::fronts::Front;
+use crate::lifts::{Last, nonterminal_of, right_of_front};
+use crate::saying::{Outputs, say, say_wide};
+use crate::symbols::{are_fixed, symbols_of};
 use cfg_grammar::{Production, Symbol};
 use grammar_chart::{Passage, Reading};
 use indexmap::IndexSet;
 use std::alloc::Global;
 use text_base::{ByteRange, NoMemory, Nt};
 
-/// Writes the production of what is put out by a part of a reading; false where the letters depend
-/// on one another.
+/// Writes the production of what is put out by a part of a reading, whose bytes all give one text;
+/// false where the letters depend on one another.
 fn write_part(
     alloc: Global,
     passages: &IndexSet<Passage>,
-    fronts: &mut IndexSet<Front>,
     base: u64,
-    out: &mut Vec<Production>,
+    outputs: &mut Outputs,
     reading: &Reading,
     part: ByteRange,
 ) -> Result<bool, NoMemory>
     requires base { base ≤ 9223372036854775808 }
     requires low { reading.now.range.lo ≤ part.lo }
     requires high { part.hi ≤ reading.now.range.hi }
+    requires one { GivesOne part reading.now.out.items }
+    requires filed { IsFiled outputs.old }
     ensures some { OnOk result
-        (WritesSome passages.now.keys base reading.now fronts.old.keys fronts.new.keys out.old.items
-        out.new.items) }
+        (WritesSome passages.now.keys base reading.now outputs.old.fronts.keys
+        outputs.new.fronts.keys outputs.old.out.items outputs.new.out.items) }
     ensures has { IfOk result
         (λ done. done ≡ true
-        → HasPart passages.now.keys base reading.now fronts.new.keys part out.new.items) }
+        → HasPart passages.now.keys base reading.now outputs.new.fronts.keys part
+        outputs.new.out.items) }
     ensures single { part.lo ≡ part.hi → IfOk result (λ done. done ≡ true) }
+    ensures filed { OnOk result (IsFiled outputs.new) }
+    ensures pays { OnOk result
+        (ReadingPays passages.now.keys base reading.now outputs.old outputs.new) }
 {
     let Some(symbols) = symbols_of(alloc, part, reading.out.as_slice())? else {
         return Ok(false);
@@ -49,31 +57,101 @@ fn write_part(
     let Some(left) = nonterminal_of(passages, passage) else {
         return Ok(true);
     };
-    let front = front_of(fronts, base, symbols.as_slice())?;
-    out.push(Production {
-        left,
-        right: right_of(front),
-    })?;
+    say(base, outputs, left.0, 0, symbols.as_slice())?;
     Ok(true)
+}
+
+/// Writes the production of what is put out by the whole range of a reading; false where the
+/// letters depend on one another, or another range of the passage with this least byte stays whole.
+fn write_wide(
+    alloc: Global,
+    passages: &IndexSet<Passage>,
+    base: u64,
+    outputs: &mut Outputs,
+    reading: &Reading,
+) -> Result<bool, NoMemory>
+    requires base { base ≤ 9223372036854775808 }
+    requires some { 0 < length reading.now.out.items }
+    requires filed { IsFiled outputs.old }
+    ensures some { OnOk result
+        (WritesSome passages.now.keys base reading.now outputs.old.fronts.keys
+        outputs.new.fronts.keys outputs.old.out.items outputs.new.out.items) }
+    ensures has { IfOk result
+        (λ done. done ≡ true
+        → HasPart passages.now.keys base reading.now outputs.new.fronts.keys reading.now.range
+        outputs.new.out.items) }
+    ensures filed { OnOk result (IsFiled outputs.new) }
+    ensures pays { OnOk result
+        (ReadingPays passages.now.keys base reading.now outputs.old outputs.new) }
+{
+    let Some(symbols) = symbols_of(alloc, reading.range, reading.out.as_slice())? else {
+        return Ok(false);
+    };
+    let passage = Passage {
+        symbol: Symbol::Range(reading.asked),
+        from: reading.from,
+        to: reading.to,
+    };
+    let Some(left) = nonterminal_of(passages, passage) else {
+        return Ok(true);
+    };
+    if say_wide(base, outputs, left.0, reading.range.lo, symbols.as_slice())? {
+        return Ok(true);
+    }
+    Ok(false)
+}
+
+/// Writes the production of what is put out by the whole range of a reading, if it can be.
+fn write_whole_range(
+    alloc: Global,
+    passages: &IndexSet<Passage>,
+    base: u64,
+    outputs: &mut Outputs,
+    reading: &Reading,
+) -> Result<bool, NoMemory>
+    requires base { base ≤ 9223372036854775808 }
+    requires filed { IsFiled outputs.old }
+    ensures some { OnOk result
+        (WritesSome passages.now.keys base reading.now outputs.old.fronts.keys
+        outputs.new.fronts.keys outputs.old.out.items outputs.new.out.items) }
+    ensures has { IfOk result
+        (λ done. done ≡ true
+        → HasPart passages.now.keys base reading.now outputs.new.fronts.keys reading.now.range
+        outputs.new.out.items) }
+    ensures filed { OnOk result (IsFiled outputs.new) }
+    ensures pays { OnOk result
+        (ReadingPays passages.now.keys base reading.now outputs.old outputs.new) }
+{
+    if reading.range.lo == reading.range.hi {
+        return write_part(alloc, passages, base, outputs, reading, reading.range);
+    }
+    if are_fixed(reading.out.as_slice()) {
+        return write_part(alloc, passages, base, outputs, reading, reading.range);
+    }
+    write_wide(alloc, passages, base, outputs, reading)
 }
 
 /// Writes the production of what is put out by one byte, if it is one of the reading.
 fn write_byte(
     alloc: Global,
     passages: &IndexSet<Passage>,
-    fronts: &mut IndexSet<Front>,
     base: u64,
-    out: &mut Vec<Production>,
+    outputs: &mut Outputs,
     reading: &Reading,
     byte: u8,
 ) -> Result<(), NoMemory>
-    requires { base ≤ 9223372036854775808 }
+    requires base { base ≤ 9223372036854775808 }
+    requires filed { IsFiled outputs.old }
     ensures some { OnOk result
-        (WritesSome passages.now.keys base reading.now fronts.old.keys fronts.new.keys out.old.items
-        out.new.items) }
+        (WritesSome passages.now.keys base reading.now outputs.old.fronts.keys
+        outputs.new.fronts.keys outputs.old.out.items outputs.new.out.items) }
     ensures has { OnOk result
         (InRange reading.now.range byte
-        → HasByte passages.now.keys base reading.now fronts.new.keys byte out.new.items) }
+        → HasByte passages.now.keys base reading.now outputs.new.fronts.keys byte
+        outputs.new.out.items) }
+    ensures filed { OnOk result (IsFiled outputs.new) }
+    ensures pays { OnOk result
+        (ReadingPays passages.now.keys base reading.now outputs.old outputs.new) }
 {
     if byte < reading.range.lo {
         return Ok(());
@@ -82,7 +160,7 @@ fn write_byte(
         return Ok(());
     }
     let part = ByteRange { lo: byte, hi: byte };
-    let _ = write_part(alloc, passages, fronts, base, out, reading, part)?;
+    let _ = write_part(alloc, passages, base, outputs, reading, part)?;
     Ok(())
 }
 
@@ -90,44 +168,52 @@ fn write_byte(
 fn write_bytes(
     alloc: Global,
     passages: &IndexSet<Passage>,
-    fronts: &mut IndexSet<Front>,
     base: u64,
-    out: &mut Vec<Production>,
+    outputs: &mut Outputs,
     reading: &Reading,
 ) -> Result<(), NoMemory>
-    requires { base ≤ 9223372036854775808 }
+    requires base { base ≤ 9223372036854775808 }
+    requires filed { IsFiled outputs.old }
     ensures some { OnOk result
-        (WritesSome passages.now.keys base reading.now fronts.old.keys fronts.new.keys out.old.items
-        out.new.items) }
+        (WritesSome passages.now.keys base reading.now outputs.old.fronts.keys
+        outputs.new.fronts.keys outputs.old.out.items outputs.new.out.items) }
     ensures has { OnOk result ((byte : ℕ) → byte < 256 → InRange reading.now.range byte
-        → HasByte passages.now.keys base reading.now fronts.new.keys byte out.new.items) }
+        → HasByte passages.now.keys base reading.now outputs.new.fronts.keys byte
+        outputs.new.out.items) }
+    ensures filed { OnOk result (IsFiled outputs.new) }
+    ensures pays { OnOk result
+        (ReadingPays passages.now.keys base reading.now outputs.old outputs.new) }
 {
     for number in 0..256usize {
-        write_byte(alloc, passages, fronts, base, out, reading, number as u8)?;
+        write_byte(alloc, passages, base, outputs, reading, number as u8)?;
     }
     Ok(())
 }
 
 /// Writes the productions of what is put out by a reading: one for the whole range, or one for each
-/// of its bytes where the letters depend on one another.
+/// of its bytes where the letters depend on one another or another range begins there.
 fn write_reading(
     alloc: Global,
     passages: &IndexSet<Passage>,
-    fronts: &mut IndexSet<Front>,
     base: u64,
-    out: &mut Vec<Production>,
+    outputs: &mut Outputs,
     reading: &Reading,
 ) -> Result<(), NoMemory>
-    requires { base ≤ 9223372036854775808 }
-    ensures { OnOk result
+    requires base { base ≤ 9223372036854775808 }
+    requires filed { IsFiled outputs.old }
+    ensures writes { OnOk result
         (WritesOne (ReadMade passages.now.keys base) (ReadHas passages.now.keys base) reading.now
-        fronts.old.keys fronts.new.keys out.old.items out.new.items) }
+        outputs.old.fronts.keys outputs.new.fronts.keys outputs.old.out.items
+        outputs.new.out.items) }
+    ensures filed { OnOk result (IsFiled outputs.new) }
+    ensures pays { OnOk result
+        (ReadingPays passages.now.keys base reading.now outputs.old outputs.new) }
 {
     let _hi = reading.range.hi;
-    if write_part(alloc, passages, fronts, base, out, reading, reading.range)? {
+    if write_whole_range(alloc, passages, base, outputs, reading)? {
         return Ok(());
     }
-    write_bytes(alloc, passages, fronts, base, out, reading)?;
+    write_bytes(alloc, passages, base, outputs, reading)?;
     Ok(())
 }
 
@@ -135,18 +221,22 @@ fn write_reading(
 pub fn write_readings(
     alloc: Global,
     passages: &IndexSet<Passage>,
-    fronts: &mut IndexSet<Front>,
     base: u64,
-    out: &mut Vec<Production>,
+    outputs: &mut Outputs,
     readings: &[Reading],
 ) -> Result<(), NoMemory>
-    requires { base ≤ 9223372036854775808 }
-    ensures { OnOk result
+    requires base { base ≤ 9223372036854775808 }
+    requires filed { IsFiled outputs.old }
+    ensures writes { OnOk result
         (WritesAll (ReadMade passages.now.keys base) (ReadHas passages.now.keys base) readings.now
-        fronts.old.keys fronts.new.keys out.old.items out.new.items) }
+        outputs.old.fronts.keys outputs.new.fronts.keys outputs.old.out.items
+        outputs.new.out.items) }
+    ensures filed { OnOk result (IsFiled outputs.new) }
+    ensures pay { OnOk result
+        (ReadingsPay passages.now.keys base readings.now outputs.old outputs.new) }
 {
     for reading in readings {
-        write_reading(alloc, passages, fronts, base, out, reading)?;
+        write_reading(alloc, passages, base, outputs, reading)?;
     }
     Ok(())
 }
@@ -155,17 +245,19 @@ pub fn write_readings(
 fn write_end(
     alloc: Global,
     passages: &IndexSet<Passage>,
-    fronts: &mut IndexSet<Front>,
     base: u64,
-    out: &mut Vec<Production>,
+    outputs: &mut Outputs,
     from: Nt,
     last: &Last,
 ) -> Result<(), NoMemory>
-    requires { base ≤ 9223372036854775808 }
-    ensures { OnOk result
+    requires base { base ≤ 9223372036854775808 }
+    requires filed { IsFiled outputs.old }
+    ensures writes { OnOk result
         (WritesOne (EndMade from passages.now.keys base) (EndHas from passages.now.keys base)
-        last.now
-        fronts.old.keys fronts.new.keys out.old.items out.new.items) }
+        last.now outputs.old.fronts.keys outputs.new.fronts.keys outputs.old.out.items
+        outputs.new.out.items) }
+    ensures filed { OnOk result (IsFiled outputs.new) }
+    ensures pays { OnOk result (EndPays from passages.now.keys base last.now outputs.old outputs.new) }
 {
     let none = ByteRange { lo: 0, hi: 0 };
     let Some(symbols) = symbols_of(alloc, none, last.out.as_slice())? else {
@@ -179,11 +271,7 @@ fn write_end(
     let Some(passage) = nonterminal_of(passages, whole) else {
         return Ok(());
     };
-    let front = front_of(fronts, base, symbols.as_slice())?;
-    out.push(Production {
-        left: Nt(0),
-        right: right_of_end(passage, front),
-    })?;
+    say(base, outputs, 0, passage.0, symbols.as_slice())?;
     Ok(())
 }
 
@@ -191,20 +279,22 @@ fn write_end(
 pub fn write_ends(
     alloc: Global,
     passages: &IndexSet<Passage>,
-    fronts: &mut IndexSet<Front>,
     base: u64,
-    out: &mut Vec<Production>,
+    outputs: &mut Outputs,
     from: Nt,
     lasts: &[Last],
 ) -> Result<(), NoMemory>
-    requires { base ≤ 9223372036854775808 }
-    ensures { OnOk result
+    requires base { base ≤ 9223372036854775808 }
+    requires filed { IsFiled outputs.old }
+    ensures writes { OnOk result
         (WritesAll (EndMade from passages.now.keys base) (EndHas from passages.now.keys base)
-        lasts.now
-        fronts.old.keys fronts.new.keys out.old.items out.new.items) }
+        lasts.now outputs.old.fronts.keys outputs.new.fronts.keys outputs.old.out.items
+        outputs.new.out.items) }
+    ensures filed { OnOk result (IsFiled outputs.new) }
+    ensures pay { OnOk result (EndsPay from passages.now.keys base lasts.now outputs.old outputs.new) }
 {
     for last in lasts {
-        write_end(alloc, passages, fronts, base, out, from, last)?;
+        write_end(alloc, passages, base, outputs, from, last)?;
     }
     Ok(())
 }
@@ -218,8 +308,9 @@ fn write_front(
     out: &mut Vec<Production>,
 ) -> Result<(), NoMemory>
     requires base { base ≤ 9223372036854775808 }
-    requires few { number < 9223372036854775808 }
-    ensures { OnOk result (AddsFront base count number front out.old.items out.new.items) }
+    requires short { number < 9223372036854775808 }
+    ensures adds { OnOk result (AddsFront base count number front out.old.items out.new.items) }
+    ensures few { OnOk result (length out.new.items ≤ length out.old.items + 1) }
 {
     let production = Production {
         left: Nt(base + number as u64),
@@ -241,7 +332,7 @@ pub fn write_fronts(
     out: &mut Vec<Production>,
 ) -> Result<(), NoMemory>
     requires base { base ≤ 9223372036854775808 }
-    requires few { length fronts.now < 9223372036854775808 }
+    requires short { length fronts.now < 9223372036854775808 }
     requires count { count ≡ base + length fronts.now }
     ensures keeps { OnOk result
         ((p : plain.Production) → Contains out.old.items p → Contains out.new.items p) }
@@ -249,6 +340,8 @@ pub fn write_fronts(
         ((p : plain.Production) → Contains out.new.items p → Contains out.old.items p
         ⊎ FrontLift fronts.now base p) }
     ensures has { OnOk result (HasFronts fronts.now base out.new.items) }
+    ensures few { OnOk result
+        (length out.new.items ≤ length out.old.items + length fronts.now) }
 {
     for (number, front) in fronts.iter().enumerate() {
         write_front(base, count, number, *front, out)?;

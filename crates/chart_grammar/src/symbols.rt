@@ -1,11 +1,11 @@
 //! Symbols that put out what a move does.
 
-ghost use Rattle.std.specs.Prelude.{◌≡◌, ◌≢◌, ◌↔◌, ◌≤◌, ◌+◌, ℕ, not, take, map, IfOk, IfSome, IsSome, IsTrue, length};
+ghost use Rattle.std.specs.Prelude.{◌≡◌, ◌≢◌, ◌↔◌, ◌≤◌, ◌+◌, ℕ, not, take, map, IfOk, IfSome, IsSome, true, false, ◌<◌, length};
 ghost use Rattle.text_base.specs.declared.letter.Letter.{Letter};
 ghost use Rattle.text_base.specs.ByteRange.{InRange};
 ghost use Rattle.fst_core.specs.Fits.{is_fixed};
 ghost use Rattle.fst_core.specs.Letter.{letter_of};
-ghost use Rattle.chart_grammar.specs.Outs.{Puts, IsOutput, ByOne};
+ghost use Rattle.chart_grammar.specs.Outs.{Puts, IsOutput, ByOne, AreFixed};
 
 use cfg_grammar::Symbol;
 use fst_core::Out;
@@ -17,6 +17,19 @@ fn is_dependent(out: Out) -> bool
     ensures { result ≡ not (is_fixed out) }
 {
     matches!(out, Out::Same | Out::Shift(_))
+}
+
+/// Whether nothing that is put out depends on the byte that is read.
+pub fn are_fixed(out: &[Out]) -> bool
+    ensures fixed { result ≡ true → AreFixed out.now }
+    ensures some { result ≡ false → 0 < length out.now }
+{
+    for one in out {
+        if is_dependent(*one) {
+            return false;
+        }
+    }
+    true
 }
 
 /// The bytes of the range plus a number, modulo 256; None where they are no range.

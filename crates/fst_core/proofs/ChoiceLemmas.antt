@@ -1,14 +1,18 @@
 -- The moves of a state by a byte, as moves are added.
 use Rattle.std.proofs.Common.{◌≡◌, ◌==◌, ℕ, ◌+◌, ◌<◌, ◌≤◌, Bool, true, false, ◌&&◌, List, [], ◌∷◌, ◌++◌, Some, None, Option, slice_get, slice_index, nat_le, refl, sym, ◌∙◌, ap, arith, cond, append-nil}
 use Rattle.std.proofs.Common.{ltb, leb, inl, inr, Bor, length}
+use Rattle.std.proofs.Common.{IsTrue}
+use Rattle.std.proofs.lemmas.List.Elements.{All-contains}
+use Rattle.std.proofs.lemmas.List.Folds.{list_all-append}
+use Rattle.fst_core.specs.Fits.{moves_fit}
 use Rattle.std.specs.Slice.{IsItemAt}
 use Rattle.std.specs.Option.{option_copied}
-use Rattle.std.proofs.lemmas.Option.{slice_get_past, slice_get_read}
+use Rattle.std.proofs.lemmas.Option.{slice_get_past, slice_get_read, slice_get_within, get_or_from_slice_get}
 use Rattle.std.proofs.lemmas.Bool.{le-ltb, lt-ltb, lt-leb, le-leb, cases_lt, cases_eq, and_right}
 use Rattle.fst_core.specs.declared.moves.TableMove.{TableMove}
 use Rattle.fst_core.specs.declared.moves.Action.{Action}
 use Rattle.fst_core.specs.declared.out.Out.{Out}
-use Rattle.fst_core.specs.Choices.{choices, in_range, choice_of, AddsChoice, AddsRow}
+use Rattle.fst_core.specs.Choices.{choices, in_range, choice_of, AddsChoice, AddsRow, FitsChoice, FitsRow}
 
 cond_append : {A : Type 0} (b : Bool) (x : A) (xs ys : List A) → cond b (x ∷ (xs ++ ys)) (xs ++ ys) ≡ cond b (x ∷ xs) xs ++ ys
 cond_append true x xs ys = refl
@@ -102,3 +106,29 @@ building_all old new from named actions lo hi b e s byte =
 pub got_copied : {X : Type 0} (xs : List X) (i : ℕ) (r : Option (Bor X)) → IsItemAt xs i r → option_copied r ≡ slice_get xs i
 got_copied xs i None h = sym (slice_get_past xs i h.3)
 got_copied xs i (Some x) h = sym (slice_get_read xs (length xs) i x.now refl h.3.0 h.1)
+
+both : {a b : Bool} → a ≡ true → b ≡ true → (a && b) ≡ true
+both h k = rw (h, k) refl
+
+-- moves that fit, put behind others that fit
+pub fits_append : (states : ℕ) (xs ys : List TableMove) → IsTrue (moves_fit states xs) → IsTrue (moves_fit states ys) → IsTrue (moves_fit states (xs ++ ys))
+fits_append states xs ys h k =
+    list_all-append (λ (m : TableMove). ltb m.from states && ltb m.to states) xs ys ∙ both h k
+
+-- one move of the state, to where the action leads
+pub fits_one : (old new : List TableMove) (m : TableMove) (from : ℕ) (action : Option Action) (a : Action) → new ≡ old ++ m ∷ [] → action ≡ Some a → m.from ≡ from → m.to ≡ a.to → FitsChoice old new from action
+fits_one old new m from action a e some f t states below leads fits =
+    let to : a.to < states = leads a some in
+    let first : ltb m.from states ≡ true = lt-ltb m.from states (omega (arith, f)) in
+    let second : ltb m.to states ≡ true = lt-ltb m.to states (omega (arith, t)) in
+    rw e (fits_append states old (m ∷ []) fits (rw (first, second) refl))
+
+-- what leads to one of the actions leads to a state
+pub fits_row_more : (old new : List TableMove) (from : ℕ) (actions : List Action) (place : ℕ) → FitsRow old from actions → FitsChoice old new from (slice_get actions place) → FitsRow new from actions
+fits_row_more old new from actions place before more states below all =
+    more states below (λ a found. All-contains (λ (x : Action). x.to < states) actions a all (place, slice_get_within actions place a found, get_or_from_slice_get actions place a a found)) (before states below all)
+
+-- a row that is put behind other moves
+pub adds_row : (old new row : List TableMove) (from : ℕ) (named : List ℕ) (actions : List Action) → new ≡ old ++ row → AddsRow [] row from named actions → AddsRow old new from named actions
+adds_row old new row from named actions e adds s byte =
+    rw e (choices-append old row s byte ∙ ap (λ (x : List (ℕ × List Out)). choices old s byte ++ x) (adds s byte))

@@ -62,10 +62,10 @@ other_letter output at x h differs rest e =
     let g : OfByte (get_or output at 0) ≡ x = cc in
     differs (sym g)
 
-none_in : {X : Type 0} (x : X) → Contains [] x → ⊥
+pub none_in : {X : Type 0} (x : X) → Contains [] x → ⊥
 none_in x c = absurd (omega (arith, c.1))
 
-one_in : {X : Type 0} (y x : X) → Contains (y ∷ []) x → x ≡ y
+pub one_in : {X : Type 0} (y x : X) → Contains (y ∷ []) x → x ≡ y
 one_in {X} y x c = sym (All-contains (λ (z : X). y ≡ z) (y ∷ []) x (All-cons (λ (z : X). y ≡ z) y [] refl (All-nil (λ (z : X). y ≡ z))) c)
 
 -- one key more, where the set's test is equality

@@ -2,4 +2,5 @@ pub mod ChoiceLemmas
 pub mod LayerLemmas
 pub mod RunLemmas
 pub mod OfferLemmas
+pub mod IndexLemmas
 mod Examples

@@ -1,5 +1,7 @@
 -- What a table does in a state by a byte, and what it puts out at the end, as lists.
-use Rattle.std.specs.Prelude.{◌≡◌, ◌==◌, ℕ, Bool, ◌&&◌, List, [], ◌∷◌, ◌++◌, Option, Some, None, nat_le, nat_lt, slice_get, slice_index, if◌then◌else◌}
+use Rattle.std.specs.Prelude.{◌≡◌, ◌<◌, ◌==◌, ℕ, Bool, All, IsTrue, ◌&&◌, List, [], ◌∷◌, ◌++◌, Option, Some, None, nat_le, nat_lt, slice_get, slice_index, if◌then◌else◌}
+use Rattle.std.specs.Option.{ForSome}
+use Rattle.fst_core.specs.Fits.{moves_fit}
 use Rattle.text_base.specs.declared.byte_range.ByteRange.{ByteRange}
 use Rattle.fst_core.specs.declared.out.Out.{Out}
 use Rattle.fst_core.specs.declared.moves.TableMove.{TableMove}
@@ -37,3 +39,12 @@ abbrev pub AddsRow : List TableMove → List TableMove → ℕ → List ℕ → 
 AddsRow old new from named actions =
     (s byte : ℕ) → choices new s byte ≡ choices old s byte ++ (if from == s
     && nat_lt byte 256 then choice_of (slice_get actions (slice_index named byte)) else [])
+
+-- if the state and where the action leads are among the states, then the moves fit as they did
+abbrev pub FitsChoice : List TableMove → List TableMove → ℕ → Option Action → Type 0
+FitsChoice old new from action =
+    (states : ℕ) → from < states → ForSome action (λ a. a.to < states) → IsTrue (moves_fit states old) → IsTrue (moves_fit states new)
+
+-- if the state and where the actions lead are among the states, then the moves fit
+abbrev pub FitsRow : List TableMove → ℕ → List Action → Type 0
+FitsRow moves from actions = (states : ℕ) → from < states → All (λ a. a.to < states) actions → IsTrue (moves_fit states moves)

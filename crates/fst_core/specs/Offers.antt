@@ -1,5 +1,5 @@
 -- What moves and ends offer that a machine hands out.
-use Rattle.std.specs.Prelude.{◌≡◌, ℕ, ◌≤◌, ◌<◌, ◌⊎◌, ◌↔◌, List, map, Contains, All, IsTrue}
+use Rattle.std.specs.Prelude.{◌≡◌, ◌==◌, ℕ, ◌≤◌, ◌<◌, ◌⊎◌, ◌↔◌, Bool, ◌&&◌, if◌then◌else◌, nat_le, min, max, List, [], ◌∷◌, map, Contains, All, IsTrue}
 use Rattle.std.specs.List.{list_all}
 use Rattle.fst_core.specs.Fits.{is_fixed}
 use Rattle.fst_core.specs.declared.moves.TableMove.{TableMove}
@@ -46,3 +46,18 @@ pub record OffersLastMore (old new : List (Vec Out Global)) (e : TableEnd) (s : 
   pub exact : (letters : List Letter) → OffersLast new letters ↔ (OffersLast old letters ⊎ StopOf e s letters)
   pub fixed : IsTrue (list_all is_fixed e.out.items) → All (λ out. IsTrue (list_all is_fixed out.items)) old
       → All (λ out. IsTrue (list_all is_fixed out.items)) new
+
+-- what a move offers, as plain values: where its bytes begin and end, what it puts out, and where it leads
+abbrev pub offer_of : Move ℕ → ℕ × ℕ × List Out × ℕ
+offer_of m = (m.range.lo, m.range.hi, m.out.items, m.to)
+
+-- a byte lies in both ranges
+abbrev pub meets : ByteRange → ByteRange → Bool
+meets a b = nat_le a.lo b.hi && nat_le b.lo a.hi
+
+-- what the moves of a table offer in a state by the bytes of a range, in their order, each move once
+abbrev pub offers_of : List TableMove → ℕ → ByteRange → List (ℕ × ℕ × List Out × ℕ)
+offers_of [] s range = []
+offers_of (m ∷ moves) s range =
+    if m.from == s && meets m.range range then (max m.range.lo range.lo, min m.range.hi range.hi, m.out.items, m.to) ∷ offers_of moves s range
+    else offers_of moves s range

@@ -1,19 +1,18 @@
 //! Whether a table relates two texts: layer by layer over the input, with the set of the states
 //! that are reached, each with how much of the output it has put out.
 
-ghost use Rattle.std.specs.Prelude.{◌≡◌, ◌≢◌, ℕ, ◌<◌, ◌≤◌, ◌++◌, ◌∷◌, [], ◌⊎◌, ◌↔◌, List, map, length, slice_index_or, vec_len, slice_get, All, Contains, IfOk, OnOk, IfSome, IsTrue, MatchOption, if◌then◌else◌};
+ghost use Rattle.std.specs.Prelude.{◌≡◌, ◌≢◌, ℕ, ◌<◌, ◌≤◌, ◌++◌, ◌∷◌, [], ◌⊎◌, ◌↔◌, List, map, length, slice_index_or, slice_get, All, Contains, IfOk, OnOk, IfSome, IsTrue, MatchOption, if◌then◌else◌};
 ghost use Rattle.text_base.specs.declared.letter.Letter.{Letter};
 ghost use Rattle.text_base.specs.declared.letter.Letter.TheVariants.{OfByte};
-ghost use Rattle.numbered_sets.specs.Places.{ArePlaces};
 ghost use Rattle.fst_core.specs.Letter.{letter_of};
 ghost use Rattle.fst_core.specs.Tables.{TableRelates};
 ghost use Rattle.fst_core.specs.Layers.{letters_from, SomeGives, ByMove, ByMoves, TableGives, IsIndex, StopsBy};
 
+use crate::indexed::moves_by_state;
 use crate::moves::{TableEnd, TableMove};
 use crate::out::Out;
 use crate::table::Table;
 use indexmap::IndexSet;
-use numbered_sets::places_by;
 use std::alloc::Global;
 use text_base::NoMemory;
 
@@ -206,22 +205,11 @@ fn stops_at(table: &Table, layer: &IndexSet<Reached>, output: &[u8]) -> bool
     false
 }
 
-/// For each state below the count, the places of its moves.
-fn by_state(alloc: Global, states: u64, moves: &[TableMove]) -> Result<Vec<Vec<usize>>, NoMemory>
-    requires { All (λ m. m.from < states) moves.now }
-    ensures len { IfOk result (λ places. vec_len places ≡ states) }
-    ensures exact { IfOk result (λ places. ArePlaces (map (λ m. m.from) moves.now) places.items) }
-{
-    let keys: Vec<u64> = moves.iter().map(|step| step.from).collect(alloc)?;
-    let places = places_by(alloc, states, keys.as_slice())?;
-    Ok(places)
-}
-
 /// For each state, the places of its moves in the table.
-fn moves_by_state(alloc: Global, table: &Table) -> Result<Vec<Vec<usize>>, NoMemory>
+fn index_of(alloc: Global, table: &Table) -> Result<Vec<Vec<usize>>, NoMemory>
     ensures { IfOk result (λ index. IsIndex table.now.moves.items index.items) }
 {
-    let index = by_state(alloc, table.states, table.moves.as_slice())?;
+    let index = moves_by_state(alloc, table)?;
     Ok(index)
 }
 
@@ -231,7 +219,7 @@ pub fn applies(alloc: Global, table: &Table, input: &[u8], output: &[u8]) -> Res
     ensures { IfOk result
         (λ answer. IsTrue answer ↔ TableRelates table.now input.now (map OfByte output.now)) }
 {
-    let index = moves_by_state(alloc, table)?;
+    let index = index_of(alloc, table)?;
     let mut layer = IndexSet::new(alloc);
     add_reached(
         &mut layer,

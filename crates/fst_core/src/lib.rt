@@ -4,6 +4,8 @@
 //! `text_base` alone.
 #![tactic(auto)]
 
+mod indexed;
+mod indexed_machine;
 mod layers;
 mod machine;
 mod moves;
@@ -14,6 +16,7 @@ mod table_machine;
 #[cfg(test)]
 mod tests;
 
+pub use indexed::IndexedTable;
 pub use layers::applies;
 pub use machine::{Machine, Move};
 pub use moves::{Action, TableEnd, TableMove};

@@ -1,8 +1,9 @@
 //! A table as a machine.
 
-ghost use Rattle.std.specs.Prelude.{◌≡◌, ℕ, ◌<◌, List, OnOk};
+ghost use Rattle.std.specs.Prelude.{◌≡◌, ℕ, ◌<◌, List, [], ◌∷◌, ◌++◌, map, OnOk};
 ghost use Rattle.text_base.specs.declared.letter.Letter.{Letter};
-ghost use Rattle.fst_core.specs.Offers.{OffersMore, OffersLastMore};
+ghost use Rattle.fst_core.specs.Offers.{OffersMore, OffersLastMore, offer_of, offers_of};
+ghost use Rattle.fst_core.specs.Choices.{stops};
 ghost use Rattle.fst_core.specs.Tables.{TableStep, TableStop};
 
 use crate::machine::{Machine, Move};
@@ -13,14 +14,16 @@ use std::alloc::Global;
 use text_base::{ByteRange, NoMemory};
 
 /// Adds what a move of the table offers in a state by the bytes of a range.
-fn offer(
+pub(crate) fn offer(
     alloc: Global,
     moves: &mut Vec<Move<u64>>,
     step: &TableMove,
     state: u64,
     range: ByteRange,
 ) -> Result<(), NoMemory>
-    ensures { OnOk result (OffersMore moves.old.items moves.new.items step.now state range) }
+    ensures more { OnOk result (OffersMore moves.old.items moves.new.items step.now state range) }
+    ensures once { OnOk result (map offer_of moves.new.items
+        ≡ map offer_of moves.old.items ++ offers_of (step.now ∷ []) state range) }
 {
     if step.from != state {
         return Ok(());
@@ -38,13 +41,15 @@ fn offer(
 }
 
 /// Adds what an end of the table offers in a state.
-fn offer_last(
+pub(crate) fn offer_last(
     alloc: Global,
     lasts: &mut Vec<Vec<Out>>,
     end: &TableEnd,
     state: u64,
 ) -> Result<(), NoMemory>
-    ensures { OnOk result (OffersLastMore lasts.old.items lasts.new.items end.now state) }
+    ensures more { OnOk result (OffersLastMore lasts.old.items lasts.new.items end.now state) }
+    ensures once { OnOk result (map (λ out. out.items) lasts.new.items
+        ≡ map (λ out. out.items) lasts.old.items ++ stops (end.now ∷ []) state) }
 {
     if end.state != state {
         return Ok(());

@@ -146,3 +146,15 @@ fn a_table_as_a_machine(rt: HostRuntime) -> Result<(), Fail> {
     assert_eq!(rt; first_moves(alloc, &parts(alloc)?, digits)?, 2);
     Ok(())
 }
+
+#[test]
+fn an_indexed_table_as_a_machine(rt: HostRuntime) -> Result<(), Fail> {
+    let alloc = rt.alloc();
+    let digits = ByteRange { lo: b'0', hi: b'9' };
+    let lower = IndexedTable::new(alloc, lower(alloc)?)?;
+    assert_eq!(rt; first_moves(alloc, &lower, ALL)?, 1);
+    assert_eq!(rt; first_moves(alloc, &lower, digits)?, 0);
+    let parts = IndexedTable::new(alloc, parts(alloc)?)?;
+    assert_eq!(rt; first_moves(alloc, &parts, digits)?, 2);
+    Ok(())
+}

@@ -5,3 +5,7 @@ pub mod LargeLemmas
 pub mod LastLemmas
 pub mod SentenceLemmas
 pub mod BeginLemmas
+pub mod CountLemmas
+pub mod PassageLemmas
+pub mod SpellLemmas
+pub mod SmallLemmas

@@ -6,6 +6,7 @@ ghost use Rattle.cfg_grammar.specs.Below.{AreBelow};
 ghost use Rattle.cfg_grammar.specs.Derives.{Derives};
 ghost use Rattle.cfg_grammar.specs.declared.symbol.Symbol as symbols;
 ghost use Rattle.image_meaning.specs.Outputs.{Outputs};
+ghost use Rattle.image_meaning.specs.Weight.{IsSmall};
 ghost use Rattle.grammar_chart.specs.Kept.{AreProductionsOf, IsDone};
 ghost use Rattle.grammar_image.specs.Work.{IsWorked};
 ghost use Rattle.grammar_image.specs.Refusals.{IsCause};
@@ -62,12 +63,17 @@ fn finish<M: Machine>(
     requires worked { IsWorked (M.steps machine.now) (M.gives machine.now) (M.first machine.now)
         productions.now states.now.keys chart.now }
     requires done { IsDone chart.now }
-    ensures { IfOk result
+    ensures sentences { IfOk result
         (λ image. (w : List Letter)
         → Derives image.productions.items (symbols.Symbol.Nt image.start) w
         ↔ Outputs productions.now (symbols.Symbol.Nt chart.now.from) (M.first machine.now)
         (M.steps machine.now) (M.ends machine.now) w) }
+    ensures small { IfOk result
+        (λ image. IsSmall productions.now (M.steps machine.now) (M.ends machine.now) chart.now.from
+        (M.first machine.now) image.count (length image.productions.items)) }
 {
+    let _states = count(states);
+    let _begun = count(&chart.begun);
     let _entries = count(&chart.entries);
     let _passages = count(&chart.passages);
     let lasts = lasts_of(alloc, machine, states)?;
@@ -96,6 +102,9 @@ pub fn image_over<M: Machine>(
         → Derives image.productions.items (symbols.Symbol.Nt image.start) w
         ↔ Outputs productions.now (symbols.Symbol.Nt from) (M.first machine.now)
         (M.steps machine.now) (M.ends machine.now) w) }
+    ensures small { IfOk result
+        (λ image. IsSmall productions.now (M.steps machine.now) (M.ends machine.now) from
+        (M.first machine.now) image.count (length image.productions.items)) }
     ensures cause { IfErr result
         (IsCause productions.now (M.steps machine.now) from (M.first machine.now) limit) }
 {
@@ -136,6 +145,9 @@ pub fn image<M: Machine>(
         → Derives image.productions.items (symbols.Symbol.Nt image.start) w
         ↔ Outputs g.now.productions.items (symbols.Symbol.Nt from) (M.first machine.now)
         (M.steps machine.now) (M.ends machine.now) w) }
+    ensures small { IfOk result
+        (λ image. IsSmall g.now.productions.items (M.steps machine.now) (M.ends machine.now) from
+        (M.first machine.now) image.count (length image.productions.items)) }
     ensures cause { IfErr result
         (IsCause g.now.productions.items (M.steps machine.now) from (M.first machine.now) limit) }
 {

@@ -2,6 +2,7 @@
 
 use crate::words::derives;
 use cfg_grammar::{Grammar, Production, Right, Symbol};
+use fst_core::{IndexedTable, Out, Table, TableEnd, TableMove};
 use grammar_image::{ImageRefusal, image};
 use op_system::Op;
 use std::alloc::Global;
@@ -157,6 +158,56 @@ fn one_range(rt: HostRuntime) -> Result<(), Fail> {
     assert!(rt; derives(alloc, &image, "m")?);
     assert!(rt; !derives(alloc, &image, "A")?);
     assert!(rt; !derives(alloc, &image, "mm")?);
+    Ok(())
+}
+
+// A machine of one state that may put out each small letter as it is, or an `x`, which it offers
+// twice and once more for some of the letters; and nothing at the end, which it offers twice.
+fn doubled(alloc: Global, small: ByteRange) -> Result<Table, NoMemory> {
+    let mut table = Table::new(alloc, 1, 0);
+    let some = ByteRange { lo: b'c', hi: b'f' };
+    for (range, out) in [
+        (small, Out::Same),
+        (small, Out::Byte(b'x')),
+        (small, Out::Byte(b'x')),
+        (some, Out::Byte(b'x')),
+    ] {
+        table.add_move(TableMove {
+            from: 0,
+            range,
+            out: Vec::from_slice(alloc, &[out])?,
+            to: 0,
+        })?;
+    }
+    for _ in 0..2u8 {
+        table.add_end(TableEnd {
+            state: 0,
+            out: Vec::new(alloc),
+        })?;
+    }
+    Ok(table)
+}
+
+/// What is offered twice is written once: one production for the grammar's, one for the letters as
+/// they are and one for the `x`, one for each of these two fronts, and one for the end.
+#[test]
+fn offered_twice(rt: HostRuntime) -> Result<(), Fail> {
+    let alloc = rt.alloc();
+    let small = ByteRange { lo: b'a', hi: b'z' };
+    let Some(grammar) = one_production(alloc, Right::One(Symbol::Range(small)))? else {
+        assert!(rt; false);
+        return Ok(());
+    };
+    let machine = IndexedTable::new(alloc, doubled(alloc, small)?)?;
+    let Ok(image) = image(alloc, &grammar, grammar.start, &machine, 100) else {
+        assert!(rt; false);
+        return Ok(());
+    };
+    assert!(rt; image.productions.len() == 6);
+    assert!(rt; derives(alloc, &image, "x")?);
+    assert!(rt; derives(alloc, &image, "m")?);
+    assert!(rt; !derives(alloc, &image, "xx")?);
+    assert!(rt; !derives(alloc, &image, "")?);
     Ok(())
 }
 

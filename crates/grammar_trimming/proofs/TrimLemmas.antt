@@ -17,7 +17,7 @@ use Rattle.cfg_grammar.specs.Derives.{Derives}
 use Rattle.useful_nonterminals.specs.Follows.{IsMarked}
 use Rattle.useful_nonterminals.specs.Useful.{IsUseful}
 use Rattle.grammar_trimming.specs.Naming.{IsNaming, name_at, as_named, named_symbol, as_one, as_two, named_right, as_production, named_productions}
-use Rattle.grammar_trimming.specs.Trimmed.{HasToken, IsTrimmed}
+use Rattle.grammar_trimming.specs.Trimmed.{HasToken, AreNamed, IsTrimmed}
 use Rattle.grammar_trimming.proofs.ProductionLemmas.{some_same, named_in, in_named, as_few, named_back, range_back, token_back, nonterminal_back, production_back, empty_back, one_back, two_back, token_stands, all_below}
 
 name_found : (names : List (Option ℕ)) (n k : ℕ) → slice_index_or names n None ≡ Some k → slice_get names n ≡ Some (Some k)
@@ -193,6 +193,15 @@ module _ (ps : List Production) (start : nt.Nt) (marks : List Bool) (names : Lis
       let back = production_back names (name_at names found.0.left) (named_right names found.0.right) p' found.2 in
       (found.0, found.1, token_stands names found.0.right p'.right token back.1 t)
 
+  only_these : (a : nt.Nt) (k : ℕ) → name_at names a ≡ Some k → (a ≡ start) ⊎ IsUseful ps start a
+  only_these a k e = elim (naming.only a.0 k (name_found names a.0 k e)) [
+    | inl marked ↦ inr ((exact a).0 marked)
+    | inr same ↦ inl (ap (λ (n : ℕ). let x : nt.Nt = record { 0 = n } in x) same)
+  ]
+
+  are_named : AreNamed ps start (named_productions names ps) start'
+  are_named = record { names = names; productions = refl; first = starts; all = has_name; only = only_these; different = same_name }
+
   pub trimmed : (all : ℕ) → count ≤ all → IsTrimmed ps start all (named_productions names ps) start' count
   unfolding new
   trimmed all h = record {
@@ -201,6 +210,7 @@ module _ (ps : List Production) (start : nt.Nt) (marks : List Bool) (names : Lis
     tokens = no_new_token;
     fewer = h;
     as_few = as_few names ps;
+    named = are_named;
   }
 
   pub below : list_all (production_below count) (named_productions names ps) ≡ true

@@ -15,4 +15,3 @@ pub mod Piece
 pub mod Factor
 pub mod Cut
 pub mod CutBack
-pub mod CutBackLaws

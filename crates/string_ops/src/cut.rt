@@ -15,8 +15,8 @@ use fst_core::Table;
 use std::alloc::Global;
 use text_base::NoMemory;
 
-/// A table with so many states finds no memory.
-const MOST: u64 = 1 << 61;
+/// A cut by more bytes than these finds no memory for its table.
+const MOST: u64 = 1 << 60;
 
 /// The machine of `Op::Cut`.
 pub(crate) fn cut_machine(alloc: Global, start: &i64, len: Option<i64>) -> Result<Table, NoMemory>
@@ -24,6 +24,12 @@ pub(crate) fn cut_machine(alloc: Global, start: &i64, len: Option<i64>) -> Resul
         (λ input output. output ≡ part_of input start.now len)) }
 {
     let number = magnitude(start);
+    if number > MOST {
+        return Err(NoMemory);
+    }
+    if size(len) > MOST {
+        return Err(NoMemory);
+    }
     if is_below_zero(start) {
         return back_machine(alloc, number - 1, len);
     }
@@ -77,7 +83,8 @@ fn size(len: Option<i64>) -> u64
 
 /// The machine of a cut with a start that is not negative.
 fn front_machine(alloc: Global, start: u64, len: Option<i64>) -> Result<Table, NoMemory>
-    requires { start ≤ 2 ^ 63 }
+    requires start { start ≤ 2 ^ 60 }
+    requires len { size_of_length len ≤ 2 ^ 60 }
     ensures { IfOk result
         (λ table. IsMachine table (start + size_of_length len)
         (λ input output. output ≡ part_of input (pos start) len)) }
@@ -94,7 +101,7 @@ fn front_machine(alloc: Global, start: u64, len: Option<i64>) -> Result<Table, N
 
 /// The rest of the text from a start on.
 pub(crate) fn rest_machine(alloc: Global, start: u64) -> Result<Table, NoMemory>
-    requires { start ≤ 2 ^ 63 }
+    requires { start ≤ 2 ^ 60 }
     ensures { IfOk result
         (λ table. IsMachine table start (λ input output. output ≡ part_of input (pos start) None)) }
 {
@@ -104,25 +111,23 @@ pub(crate) fn rest_machine(alloc: Global, start: u64) -> Result<Table, NoMemory>
 
 /// So many bytes from a start on.
 pub(crate) fn next_machine(alloc: Global, start: u64, len: u64) -> Result<Table, NoMemory>
+    requires start { start ≤ 2 ^ 60 }
+    requires len { len ≤ 2 ^ 60 }
     ensures { IfOk result
         (λ table. IsMachine table (start + len)
         (λ input output. output ≡ part_of input (pos start) (Some (pos len)))) }
 {
-    if start >= MOST || len >= MOST {
-        return Err(NoMemory);
-    }
     let table = front_table(alloc, start + len, start, false)?;
     Ok(table)
 }
 
 /// The text from a start on, without its last bytes.
 pub(crate) fn inner_machine(alloc: Global, start: u64, below: u64) -> Result<Table, NoMemory>
+    requires start { start ≤ 2 ^ 60 }
+    requires below { below < 2 ^ 60 }
     ensures { IfOk result (λ table. IsMachine table (start + (below + 1))
         (λ input output. output ≡ part_of input (pos start) (Some (negsuc below)))) }
 {
-    if start >= MOST || below >= MOST {
-        return Err(NoMemory);
-    }
     let table = inner_table(alloc, start, below + 1)?;
     Ok(table)
 }

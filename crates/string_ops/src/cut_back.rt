@@ -1,80 +1,66 @@
 //! The machine of `substr` from a place that is counted from the end.
 
-ghost use Rattle.std.specs.Prelude.{◌≡◌, ◌+◌, ◌*◌, ◌^◌, ◌<◌, ◌≤◌, suc, negsuc, [], ◌∷◌, Some, IfOk, slice_get, if◌then◌else◌};
+ghost use Rattle.std.specs.Prelude.{◌≡◌, ℕ, ◌+◌, ◌^◌, ◌<◌, ◌≤◌, ◌++◌, suc, negsuc, [], ◌∷◌, Some, IfOk, OnOk, slice_get, if◌then◌else◌, ◌==◌};
 ghost use Rattle.string_functions.specs.Cut.{part_of};
 ghost use Rattle.op_system.specs.Size.{size_of_length};
-ghost use Rattle.string_ops.specs.Listed.{IsMachine};
-ghost use Rattle.string_ops.specs.Plans.{choice_in};
-ghost use Rattle.string_ops.specs.CutBack.{state_of, phase_of, kept_of_last, is_counted, dropped_of, put_of, last_choices, drop_choices, back_choices, back_ends, back_row, back_last, back_rows, back_lasts};
-ghost use Rattle.string_ops.specs.CutBackLaws as laws;
-ghost use Rattle.string_ops.specs.PlanLaws as plan;
+ghost use Rattle.fst_core.specs.Choices.{stops};
+ghost use Rattle.string_ops.specs.Listed.{IsListed, IsMachine};
+ghost use Rattle.string_ops.specs.Plans.{AddsTurn, AddsState};
+ghost use Rattle.string_ops.specs.CutBack.{step_in, state_of, phase_of, number_of, states_of, kept_of_last, is_counted, dropped_of, last_choices, drop_choices, back_choices, back_ends, back_row, back_last, back_rows, back_lasts};
 
-use crate::outs::one;
-use crate::plan::{Plan, table_of};
-use fst_core::{Action, Out, Table};
+use crate::factor::add_step;
+use crate::piece::stop_silently;
+use fst_core::{Out, Table};
 use std::alloc::Global;
 use text_base::NoMemory;
 
-/// A cut that begins `last` bytes before the end of the text.
+/// A cut that begins `last` bytes before the end of the text, and the states of its machine.
 #[derive(Clone, Copy, Debug)]
 pub struct CutBack {
     pub last: u64,
     pub len: Option<i64>,
     pub states: u64,
     ghost some: { 0 < last },
-    ghost enough: { 8 * (last + dropped_of len + 1) ≤ states },
+    ghost exact: { states ≡ states_of last len },
+    ghost fits: { states < 2 ^ 63 },
 }
 
-impl Plan for CutBack {
-    ghost states = { λ cut. cut.states };
-
-    ghost rows = { λ cut. back_rows cut.states cut.last cut.len };
-
-    ghost lasts = { λ cut. back_lasts cut.states cut.last cut.len };
-
-    ghost no_rows = { λ cut. plan.no_rows cut.states (back_row cut.last cut.len) };
-
-    ghost no_lasts = { λ cut. plan.no_lasts cut.states (back_last cut.last cut.len) };
-
-    ghost some = { λ cut. laws.some_states cut.states cut.last cut.len cut.enough };
-
-    ghost three = { λ cut. laws.back_three cut.states cut.last cut.len };
-
-    ghost within = { λ cut s byte inside below. laws.back_within cut.states cut.last cut.len cut.some cut.enough s byte inside };
-
-    ghost one = { λ cut. laws.back_one cut.states cut.last cut.len };
-
-    ghost fixed = { λ cut. laws.back_fixed cut.states cut.last cut.len };
-
-    fn states(&self) -> u64 {
-        self.states
-    }
-
-    fn choice(
-        &self,
-        alloc: Global,
-        state: u64,
-        _byte: u8,
-        turn: usize,
-    ) -> Result<Option<Action>, NoMemory> {
-        chosen(alloc, *self, phase(state), state / 8, turn)
-    }
-
-    fn last(&self, alloc: Global, state: u64) -> Result<Option<Vec<Out>>, NoMemory> {
-        Ok(if may_end(*self, phase(state), state / 8) {
-            Some(Vec::new(alloc))
-        } else {
-            None
-        })
-    }
+/// A step by every byte: where it goes, and whether the byte is put out.
+#[derive(Clone, Copy, Debug)]
+struct Step {
+    to: u64,
+    copied: bool,
 }
 
 /// The phase of a state.
-fn phase(state: u64) -> u64
-    ensures { result ≡ phase_of state }
+fn phase(cut: CutBack, state: u64) -> u64
+    ensures { result ≡ phase_of cut.last cut.len state }
 {
-    let phase = state % 8;
-    if phase < 5 { phase } else { 5 }
+    if state == 0 {
+        0
+    } else if state == 1 {
+        1
+    } else if state < 2 + cut.last {
+        2
+    } else if state < 2 + cut.last + cut.last {
+        if counted(cut.len) { 4 } else { 3 }
+    } else {
+        5
+    }
+}
+
+/// The number of a state in its phase.
+fn number(cut: CutBack, state: u64) -> u64
+    ensures value { result ≡ number_of cut.last state }
+    ensures within { result ≤ state }
+{
+    if state < 2 + cut.last {
+        state.saturating_sub(2)
+    } else if state < 2 + cut.last + cut.last {
+        state - (2 + cut.last)
+    } else {
+        state - (2 + cut.last + cut.last)
+    }
 }
 
 /// How many of the last `k` bytes are kept.
@@ -114,129 +100,112 @@ fn dropped(len: Option<i64>) -> u64
 }
 
 /// The state of a phase and a number.
-fn state_at(phase: u64, k: u64) -> u64
-    requires { 8 * k + phase < 2 ^ 64 }
-    ensures { result ≡ state_of phase k }
+fn state_at(cut: CutBack, phase: u64, k: u64) -> u64
+    requires { k ≤ cut.states }
+    ensures { result ≡ state_of cut.last phase k }
 {
-    8 * k + phase
+    match phase {
+        0 => 0,
+        1 => 1,
+        2 => 2 + k,
+        5 => 2 + cut.last + cut.last + k,
+        _ => 2 + cut.last + k,
+    }
 }
 
-/// To a state, with the byte that is read or with nothing.
-fn go(alloc: Global, to: u64, keeps: bool) -> Result<Option<Action>, NoMemory>
-    ensures { IfOk result
-        (λ action. choice_in action ≡ Some (to, if keeps then Out.Same ∷ [] else [])) }
+/// A step to a state, with the byte that is read or with nothing.
+fn go(to: u64, copied: bool) -> Option<Step>
+    ensures { step_in result ≡ Some (to, if copied then Out.Same ∷ [] else []) }
 {
-    let out = if keeps {
-        one(alloc, Out::Same)?
-    } else {
-        Vec::new(alloc)
-    };
-    Ok(Some(Action { to, out }))
+    Some(Step { to, copied })
 }
 
 /// The choices of the first byte.
-fn at_front(alloc: Global, cut: CutBack, turn: usize) -> Result<Option<Action>, NoMemory>
-    ensures { IfOk result
-        (λ action. choice_in action ≡ slice_get (back_choices cut.last cut.len 0 0) turn) }
+fn at_front(cut: CutBack, turn: usize) -> Option<Step>
+    ensures { step_in result ≡ slice_get (back_choices cut.last cut.len 0 0) turn }
 {
     let counts = counted(cut.len);
     let drops = dropped(cut.len);
     if turn == 0 {
-        go(alloc, state_at(1, 0), false)
+        go(state_at(cut, 1, 0), false)
     } else if turn == 1 && counts {
-        go(alloc, state_at(4, cut.last - 1), kept(cut, cut.last) > 0)
+        go(state_at(cut, 4, cut.last - 1), kept(cut, cut.last) > 0)
     } else if turn == 1 {
-        go(alloc, state_at(3, cut.last - 1), true)
+        go(state_at(cut, 3, cut.last - 1), true)
     } else if turn == 2 && !counts && drops > 0 {
-        go(alloc, state_at(5, drops - 1), false)
+        go(state_at(cut, 5, drops - 1), false)
     } else {
-        Ok(None)
+        None
     }
 }
 
 /// The choices where some bytes are passed over.
-fn at_pass(alloc: Global, cut: CutBack, turn: usize) -> Result<Option<Action>, NoMemory>
-    ensures { IfOk result
-        (λ action. choice_in action ≡ slice_get (back_choices cut.last cut.len 1 0) turn) }
+fn at_pass(cut: CutBack, turn: usize) -> Option<Step>
+    ensures { step_in result ≡ slice_get (back_choices cut.last cut.len 1 0) turn }
 {
     if turn == 0 {
-        go(alloc, state_at(1, 0), false)
+        go(state_at(cut, 1, 0), false)
     } else if turn == 1 {
-        go(alloc, state_at(2, cut.last - 1), kept(cut, cut.last) > 0)
+        go(state_at(cut, 2, cut.last - 1), kept(cut, cut.last) > 0)
     } else {
-        Ok(None)
+        None
     }
 }
 
 /// The choice among the last bytes, and where they are counted.
-fn at_last(
-    alloc: Global,
-    cut: CutBack,
-    phase: u64,
-    k: u64,
-    turn: usize,
-) -> Result<Option<Action>, NoMemory>
+fn at_last(cut: CutBack, phase: u64, k: u64, turn: usize) -> Option<Step>
     requires phase { phase < 5 }
-    requires number { 8 * k + 7 < 2 ^ 64 }
-    ensures { IfOk result
-        (λ action. choice_in action ≡ slice_get (last_choices cut.last cut.len phase k) turn) }
+    requires number { k ≤ cut.states }
+    ensures { step_in result ≡ slice_get (last_choices cut.last cut.len phase k) turn }
 {
     if turn == 0 && k > 0 && k < cut.last {
-        go(alloc, state_at(phase, k - 1), kept(cut, k) > 0)
+        go(state_at(cut, phase, k - 1), kept(cut, k) > 0)
     } else {
-        Ok(None)
+        None
     }
 }
 
 /// The choices in a short text of which all but some bytes are kept.
-fn at_short(alloc: Global, cut: CutBack, k: u64, turn: usize) -> Result<Option<Action>, NoMemory>
-    requires { 8 * k + 7 < 2 ^ 64 }
-    ensures { IfOk result
-        (λ action. choice_in action ≡ slice_get (back_choices cut.last cut.len 3 k) turn) }
+fn at_short(cut: CutBack, k: u64, turn: usize) -> Option<Step>
+    requires { k ≤ cut.states }
+    ensures { step_in result ≡ slice_get (back_choices cut.last cut.len 3 k) turn }
 {
     let drops = dropped(cut.len);
     if k == 0 || k >= cut.last {
-        Ok(None)
+        None
     } else if turn == 0 {
-        go(alloc, state_at(3, k - 1), true)
+        go(state_at(cut, 3, k - 1), true)
     } else if turn == 1 && drops > 0 && drops <= k {
-        go(alloc, state_at(2, drops - 1), false)
+        go(state_at(cut, 2, drops - 1), false)
     } else {
-        Ok(None)
+        None
     }
 }
 
 /// The choice where at most `k` bytes are dropped.
-fn at_drop(alloc: Global, k: u64, turn: usize) -> Result<Option<Action>, NoMemory>
-    requires { 8 * k + 7 < 2 ^ 64 }
-    ensures { IfOk result (λ action. choice_in action ≡ slice_get (drop_choices k) turn) }
+fn at_drop(cut: CutBack, k: u64, turn: usize) -> Option<Step>
+    requires { k ≤ cut.states }
+    ensures { step_in result ≡ slice_get (drop_choices cut.last k) turn }
 {
     if turn == 0 && k > 0 {
-        go(alloc, state_at(5, k - 1), false)
+        go(state_at(cut, 5, k - 1), false)
     } else {
-        Ok(None)
+        None
     }
 }
 
 /// The choice of a phase.
-fn chosen(
-    alloc: Global,
-    cut: CutBack,
-    phase: u64,
-    k: u64,
-    turn: usize,
-) -> Result<Option<Action>, NoMemory>
-    requires { 8 * k + 7 < 2 ^ 64 }
-    ensures { IfOk result
-        (λ action. choice_in action ≡ slice_get (back_choices cut.last cut.len phase k) turn) }
+fn chosen(cut: CutBack, phase: u64, k: u64, turn: usize) -> Option<Step>
+    requires { k ≤ cut.states }
+    ensures { step_in result ≡ slice_get (back_choices cut.last cut.len phase k) turn }
 {
     match phase {
-        0 => at_front(alloc, cut, turn),
-        1 => at_pass(alloc, cut, turn),
-        2 => at_last(alloc, cut, 2, k, turn),
-        3 => at_short(alloc, cut, k, turn),
-        4 => at_last(alloc, cut, 4, k, turn),
-        _ => at_drop(alloc, k, turn),
+        0 => at_front(cut, turn),
+        1 => at_pass(cut, turn),
+        2 => at_last(cut, 2, k, turn),
+        3 => at_short(cut, k, turn),
+        4 => at_last(cut, 4, k, turn),
+        _ => at_drop(cut, k, turn),
     }
 }
 
@@ -254,26 +223,87 @@ fn may_end(cut: CutBack, phase: u64, k: u64) -> bool
     }
 }
 
-/// The machine of `Op::Cut` from `below + 1` bytes before the end. A table with more than
-/// 2 to the power 60 states needs more memory than there is.
+/// Adds what a state does at one turn, by every byte.
+fn add_turn(
+    alloc: Global,
+    table: &mut Table,
+    cut: CutBack,
+    state: u64,
+    turn: usize,
+) -> Result<(), NoMemory>
+    requires state { state < cut.states }
+    requires all { table.old.states ≡ cut.states }
+    ensures moves { OnOk result (AddsTurn table.old.moves.items table.new.moves.items state
+        (λ byte. slice_get (back_row cut.last cut.len state byte) turn)) }
+    ensures states { table.new.states ≡ table.old.states }
+    ensures start { table.new.start ≡ table.old.start }
+    ensures ends { table.new.ends.items ≡ table.old.ends.items }
+{
+    let choice = chosen(cut, phase(cut, state), number(cut, state), turn);
+    let Some(step) = choice else {
+        return Ok(());
+    };
+    add_step(alloc, table, state, step.to, step.copied)?;
+    Ok(())
+}
+
+/// Lets the text end in a state, if it may.
+fn add_last(alloc: Global, table: &mut Table, cut: CutBack, state: u64) -> Result<(), NoMemory>
+    requires state { state < cut.states }
+    requires all { table.old.states ≡ cut.states }
+    ensures ends { OnOk result ((s : ℕ) → stops table.new.ends.items s
+        ≡ stops table.old.ends.items s
+        ++ (if state == s then back_last cut.last cut.len state else [])) }
+    ensures states { table.new.states ≡ table.old.states }
+    ensures start { table.new.start ≡ table.old.start }
+    ensures moves { table.new.moves.items ≡ table.old.moves.items }
+{
+    let ends = may_end(cut, phase(cut, state), number(cut, state));
+    if ends {
+        stop_silently(alloc, table, state)?;
+        return Ok(());
+    }
+    Ok(())
+}
+
+/// Adds all that a state does.
+fn add_state(alloc: Global, table: &mut Table, cut: CutBack, state: u64) -> Result<(), NoMemory>
+    requires state { state < cut.states }
+    requires all { table.old.states ≡ cut.states }
+    ensures { OnOk result
+        (AddsState table.old table.new state (back_row cut.last cut.len state)
+        (back_last cut.last cut.len state)) }
+{
+    add_turn(alloc, table, cut, state, 0)?;
+    add_turn(alloc, table, cut, state, 1)?;
+    add_turn(alloc, table, cut, state, 2)?;
+    add_last(alloc, table, cut, state)?;
+    Ok(())
+}
+
+/// The table of a cut from the end, state by state.
+fn back_table(alloc: Global, cut: CutBack) -> Result<Table, NoMemory>
+    ensures { IfOk result
+        (λ table. IsListed table cut.states (back_rows cut.states cut.last cut.len)
+        (back_lasts cut.states cut.last cut.len)) }
+{
+    let mut table = Table::new(alloc, cut.states, 0);
+    for state in 0..cut.states {
+        add_state(alloc, &mut table, cut, state)?;
+    }
+    Ok(table)
+}
+
+/// The machine of `Op::Cut` from `below + 1` bytes before the end.
 pub(crate) fn back_machine(alloc: Global, below: u64, len: Option<i64>) -> Result<Table, NoMemory>
-    requires { below < 2 ^ 63 }
+    requires last { below < 2 ^ 60 }
+    requires drops { dropped_of len ≤ 2 ^ 60 }
     ensures { IfOk result (λ table. IsMachine table (below + 1 + size_of_length len)
         (λ input output. output ≡ part_of input (negsuc below) len)) }
 {
     let last = below + 1;
     let drops = dropped(len);
-    if last > MOST || drops > MOST {
-        return Err(NoMemory);
-    }
-    let cut = CutBack {
-        last,
-        len,
-        states: 8 * (last + drops + 1),
-    };
-    let table = table_of(alloc, &cut)?;
+    let states = 2 + last + last + drops;
+    let table = back_table(alloc, CutBack { last, len, states })?;
     Ok(table)
 }
-
-/// A number of bytes that no table can be made for.
-const MOST: u64 = 1 << 59;

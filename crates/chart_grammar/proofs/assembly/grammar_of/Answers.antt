@@ -1,18 +1,25 @@
-use Rattle.std.proofs.Common.{◌≡◌, ◌+◌, ◌<◌, ℕ, suc, length, arith, add-one, ap, ◌∙◌, sym, refl, subst, List}
+use Rattle.std.proofs.Common.{◌≡◌, ◌+◌, ◌<◌, ◌≤◌, ℕ, suc, length, arith, add-one, ap, ◌∙◌, sym, refl, subst, List}
 use Rattle.std.proofs.lemmas.Bool.{false≢true}
+use Rattle.numbered_sets.specs.Numbers.{AreDifferent}
 use Rattle.cfg_grammar.specs.declared.production.Production.{Production}
+use Rattle.chart_grammar.specs.declared.fronts.Front.{Front}
 use Rattle.chart_grammar.specs.Lifts.{AreLifts}
-use Rattle.chart_grammar.proofs.AssembleLemmas.{assembled_at, all_below}
+use Rattle.chart_grammar.proofs.AssembleLemmas.{assembled_outputs, assembled_paid, all_below}
 use Rattle.chart_grammar.proofs.assembly.grammar_of.Goals as goal
 
 pub unreachable-requires : goal.unreachable-requires
 unreachable-requires c =
     let chart = c.args.chart.now in
     let fs = chart.passages.keys in
-    let fr = c.write_ends.new.fronts.keys in
+    let o1 = c.outputs_of-outputs.result in
+    let o2 = c.write_readings.new.outputs in
+    let o3 = c.write_ends.new.outputs in
+    let fr = o3.fronts.keys in
     let based : c.count.result + 1 ≡ suc (length fs) = ap (λ (n : ℕ). n + 1) c.count.ensures.length ∙ add-one (length fs) in
-    let lifts = assembled_at c.args.productions.now chart.from chart.begun.keys c.as_slice.result.now fs chart.readings.items c.as_slice-readings.result.now (c.count.result + 1) c.args.lasts.now c.new-fronts.result.keys c.write_readings.new.fronts.keys fr c.as_slice-2.result.now c.new-out.result.items c.write_wholes.new.out.items c.write_readings.new.out.items c.write_ends.new.out.items c.write_fronts.new.out.items c.new-out.ensures.items c.as_slice.ensures.keys c.as_slice-readings.ensures.value c.as_slice-2.ensures.keys based c.in_ok-write_wholes.ensures c.in_ok-write_readings.ensures c.in_ok-write_ends.ensures c.in_ok-write_fronts.ensures.keeps c.in_ok-write_fronts.ensures.only c.in_ok-write_fronts.ensures.has in
-    let total : (c.count.result + 1) + c.count-2.result ≡ suc (length fs) + length fr = omega (arith, based, c.count-2.ensures.length) in
+    let spelled : c.as_slice-2.result.now ≡ fr = c.as_slice-2.ensures.keys ∙ ap (λ (v : _). v.keys) c.into_parts-fronts.ensures.fronts in
+    let lifts = assembled_outputs c.args.productions.now chart.from chart.begun.keys c.as_slice.result.now fs chart.readings.items c.as_slice-readings.result.now (c.count.result + 1) c.args.lasts.now o1 o2 o3 c.as_slice-2.result.now c.write_wholes.new.out.items c.new-wholes.result.items c.into_parts-fronts.result.1.items c.write_fronts.new.out.items c.new-wholes.ensures.items c.as_slice.ensures.keys c.as_slice-readings.ensures.value spelled based (ap (λ (v : _). v.items) c.outputs_of-outputs.ensures.out) (ap (λ (v : _). v.items) c.into_parts-fronts.ensures.out) c.in_ok-write_wholes.ensures.writes c.in_ok-write_readings.ensures.writes c.in_ok-write_ends.ensures.writes c.in_ok-write_fronts.ensures.keeps c.in_ok-write_fronts.ensures.only c.in_ok-write_fronts.ensures.has in
+    let long = ap (λ (v : _). length v.keys) c.into_parts-fronts.ensures.fronts in
+    let total : (c.count.result + 1) + c.count-2.result ≡ suc (length fs) + length fr = omega (arith, based, c.count-2.ensures.length, long) in
     let below = all_below fs fr (suc (length fs)) ((c.count.result + 1) + c.count-2.result) refl total c.args.productions.now chart.from chart.begun.keys chart.readings.items c.args.lasts.now c.write_fronts.new.out.items lifts in
     false≢true (c.in-None.ensures.variant.1 (omega (arith, based), below))
 
@@ -20,12 +27,35 @@ pub returns : goal.returns
 returns c =
     let chart = c.args.chart.now in
     let fs = chart.passages.keys in
-    let fr = c.write_ends.new.fronts.keys in
+    let o1 = c.outputs_of-outputs.result in
+    let o2 = c.write_readings.new.outputs in
+    let o3 = c.write_ends.new.outputs in
+    let fr = o3.fronts.keys in
     let based : c.count.result + 1 ≡ suc (length fs) = ap (λ (n : ℕ). n + 1) c.count.ensures.length ∙ add-one (length fs) in
-    let lifts = assembled_at c.args.productions.now chart.from chart.begun.keys c.as_slice.result.now fs chart.readings.items c.as_slice-readings.result.now (c.count.result + 1) c.args.lasts.now c.new-fronts.result.keys c.write_readings.new.fronts.keys fr c.as_slice-2.result.now c.new-out.result.items c.write_wholes.new.out.items c.write_readings.new.out.items c.write_ends.new.out.items c.write_fronts.new.out.items c.new-out.ensures.items c.as_slice.ensures.keys c.as_slice-readings.ensures.value c.as_slice-2.ensures.keys based c.in_ok-write_wholes.ensures c.in_ok-write_readings.ensures c.in_ok-write_ends.ensures c.in_ok-write_fronts.ensures.keeps c.in_ok-write_fronts.ensures.only c.in_ok-write_fronts.ensures.has in
+    let same = ap (λ (v : _). v.keys) c.into_parts-fronts.ensures.fronts in
+    let spelled : c.as_slice-2.result.now ≡ fr = c.as_slice-2.ensures.keys ∙ same in
+    let first = ap (λ (v : _). v.items) c.outputs_of-outputs.ensures.out in
+    let last = ap (λ (v : _). v.items) c.into_parts-fronts.ensures.out in
+    let lifts = assembled_outputs c.args.productions.now chart.from chart.begun.keys c.as_slice.result.now fs chart.readings.items c.as_slice-readings.result.now (c.count.result + 1) c.args.lasts.now o1 o2 o3 c.as_slice-2.result.now c.write_wholes.new.out.items c.new-wholes.result.items c.into_parts-fronts.result.1.items c.write_fronts.new.out.items c.new-wholes.ensures.items c.as_slice.ensures.keys c.as_slice-readings.ensures.value spelled based first last c.in_ok-write_wholes.ensures.writes c.in_ok-write_readings.ensures.writes c.in_ok-write_ends.ensures.writes c.in_ok-write_fronts.ensures.keeps c.in_ok-write_fronts.ensures.only c.in_ok-write_fronts.ensures.has in
     let kept = c.in-Some.ensures.kept in
+    let none = ap length c.new-wholes.ensures.items in
+    let begun = ap length c.as_slice.ensures.keys in
+    let long = ap length same in
+    let written = c.in_ok-write_fronts.ensures.few in
+    let lasts = ap length last in
+    let fronts = ap length spelled in
+    let wholes = c.in_ok-write_wholes.ensures.few in
+    let all = ap length kept.2 in
     record {
       starts = kept.0;
-      fronts = fr;
+      outputs = o3;
       lifts = subst (λ (qs : List Production). AreLifts c.args.productions.now chart.from chart.begun.keys fs chart.readings.items fr (suc (length fs)) c.args.lasts.now qs) (sym kept.2) lifts;
+      wholes = length c.write_wholes.new.out.items;
+      few_wholes = omega (arith, none, begun, wholes);
+      paid = assembled_paid chart.from fs chart.readings.items c.as_slice-readings.result.now c.args.lasts.now (c.count.result + 1) c.write_wholes.new.out.items o1 o2 o3 c.as_slice-readings.ensures.value based first c.outputs_of-outputs.ensures.fronts c.outputs_of-outputs.ensures.said c.outputs_of-outputs.ensures.heads c.outputs_of-outputs.ensures.wide c.in_ok-write_readings.ensures.pay c.in_ok-write_ends.ensures.pay;
+      different_fronts = subst (λ (xs : List Front). AreDifferent xs) same c.count-2.ensures.different;
+      different_said = c.count-said.ensures.different;
+      different_heads = c.count-heads.ensures.different;
+      count = (let k = kept.1 in omega (arith, k, based, c.count-2.ensures.length, long));
+      few = omega (arith, all, written, lasts, fronts);
     }

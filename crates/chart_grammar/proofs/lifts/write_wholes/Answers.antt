@@ -1,4 +1,4 @@
-use Rattle.std.proofs.Common.{[], List, ◌≡◌}
+use Rattle.std.proofs.Common.{[], List, ◌≡◌, ◌+◌, ◌≤◌, length, arith}
 use Rattle.chart_grammar.specs.declared.fronts.Front.{Front}
 use Rattle.grammar_chart.specs.declared.keys.Begun.{Begun}
 use Rattle.chart_grammar.specs.Writing.{WholeMade, WholeHas}
@@ -7,13 +7,26 @@ use Rattle.chart_grammar.proofs.MonoLemmas.{whole_made, whole_has}
 use Rattle.chart_grammar.proofs.lifts.write_wholes.Goals as goal
 
 pub loop-one-init : goal.loop-one-init
-loop-one-init c = writes_none {X = Front} (WholeMade c.args.productions.now c.args.passages.now.keys) (WholeHas c.args.productions.now c.args.passages.now.keys) c.args.begun.now [] c.args.out.now.items
+loop-one-init c =
+    record {
+      writes = writes_none {X = Front} (WholeMade c.args.productions.now c.args.passages.now.keys) (WholeHas c.args.productions.now c.args.passages.now.keys) c.args.begun.now [] c.args.out.now.items;
+      few = omega arith;
+    }
 
 pub loop-one-preserved : goal.loop-one-preserved
 loop-one-preserved c =
     let ps = c.args.productions.now in
     let fs = c.args.passages.now.keys in
-    writes_more {X = Front} (WholeMade ps fs) (WholeHas ps fs) (whole_made ps fs) (whole_has ps fs) c.args.begun.now c.loop-one.one-index _ [] [] [] c.args.out.now.items c.loop-one.out.items c.write_whole.new.out.items c.loop-one-test.true c.loop-one.invariant c.in_ok-write_whole.ensures
+    record {
+      writes = writes_more {X = Front} (WholeMade ps fs) (WholeHas ps fs) (whole_made ps fs) (whole_has ps fs) c.args.begun.now c.loop-one.one-index _ [] [] [] c.args.out.now.items c.loop-one.out.items c.write_whole.new.out.items c.loop-one-test.true c.loop-one.invariant.writes c.in_ok-write_whole.ensures.writes;
+      few = (let a = c.in_ok-write_whole.ensures.few in let b = c.loop-one.invariant.few in omega (arith, a, b));
+    }
 
-pub returns : goal.returns
-returns c = writes_all {X = Front} (WholeMade c.args.productions.now c.args.passages.now.keys) (WholeHas c.args.productions.now c.args.passages.now.keys) c.args.begun.now c.loop-one.one-index [] [] c.args.out.now.items c.loop-one.out.items c.loop-one-test.false c.loop-one.invariant
+pub returns-clause-writes : goal.returns-clause-writes
+returns-clause-writes c = writes_all {X = Front} (WholeMade c.args.productions.now c.args.passages.now.keys) (WholeHas c.args.productions.now c.args.passages.now.keys) c.args.begun.now c.loop-one.one-index [] [] c.args.out.now.items c.loop-one.out.items c.loop-one-test.false c.loop-one.invariant.writes
+
+pub returns-clause-few : goal.returns-clause-few
+returns-clause-few c =
+    let a = c.loop-one.invariant.few in
+    let b : c.loop-one.one-index ≤ length c.args.begun.now = omega arith in
+    omega (arith, a, b)

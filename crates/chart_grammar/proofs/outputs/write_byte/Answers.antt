@@ -6,4 +6,4 @@ pub returns-clause-has : goal.returns-clause-has
 returns-clause-has c = λ within.
     let done : c.in_ok-write_part.field-0 ≡ true = c.in_ok-write_part.ensures.single refl in
     let here : c.args.byte ≤ c.args.byte = omega arith in
-    byte_of_part c.args.passages.now.keys c.args.base c.args.reading.now c.write_part.new.fronts.keys _ c.args.byte c.write_part.new.out.items (c.in_ok-write_part.ensures.has done) here here
+    byte_of_part c.args.passages.now.keys c.args.base c.args.reading.now c.write_part.new.outputs.fronts.keys _ c.args.byte c.write_part.new.outputs.out.items (c.in_ok-write_part.ensures.has done) here here

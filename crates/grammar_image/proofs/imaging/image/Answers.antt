@@ -1,4 +1,6 @@
-use Rattle.std.proofs.Common.{List, subst, sym}
+use Rattle.std.proofs.Common.{List, length, subst, sym}
+use Rattle.std.specs.Prelude.{IfOk}
+use Rattle.image_meaning.specs.Weight.{IsSmall}
 use Rattle.std.specs.declared.vec.Vec.{Vec}
 use Rattle.cfg_grammar.specs.declared.production.Production.{Production}
 use Rattle.grammar_chart.specs.Kept.{AreProductionsOf}
@@ -8,3 +10,8 @@ pub image_over-requires-clause-places : goal.image_over-requires-clause-places
 image_over-requires-clause-places g c =
     let some = subst (λ (ps : List Production). AreProductionsOf ps c.in_ok-places.places.items) (sym c.as_slice-productions.ensures.value) c.in_ok-places.ensures.places in
     subst (λ (ls : List (Vec _ _)). AreProductionsOf c.as_slice-productions.result.now ls) (sym c.as_slice.ensures.value) some
+
+pub returns-clause-small : goal.returns-clause-small
+returns-clause-small g c =
+    let m = c.args.machine.now in
+    subst (λ (ps : List Production). IfOk c.image_over.result (λ image. IsSmall ps (g.M.Machine.steps m) (g.M.Machine.ends m) c.args.from (g.M.Machine.first m) image.count (length image.productions.items))) c.as_slice-productions.ensures.value c.image_over.ensures.small

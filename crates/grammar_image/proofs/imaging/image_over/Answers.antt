@@ -1,9 +1,10 @@
-use Rattle.std.proofs.Common.{◌↔◌, List, subst, ◌∙◌}
+use Rattle.std.proofs.Common.{◌↔◌, List, length, subst, ◌∙◌}
 use Rattle.text_base.specs.declared.letter.Letter.{Letter}
 use Rattle.text_base.specs.declared.numbers.Nt as nt
 use Rattle.cfg_grammar.specs.Derives.{Derives}
 use Rattle.cfg_grammar.specs.declared.symbol.Symbol as symbols
 use Rattle.image_meaning.specs.Outputs.{Outputs}
+use Rattle.image_meaning.specs.Weight.{IsSmall}
 use Rattle.grammar_image.proofs.BeginLemmas.{worked_begins}
 use Rattle.grammar_image.proofs.imaging.image_over.Goals as goal
 
@@ -16,4 +17,10 @@ pub returns-in-Ok-finish-clause-sentences : goal.returns-in-Ok-finish-clause-sen
 returns-in-Ok-finish-clause-sentences g c =
     let m = c.args.machine.now in
     let P : nt.Nt → Type 0 = λ a. (w : List Letter) → Derives c.in-Ok-finish.grammar.productions.items (symbols.Symbol.Nt c.in-Ok-finish.grammar.start) w ↔ Outputs c.args.productions.now (symbols.Symbol.Nt a) (g.M.Machine.first m) (g.M.Machine.steps m) (g.M.Machine.ends m) w in
-    subst (λ (a : nt.Nt). P a) (c.in-Ok.ensures.from ∙ c.in_ok-chart.ensures.from) c.in-Ok-finish.ensures
+    subst (λ (a : nt.Nt). P a) (c.in-Ok.ensures.from ∙ c.in_ok-chart.ensures.from) c.in-Ok-finish.ensures.sentences
+
+pub returns-in-Ok-finish-clause-small : goal.returns-in-Ok-finish-clause-small
+returns-in-Ok-finish-clause-small g c =
+    let m = c.args.machine.now in
+    let P : nt.Nt → Type 0 = λ a. IsSmall c.args.productions.now (g.M.Machine.steps m) (g.M.Machine.ends m) a (g.M.Machine.first m) c.in-Ok-finish.grammar.count (length c.in-Ok-finish.grammar.productions.items) in
+    subst (λ (a : nt.Nt). P a) (c.in-Ok.ensures.from ∙ c.in_ok-chart.ensures.from) c.in-Ok-finish.ensures.small

@@ -13,7 +13,7 @@ loop-end-preserved c =
     let within : c.loop-end.end-index < length ends = rw c.deref-end-items.ensures.value at c.loop-end-test.true in
     let same : e ≡ get_or ends c.loop-end.end-index e = c.end-item.is ∙ ap (λ (x : List TableEnd). get_or x c.loop-end.end-index e) c.deref-end-items.ensures.value in
     let fixed : IsTrue (list_all is_fixed e.out.items) = subst (λ (x : TableEnd). IsTrue (list_all is_fixed x.out.items)) (sym same) (out_fixed table.states ends c.loop-end.end-index e table.ends_fit within) in
-    lasts_more ends c.loop-end.end-index e c.loop-end.lasts.items c.offer_last.new.lasts.items c.args.state.now within same fixed c.loop-end.invariant c.in_ok-offer_last.ensures
+    lasts_more ends c.loop-end.end-index e c.loop-end.lasts.items c.offer_last.new.lasts.items c.args.state.now within same fixed c.loop-end.invariant c.in_ok-offer_last.ensures.more
 
 pub returns-clause-exact : goal.returns-clause-exact
 returns-clause-exact c =

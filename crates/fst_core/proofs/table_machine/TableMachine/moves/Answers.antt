@@ -12,7 +12,7 @@ loop-step-preserved c =
     let same : m ≡ get_or moves c.loop-step.step-index m = c.step-item.is ∙ ap (λ (x : List TableMove). get_or x c.loop-step.step-index m) c.deref-step-items.ensures.value in
     let to = to_within table.states moves c.loop-step.step-index m table.moves_fit within in
     let fits : m.to < table.states = omega (arith, to, ap (λ (x : TableMove). x.to) same) in
-    offers_more moves c.loop-step.step-index m c.loop-step.moves.items c.offer.new.moves.items c.args.state.now table.states c.args.range within same fits c.loop-step.invariant c.in_ok-offer.ensures
+    offers_more moves c.loop-step.step-index m c.loop-step.moves.items c.offer.new.moves.items c.args.state.now table.states c.args.range within same fits c.loop-step.invariant c.in_ok-offer.ensures.more
 
 pub returns-clause-exact : goal.returns-clause-exact
 returns-clause-exact c =
