@@ -4,15 +4,18 @@ use Rattle.text_base.specs.declared.numbers.Nt as nt
 use Rattle.text_base.specs.declared.letter.Letter.{Letter}
 use Rattle.cfg_grammar.specs.declared.symbol.Symbol.TheVariants.{Nt}
 use Rattle.cfg_grammar.specs.declared.production.Production.{Production}
+use Rattle.cfg_grammar.specs.declared.grammar.Grammar.{Grammar}
 use Rattle.cfg_grammar.specs.Derives.{Derives}
 use Rattle.script_meaning.specs.Programs.{PlainProgram}
 use Rattle.op_system.specs.declared.system.OpSystem.{OpSystem}
 use Rattle.resolve_laws.specs.Resolved.{HasLetters}
+use Rattle.resolve_laws.specs.Drafted.{IsResolved}
+use Rattle.grammar_trimming.specs.Trimmed.{IsTrimmed}
 use Rattle.resolving.specs.Causes.{IsCause}
 use Rattle.grammar_image.specs.declared.refusal.ImageRefusal.{ImageRefusal}
 use Rattle.grammar_image.specs.declared.refusal.ImageRefusal.TheVariants.{Large, Memory}
 use Rattle.loose_grammar.specs.declared.refusal.TheConstants.{ITEM_LIMIT}
-use Rattle.loose_grammar.specs.Pages.{IsSystemOf, DerivePages}
+use Rattle.loose_grammar.specs.Pages.{IsSystemOf, DerivePages, IsProgramSystem, IsPageGrammar}
 use Rattle.loose_grammar.specs.Refusals.{IsGrammarRefusal, refusal_of}
 
 module _ (program : PlainProgram) where
@@ -29,7 +32,20 @@ module _ (program : PlainProgram) where
       → DerivePages program new start'
   same_pages old new start start' are same w = (λ d. (are w).0 ((same w).1 d), λ h. (same w).0 ((are w).1 h))
 
+  -- the grammar of the system without what is useless
+  pub page_grammar : (system : OpSystem) (resolved g : Grammar) → IsProgramSystem program system → IsResolved system resolved
+      → ((w : List Letter) → Derives resolved.productions.items (Nt resolved.start) w ↔ HasLetters system (Nt system.start) w)
+      → IsTrimmed resolved.productions.items resolved.start resolved.count g.productions.items g.start g.count → IsPageGrammar program g
+  page_grammar system resolved g is of_system exact trimmed = record {
+    system = system;
+    of_program = is;
+    resolved = resolved;
+    of_system = of_system;
+    trimmed = trimmed;
+    pages = same_pages resolved.productions.items g.productions.items resolved.start g.start (system_pages system resolved.productions.items resolved.start is.pages exact) trimmed.sentences;
+  }
+
   -- an operation's image is too large
-  pub operation_refusal : (system : OpSystem) (r : ImageRefusal) → IsSystemOf program system → IsCause system ITEM_LIMIT r → IsGrammarRefusal program (refusal_of r)
-  operation_refusal system (Large items) is h = (h.0, record { system = system; is_of = is; large = h.1 })
+  pub operation_refusal : (system : OpSystem) (r : ImageRefusal) → IsProgramSystem program system → IsCause system ITEM_LIMIT r → IsGrammarRefusal program (refusal_of r)
+  operation_refusal system (Large items) is h = (h.0, record { system = system; of_program = is; large = h.1 })
   operation_refusal system Memory is h = tt

@@ -5,12 +5,17 @@ use Rattle.text_base.specs.declared.letter.Letter.{Letter}
 use Rattle.text_base.specs.declared.letter.Letter.TheVariants.{OfByte}
 use Rattle.cfg_grammar.specs.declared.symbol.Symbol.TheVariants.{Nt}
 use Rattle.cfg_grammar.specs.declared.production.Production.{Production}
+use Rattle.cfg_grammar.specs.declared.grammar.Grammar.{Grammar}
 use Rattle.cfg_grammar.specs.Derives.{Derives}
 use Rattle.script_meaning.specs.Programs.{PlainProgram}
 use Rattle.flow_code.specs.Flat.{flat}
 use Rattle.loose_sets.specs.Loose.{Loose}
 use Rattle.op_system.specs.declared.system.OpSystem.{OpSystem}
 use Rattle.op_cycles.specs.Texts.{TextOf}
+use Rattle.resolve_laws.specs.Drafted.{IsResolved}
+use Rattle.grammar_trimming.specs.Trimmed.{IsTrimmed}
+use Rattle.flow_listing.specs.Rules.{AreLooseRules}
+use Rattle.flow_listing.specs.Made.{IsMade}
 
 -- the bytes are a loose page of the program
 abbrev pub IsLoosePage : PlainProgram → List ℕ → Type 0
@@ -24,3 +29,19 @@ IsSystemOf program system = (page : List ℕ) → TextOf system (Nt system.start
 abbrev pub DerivePages : PlainProgram → List Production → nt.Nt → Type 0
 DerivePages program productions start = (letters : List Letter) → Derives productions (Nt start) letters
     ↔ ((page : List ℕ) × (letters ≡ map OfByte page) × IsLoosePage program page)
+
+-- the system is made of the sets of the program: it has exactly the loose pages, and its operations are those of the loose sets
+pub record IsProgramSystem (program : PlainProgram) (system : OpSystem) : Type 0 where
+  pub pages : IsSystemOf program system
+  pub rules : AreLooseRules (flat program) system
+  pub made : IsMade (flat program) system
+
+-- the grammar is that of the loose pages which is made of the program: of its system, with each operation added once, without what is
+-- useless
+pub record IsPageGrammar (program : PlainProgram) (grammar : Grammar) : Type 0 where
+  pub system : OpSystem
+  pub of_program : IsProgramSystem program system
+  pub resolved : Grammar
+  pub of_system : IsResolved system resolved
+  pub trimmed : IsTrimmed resolved.productions.items resolved.start resolved.count grammar.productions.items grammar.start grammar.count
+  pub pages : DerivePages program grammar.productions.items grammar.start

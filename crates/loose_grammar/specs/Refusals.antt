@@ -4,17 +4,17 @@ use Rattle.script_meaning.specs.Programs.{PlainProgram}
 use Rattle.op_system.specs.declared.system.OpSystem.{OpSystem}
 use Rattle.grammar_image.specs.declared.refusal.ImageRefusal.{ImageRefusal}
 use Rattle.grammar_image.specs.declared.refusal.ImageRefusal.TheVariants as image
-use Rattle.resolve_laws.specs.Resolved.{IsTooLarge}
+use Rattle.resolve_laws.specs.Drafted.{IsTooLarge}
 use Rattle.program_literals.specs.Short.{HasLongText}
 use Rattle.loose_grammar.specs.declared.refusal.GrammarRefusal.{GrammarRefusal}
 use Rattle.loose_grammar.specs.declared.refusal.GrammarRefusal.TheVariants as refusal
 use Rattle.loose_grammar.specs.declared.refusal.TheConstants.{ITEM_LIMIT}
-use Rattle.loose_grammar.specs.Pages.{IsSystemOf}
+use Rattle.loose_grammar.specs.Pages.{IsProgramSystem}
 
--- the image of an operation of a system that has exactly the loose pages has at least so many items
+-- the image of an operation has at least so many items, in the system that is made of the program
 pub record HasLargeImage (program : PlainProgram) (items : ℕ) : Type 0 where
   pub system : OpSystem
-  pub is_of : IsSystemOf program system
+  pub of_program : IsProgramSystem program system
   pub large : IsTooLarge system items
 
 -- the program is refused, for this reason; want of memory says nothing

@@ -5,7 +5,7 @@ ghost use Rattle.flow_code.specs.Flat.{flat};
 ghost use Rattle.flow_code.specs.View.{plain_flow};
 ghost use Rattle.php_program.specs.View.{program_of};
 ghost use Rattle.program_points.specs.Texts.{TextsFit};
-ghost use Rattle.loose_grammar.specs.Pages.{DerivePages, IsSystemOf};
+ghost use Rattle.loose_grammar.specs.Pages.{DerivePages, IsPageGrammar, IsProgramSystem};
 ghost use Rattle.loose_grammar.specs.Refusals.{IsGrammarRefusal};
 
 use crate::refusal::{GrammarRefusal, ITEM_LIMIT, refusal_of};
@@ -24,7 +24,7 @@ use text_base::NoMemory;
 // The system of a program, from its points.
 fn system_of(alloc: Global, program: &Program, flow: &FlowProgram) -> Result<OpSystem, NoMemory>
     requires { plain_flow flow.now ≡ flat (program_of program.now) }
-    ensures { IfOk result (IsSystemOf (program_of program.now)) }
+    ensures { IfOk result (IsProgramSystem (program_of program.now)) }
 {
     let _ = program;
     extract(alloc, flow)
@@ -36,9 +36,8 @@ fn grammar_of(
     program: &Program,
     system: &OpSystem,
 ) -> Result<Grammar, GrammarRefusal>
-    requires { IsSystemOf (program_of program.now) system.now }
-    ensures pages { IfOk result
-        (λ g. DerivePages (program_of program.now) g.productions.items g.start) }
+    requires { IsProgramSystem (program_of program.now) system.now }
+    ensures grammar { IfOk result (IsPageGrammar (program_of program.now)) }
     ensures refusal { IfErr result (IsGrammarRefusal (program_of program.now)) }
 {
     let _ = program;
@@ -58,6 +57,7 @@ fn grammar_of(
 pub fn loose_grammar(alloc: Global, program: &Program) -> Result<Grammar, GrammarRefusal>
     ensures pages { IfOk result
         (λ g. DerivePages (program_of program.now) g.productions.items g.start) }
+    ensures grammar { IfOk result (IsPageGrammar (program_of program.now)) }
     ensures texts { IfOk result (λ _. TextsFit (program_of program.now)) }
     ensures refusal { IfErr result (IsGrammarRefusal (program_of program.now)) }
 {

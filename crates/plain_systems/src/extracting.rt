@@ -4,6 +4,7 @@ ghost use Rattle.std.specs.Prelude.{◌≡◌, ◌+◌, ◌≤◌, length, IfOk}
 ghost use Rattle.set_tables.specs.Forms.{cells_of};
 ghost use Rattle.set_tables.specs.Size.{bytes_in};
 ghost use Rattle.plain_systems.specs.Plain.{HasSets, HasCycles, AreOfRows};
+ghost use Rattle.plain_systems.specs.Written.{IsWrittenFrom};
 
 use given_texts::given_texts;
 use op_system::OpSystem;
@@ -22,6 +23,8 @@ pub fn plain_system(alloc: Global, table: &SetTable) -> Result<OpSystem, NoMemor
         s.grammar.productions.items s.ops.items) }
     ensures rules { IfOk result
         (λ s. AreOfRows (cells_of table.now.rows.items) table.now.count s.ops.items) }
+    ensures written { IfOk result (IsWrittenFrom (cells_of table.now.rows.items) table.now.start
+        table.now.count) }
     ensures start { IfOk result (λ s. s.start.0 ≡ table.now.start) }
     ensures numbers { IfOk result (λ s. s.grammar.count
         ≤ table.now.count + 32 + bytes_in table.now.rows.items) }

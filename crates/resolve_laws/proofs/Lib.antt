@@ -5,3 +5,5 @@ pub mod DraftLemmas
 pub mod CompleteLemmas
 pub mod MachineLemmas
 pub mod StepLemmas
+pub mod DraftedLemmas
+mod Examples

@@ -37,8 +37,7 @@ use Rattle.op_cycles.proofs.CycleLemmas.{step_depends, is_in_cycle}
 use Rattle.system_bytes.specs.Bytes.{HasBytes}
 use Rattle.system_bytes.proofs.LawLemmas.{text_bytes, byte_below}
 use Rattle.resolve_laws.specs.Resolved.{HasLetters, AreExact}
-use Rattle.resolve_laws.specs.Laws.{IsImage}
-use Rattle.resolve_laws.specs.Drafts.{IsKind, IsDraft, IsDone, IsNew, IsByte, IsAnyProduction, IsImageProduction, AddsAny, AddsImage, IsReady, link_of, moved_symbol, moved_right, moved}
+use Rattle.resolve_laws.specs.Drafts.{IsKind, IsDraft, IsDone, IsNew, IsByte, IsAnyProduction, IsImageProduction, AddsAny, AddsImage, IsImage, IsReady, link_of, moved_symbol, moved_right, moved}
 use Rattle.resolve_laws.proofs.LetterLemmas.{none_in, one_of, only_in, first_in, later_in, all_at, all_from, first_so, second_so, both_so, same_text, plain_text}
 use Rattle.resolve_laws.proofs.MovedLemmas.{unmoved, is_moved, nt_is}
 use Rattle.resolve_laws.proofs.AnyLemmas.{IsAnyRight, any_sound, any_complete}

@@ -17,6 +17,9 @@ use Rattle.cfg_grammar.specs.Derives.{Derives}
 use Rattle.op_system.specs.Rel.{Rel}
 use Rattle.op_system.specs.declared.system.OpRule.{OpRule}
 use Rattle.op_system.specs.declared.system.OpSystem.{OpSystem}
+use Rattle.fst_core.specs.Tables.{TableStep, TableStop}
+use Rattle.fst_core.specs.declared.table.Table.{Table}
+use Rattle.image_meaning.specs.Outputs.{Outputs}
 use Rattle.op_cycles.specs.Texts.{TextOf, ByteOf}
 use Rattle.op_cycles.specs.Cycles.{IsInCycle}
 use Rattle.resolve_laws.specs.Resolved.{HasLetters}
@@ -107,6 +110,11 @@ pub record AddsImage (ps : List Production) (left : nt.Nt) (base : ℕ) (image :
   pub only : (p : Production) → Contains after p → IsImageProduction ps left base image p
   pub link : Contains after (link_of left (record { 0 = base + image.start.0 }))
   pub has : (q : Production) → Contains image.productions.items q → production_without_token q ≡ true → Contains after (moved base q)
+
+-- the grammar's sentences are what the machine may put out over the texts of the operand
+abbrev pub IsImage : List Production → nt.Nt → Table → Grammar → Type 0
+IsImage ps operand table image = (w : List Letter) → Derives image.productions.items (Nt image.start) w
+    ↔ Outputs ps (Nt operand) table.start (TableStep table.moves.items) (TableStop table.ends.items) w
 
 -- all rules are done whose left sides have lower numbers
 abbrev pub IsReady : OpSystem → List ℕ → List Production → ℕ → Type 0

@@ -11,15 +11,13 @@ use Rattle.op_system.specs.Rel.{Rel}
 use Rattle.op_system.specs.Size.{size_of}
 use Rattle.op_system.specs.declared.system.OpRule.{OpRule}
 use Rattle.op_system.specs.declared.system.OpSystem.{OpSystem}
-use Rattle.fst_core.specs.Tables.{TableStep, TableStop}
 use Rattle.fst_core.specs.declared.table.Table.{Table}
 use Rattle.string_ops.specs.Listed.{IsMachine}
-use Rattle.image_meaning.specs.Outputs.{Outputs}
 use Rattle.op_cycles.specs.Texts.{ByteOf}
 use Rattle.op_cycles.specs.Cycles.{AreNumbers, IsInCycle}
 use Rattle.system_bytes.specs.Bytes.{HasBytes}
 use Rattle.resolve_laws.specs.Resolved.{AreExact}
-use Rattle.resolve_laws.specs.Drafts.{IsDraft, IsDone, IsReady, AddsAny, AddsImage}
+use Rattle.resolve_laws.specs.Drafts.{IsDraft, IsDone, IsReady, AddsAny, AddsImage, IsImage}
 
 -- the productions of the system alone are a draft
 abbrev pub SystemIsDraft : OpSystem → Type 0
@@ -31,11 +29,6 @@ AnyIsDone s = (ps after : List Production) (count : ℕ) (rule : OpRule) (set : 
     → Contains s.ops.items rule → IsInCycle s rule
     → ((b : ℕ) → b < 256 → Has set b ↔ ByteOf s (Nt rule.left) b) → AddsAny ps rule.left (record { 0 = count }) set after
     → IsDraft s after (count + 1) × IsDone s after rule
-
--- the grammar's sentences are what the machine may put out over the texts of the operand
-abbrev pub IsImage : List Production → nt.Nt → Table → Grammar → Type 0
-IsImage ps operand table image = (w : List Letter) → Derives image.productions.items (Nt image.start) w
-    ↔ Outputs ps (Nt operand) table.start (TableStep table.moves.items) (TableStop table.ends.items) w
 
 -- a rule in no cycle is done by the image of its operand under its machine, where all rules with lower numbers are done
 abbrev pub ImageIsDone : OpSystem → Type 0

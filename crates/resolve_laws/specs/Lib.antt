@@ -1,3 +1,4 @@
 pub mod Resolved
 pub mod Drafts
+pub mod Drafted
 pub mod Laws

@@ -1,5 +1,5 @@
 -- All texts over some bytes.
-use Rattle.std.proofs.Common.{◌≡◌, ◌<◌, ◌+◌, ℕ, true, Bool, List, [], ◌∷◌, length, Contains, inl, inr, refl, sym, ◌∙◌, subst, arith}
+use Rattle.std.proofs.Common.{◌≡◌, ◌<◌, ◌≤◌, ◌+◌, ℕ, true, Bool, List, [], ◌∷◌, length, Contains, inl, inr, refl, sym, ◌∙◌, ap, subst, arith}
 use Rattle.std.specs.Prelude.{◌⊎◌, nat_lt}
 use Rattle.std.proofs.lemmas.Bool.{lt-ltb, cases_eq}
 use Rattle.std.proofs.lemmas.List.Elements.{Contains-push_cases, Contains-append_left, Contains-push}
@@ -12,6 +12,7 @@ use Rattle.resolve_laws.specs.Drafts.{IsByte, AddsAny, IsAnyProduction, link_of}
 use Rattle.resolve_laws.proofs.LetterLemmas.{both_so}
 use Rattle.resolving.specs.declared.draft.Draft.{Draft}
 use Rattle.resolving.specs.Draft.{IsIndexed, Puts, Widens}
+use Rattle.resolving.proofs.DraftLemmas.{one_longer}
 use Rattle.resolving.specs.AnyTexts.{byte_production, PutsByte, PutsBytes, AddsAnyTexts}
 
 -- what one production more keeps, and what it adds
@@ -28,12 +29,13 @@ later_byte : (t : nt.Nt) (set : List Bool) (n : ℕ) (p : Production) → IsByte
 later_byte t set n p b = record { byte = b.byte; below = (let l = b.below in omega arith); small = b.small; has = b.has; range = b.range; low = b.low; high = b.high; is = b.is }
 
 pub bytes_none : (t : nt.Nt) (set : List Bool) (d : Draft) → IsIndexed d → PutsBytes t set 0 d d
-bytes_none t set d indexed = record { indexed = indexed; count = refl; keeps = λ p c. c; only = λ p c. inl c; has = λ byte lt h. absurd (omega arith) }
+bytes_none t set d indexed = record { indexed = indexed; count = refl; few = omega arith; keeps = λ p c. c; only = λ p c. inl c; has = λ byte lt h. absurd (omega arith) }
 
 pub bytes_skip : (t : nt.Nt) (set : List Bool) (n : ℕ) (old mid : Draft) → (Has set n → ⊥) → PutsBytes t set n old mid → PutsBytes t set (n + 1) old mid
 bytes_skip t set n old mid none b = record {
   indexed = b.indexed;
   count = b.count;
+  few = (let l = b.few in omega arith);
   keeps = b.keeps;
   only = λ p c. elim (b.only p c) [ inl o ↦ inl o | inr x ↦ inr (later_byte t set n p x) ];
   has = λ byte lt h. elim (cases_eq byte n) [
@@ -46,6 +48,7 @@ pub bytes_more : (t : nt.Nt) (set : List Bool) (n : ℕ) (old mid new : Draft) �
 bytes_more t set n old mid new small here b one = record {
   indexed = one.puts.indexed;
   count = one.puts.count ∙ b.count;
+  few = (let l = b.few in let e = one_longer mid new (byte_production t one.range) one.puts in omega arith);
   keeps = λ p c. kept_by mid new (byte_production t one.range) p one.puts (b.keeps p c);
   only = λ p c. elim (old_or_new mid new (byte_production t one.range) p one.puts c) [
     | inl o ↦ elim (b.only p o) [ inl x ↦ inl x | inr x ↦ inr (later_byte t set n p x) ]
@@ -65,6 +68,7 @@ pub any_added : (left t : nt.Nt) (set : List Bool) (old a b c new : Draft) → t
 any_added left t set old a b c new is wide link stop bytes = record {
   indexed = bytes.indexed;
   count = (let p = bytes.count in let q = stop.count in let r = link.count in let w = wide.more in omega arith);
+  few = (let l = bytes.few in let e = one_longer b c (record { left = t; right = Empty }) stop in let f = one_longer a b (link_of left t) link in let g : length a.productions.items ≡ length old.productions.items = ap length wide.productions in omega arith);
   adds = subst (λ (x : nt.Nt). AddsAny old.productions.items left x set new.productions.items) is adds;
 }
   where

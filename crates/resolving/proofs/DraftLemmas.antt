@@ -18,7 +18,8 @@ use Rattle.resolve_laws.proofs.DraftLemmas.{draft_begins, left_below}
 use Rattle.resolve_laws.proofs.StepLemmas.{higher}
 use Rattle.resolving.specs.declared.draft.Draft.{Draft}
 use Rattle.resolving.specs.Draft.{IsIndexed, Puts, PutsAll, Widens, IsOfSystem}
-use Rattle.resolving.specs.Order.{IsDraftOf}
+use Rattle.resolve_laws.specs.Drafted.{Drafted}
+use Rattle.resolving.specs.Order.{IsDraftOf, IsDraftedBy}
 
 pub some_is : {X : Type 0} (x y : X) → Some x ≡ Some y → x ≡ y
 some_is x y e = cc
@@ -99,6 +100,10 @@ widens_more old mid new n v w same is empty =
       more = (let m = w.more in omega arith);
     }
 
+-- one production more
+pub one_longer : (old new : Draft) (p : Production) → Puts old new p → length new.productions.items ≡ length old.productions.items + 1
+one_longer old new p puts = ap length puts.productions ∙ length-append old.productions.items (p ∷ [])
+
 pub puts_none : (d : Draft) → IsIndexed d → PutsAll d d []
 puts_none d indexed = record { indexed = indexed; productions = sym (after_all d.productions.items); count = refl }
   where
@@ -126,6 +131,9 @@ draft_of_system s d is = record {
   indexed = is.indexed;
   is_draft = subst (λ (n : ℕ). IsDraft s d.productions.items n) (sym is.count) (subst (λ (ps : List Production). IsDraft s ps s.grammar.count) (sym is.productions) (draft_begins s));
 }
+
+pub system_drafted : (s : OpSystem) (d : Draft) → IsOfSystem s d → IsDraftedBy s d []
+system_drafted s d is = subst (λ (n : ℕ). Drafted s d.productions.items n []) (sym is.count) (subst (λ (ps : List Production). Drafted s ps s.grammar.count []) (sym is.productions) Drafted.begins)
 
 pub link_below : (n : ℕ) (left right : nt.Nt) → left.0 < n → right.0 < n → production_below n (link_of left right) ≡ true
 link_below n left right l r = both_so (nat_lt left.0 n) _ (lt-ltb left.0 n l) (both_so (nat_lt right.0 n) true (lt-ltb right.0 n r) refl)

@@ -17,7 +17,7 @@ use Rattle.resolve_laws.specs.Drafts.{AddsImage, IsImageProduction, link_of, mov
 use Rattle.resolve_laws.proofs.LetterLemmas.{first_in, later_in, contained, placed, all_at, first_so, second_so, both_so}
 use Rattle.resolve_laws.proofs.DraftLemmas.{left_below, right_below}
 use Rattle.resolving.specs.declared.draft.Draft.{Draft}
-use Rattle.resolving.proofs.DraftLemmas.{some_is}
+use Rattle.resolving.proofs.DraftLemmas.{some_is, one_longer}
 use Rattle.resolving.specs.Draft.{IsIndexed, Puts, Widens}
 use Rattle.resolving.specs.Images.{FitsSymbol, FitsProduction, AddsProductions, AddsMoved}
 use Rattle.resolving.proofs.AnyLemmas.{kept_by, has_new, old_or_new}
@@ -56,7 +56,7 @@ moved_below base count n qs q below among room =
     both_so (nat_lt (base + q.left.0) n) _ (lt-ltb (base + q.left.0) n (omega arith)) (moved_right_below base count n room q.right (second_so (nat_lt q.left.0 count) (list_all (symbol_below count) (symbols_of q.right)) t))
 
 pub moved_none : (base : ℕ) (qs : List Production) (d : Draft) → IsIndexed d → AddsProductions base qs 0 d d
-moved_none base qs d indexed = record { indexed = indexed; count = refl; keeps = λ p c. c; only = λ p c. inl c; has = λ k q lt at plain. absurd (omega arith) }
+moved_none base qs d indexed = record { indexed = indexed; count = refl; few = omega arith; keeps = λ p c. c; only = λ p c. inl c; has = λ k q lt at plain. absurd (omega arith) }
 
 true_false : true ≡ false → ⊥
 true_false e = cc
@@ -65,6 +65,7 @@ pub moved_skip : (base : ℕ) (qs : List Production) (n : ℕ) (q : Production) 
 moved_skip base qs n q old mid at none b = record {
   indexed = b.indexed;
   count = b.count;
+  few = (let l = b.few in omega arith);
   keeps = b.keeps;
   only = b.only;
   has = λ k r lt found plain. elim (cases_eq k n) [
@@ -77,6 +78,7 @@ pub moved_more : (base : ℕ) (qs : List Production) (n : ℕ) (q : Production) 
 moved_more base qs n q old mid new at plain b one = record {
   indexed = one.indexed;
   count = one.count ∙ b.count;
+  few = (let l = b.few in let e = one_longer mid new (moved base q) one in omega arith);
   keeps = λ p c. kept_by mid new (moved base q) p one (b.keeps p c);
   only = λ p c. elim (old_or_new mid new (moved base q) p one c) [
     | inl o ↦ b.only p o
@@ -93,6 +95,7 @@ pub grammar_added : (left : nt.Nt) (image : Grammar) (base : ℕ) (old a b new :
 grammar_added left image base old a b new is wide link all = record {
   indexed = all.indexed;
   count = (let p = all.count in let r = link.count in let w = wide.more in omega arith);
+  few = (let l = all.few in let e = one_longer a b (link_of left (record { 0 = base + image.start.0 })) link in let g : length a.productions.items ≡ length old.productions.items = ap length wide.productions in omega arith);
   adds = subst (λ (n : ℕ). AddsImage old.productions.items left n image new.productions.items) is adds;
 }
   where

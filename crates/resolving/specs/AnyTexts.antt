@@ -1,5 +1,5 @@
 -- How all texts over some bytes are added to a draft. No public clause cites this.
-use Rattle.std.specs.Prelude.{◌≡◌, ◌<◌, ◌+◌, ◌⊎◌, ℕ, Bool, List, length, Contains}
+use Rattle.std.specs.Prelude.{◌≡◌, ◌<◌, ◌≤◌, ◌+◌, ◌⊎◌, ℕ, Bool, List, length, Contains}
 use Rattle.text_base.specs.declared.byte_range.ByteRange.{ByteRange}
 use Rattle.text_base.specs.declared.numbers.Nt as nt
 use Rattle.text_base.specs.ByteSet.{Has}
@@ -21,17 +21,19 @@ pub record PutsByte (t : nt.Nt) (byte : ℕ) (old new : Draft) : Type 0 where
   pub high : range.hi ≡ byte
   pub puts : Puts old new (byte_production t range)
 
--- those of the bytes of the set below n are put, and no other
+-- those of the bytes of the set below n are put, and no other, at most n
 pub record PutsBytes (t : nt.Nt) (set : List Bool) (n : ℕ) (old new : Draft) : Type 0 where
   pub indexed : IsIndexed new
   pub count : length new.places.items ≡ length old.places.items
+  pub few : length new.productions.items ≤ length old.productions.items + n
   pub keeps : (p : Production) → Contains old.productions.items p → Contains new.productions.items p
   pub only : (p : Production) → Contains new.productions.items p → Contains old.productions.items p ⊎ IsByte t set n p
   pub has : (byte : ℕ) → byte < n → Has set byte
       → (range : ByteRange) × (range.lo ≡ byte) × (range.hi ≡ byte) × Contains new.productions.items (byte_production t range)
 
--- all texts over the bytes of the set are added to those of a nonterminal, by one nonterminal more
+-- all texts over the bytes of the set are added to those of a nonterminal, by one nonterminal and at most 258 productions more
 pub record AddsAnyTexts (left : nt.Nt) (set : List Bool) (old new : Draft) : Type 0 where
   pub indexed : IsIndexed new
   pub count : length new.places.items ≡ length old.places.items + 1
+  pub few : length new.productions.items ≤ length old.productions.items + 258
   pub adds : AddsAny old.productions.items left (record { 0 = length old.places.items }) set new.productions.items

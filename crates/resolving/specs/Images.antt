@@ -1,5 +1,5 @@
 -- How an image is made and added to a draft. No public clause cites this.
-use Rattle.std.specs.Prelude.{◌≡◌, ◌<◌, ◌+◌, ◌⊎◌, ℕ, true, List, length, Some, slice_get, Contains}
+use Rattle.std.specs.Prelude.{◌≡◌, ◌<◌, ◌≤◌, ◌+◌, ◌⊎◌, ℕ, true, List, length, Some, slice_get, Contains}
 use Rattle.text_base.specs.declared.numbers.Nt as nt
 use Rattle.cfg_grammar.specs.declared.symbol.Symbol.{Symbol}
 use Rattle.cfg_grammar.specs.declared.symbol.Symbol.TheVariants.{Nt}
@@ -16,7 +16,6 @@ use Rattle.string_ops.specs.Listed.{IsMachine}
 use Rattle.grammar_image.specs.declared.refusal.ImageRefusal.{ImageRefusal}
 use Rattle.grammar_image.specs.declared.refusal.ImageRefusal.TheVariants.{Large, Memory}
 use Rattle.image_meaning.specs.Items.{HasItems}
-use Rattle.resolve_laws.specs.Laws.{IsImage}
 use Rattle.resolve_laws.specs.Drafts.{AddsImage, moved}
 use Rattle.resolving.specs.declared.draft.Draft.{Draft}
 use Rattle.resolving.specs.Draft.{IsIndexed}
@@ -37,26 +36,23 @@ pub record IsMovedOf (base : ℕ) (qs : List Production) (p : Production) : Type
   pub plain : production_without_token from ≡ true
   pub is : p ≡ moved base from
 
--- the first n of the productions without a page token are put with higher numbers, and no other
+-- the first n of the productions without a page token are put with higher numbers, and no other, at most n
 pub record AddsProductions (base : ℕ) (qs : List Production) (n : ℕ) (old new : Draft) : Type 0 where
   pub indexed : IsIndexed new
   pub count : length new.places.items ≡ length old.places.items
+  pub few : length new.productions.items ≤ length old.productions.items + n
   pub keeps : (p : Production) → Contains old.productions.items p → Contains new.productions.items p
   pub only : (p : Production) → Contains new.productions.items p → Contains old.productions.items p ⊎ IsMovedOf base qs p
   pub has : (k : ℕ) (q : Production) → k < n → slice_get qs k ≡ Some q → production_without_token q ≡ true
       → Contains new.productions.items (moved base q)
 
--- the sentences of the image without page tokens are added to the texts of a nonterminal, by its nonterminals
+-- the sentences of the image without page tokens are added to the texts of a nonterminal, by its nonterminals, at most its productions, and
+-- one production
 pub record AddsMoved (left : nt.Nt) (image : Grammar) (old new : Draft) : Type 0 where
   pub indexed : IsIndexed new
   pub count : length new.places.items ≡ length old.places.items + image.count
+  pub few : length new.productions.items ≤ length old.productions.items + (1 + length image.productions.items)
   pub adds : AddsImage old.productions.items left (length old.places.items) image new.productions.items
-
--- the grammar is the image of what the productions derive for the operand, under a machine of the operation
-pub record IsImageOf (ps : List Production) (rule : OpRule) (image : Grammar) : Type 0 where
-  pub table : Table
-  pub machine : IsMachine table (size_of rule.op) (Rel rule.op)
-  pub is : IsImage ps rule.operand table image
 
 -- the image of what the productions derive for the operand has at least so many items, under a machine of the operation
 pub record HasManyItems (ps : List Production) (rule : OpRule) (items : ℕ) : Type 0 where

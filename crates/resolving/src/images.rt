@@ -4,12 +4,14 @@ ghost use Rattle.std.specs.Prelude.{◌≡◌, ◌≢◌, ◌<◌, ◌≤◌, �
 ghost use Rattle.cfg_grammar.specs.Below.{AreBelow};
 ghost use Rattle.op_system.specs.declared.op.Op.TheVariants.{Any};
 ghost use Rattle.resolve_laws.specs.Drafts as laws;
+ghost use Rattle.resolve_laws.specs.Drafted.{IsImageOf};
 ghost use Rattle.resolving.specs.Draft.{IsIndexed};
-ghost use Rattle.resolving.specs.Images.{AddsMoved, AddsProductions, FitsSymbol, FitsProduction, IsImageOf, IsImageCause};
+ghost use Rattle.resolving.specs.Images.{AddsMoved, AddsProductions, FitsSymbol, FitsProduction, IsImageCause};
 
 use crate::any_texts::link;
 use crate::draft::{Draft, put, widen};
 use cfg_grammar::{Grammar, Production, Right, Symbol};
+use fst_core::IndexedTable;
 use grammar_image::{ImageRefusal, image_over};
 use op_system::OpRule;
 use std::alloc::Global;
@@ -100,7 +102,8 @@ pub fn image_of(
     ensures image { IfOk result (IsImageOf draft.now.productions.items rule.now) }
     ensures cause { IfErr result (IsImageCause draft.now.productions.items rule.now limit) }
 {
-    let machine = machine_of(alloc, &rule.op)?;
+    let table = machine_of(alloc, &rule.op)?;
+    let machine = IndexedTable::new(alloc, table)?;
     match image_over(
         alloc,
         draft.productions.as_slice(),

@@ -1,6 +1,6 @@
 //! Resolving a system.
 
-ghost use Rattle.std.specs.Prelude.{◌≡◌, ◌↔◌, ◌<◌, ℕ, List, IfOk, IfErr, OnOk};
+ghost use Rattle.std.specs.Prelude.{◌≡◌, ◌↔◌, ◌<◌, ℕ, List, [], IfOk, IfErr, OnOk};
 ghost use Rattle.text_base.specs.declared.letter.Letter.{Letter};
 ghost use Rattle.cfg_grammar.specs.Derives.{Derives};
 ghost use Rattle.cfg_grammar.specs.Tokens.{HaveNoToken};
@@ -9,8 +9,9 @@ ghost use Rattle.op_bytes.specs.Bytes.{AreByteSets};
 ghost use Rattle.op_cycles.specs.Cycles.{AreNumbers};
 ghost use Rattle.system_bytes.specs.Bytes.{HasBytes};
 ghost use Rattle.resolve_laws.specs.Resolved.{HasLetters};
+ghost use Rattle.resolve_laws.specs.Drafted.{IsResolved};
 ghost use Rattle.resolving.specs.Causes.{IsCause};
-ghost use Rattle.resolving.specs.Order.{AllAdded, IsDraftOf, IsOrder};
+ghost use Rattle.resolving.specs.Order.{AllAdded, IsDraftedBy, IsDraftOf, IsOrder};
 
 use crate::draft::{Draft, begin};
 use crate::order::{Ranked, rules_in_order};
@@ -38,6 +39,7 @@ fn add_rules(
     requires sets { AreByteSets s.now sets.now }
     requires order { IsOrder s.now numbers.now order.now }
     requires draft { IsDraftOf s.now draft.old }
+    requires begins { IsDraftedBy s.now draft.old [] }
     ensures added { OnOk result (AllAdded s.now draft.new) }
     ensures cause { IfErr result (IsCause s.now limit) }
 {
@@ -62,6 +64,7 @@ pub fn resolve(alloc: Global, s: &OpSystem, limit: u64) -> Result<Grammar, Image
     ensures exact { IfOk result
         (λ g. (w : List Letter) → Derives g.productions.items (symbols.Symbol.Nt g.start) w
         ↔ HasLetters s.now (symbols.Symbol.Nt s.now.start) w) }
+    ensures resolved { IfOk result (IsResolved s.now) }
     ensures plain { IfOk result (λ g. HaveNoToken g.productions.items) }
     ensures cause { IfErr result (IsCause s.now limit) }
 {

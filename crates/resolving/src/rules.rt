@@ -7,7 +7,7 @@ ghost use Rattle.system_bytes.specs.Bytes.{HasBytes};
 ghost use Rattle.resolve_laws.specs.Drafts.{IsDraft, IsReady};
 ghost use Rattle.resolving.specs.Causes.{IsCause};
 ghost use Rattle.resolving.specs.Draft.{IsIndexed};
-ghost use Rattle.resolving.specs.Order.{AddsRule, IsDraftOf, IsReadyFor};
+ghost use Rattle.resolving.specs.Order.{AddsRule, IsDraftOf, IsReadyFor, MayBeAdded};
 
 use crate::any_texts::add_any_texts;
 use crate::draft::Draft;
@@ -34,6 +34,7 @@ pub fn add_rule(
     requires sets { AreByteSets s.now sets.now }
     requires rule { Contains s.now.ops.items rule.now }
     requires draft { IsDraftOf s.now draft.old }
+    requires next { MayBeAdded s.now rule.now draft.old }
     requires ready { IsReadyFor s.now numbers.now draft.old.productions.items rule.now }
     ensures adds { OnOk result (AddsRule s.now rule.now draft.old draft.new) }
     ensures cause { IfErr result (IsCause s.now limit) }

@@ -2,8 +2,12 @@ use Rattle.std.proofs.Common.{subst, sym}
 use Rattle.php_program.specs.View.{program_of}
 use Rattle.loose_grammar.specs.declared.refusal.GrammarRefusal.{GrammarRefusal}
 use Rattle.loose_grammar.specs.Refusals.{IsGrammarRefusal}
-use Rattle.loose_grammar.proofs.PageLemmas.{operation_refusal}
+use Rattle.loose_grammar.proofs.PageLemmas.{page_grammar, operation_refusal}
 use Rattle.loose_grammar.proofs.making.grammar_of.Goals as goal
+
+pub returns-in_ok-trim-in-Ok-clause-grammar : goal.returns-in_ok-trim-in-Ok-clause-grammar
+returns-in_ok-trim-in-Ok-clause-grammar c =
+    page_grammar (program_of c.args.program.now) c.args.system.now c.in-Ok.grammar _ c.requires c.in-Ok.ensures.resolved c.in-Ok.ensures.exact c.in_ok-trim-in-Ok.ensures
 
 pub returns-in-Err-clause-refusal : goal.returns-in-Err-clause-refusal
 returns-in-Err-clause-refusal c =

@@ -18,7 +18,7 @@ image_of-requires-clause-op c e = true≢false (sym (c.is_circular.ensures.1 (an
 
 pub returns-in-Err-clause-cause : goal.returns-in-Err-clause-cause
 returns-in-Err-clause-cause c =
-    cause_of c.args.s.now c.args.rule.now c.args.numbers.now c.args.limit c.args.draft.now c.requires.numbers c.requires.draft c.requires.rule (λ h. true≢false (sym (c.is_circular.ensures.1 h) ∙ c.if-is_circular.false)) c.requires.ready c.in-Err.refusal c.in-Err.ensures.cause
+    cause_of c.args.s.now c.args.rule.now c.args.numbers.now c.args.limit c.args.draft.now c.requires.numbers c.requires.draft c.requires.rule (λ h. true≢false (sym (c.is_circular.ensures.1 h) ∙ c.if-is_circular.false)) c.requires.ready c.requires.next c.in-Err.refusal c.in-Err.ensures.cause
 
 pub returns-clause-adds : goal.returns-clause-adds
 returns-clause-adds c =
