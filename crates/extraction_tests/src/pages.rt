@@ -50,6 +50,16 @@ fn flow(rt: HostRuntime) -> Result<(), Fail> {
             "|b|ba|aab",
         ),
         (
+            "<?php $x = 'a'; if (isset($_GET['b'])) { $x = 'b'; } if (isset($_GET['c'])) { $x = 'c'; } echo $x;",
+            "a|b|c",
+            "|ab|bc",
+        ),
+        (
+            "<?php while (isset($_GET['a'])) { while (isset($_GET['b'])) { echo 'b'; } echo 'a'; }",
+            "|a|ba|bba|aba",
+            "b|ab|bb",
+        ),
+        (
             "<?php if (isset($_GET['a'])) { echo 'a'; } else { echo 'b'; } echo 'c';",
             "ac|bc",
             "c|abc|a|b",
@@ -124,6 +134,16 @@ fn functions(rt: HostRuntime) -> Result<(), Fail> {
             "<?php function f() { echo 'a'; exit('b'); } echo 'c'; f(); echo 'd';",
             "cab",
             "ca|c|cabd|cad|cd",
+        ),
+        (
+            "<?php function f() { if (isset($_GET['a'])) { echo 'x'; exit; } echo 'y'; } f(); echo 'z';",
+            "x|yz",
+            "|y|xz|xyz",
+        ),
+        (
+            "<?php function g() { echo 'a'; exit; } function f() { echo 'b'; g(); echo 'c'; } echo 'd'; f();",
+            "dba",
+            "d|db|dbac|dbc",
         ),
         (
             "<?php function f($x) { echo $x; } f('a'); echo '.'; f('b');",

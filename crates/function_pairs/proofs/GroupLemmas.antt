@@ -1,6 +1,9 @@
 -- Items and the numbers of their keys.
-use Rattle.std.proofs.Common.{◌≡◌, ◌<◌, ◌+◌, ◌⊎◌, inl, inr, ℕ, zero, suc, List, [], ◌∷◌, ◌++◌, length, take, get_or, Some, refl, sym, subst, ap, ◌∙◌, arith, slice_get}
-use Rattle.std.specs.List.{All}
+use Rattle.std.proofs.Common.{◌≡◌, ◌<◌, ◌≤◌, ◌+◌, ◌&&◌, ◌⊎◌, inl, inr, ℕ, zero, suc, Bool, true, false, cond, if◌then◌else◌, List, [], ◌∷◌, ◌++◌, length, take, get_or, Some, refl, sym, subst, ap, ◌∙◌, arith, slice_get}
+use Rattle.std.specs.Prelude.{nat_eq}
+use Rattle.std.specs.List.{All, count_by}
+use Rattle.std.proofs.lemmas.Bool.{eqb-true}
+use Rattle.std.proofs.lemmas.List.Sums.{sum_by-cons}
 use Rattle.std.specs.declared.vec.Vec.{Vec}
 use Rattle.std.specs.declared.alloc.Global.{Global}
 use Rattle.std.proofs.Math.Seq.{take-suc}
@@ -8,9 +11,9 @@ use Rattle.std.proofs.lemmas.List.{length-append}
 use Rattle.std.proofs.lemmas.List.Elements.{All-from_get_or}
 use Rattle.std.proofs.lemmas.Option.{same_Some, slice_get-get_or, slice_get_within, get_or_from_slice_get}
 use Rattle.numbered_sets.specs.Numbers.{Keeps, AreDifferent}
-use Rattle.numbered_sets.specs.Places.{ArePlaces}
+use Rattle.numbered_sets.specs.Places.{ArePlaces, AreInOrder, places_of}
 use Rattle.numbered_sets.proofs.NumberLemmas.{at_front}
-use Rattle.function_pairs.specs.Handed.{Handing, AreOwners, IsOf, AreGroups}
+use Rattle.function_pairs.specs.Handed.{Handing, AreOwners, IsOf, has_key, AreGroups}
 
 push_cases : {X : Type 0} (xs : List X) (y : X) (k : ℕ) (x : X) → slice_get (xs ++ y ∷ []) k ≡ Some x
     → (slice_get xs k ≡ Some x) ⊎ ((k ≡ length xs) × (y ≡ x))
@@ -61,9 +64,34 @@ owners_below all keys owners are = All-from_get_or (λ (k : ℕ). k < length key
         let same : get_or owners i 0 ≡ r.0 = get_or_from_slice_get owners i r.0 0 r.1 in
         subst (λ (n : ℕ). n < length keys) (sym same) (slice_get_within keys r.0 (get_or (x ∷ xs) i x).0 r.2)
 
+-- an item whose number is that of the key has the key
+same_key : (key : ℕ × ℕ) (h : Handing) → h.0 ≡ key → has_key key h ≡ true
+same_key key h e = subst (λ (z : ℕ × ℕ). (nat_eq key.0 z.0 && nat_eq key.1 z.1) ≡ true) (sym e) (grind arith)
+
+-- no number stands at more places than there are items of its key
+counted : (keys : List (ℕ × ℕ)) (k : ℕ) (key : ℕ × ℕ) → slice_get keys k ≡ Some key → (all : List Handing) (owners : List ℕ) (i : ℕ) → AreOwners all keys owners → length (places_of owners k i) ≤ count_by (has_key key) all
+counted keys k key at all [] i are = omega arith
+counted keys k key at [] (o ∷ owners) i are = absurd (let l = are.long in omega arith)
+counted keys k key at (h ∷ all) (o ∷ owners) i are =
+    by (nat_eq o k) refl (counted keys k key at all owners (i + 1) (record { long = (let l = are.long in omega arith); each = λ j g e. are.each (suc j) g e }))
+  where
+    more : count_by (has_key key) (h ∷ all) ≡ cond (has_key key h) 1 0 + count_by (has_key key) all
+    more = sum_by-cons (λ (z : Handing). cond (has_key key z) 1 0) h all
+
+    by : (b : Bool) → nat_eq o k ≡ b → length (places_of owners k (i + 1)) ≤ count_by (has_key key) all
+        → length (if b then i ∷ places_of owners k (i + 1) else places_of owners k (i + 1)) ≤ count_by (has_key key) (h ∷ all)
+    by false e rest = omega (arith, rest, more)
+    by true e rest =
+        let r = are.each 0 h refl in
+        let same : r.0 ≡ k = same_Some r.0 k (sym r.1 ∙ ap (λ (n : ℕ). Some n) (eqb-true o k e)) in
+        let there : h.0 ≡ key = same_Some h.0 key (sym r.2 ∙ ap (λ (n : ℕ). slice_get keys n) same ∙ at) in
+        let one : cond {A = ℕ} (has_key key h) 1 0 ≡ 1 = ap (λ (b : Bool). cond {A = ℕ} b 1 0) (same_key key h there) in
+        omega (arith, rest, more, one)
+
 -- the places of numbers are those of items with the key
-pub groups : (all : List Handing) (keys : List (ℕ × ℕ)) (owners : List ℕ) (places : List (Vec ℕ Global)) → AreOwners all keys owners → AreDifferent keys → length places ≡ length keys → ArePlaces owners places → AreGroups all keys places
-groups all keys owners places are different long exact = record {
+pub groups : (all : List Handing) (keys : List (ℕ × ℕ)) (owners : List ℕ) (places : List (Vec ℕ Global)) → AreOwners all keys owners → AreDifferent keys → length places ≡ length keys → ArePlaces owners places → AreInOrder owners places
+    → AreGroups all keys places
+groups all keys owners places are different long exact order = record {
   different = different;
   long = long;
   known = λ i h e. let r = are.each i h e in (r.0, slice_get_within keys r.0 h.0 r.2, get_or_from_slice_get keys r.0 h.0 h.0 r.2);
@@ -71,6 +99,7 @@ groups all keys owners places are different long exact = record {
     λ c. from k i ((exact k v there i).0 c),
     λ it. (exact k v there i).1 (into k i it),
   );
+  few = λ k v key there at. subst (λ (ps : List ℕ). length ps ≤ count_by (has_key key) all) (sym (order k v there)) (counted keys k key at all owners 0 are);
 }
   where
     from : (k i : ℕ) → slice_get owners i ≡ Some k → IsOf all keys k i

@@ -1,5 +1,6 @@
 -- What calls hand in: for a function and a parameter, the point of a call and the slot of the argument.
-use Rattle.std.specs.Prelude.{◌≡◌, ◌↔◌, ℕ, suc, List, [], ◌∷◌, ◌++◌, length, Option, Some, None, slice_get, Contains}
+use Rattle.std.specs.Prelude.{◌≡◌, ◌↔◌, ◌≤◌, ◌&&◌, nat_eq, ℕ, suc, Bool, List, [], ◌∷◌, ◌++◌, length, Option, Some, None, slice_get, Contains}
+use Rattle.std.specs.List.{count_by}
 use Rattle.std.specs.declared.vec.Vec.{Vec}
 use Rattle.std.specs.declared.alloc.Global.{Global}
 use Rattle.numbered_sets.specs.Numbers.{AreDifferent}
@@ -43,9 +44,15 @@ pub record IsOf (all : List Handing) (keys : List (ℕ × ℕ)) (k i : ℕ) : Ty
   pub there : slice_get all i ≡ Some item
   pub key : slice_get keys k ≡ Some item.0
 
--- for each key the places of its items; each item has a key, and no key stands twice
+-- whether the item has the key
+abbrev pub has_key : (ℕ × ℕ) → Handing → Bool
+has_key key h = nat_eq key.0 h.0.0 && nat_eq key.1 h.0.1
+
+-- for each key the places of its items, no more of them than items; each item has a key, and no key stands twice
 pub record AreGroups (all : List Handing) (keys : List (ℕ × ℕ)) (places : List (Vec ℕ Global)) : Type 0 where
   pub different : AreDifferent keys
   pub long : length places ≡ length keys
   pub known : (i : ℕ) (h : Handing) → slice_get all i ≡ Some h → Contains keys h.0
   pub each : (k : ℕ) (v : Vec ℕ Global) → slice_get places k ≡ Some v → (i : ℕ) → Contains v.items i ↔ IsOf all keys k i
+  pub few : (k : ℕ) (v : Vec ℕ Global) (key : ℕ × ℕ) → slice_get places k ≡ Some v → slice_get keys k ≡ Some key
+      → length v.items ≤ count_by (has_key key) all

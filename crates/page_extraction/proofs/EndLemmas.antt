@@ -17,6 +17,7 @@ pub no_ends : (flow : PlainFlow) → function_at flow 0 ≡ None → AreEnds flo
 no_ends flow none = record {
   each = λ n c. absurd (none_of n c);
   all = λ main l is. absurd (let both : None ≡ Some main = sym none ∙ is in cc);
+  few = omega arith;
 }
 
 pub both_ends : (flow : PlainFlow) (main : PlainFlowFunction) → function_at flow 0 ≡ Some main → AreEnds flow (Out main.entry_of Return ∷ Out main.entry_of Exit ∷ [])
@@ -26,6 +27,7 @@ both_ends flow main is = record {
       let both : Some main ≡ Some other = sym is ∙ at in
       let same : main ≡ other = cc in
       subst (λ (f : PlainFlowFunction). Contains (Out main.entry_of Return ∷ Out main.entry_of Exit ∷ []) (Out f.entry_of l)) same (there l);
+  few = omega arith;
 }
   where
     by : (n : SetName) → Contains (Out main.entry_of Return ∷ Out main.entry_of Exit ∷ []) n → (l : Leaving) × (n ≡ Out main.entry_of l)

@@ -6,6 +6,7 @@ ghost use Rattle.flow_code.specs.View.{plain_flow};
 ghost use Rattle.loose_sets.specs.Loose.{Loose};
 ghost use Rattle.op_cycles.specs.Texts.{TextOf};
 ghost use Rattle.page_extraction.specs.Ends.{AreEnds, IsExactLister};
+ghost use Rattle.page_extraction.specs.Made.{IsMadeBy};
 ghost use Rattle.page_extraction.specs.Rules.{AreLooseRules};
 
 use flow_code::FlowProgram;
@@ -42,6 +43,8 @@ pub fn extract_by<L: Lister>(
     ensures pages { IfOk result (λ s. (w : List ℕ) → TextOf s (symbols.Symbol.Nt s.start) w
         ↔ Loose (plain_flow flow.now) w) }
     ensures rules { IfOk result (AreLooseRules (plain_flow flow.now)) }
+    ensures made { IfOk result
+        (IsMadeBy (plain_flow flow.now) (L.asks lister.now) (L.lists lister.now)) }
 {
     let starts = ends(alloc, flow)?;
     let numbered = number_sets(alloc, lister, &starts)?;

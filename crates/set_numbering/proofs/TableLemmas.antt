@@ -2,7 +2,11 @@
 use Rattle.std.proofs.Common.{rules, ◌≡◌, ◌<◌, ◌+◌, ◌&&◌, ◌++◌, inl, inr, ℕ, Bool, true, false, List, [], ◌∷◌, Some, refl, sym, subst, ap, ◌∙◌, arith, slice_get, Contains, map, length, IsTrue}
 use Rattle.std.specs.Prelude.{nat_lt}
 use Rattle.std.specs.List.{list_all}
+use Rattle.std.specs.List.{sum_by}
+use Rattle.std.proofs.lemmas.List.Sums.{sum_by-append, sum_by-cons}
 use Rattle.std.proofs.lemmas.Option.{slice_get_within}
+use Rattle.std.proofs.Math.Seq.{take-length}
+use Rattle.std.proofs.lemmas.List.{length-append, length-map}
 use Rattle.std.proofs.lemmas.List.Elements.{Contains-append_cases, Contains-append_left, Contains-append_right}
 use Rattle.least_sets.specs.Forms.{Form, same_form}
 use Rattle.set_simulations.specs.Simulations.{Alike}
@@ -13,7 +17,7 @@ use Rattle.set_tables.specs.declared.rows.RowForm.TheVariants as form
 use Rattle.set_tables.specs.declared.rows.Row.{Row}
 use Rattle.set_tables.specs.Forms.{form_of, cell_of, cells_of}
 use Rattle.set_tables.specs.Below.{numbers_of, is_below, row_below, RowsAreBelow}
-use Rattle.set_numbering.specs.Numbered.{IsAt, IsByNumbers, AreListed, same_forms, AreNumbered}
+use Rattle.set_numbering.specs.Numbered.{IsAt, IsByNumbers, AreListed, AreReached, forms_in, same_forms, CountAlike, counted_in, counted_of, AreNumbered}
 use Rattle.set_numbering.specs.Steps.{AreNumbersOf, start_cell}
 use Rattle.set_numbering.proofs.PlaceLemmas.{mapped, unmapped, at_head, at_later}
 
@@ -22,6 +26,13 @@ less_true a b l = grind arith
 
 both_true : (a b : Bool) → a ≡ true → b ≡ true → (a && b) ≡ true
 both_true a b e f = subst (λ (z : Bool). (z && b) ≡ true) (sym e) f
+
+both_none : (a b c : ℕ) → a ≡ b + c → b ≡ 0 → c ≡ 0 → a ≡ 0
+both_none a b c d e f = omega arith
+
+-- what is counted of a row
+abbrev of_row : (Form ℕ → ℕ) → ℕ × Form ℕ → ℕ
+of_row w row = w row.1
 
 -- the numbers in a form are below the count
 one_below : (names : List SetName) (count : ℕ) (a : ℕ) (n : SetName) → length names < count → IsAt names n a → is_below count a ≡ true
@@ -85,10 +96,39 @@ module _ (asks : SetName → Type 0) (lists : SetName → List (Form SetName)) (
   same_name : (n m : SetName) (k : ℕ) → IsAt names n k → IsAt names m k → n ≡ m
   same_name n m k a b = let both : Some n ≡ Some m = sym a ∙ b in cc
 
-  pub numbered : AreDifferent names → AreNumbered asks lists starts names (length names) (length names + 1) all_cells
-  numbered once = record {
+  -- as many rows as forms
+  all_size : length all_cells ≡ forms_in lists names + length starts
+  all_size =
+      let a = length-append cells (map (start_cell (length names)) numbers) in
+      let b = length-map numbers (start_cell (length names)) in
+      let c = firsts.count in
+      let d : length cells ≡ forms_in lists names = are.size ∙ ap (forms_in lists) (take-length names) in
+      omega arith
+
+  -- nothing is counted of the rows of the start
+  all_counts : (v : Form SetName → ℕ) (w : Form ℕ → ℕ) → CountAlike names v w → ((k : ℕ) → w (same_form k) ≡ 0) → counted_of w all_cells ≡ counted_in lists v names
+  all_counts v w alike nothing =
+      sum_by-append (of_row w) cells (map (start_cell (length names)) numbers) ∙ ap (λ (n : ℕ). sum_by (of_row w) cells + n) (none numbers) ∙ no_more (sum_by (of_row w) cells)
+      ∙ are.counts v w alike ∙ ap (counted_in lists v) (take-length names)
+    where
+      none : (ks : List ℕ) → sum_by (of_row w) (map (start_cell (length names)) ks) ≡ 0
+      none [] = refl
+      none (k ∷ ks) =
+          let a = sum_by-cons (of_row w) (start_cell (length names) k) (map (start_cell (length names)) ks) in
+          let b = nothing k in
+          let c = none ks in
+          both_none _ _ _ a b c
+
+      no_more : (n : ℕ) → n + 0 ≡ n
+      no_more n = omega arith
+
+  pub numbered : AreDifferent names → AreReached lists starts names → AreNumbered asks lists starts names (length names) (length names + 1) all_cells
+  numbered once reached = record {
     once = once;
     asked = are.asked;
+    reached = reached;
+    size = all_size;
+    counts = all_counts;
     listed = λ k n at. record {
       each = λ g c. named k n g at (kind k g c);
       all = λ f has. let r = are.all k n f (slice_get_within names k n at) at has in (r.0, Contains-append_left cells (map (start_cell (length names)) numbers) (k, r.0) r.1, r.2);
@@ -127,8 +167,8 @@ module _ (asks : SetName → Type 0) (lists : SetName → List (Form SetName)) (
   pub table_below : (start : ℕ) (rows : List Row) (others : List ℕ) → start ≡ length names → others ≡ numbers → cells_of rows ≡ cells ++ map (start_cell start) others → RowsAreBelow (start + 1) rows
   table_below start rows others is same so = all_below start rows is (cells_by start rows others is same so)
 
-  pub numbered_table : AreDifferent names → (start : ℕ) (rows : List Row) (others : List ℕ) → start ≡ length names → others ≡ numbers → cells_of rows ≡ cells ++ map (start_cell start) others
+  pub numbered_table : AreDifferent names → AreReached lists starts names → (start : ℕ) (rows : List Row) (others : List ℕ) → start ≡ length names → others ≡ numbers → cells_of rows ≡ cells ++ map (start_cell start) others
       → AreNumbered asks lists starts names start (start + 1) (cells_of rows)
-  numbered_table once start rows others is same so =
+  numbered_table once reached start rows others is same so =
       subst (λ (n : ℕ). AreNumbered asks lists starts names n (n + 1) (cells_of rows)) (sym is)
-      (subst (λ (cs : List (ℕ × Form ℕ)). AreNumbered asks lists starts names (length names) (length names + 1) cs) (sym (cells_by start rows others is same so)) (numbered once))
+      (subst (λ (cs : List (ℕ × Form ℕ)). AreNumbered asks lists starts names (length names) (length names + 1) cs) (sym (cells_by start rows others is same so)) (numbered once reached))

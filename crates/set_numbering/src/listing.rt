@@ -5,8 +5,8 @@ ghost use Rattle.set_names.specs.declared.name.SetName as plain;
 ghost use Rattle.numbered_sets.specs.Numbers.{Keeps};
 ghost use Rattle.set_names.specs.Forms.{forms_seen};
 ghost use Rattle.set_tables.specs.Forms.{cells_of};
-ghost use Rattle.set_numbering.specs.Numbered.{AreListed};
-ghost use Rattle.set_numbering.specs.Steps.{AddsRows, NamedIn};
+ghost use Rattle.set_numbering.specs.Numbered.{AreListed, AreReached, NamedIn};
+ghost use Rattle.set_numbering.specs.Steps.{AddsRows, AskedIn};
 
 use crate::forms::number_form;
 use indexmap::IndexSet;
@@ -55,8 +55,9 @@ fn take_up<L: Lister>(
     name: SetName,
 ) -> Result<(), NoMemory>
     requires { L.asks lister.now name }
-    ensures { OnOk result (AddsRows (L.asks lister.now) names.old.keys names.new.keys
-        (cells_of rows.old.items) (cells_of rows.new.items) set (L.lists lister.now name)) }
+    ensures { OnOk result (AddsRows (AskedIn (L.asks lister.now) (L.lists lister.now name))
+        names.old.keys names.new.keys (cells_of rows.old.items) (cells_of rows.new.items)
+        set (L.lists lister.now name)) }
 {
     let forms = lister.forms(alloc, name)?;
     add_rows(names, rows, set, forms)?;
@@ -75,6 +76,8 @@ pub fn list_all<L: Lister>(
         (λ rows. AreListed (L.asks lister.now) (L.lists lister.now) names.new.keys
         (length names.new.keys) (cells_of rows.items)) }
     ensures keeps { OnOk result (Keeps names.old.keys names.new.keys) }
+    ensures reached { OnOk result
+        (AreReached (L.lists lister.now) names.old.keys names.new.keys) }
 {
     let mut rows = Vec::new(alloc);
     let mut taken = 0u64;

@@ -24,10 +24,12 @@ use Rattle.ssa_form.specs.Views.{version_seen, versions_seen, held}
 use Rattle.ssa_form.specs.Marks.{found_in, Leaving, asked_by, IsGraph, AreMarked}
 use Rattle.ssa_form.specs.Rows.{link_of, link_from, link_into, owns, IsRow}
 use Rattle.ssa_form.specs.Joins.{AreRows}
-use Rattle.ssa_form.specs.Versions.{joins_in, joins_of, IsExact}
-use Rattle.ssa_form.proofs.EdgeLemmas.{edge_listed, entry_listed, listed, step_at}
+use Rattle.ssa_form.specs.Versions.{joins_in, joins_of, version_of, row_of, arrivals_at, IsExact, AreJoins}
+use Rattle.function_pairs.specs.Found.{number_in}
+use Rattle.ssa_form.proofs.EdgeLemmas.{edge_listed, entry_listed, listed, step_at, is_point}
 use Rattle.ssa_form.proofs.MarkLemmas.{set_or_not}
 use Rattle.ssa_form.proofs.ReadLemmas.{contains_at, at_contains, in_one, kept_more}
+use Rattle.ssa_form.proofs.FewLemmas.{arrivals_few, joined_few}
 
 none_of : {X : Type 0} (x : X) → Contains [] x → ⊥
 none_of x c = let h = c.1 in omega arith
@@ -111,7 +113,7 @@ not_both : (flow : PlainFlow) (q x : ℕ) → Sets flow q x → Leaves flow q x 
 not_both flow q x w p = p.not_it (subst (λ z. sets z ≡ Some x) (same_Some w.point p.point (sym w.there ∙ p.there)) w.it)
 
 module _ (flow : PlainFlow) (steps : List PlainStep) (all : List (ℕ × Arrival)) (heads : List ℕ) (graph : IsGraph flow steps all heads) (marks : Marks) (are : AreMarked flow heads marks (length steps))
-    (asks : List (ℕ × ℕ)) (rows : List (Vec Version Global)) (made : AreRows flow.functions_of heads marks.last all asks rows) (long : length rows ≡ length asks) where
+    (asks : List (ℕ × ℕ)) (rows : List (Vec Version Global)) (made : AreRows flow.functions_of heads marks.last all marks.asks.keys asks rows) (long : length rows ≡ length asks) where
   -- behind an edge to the first point of a row stands the version that is found
   leaving : (q p : ℕ) → Edge flow q p → slice_get heads p ≡ Some p → (h : ℕ) → slice_get heads q ≡ Some h → (x : ℕ) → Leaving flow q x (found_in marks.last h x)
   leaving q p e first h at x =
@@ -232,3 +234,37 @@ module _ (flow : PlainFlow) (steps : List PlainStep) (all : List (ℕ × Arrival
           subst (λ (u : PlainVersion). Behind (linked_in (joins_in asks rows)) u d ↔ Reaches flow d x p) same
           (exact flow (asked_in (joins_in asks rows)) (linked_in (joins_in asks rows)) are_links p x (version_seen w) r.stands
           (kept_is (version_seen w) (kept_more marks.asks.keys asks (version_seen w) more r.kept)) d)
+
+  -- the joins stand where they are asked for
+  pub are_joins : (versions : Versions) → versions.versions ≡ marks.versions → versions.asks.keys ≡ asks → versions.rows.items ≡ rows → ((h x : ℕ) → Contains marks.asks.keys (h, x) → Contains asks (h, x)) → AreJoins flow versions
+  are_joins versions same_versions same_asks same_rows more = record {
+    there = λ p x c.
+        let first = made.asked p x (subst (λ (ks : List (ℕ × ℕ)). Contains ks (p, x)) same_asks c) in
+        let s = get_there steps p (let w = slice_get_within heads p p first in let l = graph.long in omega arith) in
+        let at = is_point flow steps all heads graph p p s.0 first s.1 in
+        (at.point, at.there);
+    read = λ p x c. let o = made.slots p x (subst (λ (ks : List (ℕ × ℕ)). Contains ks (p, x)) same_asks c) in are.slots o.0 x o.1;
+    rows = ap (λ (rs : List (Vec Version Global)). length rs) same_rows ∙ long ∙ sym (ap (λ (ks : List (ℕ × ℕ)). length ks) same_asks);
+    links = subst (λ (js : List PlainJoin). AreLinks flow (asked_in js) (linked_in js)) (sym joins_same) are_links;
+    few = λ p x. subst (λ (ks : List (ℕ × ℕ)). length (row_of versions.rows.items (number_in ks p x)) ≤ arrivals_at flow p) (sym same_asks)
+        (subst (λ (rs : List (Vec Version Global)). length (row_of rs (number_in asks p x)) ≤ arrivals_at flow p) (sym same_rows)
+        (joined_few flow heads marks.last all marks.asks.keys asks rows made (arrivals_few flow steps all heads graph) p x));
+    stands = λ p x v e. stands_by p x v (held marks.versions p x) refl (seen p x v e);
+    kept = λ p x v e. subst (λ (js : List PlainJoin). IsKept (asked_in js) v) (sym joins_same) (kept_by p x v (held marks.versions p x) refl (seen p x v e));
+  }
+    where
+      joins_same : joins_of versions ≡ joins_in asks rows
+      joins_same = ap (λ (ks : List (ℕ × ℕ)). joins_in ks versions.rows.items) same_asks ∙ ap (λ (rs : List (Vec Version Global)). joins_in asks rs) same_rows
+
+      seen : (p x : ℕ) (v : PlainVersion) → version_of versions p x ≡ Some v → option_map version_seen (held marks.versions p x) ≡ Some v
+      seen p x v e = sym (ap (λ (m : _). option_map version_seen (held m p x)) same_versions) ∙ e
+
+      stands_by : (p x : ℕ) (v : PlainVersion) (o : Option Version) → held marks.versions p x ≡ o → option_map version_seen o ≡ Some v → Stands flow p x v
+      stands_by p x v None e f = absurd (cc)
+      stands_by p x v (Some w) e f = subst (λ (u : PlainVersion). Stands flow p x u) (same_Some (version_seen w) v f) (are.each p x w e).stands
+
+      kept_by : (p x : ℕ) (v : PlainVersion) (o : Option Version) → held marks.versions p x ≡ o → option_map version_seen o ≡ Some v → IsKept (asked_in (joins_in asks rows)) v
+      kept_by p x v None e f = absurd (cc)
+      kept_by p x v (Some w) e f =
+          subst (λ (u : PlainVersion). IsKept (asked_in (joins_in asks rows)) u) (same_Some (version_seen w) v f)
+          (kept_is (version_seen w) (kept_more marks.asks.keys asks (version_seen w) more (are.each p x w e).kept))

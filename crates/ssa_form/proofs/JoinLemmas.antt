@@ -19,7 +19,7 @@ use Rattle.ssa_form.specs.Views.{version_seen, versions_seen, held}
 use Rattle.ssa_form.specs.Marks.{found, asked_by}
 use Rattle.ssa_form.specs.Rows.{link_of, link_from, link_into, owns, IsRow}
 use Rattle.ssa_form.specs.Joins.{AsksFor, AreFirst, AreRows}
-use Rattle.ssa_form.proofs.ReadLemmas.{contains_kept, in_one, kept_more, joins_at}
+use Rattle.ssa_form.proofs.ReadLemmas.{contains_at, contains_kept, in_one, kept_more, joins_at, joins_slot}
 
 none_of : {X : Type 0} (x : X) → Contains [] x → ⊥
 none_of x c = let h = c.1 in omega arith
@@ -76,7 +76,7 @@ get_there [] n h = absurd (omega arith)
 get_there (x ∷ xs) zero h = (x, refl)
 get_there (x ∷ xs) (suc n) h = get_there xs n (omega arith)
 
-module _ {S : Type 0} (fs : List PlainFlowFunction) (heads : List ℕ) (last : IndexMap (ℕ × ℕ) ℕ S) (all : List (ℕ × Arrival)) (first : AreFirst heads) where
+module _ {S : Type 0} (fs : List PlainFlowFunction) (heads : List ℕ) (last : IndexMap (ℕ × ℕ) ℕ S) (all : List (ℕ × Arrival)) (first : AreFirst heads) (firsts : List (ℕ × ℕ)) where
   -- a join comes from the first point of a row
   join_first : (x : ℕ) (a : Arrival) (h y : ℕ) → Contains (link_of fs heads last x a) (join_at h y) → slice_get heads h ≡ Some h
   unfolding link_of
@@ -100,8 +100,29 @@ module _ {S : Type 0} (fs : List PlainFlowFunction) (heads : List ℕ) (last : I
       by None k = absurd (none_of (join_at h y) k)
       by (Some g) k = entry_only (owns g x) k
 
-  pub rows_more : (asks new : List (ℕ × ℕ)) (rows : List (Vec Version Global)) (r : Vec Version Global) (j : ℕ × ℕ) → AreRows fs heads last all asks rows → length rows < length asks → slice_get asks (length rows) ≡ Some j
-      → IsRow fs heads last all j.0 j.1 (versions_seen r.items) → AsksFor asks new (versions_seen r.items) → AreRows fs heads last all new (rows ++ r ∷ [])
+  -- and is one of the slot
+  join_slot : (x : ℕ) (a : Arrival) (h y : ℕ) → Contains (link_of fs heads last x a) (join_at h y) → y ≡ x
+  unfolding link_of
+  join_slot x (Edge q) h y c = by (slice_get heads q) c
+    where
+      by : (o : Option ℕ) → Contains (link_from o last x) (join_at h y) → y ≡ x
+      by None k = absurd (none_of (join_at h y) k)
+      by (Some g) k = joins_slot (held last g x) g x h y (in_one (found (held last g x) g x) (join_at h y) k)
+  join_slot x (Entry f) h y c = by (slice_get fs f) c
+    where
+      entry_only : (b : Bool) → Contains (if b then of_definition (at_entry f x) ∷ [] else []) (join_at h y) → y ≡ x
+      entry_only true k = absurd (no (in_one (of_definition (at_entry f x)) (join_at h y) k))
+        where
+          no : of_definition (at_entry f x) ≡ join_at h y → ⊥
+          no e = cc
+      entry_only false k = absurd (none_of (join_at h y) k)
+
+      by : (o : Option PlainFlowFunction) → Contains (link_into o f x) (join_at h y) → y ≡ x
+      by None k = absurd (none_of (join_at h y) k)
+      by (Some g) k = entry_only (owns g x) k
+
+  pub rows_more : (asks new : List (ℕ × ℕ)) (rows : List (Vec Version Global)) (r : Vec Version Global) (j : ℕ × ℕ) → AreRows fs heads last all firsts asks rows → length rows < length asks → slice_get asks (length rows) ≡ Some j
+      → IsRow fs heads last all j.0 j.1 (versions_seen r.items) → AsksFor asks new (versions_seen r.items) → AreRows fs heads last all firsts new (rows ++ r ∷ [])
   rows_more asks new rows r j are less at row adds = record {
     within = (let e = length-append rows (r ∷ []) in let k = keeps_length asks new adds.keeps in omega arith);
     each = λ i p x s here there. elim (push_cases rows r i s there) [
@@ -121,7 +142,12 @@ module _ {S : Type 0} (fs : List PlainFlowFunction) (heads : List ℕ) (last : I
       | inl k ↦ are.asked h x k
       | inr k ↦ (let o = row.each (join_at h x) k in join_first j.1 o.0 h x o.2)
     ];
+    slots = λ h x c. elim (adds.adds (h, x) c) [
+      | inl k ↦ are.slots h x k
+      | inr k ↦ (let o = row.each (join_at h x) k in
+          subst (λ (y : ℕ). (g : ℕ) × Contains firsts (g, y)) (sym (join_slot j.1 o.0 h x o.2)) (are.slots j.0 j.1 (contains_at asks (length rows) j at)))
+    ];
   }
 
-  pub no_rows : (asks : List (ℕ × ℕ)) → ((h x : ℕ) → Contains asks (h, x) → slice_get heads h ≡ Some h) → AreRows fs heads last all asks []
-  no_rows asks asked = record { within = omega arith; each = λ i p x r here there. absurd (cc); kept = λ i r v there c. absurd (cc); asked = asked }
+  pub no_rows : ((h x : ℕ) → Contains firsts (h, x) → slice_get heads h ≡ Some h) → AreRows fs heads last all firsts firsts []
+  no_rows asked = record { within = omega arith; each = λ i p x r here there. absurd (cc); kept = λ i r v there c. absurd (cc); asked = asked; slots = λ h x c. (h, c) }

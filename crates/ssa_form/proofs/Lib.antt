@@ -5,3 +5,5 @@ pub mod JoinLemmas
 pub mod MarkLemmas
 pub mod ReadLemmas
 pub mod RowLemmas
+mod FewLemmas
+mod GraphLemmas

@@ -122,7 +122,11 @@ module _ (flow : PlainFlow) (heads : List ℕ) (head p : ℕ) (step : PlainStep)
     ]);
     asked = λ h x c. elim (read.asks h x (subst (λ ks. Contains ks.keys (h, x)) same_asks c)) [
       | inl k ↦ are.asked h x k
-      | inr e ↦ subst (λ (g : ℕ). slice_get heads g ≡ Some g) (sym e) is.first
+      | inr e ↦ subst (λ (g : ℕ). slice_get heads g ≡ Some g) (sym e.0) is.first
+    ];
+    slots = λ h x c. elim (read.asks h x (subst (λ ks. Contains ks.keys (h, x)) same_asks c)) [
+      | inl k ↦ are.slots h x k
+      | inr e ↦ record { number = p; point = is.point; there = is.there; it = subst (λ (s : PlainStep). Contains s.reads_of x) is.is e.1 }
     ];
   }
 
@@ -134,6 +138,7 @@ nothing_marked flow heads marks last versions asks = record {
   each = λ p x v e. absurd (none_some v (sym (versions p x) ∙ e));
   all = λ p x i less at c. absurd (omega arith);
   asked = λ h x c. absurd (asks h x c);
+  slots = λ h x c. absurd (asks h x c);
 }
   where
     none_some : (v : Version) → None ≡ Some v → ⊥

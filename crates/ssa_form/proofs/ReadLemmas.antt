@@ -3,7 +3,7 @@ use Rattle.std.proofs.Common.{◌≡◌, ◌≢◌, ◌⊎◌, inl, inr, ℕ, ze
 use Rattle.std.specs.Prelude.{nat_eq}
 use Rattle.std.proofs.lemmas.Option.{same_Some, slice_get_within, get_or_from_slice_get, slice_get-get_or}
 use Rattle.std.proofs.lemmas.Bool.{eqb-true, eq-eqb}
-use Rattle.std.proofs.lemmas.List.Elements.{Contains-append_cases}
+use Rattle.std.proofs.lemmas.List.Elements.{Contains-append_cases, Contains-append_left, Contains-append_right}
 use Rattle.std.proofs.Math.Seq.{take-suc}
 use Rattle.std.proofs.lemmas.List.{map-append}
 use Rattle.text_base.specs.declared.numbers.Slot.{Slot}
@@ -33,6 +33,11 @@ in_one y x (suc k, below, e) = absurd (omega arith)
 pub joins_at : (o : Option ℕ) (h x p y : ℕ) → found o h x ≡ join_at p y → p ≡ h
 joins_at None h x p y e = cc
 joins_at (Some q) h x p y e = absurd (cc)
+
+-- and it is one of the slot
+pub joins_slot : (o : Option ℕ) (h x p y : ℕ) → found o h x ≡ join_at p y → y ≡ x
+joins_slot None h x p y e = cc
+joins_slot (Some q) h x p y e = absurd (cc)
 
 pub kept_more : (old new : List (ℕ × ℕ)) (v : PlainVersion) → ((h x : ℕ) → Contains old (h, x) → Contains new (h, x)) → IsKept (asked_by old) v → IsKept (asked_by new) v
 kept_more old new (of_definition d) more k = k
@@ -65,7 +70,13 @@ one_read old new head point slot v same seen kept keeps adds puts = record {
     | inl c ↦ no_none v (held new.versions p x) c.2
     | inr c ↦ subst (λ (o : Option Version). o ≢ None) (sym c) n
   ];
-  asks = λ h x c. elim (adds (h, x) c) [ inl a ↦ inl a | inr e ↦ inr (joins_at (held old.last head slot) head slot h x (sym seen ∙ e)) ];
+  asks = λ h x c. elim (adds (h, x) c) [
+    | inl a ↦ inl a
+    | inr e ↦ inr (
+      joins_at (held old.last head slot) head slot h x (sym seen ∙ e),
+      subst (λ (y : ℕ). Contains (slot ∷ []) y) (sym (joins_slot (held old.last head slot) head slot h x (sym seen ∙ e))) (zero, omega arith, refl),
+    )
+  ];
   keeps = λ h x c. contains_kept old.asks.keys new.asks.keys (h, x) keeps c;
 }
   where
@@ -97,7 +108,10 @@ reads_both old mid new head point xs ys a b = record {
   ];
   all = λ x c. elim (Contains-append_cases xs ys x c) [ inl k ↦ b.grows point x (a.all x k) | inr k ↦ b.all x k ];
   grows = λ p x n. b.grows p x (a.grows p x n);
-  asks = λ h x c. elim (b.asks h x c) [ inl k ↦ a.asks h x k | inr e ↦ inr e ];
+  asks = λ h x c. elim (b.asks h x c) [
+    | inl k ↦ elim (a.asks h x k) [ inl o ↦ inl o | inr r ↦ inr (r.0, Contains-append_left xs ys x r.1) ]
+    | inr r ↦ inr (r.0, Contains-append_right xs ys x r.1)
+  ];
   keeps = λ h x c. b.keeps h x (a.keeps h x c);
 }
 

@@ -1,5 +1,5 @@
 -- What comes by the arrivals at a point.
-use Rattle.std.proofs.Common.{◌≡◌, ◌<◌, ◌⊎◌, inl, inr, ℕ, suc, List, [], ◌∷◌, ◌++◌, map, flat_map, length, Option, Some, None, refl, sym, subst, ◌∙◌, ap, arith, append_assoc, slice_get, Contains}
+use Rattle.std.proofs.Common.{◌≡◌, ◌≤◌, ◌+◌, ◌<◌, ◌⊎◌, inl, inr, ℕ, suc, List, [], ◌∷◌, ◌++◌, map, flat_map, length, Option, Some, None, refl, sym, subst, ◌∙◌, ap, arith, append_assoc, slice_get, Contains}
 use Rattle.std.specs.Prelude.{ltb}
 use Rattle.std.proofs.Common.{Bool, true, false, true≢false, if◌then◌else◌}
 use Rattle.std.specs.Option.{option_map}
@@ -7,11 +7,11 @@ use Rattle.std.proofs.lemmas.Bool.Decides.{leb_tells}
 use Rattle.slot_versions.specs.Reaching.{at_entry}
 use Rattle.std.specs.declared.vec.Vec.{Vec}
 use Rattle.std.specs.declared.alloc.Global.{Global}
-use Rattle.std.proofs.lemmas.List.{append-nil, map-append}
+use Rattle.std.proofs.lemmas.List.{append-nil, map-append, length-append}
 use Rattle.std.proofs.lemmas.Option.{same_Some, slice_get-map, slice_get_past}
 use Rattle.std.proofs.lemmas.List.Elements.{Contains-append_left, Contains-append_right, Contains-append_cases}
 use Rattle.indexmap.specs.IndexMap.{IndexMap}
-use Rattle.numbered_sets.specs.Places.{ArePlaces}
+use Rattle.numbered_sets.specs.Places.{ArePlaces, AreInOrder, places_of}
 use Rattle.flow_code.specs.Points.{PlainFlowFunction}
 use Rattle.flow_graph.specs.declared.arrivals.Arrival.{Arrival}
 use Rattle.flow_graph.specs.declared.arrivals.Arrival.TheVariants.{Edge, Entry}
@@ -43,17 +43,54 @@ into_flat {A} {X} f (b ∷ xs) a y c k = elim (Contains-append_cases (b ∷ []) 
   | inr h ↦ Contains-append_right (f b) (flat_map f xs) y (into_flat f xs a y h k)
 ]
 
+-- an arrival brings one version at most
+one_link : {S : Type 0} (fs : List PlainFlowFunction) (heads : List ℕ) (last : IndexMap (ℕ × ℕ) ℕ S) (x : ℕ) (a : Arrival) → length (link_of fs heads last x a) ≤ 1
+unfolding link_of
+one_link fs heads last x (Edge q) = by (slice_get heads q)
+  where
+    by : (o : Option ℕ) → length (link_from o last x) ≤ 1
+    by None = omega arith
+    by (Some h) = omega arith
+one_link fs heads last x (Entry f) = by (slice_get fs f)
+  where
+    own : (b : Bool) → length (if b then of_definition (at_entry f x) ∷ [] else []) ≤ 1
+    own true = omega arith
+    own false = omega arith
+
+    by : (o : Option PlainFlowFunction) → length (link_into o f x) ≤ 1
+    by None = omega arith
+    by (Some g) = own (owns g x)
+
+-- as many arrivals at most as places
+one_each : {S : Type 0} (fs : List PlainFlowFunction) (heads : List ℕ) (last : IndexMap (ℕ × ℕ) ℕ S) (x : ℕ) (all : List (ℕ × Arrival)) (is : List ℕ) → length (flat_map (link_at fs heads last x all) is) ≤ length is
+unfolding link_at
+one_each fs heads last x all [] = omega arith
+one_each fs heads last x all (i ∷ is) =
+    let a = length-append (link_at fs heads last x all i) (flat_map (link_at fs heads last x all) is) in
+    let b = one_each fs heads last x all is in
+    let c = by (slice_get all i) in
+    omega (arith, a, b, c)
+  where
+    by : (o : Option (ℕ × Arrival)) → length (link_by fs heads last x o) ≤ 1
+    by None = omega arith
+    by (Some a) = one_link fs heads last x a.1
+
 -- the versions at all places of a point are those that come by what leads there
 pub is_row : {S : Type 0} (fs : List PlainFlowFunction) (heads : List ℕ) (last : IndexMap (ℕ × ℕ) ℕ S) (all : List (ℕ × Arrival)) (at : List (Vec ℕ Global)) (p x : ℕ) (v : Vec ℕ Global) (row : List PlainVersion)
-    → ArePlaces (map target all) at → slice_get at p ≡ Some v → row ≡ flat_map (link_at fs heads last x all) v.items → IsRow fs heads last all p x row
+    → ArePlaces (map target all) at → AreInOrder (map target all) at → slice_get at p ≡ Some v → row ≡ flat_map (link_at fs heads last x all) v.items → IsRow fs heads last all p x row
 unfolding link_at
-is_row {S} fs heads last all at p x v row places there is = record {
+is_row {S} fs heads last all at p x v row places order there is = record {
   each = λ u c. let r = from_flat (link_at fs heads last x all) v.items u (subst (λ (us : List PlainVersion). Contains us u) is c) in
       by_place r.0 u ((places p v there r.0).0 r.1) (slice_get all r.0) refl r.2;
   all_are = λ a u c k. let o = at_contains all (p, a) c in
       subst (λ (us : List PlainVersion). Contains us u) (sym is)
       (into_flat (link_at fs heads last x all) v.items o.0 u ((places p v there o.0).1 (slice_get-map target all o.0 ∙ ap (option_map target) o.1))
       (subst (λ (b : Option (ℕ × Arrival)). Contains (link_by fs heads last x b) u) (sym o.1) k));
+  few =
+      let a = one_each fs heads last x all v.items in
+      let b = ap (λ (us : List PlainVersion). length us) is in
+      let c = ap (λ (is : List ℕ). length is) (order p v there) in
+      omega (arith, a, b, c);
 }
   where
     by_place : (i : ℕ) (u : PlainVersion) → slice_get (map target all) i ≡ Some p → (b : Option (ℕ × Arrival)) → slice_get all i ≡ b → Contains (link_by fs heads last x b) u

@@ -22,12 +22,14 @@ pub record AsksFor (old new : List (ℕ × ℕ)) (vs : List PlainVersion) : Type
 abbrev pub AreFirst : List ℕ → Type 0
 AreFirst heads = (q h : ℕ) → slice_get heads q ≡ Some h → slice_get heads h ≡ Some h
 
--- so far each join has its row, whose joins are asked for; and joins are asked for at first points of rows alone
+-- so far each join has its row, whose joins are asked for; and joins are asked for at first points of rows alone, for slots of the first
+-- joins
 pub record AreRows {S : Type 0} (fs : List PlainFlowFunction) (heads : List ℕ) (last : IndexMap (ℕ × ℕ) ℕ S) (all : List (ℕ × Arrival))
-    (asks : List (ℕ × ℕ)) (rows : List (Vec Version Global)) : Type 0 where
+    (firsts asks : List (ℕ × ℕ)) (rows : List (Vec Version Global)) : Type 0 where
   pub within : length rows ≤ length asks
   pub each : (i p x : ℕ) (r : Vec Version Global) → slice_get asks i ≡ Some (p, x) → slice_get rows i ≡ Some r
       → IsRow fs heads last all p x (versions_seen r.items)
   pub kept : (i : ℕ) (r : Vec Version Global) (v : PlainVersion) → slice_get rows i ≡ Some r → Contains (versions_seen r.items) v
       → IsKept (asked_by asks) v
   pub asked : (h x : ℕ) → Contains asks (h, x) → slice_get heads h ≡ Some h
+  pub slots : (h x : ℕ) → Contains asks (h, x) → (g : ℕ) × Contains firsts (g, x)

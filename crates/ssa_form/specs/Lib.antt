@@ -1,5 +1,6 @@
 pub mod Joins
 pub mod Marks
 pub mod Rows
+pub mod Slots
 pub mod Versions
 pub mod Views

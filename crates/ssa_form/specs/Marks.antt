@@ -12,6 +12,7 @@ use Rattle.slot_versions.specs.Versions.{PlainVersion, of_definition, join_at, S
 use Rattle.ssa_form.specs.declared.marks.Marks.{Marks}
 use Rattle.ssa_form.specs.declared.version.Version.{Version}
 use Rattle.ssa_form.specs.Views.{version_seen, held}
+use Rattle.ssa_form.specs.Slots.{IsReadSlot}
 
 -- the version of a slot in a row of points: its last definition there, or else the join at the row's first point
 abbrev pub found : Option ℕ → ℕ → ℕ → PlainVersion
@@ -43,12 +44,13 @@ pub record IsRead (flow : PlainFlow) (asks : List (ℕ × ℕ)) (p x : ℕ) (v :
   pub kept : IsKept (asked_by asks) v
 
 -- all that is known so far: the last definitions; each version that is held; that one is held for each slot that is read; and that joins
--- are asked for at the first points of rows alone
+-- are asked for at the first points of rows alone, for slots that points read
 pub record AreMarked (flow : PlainFlow) (heads : List ℕ) (marks : Marks) (n : ℕ) : Type 0 where
   pub last : AreLast flow heads marks n
   pub each : (p x : ℕ) (v : Version) → held marks.versions p x ≡ Some v → IsRead flow marks.asks.keys p x (version_seen v)
   pub all : (p x : ℕ) (i : PlainPoint) → p < n → point_at flow p ≡ Some i → Contains (reads i) x → held marks.versions p x ≢ None
   pub asked : (h x : ℕ) → Contains marks.asks.keys (h, x) → slice_get heads h ≡ Some h
+  pub slots : (h x : ℕ) → Contains marks.asks.keys (h, x) → IsReadSlot flow x
 
 -- versions more are held, for slots that a point reads in the row that begins at a point
 pub record Reads (old new : Marks) (head point : ℕ) (slots : List ℕ) : Type 0 where
@@ -58,7 +60,7 @@ pub record Reads (old new : Marks) (head point : ℕ) (slots : List ℕ) : Type 
       ⊎ ((p ≡ point) × (version_seen v ≡ found_in old.last head x) × IsKept (asked_by new.asks.keys) (version_seen v))
   pub all : (x : ℕ) → Contains slots x → held new.versions point x ≢ None
   pub grows : (p x : ℕ) → held old.versions p x ≢ None → held new.versions p x ≢ None
-  pub asks : (h x : ℕ) → Contains new.asks.keys (h, x) → Contains old.asks.keys (h, x) ⊎ (h ≡ head)
+  pub asks : (h x : ℕ) → Contains new.asks.keys (h, x) → Contains old.asks.keys (h, x) ⊎ ((h ≡ head) × Contains slots x)
   pub keeps : (h x : ℕ) → Contains old.asks.keys (h, x) → Contains new.asks.keys (h, x)
 
 -- the steps, the arrivals and the first points of rows are those of the program

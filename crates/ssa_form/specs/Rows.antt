@@ -1,9 +1,11 @@
 -- What a join joins, by what leads to its point. No public clause cites it.
-use Rattle.std.specs.Prelude.{◌-◌, ◌&&◌, Contains, ℕ, Bool, if◌then◌else◌, nat_le, nat_lt, List, [], ◌∷◌, Option, Some, None, slice_get}
+use Rattle.std.specs.Prelude.{◌-◌, ◌≤◌, ◌&&◌, map, length, Contains, ℕ, Bool, if◌then◌else◌, nat_le, nat_lt, List, [], ◌∷◌, Option, Some, None, slice_get}
 use Rattle.indexmap.specs.IndexMap.{IndexMap}
 use Rattle.flow_code.specs.Points.{PlainFlowFunction}
 use Rattle.flow_graph.specs.declared.arrivals.Arrival.{Arrival}
 use Rattle.flow_graph.specs.declared.arrivals.Arrival.TheVariants.{Edge, Entry}
+use Rattle.flow_graph.specs.Arrivals.{target}
+use Rattle.numbered_sets.specs.Places.{places_of}
 use Rattle.slot_versions.specs.Reaching.{at_entry}
 use Rattle.slot_versions.specs.Versions.{PlainVersion, of_definition}
 use Rattle.ssa_form.specs.Marks.{found_in}
@@ -37,8 +39,9 @@ unfoldable pub link_at : {S : Type 0} → List PlainFlowFunction → List ℕ �
     → List PlainVersion
 link_at fs heads last x all i = link_by fs heads last x (slice_get all i)
 
--- all versions that come by what leads to a point
+-- all versions that come by what leads to a point, at most one by each
 pub record IsRow {S : Type 0} (fs : List PlainFlowFunction) (heads : List ℕ) (last : IndexMap (ℕ × ℕ) ℕ S) (all : List (ℕ × Arrival))
     (p x : ℕ) (row : List PlainVersion) : Type 0 where
   pub each : (v : PlainVersion) → Contains row v → (a : Arrival) × Contains all (p, a) × Contains (link_of fs heads last x a) v
   pub all_are : (a : Arrival) (v : PlainVersion) → Contains all (p, a) → Contains (link_of fs heads last x a) v → Contains row v
+  pub few : length row ≤ length (places_of (map target all) p 0)

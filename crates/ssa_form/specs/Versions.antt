@@ -1,17 +1,19 @@
 -- The versions of a program of points, seen as data, and what they are.
-use Rattle.std.specs.Prelude.{◌≡◌, ◌≢◌, ◌↔◌, ℕ, List, [], ◌∷◌, Option, None, Some, Contains, slice_get}
+use Rattle.std.specs.Prelude.{◌≡◌, ◌≢◌, ◌≤◌, ◌+◌, ◌↔◌, nat_eq, flat_map, ℕ, List, [], ◌∷◌, Option, None, Some, Contains, slice_get, length}
+use Rattle.std.specs.List.{count_by}
 use Rattle.std.specs.Option.{option_map}
 use Rattle.std.specs.declared.vec.Vec.{Vec}
 use Rattle.std.specs.declared.alloc.Global.{Global}
 use Rattle.numbered_sets.specs.Numbers.{AreDifferent}
 use Rattle.function_pairs.specs.Found.{number_in}
-use Rattle.flow_code.specs.Points.{PlainPoint, PlainFlow, point_at}
-use Rattle.flow_code.specs.Lawful.{reads}
+use Rattle.flow_code.specs.Points.{PlainPoint, PlainFlowFunction, PlainFlow, points_in, point_at}
+use Rattle.flow_code.specs.Lawful.{reads, nexts}
 use Rattle.slot_versions.specs.Reaching.{Definition, Reaches}
-use Rattle.slot_versions.specs.Versions.{PlainVersion, of_definition, join_at, PlainJoin, linked_in, Behind}
+use Rattle.slot_versions.specs.Versions.{PlainVersion, of_definition, join_at, PlainJoin, asked_in, linked_in, Behind, Stands, IsKept, AreLinks}
 use Rattle.ssa_form.specs.declared.version.Version.{Version}
 use Rattle.ssa_form.specs.declared.versions.Versions.{Versions}
 use Rattle.ssa_form.specs.Views.{version_seen, versions_seen, held}
+use Rattle.ssa_form.specs.Slots.{IsReadSlot}
 
 -- joins with what each joins
 abbrev pub joins_in : List (ℕ × ℕ) → List (Vec Version Global) → List PlainJoin
@@ -53,6 +55,23 @@ links_of versions (join_at p x) = joined_by versions p x
 -- the version of a slot where a point reads it
 abbrev pub version_of : Versions → ℕ → ℕ → Option PlainVersion
 version_of versions p x = option_map version_seen (held versions.versions p x)
+
+-- how many edges lead to a point, and how many functions are entered there
+unfoldable pub arrivals_at : PlainFlow → ℕ → ℕ
+unfolding points_in nexts
+arrivals_at flow p =
+    count_by (λ q. nat_eq q p) (flat_map nexts (points_in flow.functions_of)) + count_by (λ (g : PlainFlowFunction). nat_eq g.entry_of p) flow.functions_of
+
+-- what the joins are: each stands at a point, for a slot that some point reads, and has a row; what it joins is what comes by the edges and
+-- the entries that lead to its point, no more than these; and the version of a slot where a point reads it stands for it there, and is a definition or a join
+pub record AreJoins (flow : PlainFlow) (versions : Versions) : Type 0 where
+  pub there : (p x : ℕ) → Contains versions.asks.keys (p, x) → (i : PlainPoint) × (point_at flow p ≡ Some i)
+  pub read : (p x : ℕ) → Contains versions.asks.keys (p, x) → IsReadSlot flow x
+  pub rows : length versions.rows.items ≡ length versions.asks.keys
+  pub links : AreLinks flow (asked_in (joins_of versions)) (linked_in (joins_of versions))
+  pub few : (p x : ℕ) → length (joined_by versions p x) ≤ arrivals_at flow p
+  pub stands : (p x : ℕ) (v : PlainVersion) → version_of versions p x ≡ Some v → Stands flow p x v
+  pub kept : (p x : ℕ) (v : PlainVersion) → version_of versions p x ≡ Some v → IsKept (asked_in (joins_of versions)) v
 
 -- there is a version for each slot that a point reads, and the definitions behind it are exactly those that reach the point
 pub record IsExact (flow : PlainFlow) (versions : Versions) : Type 0 where

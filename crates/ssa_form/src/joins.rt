@@ -1,9 +1,9 @@
 //! The joins that are asked for, each with what it joins.
 
-ghost use Rattle.std.specs.Prelude.{◌≡◌, ◌<◌, ◌+◌, ℕ, map, length, vec_len, Some, Contains, slice_get, IfOk, OnOk};
+ghost use Rattle.std.specs.Prelude.{◌≡◌, ◌<◌, ◌+◌, ℕ, List, map, length, vec_len, Some, Contains, slice_get, IfOk, OnOk};
 ghost use Rattle.flow_code.specs.View.{plain_flow_function};
 ghost use Rattle.numbered_sets.specs.Numbers.{Keeps};
-ghost use Rattle.numbered_sets.specs.Places.{ArePlaces};
+ghost use Rattle.numbered_sets.specs.Places.{ArePlaces, AreInOrder};
 ghost use Rattle.flow_graph.specs.Arrivals.{target};
 ghost use Rattle.ssa_form.specs.Views.{versions_seen};
 ghost use Rattle.ssa_form.specs.Joins.{AsksFor, AreFirst, AreRows};
@@ -46,17 +46,19 @@ fn next_row(
 ) -> Result<(), NoMemory>
     requires places { ArePlaces (map target found_out.arrivals.now.all.items)
         found_out.arrivals.now.at.items }
+    requires order { AreInOrder (map target found_out.arrivals.now.all.items)
+        found_out.arrivals.now.at.items }
     requires heads { length found_out.heads.now ≡ vec_len found_out.arrivals.now.at }
     requires next { vec_len rows.old < length asks.old.keys }
     ensures keeps { OnOk result (Keeps asks.old.keys asks.new.keys) }
     ensures more { OnOk result (vec_len rows.new ≡ vec_len rows.old + 1) }
-    ensures rows { OnOk result (AreFirst found_out.entry.heads.now
+    ensures rows { OnOk result ((firsts : List (ℕ × ℕ)) → AreFirst found_out.entry.heads.now
         → AreRows (map plain_flow_function found_out.entry.functions.now) found_out.entry.heads.now
         found_out.entry.last.now
-        found_out.entry.arrivals.now.all.items asks.old.keys rows.old.items
+        found_out.entry.arrivals.now.all.items firsts asks.old.keys rows.old.items
         → AreRows (map plain_flow_function found_out.entry.functions.now) found_out.entry.heads.now
         found_out.entry.last.now
-        found_out.entry.arrivals.now.all.items asks.new.keys rows.new.items) }
+        found_out.entry.arrivals.now.all.items firsts asks.new.keys rows.new.items) }
 {
     let (point, slot) = join_of(asks, rows.len());
     let row = row_of(alloc, found_out, point, slot)?;
@@ -74,6 +76,8 @@ pub fn rows_of(
 ) -> Result<Vec<Vec<Version>>, NoMemory>
     requires places { ArePlaces (map target found_out.arrivals.now.all.items)
         found_out.arrivals.now.at.items }
+    requires order { AreInOrder (map target found_out.arrivals.now.all.items)
+        found_out.arrivals.now.at.items }
     requires heads { length found_out.heads.now ≡ vec_len found_out.arrivals.now.at }
     ensures keeps { OnOk result (Keeps asks.old.keys asks.new.keys) }
     ensures len { IfOk result (λ rows. vec_len rows ≡ length asks.new.keys) }
@@ -82,7 +86,7 @@ pub fn rows_of(
         ≡ Some h)
         → AreRows (map plain_flow_function found_out.entry.functions.now) found_out.entry.heads.now
         found_out.entry.last.now
-        found_out.entry.arrivals.now.all.items asks.new.keys rows.items) }
+        found_out.entry.arrivals.now.all.items asks.old.keys asks.new.keys rows.items) }
 {
     let mut rows = Vec::new(alloc);
     while rows.len() < count(asks) {

@@ -3,7 +3,7 @@
 ghost use Rattle.std.specs.Prelude.{◌≡◌, ◌<◌, ◌++◌, map, flat_map, vec_len, IfOk, OnOk};
 ghost use Rattle.flow_code.specs.View.{plain_flow_function};
 ghost use Rattle.ssa_form.specs.Views.{versions_seen};
-ghost use Rattle.numbered_sets.specs.Places.{ArePlaces};
+ghost use Rattle.numbered_sets.specs.Places.{ArePlaces, AreInOrder};
 ghost use Rattle.flow_graph.specs.Arrivals.{target};
 ghost use Rattle.ssa_form.specs.Rows.{link_of, link_at, owns, IsRow};
 
@@ -112,7 +112,9 @@ pub fn row_of(
     point: u64,
     slot: u64,
 ) -> Result<Vec<Version>, NoMemory>
-    requires { ArePlaces (map target found_out.arrivals.now.all.items)
+    requires places { ArePlaces (map target found_out.arrivals.now.all.items)
+        found_out.arrivals.now.at.items }
+    requires order { AreInOrder (map target found_out.arrivals.now.all.items)
         found_out.arrivals.now.at.items }
     ensures { IfOk result (λ row. point < vec_len found_out.entry.arrivals.now.at
         → IsRow (map plain_flow_function found_out.entry.functions.now) found_out.entry.heads.now

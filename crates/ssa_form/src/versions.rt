@@ -4,14 +4,14 @@ ghost use Rattle.std.specs.Prelude.{◌≡◌, ◌↔◌, Some, length, map, sli
 ghost use Rattle.std.specs.Option.{option_map};
 ghost use Rattle.flow_code.specs.Points.{PlainFlow};
 ghost use Rattle.flow_code.specs.View.{plain_flow_function, plain_flow};
-ghost use Rattle.numbered_sets.specs.Places.{ArePlaces};
+ghost use Rattle.numbered_sets.specs.Places.{ArePlaces, AreInOrder};
 ghost use Rattle.flow_graph.specs.Steps.{steps_seen};
 ghost use Rattle.flow_graph.specs.Arrivals.{target};
 ghost use Rattle.slot_versions.specs.Versions.{PlainVersion, linked_in};
 ghost use Rattle.ssa_form.specs.Views.{version_seen, versions_seen};
 ghost use Rattle.ssa_form.specs.Marks.{IsGraph};
 ghost use Rattle.function_pairs.specs.Found.{number_in};
-ghost use Rattle.ssa_form.specs.Versions.{joins_of, version_of, IsLinked, IsExact, joined_by, links_of, AreOnce};
+ghost use Rattle.ssa_form.specs.Versions.{joins_of, version_of, IsLinked, IsExact, joined_by, links_of, AreOnce, AreJoins};
 
 use crate::joins::rows_of;
 use crate::marks::marks_of;
@@ -90,12 +90,17 @@ fn versions_of(
     heads: &[u64],
 ) -> Result<Versions, NoMemory>
     requires places { ArePlaces (map target arrivals.now.all.items) arrivals.now.at.items }
+    requires order { AreInOrder (map target arrivals.now.all.items) arrivals.now.at.items }
     requires heads { length heads.now ≡ length steps.now }
     requires at { length heads.now ≡ vec_len arrivals.now.at }
-    ensures { IfOk result
+    ensures exact { IfOk result
         (λ versions. (flow : PlainFlow) → map plain_flow_function functions.now ≡ flow.functions_of
         → IsGraph flow (steps_seen steps.now) arrivals.now.all.items heads.now
         → IsExact flow versions) }
+    ensures joins { IfOk result
+        (λ versions. (flow : PlainFlow) → map plain_flow_function functions.now ≡ flow.functions_of
+        → IsGraph flow (steps_seen steps.now) arrivals.now.all.items heads.now
+        → AreJoins flow versions) }
 {
     let mut marks = marks_of(alloc, steps, heads)?;
     let found_out = Found {
@@ -114,7 +119,8 @@ fn versions_of(
 
 // The versions of a program of points.
 fn exact_versions(alloc: Global, flow: &FlowProgram) -> Result<Versions, NoMemory>
-    ensures { IfOk result (IsExact (plain_flow flow.now)) }
+    ensures exact { IfOk result (IsExact (plain_flow flow.now)) }
+    ensures joins { IfOk result (AreJoins (plain_flow flow.now)) }
 {
     let steps = steps_of(alloc, flow)?;
     let arrivals = arrivals_of(alloc, &flow.functions, &steps)?;
@@ -128,6 +134,7 @@ fn exact_versions(alloc: Global, flow: &FlowProgram) -> Result<Versions, NoMemor
 pub fn ssa(alloc: Global, flow: &FlowProgram) -> Result<Versions, NoMemory>
     ensures exact { IfOk result (IsExact (plain_flow flow.now)) }
     ensures once { IfOk result AreOnce }
+    ensures joins { IfOk result (AreJoins (plain_flow flow.now)) }
 {
     let versions = exact_versions(alloc, flow)?;
     let _count = count(&versions.asks);

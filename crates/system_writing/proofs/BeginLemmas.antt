@@ -60,7 +60,7 @@ found sets n k p h =
     let within : k < n = subst (λ z. k < z) (long sets 0 n) (slice_get_within (parts_from sets 0 n) k p h) in
     same_Some (first_part sets k) p (sym (at sets n k within) ∙ h)
 
--- which first part a number has
+-- the number of a first part is that of its set
 number_of_set : (sets n k : ℕ) → first_part sets n ≡ set_part k → n ≡ k
 number_of_set sets n k e =
     elim (cases_lt n sets) [

@@ -11,12 +11,10 @@ ghost use Rattle.told_keys.specs.Collected.{told_after};
 
 use crate::key::{ToldKey, place_of_key};
 use flow_code::{FlowFunction, FlowPoint, FlowProgram, KeyRef, Source};
+use loose_sets::TOLD_KEYS;
 use plain_values::canonical_integer;
 use std::alloc::Global;
 use text_base::{Bytes, NoMemory, Slot};
-
-/// How many keys are told apart at most.
-pub const TOLD_KEYS: usize = 64;
 
 // The key that a text stands for.
 fn text_key(alloc: Global, text: &Bytes) -> Result<ToldKey, NoMemory>

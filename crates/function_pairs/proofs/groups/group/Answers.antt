@@ -1,7 +1,7 @@
 use Rattle.std.proofs.Common.{◌≡◌, ◌<◌, ℕ, List, length, rules, sym, subst}
 use Rattle.std.specs.List.{All}
 use Rattle.function_pairs.proofs.GroupLemmas.{owners_below, groups}
-use Rattle.numbered_sets.specs.Places.{ArePlaces}
+use Rattle.numbered_sets.specs.Places.{ArePlaces, AreInOrder}
 use Rattle.function_pairs.proofs.groups.group.Goals as goal
 
 pub places_by-requires : goal.places_by-requires
@@ -14,3 +14,4 @@ returns c =
     let long : length c.in_ok-places.places.items ≡ length c.owners_of.new.keys.keys = search rules in
     groups c.args.all.now c.owners_of.new.keys.keys c.in_ok-owners.owners.items c.in_ok-places.places.items c.in_ok-owners.ensures c.count.ensures.different long
     (subst (λ (os : List ℕ). ArePlaces os c.in_ok-places.places.items) c.deref.ensures.value c.in_ok-places.ensures.exact)
+    (subst (λ (os : List ℕ). AreInOrder os c.in_ok-places.places.items) c.deref.ensures.value c.in_ok-places.ensures.order)

@@ -24,3 +24,17 @@ returns-clause-rules g c =
     let table = c.in_ok-numbered.numbered.table in
     loose_rules (plain_flow c.args.flow.now) (g.L.Lister.asks c.args.lister.now) (g.L.Lister.lists c.args.lister.now) c.requires c.deref.result.now c.in_ok-numbered.numbered.names.keys table.start table.count (cells_of table.rows.items)
     ends c.in_ok-numbered.ensures c.in_ok-system.system c.in_ok-system.ensures.sets c.in_ok-system.ensures.cycles c.in_ok-system.ensures.rules
+
+pub returns-clause-made : goal.returns-clause-made
+returns-clause-made g c =
+    let table = c.in_ok-numbered.numbered.table in
+    record {
+      starts = c.deref.result.now;
+      names = c.in_ok-numbered.numbered.names.keys;
+      start = table.start;
+      count = table.count;
+      rows = cells_of table.rows.items;
+      ends = subst (λ (names : List SetName). AreEnds (plain_flow c.args.flow.now) names) (sym c.deref.ensures.value) c.in_ok-starts.ensures;
+      numbered = c.in_ok-numbered.ensures;
+      written = c.in_ok-system.ensures.written;
+    }

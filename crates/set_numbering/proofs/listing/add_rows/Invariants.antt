@@ -2,7 +2,8 @@ use Rattle.std.proofs.Common.{◌≡◌, ◌++◌}
 use Rattle.std.specs.Vec.Iter.{into_iter_items}
 use Rattle.set_names.specs.Forms.{forms_seen}
 use Rattle.set_tables.specs.Forms.{cells_of}
-use Rattle.set_numbering.specs.Steps.{AddsRows, NamedIn}
+use Rattle.set_numbering.specs.Steps.{AddsRows}
+use Rattle.set_numbering.specs.Numbered.{NamedIn}
 use Rattle.set_numbering.proofs.listing.add_rows.Given as goal
 
 abbrev pub invariant-loop-named : goal.invariant-loop-named

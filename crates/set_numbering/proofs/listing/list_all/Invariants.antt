@@ -1,7 +1,7 @@
 use Rattle.std.proofs.Common.{◌-◌}
 use Rattle.numbered_sets.specs.Numbers.{Keeps}
 use Rattle.set_tables.specs.Forms.{cells_of}
-use Rattle.set_numbering.specs.Numbered.{AreListed}
+use Rattle.set_numbering.specs.Numbered.{AreListed, AreReached}
 use Rattle.set_numbering.proofs.listing.list_all.Given as goal
 
 abbrev pub invariant-loop-name : goal.invariant-loop-name
@@ -9,6 +9,7 @@ invariant-loop-name g l =
     record {
       listed : AreListed (g.L.Lister.asks l.lister) (g.L.Lister.lists l.lister) l.names.keys l.taken (cells_of l.rows.items);
       keeps : Keeps l.initial.names.keys l.names.keys;
+      reached : AreReached (g.L.Lister.lists l.lister) l.initial.names.keys l.names.keys;
     }
 
 abbrev pub decreases-loop-name : goal.decreases-loop-name

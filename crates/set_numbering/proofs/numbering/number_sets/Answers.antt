@@ -1,6 +1,6 @@
 use Rattle.std.proofs.Common.{◌<◌, ◌+◌, arith}
 use Rattle.set_tables.specs.Forms.{cells_of}
-use Rattle.set_numbering.proofs.RowLemmas.{begins_asked}
+use Rattle.set_numbering.proofs.RowLemmas.{begins_asked, begins_reached}
 use Rattle.set_numbering.proofs.TableLemmas.{numbered_table, table_below}
 use Rattle.set_numbering.proofs.numbering.number_sets.Goals as goal
 
@@ -23,4 +23,6 @@ returns g c =
     let asks = g.L.Lister.asks c.args.lister.now in
     let lists = g.L.Lister.lists c.args.lister.now in
     numbered_table asks lists c.args.starts.now c.list_all.new.names.keys c.in_ok-firsts.firsts.items (cells_of c.in_ok-rows.rows.items) c.new-names.result.keys c.number_all.new.names.keys c.in_ok-firsts.ensures
-    c.in_ok-rows.ensures.keeps c.in_ok-rows.ensures.rows c.count-start.ensures.different c.count-start.result c.take_over.new.rows.items c.deref.result.now c.count-start.ensures.length c.deref.ensures.value c.in_ok-take_over.ensures
+    c.in_ok-rows.ensures.keeps c.in_ok-rows.ensures.rows c.count-start.ensures.different
+    (begins_reached lists c.new-names.result.keys c.number_all.new.names.keys c.list_all.new.names.keys c.args.starts.now c.in_ok-firsts.firsts.items c.new-names.ensures.empty c.in_ok-firsts.ensures c.in_ok-rows.ensures.reached)
+    c.count-start.result c.take_over.new.rows.items c.deref.result.now c.count-start.ensures.length c.deref.ensures.value c.in_ok-take_over.ensures

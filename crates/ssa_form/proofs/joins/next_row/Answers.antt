@@ -12,7 +12,7 @@ use Rattle.ssa_form.proofs.JoinLemmas.{rows_more}
 use Rattle.ssa_form.proofs.joins.next_row.Goals as goal
 
 pub returns-clause-rows : goal.returns-clause-rows
-returns-clause-rows c first are =
+returns-clause-rows c firsts first are =
     let out = c.args.found_out in
     let fs = map plain_flow_function out.functions.now in
     let asks = c.args.asks.now.keys in
@@ -23,6 +23,6 @@ returns-clause-rows c first are =
     let less : length rows < length asks = (let n = c.requires.next in omega arith) in
     let here = are.asked j.0 j.1 (contains_at asks (length rows) j at) in
     let below : j.0 < vec_len out.arrivals.now.at = (let w = slice_get_within out.heads.now j.0 j.0 here in let l = c.requires.heads in omega arith) in
-    subst (λ (rs : List (Vec Version Global)). AreRows fs out.heads.now out.last.now out.arrivals.now.all.items c.ask_all.new.asks.keys rs) (sym c.in_ok-push.ensures.items)
-    (rows_more fs out.heads.now out.last.now out.arrivals.now.all.items first asks c.ask_all.new.asks.keys rows c.in_ok-row.row j are less at (c.in_ok-row.ensures below)
+    subst (λ (rs : List (Vec Version Global)). AreRows fs out.heads.now out.last.now out.arrivals.now.all.items firsts c.ask_all.new.asks.keys rs) (sym c.in_ok-push.ensures.items)
+    (rows_more fs out.heads.now out.last.now out.arrivals.now.all.items first firsts asks c.ask_all.new.asks.keys rows c.in_ok-row.row j are less at (c.in_ok-row.ensures below)
     (subst (λ (vs : List Version). AsksFor asks c.ask_all.new.asks.keys (versions_seen vs)) c.deref.ensures.value c.in_ok-ask_all.ensures))

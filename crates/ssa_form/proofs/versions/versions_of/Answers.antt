@@ -6,11 +6,11 @@ use Rattle.ssa_form.specs.Marks.{AreMarked}
 use Rattle.ssa_form.specs.Joins.{AreRows}
 use Rattle.ssa_form.proofs.HeadLemmas.{is_first}
 use Rattle.ssa_form.proofs.ReadLemmas.{contains_kept}
-use Rattle.ssa_form.proofs.ExactLemmas.{versions_exact}
+use Rattle.ssa_form.proofs.ExactLemmas.{versions_exact, are_joins}
 use Rattle.ssa_form.proofs.versions.versions_of.Goals as goal
 
-pub returns : goal.returns
-returns c flow same graph =
+pub returns-clause-exact : goal.returns-clause-exact
+returns-clause-exact c flow same graph =
     let steps = steps_seen c.args.steps.now in
     let all = c.args.arrivals.now.all.items in
     let heads = c.args.heads.now in
@@ -22,4 +22,19 @@ returns c flow same graph =
     let all_of_them : length c.args.steps.now ≡ length steps = sym (length-map c.args.steps.now step_seen) in
     let long : length rows ≡ length asks = (let e = c.in_ok-rows.ensures.len in omega arith) in
     versions_exact flow steps all heads graph marks (subst (λ (n : ℕ). AreMarked flow heads marks n) all_of_them are) asks rows
-    (subst (λ (fs : List PlainFlowFunction). AreRows fs heads marks.last all asks rows) same made) long _ refl refl refl (λ h x k. contains_kept marks.asks.keys asks (h, x) c.in_ok-rows.ensures.keeps k)
+    (subst (λ (fs : List PlainFlowFunction). AreRows fs heads marks.last all marks.asks.keys asks rows) same made) long _ refl refl refl (λ h x k. contains_kept marks.asks.keys asks (h, x) c.in_ok-rows.ensures.keeps k)
+
+pub returns-clause-joins : goal.returns-clause-joins
+returns-clause-joins c flow same graph =
+    let steps = steps_seen c.args.steps.now in
+    let all = c.args.arrivals.now.all.items in
+    let heads = c.args.heads.now in
+    let marks = c.in_ok-marks.marks in
+    let asks = c.rows_of.new.asks.keys in
+    let rows = c.in_ok-rows.rows.items in
+    let are = c.in_ok-marks.ensures flow all graph in
+    let made = c.in_ok-rows.ensures.rows (λ q h e. is_first steps all heads graph.heads_are q h e) are.asked in
+    let all_of_them : length c.args.steps.now ≡ length steps = sym (length-map c.args.steps.now step_seen) in
+    let long : length rows ≡ length asks = (let e = c.in_ok-rows.ensures.len in omega arith) in
+    are_joins flow steps all heads graph marks (subst (λ (n : ℕ). AreMarked flow heads marks n) all_of_them are) asks rows
+    (subst (λ (fs : List PlainFlowFunction). AreRows fs heads marks.last all marks.asks.keys asks rows) same made) long _ refl refl refl (λ h x k. contains_kept marks.asks.keys asks (h, x) c.in_ok-rows.ensures.keeps k)
