@@ -1,6 +1,6 @@
 -- The tokens of the coarse reader, and that its machine finds pages that are good by no definition.
 use Rattle.std.specs.Prelude.{◌≡◌, ℕ, Bool, true, false, not, if◌then◌else◌, List, [], ◌∷◌, ◌++◌, Option, Some, None, refl}
-use Rattle.std.specs.List.{list_any}
+use Rattle.std.specs.List.{list_all, list_any}
 use Rattle.std.proofs.Common.{ap, sym, subst, ◌∙◌}
 use Rattle.text_base.specs.declared.page_token.PageToken.{PageToken}
 use Rattle.text_base.specs.declared.page_token.PageToken.TheVariants.{Doctype, Start, End, Blank, Text, Misc, Bad}
@@ -12,7 +12,9 @@ use Rattle.sentence_writing.specs.Bytes.{bytes_in}
 use Rattle.summary_fixpoint.specs.Pairs.{tokens_in}
 use Rattle.page_goals.specs.declared.goal.Goal as goals
 use Rattle.page_goals.specs.Goals.{IsGood}
-use Rattle.page_decision.specs.Machines.{IsBrokenMachine}
+use Rattle.page_decision.specs.Echoes.{PutsTokens}
+use Rattle.page_decision.specs.Machines.{IsBrokenMachine, is_no_tag, PutsNoTags}
+use Rattle.page_decision.specs.PageVerdicts.{AreAllNested}
 use Rattle.byte_readers.specs.Reading.{tokens_over}
 use Rattle.echoing_machine.specs.Echoes.{EchoStep, EchoEnd, echo_of, IsEcho}
 use Rattle.echoing_machine.proofs.EchoLemmas.{is_echo}
@@ -91,6 +93,30 @@ bad_torn (Misc ∷ ts) h = ap (λ (n : Nest). join (nest [] []) n) (bad_torn ts 
 law : IsEcho next_state put_at put_last state.Content
 law = is_echo next_state put_at put_last state.Content
 
+-- what its machine puts out over a page
+abbrev pub Puts : List ℕ → List PageToken → Type 0
+Puts = PutsTokens state.Content (EchoStep next_state put_at put_last) (EchoEnd next_state put_at put_last)
+
+puts_told : (page : List ℕ) (tokens : List PageToken) → Puts page tokens → tokens ≡ (if is_broken page then Bad ∷ [] else [])
+puts_told page tokens put = sym put.2 ∙ (ap tokens_in ((law.only page put.0).0 put.1) ∙ law.tokens page) ∙ tells_broken page
+
+no_tag : (b : Bool) → list_all is_no_tag (if b then Bad ∷ [] else []) ≡ true
+no_tag true = refl
+no_tag false = refl
+
+pub puts_no_tags : (IsPage : List ℕ → Type 0) → PutsNoTags IsPage Puts
+puts_no_tags IsPage page tokens is put = ap (list_all is_no_tag) (puts_told page tokens put) ∙ no_tag (is_broken page)
+
+not_broken : (b : Bool) (tokens : List PageToken) → tokens ≡ (if b then Bad ∷ [] else []) → is_balanced (nest_of tokens) ≡ true → b ≡ false
+not_broken false tokens e h = refl
+not_broken true tokens e h =
+    let z : is_balanced (nest_of (Bad ∷ [])) ≡ true = subst (λ (ts : List PageToken). is_balanced (nest_of ts) ≡ true) e h in
+    cc
+
+-- where all that it puts out is nested, no page is broken
+pub none_broken : (IsPage : List ℕ → Type 0) → AreAllNested IsPage Puts → (page : List ℕ) → IsPage page → is_broken page ≡ false
+none_broken IsPage all page is = let h = all page is in not_broken (is_broken page) h.tokens (puts_told page h.tokens h.has) h.sum
+
 module _ (bad : BrokenIsBad) (invalid : BrokenNotValid) (reads : PageTokensRead) (nested : WholeIsNested) (table : Table) (lawful : IsLawfulTable table) where
   not_good : (page : List ℕ) → is_broken page ≡ true → (goal : goals.Goal) → IsGood goal table page → ⊥
   not_good page b goals.Goal.Valid good = invalid table lawful page b good
@@ -107,7 +133,5 @@ module _ (bad : BrokenIsBad) (invalid : BrokenNotValid) (reads : PageTokensRead)
       copies = λ text letters out. ap bytes_in ((law.only text letters).0 out) ∙ law.bytes text;
       total = λ text bytes. (echo_of next_state put_at put_last state.Content text, (law.only text (echo_of next_state put_at put_last state.Content text)).1 refl);
     };
-    broken = λ page tokens bytes put unbalanced goal good.
-        let is : tokens ≡ tokens_by state.Content page = sym put.2 ∙ (ap tokens_in ((law.only page put.0).0 put.1) ∙ law.tokens page) in
-        not_good page (broken_so (is_broken page) tokens (is ∙ tells_broken page) unbalanced) goal good;
+    broken = λ page tokens bytes put unbalanced goal good. not_good page (broken_so (is_broken page) tokens (puts_told page tokens put) unbalanced) goal good;
   }

@@ -1,3 +1,4 @@
 pub mod States
 pub mod Exactness
 pub mod Laws
+pub use Rattle.broken_pages.specs.Coarse

@@ -13,14 +13,18 @@ use Rattle.page_fronts.specs.Fronts.{Open, nothing, in_reference, in_opener, in_
 use Rattle.page_steps.specs.PageSteps.{PageState, page_reader, page_hold, is_inside}
 use Rattle.page_reader.specs.Passing.{passes, open_passes, takes_several, narrow_reader}
 use Rattle.merged_reader.specs.Alike.{second_alike, alike, representative}
-use Rattle.merged_reader.specs.Merging.{open_alike, takes_all_alike, merged_held}
+use Rattle.merged_reader.specs.Merging.{open_alike, takes_all_alike, merged_begun}
 use Rattle.merged_reader.proofs.Whole.{is_whole, none_decoded, is_several}
 use Rattle.merged_reader.proofs.Behind.{same_behind}
 use Rattle.merged_reader.proofs.Steps.{alike_steps}
 
-abbrev pub merged_option : Option (Held PageState) → Option (Held PageState)
-merged_option None = None
-merged_option (Some h) = Some (merged_held h)
+-- the state with the first bytes that stand for those of its open character
+abbrev pub begun_held : Held PageState → Held PageState
+begun_held h = record { state = h.state; begun = merged_begun h.state h.begun }
+
+abbrev pub begun_option : Option (Held PageState) → Option (Held PageState)
+begun_option None = None
+begun_option (Some h) = Some (begun_held h)
 
 -- what is kept of the place makes no difference
 hold_alike : (place : Place) (o : Open) → open_alike (kept_place o (0x80 ∷ []) place) o ≡ open_alike place o
@@ -88,7 +92,7 @@ some_end (a ∷ bytes) b = refl
 -- what moves put out, and where they lead
 pub record SameMoves (table : Table) (m n : Move Place PageToken (Held PageState)) : Type 0 where
   pub puts : put_out (narrow_reader table) m ≡ put_out (narrow_reader table) n
-  pub leads : merged_option (to_state (narrow_reader table) m) ≡ merged_option (to_state (narrow_reader table) n)
+  pub leads : begun_option (to_state (narrow_reader table) m) ≡ begun_option (to_state (narrow_reader table) n)
 
 module _ (table : Table) (s : PageState) (takes : takes_all_alike s ≡ true) (b : ℕ) where
   abbrev step : List ℕ → Move Place PageToken (Held PageState)
@@ -100,7 +104,7 @@ module _ (table : Table) (s : PageState) (takes : takes_all_alike s ≡ true) (b
   same_moves : (m n : Move Place PageToken (Held PageState)) → m ≡ n → SameMoves table m n
   same_moves m n e = record {
     puts = ap (put_out (narrow_reader table)) e;
-    leads = ap (λ (k : Move Place PageToken (Held PageState)). merged_option (to_state (narrow_reader table) k)) e;
+    leads = ap (λ (k : Move Place PageToken (Held PageState)). begun_option (to_state (narrow_reader table) k)) e;
   }
 
   -- the byte ends a character
@@ -138,7 +142,7 @@ module _ (table : Table) (s : PageState) (takes : takes_all_alike s ≡ true) (b
   abbrev held_as : List ℕ → Held PageState
   held_as bytes = record { state = page_hold s; begun = bytes }
 
-  merged_same : (x : List ℕ) → merged_held (held x) ≡ held_as (representative (x ++ b ∷ []))
+  merged_same : (x : List ℕ) → begun_held (held x) ≡ held_as (representative (x ++ b ∷ []))
   merged_same x = ap (λ (y : Bool). held_as (if y then representative (x ++ b ∷ []) else x ++ b ∷ [])) takes_held
 
   by_parts : (x y : List ℕ) (begun passes : Bool) → (begun ≡ true → representative (y ++ b ∷ []) ≡ representative (x ++ b ∷ []))
@@ -180,9 +184,9 @@ module _ (table : Table) (s : PageState) (takes : takes_all_alike s ≡ true) (b
       at true h = same_moves (step (representative (a ∷ u))) (step (a ∷ u)) (ends (a ∷ u) h)
       at false h = open_moves a u h
 
-pub merged_moves : (table : Table) (h : Held PageState) (b : ℕ)
-    → SameMoves table ((narrow_reader table).step (merged_held h) b) ((narrow_reader table).step h b)
-merged_moves table h b = at (takes_all_alike h.state) refl
+pub begun_moves : (table : Table) (h : Held PageState) (b : ℕ)
+    → SameMoves table ((narrow_reader table).step (begun_held h) b) ((narrow_reader table).step h b)
+begun_moves table h b = at (takes_all_alike h.state) refl
   where
     move : Bool → Move Place PageToken (Held PageState)
     move x = (narrow_reader table).step (record { state = h.state; begun = if x then representative h.begun else h.begun }) b
@@ -191,8 +195,8 @@ merged_moves table h b = at (takes_all_alike h.state) refl
     at true e = representative_moves table h.state e b h.begun
     at false e = record { puts = refl; leads = refl }
 
-pub merged_last : (table : Table) (h : Held PageState) → last_tokens (narrow_reader table) (merged_held h) ≡ last_tokens (narrow_reader table) h
-merged_last table h = at (takes_all_alike h.state)
+pub begun_last : (table : Table) (h : Held PageState) → last_tokens (narrow_reader table) (begun_held h) ≡ last_tokens (narrow_reader table) h
+begun_last table h = at (takes_all_alike h.state)
   where
     at : (x : Bool)
         → last_tokens (narrow_reader table) (record { state = h.state; begun = if x then representative h.begun else h.begun }) ≡ last_tokens (narrow_reader table) h

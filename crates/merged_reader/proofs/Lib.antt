@@ -2,5 +2,8 @@ mod Whole
 mod Behind
 mod Steps
 mod Held
+mod NumberMoves
+mod Full
+mod InMemory
 pub mod Tokens
 mod Examples

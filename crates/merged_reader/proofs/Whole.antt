@@ -1,16 +1,14 @@
 -- Which bytes are a character of several bytes, by ranges.
-use Rattle.std.proofs.Common.{◌≡◌, ◌⊎◌, inl, inr, ℕ, ◌+◌, ◌-◌, ◌*◌, ◌/◌, ◌%◌, ◌≤◌, ◌<◌, Bool, true, false, ◌&&◌, not, nat_le, List, [], ◌∷◌, Option, Some, None, refl, sym, ◌∙◌, ap, subst, append-nil, arith}
-use Rattle.std.specs.Prelude.{if◌then◌else◌, bytes_eq, ◌==◌}
-use Rattle.std.specs.Char.{encode_utf8, IsScalar}
+use Rattle.std.proofs.Common.{◌≡◌, ◌⊎◌, inl, inr, ℕ, ◌+◌, ◌-◌, ◌*◌, ◌/◌, ◌%◌, ◌≤◌, ◌<◌, Bool, true, false, ◌&&◌, not, nat_le, List, [], ◌∷◌, Option, Some, None, refl, sym, ◌∙◌, ap, subst, arith}
+use Rattle.std.specs.Prelude.{◌==◌}
+use Rattle.std.specs.Char.{encode_utf8}
 use Rattle.std.specs.Int.{is_in_range}
-use Rattle.std.specs.Str.{chars, IsUtf8, encode_utf8_all}
-use Rattle.std.proofs.lemmas.Bool.{and_parts, and_from, cases_lt}
+use Rattle.std.proofs.lemmas.Bool.{cases_lt}
 use Rattle.std.proofs.lemmas.Bool.Decides.{nat_tests}
-use Rattle.std.proofs.lemmas.Slice.Eq.{bytes_eq-Decides}
-use Rattle.std.proofs.lemmas.Str.{IsUtf8-encode, chars_from_encodes, encode_ascii}
+use Rattle.std.proofs.lemmas.Str.{encode_ascii}
 use Rattle.xml_text.specs.Characters.{is_character}
-use Rattle.character_steps.specs.Bytes.{only, decoded, is_second, continues}
-use Rattle.character_steps.proofs.Begun.{Decoded, decoded_is, decoded_whole}
+use Rattle.character_steps.specs.Bytes.{decoded, is_second, continues}
+use Rattle.character_steps.proofs.Begun.{decoded_is, decoded_whole}
 
 -- a character of two, of three or of four bytes (RFC 3629, 4), without U+FFFE and U+FFFF
 abbrev pub is_whole : List ℕ → Bool

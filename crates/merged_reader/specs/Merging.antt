@@ -9,6 +9,7 @@ use Rattle.page_fronts.specs.OpenTags.{OpenAttribute, in_value}
 use Rattle.page_fronts.specs.OpenValues.{OpenValue, in_text}
 use Rattle.page_steps.specs.PageSteps.{PageState}
 use Rattle.merged_reader.specs.Alike.{representative}
+use Rattle.merged_reader.specs.Numbers.{merged_numbers}
 
 -- between pieces; at the beginning U+FEFF is the byte order mark
 abbrev pub place_alike : Place → Bool
@@ -49,6 +50,6 @@ takes_all_alike s = open_alike s.place s.inside
 abbrev pub merged_begun : PageState → List ℕ → List ℕ
 merged_begun s begun = if takes_all_alike s then representative begun else begun
 
--- the state with the first bytes that stand for those of its open character
+-- the state with the first bytes that stand for those of its open character, and the number that stands for that of its open reference
 abbrev pub merged_held : Held PageState → Held PageState
-merged_held h = record { state = h.state; begun = merged_begun h.state h.begun }
+merged_held h = record { state = merged_numbers h.state; begun = merged_begun h.state h.begun }

@@ -8,10 +8,14 @@ use Rattle.page_reader.specs.States.{next_state}
 use Rattle.page_reader.specs.declared.state.ReaderState.{ReaderState}
 use Rattle.page_reader.specs.declared.state.ReaderState.TheVariants.{Failed, Reading}
 use Rattle.merged_reader.specs.Merging.{merged_begun}
+use Rattle.merged_reader.specs.NumbersInMemory.{merged_open}
 
 -- the state in memory that stands for this one
 abbrev pub merged_state : HeldState → HeldState
-merged_state h = record { state = h.state; begun = merged_begun (plain_state h.state) h.begun }
+merged_state h = record {
+  state = record { place = h.state.place; inside = merged_open h.state.inside };
+  begun = merged_begun (plain_state h.state) h.begun;
+}
 
 -- the state in memory that stands for this one, a failed reader for itself
 abbrev pub merged : ReaderState → ReaderState

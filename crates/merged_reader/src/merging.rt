@@ -7,6 +7,7 @@ ghost use Rattle.merged_reader.specs.States as states;
 
 use crate::alike::takes_all_alike;
 use crate::first_bytes::representative;
+use crate::numbers::merged_open;
 use open_pieces::{HeldState, PageState};
 use page_reader::ReaderState;
 use std::alloc::Global;
@@ -27,7 +28,12 @@ fn merged_state(alloc: Global, held: HeldState) -> Result<HeldState, NoMemory>
 {
     let HeldState { state, begun } = held;
     let begun = merged_begun(alloc, &state, begun)?;
-    Ok(HeldState { state, begun })
+    let PageState { place, inside } = state;
+    let inside = merged_open(inside);
+    Ok(HeldState {
+        state: PageState { place, inside },
+        begun,
+    })
 }
 
 // What is kept of an open character.

@@ -9,6 +9,8 @@ mod character_rows;
 #[cfg(test)]
 mod generated;
 #[cfg(test)]
+mod number_rows;
+#[cfg(test)]
 mod page_rows;
 #[cfg(test)]
 mod reading;

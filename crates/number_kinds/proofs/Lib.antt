@@ -1,0 +1,3 @@
+pub mod RowLemmas
+mod Told
+pub mod KindLemmas

@@ -1,0 +1,3 @@
+mod States
+mod BadFronts
+mod BadReading
