@@ -1,5 +1,6 @@
 -- What an answer says of pages.
-use Rattle.std.specs.Prelude.{ℕ, List}
+use Rattle.std.specs.Prelude.{ℕ, true, List}
+use Rattle.text_base.specs.declared.page_token.PageToken.{PageToken}
 use Rattle.dtd_model.specs.Table.{Table}
 use Rattle.content_automata.specs.Tables.{Table as States}
 use Rattle.derivations.specs.declared.derivation.Derivation.{Derivation}
@@ -12,7 +13,7 @@ use Rattle.summary_fixpoint.specs.declared.verdict.Verdict.TheVariants.{Yes, No,
 use Rattle.page_goals.specs.declared.goal.Goal.{Goal}
 use Rattle.page_goals.specs.Goals.{IsGood}
 use Rattle.page_goals.specs.Telling.{AreStatesOf, automaton_over}
-use Rattle.text_decision.specs.TextVerdicts.{WritesText, HasManySums, HasManyTags}
+use Rattle.text_decision.specs.TextVerdicts.{WritesText, HasSum, HasManySums, HasManyTags}
 
 module _ (table : Table) (IsPage : List ℕ → Type 0) where
   -- it is a derivation of letters whose bytes are one of the pages, which is not good
@@ -44,3 +45,7 @@ module _ (table : Table) (IsPage : List ℕ → Type 0) where
   IsPageVerdict goal limit (No derivation) = IsBadPage goal derivation
   IsPageVerdict goal limit (Pairs count height) = HasManyPairs goal limit count height
   IsPageVerdict goal limit (Tags count height) = HasManyOpenTags goal count height
+
+-- each page has tokens that are nested
+abbrev pub AreAllNested : (List ℕ → Type 0) → (List ℕ → List PageToken → Type 0) → Type 0
+AreAllNested IsPage HasTokens = (page : List ℕ) → IsPage page → HasSum IsPage HasTokens nest_of is_balanced page true

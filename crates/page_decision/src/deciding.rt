@@ -1,13 +1,14 @@
 //! The decision.
 
-ghost use Rattle.std.specs.Prelude.{IfOk, IfErr, IfSome};
+ghost use Rattle.std.specs.Prelude.{◌≤◌, IfOk, IfErr, IfSome, IfNone};
 ghost use Rattle.cfg_grammar.specs.declared.symbol.Symbol as symbols;
 ghost use Rattle.dtd_model.specs.TableOf.{table_of};
 ghost use Rattle.image_meaning.specs.Outputs.{DerivesText};
 ghost use Rattle.grammar_image.specs.Refusals.{IsCause};
-ghost use Rattle.page_decision.specs.Machines.{IsBrokenMachine, IsPageMachine};
+ghost use Rattle.page_decision.specs.Machines.{IsBrokenMachine, IsPageMachine, PutsNoTags};
 ghost use Rattle.page_decision.specs.PageSums.{AreSumsOf};
-ghost use Rattle.page_decision.specs.PageVerdicts.{IsBadPage, IsPageVerdict};
+ghost use Rattle.page_decision.specs.PageVerdicts.{AreAllNested, IsBadPage, IsPageVerdict};
+ghost use Rattle.text_decision.specs.Echoes.{PutsTokens};
 
 use crate::sums::PageSums;
 use cfg_grammar::Grammar;
@@ -20,7 +21,6 @@ use page_goals::Goal;
 use page_goals::laws::{nests_tell_nested, sums_tell_valid};
 use std::alloc::Global;
 use summary_fixpoint::Verdict;
-use text_base::NoMemory;
 use text_decision::{decide_texts, find_wrong, texts_fit};
 
 /// Whether each page that the grammar derives is good by the goal and the definition, with at most
@@ -66,12 +66,14 @@ pub fn decide_pages<M: Machine>(
     }
 }
 
-/// A derivation of a page that is good by no goal, if the machine finds one. None says nothing, and
-/// comes also where a limit is passed.
+/// A derivation of a page that is good by no goal, if the machine finds one. Where the machine puts
+/// out no tags and two sums are allowed, None comes only where the tokens of each page are nested,
+/// so that the machine tells of none.
 ///
 /// # Errors
 ///
-/// Want of memory.
+/// `Large` only where the image has at least so many items, over `items`. `Memory` may come at any
+/// time.
 pub fn find_broken<B: Machine>(
     alloc: Global,
     grammar: &Grammar,
@@ -80,11 +82,19 @@ pub fn find_broken<B: Machine>(
     machine: &B,
     items: u64,
     pairs: u64,
-) -> Result<Option<Derivation>, NoMemory>
+) -> Result<Option<Derivation>, ImageRefusal>
     requires { IsBrokenMachine (table_of dtd.now) (B.first machine.now) (B.steps machine.now)
         (B.ends machine.now) }
-    ensures { IfOk result (λ found. IfSome found (IsBadPage (table_of dtd.now)
+    ensures found { IfOk result (λ found. IfSome found (IsBadPage (table_of dtd.now)
         (DerivesText grammar.now.productions.items (symbols.Symbol.Nt grammar.now.start)) goal)) }
+    ensures none { let pages = DerivesText grammar.now.productions.items
+        (symbols.Symbol.Nt grammar.now.start) in
+        let puts = PutsTokens (B.first machine.now) (B.steps machine.now) (B.ends machine.now) in
+        2 ≤ pairs → PutsNoTags pages puts
+        → IfOk result (λ found. IfNone found (AreAllNested pages puts)) }
+    ensures cause { IfErr result
+        (IsCause grammar.now.productions.items (B.steps machine.now) grammar.now.start
+        (B.first machine.now) items) }
 {
     let _ = dtd;
     let _ = goal;

@@ -10,7 +10,7 @@ use Rattle.phpsa_texts.specs.declared.exit.Exit.TheVariants.{Done, Input}
 use Rattle.phpsa_texts.specs.declared.message.Message.{Message}
 use Rattle.phpsa_texts.specs.declared.message.Refusal.{Refusal}
 use Rattle.phpsa_texts.specs.Texts.{Says, IsTold, size_text, summary_text}
-use Rattle.phpsa_tasks.specs.declared.task.TheConstants.{PAIR_LIMIT}
+use Rattle.command_words.specs.declared.values.TheConstants.{PAIR_LIMIT}
 use Rattle.phpsa_tasks.specs.declared.reply.Reply.TheVariants as reply
 use Rattle.phpsa_tasks.specs.Tasks.{script_making, made_check}
 use Rattle.phpsa_tasks.specs.Subjects.{made_name, only_script, only_made}

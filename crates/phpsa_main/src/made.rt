@@ -4,7 +4,7 @@ ghost use Rattle.std.specs.Prelude.{◌≡◌, ℕ};
 ghost use Rattle.program_files.specs.Source.{SourceCall, source_call};
 ghost use Rattle.document_types.specs.DocumentTypes.{strict_type};
 ghost use Rattle.page_goals.specs.declared.goal.Goal.TheVariants.{Valid};
-ghost use Rattle.phpsa_tasks.specs.declared.task.TheConstants as task;
+ghost use Rattle.command_words.specs.declared.values.TheConstants as words;
 ghost use Rattle.phpsa_tasks.specs.Tasks.{made_check};
 ghost use Rattle.phpsa_tasks.specs.Subjects.{made_name, only_script};
 ghost use Rattle.phpsa_tasks.specs.Counted.{ReadsNothing};
@@ -13,9 +13,10 @@ ghost use Rattle.phpsa_main.specs.Decided.{Decides};
 
 use crate::answers::conclusion_of;
 use crate::deciding::decide_script;
+use command_words::PAIR_LIMIT;
 use document_types::{DocumentType, OneFile};
 use page_goals::Goal;
-use phpsa_tasks::{PAIR_LIMIT, Reply, ShownAnswer};
+use phpsa_tasks::{Reply, ShownAnswer};
 use phpsa_texts::{Refusal, size_refusal, summary_message};
 use script_maker::{MakeRefusal, make};
 use std::alloc::Global;
@@ -27,7 +28,7 @@ const MADE_NAME: &str = "made.php";
 /// The answer for this script, by the built-in definition.
 fn decided(alloc: Global, script: Bytes) -> Result<ShownAnswer, Refusal>
     ensures { (misses reads : ℕ) × Decides (source_call (only_script script) 0 0 0 misses 0 reads)
-        made_name strict_type Valid task.PAIR_LIMIT result }
+        made_name strict_type Valid words.PAIR_LIMIT result }
 {
     let mut files = OneFile {
         name: MADE_NAME,
@@ -40,7 +41,7 @@ fn decided(alloc: Global, script: Bytes) -> Result<ShownAnswer, Refusal>
         MADE_NAME,
         DocumentType::Strict,
         Goal::Valid,
-        PAIR_LIMIT,
+        u64::from(PAIR_LIMIT),
         &mut files,
     )
 }

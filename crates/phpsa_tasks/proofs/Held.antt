@@ -43,7 +43,7 @@ use Rattle.phpsa_tasks.specs.Subjects.{ProgramBy, PageBy, ProgramFor, Subject, m
 use Rattle.phpsa_tasks.specs.Replies.{answer_status, end_status, HasManyItems, IsJudged, IsReplyOf, IsHaltOf}
 use Rattle.phpsa_tasks.specs.Causes.{definition_call, RefusesDefinition, not_defined, many_states, RefusesScript, not_loaded, lacks_definition, has_long_text, not_read, page_lacks_definition, no_size, made_refused, Refuses}
 use Rattle.phpsa_tasks.specs.Answered.{IsScriptVerdict, PassesScriptLimit, PassesGrammarLimit, IsVerdict, PassesLimit, IsStopped}
-use Rattle.phpsa_tasks.specs.declared.task.TheConstants.{PAIR_LIMIT}
+use Rattle.command_words.specs.declared.values.TheConstants.{PAIR_LIMIT}
 
 -- a source that tells of each name that a program reads holds one, which is not refused but for want of memory
 pub record ProgramLaws : Type 0 where

@@ -20,7 +20,7 @@ use Rattle.phpsa_texts.specs.declared.exit.Exit.TheVariants.{Done, No, Undecided
 use Rattle.phpsa_texts.specs.Statuses.{request_status}
 use Rattle.phpsa_texts.specs.Texts.{request_text}
 use Rattle.phpsa_tasks.specs.Tasks.{Task, script_check, page_check, script_making, made_check, script_run, grammar_making, usage, AsksFor}
-use Rattle.phpsa_tasks.specs.declared.task.TheConstants.{PAIR_LIMIT}
+use Rattle.command_words.specs.declared.values.TheConstants.{PAIR_LIMIT}
 use Rattle.phpsa_tasks.specs.Requests.{HoldsNoRequest}
 use Rattle.phpsa_tasks.specs.Subjects.{Subject, HoldsShortProgram, Holds, IsWithin, LacksFile}
 use Rattle.phpsa_tasks.specs.Replies.{answer_status, end_status, outcome_for, HasManyItems}

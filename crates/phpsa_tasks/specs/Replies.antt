@@ -25,7 +25,7 @@ use Rattle.phpsa_texts.specs.declared.answers.Conclusion.TheVariants as conclusi
 use Rattle.phpsa_texts.specs.declared.answers.PassedCount.TheVariants as passed
 use Rattle.phpsa_texts.specs.Statuses.{conclusion_status, judgment_status, fault_status}
 use Rattle.phpsa_texts.specs.Texts.{yes_answer, no_answer, passed_answer, passed_text, summary_text, judgment_text, fault_text, spent_text, deep_text}
-use Rattle.phpsa_tasks.specs.declared.task.TheConstants.{PAIR_LIMIT}
+use Rattle.command_words.specs.declared.values.TheConstants.{PAIR_LIMIT}
 use Rattle.phpsa_tasks.specs.Tasks.{Task, script_check, page_check, script_making, made_check, script_run, grammar_making, usage}
 use Rattle.phpsa_tasks.specs.Subjects.{ProgramFor, Subject, Finds}
 

@@ -13,6 +13,6 @@ mod words;
 
 pub use reply::Reply;
 pub use shown_answers::{CheckRefusal, GrammarRefusal, ShownAnswer, check_shown, loose_grammar};
-pub use task::{PAIR_LIMIT, Task};
+pub use task::Task;
 pub use told_programs::{load, loads_are_loaded};
 pub use words::asked_task;

@@ -10,10 +10,6 @@ use document_types::DocumentType;
 use page_goals::Goal;
 use phpsa_texts::AnswerForm;
 
-/// The most different sums of the sentences of one nonterminal for which a generated script is
-/// decided.
-pub const PAIR_LIMIT: u64 = 10_000;
-
 /// What is to be done.
 #[derive(Clone, Copy, Debug)]
 pub enum Task<'a> {

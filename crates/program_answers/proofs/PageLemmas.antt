@@ -5,7 +5,7 @@ use Rattle.text_base.specs.declared.letter.Letter.{Letter}
 use Rattle.text_base.specs.declared.letter.Letter.TheVariants.{OfByte}
 use Rattle.cfg_grammar.specs.declared.symbol.Symbol.TheVariants.{Nt}
 use Rattle.cfg_grammar.specs.declared.production.Production.{Production}
-use Rattle.cfg_grammar.specs.Derives.{Derives}
+use Rattle.cfg_grammar.specs.declared.grammar.Grammar.{Grammar}
 use Rattle.image_meaning.specs.Outputs.{DerivesText}
 use Rattle.script_meaning.specs.Programs.{PlainProgram}
 use Rattle.dtd_model.specs.Table.{Table}
@@ -18,7 +18,7 @@ use Rattle.grammar_image.specs.declared.refusal.ImageRefusal.{ImageRefusal}
 use Rattle.grammar_image.specs.declared.refusal.ImageRefusal.TheVariants.{Large, Memory}
 use Rattle.grammar_image.specs.Refusals as images
 use Rattle.loose_grammar.specs.declared.refusal.TheConstants.{ITEM_LIMIT}
-use Rattle.loose_grammar.specs.Pages.{IsLoosePage, DerivePages}
+use Rattle.loose_grammar.specs.Pages.{IsLoosePage, DerivePages, IsPageGrammar}
 use Rattle.program_answers.specs.Answers.{by_pages, IsAnswerBy}
 use Rattle.program_answers.specs.Steps.{IsItemCause, answer_of}
 
@@ -52,7 +52,7 @@ module _ (program : PlainProgram) where
     answer_by_verdict table goal limit (Tags count height) h = h
 
     -- the image of the pages is too large
-    pub pages_cause : (productions : List Production) (start : nt.Nt) (r : ImageRefusal) → DerivePages program productions start → images.IsCause productions steps start first ITEM_LIMIT r
+    pub pages_cause : (grammar : Grammar) (r : ImageRefusal) → IsPageGrammar program grammar → images.IsCause grammar.productions.items steps grammar.start first ITEM_LIMIT r
         → IsItemCause first steps program r
-    pages_cause productions start (Large items) are h = (h.0, by_pages productions start are h.1)
-    pages_cause productions start Memory are h = tt
+    pages_cause grammar (Large items) is h = (h.0, by_pages grammar is h.1)
+    pages_cause grammar Memory is h = tt

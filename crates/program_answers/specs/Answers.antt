@@ -1,8 +1,7 @@
 -- What the answer for a program says of its loose pages and of its runs.
 use Rattle.std.specs.Prelude.{◌≡◌, ◌<◌, ℕ, List, ⊤}
-use Rattle.text_base.specs.declared.numbers.Nt as nt
 use Rattle.text_base.specs.declared.letter.Letter.{Letter}
-use Rattle.cfg_grammar.specs.declared.production.Production.{Production}
+use Rattle.cfg_grammar.specs.declared.grammar.Grammar.{Grammar}
 use Rattle.derivations.specs.declared.derivation.Derivation.{Derivation}
 use Rattle.image_meaning.specs.Items.{HasItems}
 use Rattle.script_meaning.specs.Requests.{PlainRequest, Admitted}
@@ -10,7 +9,7 @@ use Rattle.script_meaning.specs.Runs.{Ended}
 use Rattle.script_meaning.specs.Programs.{PlainProgram}
 use Rattle.script_meaning.specs.Meaning.{meaning}
 use Rattle.loose_grammar.specs.declared.refusal.TheConstants.{ITEM_LIMIT}
-use Rattle.loose_grammar.specs.Pages.{IsLoosePage, DerivePages}
+use Rattle.loose_grammar.specs.Pages.{IsLoosePage, IsPageGrammar}
 use Rattle.loose_grammar.specs.Refusals.{HasLargeImage}
 use Rattle.dtd_model.specs.Table.{Table}
 use Rattle.page_goals.specs.declared.goal.Goal.{Goal}
@@ -26,14 +25,12 @@ EachIsGood goal table program = (page : List ℕ) → IsLoosePage program page �
 abbrev pub IsCounterexample : Goal → Table → PlainProgram → Derivation → Type 0
 IsCounterexample goal table program derivation = IsBadPage table (IsLoosePage program) goal derivation
 
--- one image has at least so many items: that of an operation of a system that has exactly the loose pages, or that of productions that
--- derive exactly these, under
--- the machine that reads pages
+-- one image has at least so many items: that of an operation of the system that is made of the program, or that of the grammar of loose
+-- pages that is made of it, under the machine that reads pages
 pub data HasManyItems {S : Type 0} (first : S) (steps : S → ℕ → S → List Letter → Type 0) (program : PlainProgram) (count : ℕ) :
     Type 0 where
   by_operation : HasLargeImage program count → HasManyItems first steps program count
-  by_pages : (productions : List Production) (start : nt.Nt) → DerivePages program productions start
-      → HasItems productions steps start first count
+  by_pages : (grammar : Grammar) → IsPageGrammar program grammar → HasItems grammar.productions.items steps grammar.start first count
       → HasManyItems first steps program count
 
 module _ {S : Type 0} (first : S) (steps : S → ℕ → S → List Letter → Type 0) where

@@ -3,7 +3,7 @@
 ghost use Rattle.std.specs.Prelude.{IfOk, IfErr};
 ghost use Rattle.dtd_model.specs.TableOf.{table_of};
 ghost use Rattle.php_program.specs.View.{program_of};
-ghost use Rattle.loose_grammar.specs.Pages.{DerivePages, IsLoosePage};
+ghost use Rattle.loose_grammar.specs.Pages.{IsLoosePage, IsPageGrammar};
 ghost use Rattle.page_decision.specs.Machines.{IsPageMachine};
 ghost use Rattle.page_decision.specs.PageSums.{AreSumsOf};
 ghost use Rattle.page_decision.specs.PageVerdicts.{IsPageVerdict};
@@ -34,8 +34,7 @@ fn verdict_by<M: Machine>(
     sums: &PageSums,
     pairs: u64,
 ) -> Result<Verdict, ImageRefusal>
-    requires grammar { DerivePages (program_of program.now) grammar.now.productions.items
-        grammar.now.start }
+    requires grammar { IsPageGrammar (program_of program.now) grammar.now }
     requires machine { IsPageMachine (table_of dtd.now) (M.first machine.now) (M.steps machine.now)
         (M.ends machine.now) }
     requires sums { AreSumsOf goal (table_of dtd.now) sums.now }
@@ -65,8 +64,7 @@ pub fn answer_by<M: Machine>(
     sums: &PageSums,
     pairs: u64,
 ) -> Result<Answer, NoMemory>
-    requires grammar { DerivePages (program_of program.now) grammar.now.productions.items
-        grammar.now.start }
+    requires grammar { IsPageGrammar (program_of program.now) grammar.now }
     requires machine { IsPageMachine (table_of dtd.now) (M.first machine.now) (M.steps machine.now)
         (M.ends machine.now) }
     requires sums { AreSumsOf goal (table_of dtd.now) sums.now }

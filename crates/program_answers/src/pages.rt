@@ -1,10 +1,11 @@
 //! The pages of a grammar: a broken one is looked for first.
 
-ghost use Rattle.std.specs.Prelude.{IfOk, IfErr, IfSome};
+ghost use Rattle.std.specs.Prelude.{◌≡◌, ℕ, List, false, IfOk, IfErr, IfSome, IfNone};
 ghost use Rattle.cfg_grammar.specs.declared.symbol.Symbol as symbols;
 ghost use Rattle.dtd_model.specs.TableOf.{table_of};
 ghost use Rattle.image_meaning.specs.Outputs.{DerivesText};
 ghost use Rattle.grammar_image.specs.Refusals.{IsCause};
+ghost use Rattle.coarse_reader.specs.Coarse.{is_broken};
 ghost use Rattle.page_decision.specs.Machines.{IsPageMachine};
 ghost use Rattle.page_decision.specs.PageSums.{AreSumsOf};
 ghost use Rattle.page_decision.specs.PageVerdicts.{IsBadPage, IsPageVerdict};
@@ -22,21 +23,24 @@ use page_decision::{PageSums, decide_pages, find_broken};
 use page_goals::Goal;
 use std::alloc::Global;
 use summary_fixpoint::Verdict;
-use text_base::NoMemory;
 
 /// The most different sums of the sentences of a nonterminal by the tokens of the coarse reader: a
 /// sentence has a bad token or none.
 const COARSE_SUMS: u64 = 2;
 
-/// A derivation of a page that is broken, and so good by no goal, if one is found.
+/// A derivation of a page that is broken, and so good by no goal. None comes only where no page is
+/// broken.
 fn find_broken_page(
     alloc: Global,
     grammar: &Grammar,
     dtd: &Dtd,
     goal: Goal,
-) -> Result<Option<Derivation>, NoMemory>
-    ensures { IfOk result (λ found. IfSome found (IsBadPage (table_of dtd.now)
+) -> Result<Option<Derivation>, ImageRefusal>
+    ensures found { IfOk result (λ found. IfSome found (IsBadPage (table_of dtd.now)
         (DerivesText grammar.now.productions.items (symbols.Symbol.Nt grammar.now.start)) goal)) }
+    ensures none { IfOk result (λ found. IfNone found ((page : List ℕ)
+        → DerivesText grammar.now.productions.items (symbols.Symbol.Nt grammar.now.start) page
+        → is_broken page ≡ false)) }
 {
     finds_broken();
     let machine = Echoing {
@@ -69,7 +73,7 @@ pub(crate) fn decide_grammar<M: Machine>(
 {
     match find_broken_page(alloc, grammar, dtd, goal) {
         Ok(Some(derivation)) => Ok(Verdict::No(derivation)),
-        Ok(None) => decide_pages(alloc, grammar, dtd, goal, machine, sums, ITEM_LIMIT, pairs),
-        Err(_) => Err(ImageRefusal::Memory),
+        Err(ImageRefusal::Memory) => Err(ImageRefusal::Memory),
+        _ => decide_pages(alloc, grammar, dtd, goal, machine, sums, ITEM_LIMIT, pairs),
     }
 }

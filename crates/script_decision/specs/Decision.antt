@@ -3,6 +3,7 @@ use Rattle.std.specs.Prelude.{◌<◌, ℕ, ⊤}
 use Rattle.script_meaning.specs.Programs.{PlainProgram}
 use Rattle.program_literals.specs.Short.{HasLongText}
 use Rattle.dtd_model.specs.Table.{Table}
+use Rattle.content_automata.specs.declared.table.TheConstants.{STATE_LIMIT}
 use Rattle.content_automata.specs.Decides.{shapes_in}
 use Rattle.content_automata.specs.Tables.{HasStates}
 use Rattle.page_goals.specs.declared.goal.Goal.{Goal}
@@ -35,7 +36,7 @@ IsAnswerOf goal table program limit (Answer.Items count) = (ITEM_LIMIT < count) 
 
 -- the content models of the definition have over 4,096 states, at least so many
 abbrev pub HasManyStates : Table → ℕ → Type 0
-HasManyStates table count = (4096 < count) × HasStates (shapes_in table) count
+HasManyStates table count = (STATE_LIMIT < count) × HasStates (shapes_in table) count
 
 -- the program is refused, for this reason; want of memory says nothing
 abbrev pub IsCheckRefusal : Table → PlainProgram → CheckRefusal → Type 0

@@ -4,7 +4,7 @@ ghost use Rattle.std.specs.Prelude.{IfOk, IfErr};
 ghost use Rattle.dtd_model.specs.TableOf.{table_of};
 ghost use Rattle.php_program.specs.View.{program_of};
 ghost use Rattle.program_points.specs.Texts.{TextsFit};
-ghost use Rattle.program_answers.specs.Pages.{DerivePages};
+ghost use Rattle.program_answers.specs.Pages.{IsPageGrammar};
 ghost use Rattle.page_decision.specs.PageSums.{AreSumsOf};
 ghost use Rattle.page_echo.specs.Readers.{ReadsPages};
 ghost use Rattle.echoing_machine.specs.Echoes.{EchoStep};
@@ -38,8 +38,7 @@ fn answer_grammar<R: ByteReader + Drop>(
     pairs: u64,
 ) -> Result<Answer, NoMemory>
     requires texts { TextsFit (program_of program.now) }
-    requires grammar { DerivePages (program_of program.now) grammar.now.productions.items
-        grammar.now.start }
+    requires grammar { IsPageGrammar (program_of program.now) grammar.now }
     requires reads { ReadsPages (table_of dtd.now) (R.next reader) (R.puts reader) (R.lasts reader)
         (R.first reader) }
     requires sums { AreSumsOf goal (table_of dtd.now) sums.now }

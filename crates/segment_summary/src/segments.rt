@@ -1,6 +1,7 @@
 //! The type of the summary by segments.
 
 ghost use Rattle.std.specs.Prelude.{◌≡◌, ◌≤◌, length};
+ghost use Rattle.content_automata.specs.declared.table.TheConstants.{STATE_LIMIT};
 ghost use Rattle.content_automata.specs.Decides.{HasOwners};
 
 use content_automata::Contents;
@@ -16,5 +17,5 @@ pub struct Segments {
     pub(crate) is_free: bool,
     ghost owners: { HasOwners (length besides.items) contents },
     ghost firsts: { length contents.0 ≡ length besides.items },
-    ghost few: { length contents.1 ≤ 4096 },
+    ghost few: { length contents.1 ≤ STATE_LIMIT },
 }

@@ -3,6 +3,7 @@
 ghost use Rattle.std.specs.Prelude.{◌≡◌, ◌<◌, ◌≤◌, length, map, IfOk, nat_lt};
 ghost use Rattle.std.specs.List.{range_with_len};
 ghost use Rattle.dtd_model.specs.TableOf.{table_of};
+ghost use Rattle.content_automata.specs.declared.table.TheConstants.{STATE_LIMIT};
 ghost use Rattle.content_automata.specs.Decides.{HasOwners};
 ghost use Rattle.tag_sums.specs.Labels.{child, other};
 ghost use Rattle.tag_sums.specs.Sum.{by_label, by_state};
@@ -23,7 +24,7 @@ impl Segments {
     pub fn new(alloc: Global, contents: Contents, dtd: &Dtd) -> Result<Segments, NoMemory>
         requires owners { HasOwners (length (table_of dtd.now).elements) contents }
         requires firsts { length contents.0 ≡ length (table_of dtd.now).elements }
-        requires few { length contents.1 ≤ 4096 }
+        requires few { length contents.1 ≤ STATE_LIMIT }
         ensures { IfOk result (λ s. parts_in s ≡ parts_of (table_of dtd.now) contents) }
     {
         let besides = besides_of_all(alloc, dtd.elements.as_slice())?;

@@ -1,3 +1,4 @@
 pub mod EchoLemmas
 pub mod ByteLemmas
 pub mod AlongLemmas
+pub mod FoundLemmas

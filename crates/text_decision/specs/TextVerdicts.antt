@@ -1,5 +1,5 @@
 -- What an answer says of texts, by a summary of their tokens.
-use Rattle.std.specs.Prelude.{◌≡◌, ℕ, ◌<◌, Bool, true, false, List}
+use Rattle.std.specs.Prelude.{◌≡◌, ℕ, ◌<◌, Bool, true, false, List, Option, Some, None}
 use Rattle.text_base.specs.declared.letter.Letter.{Letter}
 use Rattle.text_base.specs.declared.page_token.PageToken.{PageToken}
 use Rattle.text_base.specs.declared.numbers.Nt as nt
@@ -65,3 +65,16 @@ module _ (IsText : List ℕ → Type 0) (HasTokens : List ℕ → List PageToken
   IsTextVerdict tags limit (No derivation) = IsNotWhole derivation
   IsTextVerdict tags limit (Pairs count height) = HasManySums limit count height
   IsTextVerdict tags limit (Tags count height) = HasManyTags tags count height
+
+  -- why no text that is not whole is found: each text is whole, or a limit is passed
+  pub data NoneFound (tags : S → ℕ) (limit : ℕ) : Type 0 where
+    are_whole : ((text : List ℕ) → IsText text → HasSum text true) → NoneFound tags limit
+    many_sums : (count height : ℕ) → HasManySums limit count height → NoneFound tags limit
+    many_tags : (count height : ℕ) → HasManyTags tags count height → NoneFound tags limit
+
+-- the derivation that a verdict has
+abbrev pub found_of : Verdict → Option Derivation
+found_of Yes = None
+found_of (No derivation) = Some derivation
+found_of (Pairs count height) = None
+found_of (Tags count height) = None

@@ -1,11 +1,11 @@
 //! The decision.
 
-ghost use Rattle.std.specs.Prelude.{IfOk, IfErr, IfSome};
+ghost use Rattle.std.specs.Prelude.{◌≡◌, IfOk, IfErr, IfSome, IfNone};
 ghost use Rattle.cfg_grammar.specs.declared.symbol.Symbol as symbols;
 ghost use Rattle.image_meaning.specs.Outputs.{DerivesText};
 ghost use Rattle.grammar_image.specs.Refusals.{IsCause};
 ghost use Rattle.text_decision.specs.Echoes.{EchoTexts, IsEchoing, PutsTokens};
-ghost use Rattle.text_decision.specs.TextVerdicts.{IsNotWhole, IsTextVerdict};
+ghost use Rattle.text_decision.specs.TextVerdicts.{IsNotWhole, IsTextVerdict, NoneFound, found_of};
 
 use crate::bytes::texts_fit;
 use cfg_grammar::Grammar;
@@ -16,7 +16,6 @@ use grammar_image::{ImageRefusal, image};
 use std::alloc::Global;
 use summary_fixpoint::Verdict;
 use tag_sums::Summary;
-use text_base::NoMemory;
 
 /// A grammar that derives the texts of another, with the tokens of the machine between their bytes.
 fn echo<M: Machine>(
@@ -73,12 +72,25 @@ pub fn decide_texts<M: Machine, S: Summary>(
     }
 }
 
+/// The derivation that a verdict has.
+fn found_in(verdict: Verdict) -> Option<Derivation>
+    ensures { result ≡ found_of verdict }
+{
+    match verdict {
+        Verdict::Yes => None,
+        Verdict::No(derivation) => Some(derivation),
+        Verdict::Pairs { .. } => None,
+        Verdict::Tags { .. } => None,
+    }
+}
+
 /// A derivation of a text that is not whole by the machine and the summary, if one is found. None
-/// says nothing, and comes also where a limit is passed.
+/// only where each text is whole, or a limit is passed.
 ///
 /// # Errors
 ///
-/// Want of memory.
+/// `Large` only where the image has at least so many items, over `items`. `Memory` may come at any
+/// time.
 pub fn find_wrong<M: Machine, S: Summary>(
     alloc: Global,
     grammar: &Grammar,
@@ -86,17 +98,22 @@ pub fn find_wrong<M: Machine, S: Summary>(
     summary: &S,
     items: u64,
     pairs: u64,
-) -> Result<Option<Derivation>, NoMemory>
+) -> Result<Option<Derivation>, ImageRefusal>
     requires { IsEchoing (M.first machine.now) (M.steps machine.now) (M.ends machine.now) }
-    ensures { IfOk result (λ found. IfSome found (IsNotWhole
+    ensures found { IfOk result (λ found. IfSome found (IsNotWhole
         (DerivesText grammar.now.productions.items (symbols.Symbol.Nt grammar.now.start))
         (PutsTokens (M.first machine.now) (M.steps machine.now) (M.ends machine.now))
         (S.sum_of summary.now) (S.is_whole summary.now))) }
+    ensures none { IfOk result (λ found. IfNone found (NoneFound
+        (DerivesText grammar.now.productions.items (symbols.Symbol.Nt grammar.now.start))
+        (PutsTokens (M.first machine.now) (M.steps machine.now) (M.ends machine.now))
+        (S.sum_of summary.now) (S.is_whole summary.now) (S.tag_count summary.now) pairs)) }
+    ensures cause { IfErr result
+        (IsCause grammar.now.productions.items (M.steps machine.now) grammar.now.start
+        (M.first machine.now) items) }
 {
     match decide_texts(alloc, grammar, machine, summary, items, pairs) {
-        Ok(Verdict::No(derivation)) => Ok(Some(derivation)),
-        Ok(_) => Ok(None),
-        Err(ImageRefusal::Large { .. }) => Ok(None),
-        Err(ImageRefusal::Memory) => Err(NoMemory),
+        Ok(verdict) => Ok(found_in(verdict)),
+        Err(refusal) => Err(refusal),
     }
 }
