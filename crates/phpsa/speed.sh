@@ -38,6 +38,9 @@ made() { "$program" make "$1"; }
 # seconds WORDS..: the processor seconds of a run, whatever its answer
 seconds() { local TIMEFORMAT='%U %S'; { time "$program" "$@" >out 2>err; } 2>&1 | awk '{ printf "%.2f", $1 + $2 }'; }
 
+# megabytes WORDS..: the most memory of a run, in megabytes, where GNU time is there to tell it
+megabytes() { /usr/bin/time -f %M "$program" "$@" 2>&1 >out | awk 'END { if ($1 > 0) printf "%d", $1 / 1024; else printf "?" }'; }
+
 # row KIND SIZE: the seconds for the size and for its double, and their ratio
 row() {
   "$1" "$2" >one.php
@@ -54,12 +57,14 @@ row made 500
 row branches 500
 row loops 250
 row escaped 500
+row escaped 5000
 row members 100
 row variables 40
 row calls 125
 row text 262144
 
-text 1000000 >page.php
+text 1048000 >page.php
 page=$(seconds page page.php)
 check=$(seconds check page.php)
-awk -v page="$page" -v check="$check" 'BEGIN { printf "a page of 1,000,000 bytes: page %.2f s, check %.2f s, ratio %.1f\n", page, check, check / (page > 0 ? page : 0.01) }'
+awk -v page="$page" -v check="$check" -v most="$(megabytes check page.php)" \
+  'BEGIN { printf "a page of some 1 MiB: page %.2f s, check %.2f s and %s MB, ratio %.1f\n", page, check, most, check / (page > 0 ? page : 0.01) }'

@@ -76,3 +76,27 @@ pub fn run_by(
     }
     run_over(alloc, words, held, outside)
 }
+
+/// Whether the words, one behind each space, end with this status and these outputs, where the file
+/// `t.php` has this text.
+pub fn ends_with(
+    alloc: Global,
+    text: &str,
+    script: &str,
+    outside: Outside,
+    wanted: (Exit, &str, &str),
+) -> Result<bool, Fail> {
+    let mut words = Vec::new(alloc);
+    for word in text.split(' ') {
+        if !word.is_empty() {
+            words.push(word)?;
+        }
+    }
+    let ending = run(alloc, words.as_slice(), script.as_bytes(), outside)?;
+    let (exit, out, err) = wanted;
+    Ok(
+        ending.exit == exit
+            && ending.out.written() == out.as_bytes()
+            && ending.err.written() == err.as_bytes(),
+    )
+}

@@ -4,6 +4,8 @@
 #![tactic(auto)]
 
 #[cfg(test)]
+mod asked;
+#[cfg(test)]
 mod decided;
 #[cfg(test)]
 mod definitions;
@@ -13,6 +15,8 @@ mod ending;
 mod grammars;
 #[cfg(test)]
 mod hostile;
+#[cfg(test)]
+mod passed;
 #[cfg(test)]
 mod programs;
 #[cfg(test)]

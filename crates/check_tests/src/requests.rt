@@ -47,6 +47,58 @@ fn a_usual_page(rt: HostRuntime) -> Result<(), Fail> {
     Ok(())
 }
 
+// What PHP 8.2 prints, where the five arrays are those of the request, in byte order of their names.
+#[test]
+fn each_array_of_a_request(rt: HostRuntime) -> Result<(), Fail> {
+    let rows =
+        r#"<?php echo $_GET['a'], $_POST['a'], $_COOKIE['a'], $_REQUEST['a'], $_SERVER['a']; <= {"get":{"a":"1"},"post":{"a":"2"},"cookie":{"a":"3"},"request":{"a":"4"},"server":{"a":"5"}} => 12345
+<?php function f() { return $_POST['a']['b'][1]; } echo f(); <= {"post":{"a":{"b":["x","y"]}}} => y
+<?php foreach ($_COOKIE as $k => $v) { echo $k, '=', $v, ';'; } <= {"cookie":{"b":"1","a":"2","10":"3","9":"4"}} => 10=3;9=4;a=2;b=1;
+<?php foreach ($_REQUEST as $k => $v) { echo $k === 7 ? 'i' : 's', count($v); } <= {"request":{"7":["x"],"07":["y","z"]}} => s2i1
+<?php echo $_SERVER['REQUEST_METHOD'] ?? 'none', isset($_SERVER['HTTPS']) ? 's' : 'u'; <= {"server":{"REQUEST_METHOD":"GET"}} => GETu
+<?php echo $_SERVER['REQUEST_METHOD'] ?? 'none'; <= {"post":{"REQUEST_METHOD":"GET"}} => none
+<?php $p = $_POST; $p['a'] = 'y'; echo $p['a'], $_POST['a'], count($_COOKIE); <= {"post":{"a":"x"}} => yx0
+<?php if ($_SERVER['REQUEST_METHOD'] === 'POST' && isset($_POST['name'])) { echo htmlspecialchars($_POST['name']); } <= {"post":{"name":"<é>"},"server":{"REQUEST_METHOD":"POST"}} => &lt;é&gt;
+<?php echo implode(',', $_POST['tags']); <= {"post":{"tags":["a","b","c"]}} => a,b,c"#;
+    for row in rows.lines() {
+        let (call, out) = row.rsplit_once(" => ").ok_or("a row")?;
+        let (script, request) = call.rsplit_once(" <= ").ok_or("a row")?;
+        let ending = run_for(rt.alloc(), script, request, &[], QUIET)?;
+        assert_eq!(rt; ending.exit, Exit::Done, "{row}");
+        assert_eq!(rt; ending.out.written(), out.as_bytes(), "{row}");
+        assert!(rt; ending.err.written().is_empty(), "{row}");
+    }
+    Ok(())
+}
+
+// Nothing is run for a file that holds no request, however little of its cause the error stream
+// takes.
+#[test]
+fn every_room_for_a_cause(rt: HostRuntime) -> Result<(), Fail> {
+    let text = "phpsa: NotAdmitted get.q\n";
+    for room in 0..=text.len() {
+        let narrow = Outside {
+            err: Some(room as u64),
+            ..QUIET
+        };
+        let exit = if room < text.len() {
+            Exit::WriteFault
+        } else {
+            Exit::Input
+        };
+        let request = "{\"get\":{\"q\":\"\\u0000\"}}";
+        let ending = run_for(rt.alloc(), "<?php echo 'a';", request, &[], narrow)?;
+        assert_eq!(rt; ending.exit, exit, "room {room}");
+        assert!(rt; ending.out.written().is_empty(), "room {room}");
+        assert_eq!(rt;
+            ending.err.written(),
+            &text.as_bytes()[..room],
+            "room {room}"
+        );
+    }
+    Ok(())
+}
+
 #[test]
 fn files_that_hold_no_request(rt: HostRuntime) -> Result<(), Fail> {
     for (request, err) in [

@@ -1,29 +1,9 @@
 // Scripts that are run: what they print, how they end, and outputs of every room.
-use crate::ending::{Outside, QUIET, run};
+use crate::ending::{Outside, QUIET, ends_with, run};
+use crate::worked::whole;
 use phpsa_main::Exit;
 use std::alloc::Global;
 use std::test::Fail;
-
-// Whether the words, one behind each space, end so where the file `t.php` has this text.
-fn ends_so(
-    alloc: Global,
-    text: &str,
-    script: &str,
-    outside: Outside,
-    wanted: (Exit, &str, &str),
-) -> Result<bool, Fail> {
-    let mut words = Vec::new(alloc);
-    for word in text.split(' ') {
-        words.push(word)?;
-    }
-    let ending = run(alloc, words.as_slice(), script.as_bytes(), outside)?;
-    let (exit, out, err) = wanted;
-    Ok(
-        ending.exit == exit
-            && ending.out.written() == out.as_bytes()
-            && ending.err.written() == err.as_bytes(),
-    )
-}
 
 // What PHP 8.2 prints.
 #[test]
@@ -42,7 +22,7 @@ fn scripts_that_come_to_their_end(rt: HostRuntime) -> Result<(), Fail> {
 <?php echo 'a' ?>b => ab"#;
     for row in rows.lines() {
         let (script, out) = row.rsplit_once(" => ").ok_or("a row")?;
-        let is_so = ends_so(
+        let is_so = ends_with(
             rt.alloc(),
             "run t.php",
             script,
@@ -51,6 +31,20 @@ fn scripts_that_come_to_their_end(rt: HostRuntime) -> Result<(), Fail> {
         )?;
         assert!(rt; is_so, "{row}");
     }
+    Ok(())
+}
+
+// The page that is checked by XHTML 1.0 Strict is what is printed.
+#[test]
+fn a_whole_page(rt: HostRuntime) -> Result<(), Fail> {
+    let alloc = rt.alloc();
+    let script = whole(alloc, "<p><?php echo array(1); ?></p>")?;
+    let page = whole(alloc, "<p>Array</p>")?;
+    let ending = run(alloc, &["run", "t.php"], script.as_slice(), QUIET)?;
+    assert_eq!(rt; ending.exit, Exit::Done);
+    assert_eq!(rt; ending.out.written(), page.as_slice());
+    let judged = run(alloc, &["page", "t.php"], page.as_slice(), QUIET)?;
+    assert_eq!(rt; judged.out.written(), b"valid\n".as_slice());
     Ok(())
 }
 
@@ -70,7 +64,7 @@ fn every_fault(rt: HostRuntime) -> Result<(), Fail> {
         let (script, fault) = row.rsplit_once(" => ").ok_or("a row")?;
         let err = format!(in rt.alloc(); "phpsa: Fault {fault}\n")?;
         let wanted = (Exit::Fault, "", err.as_str());
-        let is_so = ends_so(rt.alloc(), "run t.php", script, QUIET, wanted)?;
+        let is_so = ends_with(rt.alloc(), "run t.php", script, QUIET, wanted)?;
         assert!(rt; is_so, "{row}");
     }
     Ok(())
@@ -124,7 +118,7 @@ fn scripts_that_do_not(rt: HostRuntime) -> Result<(), Fail> {
             "phpsa: Deep 256\n",
         ),
     ] {
-        let is_so = ends_so(rt.alloc(), words, script, QUIET, (exit, out, err))?;
+        let is_so = ends_with(rt.alloc(), words, script, QUIET, (exit, out, err))?;
         assert!(rt; is_so, "{words} {script}");
     }
     Ok(())
@@ -170,7 +164,7 @@ fn what_is_not_run(rt: HostRuntime) -> Result<(), Fail> {
             "phpsa: UnknownFunction g\n",
         ),
     ] {
-        let is_so = ends_so(rt.alloc(), words, script, QUIET, (exit, "", err))?;
+        let is_so = ends_with(rt.alloc(), words, script, QUIET, (exit, "", err))?;
         assert!(rt; is_so, "{words} {script}");
     }
     Ok(())
@@ -192,7 +186,7 @@ fn open_brackets(rt: HostRuntime) -> Result<(), Fail> {
             script.push(')')?;
         }
         script.push(';')?;
-        let is_so = ends_so(
+        let is_so = ends_with(
             rt.alloc(),
             "run t.php",
             script.as_str(),
@@ -232,6 +226,53 @@ fn every_room_of_err(rt: HostRuntime) -> Result<(), Fail> {
             &text.as_bytes()[..room],
             "room {room}"
         );
+    }
+    Ok(())
+}
+
+// What an output with this room takes of a text.
+fn taken(text: &str, room: usize) -> &[u8] {
+    let bytes = text.as_bytes();
+    if room < bytes.len() {
+        &bytes[..room]
+    } else {
+        bytes
+    }
+}
+
+// Whether a run that prints `abc` and meets a fault ends as outputs with these rooms ask: the error
+// stream takes why the run does not come to its end, or, where the output took less than was
+// printed, that.
+fn ends_by_rooms(alloc: Global, room: usize, err_room: usize, fault: &str) -> Result<bool, Fail> {
+    let narrow = Outside {
+        out: Some(room as u64),
+        err: Some(err_room as u64),
+        ..QUIET
+    };
+    let script = b"<?php echo 'abc', 1 % 0;";
+    let ending = run(alloc, &["run", "t.php"], script, narrow)?;
+    let (told, exit) = if room < 3 {
+        ("phpsa: WriteFault\n", Exit::WriteFault)
+    } else if err_room < fault.len() {
+        (fault, Exit::WriteFault)
+    } else {
+        (fault, Exit::Fault)
+    };
+    Ok(
+        ending.exit == exit
+            && ending.out.written() == taken("abc", room)
+            && ending.err.written() == taken(told, err_room),
+    )
+}
+
+#[test]
+fn every_room_of_both(rt: HostRuntime) -> Result<(), Fail> {
+    let fault = "phpsa: Fault 7 ZeroDivisor\n";
+    for room in 0..=3 {
+        for err_room in 0..=fault.len() {
+            let is_so = ends_by_rooms(rt.alloc(), room, err_room, fault)?;
+            assert!(rt; is_so, "rooms {room} and {err_room}");
+        }
     }
     Ok(())
 }

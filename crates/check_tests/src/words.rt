@@ -1,7 +1,6 @@
 // Words: their order, both forms of options, `--`, and what asks for nothing.
-use crate::ending::{Outside, QUIET, run};
+use crate::ending::{Outside, QUIET, ends_with, run};
 use phpsa_main::Exit;
-use std::alloc::Global;
 use std::test::Fail;
 
 /// A script whose pages are valid by the smallest document type, and which is such a page itself.
@@ -25,29 +24,6 @@ const FAILING: Outside = Outside {
     ..QUIET
 };
 
-/// Whether the words, one behind each space, end so where the file `t.php` has these bytes.
-fn ends_so(
-    alloc: Global,
-    text: &str,
-    script: &str,
-    outside: Outside,
-    wanted: (Exit, &str, &str),
-) -> Result<bool, Fail> {
-    let mut words = Vec::new(alloc);
-    for word in text.split(' ') {
-        if !word.is_empty() {
-            words.push(word)?;
-        }
-    }
-    let ending = run(alloc, words.as_slice(), script.as_bytes(), outside)?;
-    let (exit, out, err) = wanted;
-    Ok(
-        ending.exit == exit
-            && ending.out.written() == out.as_bytes()
-            && ending.err.written() == err.as_bytes(),
-    )
-}
-
 #[test]
 fn every_order_is_taken(rt: HostRuntime) -> Result<(), Fail> {
     for (words, out) in [
@@ -67,7 +43,7 @@ fn every_order_is_taken(rt: HostRuntime) -> Result<(), Fail> {
         ("page --dtd=mini t.php", "valid\n"),
         ("page --dtd mini -- t.php", "valid\n"),
     ] {
-        let is_so = ends_so(rt.alloc(), words, CLOSED, QUIET, (Exit::Done, out, ""))?;
+        let is_so = ends_with(rt.alloc(), words, CLOSED, QUIET, (Exit::Done, out, ""))?;
         assert!(rt; is_so, "{words}");
     }
     Ok(())
@@ -83,7 +59,7 @@ fn answers_as_json(rt: HostRuntime) -> Result<(), Fail> {
             "{\"answer\":\"no\",\"length\":0,\"page\":\"\"}\n",
         ),
     ] {
-        let is_so = ends_so(rt.alloc(), words, script, QUIET, (Exit::No, out, ""))?;
+        let is_so = ends_with(rt.alloc(), words, script, QUIET, (Exit::No, out, ""))?;
         assert!(rt; is_so, "{words}");
     }
     Ok(())
@@ -99,7 +75,7 @@ fn runs_and_grammars_are_taken(rt: HostRuntime) -> Result<(), Fail> {
         "grammar -- t.php",
     ] {
         let fault = (Exit::ReadFault, "", "phpsa: ReadFault t.php\n");
-        let is_so = ends_so(rt.alloc(), words, CLOSED, FAILING, fault)?;
+        let is_so = ends_with(rt.alloc(), words, CLOSED, FAILING, fault)?;
         assert!(rt; is_so, "{words}");
     }
     Ok(())
@@ -121,7 +97,7 @@ fn scripts_are_made(rt: HostRuntime) -> Result<(), Fail> {
         ("make 99999999", "phpsa: Size 99999999\n"),
         ("make --check 1001", "phpsa: Size 1001\n"),
     ] {
-        let is_so = ends_so(alloc, words, "", FAILING, (Exit::Input, "", err))?;
+        let is_so = ends_with(alloc, words, "", FAILING, (Exit::Input, "", err))?;
         assert!(rt; is_so, "{words}");
     }
     Ok(())
@@ -134,7 +110,7 @@ fn a_made_script_is_cut(rt: HostRuntime) -> Result<(), Fail> {
         ..QUIET
     };
     let wanted = (Exit::WriteFault, "<?php", "phpsa: WriteFault\n");
-    let is_so = ends_so(rt.alloc(), "make 1", "", narrow, wanted)?;
+    let is_so = ends_with(rt.alloc(), "make 1", "", narrow, wanted)?;
     assert!(rt; is_so);
     Ok(())
 }
@@ -206,7 +182,7 @@ help check
 #[test]
 fn words_that_ask_for_nothing(rt: HostRuntime) -> Result<(), Fail> {
     for words in NONE.split('\n') {
-        let is_so = ends_so(rt.alloc(), words, CLOSED, FAILING, (Exit::Usage, "", USAGE))?;
+        let is_so = ends_with(rt.alloc(), words, CLOSED, FAILING, (Exit::Usage, "", USAGE))?;
         assert!(rt; is_so, "{words}");
     }
     Ok(())
