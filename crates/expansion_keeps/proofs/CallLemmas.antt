@@ -4,8 +4,8 @@ use Rattle.std.specs.Prelude.{bytes_eq}
 use Rattle.std.specs.List.{Contains}
 use Rattle.std.proofs.lemmas.List.Elements.{Contains-append_cases, Contains-append_left, Contains-append_right}
 use Rattle.php_syntax.specs.Trees.{PlainStmt, inline_stmt, echo_stmt, run_stmt, if_stmt, while_stmt, do_while_stmt, for_stmt, each_stmt, break_stmt, continue_stmt, return_stmt, include_stmt, quit_stmt, PlainStmts, no_stmts, more_stmts, PlainArms, no_arms, more_arms, PlainFunction}
-use Rattle.program_expressions.specs.Collected.{collected_of, bodies_collected}
-use Rattle.program_rules.specs.Calls.{PlainCall, calls_in, maybe_calls, part_calls, calls_of, statement_calls, arm_calls, function_calls, calls_of_program}
+use Rattle.program_expressions.specs.Collected.{key_collected, collected_of, bodies_collected}
+use Rattle.program_rules.specs.Calls.{PlainCall, own_call, calls_in, maybe_calls, part_calls, calls_of, statement_calls, arm_calls, function_calls, calls_of_program}
 use Rattle.program_rules.specs.Expansion.{followed_by, with_bodies, with_bodies_in, with_bodies_in_arms}
 use Rattle.program_rules.specs.Programs.{ReadFile, functions_in}
 use Rattle.expansion_laws.specs.Within.{tree_named, bodies_within, with_body, program_within}
@@ -40,7 +40,7 @@ unfolding collected_of
 alone s L f = sub_both (calls_of s) [] L f (sub_none L)
 
 mutual
-  unfolding collected_of with_bodies
+  unfolding collected_of own_call with_bodies
 
   in_stmts : (L : List PlainCall) (bodies : List ℕ → PlainStmts) → ((path : List ℕ) → Sub (statement_calls (bodies path)) L) → (ss : PlainStmts) → Sub (statement_calls ss) L → Sub (statement_calls (with_bodies bodies ss)) L
   in_stmts L bodies h no_stmts f = sub_none L
@@ -65,8 +65,12 @@ mutual
       (sub_both (part_calls begin) (maybe_calls e ++ (part_calls next ++ statement_calls (with_bodies bodies ss))) L (sub_left (part_calls begin) (maybe_calls e ++ (part_calls next ++ statement_calls ss)) L f)
       (sub_both (maybe_calls e) (part_calls next ++ statement_calls (with_bodies bodies ss)) L (sub_left (maybe_calls e) (part_calls next ++ statement_calls ss) L rest)
       (sub_both (part_calls next) (statement_calls (with_bodies bodies ss)) L (sub_left (part_calls next) (statement_calls ss) L last) (in_stmts L bodies h ss (sub_right (part_calls next) (statement_calls ss) L last)))))
-  in_stmt L bodies h (each_stmt e k x ss) f = alone (each_stmt e k x (with_bodies bodies ss)) L
-      (sub_both (calls_in e) (statement_calls (with_bodies bodies ss)) L (sub_left (calls_in e) (statement_calls ss) L f) (in_stmts L bodies h ss (sub_right (calls_in e) (statement_calls ss) L f)))
+  in_stmt L bodies h (each_stmt e k x ss) f =
+      let key : List PlainCall = key_collected own_call k in
+      let rest = sub_right (calls_in e) (key ++ statement_calls ss) L f in
+      alone (each_stmt e k x (with_bodies bodies ss)) L
+      (sub_both (calls_in e) (key ++ statement_calls (with_bodies bodies ss)) L (sub_left (calls_in e) (key ++ statement_calls ss) L f)
+      (sub_both key (statement_calls (with_bodies bodies ss)) L (sub_left key (statement_calls ss) L rest) (in_stmts L bodies h ss (sub_right key (statement_calls ss) L rest))))
   in_stmt L bodies h break_stmt f = alone break_stmt L f
   in_stmt L bodies h continue_stmt f = alone continue_stmt L f
   in_stmt L bodies h (return_stmt e) f = alone (return_stmt e) L f

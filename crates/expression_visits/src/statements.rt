@@ -3,11 +3,12 @@
 ghost use Rattle.std.specs.Prelude.{◌≡◌, ◌++◌, OnOk};
 ghost use Rattle.std.specs.List.{fold};
 ghost use Rattle.php_syntax.specs.Trees.{plain_expr, plain_stmt, stmts_of, arms_of, exprs_of, maybe_of, params_of_list, functions_of_list};
-ghost use Rattle.program_expressions.specs.Collected.{itself, collected, maybe_collected, part_collected, collected_of, stmts_collected, arms_collected, bodies_collected, defaults_collected, functions_collected};
+ghost use Rattle.program_expressions.specs.Collected.{itself, collected, maybe_collected, part_collected, key_collected, collected_of, stmts_collected, arms_collected, bodies_collected, defaults_collected, functions_collected};
 
 use crate::expressions::{visit_expr, visit_exprs, visit_maybe};
 use crate::visitor::Visitor;
 use php_syntax::tree::{Expr, FunctionDef, Param, Stmt};
+use text_base::Bytes;
 
 /// The expressions of statements, in their order.
 #[cycle(statements)]
@@ -53,6 +54,18 @@ fn visit_head<V: Visitor>(
     visit_exprs(visitor, next)
 }
 
+// The variable for the keys of a `foreach`, if it has one.
+#[tactic(auto, using(crate::proofs::FoldLemmas::ends))]
+fn visit_key<V: Visitor>(visitor: &mut V, key: &Option<Bytes>) -> Result<(), V::Stop>
+    ensures { OnOk result (V.state visitor.new ≡ fold V.next (V.state visitor.old)
+        (key_collected itself key.now)) }
+{
+    match key {
+        Some(name) => visitor.visit_variable(name),
+        None => Ok(()),
+    }
+}
+
 // Of a statement.
 #[cycle(statements)]
 #[tactic(auto, using(php_syntax::proofs::Views::views, crate::proofs::FoldLemmas::ends), unfolding(program_expressions::specs::Collected::collected_of))]
@@ -79,8 +92,10 @@ fn visit_stmt<V: Visitor>(visitor: &mut V, stmt: &Stmt) -> Result<(), V::Stop>
             visit_head(visitor, begin.as_slice(), test, next.as_slice())?;
             visit_stmts(visitor, body.as_slice())
         }
-        Stmt::Each(array, _, _, body) => {
+        Stmt::Each(array, key, value, body) => {
             visit_expr(visitor, array)?;
+            visit_key(visitor, key)?;
+            visitor.visit_variable(value)?;
             visit_stmts(visitor, body.as_slice())
         }
         Stmt::Return(value) => visit_maybe(visitor, value),

@@ -1,11 +1,12 @@
 //! What a visitor is.
 
 ghost use Rattle.std.specs.Prelude.{◌≡◌, OnOk};
-ghost use Rattle.php_syntax.specs.Trees.{PlainExpr, plain_expr};
+ghost use Rattle.php_syntax.specs.Trees.{PlainExpr, var_expr, plain_expr};
 
 use php_syntax::tree::Expr;
+use text_base::Bytes;
 
-/// Is handed expressions, one after the other.
+/// Is handed expressions, and the variables that a `foreach` sets, one after the other.
 pub trait Visitor {
     /// Why it may stop.
     type Stop;
@@ -22,4 +23,8 @@ pub trait Visitor {
     /// Takes what it wants of an expression itself, and nothing of its parts.
     fn visit(&mut self, expr: &Expr) -> Result<(), Self::Stop>
         ensures { OnOk result (state self.new ≡ next (state self.old) (plain_expr expr.now)) };
+
+    /// Takes what it wants of a variable that a `foreach` sets: of its key or its value.
+    fn visit_variable(&mut self, name: &Bytes) -> Result<(), Self::Stop>
+        ensures { OnOk result (state self.new ≡ next (state self.old) (var_expr name.now)) };
 }

@@ -1,8 +1,7 @@
--- The variables of a function: the names that stand in its parameters and its body, each once, in the order in which they are first met
--- where loops are read as they run: what stands behind each turn of a `for` after its body.
-use Rattle.std.specs.Prelude.{ℕ, suc, List, [], ◌∷◌, ◌++◌, Option, Some, None, if◌then◌else◌, bytes_eq, map}
-use Rattle.php_syntax.specs.Trees.{PlainExpr, var_expr, assign_expr, update_expr, step_expr, MaybeExpr, PlainExprs, PlainItems, PlainPath, PlainStmt, inline_stmt, echo_stmt, run_stmt, if_stmt, while_stmt, do_while_stmt, for_stmt, each_stmt, break_stmt, continue_stmt, return_stmt, include_stmt, quit_stmt, PlainStmts, no_stmts, more_stmts, PlainArms, no_arms, more_arms, PlainParam, PlainFunction}
-use Rattle.program_expressions.specs.Collected.{collected, maybe_collected, part_collected, item_collected, path_collected}
+-- The variables of a function: the names that stand in its parameters and its body, each once, in the order in which they first stand.
+use Rattle.std.specs.Prelude.{ℕ, suc, List, [], ◌∷◌, ◌++◌, Option, if◌then◌else◌, bytes_eq, map}
+use Rattle.php_syntax.specs.Trees.{PlainExpr, var_expr, assign_expr, update_expr, step_expr, MaybeExpr, PlainExprs, PlainItems, PlainPath, PlainStmt, PlainStmts, PlainArms, PlainParam, PlainFunction}
+use Rattle.program_expressions.specs.Collected.{collected, maybe_collected, part_collected, item_collected, path_collected, key_collected, collected_of, stmts_collected, arms_collected}
 
 -- a variable's name
 abbrev pub Name : Type 0
@@ -38,37 +37,19 @@ path_names ks = path_collected own_names ks
 
 -- the variable of the key of a `foreach`, if it has one
 abbrev pub key_names : Option Name → List Name
-key_names None = []
-key_names (Some x) = x ∷ []
+key_names key = key_collected own_names key
 
-unfoldable mutual
-  unfolding collected own_names
+-- the variables that stand in a statement, in the order of its parts
+abbrev pub names_of_stmt : PlainStmt → List Name
+names_of_stmt s = collected_of own_names s
 
-  -- the variables that stand in a statement, in the order of a run that goes through each of its parts once
-  pub names_of_stmt : PlainStmt → List Name
-  names_of_stmt (inline_stmt bytes) = []
-  names_of_stmt (echo_stmt es) = names_in_all es
-  names_of_stmt (run_stmt e) = names_in e
-  names_of_stmt (if_stmt arms otherwise) = names_of_arms arms ++ names_of otherwise
-  names_of_stmt (while_stmt e body) = names_in e ++ names_of body
-  names_of_stmt (do_while_stmt body e) = names_of body ++ names_in e
-  names_of_stmt (for_stmt begin e next body) = names_in_all begin ++ (maybe_names e ++ (names_of body ++ names_in_all next))
-  names_of_stmt (each_stmt e key x body) = names_in e ++ (key_names key ++ x ∷ names_of body)
-  names_of_stmt break_stmt = []
-  names_of_stmt continue_stmt = []
-  names_of_stmt (return_stmt e) = maybe_names e
-  names_of_stmt (include_stmt path) = []
-  names_of_stmt (quit_stmt e) = maybe_names e
+-- the variables in statements, in their order
+abbrev pub names_of : PlainStmts → List Name
+names_of ss = stmts_collected own_names ss
 
-  -- the variables in statements, in their order
-  pub names_of : PlainStmts → List Name
-  names_of no_stmts = []
-  names_of (more_stmts s ss) = names_of_stmt s ++ names_of ss
-
-  -- the variables in the arms of an `if`: in each those of its condition and then those of its body
-  pub names_of_arms : PlainArms → List Name
-  names_of_arms no_arms = []
-  names_of_arms (more_arms e body arms) = names_in e ++ (names_of body ++ names_of_arms arms)
+-- the variables in the arms of an `if`: in each those of its condition and then those of its body
+abbrev pub names_of_arms : PlainArms → List Name
+names_of_arms arms = arms_collected own_names arms
 
 -- the names in their order, with this one left out wherever it stands
 unfoldable pub without : Name → List Name → List Name

@@ -4,7 +4,7 @@ use Rattle.std.proofs.lemmas.List.Elements.{All-from_recursion}
 use Rattle.php_syntax.specs.Trees.{MaybeExpr, no_expr, some_expr, PlainExprs, no_exprs, more_exprs, PlainStmt, inline_stmt, echo_stmt, run_stmt, if_stmt, while_stmt, do_while_stmt, for_stmt, each_stmt, break_stmt, continue_stmt, return_stmt, include_stmt, quit_stmt, PlainStmts, no_stmts, more_stmts, PlainArms, no_arms, more_arms}
 use Rattle.plain_values.specs.Plain.{null}
 use Rattle.flow_code.specs.Points.{PlainPoint, print_point, echo_point, jump_point, begin_point, next_point, key_point, value_point, return_point, quit_point, PlainFlowFunction}
-use Rattle.program_expressions.specs.Collected.{collected}
+use Rattle.program_expressions.specs.Collected.{collected, collected_of}
 use Rattle.flow_code.specs.Variables.{Name, own_names, names_in, maybe_names, names_in_all, key_names, names_of_stmt, names_of, names_of_arms}
 use Rattle.flow_code.specs.Code.{Code, no_code, Targets, Block, no_block, ◌before◌, run_code, ending}
 use Rattle.flow_code.specs.Expressions.{Scope, variable}
@@ -67,6 +67,7 @@ record TestFits (fs : List PlainFlowFunction) (g : PlainFlowFunction) (w : Scope
   fits : (stop p t : ℕ) → IsOwnPoint g stop → g.first_point_of ≤ p → p + b.size < last_point g → free w ≤ t → t + b.slots ≤ last_slot g → AllFit fs g (b.points stop p t)
 
 pairs_fit : (fs : List PlainFlowFunction) (g : PlainFlowFunction) (w : Scope) → Lies g w → (key : Option Name) (x : Name) (walk p : ℕ) → HasAll w.names (key_names key) → Has w.names x → IsOwnSlot g walk → IsOwnPoint g (p + 1) → ((key' : Name) → key ≡ Some key' → IsOwnPoint g (p + 2)) → AllFit fs g (pair_points (key_variable w key) (variable w x) walk p)
+unfolding own_names
 pairs_fit fs g w lies None x walk p hk hx hw h1 h2 = (value_fits (variable w x) walk (p + 1) (own_variable w lies x hx) hw h1, tt)
 pairs_fit fs g w lies (Some key) x walk p hk hx hw h1 h2 = (key_fits (variable w key) walk (p + 1) (own_variable w lies key hk.0) hw h1, (value_fits (variable w x) walk (p + 2) (own_variable w lies x hx) hw (h2 key refl), tt))
 
@@ -189,7 +190,7 @@ module _ {fs : List PlainFlowFunction} {g : PlainFlowFunction} {w : Scope} where
       quit_all (some_expr e) h n = fits_ending (λ x to p. quit_point (Some x)) (λ x to p hx hs ha hn. quit_with_fits x hx) (expr_fits lies callees e h n)
 
       mutual
-        unfolding stmt_block StmtFits names_of_stmt
+        unfolding stmt_block StmtFits collected_of own_names
 
         pub stmt_fits : (st : PlainStmt) → StmtFits st → HasAll w.names (names_of_stmt st) → BlockFits fs g w (stmt_block w st)
         stmt_fits (inline_stmt bytes) h n = fits_ending (λ none to p. print_point bytes (p + 1)) (λ x to p hx hs ha hn. print_fits bytes (p + 1) hn) no_code_fits
@@ -199,10 +200,10 @@ module _ {fs : List PlainFlowFunction} {g : PlainFlowFunction} {w : Scope} where
         stmt_fits (while_stmt e body) h n = fits_looping (fits_test (expr_fits lies callees e h.0 (all_front w.names (names_in e) (names_of body) n))) (block_fits body h.1 (all_back w.names (names_in e) (names_of body) n)) fits_nothing
         stmt_fits (do_while_stmt body e) h n = fits_repeating (block_fits body h.0 (all_front w.names (names_of body) (names_in e) n)) (expr_fits lies callees e h.1 (all_back w.names (names_of body) (names_in e) n))
         stmt_fits (for_stmt begin e next body) h n =
-            let n1 = all_back w.names (names_in_all begin) (maybe_names e ++ (names_of body ++ names_in_all next)) n in
-            let n2 = all_back w.names (maybe_names e) (names_of body ++ names_in_all next) n1 in
-            fits_before (fits_run (exprs_fit lies callees begin h.0 (all_front w.names (names_in_all begin) (maybe_names e ++ (names_of body ++ names_in_all next)) n)))
-            (fits_looping (test_fits e h.1 (all_front w.names (maybe_names e) (names_of body ++ names_in_all next) n1)) (block_fits body h.3 (all_front w.names (names_of body) (names_in_all next) n2)) (fits_run (exprs_fit lies callees next h.2 (all_back w.names (names_of body) (names_in_all next) n2))))
+            let n1 = all_back w.names (names_in_all begin) (maybe_names e ++ (names_in_all next ++ names_of body)) n in
+            let n2 = all_back w.names (maybe_names e) (names_in_all next ++ names_of body) n1 in
+            fits_before (fits_run (exprs_fit lies callees begin h.0 (all_front w.names (names_in_all begin) (maybe_names e ++ (names_in_all next ++ names_of body)) n)))
+            (fits_looping (test_fits e h.1 (all_front w.names (maybe_names e) (names_in_all next ++ names_of body) n1)) (block_fits body h.3 (all_back w.names (names_in_all next) (names_of body) n2)) (fits_run (exprs_fit lies callees next h.2 (all_front w.names (names_in_all next) (names_of body) n2))))
         stmt_fits (each_stmt e key x body) h n =
             let n1 = all_back w.names (names_in e) (key_names key ++ x ∷ names_of body) n in
             let n2 = all_back w.names (key_names key) (x ∷ names_of body) n1 in

@@ -7,7 +7,7 @@ use Rattle.plain_values.specs.Walks.{value_of_key, walked}
 use Rattle.script_meaning.specs.Runs.{State, Run, Going, Over, ◌then_do◌, Spent, with_variable}
 use Rattle.script_meaning.specs.Statements.{Flow, goes_on, breaks, continues, returns, turn_after, turn, turns, loop, nothing, with_pair, walk as walk_pairs}
 use Rattle.flow_code.specs.Points.{branch_point, jump_point, next_point, point_at}
-use Rattle.flow_code.specs.Variables.{Name, key_names}
+use Rattle.flow_code.specs.Variables.{Name, own_names, key_names}
 use Rattle.flow_code.specs.Code.{Code, Targets, Block}
 use Rattle.flow_code.specs.Expressions.{Scope, variable}
 use Rattle.flow_code.specs.Statements.{Test, looping, repeating, pair_points, pair_size, walking, key_variable}
@@ -156,7 +156,7 @@ pairs_long (Some key) x walk p = refl
 
 module _ {m : World} {w : Scope} where
   pairs_follow : (key : Option Name) (x : Name) (k : PlainKey) (v : Plain) (rest : Pairs) (p t walk : ℕ) (f : Frame) (s : State) → free w ≤ walk → HasAll w.names (key_names key) → Has w.names x → HasAt m.flow p (pair_points (key_variable w key) (variable w x) walk p) → f.walks walk ≡ record { now = Some (k, v); rest = rest } → Shows w s f → Paired m w s (with_pair key x k v s) p (p + pair_size (key_variable w key)) t walk f
-  unfolding with_pair
+  unfolding with_pair own_names
   pairs_follow None x k v rest p t walk f s behind hk hx has is shows =
       let below = is_variable w x hx in
       record {

@@ -7,7 +7,7 @@ use Rattle.plain_values.specs.Text.{truth, text_of}
 use Rattle.script_meaning.specs.Runs.{State, Run, Going, Over, ◌then_do◌, printing}
 use Rattle.script_meaning.specs.Expressions.{value, values, maybe_value}
 use Rattle.script_meaning.specs.Statements.{Flow, goes_on, next_after, condition, for_condition, loop, echo, returned, exit_with, statement, statements, arms_in}
-use Rattle.program_expressions.specs.Collected.{collected}
+use Rattle.program_expressions.specs.Collected.{collected, collected_of}
 use Rattle.flow_code.specs.Variables.{own_names, names_in, maybe_names, names_in_all, key_names, names_of_stmt, names_of, names_of_arms}
 use Rattle.flow_code.specs.Code.{Block}
 use Rattle.flow_code.specs.Expressions.{Scope}
@@ -87,7 +87,7 @@ module _ {m : World} {w : Scope} (calls : CallsDo m w.functions) (defaults : Hav
   quit_does (some_expr e) h o = block_same _ _ (λ s. made_then (value (env m w.functions) e s) Some exit_with) (does_quit_with (code_does calls defaults e h o))
 
   mutual
-    unfolding stmt_block statement names_of_stmt condition StmtKeyed stmt_units
+    unfolding stmt_block statement collected_of own_names condition StmtKeyed stmt_units
 
     pub stmt_does : (st : PlainStmt) → HasAll w.names (names_of_stmt st) → (m.strict ≡ true → StmtKeyed st) → stmt_units st ≤ m.cost → DoesBlock m (stmt_units st) w (stmt_block w st) (statement (env m w.functions) st)
     stmt_does (inline_stmt bytes) h o n = does_unit (does_print bytes)
@@ -97,11 +97,11 @@ module _ {m : World} {w : Scope} (calls : CallsDo m w.functions) (defaults : Hav
     stmt_does (while_stmt e body) h o n = does_unit (heavier (suc (stmts_units body + 0)) (suc (stmts_units body)) (omega arith) (does_looping (omega (arith, n)) (does_test (code_does calls defaults e (all_front w.names (names_in e) (names_of body) h) (λ k. (o k).0))) (block_does body (all_back w.names (names_in e) (names_of body) h) (λ k. (o k).1) (omega (arith, n))) does_no_behind))
     stmt_does (do_while_stmt body e) h o n = does_unit (heavier (suc (stmts_units body + 0)) (suc (stmts_units body)) (omega arith) (does_repeating (omega (arith, n)) (block_does body (all_front w.names (names_of body) (names_in e) h) (λ k. (o k).0) (omega (arith, n))) (code_does calls defaults e (all_back w.names (names_of body) (names_in e) h) (λ k. (o k).1))))
     stmt_does (for_stmt begin e next body) h o n =
-        let h1 = all_back w.names (names_in_all begin) (maybe_names e ++ (names_of body ++ names_in_all next)) h in
-        let h2 = all_back w.names (maybe_names e) (names_of body ++ names_in_all next) h1 in
+        let h1 = all_back w.names (names_in_all begin) (maybe_names e ++ (names_in_all next ++ names_of body)) h in
+        let h2 = all_back w.names (maybe_names e) (names_in_all next ++ names_of body) h1 in
         does_unit (heavier (0 + suc (stmts_units body + 0)) (suc (stmts_units body)) (omega arith) (block_same _ _ (λ s. run_then (values (env m w.functions) begin s) (loop (for_condition (env m w.functions) e) (statements (env m w.functions) body) (values (env m w.functions) next)))
-        (does_before (does_run (codes_does calls defaults begin (all_front w.names (names_in_all begin) (maybe_names e ++ (names_of body ++ names_in_all next)) h) (λ k. (o k).0)))
-        (does_looping (omega (arith, n)) (test_does e (all_front w.names (maybe_names e) (names_of body ++ names_in_all next) h1) (λ k. (o k).1)) (block_does body (all_front w.names (names_of body) (names_in_all next) h2) (λ k. (o k).3) (omega (arith, n))) (does_behind (codes_does calls defaults next (all_back w.names (names_of body) (names_in_all next) h2) (λ k. (o k).2)))))))
+        (does_before (does_run (codes_does calls defaults begin (all_front w.names (names_in_all begin) (maybe_names e ++ (names_in_all next ++ names_of body)) h) (λ k. (o k).0)))
+        (does_looping (omega (arith, n)) (test_does e (all_front w.names (maybe_names e) (names_in_all next ++ names_of body) h1) (λ k. (o k).1)) (block_does body (all_back w.names (names_in_all next) (names_of body) h2) (λ k. (o k).3) (omega (arith, n))) (does_behind (codes_does calls defaults next (all_front w.names (names_in_all next) (names_of body) h2) (λ k. (o k).2)))))))
     stmt_does (each_stmt e key x body) h o n =
         let h1 = all_back w.names (names_in e) (key_names key ++ x ∷ names_of body) h in
         let h2 = all_back w.names (key_names key) (x ∷ names_of body) h1 in

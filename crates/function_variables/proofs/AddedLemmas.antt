@@ -1,19 +1,15 @@
 -- Names that are put one by one are each name once.
 use Rattle.std.proofs.Common.{◌≡◌, ◌∙◌, ℕ, zero, suc, ◌+◌, ◌<◌, ◌≤◌, List, [], ◌∷◌, ◌++◌, length, map, drop, get_or, refl, sym, ap, arith, append_assoc}
-use Rattle.std.specs.declared.vec.Vec.{Vec}
-use Rattle.std.specs.declared.alloc.Global.{Global}
 use Rattle.std.proofs.Math.Seq.{drop-cons}
 use Rattle.std.proofs.Math.ListN.{drop_of_length-le}
-use Rattle.php_syntax.specs.declared.tree.Expr.{Expr}
-use Rattle.php_syntax.specs.declared.tree.Stmt.{Stmt}
 use Rattle.php_syntax.specs.declared.tree.Param.{Param}
 use Rattle.std.specs.List.{fold}
-use Rattle.php_syntax.specs.Trees.{PlainExpr, MaybeExpr, PlainExprs, plain_expr, plain_stmt, stmts_of, arms_of, params_of_list}
+use Rattle.php_syntax.specs.Trees.{PlainStmts, params_of_list}
 use Rattle.std.specs.Prelude.{Bool, true, false, if◌then◌else◌, bytes_eq, Contains, slice_get, Some}
 use Rattle.std.proofs.lemmas.Slice.Eq.{bytes_eq-Decides}
-use Rattle.program_expressions.specs.Collected.{itself, collected, maybe_collected, part_collected}
-use Rattle.program_expressions.proofs.CollectedLemmas.{TakesUp, takes_expr, takes_maybe, takes_exprs}
-use Rattle.flow_code.specs.Variables.{Name, own_names, names_in, maybe_names, names_in_all, names_of_stmt, names_of, names_of_arms, name_of_param, without, once}
+use Rattle.program_expressions.specs.Collected.{itself, stmts_collected}
+use Rattle.program_expressions.proofs.CollectedLemmas.{TakesUp, takes_stmts}
+use Rattle.flow_code.specs.Variables.{Name, own_names, names_of, name_of_param, without, once}
 use Rattle.function_variables.specs.Added.{has, with_name, put, added}
 
 pub added_none : (known : List Name) → added known [] ≡ known
@@ -31,19 +27,13 @@ added_append known (x ∷ xs) ys = added_append (put known x) xs ys
 
 pub ruleset ends = (added_none, added_one, added_append)
 
--- the names of expressions, each where it is new
+-- the names of statements, each where it is new
 
 added_up : TakesUp added
 added_up = record { nothing = added_none; one_by_one = added_append }
 
-pub of_expr : (known : List Name) (e : PlainExpr) → fold (λ known e. added known (own_names e)) known (collected itself e) ≡ added known (names_in e)
-of_expr known e = takes_expr added own_names added_up known e
-
-pub of_exprs : (known : List Name) (es : PlainExprs) → fold (λ known e. added known (own_names e)) known (part_collected itself es) ≡ added known (names_in_all es)
-of_exprs known es = takes_exprs added own_names added_up known es
-
-pub of_maybe : (known : List Name) (e : MaybeExpr) → fold (λ known e. added known (own_names e)) known (maybe_collected itself e) ≡ added known (maybe_names e)
-of_maybe known e = takes_maybe added own_names added_up known e
+pub of_stmts : (known : List Name) (ss : PlainStmts) → fold (λ known e. added known (own_names e)) known (stmts_collected itself ss) ≡ added known (names_of ss)
+of_stmts known ss = takes_stmts added own_names added_up known ss
 
 -- one more of a row, and its end
 
@@ -56,26 +46,6 @@ done {all} {known} {rest} e inv = sym (added_none known) ∙ ap (λ (l : List Na
 
 here : {X : Type 0} (xs : List X) (i : ℕ) (x : X) → i < length xs → x ≡ get_or xs i x → drop i xs ≡ x ∷ drop (i + 1) xs
 here xs i x lt is = let e : suc i ≡ i + 1 = omega arith in drop-cons xs i x lt ∙ (λ j. sym is j ∷ drop (e j) xs)
-
-pub stmts_further : {all new : List Name} (old : List Name) (es : List Stmt) (i : ℕ) (e : Stmt) → i < length es → e ≡ get_or es i e → new ≡ added old (names_of_stmt (plain_stmt e))
-    → added old (names_of (stmts_of (drop i es))) ≡ all → added new (names_of (stmts_of (drop (i + 1) es))) ≡ all
-unfolding names_of_stmt
-stmts_further old es i e lt is push inv = further old (names_of_stmt (plain_stmt e)) (names_of (stmts_of (drop (i + 1) es))) (ap (λ (l : List Stmt). names_of (stmts_of l)) (here es i e lt is)) push inv
-
-pub stmts_end : {all known : List Name} (es : List Stmt) (i : ℕ) → length es ≤ i → added known (names_of (stmts_of (drop i es))) ≡ all → known ≡ all
-unfolding names_of_stmt
-stmts_end es i le inv = done (ap (λ (l : List Stmt). names_of (stmts_of l)) (drop_of_length-le es le)) inv
-
-pub arms_further : {all new : List Name} (old : List Name) (es : List (Expr × Vec Stmt Global)) (i : ℕ) (e : Expr × Vec Stmt Global) → i < length es → e ≡ get_or es i e
-    → new ≡ added old (names_in (plain_expr e.0) ++ names_of (stmts_of e.1.items))
-    → added old (names_of_arms (arms_of (drop i es))) ≡ all → added new (names_of_arms (arms_of (drop (i + 1) es))) ≡ all
-unfolding names_of_stmt
-arms_further old es i e lt is push inv =
-    further old (names_in (plain_expr e.0) ++ names_of (stmts_of e.1.items)) (names_of_arms (arms_of (drop (i + 1) es))) (ap (λ (l : List (Expr × Vec Stmt Global)). names_of_arms (arms_of l)) (here es i e lt is) ∙ sym (append_assoc (names_in (plain_expr e.0)) (names_of (stmts_of e.1.items)) (names_of_arms (arms_of (drop (i + 1) es))))) push inv
-
-pub arms_end : {all known : List Name} (es : List (Expr × Vec Stmt Global)) (i : ℕ) → length es ≤ i → added known (names_of_arms (arms_of (drop i es))) ≡ all → known ≡ all
-unfolding names_of_stmt
-arms_end es i le inv = done (ap (λ (l : List (Expr × Vec Stmt Global)). names_of_arms (arms_of l)) (drop_of_length-le es le)) inv
 
 pub params_further : {all new : List Name} (old : List Name) (es : List Param) (i : ℕ) (e : Param) → i < length es → e ≡ get_or es i e → new ≡ put old e.name
     → added old (map name_of_param (params_of_list (drop i es))) ≡ all → added new (map name_of_param (params_of_list (drop (i + 1) es))) ≡ all

@@ -4,7 +4,7 @@
 //! Below stand expression_visits, flow_code and numbered_sets.
 #![tactic(auto)]
 
+mod functions;
 mod names;
-mod statements;
 
-pub use statements::variables_of;
+pub use functions::variables_of;

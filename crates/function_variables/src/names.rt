@@ -1,11 +1,11 @@
-//! The names of variables in expressions.
+//! The names of variables, each where it first stands.
 
 ghost use Rattle.std.specs.Prelude.{◌≡◌, [], ◌∷◌, List, OnOk};
-ghost use Rattle.php_syntax.specs.Trees.{plain_expr, exprs_of, maybe_of};
-ghost use Rattle.flow_code.specs.Variables.{Name, own_names, names_in, maybe_names, names_in_all};
+ghost use Rattle.php_syntax.specs.Trees.{plain_expr};
+ghost use Rattle.flow_code.specs.Variables.{Name, own_names};
 ghost use Rattle.function_variables.specs.Added.{put, added};
 
-use expression_visits::{Visitor, visit_expr, visit_exprs, visit_maybe};
+use expression_visits::Visitor;
 use indexmap::IndexSet;
 use numbered_sets::{number, number_of};
 use php_syntax::tree::Expr;
@@ -59,31 +59,8 @@ impl Visitor for Names {
             Expr::Isset(_) | Expr::Empty(_) | Expr::Call(..) => Ok(()),
         }
     }
-}
 
-/// In an expression.
-pub(crate) fn in_expr(names: &mut Names, expr: &Expr) -> Result<(), NoMemory>
-    ensures { OnOk result
-        (names.new.known.keys ≡ added names.old.known.keys (names_in (plain_expr expr.now))) }
-{
-    visit_expr(names, expr)?;
-    Ok(())
-}
-
-/// In expressions.
-pub(crate) fn in_exprs(names: &mut Names, exprs: &[Expr]) -> Result<(), NoMemory>
-    ensures { OnOk result
-        (names.new.known.keys ≡ added names.old.known.keys (names_in_all (exprs_of exprs.now))) }
-{
-    visit_exprs(names, exprs)?;
-    Ok(())
-}
-
-/// In an expression that may be left out.
-pub(crate) fn in_maybe(names: &mut Names, expr: &Option<Expr>) -> Result<(), NoMemory>
-    ensures { OnOk result
-        (names.new.known.keys ≡ added names.old.known.keys (maybe_names (maybe_of expr.now))) }
-{
-    visit_maybe(names, expr)?;
-    Ok(())
+    fn visit_variable(&mut self, name: &Bytes) -> Result<(), NoMemory> {
+        self.note(name)
+    }
 }

@@ -9,8 +9,8 @@ use Rattle.flow_code.specs.Lawful.{sets, nexts}
 use Rattle.flow_code.specs.Flat.{flat}
 use Rattle.flow_code.specs.Expressions.{code}
 use Rattle.flow_code.specs.Statements.{block}
-use Rattle.program_expressions.specs.Collected.{collected}
-use Rattle.flow_code.specs.Variables.{own_names, names_of}
+use Rattle.program_expressions.specs.Collected.{collected, collected_of}
+use Rattle.flow_code.specs.Variables.{own_names}
 use Rattle.least_sets.specs.Sets.{In, Says}
 use Rattle.loose_sets.specs.Reaching.{Definition, at_point, Reaches}
 use Rattle.loose_sets.specs.Keys.{literal_key, point_keys, without_key, keys_once, told_keys, may_be}
@@ -37,7 +37,7 @@ first_of_one x = (0, omega arith, refl)
 
 -- the second one reaches it
 second : Reaches twice (at_point 3) 0 4
-unfolding flat code block collected own_names names_of points_in point_at sets nexts
+unfolding flat code block collected collected_of own_names points_in point_at sets nexts
 second = Reaches.behind 3 0 4 _ refl refl (first_of_one 4)
 
 -- and the first one does not: it comes as far as the point that sets the slot again
@@ -46,15 +46,15 @@ only a p (zero, below, is) = sym is
 only a p (suc k, below, is) = absurd (omega (arith, below))
 
 from_one : (i : PlainPoint) (p : ℕ) → point_at twice 1 ≡ Some i → Contains (nexts i) p → p ≡ 2
-unfolding flat code block collected own_names names_of points_in point_at nexts
+unfolding flat code block collected collected_of own_names points_in point_at nexts
 from_one i p e c = let is : set_point 0 (copy_source 1) 2 ≡ i = cc in only 2 p (subst (λ i. Contains (nexts i) p) (sym is) c)
 
 from_two : (i : PlainPoint) (p : ℕ) → point_at twice 2 ≡ Some i → Contains (nexts i) p → p ≡ 3
-unfolding flat code block collected own_names names_of points_in point_at nexts
+unfolding flat code block collected collected_of own_names points_in point_at nexts
 from_two i p e c = let is : set_point 2 (literal_source (text (codes "a"))) 3 ≡ i = cc in only 3 p (subst (λ i. Contains (nexts i) p) (sym is) c)
 
 three_sets : (i : PlainPoint) → point_at twice 3 ≡ Some i → sets i ≡ Some 0
-unfolding flat code block collected own_names names_of points_in point_at sets
+unfolding flat code block collected collected_of own_names points_in point_at sets
 three_sets i e = let is : set_point 0 (copy_source 2) 4 ≡ i = cc in ap sets (sym is)
 
 as_far : (d : Definition) (x p : ℕ) → Reaches twice d x p → d ≡ at_point 1 → x ≡ 0 → (p ≡ 2) ⊎ (p ≡ 3)
@@ -77,7 +77,7 @@ abbrev listed : PlainFlow
 listed = script (echo_stmt (one (array_expr (more_items no_expr (int_expr (pos 1)) no_items))) then no_stmts)
 
 array_shown : Loose listed (codes "Array")
-unfolding flat code block collected own_names names_of points_in point_at sets nexts
+unfolding flat code block collected collected_of own_names points_in point_at sets nexts
 array_shown = record {
   main = _;
   is_main = refl;
@@ -97,7 +97,7 @@ array_shown = record {
 -- of `array('t' => 'a', 5 => 'b')` both keys are told apart, `'5'` and 5 being one; a key that comes next may be 5 and not `'t'`
 keyed : told_keys (script (run_stmt (array_expr (more_items (some_expr (text_expr (codes "t"))) (text_expr (codes "a")) (more_items (some_expr (int_expr (pos 5))) (text_expr (codes "b")) no_items))) then no_stmts))
     ≡ text_key (codes "t") ∷ int_key (pos 5) ∷ []
-unfolding flat code block collected own_names names_of points_in told_keys point_keys keys_once without_key literal_key digits
+unfolding flat code block collected collected_of own_names points_in told_keys point_keys keys_once without_key literal_key digits
 keyed = refl
 
 next_is_no_text : may_be None (text_key (codes "t")) ≡ false

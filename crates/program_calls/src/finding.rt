@@ -52,6 +52,11 @@ impl Visitor for Finder {
             Expr::Empty(_) | Expr::Assign(..) | Expr::Update(..) | Expr::Step { .. } => Ok(()),
         }
     }
+
+    #[tactic(auto, using(crate::proofs::CallLemmas::ends), unfolding(program_rules::specs::Calls::own_call))]
+    fn visit_variable(&mut self, _name: &Bytes) -> Result<(), NoMemory> {
+        Ok(())
+    }
 }
 
 /// The calls in a file, those outside functions first, put behind those found before. A default is

@@ -1,10 +1,10 @@
 -- What is collected is what the expressions of the tree have of their own, one after the other.
-use Rattle.std.proofs.Common.{◌≡◌, ◌∙◌, List, [], ◌∷◌, ◌++◌, sym, refl, ap}
+use Rattle.std.proofs.Common.{◌≡◌, ◌∙◌, ℕ, List, [], ◌∷◌, ◌++◌, Option, Some, None, sym, refl, ap}
 use Rattle.std.specs.List.{flat_map, fold}
 use Rattle.std.proofs.lemmas.List.{append-nil}
 use Rattle.std.proofs.lemmas.Grind.{flat_map-append}
 use Rattle.php_syntax.specs.Trees.{PlainExpr, null_expr, flag_expr, int_expr, text_expr, var_expr, super_expr, member_expr, array_expr, join_expr, neg_expr, not_expr, arith_expr, compare_expr, and_expr, or_expr, coalesce_expr, choice_expr, isset_expr, empty_expr, assign_expr, update_expr, step_expr, call_expr, MaybeExpr, no_expr, some_expr, PlainExprs, no_exprs, more_exprs, PlainItems, no_items, more_items, PlainPath, no_keys, more_keys, PlainStmt, inline_stmt, echo_stmt, run_stmt, if_stmt, while_stmt, do_while_stmt, for_stmt, each_stmt, break_stmt, continue_stmt, return_stmt, include_stmt, quit_stmt, PlainStmts, no_stmts, more_stmts, PlainArms, no_arms, more_arms, PlainParam, PlainFunction}
-use Rattle.program_expressions.specs.Collected.{collected, maybe_collected, part_collected, item_collected, path_collected, collected_of, stmts_collected, arms_collected, bodies_collected, defaults_collected, functions_collected, itself}
+use Rattle.program_expressions.specs.Collected.{collected, maybe_collected, part_collected, item_collected, path_collected, key_collected, collected_of, stmts_collected, arms_collected, bodies_collected, defaults_collected, functions_collected, itself}
 
 -- of lists side by side
 
@@ -64,6 +64,10 @@ mutual
   flat_path own no_keys = refl
   flat_path own (more_keys k ks) = both own _ _ _ _ (flat_maybe own k) (flat_path own ks)
 
+flat_key : {A : Type 0} (own : PlainExpr → List A) (key : Option (List ℕ)) → flat_map own (key_collected itself key) ≡ key_collected own key
+flat_key own None = refl
+flat_key own (Some x) = append-nil (own (var_expr x))
+
 mutual
   unfolding collected_of
 
@@ -75,7 +79,8 @@ mutual
   flat_stmt own (while_stmt e body) = both own _ _ _ _ (flat_expr own e) (flat_stmts own body)
   flat_stmt own (do_while_stmt body e) = both own _ _ _ _ (flat_stmts own body) (flat_expr own e)
   flat_stmt own (for_stmt begin e next body) = both own _ _ _ _ (flat_exprs own begin) (three own _ _ _ _ _ _ (flat_maybe own e) (flat_exprs own next) (flat_stmts own body))
-  flat_stmt own (each_stmt e key x body) = both own _ _ _ _ (flat_expr own e) (flat_stmts own body)
+  flat_stmt own (each_stmt e key x body) =
+      both own _ _ _ _ (flat_expr own e) (both own _ _ _ _ (flat_key own key) (with_parts own (var_expr x) _ _ (flat_stmts own body)))
   flat_stmt own break_stmt = refl
   flat_stmt own continue_stmt = refl
   flat_stmt own (return_stmt e) = flat_maybe own e

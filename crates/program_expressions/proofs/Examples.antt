@@ -1,6 +1,6 @@
 -- What is collected, worked out.
 use Rattle.std.proofs.Common.{◌≡◌, ℕ, List, [], ◌∷◌, refl}
-use Rattle.std.specs.Prelude.{None}
+use Rattle.std.specs.Prelude.{None, Some}
 use Rattle.php_syntax.specs.Trees.{PlainExpr, var_expr, not_expr, array_expr, choice_expr, assign_expr, call_expr, no_expr, some_expr, no_exprs, more_exprs, no_items, more_items, no_keys, more_keys, echo_stmt, for_stmt, each_stmt, break_stmt, no_stmts, more_stmts, PlainFunction}
 use Rattle.program_expressions.specs.Collected.{collected, collected_of, bodies_collected, functions_collected, itself}
 
@@ -41,10 +41,14 @@ in_for : collected_of read (for_stmt (more_exprs a no_exprs) (some_expr b) (more
 unfolding collected_of collected
 in_for = refl
 
--- `foreach ($a as $b) break;`: the variable of the value is no expression
-in_each : collected_of read (each_stmt a None (98 ∷ []) (more_stmts break_stmt no_stmts)) ≡ (97 ∷ []) ∷ []
+-- `foreach ($a as $b) break;` and `foreach ($a as $c => $b) break;`: what is set stands there as a variable, a key before its value
+in_each : collected_of read (each_stmt a None (98 ∷ []) (more_stmts break_stmt no_stmts)) ≡ (97 ∷ []) ∷ (98 ∷ []) ∷ []
 unfolding collected_of collected
 in_each = refl
+
+in_keyed_each : collected_of read (each_stmt a (Some (99 ∷ [])) (98 ∷ []) (more_stmts break_stmt no_stmts)) ≡ (97 ∷ []) ∷ (99 ∷ []) ∷ (98 ∷ []) ∷ []
+unfolding collected_of collected
+in_keyed_each = refl
 
 -- `function f($p = $a) { echo $b; }`: its default before its body, and not where bodies alone are asked for
 abbrev f : PlainFunction

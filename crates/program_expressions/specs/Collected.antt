@@ -1,5 +1,5 @@
 -- What is collected in expressions and statements: of each expression what is its own, and then what is collected in its parts.
-use Rattle.std.specs.Prelude.{List, [], ◌∷◌, ◌++◌}
+use Rattle.std.specs.Prelude.{ℕ, List, [], ◌∷◌, ◌++◌, Option, Some, None}
 use Rattle.php_syntax.specs.Trees.{PlainExpr, null_expr, flag_expr, int_expr, text_expr, var_expr, super_expr, member_expr, array_expr, join_expr, neg_expr, not_expr, arith_expr, compare_expr, and_expr, or_expr, coalesce_expr, choice_expr, isset_expr, empty_expr, assign_expr, update_expr, step_expr, call_expr, MaybeExpr, no_expr, some_expr, PlainExprs, no_exprs, more_exprs, PlainItems, no_items, more_items, PlainPath, no_keys, more_keys, PlainStmt, inline_stmt, echo_stmt, run_stmt, if_stmt, while_stmt, do_while_stmt, for_stmt, each_stmt, break_stmt, continue_stmt, return_stmt, include_stmt, quit_stmt, PlainStmts, no_stmts, more_stmts, PlainArms, no_arms, more_arms, PlainParam, PlainFunction}
 
 unfoldable mutual
@@ -49,10 +49,15 @@ unfoldable mutual
   path_collected own no_keys = []
   path_collected own (more_keys k ks) = maybe_collected own k ++ path_collected own ks
 
+-- of the variable for the keys of a `foreach`, if it has one
+abbrev pub key_collected : {A : Type 0} → (PlainExpr → List A) → Option (List ℕ) → List A
+key_collected own None = []
+key_collected own (Some x) = own (var_expr x)
+
 unfoldable mutual
   unfolding collected
 
-  -- in the expressions of a statement, as they stand in it
+  -- in a statement, in the order of its parts; what a `foreach` sets stands there as a variable
   pub collected_of : {A : Type 0} → (PlainExpr → List A) → PlainStmt → List A
   collected_of own (inline_stmt bytes) = []
   collected_of own (echo_stmt es) = part_collected own es
@@ -61,7 +66,7 @@ unfoldable mutual
   collected_of own (while_stmt e body) = collected own e ++ stmts_collected own body
   collected_of own (do_while_stmt body e) = stmts_collected own body ++ collected own e
   collected_of own (for_stmt begin e next body) = part_collected own begin ++ (maybe_collected own e ++ (part_collected own next ++ stmts_collected own body))
-  collected_of own (each_stmt e key x body) = collected own e ++ stmts_collected own body
+  collected_of own (each_stmt e key x body) = collected own e ++ (key_collected own key ++ (own (var_expr x) ++ stmts_collected own body))
   collected_of own break_stmt = []
   collected_of own continue_stmt = []
   collected_of own (return_stmt e) = maybe_collected own e

@@ -43,4 +43,9 @@ impl Visitor for Texts {
             _ => Ok(()),
         }
     }
+
+    #[tactic(auto, using(crate::proofs::ShortLemmas::shorts), unfolding(program_points::specs::Texts::own_text))]
+    fn visit_variable(&mut self, _name: &Bytes) -> Result<(), Infallible> {
+        Ok(())
+    }
 }

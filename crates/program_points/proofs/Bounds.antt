@@ -10,7 +10,7 @@ use Rattle.builtin_meaning.specs.Names.{builtin_named}
 use Rattle.script_meaning.specs.Programs.{PlainProgram, function_named, literal_value}
 use Rattle.program_rules.specs.Limits.{as_file}
 use Rattle.php_program.specs.Lawful.{IsLawful}
-use Rattle.program_expressions.specs.Collected.{collected, collected_of, bodies_collected}
+use Rattle.program_expressions.specs.Collected.{collected, key_collected, collected_of, bodies_collected}
 use Rattle.program_rules.specs.Calls.{PlainCall, own_call, calls_in, maybe_calls, part_calls, item_calls, path_calls, calls_of, statement_calls, arm_calls, function_calls, calls_of_program, number_of}
 use Rattle.flow_code.specs.Points.{PlainKeyRef}
 use Rattle.flow_code.specs.Code.{Code, both, Block}
@@ -223,7 +223,9 @@ mutual
   stmt_size w i f (each_stmt e key x ss) s =
       let s1 = right (maybe_writable key) (is_writable x && stmts_fit true f ss) (right (expr_fits e) (maybe_writable key && (is_writable x && stmts_fit true f ss)) s) in
       let h = expr_size w e (left (expr_fits e) (maybe_writable key && (is_writable x && stmts_fit true f ss)) s) in let k = stmts_size w true f ss (right (is_writable x) (stmts_fit true f ss) s1) in
-      let l = left_both w.functions (calls_in e) (statement_calls ss) in let p = pair_few (key_variable w key) in omega (arith, h, k, l, p)
+      let keys : List PlainCall = key_collected own_call key in
+      let l = left_both w.functions (calls_in e) (keys ++ statement_calls ss) in let m = left_both w.functions keys (statement_calls ss) in
+      let p = pair_few (key_variable w key) in omega (arith, h, k, l, m, p)
   stmt_size w i f break_stmt s = omega arith
   stmt_size w i f continue_stmt s = omega arith
   stmt_size w i f (return_stmt e) s = let h = return_size w e (right f (maybe_fits e) s) in omega (arith, h)

@@ -15,7 +15,7 @@ use Rattle.builtin_meaning.specs.Names.{builtin_named}
 use Rattle.builtin_meaning.specs.Arity.{arity_of}
 use Rattle.script_meaning.specs.Programs.{PlainProgram}
 use Rattle.php_writer.specs.Spellable.{is_name, is_call_name, is_integer, is_unsigned, is_maybe_name, is_some_arms, is_some_exprs, is_printed, are_parts, expr_spellable, maybe_spellable, exprs_spellable, items_spellable, path_spellable, stmt_spellable, stmts_spellable, arms_spellable, is_default, params_spellable, functions_spellable}
-use Rattle.program_expressions.specs.Collected.{collected, collected_of, bodies_collected, defaults_collected, functions_collected}
+use Rattle.program_expressions.specs.Collected.{collected, key_collected, collected_of, bodies_collected, defaults_collected, functions_collected}
 use Rattle.program_rules.specs.Calls.{PlainCall, own_call, calls_in, maybe_calls, part_calls, item_calls, path_calls, calls_of, statement_calls, arm_calls, function_calls, calls_of_program, number_of}
 use Rattle.program_rules.specs.Rules.{serves_builtin, serves_call}
 use Rattle.php_program.specs.Lawful.{IsLawful}
@@ -173,7 +173,13 @@ mutual
       )
   stmt_fits (each_stmt e key x ss) s c t =
       let s1 = right (is_maybe_name key) (is_name x && stmts_spellable ss) (right (expr_spellable e) (is_maybe_name key && (is_name x && stmts_spellable ss)) s) in
-      (expr_fits e (left (expr_spellable e) (is_maybe_name key && (is_name x && stmts_spellable ss)) s) (front Serves (calls_in e) (statement_calls ss) c) (front Short (texts_in e) (statement_texts ss) t), stmts_fit ss (right (is_name x) (stmts_spellable ss) s1) (back Serves (calls_in e) (statement_calls ss) c) (back Short (texts_in e) (statement_texts ss) t))
+      let keys : List PlainCall = key_collected own_call key in
+      let key_texts : List (List ℕ) = key_collected own_text key in
+      let c1 = back Serves (calls_in e) (keys ++ statement_calls ss) c in
+      let t1 = back Short (texts_in e) (key_texts ++ statement_texts ss) t in (
+        expr_fits e (left (expr_spellable e) (is_maybe_name key && (is_name x && stmts_spellable ss)) s) (front Serves (calls_in e) (keys ++ statement_calls ss) c) (front Short (texts_in e) (key_texts ++ statement_texts ss) t),
+        stmts_fit ss (right (is_name x) (stmts_spellable ss) s1) (back Serves keys (statement_calls ss) c1) (back Short key_texts (statement_texts ss) t1),
+      )
   stmt_fits break_stmt s c t = tt
   stmt_fits continue_stmt s c t = tt
   stmt_fits (return_stmt e) s c t = maybe_fits e s c t

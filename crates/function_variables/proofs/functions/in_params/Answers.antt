@@ -1,5 +1,5 @@
 use Rattle.function_variables.proofs.AddedLemmas.{params_end, params_further}
-use Rattle.function_variables.proofs.statements.in_params.Goals as goal
+use Rattle.function_variables.proofs.functions.in_params.Goals as goal
 
 pub loop-param-preserved : goal.loop-param-preserved
 loop-param-preserved c = params_further c.loop-param.names.known.keys c.args.params.now c.loop-param.param-index c.param-item.result c.loop-param-test.true c.param-item.is c.in_ok-note.ensures c.loop-param.invariant
