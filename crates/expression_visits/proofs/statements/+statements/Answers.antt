@@ -53,6 +53,6 @@ visit_stmt-visit_stmts-requires-in-For g t c κs within =
 
 pub visit_stmt-visit_stmts-requires-in-Each : goal.visit_stmt-visit_stmts-requires-in-Each
 visit_stmt-visit_stmts-requires-in-Each g t c κs within =
-    let h = each_height c.args.stmt.now c.in-Each.array c.in-Each.field-1 c.in-Each.field-2 c.in-Each.body c.in-Each.is in
+    let h = each_height c.args.stmt.now c.in-Each.array c.in-Each.key c.in-Each.value c.in-Each.body c.in-Each.is in
     let e = ap (λ (a : List Stmt). stmts_height (stmts_of a)) c.as_slice-in-Each.ensures.value in
     (omega (arith, h, e, c.decreases), search rules)
