@@ -60,6 +60,7 @@ impl Visitor for Names {
         }
     }
 
+    #[tactic(auto, using(crate::proofs::AddedLemmas::ends), unfolding(flow_code::specs::Variables::own_names))]
     fn visit_variable(&mut self, name: &Bytes) -> Result<(), NoMemory> {
         self.note(name)
     }
