@@ -5,7 +5,7 @@ use Rattle.std.proofs.lemmas.List.Folds.{list_all-append}
 use Rattle.std.proofs.lemmas.List.Elements.{Contains-append_right}
 use Rattle.text_base.specs.declared.limits.TheConstants.{TEXT_LIMIT}
 use Rattle.php_syntax.specs.declared.tree.Expr.{Expr, Text}
-use Rattle.php_syntax.specs.Trees.{PlainStmts, PlainFunction, plain_expr}
+use Rattle.php_syntax.specs.Trees.{PlainStmts, PlainFunction, plain_expr, var_expr}
 use Rattle.program_expressions.specs.Collected.{itself, stmts_collected, functions_collected}
 use Rattle.program_expressions.proofs.CollectedLemmas.{TakesUp, takes_stmts, takes_functions}
 use Rattle.script_meaning.specs.Programs.{PlainProgram}
@@ -49,6 +49,11 @@ and_all = record {
 
 pub unchanged : (short : Bool) (e : Expr) → ((t : List ℕ) → e ≡ Text t → ⊥) → short ≡ (short && all_short (own_text (plain_expr e)))
 unchanged short e h = sym (ap (λ (ts : List (List ℕ)). short && all_short ts) (no_own e h) ∙ and_all.nothing short)
+
+-- a variable is no text
+pub unchanged_there : (short : Bool) (x : List ℕ) → short ≡ (short && all_short (own_text (var_expr x)))
+unfolding own_text
+unchanged_there short x = sym (and_all.nothing short)
 
 -- the texts of statements and then those of functions
 pub looked : (short first last : Bool) (ss body : PlainStmts) (fs functions : List PlainFunction) → body ≡ ss → functions ≡ fs

@@ -44,7 +44,6 @@ impl Visitor for Texts {
         }
     }
 
-    #[tactic(auto, using(crate::proofs::ShortLemmas::shorts), unfolding(program_points::specs::Texts::own_text))]
     fn visit_variable(&mut self, _name: &Bytes) -> Result<(), Infallible> {
         Ok(())
     }
