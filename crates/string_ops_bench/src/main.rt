@@ -1,35 +1,28 @@
 //! Builds the machines of a search of a thousand bytes and of a cut of 1,024, and copies their
-//! tables. Without an argument it prints how large they are; with any word it prints too how much
-//! longer than the copy the building takes.
+//! tables; and puts grammars through the machines of three operations. Without an argument it prints
+//! how large the machines are, and how many items the images of small grammars have; with `machines`
+//! too how much longer than the copy the building takes; with `chain`, `choices` or `texts` how long
+//! larger images of these take, under all three operations or under the one that a second word names.
 #![tactic(auto)]
 
-ghost use Rattle.std.specs.Prelude.{◌≢◌, IfOk};
+mod images;
+mod operations;
+mod works;
+
+ghost use Rattle.std.specs.Prelude.{◌≢◌};
 ghost use Rattle.op_system.specs.declared.op.Op.TheVariants.{Any};
 
 use anyhow::Result;
-use fst_core::{Out, Table};
+use fst_core::{IndexedTable, Out, Table};
+use images::{measure, show};
 use op_system::Op;
+use operations::{Operation, search};
 use std::alloc::{AllocError, Global};
 use std::env;
 use std::rt::{Clock, Env};
 use std::time::Instant;
 use string_ops::machine_of;
-use text_base::{Bytes, NoMemory};
-
-/// A search whose fronts have many borders.
-fn search(alloc: Global) -> Result<Op, NoMemory>
-    ensures { IfOk result (λ op. op ≢ Any) }
-{
-    let mut search = Bytes::new(alloc);
-    for _ in 0..999u32 {
-        search.push(b'a')?;
-    }
-    search.push(b'b')?;
-    Ok(Op::Replace {
-        search,
-        with: Bytes::from_slice(alloc, b"-")?,
-    })
-}
+use works::Work;
 
 /// The outputs of a table, one after the other.
 fn copied(alloc: Global, table: &Table) -> Result<Vec<Vec<Out>>, AllocError> {
@@ -62,19 +55,60 @@ fn figures(rt: &(impl Clock + AllocGlobal + Print), name: &str, op: &Op, timed: 
     Ok(())
 }
 
-fn main(rt: HostRuntime) -> Result<()> {
-    let timed = env::args(&rt)?.nth(1).is_some();
-    let search = search(rt.alloc())?;
-    figures(&rt, "search of 1000 bytes", &search, timed)?;
+/// Prints how many items the images of small grammars under an operation have; or, where a word names
+/// a kind of grammar, how many those of larger ones have and how long they take.
+fn measure_images(
+    rt: &(impl Clock + AllocGlobal + Print),
+    operation: Operation,
+    word: Option<&str>,
+) -> Result<()> {
+    let op = operation.op(rt.alloc())?;
+    let table = machine_of(rt.alloc(), &op)?;
+    let machine = IndexedTable::new(rt.alloc(), table)?;
+    match word {
+        None => {
+            show(rt, &machine, operation, Work::Chain)?;
+            show(rt, &machine, operation, Work::Choices)
+        }
+        Some(word) => {
+            for work in [Work::Chain, Work::Choices, Work::Texts] {
+                if word == work.word() {
+                    measure(rt, &machine, operation, work)?;
+                }
+            }
+            Ok(())
+        }
+    }
+}
+
+/// Prints how large the machines of a search and of two cuts are.
+fn measure_machines(rt: &(impl Clock + AllocGlobal + Print), timed: bool) -> Result<()> {
+    let thousand = search(rt.alloc(), 999)?;
+    figures(rt, "search of 1000 bytes", &thousand, timed)?;
     let cut = Op::Cut {
         start: 0,
         len: Some(1024),
     };
-    figures(&rt, "cut of 1024 bytes", &cut, timed)?;
+    figures(rt, "cut of 1024 bytes", &cut, timed)?;
     let back = Op::Cut {
         start: -1024,
         len: None,
     };
-    figures(&rt, "cut of the last 1024 bytes", &back, timed)?;
+    figures(rt, "cut of the last 1024 bytes", &back, timed)
+}
+
+fn main(rt: HostRuntime) -> Result<()> {
+    let mut words = env::args(&rt)?.skip(1);
+    let word = words.next();
+    let operation = words.next();
+    let (word, named) = (word.as_deref(), operation.as_deref());
+    if word.is_none() || word == Some("machines") {
+        measure_machines(&rt, word.is_some())?;
+    }
+    for operation in [Operation::Escapes, Operation::Search, Operation::Cut] {
+        if named.is_none() || named == Some(operation.word()) {
+            measure_images(&rt, operation, word)?;
+        }
+    }
     Ok(())
 }
