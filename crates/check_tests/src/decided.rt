@@ -1,6 +1,6 @@
 // Scripts of every form, by the smallest document type: loops, functions, variables, string
 // functions and input; by nesting alone, and with a limit on sums.
-use crate::ending::{QUIET, run};
+use crate::ending::{QUIET, run, two_numbers};
 use phpsa_main::Exit;
 use std::alloc::Global;
 use std::test::Fail;
@@ -105,10 +105,27 @@ fn a_limit_on_sums(rt: HostRuntime) -> Result<(), Fail> {
     let row = "<p><?php echo htmlspecialchars($_GET['q'] ?? ''); ?></p> => 2 undecided pairs ";
     let words = ["check", "t.php", "--dtd", "mini", "--limit", "1"];
     assert!(rt; row_is_so(alloc, &words, row)?);
-    let row =
-        "<p><?php echo htmlspecialchars($_GET['q'] ?? ''); ?></p> => 2 {\"answer\":\"undecided\",\"count\":";
+    Ok(())
+}
+
+// The same as an object: the count is over the limit.
+#[test]
+fn a_limit_on_sums_as_json(rt: HostRuntime) -> Result<(), Fail> {
+    let alloc = rt.alloc();
+    let script = script_of(
+        alloc,
+        "<p><?php echo htmlspecialchars($_GET['q'] ?? ''); ?></p>",
+    )?;
     let words = ["check", "t.php", "--dtd", "mini", "--limit=1", "--json"];
-    assert!(rt; row_is_so(alloc, &words, row)?);
+    let ending = run(alloc, &words, script.as_slice(), QUIET)?;
+    assert_eq!(rt; ending.exit, Exit::Undecided);
+    let line = str::from_utf8(ending.out.written()).map_err(|_| "a text")?;
+    let before = "{\"answer\":\"undecided\",\"count\":";
+    let behind = ",\"kind\":\"pairs\"}\n";
+    let numbers = two_numbers(line, before, ",\"height\":", behind);
+    let (count, height) = numbers.ok_or("two numbers")?;
+    assert!(rt; count > 1);
+    assert!(rt; height > 0);
     Ok(())
 }
 
@@ -127,20 +144,39 @@ fn a_page_that_is_too_long_to_count(rt: HostRuntime) -> Result<(), Fail> {
     let ending = run(alloc, &CHECK, script.as_slice(), QUIET)?;
     assert_eq!(rt; ending.exit, Exit::No);
     let out = ending.out.written();
-    assert!(rt; out.starts_with(b"no\npage 18446744073709551615\naaaa"));
-    assert_eq!(rt; out.len(), 3 + 26 + 1_048_576 + 1);
+    let page = out
+        .strip_prefix(b"no\npage 18446744073709551615\n")
+        .ok_or("a no")?;
+    let shown = page.get(..1_048_576).ok_or("a page")?;
+    assert!(rt; shown.iter().all(|byte| *byte == b'a'));
+    assert_eq!(rt; page.get(1_048_576..).ok_or("an end")?, b"\n".as_slice());
     Ok(())
 }
 
-// A generated script is decided by XHTML 1.0 Strict.
+// Generated scripts are decided by XHTML 1.0 Strict, and the same each time.
 #[test]
-fn a_made_script_is_decided(rt: HostRuntime) -> Result<(), Fail> {
-    let ending = run(rt.alloc(), &["make", "1", "--check"], b"", QUIET)?;
+fn made_scripts_are_decided(rt: HostRuntime) -> Result<(), Fail> {
+    for (number, out) in [
+        ("1", "functions 1\nbytes 318\nanswer yes\n"),
+        ("200", "functions 200\nbytes 17904\nanswer yes\n"),
+        ("200", "functions 200\nbytes 17904\nanswer yes\n"),
+    ] {
+        let ending = run(rt.alloc(), &["make", number, "--check"], b"", QUIET)?;
+        assert_eq!(rt; ending.exit, Exit::Done, "{number}");
+        assert_eq!(rt; ending.out.written(), out.as_bytes(), "{number}");
+        assert!(rt; ending.err.written().is_empty(), "{number}");
+    }
+    Ok(())
+}
+
+// The largest of them.
+#[test]
+fn the_largest_made_script(rt: HostRuntime) -> Result<(), Fail> {
+    let ending = run(rt.alloc(), &["make", "1000", "--check"], b"", QUIET)?;
     assert_eq!(rt; ending.exit, Exit::Done);
     assert_eq!(rt;
         ending.out.written(),
-        b"functions 1\nbytes 318\nanswer yes\n".as_slice()
+        b"functions 1000\nbytes 89904\nanswer yes\n".as_slice()
     );
-    assert!(rt; ending.err.written().is_empty());
     Ok(())
 }

@@ -1,10 +1,12 @@
 // Document type definitions in files: pages by them, and each refusal with its text.
-use crate::ending::{Ending, Outside, QUIET, run, run_by};
+use crate::ending::{Ending, Outside, QUIET, number_behind, run, run_by};
+use crate::worked::whole;
 use phpsa_main::Exit;
 use std::alloc::Global;
 use std::test::Fail;
 use text_base::Bytes;
 use text_base::limits::FILE_LIMIT;
+use xhtml_strict::strict_text;
 
 const COMMANDS: [&str; 2] = ["page", "check"];
 
@@ -42,6 +44,11 @@ fn definitions_that_are_none(rt: HostRuntime) -> Result<(), Fail> {
             ("<!ELEMENT html", Exit::Dtd, "phpsa: Dtd NotDtd 0"),
             ("%a;", Exit::Dtd, "phpsa: Dtd Entity a"),
             (
+                "<!ENTITY % a '&#37;b; &#37;b;'><!ENTITY % b '&#37;a;'>%a;",
+                Exit::Dtd,
+                "phpsa: Dtd Entity a",
+            ),
+            (
                 "<!ELEMENT a ANY><!ELEMENT a ANY>",
                 Exit::Dtd,
                 "phpsa: Dtd Twice a",
@@ -70,31 +77,77 @@ fn definitions_that_are_none(rt: HostRuntime) -> Result<(), Fail> {
     Ok(())
 }
 
+// So many declarations, each with its number in it.
+fn numbered(alloc: Global, before: &str, count: u64, behind: &str) -> Result<Bytes, Fail> {
+    let mut text = Bytes::from_slice(alloc, b"")?;
+    for number in 0..count {
+        text.append(before.as_bytes())?;
+        text.append(number.to_string(alloc)?.as_bytes())?;
+        text.append(behind.as_bytes())?;
+    }
+    Ok(text)
+}
+
 // An element with so many attributes.
 fn with_attributes(alloc: Global, count: u64) -> Result<Bytes, Fail> {
     let mut text = Bytes::from_slice(alloc, b"<!ELEMENT html ANY><!ELEMENT q ANY>")?;
-    for number in 0..count {
-        text.append(b"<!ATTLIST html a")?;
-        text.append(number.to_string(alloc)?.as_bytes())?;
-        text.append(b" CDATA #IMPLIED>")?;
-    }
+    let lists = numbered(alloc, "<!ATTLIST html a", count, " CDATA #IMPLIED>")?;
+    text.append(lists.as_slice())?;
     Ok(text)
+}
+
+// A content model in so many brackets.
+fn in_brackets(alloc: Global, count: u64) -> Result<Bytes, Fail> {
+    let mut text = Bytes::from_slice(alloc, b"<!ELEMENT html ")?;
+    for _ in 0..count {
+        text.append(b"(")?;
+    }
+    text.append(b"html")?;
+    for _ in 0..count {
+        text.append(b")")?;
+    }
+    text.append(b">")?;
+    Ok(text)
+}
+
+// Whether the command on the file by this definition gives an answer.
+fn answers(alloc: Global, command: &str, definition: &[u8]) -> Result<bool, Fail> {
+    let words = [command, "t.php", "--dtd", "d.dtd"];
+    let ending = run_by(alloc, &words, FILE.as_bytes(), definition, QUIET)?;
+    Ok(matches!(ending.exit, Exit::Done | Exit::No) && ending.err.written().is_empty())
 }
 
 #[test]
 fn limits_of_definitions(rt: HostRuntime) -> Result<(), Fail> {
     let alloc = rt.alloc();
-    let many = with_attributes(alloc, 65)?;
+    for command in COMMANDS {
+        for most in [
+            with_attributes(alloc, 64)?,
+            numbered(alloc, "<!ELEMENT e", 1024, " EMPTY>")?,
+            in_brackets(alloc, 200)?,
+        ] {
+            assert!(rt; answers(alloc, command, most.as_slice())?, "{command}");
+        }
+        for (more, line) in [
+            (with_attributes(alloc, 65)?, "phpsa: Dtd Limit 65"),
+            (
+                numbered(alloc, "<!ELEMENT e", 1025, " EMPTY>")?,
+                "phpsa: Dtd Limit 1025",
+            ),
+            (in_brackets(alloc, 201)?, "phpsa: Dtd Limit 201"),
+        ] {
+            let is_so = refuses(alloc, command, more.as_slice(), Exit::Dtd, line)?;
+            assert!(rt; is_so, "{command} {line}");
+        }
+    }
+    Ok(())
+}
+
+#[test]
+fn a_definition_that_is_too_long(rt: HostRuntime) -> Result<(), Fail> {
+    let alloc = rt.alloc();
     let long = vec![in alloc; b' '; FILE_LIMIT + 1]?;
     for command in COMMANDS {
-        let is_so = refuses(
-            alloc,
-            command,
-            many.as_slice(),
-            Exit::Dtd,
-            "phpsa: Dtd Limit 65",
-        )?;
-        assert!(rt; is_so, "{command}");
         let is_long = refuses(
             alloc,
             command,
@@ -152,6 +205,17 @@ fn definitions_that_are_not_read(rt: HostRuntime) -> Result<(), Fail> {
             assert!(rt; says(&ending, exit, line), "{command} {file}");
         }
     }
+    // What an entity names is read last.
+    for (fails, line) in [(1, "phpsa: ReadFault d.dtd"), (2, "phpsa: ReadFault t.php")] {
+        let outside = Outside {
+            fails: Some(fails),
+            ..QUIET
+        };
+        let words = ["check", "t.php", "--dtd", "d.dtd"];
+        let definition = b"<!ENTITY % f SYSTEM \"t.php\">%f;";
+        let ending = run_by(rt.alloc(), &words, FILE.as_bytes(), definition, outside)?;
+        assert!(rt; says(&ending, Exit::ReadFault, line), "{line}");
+    }
     // A script is read before its definition.
     let words = ["check", "t.php", "--dtd", "d.dtd"];
     let ending = run(rt.alloc(), &words, b"<?php echo 1.5;", QUIET)?;
@@ -192,6 +256,53 @@ fn pages_by_a_file(rt: HostRuntime) -> Result<(), Fail> {
             );
             assert!(rt; ending.err.written().is_empty(), "{command} {page}");
         }
+    }
+    Ok(())
+}
+
+// Parameter entities of which each holds the one before it twice, so many times, from one space.
+fn doubling(alloc: Global, times: u64) -> Result<Bytes, Fail> {
+    let mut text = Bytes::from_slice(alloc, b"<!ENTITY % a0 \" \">")?;
+    for number in 1..=times {
+        let before = number - 1;
+        let line = format!(in alloc; "<!ENTITY % a{number} \"%a{before};%a{before};\">")?;
+        text.append(line.as_bytes())?;
+    }
+    Ok(text)
+}
+
+#[test]
+fn entities_that_double(rt: HostRuntime) -> Result<(), Fail> {
+    let definition = doubling(rt.alloc(), 23)?;
+    let words = ["page", "t.php", "--dtd", "d.dtd"];
+    let ending = run_by(
+        rt.alloc(),
+        &words,
+        FILE.as_bytes(),
+        definition.as_slice(),
+        QUIET,
+    )?;
+    assert_eq!(rt; ending.exit, Exit::Dtd);
+    let line = str::from_utf8(ending.err.written()).map_err(|_| "a text")?;
+    let count = number_behind(line, "phpsa: Dtd Limit ").ok_or("a count")?;
+    assert!(rt; count > 4_194_304);
+    Ok(())
+}
+
+// The built-in text, cut behind each of its first bytes, as a definition.
+#[test]
+fn a_definition_cut_short(rt: HostRuntime) -> Result<(), Fail> {
+    let alloc = rt.alloc();
+    let definition = strict_text(alloc)?;
+    let page = whole(alloc, "<p>&nbsp;&#x20;</p>")?;
+    let words = ["page", "t.php", "--dtd", "d.dtd"];
+    for length in 0..4_096 {
+        let front = definition.as_slice().get(..length).ok_or("a front")?;
+        let ending = run_by(alloc, &words, page.as_slice(), front, QUIET)?;
+        assert!(rt;
+            matches!(ending.exit, Exit::Done | Exit::No | Exit::Dtd),
+            "{length}"
+        );
     }
     Ok(())
 }

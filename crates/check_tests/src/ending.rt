@@ -100,3 +100,22 @@ pub fn ends_with(
             && ending.err.written() == err.as_bytes(),
     )
 }
+
+/// The number of a line, behind this text.
+pub fn number_behind(line: &str, before: &str) -> Option<u64> {
+    let (digits, rest) = line.strip_prefix(before)?.split_once("\n")?;
+    if !rest.is_empty() {
+        return None;
+    }
+    digits.parse::<u64>().ok()
+}
+
+/// The two numbers of a line, between these texts.
+pub fn two_numbers(line: &str, before: &str, between: &str, behind: &str) -> Option<(u64, u64)> {
+    let (first, rest) = line.strip_prefix(before)?.split_once(between)?;
+    let (second, rest) = rest.split_once(behind)?;
+    if !rest.is_empty() {
+        return None;
+    }
+    Some((first.parse::<u64>().ok()?, second.parse::<u64>().ok()?))
+}

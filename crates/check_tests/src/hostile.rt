@@ -1,6 +1,6 @@
 // Sources that fail, outputs that are full, files that are cut short, and two refusals at once.
-use crate::ending::{Outside, QUIET, run, run_over};
-use crate::worked::{LIST, no_with, site, whole};
+use crate::ending::{Outside, QUIET, ends_with, run, run_over};
+use crate::worked::{LIST, listed, no_with, site, whole};
 use phpsa_main::Exit;
 use std::alloc::Global;
 use std::test::Fail;
@@ -70,11 +70,8 @@ fn every_room_for_a_page(rt: HostRuntime) -> Result<(), Fail> {
     let alloc = rt.alloc();
     let ending = run_over(alloc, &RUN, site_with(alloc, REQUEST)?, QUIET)?;
     assert_eq!(rt; ending.exit, Exit::Done);
-    let page = Bytes::from_slice(alloc, ending.out.written())?;
-    assert!(rt;
-        page.as_slice()
-            .ends_with(b"<li class=\"q\">x</li>\n</ul>\n</body></html>\n")
-    );
+    let page = listed(alloc, "<li class=\"q\">x</li>\n")?;
+    assert_eq!(rt; ending.out.written(), page.as_slice());
     assert!(rt; rooms_are_so(alloc, &RUN, REQUEST, None, page.as_slice())?);
     Ok(())
 }
@@ -92,6 +89,39 @@ fn every_room_for_an_answer(rt: HostRuntime) -> Result<(), Fail> {
         Some(&script),
         text.as_slice(),
     )?;
+    assert!(rt; is_so);
+    Ok(())
+}
+
+// Answers for a page that is valid itself.
+#[test]
+fn every_room_for_a_word(rt: HostRuntime) -> Result<(), Fail> {
+    let alloc = rt.alloc();
+    let page = Bytes::from_slice(alloc, b"<html><body><p>a</p></body></html>")?;
+    for (command, option, text) in [
+        ("page", "--dtd=mini", "valid\n"),
+        ("check", "--dtd=mini", "yes\n"),
+        ("page", "--dtd=strict", "invalid\n"),
+    ] {
+        let words = [command, "t.php", option];
+        let is_so = rooms_are_so(alloc, &words, "", Some(&page), text.as_bytes())?;
+        assert!(rt; is_so, "{command} {text}");
+    }
+    let words = ["check", "t.php", "--dtd=mini", "--json"];
+    let text = b"{\"answer\":\"yes\"}\n".as_slice();
+    assert!(rt; rooms_are_so(alloc, &words, "", Some(&page), text)?);
+    Ok(())
+}
+
+// The text for the error stream is cut where it is full.
+#[test]
+fn a_refusal_is_cut(rt: HostRuntime) -> Result<(), Fail> {
+    let narrow = Outside {
+        err: Some(3),
+        ..QUIET
+    };
+    let wanted = (Exit::WriteFault, "", "php");
+    let is_so = ends_with(rt.alloc(), "check t.php", "<?php $x = 1.5;", narrow, wanted)?;
     assert!(rt; is_so);
     Ok(())
 }

@@ -10,6 +10,8 @@ mod decided;
 #[cfg(test)]
 mod definitions;
 #[cfg(test)]
+mod derived;
+#[cfg(test)]
 mod ending;
 #[cfg(test)]
 mod grammars;

@@ -205,3 +205,57 @@ fn a_long_file_is_included(rt: HostRuntime) -> Result<(), Fail> {
     assert!(rt; says(alloc, &ending, "11", "phpsa: TooLong a.php 1048577")?);
     Ok(())
 }
+
+// A text in 190 nested `if`s.
+fn nested(alloc: Global, inner: &str) -> Result<Bytes, Fail> {
+    let mut text = Bytes::from_slice(alloc, b"<?php ")?;
+    for _ in 0..190 {
+        text.append(b"if (1) { ")?;
+    }
+    text.append(inner.as_bytes())?;
+    for _ in 0..190 {
+        text.append(b" }")?;
+    }
+    Ok(text)
+}
+
+// Six files of nested `if`s, each round an include of the next one, are 1,152 high.
+#[test]
+fn a_program_that_is_too_high(rt: HostRuntime) -> Result<(), Fail> {
+    let alloc = rt.alloc();
+    let mut held = Vec::new(alloc);
+    for (name, inner) in [
+        ("t.php", "include '2.php';"),
+        ("2.php", "include '3.php';"),
+        ("3.php", "include '4.php';"),
+        ("4.php", "include '5.php';"),
+        ("5.php", "include '6.php';"),
+        ("6.php", "echo 'a';"),
+    ] {
+        held.push((
+            Bytes::from_slice(alloc, name.as_bytes())?,
+            nested(alloc, inner)?,
+        ))?;
+    }
+    let ending = run_over(alloc, &CHECK, held, QUIET)?;
+    assert!(rt; says(alloc, &ending, "11", "phpsa: TooMany 1001")?);
+    Ok(())
+}
+
+// Each of 300 files includes a further one.
+#[test]
+fn a_program_without_end(rt: HostRuntime) -> Result<(), Fail> {
+    let alloc = rt.alloc();
+    let mut held = files_of(alloc, "t.php: <?php include '0';")?;
+    for number in 0..300u64 {
+        let name = number.to_string(alloc)?;
+        let text = format!(in alloc; "<?php include '{}'; g();", number.saturating_add(1))?;
+        held.push((
+            Bytes::from_slice(alloc, name.as_bytes())?,
+            Bytes::from_slice(alloc, text.as_bytes())?,
+        ))?;
+    }
+    let ending = run_over(alloc, &CHECK, held, QUIET)?;
+    assert!(rt; says(alloc, &ending, "11", "phpsa: TooMany 257")?);
+    Ok(())
+}

@@ -1,7 +1,7 @@
 // Scripts that are run for the request of a file.
 use crate::ending::{Ending, Outside, QUIET, run_over};
 use crate::hostile::{RUN, site_with};
-use crate::worked::{BEFORE, BEHIND};
+use crate::worked::listed;
 use phpsa_main::Exit;
 use std::alloc::Global;
 use std::test::Fail;
@@ -38,11 +38,8 @@ fn a_usual_page(rt: HostRuntime) -> Result<(), Fail> {
     let held = site_with(alloc, "{\"get\":{\"a\":\"x<\"}}")?;
     let ending = run_over(alloc, &RUN, held, QUIET)?;
     assert_eq!(rt; ending.exit, Exit::Done);
-    let listed = "<ul><li>all</li>\n<li class=\"a\">x&lt;</li>\n</ul>\n";
-    let wanted = format!(in alloc;
-        "<?xml version=\"1.0\" encoding=\"UTF-8\"?>\n{BEFORE}{listed}{BEHIND}\n"
-    )?;
-    assert_eq!(rt; ending.out.written(), wanted.as_bytes());
+    let wanted = listed(alloc, "<li class=\"a\">x&lt;</li>\n")?;
+    assert_eq!(rt; ending.out.written(), wanted.as_slice());
     assert!(rt; ending.err.written().is_empty());
     Ok(())
 }

@@ -99,6 +99,7 @@ fn judges_pages(rt: HostRuntime) -> Result<(), Fail> {
         ("", Exit::No, "invalid\n"),
         ("<p", Exit::No, "invalid\n"),
         ("<html><body>x</body></html>", Exit::No, "invalid\n"),
+        ("<html><body><p>b</body></html>", Exit::No, "invalid\n"),
         (
             "<html><body><p>&foo;</p></body></html>",
             Exit::No,
@@ -225,7 +226,11 @@ fn refuses_what_is_no_script(rt: HostRuntime) -> Result<(), Fail> {
     for (script, err) in [
         ("<?php $x = \"a\\q\";", "phpsa: Escape t.php 13\n"),
         ("<?php $x = 'a", "phpsa: Unclosed t.php 11\n"),
-        ("<?php echo 1.5;", "phpsa: Float t.php 11\n"),
+        ("<?php $x = 1.5;", "phpsa: Float t.php 11\n"),
+        (
+            "<?php $x = 9223372036854775808;",
+            "phpsa: BigInt t.php 11\n",
+        ),
         (
             "<?php echo 9223372036854775808;",
             "phpsa: BigInt t.php 11\n",
@@ -257,6 +262,19 @@ fn refuses_a_long_file(rt: HostRuntime) -> Result<(), Fail> {
     assert!(rt; says_too_long(&checked));
     let judged = run(alloc, &PAGE, long.as_slice(), QUIET)?;
     assert!(rt; says_too_long(&judged));
+    Ok(())
+}
+
+// A file of the greatest length is read.
+#[test]
+fn a_file_at_the_limit(rt: HostRuntime) -> Result<(), Fail> {
+    let alloc = rt.alloc();
+    let long = vec![in alloc; b'a'; FILE_LIMIT]?;
+    let judged = run(alloc, &PAGE, long.as_slice(), QUIET)?;
+    assert_eq!(rt; judged.out.written(), b"invalid\n".as_slice());
+    let printed = run(alloc, &["run", "t.php"], long.as_slice(), QUIET)?;
+    assert_eq!(rt; printed.exit, Exit::Done);
+    assert!(rt; printed.out.written() == long.as_slice());
     Ok(())
 }
 

@@ -84,7 +84,12 @@ fn runs_and_grammars_are_taken(rt: HostRuntime) -> Result<(), Fail> {
 #[test]
 fn scripts_are_made(rt: HostRuntime) -> Result<(), Fail> {
     let alloc = rt.alloc();
-    for (number, length) in [("1", 318), ("200", 17_904), ("00000002", 402)] {
+    for (number, length) in [
+        ("1", 318),
+        ("200", 17_904),
+        ("1000", 89_904),
+        ("00000002", 402),
+    ] {
         let ending = run(alloc, &["make", number], b"", FAILING)?;
         assert_eq!(rt; ending.exit, Exit::Done);
         assert_eq!(rt; ending.out.written().len(), length);
@@ -184,6 +189,22 @@ fn words_that_ask_for_nothing(rt: HostRuntime) -> Result<(), Fail> {
     for words in NONE.split('\n') {
         let is_so = ends_with(rt.alloc(), words, CLOSED, FAILING, (Exit::Usage, "", USAGE))?;
         assert!(rt; is_so, "{words}");
+    }
+    Ok(())
+}
+
+#[test]
+fn every_room_for_the_usage(rt: HostRuntime) -> Result<(), Fail> {
+    let text = USAGE.as_bytes();
+    for room in 0..text.len() {
+        let narrow = Outside {
+            err: Some(room as u64),
+            ..QUIET
+        };
+        let ending = run(rt.alloc(), &["check"], b"", narrow)?;
+        assert_eq!(rt; ending.exit, Exit::WriteFault, "room {room}");
+        assert!(rt; ending.out.written().is_empty(), "room {room}");
+        assert_eq!(rt; ending.err.written(), &text[..room], "room {room}");
     }
     Ok(())
 }

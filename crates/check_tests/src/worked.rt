@@ -1,5 +1,5 @@
 // Scripts by XHTML 1.0 Strict with the answers that were worked out for them by hand.
-use crate::ending::{Ending, QUIET, run, run_over};
+use crate::ending::{Ending, QUIET, run, run_over, two_numbers};
 use phpsa_main::Exit;
 use std::alloc::Global;
 use std::test::Fail;
@@ -167,7 +167,11 @@ fn a_limit_of_one_sum(rt: HostRuntime) -> Result<(), Fail> {
     let words = ["check", "t.php", "--limit", "1"];
     let ending = run(rt.alloc(), &words, script.as_slice(), QUIET)?;
     assert_eq!(rt; ending.exit, Exit::Undecided);
-    assert!(rt; ending.out.written().starts_with(b"undecided pairs "));
+    let line = str::from_utf8(ending.out.written()).map_err(|_| "a text")?;
+    let numbers = two_numbers(line, "undecided pairs ", " height ", "\n");
+    let (count, height) = numbers.ok_or("two numbers")?;
+    assert!(rt; count > 1);
+    assert!(rt; height > 0);
     Ok(())
 }
 
@@ -195,6 +199,14 @@ pub fn site(alloc: Global, script: &str) -> Result<Vec<(Bytes, Bytes)>, Fail> {
     held.push((Bytes::from_slice(alloc, b"head.php")?, head))?;
     held.push((Bytes::from_slice(alloc, b"foot.php")?, foot))?;
     Ok(held)
+}
+
+/// What that page prints, with these items behind the first one.
+pub fn listed(alloc: Global, items: &str) -> Result<Bytes, Fail> {
+    let page = format!(in alloc;
+        "<?xml version=\"1.0\" encoding=\"UTF-8\"?>\n{BEFORE}<ul><li>all</li>\n{items}</ul>\n{BEHIND}\n"
+    )?;
+    Ok(Bytes::from_slice(alloc, page.as_bytes())?)
 }
 
 #[test]

@@ -10,8 +10,8 @@ use std::test::Fail;
 
 // By nesting: nothing, an element, an open one; p^n P^n; p^n; p^n P; a part of which no sentence is
 // left; copies of nonterminals with one sum; two sums of a nonterminal before the first sentence,
-// by limits of 1 and of 9; a start tag 2^13 times, which passes the limit on unmatched tags at the
-// height of 14.
+// by limits of 1 and of 9; a start tag 2^12 times, which are as many unmatched tags as may be, and
+// 2^13 times, which passes that limit at the height of 14.
 #[test]
 fn by_nesting(rt: HostRuntime) -> Result<(), Fail> {
     let alloc = rt.alloc();
@@ -28,6 +28,11 @@ fn by_nesting(rt: HostRuntime) -> Result<(), Fail> {
         (b"01P1p2234344.4..", 1, (b'y', 0, 0)),
         (b"01334.45.52.11p1p.2P.", 1, (b'p', 2, 2)),
         (b"01334.45.52.11p1p.2P.", 9, (b'n', 0, 0)),
+        (
+            b"01.1222333444555666777888999:::;;;<<<===p.",
+            9,
+            (b'n', 0, 0),
+        ),
         (
             b"01.1222333444555666777888999:::;;;<<<===>>>p.",
             9,

@@ -100,6 +100,41 @@ fn places_of_includes(rt: HostRuntime) -> Result<(), Fail> {
     Ok(())
 }
 
+// `t.php` with 250 includes of a file of 799 statements of one node, and so many such statements of
+// its own.
+fn many_nodes(alloc: Global, own: usize) -> Result<MemFiles, NoMemory> {
+    let mut text = String::from_str(alloc, "<?php ")?;
+    for _ in 0..250 {
+        text.push_str("include 'a.php'; ")?;
+    }
+    for _ in 0..own {
+        text.push_str("exit; ")?;
+    }
+    let mut included = String::from_str(alloc, "<?php ")?;
+    for _ in 0..799 {
+        included.push_str("exit; ")?;
+    }
+    let mut held = Vec::new(alloc);
+    hold(alloc, &mut held, "t.php", text.as_str())?;
+    hold(alloc, &mut held, "a.php", included.as_str())?;
+    Ok(MemFiles::new(held, Vec::new(alloc)))
+}
+
+// The file is a node itself: 200,000 nodes are the most.
+#[test]
+fn nodes(rt: HostRuntime) -> Result<(), Fail> {
+    let alloc = rt.alloc();
+    assert_eq!(rt;
+        outcome(alloc, &mut many_nodes(alloc, 249)?)?.as_str(),
+        "Ok 199999 0"
+    );
+    assert_eq!(rt;
+        outcome(alloc, &mut many_nodes(alloc, 250)?)?.as_str(),
+        "TooMany 200001"
+    );
+    Ok(())
+}
+
 #[test]
 fn heights(rt: HostRuntime) -> Result<(), Fail> {
     let alloc = rt.alloc();
