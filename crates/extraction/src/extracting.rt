@@ -10,7 +10,8 @@ ghost use Rattle.flow_listing.specs.Made.{IsMade};
 ghost use Rattle.extraction_bounds.specs.Bounds.{IsBounded};
 
 use flow_code::FlowProgram;
-use flow_listing::{FlowLister, extract_by};
+use flow_listing::{FlowLister, Plain, extract_by};
+use given_texts::given_texts;
 use op_system::OpSystem;
 use std::alloc::Global;
 use text_base::NoMemory;
@@ -28,6 +29,7 @@ pub fn extract(alloc: Global, flow: &FlowProgram) -> Result<OpSystem, NoMemory>
     ensures bounded { IfOk result (IsBounded (plain_flow flow.now)) }
 {
     let lister = FlowLister::new(alloc, flow)?;
-    let system = extract_by(alloc, flow, &lister)?;
+    let given = given_texts(alloc)?;
+    let system = extract_by(alloc, flow, &lister, &Plain, &given)?;
     Ok(system)
 }

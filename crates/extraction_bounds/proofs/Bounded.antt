@@ -12,7 +12,7 @@ use Rattle.flow_code.specs.Lawful.{nexts}
 use Rattle.least_sets.specs.Forms.{Form}
 use Rattle.loose_sets.specs.Keys.{told_keys}
 use Rattle.set_simulations.specs.Simulations.{Alike}
-use Rattle.plain_systems.specs.Written.{text_bytes, text_bytes_in}
+use Rattle.table_systems.specs.Written.{text_bytes, text_bytes_in}
 use Rattle.function_pairs.specs.Handed.{Handing, has_key}
 use Rattle.point_rows.specs.Rows.{points_seen}
 use Rattle.ssa_form.specs.Versions.{joined_by}
@@ -28,10 +28,10 @@ use Rattle.page_extraction.specs.Made.{IsMadeBy}
 use Rattle.flow_tables.specs.declared.tables.FlowTables.{FlowTables}
 use Rattle.flow_tables.specs.Tables.{flow_of, functions_of, AreTables, lists_of}
 use Rattle.flow_listing.specs.Asked.{IsAsked}
-use Rattle.flow_listing.specs.Made.{IsMade}
+use Rattle.flow_listing.specs.Made.{IsMadeWith, IsMade, IsMadeOver}
 use Rattle.flow_listing.proofs.Exact as exactness
 use Rattle.extraction_bounds.specs.Sizes.{point_parts, point_bytes, program_size, joins_count, links_count}
-use Rattle.extraction_bounds.specs.Bounds.{IsBounded}
+use Rattle.extraction_bounds.specs.Bounds.{IsBoundedWith, IsBounded}
 use Rattle.extraction_bounds.proofs.Sums.{sum_le, sum_add, sum_times, sum_ones, sum_none, covered, mul-add}
 use Rattle.extraction_bounds.proofs.Counts.{aspects_length, slots_length, points_length, called_length, edges_length, handings_length, handed_length}
 use Rattle.extraction_bounds.proofs.Fits.{bytes_of, joined_few}
@@ -321,7 +321,8 @@ module _ (t : FlowTables) (are : AreTables t) where
   unfolding program_size
   size_is = refl
 
-  module _ (s : OpSystem) (made : IsMadeBy flow (IsAsked t) (lists_of t) s) where
+  module _ (request : List ℕ → Type 0) (nonterminals lines more_nonterminals more_productions : ℕ) (few_nonterminals : nonterminals ≤ 32 + more_nonterminals) (few_lines : lines ≤ 65 + more_productions)
+      (s : OpSystem) (made : IsMadeBy request nonterminals lines flow (IsAsked t) (lists_of t) s) where
     numbered : AreNumbered (IsAsked t) (lists_of t) made.starts made.names made.start made.count made.rows
     numbered = made.numbered
 
@@ -361,7 +362,7 @@ module _ (t : FlowTables) (are : AreTables t) where
     abbrev linked : ℕ
     linked = program_size flow + joins_count t.versions + links_count t.versions + 1
 
-    nonterminals_few : s.grammar.count ≤ 64 * ((keys + 1) * size)
+    nonterminals_few : s.grammar.count ≤ 64 * ((keys + 1) * size) + more_nonterminals
     nonterminals_few =
         let sized = size_is in
         let a = within (length made.names + 33) (2 * length points + slots + length asks) (length bs) 3 (length points + slots + length asks) (10 * length points + parts + 2 * length fs + 33) 33 (keys + 1) size
@@ -370,9 +371,9 @@ module _ (t : FlowTables) (are : AreTables t) where
         (omega (arith, bytes_few, bytes_all)) few_aspects (omega arith) (omega arith) (omega (arith, sized)) in
         let c = made.written.numbers in
         let d = made.numbered.count_is in
-        omega (arith, a, b, c, d)
+        omega (arith, a, b, c, d, few_nonterminals)
 
-    productions_few : length s.grammar.productions.items + length s.ops.items ≤ 128 * ((keys + 1) * linked)
+    productions_few : length s.grammar.productions.items + length s.ops.items ≤ 128 * ((keys + 1) * linked) + more_productions
     productions_few =
         let sized = size_is in
         let a = within (length made.rows + 65) (5 * length points + 4 * parts + slots + links_count t.versions) (length bs) (2 * (keys + 1) + 2) (length points + slots + length asks) (13 * length points + parts + 67) 67 (keys + 1) linked
@@ -380,12 +381,20 @@ module _ (t : FlowTables) (are : AreTables t) where
         let b = within (text_bytes_in made.rows) (length points + parts + bytes) (length bs) 5 (length points + slots + length asks) (5 * length points + 2 * bytes) 15 (keys + 1) linked
         (omega (arith, bytes_few, bytes_all)) few_aspects (omega arith) (omega arith) (omega (arith, sized)) in
         let c = made.written.sizes in
-        omega (arith, a, b, c)
+        omega (arith, a, b, c, few_lines)
 
-    pub bounded : IsBounded flow s
+    pub bounded : IsBoundedWith more_nonterminals more_productions flow s
     bounded = record { versions = t.versions; exact = are.exact; once = are.once; joins = are.joins; joins_most = joins_few flow t.versions are.once are.joins; links_most = links_few flow t.versions are.once are.joins; nonterminals = nonterminals_few; productions = productions_few }
 
--- what is made of a program's sets is no larger than the program and its versions allow
+-- what is made of a program's sets is no larger than the program and its versions allow, and what is given for the request
+bounded_with : (request : List ℕ → Type 0) (nonterminals lines more_nonterminals more_productions : ℕ) → nonterminals ≤ 32 + more_nonterminals → lines ≤ 65 + more_productions
+    → (flow : PlainFlow) (s : OpSystem) → IsMadeWith request nonterminals lines flow s → IsBoundedWith more_nonterminals more_productions flow s
+bounded_with request nonterminals lines more_nonterminals more_productions few_nonterminals few_lines flow s made =
+    subst (λ (f : PlainFlow). IsBoundedWith more_nonterminals more_productions f s) made.of_flow (bounded made.tables made.are request nonterminals lines more_nonterminals more_productions few_nonterminals few_lines s
+    (subst (λ (f : PlainFlow). IsMadeBy request nonterminals lines f (IsAsked made.tables) (lists_of made.tables) s) (sym made.of_flow) made.made))
+
 pub is_bounded : (flow : PlainFlow) (s : OpSystem) → IsMade flow s → IsBounded flow s
-is_bounded flow s made =
-    subst (λ (f : PlainFlow). IsBounded f s) made.of_flow (bounded made.tables made.are s (subst (λ (f : PlainFlow). IsMadeBy f (IsAsked made.tables) (lists_of made.tables) s) (sym made.of_flow) made.made))
+is_bounded flow s made = bounded_with _ 32 65 0 0 (omega arith) (omega arith) flow s made
+
+pub is_bounded_over : (request : List ℕ → Type 0) (count size : ℕ) (flow : PlainFlow) (s : OpSystem) → IsMadeOver request count size flow s → IsBoundedWith count size flow s
+is_bounded_over request count size flow s made = bounded_with request (32 + count) made.lines count size (omega arith) made.few flow s made.made

@@ -11,7 +11,7 @@ use Rattle.flow_code.specs.Points.{PlainKeyRef, int_ref, text_ref, read_ref, Pla
 use Rattle.flow_code.specs.Lawful.{nexts}
 use Rattle.least_sets.specs.Forms.{Form, text_form, same_form, join_form, integer_form}
 use Rattle.plain_values.specs.Text.{text_of}
-use Rattle.plain_systems.specs.Written.{text_bytes}
+use Rattle.table_systems.specs.Written.{text_bytes}
 use Rattle.set_names.specs.declared.name.Half.{Half}
 use Rattle.set_names.specs.declared.name.Half.TheVariants.{Text, Array}
 use Rattle.set_names.specs.declared.name.Aspect.{Aspect}

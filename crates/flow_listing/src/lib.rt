@@ -7,4 +7,4 @@
 mod lister;
 
 pub use lister::FlowLister;
-pub use page_extraction::extract_by;
+pub use page_extraction::{Plain, Reading, extract_by};

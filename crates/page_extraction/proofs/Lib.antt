@@ -1,6 +1,5 @@
 mod EndLemmas
 mod Numbering
-mod Unasked
 mod Pages
 mod Operations
 mod Rules

@@ -1,14 +1,13 @@
 -- The start of the system has exactly the loose pages.
 use Rattle.std.proofs.Common.{◌≡◌, ◌↔◌, ◌<◌, ℕ, List, sym, subst, arith, Contains}
-use Rattle.std.specs.Prelude.{All}
 use Rattle.text_base.specs.declared.numbers.Nt as nt
-use Rattle.xml_text.specs.Texts.{IsText}
 use Rattle.cfg_grammar.specs.declared.symbol.Symbol.TheVariants.{Nt}
-use Rattle.op_system.specs.Rel.{Rel}
+use Rattle.op_system.specs.declared.op.Op.{Op}
 use Rattle.op_system.specs.declared.system.OpSystem.{OpSystem}
 use Rattle.flow_code.specs.Points.{PlainFlow}
 use Rattle.least_sets.specs.Forms.{Form}
-use Rattle.loose_sets.specs.Loose.{Loose}
+use Rattle.least_sets.specs.Sets.{In}
+use Rattle.loose_sets.specs.Loose.{LooseBy}
 use Rattle.set_simulations.specs.Simulations.{IsMonotone}
 use Rattle.slot_versions.specs.Versions.{linked_in}
 use Rattle.ssa_form.specs.Versions.{joins_of}
@@ -18,33 +17,27 @@ use Rattle.set_versions.specs.Reading.{read_at}
 use Rattle.set_versions.proofs.Exact.{are_exact}
 use Rattle.set_numbering.specs.Numbered.{AreNumbered}
 use Rattle.system_rows.specs.Listed.{listed}
-use Rattle.op_cycles.specs.Texts.{TextOf}
-use Rattle.plain_systems.specs.Plain.{IsPlainIn, HasSets}
+use Rattle.table_systems.specs.Sets.{SystemText, HasSets}
 use Rattle.page_extraction.specs.Ends.{AreEnds, IsExactLister}
 use Rattle.page_extraction.proofs.Numbering as numbering
-use Rattle.page_extraction.proofs.Unasked as unasked
 
-pub all_monotone : IsMonotone (λ bytes text. All bytes text)
-all_monotone bytes more w wider h = λ k d below. wider _ (h k d below)
+module _ (outputs : Op → List ℕ → List ℕ → Type 0) (request : List ℕ → Type 0) (circular : (ℕ → Type 0) → List ℕ → Type 0) (more : IsMonotone circular) where
+  -- a number of the table has its texts in the system
+  pub number_texts : (s : OpSystem) (rows : List (ℕ × Form ℕ)) (count : ℕ) → HasSets outputs request circular rows count s.grammar.productions.items s.ops.items → (a : nt.Nt) → a.0 < count → (w : List ℕ)
+      → SystemText outputs circular s.grammar.productions.items s.ops.items (Nt a) w ↔ In (listed rows) outputs request circular a.0 w
+  number_texts s rows count has a less w = let sets = has a.0 less w in (λ i. sets.1 i, λ i. sets.0 i)
 
--- a number of the table has its texts in the system
-pub number_texts : (s : OpSystem) (rows : List (ℕ × Form ℕ)) (count : ℕ) → HasSets rows count s.grammar.productions.items s.ops.items → (a : nt.Nt) → a.0 < count → (w : List ℕ) → TextOf s (Nt a) w ↔ IsPlainIn (listed rows) a.0 w
-number_texts s rows count has a less w =
-    let sets = has a.0 less w in (
-      λ i. sets.1 (unasked.texts s.grammar.productions.items s.ops.items (λ t. ⊥) IsText Rel (λ bytes text. All bytes text) all_monotone (Nt a) w i),
-      λ i. unasked.texts s.grammar.productions.items s.ops.items IsText (λ t. ⊥) Rel (λ bytes text. All bytes text) all_monotone (Nt a) w (sets.0 i),
-    )
-
-pub start_pages : (flow : PlainFlow) (asks : SetName → Type 0) (lists : SetName → List (Form SetName)) → IsExactLister flow asks lists → (starts names : List SetName) (start count : ℕ) (rows : List (ℕ × Form ℕ)) → AreEnds flow starts
-    → AreNumbered asks lists starts names start count rows → (s : OpSystem) → HasSets rows count s.grammar.productions.items s.ops.items → s.start.0 ≡ start → (w : List ℕ) → TextOf s (Nt s.start) w ↔ Loose flow w
-start_pages flow asks lists is starts names start count rows ends are s has at w =
-    let less : s.start.0 < count = (let a = are.start_is in let b = are.count_is in omega arith) in
-    let pages =
-    numbering.pages flow (linked_in (joins_of is.versions)) (seen_at (read_at is.versions)) (are_exact flow is.versions is.exact) asks lists is.lister starts names start count rows ends are Rel IsText (λ bytes text. All bytes text) all_monotone w in
-    let texts = number_texts s rows count has s.start less w in (
-      λ i. pages.0 (subst (λ (n : ℕ). IsPlainIn (listed rows) n w) at (texts.0 i)),
-      λ page. texts.1 (subst (λ (n : ℕ). IsPlainIn (listed rows) n w) (sym at) (pages.1 page)),
-    )
+  pub start_pages : (flow : PlainFlow) (asks : SetName → Type 0) (lists : SetName → List (Form SetName)) → IsExactLister flow asks lists → (starts names : List SetName) (start count : ℕ) (rows : List (ℕ × Form ℕ)) → AreEnds flow starts
+      → AreNumbered asks lists starts names start count rows → (s : OpSystem) → HasSets outputs request circular rows count s.grammar.productions.items s.ops.items → s.start.0 ≡ start → (w : List ℕ)
+      → SystemText outputs circular s.grammar.productions.items s.ops.items (Nt s.start) w ↔ LooseBy outputs request circular flow w
+  start_pages flow asks lists is starts names start count rows ends are s has at w =
+      let less : s.start.0 < count = (let a = are.start_is in let b = are.count_is in omega arith) in
+      let pages =
+      numbering.pages flow (linked_in (joins_of is.versions)) (seen_at (read_at is.versions)) (are_exact flow is.versions is.exact) asks lists is.lister starts names start count rows ends are outputs request circular more w in
+      let texts = number_texts s rows count has s.start less w in (
+        λ i. pages.0 (subst (λ (n : ℕ). In (listed rows) outputs request circular n w) at (texts.0 i)),
+        λ page. texts.1 (subst (λ (n : ℕ). In (listed rows) outputs request circular n w) (sym at) (pages.1 page)),
+      )
 
 -- the names to begin with may be asked for
 pub ends_asked : (flow : PlainFlow) (asks : SetName → Type 0) (lists : SetName → List (Form SetName)) → IsExactLister flow asks lists → (starts names : List SetName) → names ≡ starts → AreEnds flow starts → (n : SetName) → Contains names n → asks n

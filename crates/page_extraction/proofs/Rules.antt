@@ -1,11 +1,8 @@
 -- Each rule of the system is an operation of the loose sets.
 use Rattle.std.proofs.Common.{◌≡◌, ◌≤◌, ◌<◌, ◌⊎◌, inl, inr, ℕ, zero, suc, List, [], ◌∷◌, length, Some, refl, subst, arith, slice_get, Contains}
-use Rattle.std.specs.Prelude.{All}
 use Rattle.std.proofs.lemmas.Bool.{cases_lt}
 use Rattle.std.proofs.lemmas.Option.{slice_get_within, get_or_from_slice_get}
 use Rattle.text_base.specs.declared.numbers.Nt as nt
-use Rattle.xml_text.specs.Texts.{IsText}
-use Rattle.op_system.specs.Rel.{Rel}
 use Rattle.op_system.specs.declared.op.Op.{Op}
 use Rattle.op_system.specs.declared.system.OpRule.{OpRule}
 use Rattle.op_system.specs.declared.system.OpSystem.{OpSystem}
@@ -14,7 +11,7 @@ use Rattle.least_sets.specs.Forms.{Form, apply_form}
 use Rattle.loose_sets.specs.Keys.{told_keys}
 use Rattle.loose_sets.specs.Names.{Name, input_of, output_of}
 use Rattle.slot_versions.specs.Versions.{Linked, linked_in}
-use Rattle.set_simulations.specs.Simulations.{Alike}
+use Rattle.set_simulations.specs.Simulations.{Alike, IsMonotone}
 use Rattle.ssa_form.specs.Versions.{joins_of}
 use Rattle.version_rows.specs.Names.{VersionName, Versioned, by_version, IsRead}
 use Rattle.version_rows.specs.Rows.{VersionRow, AreExact}
@@ -27,12 +24,12 @@ use Rattle.set_numbering.specs.Listers.{IsFlowLister}
 use Rattle.set_numbering.specs.Numbered.{IsAt, AreNumbered}
 use Rattle.numbered_rows.specs.Numbered.{Numbers}
 use Rattle.numbered_rows.proofs.Same as same
-use Rattle.plain_systems.specs.Plain.{HasSets, HasCycles, AreOfRows}
+use Rattle.table_systems.specs.Sets.{HasSets, HasCycles, AreOfRows}
 use Rattle.page_extraction.specs.Ends.{AreEnds, IsExactLister}
-use Rattle.page_extraction.specs.Rules.{HasTexts, IsLooseRule, AreLooseRules}
+use Rattle.page_extraction.specs.Rules.{HasTexts, IsLooseRule, AreLooseRulesBy}
 use Rattle.page_extraction.proofs.Numbering as numbering
 use Rattle.page_extraction.proofs.Operations as operations
-use Rattle.page_extraction.proofs.Pages.{all_monotone, number_texts}
+use Rattle.page_extraction.proofs.Pages.{number_texts}
 
 is_there : (xs : List SetName) (k : ℕ) → k < length xs → (n : SetName) × (slice_get xs k ≡ Some n)
 is_there [] k less = absurd (omega (arith, less))
@@ -81,15 +78,16 @@ module _ (flow : PlainFlow) (linked : Linked) (at : Versioned) (exact : AreExact
       by (inl below) = let n = is_there names k below in of_name k j op n.0 n.1 has
       by (inr above) = absurd (no_start k j op (let a = are.start_is in let b = are.count_is in omega (arith, above, less)) has)
 
-  module _ (s : OpSystem) (sets : HasSets rows count s.grammar.productions.items s.ops.items) (cycles : HasCycles rows count s.grammar.productions.items s.ops.items) (rules : AreOfRows rows count s.ops.items) where
-    has_texts : (n : Name) → IsRead flow n → (a : nt.Nt) → a.0 < count → N (by_version at n) a.0 → HasTexts flow s n a
+  module _ (outputs : Op → List ℕ → List ℕ → Type 0) (request : List ℕ → Type 0) (circular : (ℕ → Type 0) → List ℕ → Type 0) (more : IsMonotone circular)
+      (s : OpSystem) (sets : HasSets outputs request circular rows count s.grammar.productions.items s.ops.items) (cycles : HasCycles rows count s.grammar.productions.items s.ops.items) (rules : AreOfRows rows count s.ops.items) where
+    has_texts : (n : Name) → IsRead flow n → (a : nt.Nt) → a.0 < count → N (by_version at n) a.0 → HasTexts outputs request circular flow s n a
     has_texts n read a less e w =
         let loose =
-        same.loose_texts flow linked at names rows (numbering.numbered flow linked at exact asks lists is starts names start count rows ends are) exact Rel IsText (λ bytes text. All bytes text) all_monotone n read a.0 e w in
-        let texts = number_texts s rows count sets a less w in
+        same.loose_texts flow linked at names rows (numbering.numbered flow linked at exact asks lists is starts names start count rows ends are) exact outputs request circular more n read a.0 e w in
+        let texts = number_texts outputs request circular more s rows count sets a less w in
         (λ i. loose.1 (texts.0 i), λ i. texts.1 (loose.0 i))
 
-    pub loose_rule : (rule : OpRule) → Contains s.ops.items rule → IsLooseRule flow s rule
+    pub loose_rule : (rule : OpRule) → Contains s.ops.items rule → IsLooseRule outputs request circular flow s rule
     loose_rule rule has =
         let r = rules rule has in
         let st = stands rule.left.0 rule.operand.0 rule.op r.0 r.2 in
@@ -112,8 +110,9 @@ module _ (flow : PlainFlow) (linked : Linked) (at : Versioned) (exact : AreExact
           cycle = (λ i. by_versions.0 (by_numbers.1 (by_system.1 i)), λ i. by_system.0 (by_numbers.0 (by_versions.1 i)));
         }
 
-pub loose_rules : (flow : PlainFlow) (asks : SetName → Type 0) (lists : SetName → List (Form SetName)) → IsExactLister flow asks lists → (starts names : List SetName) (start count : ℕ) (rows : List (ℕ × Form ℕ)) → AreEnds flow starts
+pub loose_rules : (outputs : Op → List ℕ → List ℕ → Type 0) (request : List ℕ → Type 0) (circular : (ℕ → Type 0) → List ℕ → Type 0) → IsMonotone circular
+    → (flow : PlainFlow) (asks : SetName → Type 0) (lists : SetName → List (Form SetName)) → IsExactLister flow asks lists → (starts names : List SetName) (start count : ℕ) (rows : List (ℕ × Form ℕ)) → AreEnds flow starts
     → AreNumbered asks lists starts names start count rows
-    → (s : OpSystem) → HasSets rows count s.grammar.productions.items s.ops.items → HasCycles rows count s.grammar.productions.items s.ops.items → AreOfRows rows count s.ops.items → AreLooseRules flow s
-loose_rules flow asks lists is starts names start count rows ends are s sets cycles rules rule has =
-    loose_rule flow (linked_in (joins_of is.versions)) (seen_at (read_at is.versions)) (are_exact flow is.versions is.exact) asks lists is.lister starts names start count rows ends are s sets cycles rules rule has
+    → (s : OpSystem) → HasSets outputs request circular rows count s.grammar.productions.items s.ops.items → HasCycles rows count s.grammar.productions.items s.ops.items → AreOfRows rows count s.ops.items → AreLooseRulesBy outputs request circular flow s
+loose_rules outputs request circular more flow asks lists is starts names start count rows ends are s sets cycles rules rule has =
+    loose_rule flow (linked_in (joins_of is.versions)) (seen_at (read_at is.versions)) (are_exact flow is.versions is.exact) asks lists is.lister starts names start count rows ends are outputs request circular more s sets cycles rules rule has

@@ -1,20 +1,23 @@
 //! Extraction.
 
-ghost use Rattle.std.specs.Prelude.{◌↔◌, ℕ, List, IfOk};
+ghost use Rattle.std.specs.Prelude.{◌↔◌, ℕ, List, length, IfOk};
 ghost use Rattle.cfg_grammar.specs.declared.symbol.Symbol as symbols;
 ghost use Rattle.flow_code.specs.View.{plain_flow};
-ghost use Rattle.loose_sets.specs.Loose.{Loose};
-ghost use Rattle.op_cycles.specs.Texts.{TextOf};
+ghost use Rattle.loose_sets.specs.Loose.{LooseBy};
+ghost use Rattle.set_systems.specs.Closed.{IsClosed};
+ghost use Rattle.set_tables.specs.Given.{closed_of};
+ghost use Rattle.table_systems.specs.Sets.{SystemText};
 ghost use Rattle.page_extraction.specs.Ends.{AreEnds, IsExactLister};
 ghost use Rattle.page_extraction.specs.Made.{IsMadeBy};
-ghost use Rattle.page_extraction.specs.Rules.{AreLooseRules};
+ghost use Rattle.page_extraction.specs.Rules.{AreLooseRulesBy};
 
 use flow_code::FlowProgram;
 use op_system::OpSystem;
-use plain_systems::plain_system;
 use set_names::{Leaving, SetName};
 use set_numbering::{Lister, number_sets};
+use set_tables::GivenTexts;
 use std::alloc::Global;
+use table_systems::{Reading, system_by};
 use text_base::NoMemory;
 
 /// The sets of what is printed from the entry of the first function on, until it returns and until
@@ -31,23 +34,32 @@ fn ends(alloc: Global, flow: &FlowProgram) -> Result<Vec<SetName>, NoMemory>
     Ok(names)
 }
 
-/// The system of productions and operations whose start has exactly the loose pages of a program,
-/// over a lister of its sets, and whose operations are in cycles exactly where those of the loose
-/// sets are. Linear in the rows, beside what the lister takes for them.
-pub fn extract_by<L: Lister>(
+/// The system of productions and operations whose start has exactly the loose pages of a program by
+/// a reading, over a lister of its sets and a grammar of what the request may bring, and whose
+/// operations are in cycles exactly where those of the loose sets are. Linear in the rows and the
+/// grammar, beside what the lister takes for them.
+pub fn extract_by<L: Lister, R: Reading>(
     alloc: Global,
     flow: &FlowProgram,
     lister: &L,
+    reading: &R,
+    given: &GivenTexts,
 ) -> Result<OpSystem, NoMemory>
-    requires { IsExactLister (plain_flow flow.now) (L.asks lister.now) (L.lists lister.now) }
-    ensures pages { IfOk result (λ s. (w : List ℕ) → TextOf s (symbols.Symbol.Nt s.start) w
-        ↔ Loose (plain_flow flow.now) w) }
-    ensures rules { IfOk result (AreLooseRules (plain_flow flow.now)) }
-    ensures made { IfOk result
-        (IsMadeBy (plain_flow flow.now) (L.asks lister.now) (L.lists lister.now)) }
+    requires lists { IsExactLister (plain_flow flow.now) (L.asks lister.now) (L.lists lister.now) }
+    requires closed { IsClosed (closed_of given.now) (R.request reading.now) }
+    ensures pages { IfOk result (λ s. (w : List ℕ)
+        → SystemText (R.outputs reading.now) (R.circular reading.now) s.grammar.productions.items
+        s.ops.items (symbols.Symbol.Nt s.start) w
+        ↔ LooseBy (R.outputs reading.now) (R.request reading.now) (R.circular reading.now)
+        (plain_flow flow.now) w) }
+    ensures rules { IfOk result (AreLooseRulesBy (R.outputs reading.now) (R.request reading.now)
+        (R.circular reading.now) (plain_flow flow.now)) }
+    ensures made { IfOk result (IsMadeBy (R.request reading.now) given.now.grammar.count
+        (length given.now.grammar.productions.items) (plain_flow flow.now) (L.asks lister.now)
+        (L.lists lister.now)) }
 {
     let starts = ends(alloc, flow)?;
     let numbered = number_sets(alloc, lister, &starts)?;
-    let system = plain_system(alloc, &numbered.table)?;
+    let system = system_by(alloc, &numbered.table, reading, given)?;
     Ok(system)
 }

@@ -42,7 +42,8 @@ fn moved_right(sets: u64, right: Right) -> Result<Right, NoMemory>
     }
 }
 
-fn moved_production(sets: u64, production: Production) -> Result<Production, NoMemory>
+/// The production with the number of each nonterminal so much higher.
+pub fn moved_production(sets: u64, production: Production) -> Result<Production, NoMemory>
     ensures { IfOk result (λ p. p ≡ spec.moved_production sets production) }
 {
     let left = sum(sets, production.left.0)?;

@@ -11,4 +11,6 @@ mod rows;
 mod sums;
 mod writing;
 
+pub use beginning::moved_production;
+pub use sums::sum;
 pub use writing::write_system;

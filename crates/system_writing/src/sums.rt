@@ -6,7 +6,7 @@ use text_base::NoMemory;
 
 /// The sum of two counts of nonterminals: want of memory where it outgrows 64 bits, since so many
 /// fit into no memory.
-pub(crate) fn sum(a: u64, b: u64) -> Result<u64, NoMemory>
+pub fn sum(a: u64, b: u64) -> Result<u64, NoMemory>
     ensures { IfOk result (λ n. n ≡ a + b) }
 {
     match a.checked_add(b) {

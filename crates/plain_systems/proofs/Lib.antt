@@ -1,3 +1,0 @@
-mod PlainLemmas
-mod WrittenLemmas
-mod Examples

@@ -1,0 +1,4 @@
+mod Kept
+mod Joined
+mod Closed
+mod Sizes

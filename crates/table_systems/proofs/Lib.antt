@@ -1,0 +1,3 @@
+mod SetLemmas
+mod WrittenLemmas
+mod Examples
