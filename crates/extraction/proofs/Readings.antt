@@ -1,5 +1,5 @@
 -- What is given for the request, by the texts that it may bring.
-use Rattle.std.proofs.Common.{◌≡◌, ◌↔◌, ◌≤◌, ℕ, List, subst}
+use Rattle.std.proofs.Common.{◌≡◌, ◌↔◌, ℕ, List, subst}
 use Rattle.op_system.specs.declared.system.OpSystem.{OpSystem}
 use Rattle.flow_code.specs.Points.{PlainFlow}
 use Rattle.set_systems.specs.Parts.{Closed}

@@ -25,12 +25,14 @@ use php_program::Program;
 use program_literals::literals_are_short;
 use program_points::{
     lawful_points_are_few, lawful_points_are_of_their_form, lawful_runs_are_runs_of_points,
+    runs_of_points_are_lawful_runs,
 };
 use std::alloc::Global;
 
 /// The points of a program (`flat` of flow_code), numbered through all its functions: at most 8 for
 /// a node of the program, 4 for a function, and two for each argument that a call leaves out. Where
-/// a run of the program ended, the points have a run that printed the same.
+/// a run of the program ended, the points have a run that printed the same; and where they have one
+/// that ended, the program has one within some number of units that printed the same.
 ///
 /// Takes time linear in the program but for the look-up of names and functions, and calls itself as
 /// deep as the program is high, which is at most 1,000.
@@ -50,12 +52,15 @@ pub fn lower(alloc: Global, program: &Program) -> Result<FlowProgram, LoweringEr
     ensures runs { IfOk result (λ flow. (r : PlainRequest) (n : ℕ) (w : List ℕ) →
         meaning (program_of program.now) r n ≡ record { printed = w; end = Ended }
         → FlatRun (plain_flow flow) r w) }
+    ensures back { IfOk result (λ flow. (r : PlainRequest) (w : List ℕ) → FlatRun (plain_flow flow) r w
+        → (n : ℕ) × (meaning (program_of program.now) r n ≡ record { printed = w; end = Ended })) }
     ensures texts { IfOk result (λ flow. TextsFit (program_of program.now)) }
     ensures long { IfErr result (λ error. error ≡ LongText → HasLongText (program_of program.now)) }
 {
     lawful_points_are_of_their_form();
     lawful_points_are_few();
     lawful_runs_are_runs_of_points();
+    runs_of_points_are_lawful_runs();
     if !literals_are_short(program) {
         return Err(LoweringError::LongText);
     }

@@ -8,8 +8,8 @@ use Rattle.extraction_bounds.proofs.Bounded.{is_bounded_over}
 use Rattle.extraction.proofs.Readings.{closed_by, made_with}
 use Rattle.extraction.proofs.reading.extract_over.Goals as goal
 
-pub extract_by-requires-closed : goal.extract_by-requires-closed
-extract_by-requires-closed g c =
+pub extract_by-requires-clause-closed : goal.extract_by-requires-clause-closed
+extract_by-requires-clause-closed g c =
     let request = c.args.request.now in
     closed_by (closed_of c.in_ok-given.given) (g.R.Reading.request c.args.reading.now) (HasText request.productions.items (Nt request.start)) c.requires.texts c.in_ok-given.ensures.closed
 
