@@ -168,15 +168,3 @@ fn made_scripts_are_decided(rt: HostRuntime) -> Result<(), Fail> {
     }
     Ok(())
 }
-
-// The largest of them.
-#[test]
-fn the_largest_made_script(rt: HostRuntime) -> Result<(), Fail> {
-    let ending = run(rt.alloc(), &["make", "1000", "--check"], b"", QUIET)?;
-    assert_eq!(rt; ending.exit, Exit::Done);
-    assert_eq!(rt;
-        ending.out.written(),
-        b"functions 1000\nbytes 89904\nanswer yes\n".as_slice()
-    );
-    Ok(())
-}

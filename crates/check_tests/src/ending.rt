@@ -101,15 +101,6 @@ pub fn ends_with(
     )
 }
 
-/// The number of a line, behind this text.
-pub fn number_behind(line: &str, before: &str) -> Option<u64> {
-    let (digits, rest) = line.strip_prefix(before)?.split_once("\n")?;
-    if !rest.is_empty() {
-        return None;
-    }
-    digits.parse::<u64>().ok()
-}
-
 /// The two numbers of a line, between these texts.
 pub fn two_numbers(line: &str, before: &str, between: &str, behind: &str) -> Option<(u64, u64)> {
     let (first, rest) = line.strip_prefix(before)?.split_once(between)?;
