@@ -3,7 +3,7 @@
 //! line how long one step takes in a page of a mebibyte.
 #![tactic(auto)]
 
-use anyhow::Result;
+use anyhow::{Context, Result};
 use byte_readers::ByteReader;
 use dtd_index::IndexedDtd;
 use indexmap::IndexSet;
@@ -82,7 +82,8 @@ fn main(rt: HostRuntime) -> Result<()> {
         let start = Instant::now(&rt)?;
         read(alloc, &reader, large.as_slice())?;
         let taken = start.elapsed(&rt)?.as_secs_f64();
-        let step = taken * 1_000_000_000.0 / large.len() as f64;
+        let bytes = u32::try_from(large.len()).ok().context("too many bytes")?;
+        let step = taken * 1_000_000_000.0 / f64::from(bytes);
         println!(rt; "  {step:.1} nanoseconds a step")?;
     }
     Ok(())
