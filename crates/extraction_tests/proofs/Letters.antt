@@ -1,5 +1,5 @@
 -- The grammar of the text `a`.
-use Rattle.std.proofs.Common.{◌≡◌, ◌↔◌, ◌≤◌, ℕ, List, [], ◌∷◌, map, inl, inr, refl, sym, ◌∙◌, ap, subst, arith}
+use Rattle.std.proofs.Common.{◌≡◌, ◌↔◌, ◌≤◌, ℕ, List, [], ◌∷◌, map, inl, inr, refl, sym, ap, subst, arith}
 use Rattle.std.specs.Prelude.{Contains}
 use Rattle.string_functions.proofs.Members.{Contains-nil, Contains-cons_cases}
 use Rattle.text_base.specs.declared.byte_range.ByteRange.{ByteRange}
@@ -7,7 +7,7 @@ use Rattle.text_base.specs.declared.numbers.Nt as nt
 use Rattle.text_base.specs.declared.letter.Letter.{Letter}
 use Rattle.text_base.specs.declared.letter.Letter.TheVariants.{OfByte}
 use Rattle.cfg_grammar.specs.declared.symbol.Symbol.{Symbol}
-use Rattle.cfg_grammar.specs.declared.symbol.Symbol.TheVariants.{Range, Token, Nt}
+use Rattle.cfg_grammar.specs.declared.symbol.Symbol.TheVariants.{Range, Nt}
 use Rattle.cfg_grammar.specs.declared.production.Right.TheVariants.{Empty, One, Two}
 use Rattle.cfg_grammar.specs.declared.production.Production.{Production}
 use Rattle.cfg_grammar.specs.Derives.{Derives}
@@ -41,12 +41,12 @@ module _ (r : ByteRange) (low : r.lo ≡ 97) (high : r.hi ≡ 97) where
   of_start : (s : Symbol) (v : List Letter) → Derives letter s v → (a : nt.Nt) → s ≡ Nt a → v ≡ OfByte 97 ∷ []
   of_start _ _ (Derives.by_range q b within) a e = absurd (cc)
   of_start _ _ (Derives.by_token t) a e = absurd (cc)
-  of_start _ _ (Derives.by_empty left has) a e = absurd (let h = one (record { left = left; right = Empty }) has in cc)
+  of_start _ _ (Derives.by_empty left has) a e = let h : One (Range r) ≡ Empty = ap (λ (p : Production). p.right) (one (record { left = left; right = Empty }) has) in absurd (cc)
   of_start _ _ (Derives.by_one left b v has d) a e =
-      let h = one (record { left = left; right = One b }) has in
+      let h : One (Range r) ≡ One b = ap (λ (p : Production). p.right) (one (record { left = left; right = One b }) has) in
       let same : Range r ≡ b = cc in
       of_range b v d (sym same)
-  of_start _ _ (Derives.by_two left b c u v has d f) a e = absurd (let h = one (record { left = left; right = Two b c }) has in cc)
+  of_start _ _ (Derives.by_two left b c u v has d f) a e = let h : One (Range r) ≡ Two b c = ap (λ (p : Production). p.right) (one (record { left = left; right = Two b c }) has) in absurd (cc)
 
   as_text : (w : List ℕ) → map OfByte w ≡ OfByte 97 ∷ [] → w ≡ 97 ∷ []
   as_text [] e = absurd (cc)
