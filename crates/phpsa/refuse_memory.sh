@@ -1,7 +1,7 @@
 #!/usr/bin/env bash
 # Runs the built program on five rows, a script, a run, a generated script, a site of three files and a page, and refuses
 # each of its requests for memory in turn: the Nth call of malloc or realloc gives none. The status has to be 12 then, with
-# the front of the usual output, or everything is as usual. Needs the built program (./phpsa --build) and a C compiler; no
+# the front of the usual output, or 16 with none where the words of the call had no memory, or everything is as usual. Needs the built program (./phpsa --build) and a C compiler; no
 # test of the gate runs this.
 #
 # usage: refuse_memory.sh [STEP]    only each STEPth request is refused (1 by default)
@@ -76,7 +76,7 @@ bad=0
 # row WORDS..: refuses each request of this call in turn, and says how many were refused and how the calls ended
 row() {
   "$program" "$@" >usual.out 2>usual.err
-  local usual=$? count at status short=0 same=0 other=0
+  local usual=$? count at status short=0 words=0 same=0 other=0
   COUNTED=$room/count LD_PRELOAD=$room/refusing.so "$program" "$@" >out 2>err
   count=$(cat "$room/count")
   for ((at = 1; at <= count; at += step)); do
@@ -86,12 +86,14 @@ row() {
       same=$((same + 1))
     elif [ "$status" = 12 ] && cmp -s -n "$(stat -c %s out)" out usual.out && [ "$(cat err)" = 'phpsa: Memory' ]; then
       short=$((short + 1))
+    elif [ "$status" = 16 ] && [ ! -s out ] && [ ! -s err ]; then
+      words=$((words + 1))
     else
       other=$((other + 1))
       echo "  request $at: status $status" >&2
     fi
   done
-  echo "$*: $count requests; each ${step}th refused: status 12 $short times, as usual $same times, otherwise $other times"
+  echo "$*: $count requests; each ${step}th refused: status 12 $short times, 16 $words times, as usual $same times, otherwise $other times"
   bad=$((bad + other))
 }
 

@@ -10,8 +10,6 @@ mod decided;
 #[cfg(test)]
 mod definitions;
 #[cfg(test)]
-mod derived;
-#[cfg(test)]
 mod ending;
 #[cfg(test)]
 mod grammars;
