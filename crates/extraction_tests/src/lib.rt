@@ -4,8 +4,6 @@
 #[cfg(test)]
 mod pages;
 #[cfg(test)]
-mod readings;
-#[cfg(test)]
 mod scripts;
 #[cfg(test)]
 mod sizes;
