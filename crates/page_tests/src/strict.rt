@@ -3,7 +3,6 @@
 
 use crate::judging::{is_valid, only_whole, row_is_so};
 use std::test::Fail;
-use text_base::Bytes;
 use xhtml_strict::strict;
 
 /// What stands before the head of a page.
@@ -164,15 +163,5 @@ fn a_page_cut_at_each_byte(rt: HostRuntime) -> Result<(), Fail> {
 <!DOCTYPE html PUBLIC \"-//W3C//DTD XHTML 1.0 Strict//EN\" \"s\"><html xmlns=\"http://www.w3.org/1999/xhtml\">\
 <head><title>\u{E9}</title></head><body><p id='a'>a &mdash; &#8364;<br /></p><!-- c --><hr></hr></body></html>";
     assert!(rt; only_whole(rt.alloc(), &dtd, page.as_bytes())?);
-    Ok(())
-}
-
-// The smallest page with a paragraph, of which no front is valid either.
-#[test]
-fn a_small_page_cut_at_each_byte(rt: HostRuntime) -> Result<(), Fail> {
-    let dtd = strict(rt.alloc())?;
-    let mut page = Bytes::from_slice(rt.alloc(), BEFORE)?;
-    page.append(b"<p>a</p></body></html>")?;
-    assert!(rt; only_whole(rt.alloc(), &dtd, page.as_slice())?);
     Ok(())
 }
