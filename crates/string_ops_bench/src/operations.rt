@@ -29,6 +29,7 @@ impl Operation {
         }
     }
 
+    /// What it is called where figures are printed.
     pub fn name(self) -> &'static str {
         match self {
             Operation::Escapes => "escapes",
@@ -53,6 +54,7 @@ impl Operation {
         }
     }
 
+    /// The operation itself.
     pub fn op(self, alloc: Global) -> Result<Op, NoMemory>
         ensures { IfOk result (λ op. op ≢ Any) }
     {

@@ -21,6 +21,7 @@ pub enum Work {
 }
 
 impl Work {
+    /// What it is called where figures are printed.
     pub fn name(self) -> &'static str {
         match self {
             Work::Chain => "bytes in a chain",
