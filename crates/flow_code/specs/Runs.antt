@@ -119,11 +119,14 @@ fresh slots = record { slots = slots; walks = λ x. no_walk }
 
 -- how a run of a function ends: with its result, or at a `Quit`, which ends the whole run
 pub data FlowEnd : Type 0 where
+  -- the function gives this value back
   returned : Plain → FlowEnd
+  -- the whole run ends
   exited : FlowEnd
 
 -- where so many more calls may be open: a run from this point, with these slots, up to the function's end prints these bytes and ends so
 pub data RunsFrom (flow : PlainFlow) (r : PlainRequest) : ℕ → ℕ → Frame → List ℕ → FlowEnd → Type 0 where
+  -- the slot gets the value of the source
   set : (room p x next : ℕ) (source : PlainSource) (f : Frame) (v : Plain) (w : List ℕ) (end : FlowEnd)
       → point_at flow p ≡ Some (set_point x source next) → source_value r f.slots source ≡ Ok v
       → RunsFrom flow r room next (set_slot f x v) w end → RunsFrom flow r room p f w end
@@ -137,14 +140,18 @@ pub data RunsFrom (flow : PlainFlow) (r : PlainRequest) : ℕ → ℕ → Frame 
       → point_at flow p ≡ Some (call_point x n args next) → function_at flow n ≡ Some g
       → RunsFrom flow r room g.entry_of (fresh (arguments_in g.params_of (map f.slots args))) w exited
       → RunsFrom flow r (suc room) p f w exited
+  -- bytes outside PHP are printed
   print : (room p next : ℕ) (bytes : List ℕ) (f : Frame) (w : List ℕ) (end : FlowEnd)
       → point_at flow p ≡ Some (print_point bytes next) → RunsFrom flow r room next f w end → RunsFrom flow r room p f (bytes ++ w) end
+  -- the text form of a value is printed
   echo : (room p x next : ℕ) (f : Frame) (w : List ℕ) (end : FlowEnd)
       → point_at flow p ≡ Some (echo_point x next) → RunsFrom flow r room next f w end
       → RunsFrom flow r room p f (text_of (f.slots x) ++ w) end
+  -- by the truth of a value to one of two points
   branch : (room p x a b : ℕ) (f : Frame) (w : List ℕ) (end : FlowEnd)
       → point_at flow p ≡ Some (branch_point x a b)
       → RunsFrom flow r room (if truth (f.slots x) then a else b) f w end → RunsFrom flow r room p f w end
+  -- to another point
   jump : (room p next : ℕ) (f : Frame) (w : List ℕ) (end : FlowEnd)
       → point_at flow p ≡ Some (jump_point next) → RunsFrom flow r room next f w end → RunsFrom flow r room p f w end
   -- the walk is of the value as it is now, whatever is written later
@@ -152,19 +159,25 @@ pub data RunsFrom (flow : PlainFlow) (r : PlainRequest) : ℕ → ℕ → Frame 
       → point_at flow p ≡ Some (begin_point x from next)
       → RunsFrom flow r room next (set_walk (set_slot f x (f.slots from)) x (record { now = None; rest = walked (f.slots from) })) w end
       → RunsFrom flow r room p f w end
+  -- the walk moves to the next member, and the body is run
   each_more : (room p x more done : ℕ) (k : PlainKey) (v : Plain) (rest : Pairs) (f : Frame) (w : List ℕ) (end : FlowEnd)
       → point_at flow p ≡ Some (next_point x more done) → (f.walks x).rest ≡ pair k v rest
       → RunsFrom flow r room more (set_walk f x (record { now = Some (k, v); rest = rest })) w end → RunsFrom flow r room p f w end
+  -- the walk has no member left, and the loop is left
   each_done : (room p x more done : ℕ) (f : Frame) (w : List ℕ) (end : FlowEnd)
       → point_at flow p ≡ Some (next_point x more done) → (f.walks x).rest ≡ empty
       → RunsFrom flow r room done f w end → RunsFrom flow r room p f w end
+  -- the key of the member where the walk stands
   key_of : (room p x from next : ℕ) (k : PlainKey) (v : Plain) (f : Frame) (w : List ℕ) (end : FlowEnd)
       → point_at flow p ≡ Some (key_point x from next) → (f.walks from).now ≡ Some (k, v)
       → RunsFrom flow r room next (set_slot f x (value_of_key k)) w end → RunsFrom flow r room p f w end
+  -- the value of that member
   value_of : (room p x from next : ℕ) (k : PlainKey) (v : Plain) (f : Frame) (w : List ℕ) (end : FlowEnd)
       → point_at flow p ≡ Some (value_point x from next) → (f.walks from).now ≡ Some (k, v)
       → RunsFrom flow r room next (set_slot f x v) w end → RunsFrom flow r room p f w end
+  -- the function returns, and prints nothing more
   return : (room p x : ℕ) (f : Frame) → point_at flow p ≡ Some (return_point x) → RunsFrom flow r room p f [] (returned (f.slots x))
+  -- the run ends, and prints nothing more
   quit : (room p : ℕ) (f : Frame) → point_at flow p ≡ Some (quit_point None) → RunsFrom flow r room p f [] exited
   -- a `Quit` prints a text alone
   quit_with : (room p x : ℕ) (f : Frame) (t : List ℕ)
