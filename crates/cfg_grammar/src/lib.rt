@@ -7,8 +7,6 @@ mod bytes;
 mod grammar;
 mod production;
 mod symbol;
-#[cfg(test)]
-mod tests;
 
 pub use bytes::productions_fit;
 pub use grammar::Grammar;

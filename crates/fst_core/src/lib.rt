@@ -13,8 +13,6 @@ mod out;
 mod rows;
 mod table;
 mod table_machine;
-#[cfg(test)]
-mod tests;
 
 pub use indexed::IndexedTable;
 pub use layers::applies;

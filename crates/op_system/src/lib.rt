@@ -7,8 +7,6 @@
 pub mod laws;
 mod op;
 mod system;
-#[cfg(test)]
-mod tests;
 
 pub use op::Op;
 pub use system::{OpRule, OpSystem};

@@ -5,8 +5,6 @@
 
 mod lines;
 mod refusal;
-#[cfg(test)]
-mod tests;
 
 ghost use Rattle.std.specs.Prelude.{◌≡◌, ◌+◌, ◌⊎◌, IfOk, IfErr};
 ghost use Rattle.script_maker.specs.declared.refusal.MakeRefusal.TheVariants.{Size, Memory};

@@ -1,8 +1,9 @@
 //! Each call once, with ample memory.
 
-use crate::{Op, OpRule, OpSystem};
-use cfg_grammar::{ByteRange, Bytes, Grammar, Nt, PageToken, Production, Right, Symbol};
+use cfg_grammar::{Grammar, Production, Right, Symbol};
+use op_system::{Op, OpRule, OpSystem};
 use std::test::Fail;
+use text_base::{ByteRange, Bytes, Nt, PageToken};
 
 #[test]
 fn copies_are_equal(rt: HostRuntime) -> Result<(), Fail> {

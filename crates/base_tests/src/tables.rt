@@ -1,6 +1,8 @@
+//! Tables as machines: which texts one relates, and the moves that it offers.
+
 ghost use Rattle.std.specs.Prelude.{◌≡◌, ◌<◌};
 
-use super::*;
+use fst_core::{IndexedTable, Machine, Out, Table, TableEnd, TableMove, applies};
 use std::alloc::Global;
 use std::test::Fail;
 use text_base::{ByteRange, NoMemory, PageToken};

@@ -2,8 +2,8 @@
 
 ghost use Rattle.std.specs.Prelude.{◌≤◌};
 
-use crate::{ByteRange, ByteSet, Bytes};
 use std::test::Fail;
+use text_base::{ByteRange, ByteSet, Bytes};
 
 fn range(lo: u8, hi: u8) -> ByteRange
     requires { lo ≤ hi }

@@ -1,6 +1,6 @@
 //! Lengths that were counted by hand, and the scripts that are too small or too large.
 
-use crate::{MakeRefusal, make};
+use script_maker::{MakeRefusal, make};
 use std::test::Fail;
 
 #[test]

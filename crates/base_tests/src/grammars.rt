@@ -1,6 +1,6 @@
 //! Each call once, with ample memory.
 
-use crate::{Grammar, Production, Right, Symbol};
+use cfg_grammar::{Grammar, Production, Right, Symbol};
 use std::test::Fail;
 use text_base::{ByteRange, Nt, PageToken};
 
