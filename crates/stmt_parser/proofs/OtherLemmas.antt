@@ -127,26 +127,6 @@ more_none l k fs _ h = refl
 
 -- functions
 
-pub literal_word_other : (k : Keyword) → k ≢ word.True → k ≢ word.False → k ≢ word.Null → literal_word k ≡ None
-literal_word_other word.True a b c = absurd (a refl)
-literal_word_other word.False a b c = absurd (b refl)
-literal_word_other word.Null a b c = absurd (c refl)
-literal_word_other _ a b c = refl
-
-pub plain_other : (ts : List Terminal) → ((z : ℤ) (r : List Terminal) → ts ≢ int_terminal z ∷ r) → ((t : List ℕ) (r : List Terminal) → ts ≢ text_terminal t ∷ r) → ((k : Keyword) (r : List Terminal) → ts ≢ word_terminal k ∷ r) → plain_at ts ≡ None
-plain_other (int_terminal z ∷ r) a b c = absurd (a z r refl)
-plain_other (text_terminal t ∷ r) a b c = absurd (b t r refl)
-plain_other (word_terminal k ∷ r) a b c = absurd (c k r refl)
-plain_other _ a b c = refl
-
-pub default_plain : (ts : List Terminal) → No sign.Minus ts → default_at ts ≡ plain_at ts
-default_plain (sign_terminal sign.Minus ∷ int_terminal z ∷ r) h = absurd (h _ refl)
-default_plain _ h = refl
-
-pub default_unsigned : (ts : List Terminal) → ((z : ℤ) (r : List Terminal) → ts ≢ int_terminal z ∷ r) → default_at (sign_terminal sign.Minus ∷ ts) ≡ None
-default_unsigned (int_terminal z ∷ r) h = absurd (h z r refl)
-default_unsigned _ h = refl
-
 default_found : (x : List ℕ) (found : Option PlainExpr) (fs : List Frame) (r : List Terminal) → default_move x found fs r ≡ default_next x fs (with_rest found r)
 default_found x None fs r = refl
 default_found x (Some e) fs r = refl

@@ -241,18 +241,16 @@ impl Reader {
         ensures { Moves (machine.begin_move self.old.frames (terminals_of rest.now))
             self.old result self.new }
     {
-        match sign_at(rest) {
-            Some((sign, behind)) => self.sign_step(sign, behind, rest),
-            None => match word_at(rest) {
-                Some((word, behind)) => self.word_step(word, behind, rest),
-                None => match inline_at(rest) {
-                    Some((text, behind)) => {
-                        let done = self.maker.inline(self.alloc, text)?;
-                        Ok(gone(done, Focus::Behind, behind))
-                    }
-                    None => self.value_step(Last::Run, rest),
-                },
-            },
+        if let Some((sign, behind)) = sign_at(rest) {
+            return self.sign_step(sign, behind, rest);
         }
+        if let Some((word, behind)) = word_at(rest) {
+            return self.word_step(word, behind, rest);
+        }
+        let Some((text, behind)) = inline_at(rest) else {
+            return self.value_step(Last::Run, rest);
+        };
+        let done = self.maker.inline(self.alloc, text)?;
+        Ok(gone(done, Focus::Behind, behind))
     }
 }

@@ -40,21 +40,19 @@ fn plain_literal<'a>(rest: &'a [Token]) -> Option<(Literal<'a>, &'a [Token])>
         (λ found. plain_at (terminals_of rest.now)
         ≡ Some (literal_tree found.0, terminals_of found.1.now)) }
 {
-    match int_at(rest) {
-        Some((number, behind)) => Some((Literal::Int(number), behind)),
-        None => match text_at(rest) {
-            Some((text, behind)) => Some((Literal::Text(text), behind)),
-            None => {
-                let Some((word, behind)) = word_at(rest) else {
-                    return None;
-                };
-                match word_literal(word) {
-                    None => None,
-                    Some(literal) => Some((literal, behind)),
-                }
-            }
-        },
+    if let Some((number, behind)) = int_at(rest) {
+        return Some((Literal::Int(number), behind));
     }
+    if let Some((text, behind)) = text_at(rest) {
+        return Some((Literal::Text(text), behind));
+    }
+    let Some((word, behind)) = word_at(rest) else {
+        return None;
+    };
+    let Some(literal) = word_literal(word) else {
+        return None;
+    };
+    Some((literal, behind))
 }
 
 // The literal that stands first, and the tokens behind it.
@@ -64,13 +62,13 @@ fn literal_at<'a>(rest: &'a [Token]) -> Option<(Literal<'a>, &'a [Token])>
         (λ found. default_at (terminals_of rest.now)
         ≡ Some (literal_tree found.0, terminals_of found.1.now)) }
 {
-    match behind_sign(rest, Sign::Minus) {
-        None => plain_literal(rest),
-        Some(behind) => match int_at(behind) {
-            None => None,
-            Some((number, last)) => Some((Literal::Minus(number), last)),
-        },
-    }
+    let Some(behind) = behind_sign(rest, Sign::Minus) else {
+        return plain_literal(rest);
+    };
+    let Some((number, last)) = int_at(behind) else {
+        return None;
+    };
+    Some((Literal::Minus(number), last))
 }
 
 impl Reader {
