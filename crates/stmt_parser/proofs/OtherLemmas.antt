@@ -1,5 +1,5 @@
 -- The moves where what is looked for does not stand next.
-use Rattle.std.proofs.Common.{◌≡◌, ◌≢◌, ℕ, ℤ, Bool, true, false, List, [], ◌∷◌, refl, ap}
+use Rattle.std.proofs.Common.{◌≡◌, ◌≢◌, ℕ, Bool, true, false, List, [], ◌∷◌, refl, ap}
 use Rattle.std.specs.Prelude.{Option, Some, None, if◌then◌else◌}
 use Rattle.php_syntax.specs.declared.token.Sign.{Sign}
 use Rattle.php_syntax.specs.declared.token.Sign.TheVariants as sign
@@ -13,8 +13,8 @@ use Rattle.stmt_machine.specs.declared.frame.Focus.TheVariants as focus
 use Rattle.stmt_machine.specs.declared.frame.Frame.{Frame}
 use Rattle.stmt_machine.specs.declared.frame.Frame.TheVariants as frame
 use Rattle.stmt_machine.specs.Actions.{open_action, if_action, run_action, exit_action, parameter_action}
-use Rattle.stmt_machine.specs.Machine.{moves, stuck, colon_next, semicolon_next, paren_end_next, condition_at, statement_at, behind_paren, value_move, word_move, sign_move, begin_move, include_move, exit_move, jump_move, more_move, literal_word, literal_at, default_move, parameter_move, function_body_move, parameters_move, parameter_end_move, function_move, part_move, else_move, arm_move, colon_arm_move, colon_else_end_move, colon_body_move, do_move, block_move, function_end_move}
-use Rattle.stmt_parser.specs.Nexts.{keyed_next, variable_next, each_next, colon_arm_end_next, included_next, with_rest, plain_at, default_at, default_next}
+use Rattle.stmt_machine.specs.Machine.{moves, stuck, colon_next, semicolon_next, paren_end_next, condition_at, statement_at, behind_paren, value_move, word_move, sign_move, begin_move, include_move, exit_move, jump_move, more_move, literal_at, default_move, parameter_move, function_body_move, parameters_move, parameter_end_move, function_move, part_move, else_move, arm_move, colon_arm_move, colon_else_end_move, colon_body_move, do_move, block_move, function_end_move}
+use Rattle.stmt_parser.specs.Nexts.{keyed_next, variable_next, each_next, colon_arm_end_next, included_next, with_rest, default_at, default_next}
 
 -- a sign does not stand next
 abbrev pub No : Sign → List Terminal → Type 0
