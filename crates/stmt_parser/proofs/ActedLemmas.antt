@@ -11,9 +11,12 @@ use Rattle.stmt_machine.specs.declared.frame.Focus.{Focus}
 use Rattle.stmt_machine.specs.declared.frame.Focus.TheVariants as focus
 use Rattle.stmt_machine.specs.declared.frame.Frame.{Frame}
 use Rattle.stmt_machine.specs.Actions.{StmtAction, value_action}
-use Rattle.stmt_machine.specs.Machine.{Move, moves, finished, stuck, semicolon_next, jump_move, ended_by}
+use Rattle.stmt_machine.specs.Machine.{Move, moves, finished, stuck, semicolon_next, paren_end_next, jump_move, ended_by}
 use Rattle.stmt_machine.specs.Made.{Made, with_values, on_some, apply_stmt, execute_stmts}
 use Rattle.stmt_maker.specs.Answers.{Does}
+use Rattle.stmt_parser.specs.Ends.{behind_test, behind_end, ended_with}
+use Rattle.stmt_parser.specs.declared.reads.End.{End}
+use Rattle.stmt_parser.specs.declared.reads.End.TheVariants as end
 use Rattle.stmt_parser.specs.Outcomes.{Outcome, gone, ended, failed, gone_with, acted, gone_if, jump_if, on_made, with_action, GoesOn, behind_value, with_read, reads_as}
 
 -- no action
@@ -91,21 +94,42 @@ acted_behind (Some found) next m h =
     ∙ ap (λ x. on_made x (acted (next found.1))) (value_applied found.0 m)
     ∙ value_done (execute found.0 m.values) found.1 m (λ r n. acted (next r) n)
 
--- an expression and a sign behind it
+-- an expression and the signs behind it
+
+-- what follows behind signs, if they stand next
+abbrev pub on_end : Option (List Terminal) → Made → (List Terminal → Made → Outcome) → Outcome
+on_end None n next = failed
+on_end (Some r) n next = next r n
 
 abbrev tested : (List Terminal → Bool) → (List Terminal → Made → Outcome) → List Terminal → Made → Outcome
-tested test next r n = if test r then next (behind r) n else failed
+tested test next r n = on_end (behind_test test r) n next
 
 sign_case : (x : Option (List PlainValue)) (b : Bool) (test : List Terminal → Bool) (r : List Terminal) (m : Made) (next : List Terminal → Made → Outcome) → test r ≡ b → (if b then with_read (exprs.with_values x (behind r)) m next else failed) ≡ with_read (exprs.with_values x r) m (tested test next)
 sign_case None true test r m next e = refl
 sign_case None false test r m next e = refl
-sign_case (Some vs) true test r m next e = ap (λ b. if b then next (behind r) (with_values vs m) else failed) (sym e)
-sign_case (Some vs) false test r m next e = ap (λ b. if b then next (behind r) (with_values vs m) else failed) (sym e)
+sign_case (Some vs) true test r m next e = ap (λ b. on_end (if b then Some (behind r) else None) (with_values vs m) next) (sym e)
+sign_case (Some vs) false test r m next e = ap (λ b. on_end (if b then Some (behind r) else None) (with_values vs m) next) (sym e)
 
 sign_read : (b : Bool) (acts : List Action) (r : List Terminal) (m : Made) (next : List Terminal → Made → Outcome) → reads_as (if b then Some (acts, behind r) else None) m next ≡ (if b then with_read (exprs.with_values (execute acts m.values) (behind r)) m next else failed)
 sign_read true acts r m next = refl
 sign_read false acts r m next = refl
 
-pub ended_reads : (test : List Terminal → Bool) (found : Option (List Action × List Terminal)) (m : Made) (next : List Terminal → Made → Outcome) → reads_as (ended_by test found) m next ≡ reads_as found m (λ r n. if test r then next (behind r) n else failed)
-ended_reads test None m next = refl
-ended_reads test (Some found) m next = sign_read (test found.1) found.0 found.1 m next ∙ sign_case (execute found.0 m.values) (test found.1) test found.1 m next refl
+tested_reads : (test : List Terminal → Bool) (found : Option (List Action × List Terminal)) (m : Made) (next : List Terminal → Made → Outcome) → reads_as (ended_by test found) m next ≡ reads_as found m (tested test next)
+tested_reads test None m next = refl
+tested_reads test (Some found) m next = sign_read (test found.1) found.0 found.1 m next ∙ sign_case (execute found.0 m.values) (test found.1) test found.1 m next refl
+
+same_read : (x : Option (List PlainValue × List Terminal)) (m : Made) (f g : List Terminal → Made → Outcome) → ((r : List Terminal) (n : Made) → f r n ≡ g r n) → with_read x m f ≡ with_read x m g
+same_read None m f g h = refl
+same_read (Some found) m f g h = h found.1 (with_values found.0 m)
+
+on_both : (x : Option (List Terminal)) (more : List Terminal → Option (List Terminal)) (n : Made) (next : List Terminal → Made → Outcome) → on_end x n (λ r k. on_end (more r) k next) ≡ on_end (on_some x more) n next
+on_both None more n next = refl
+on_both (Some r) more n next = refl
+
+pub ended_reads : (e : End) (found : Option (List Action × List Terminal)) (m : Made) (next : List Terminal → Made → Outcome) → reads_as (ended_with e found) m next ≡ reads_as found m (λ r n. on_end (behind_end e r) n next)
+ended_reads end.Semicolon found m next = tested_reads semicolon_next found m next
+ended_reads end.Bracket found m next = tested_reads paren_end_next found m next
+ended_reads end.BracketSemicolon found m next =
+    tested_reads semicolon_next (ended_by paren_end_next found) m next
+    ∙ tested_reads paren_end_next found m (tested semicolon_next next)
+    ∙ same_read (executed found m.values) m _ _ (λ r n. on_both (behind_test paren_end_next r) (behind_test semicolon_next) n next)

@@ -1,5 +1,5 @@
 -- The moves where what is looked for does not stand next.
-use Rattle.std.proofs.Common.{◌≡◌, ◌≢◌, ℕ, ℤ, Bool, true, false, List, [], ◌∷◌, refl, ap}
+use Rattle.std.proofs.Common.{◌≡◌, ◌≢◌, ℕ, Bool, true, false, List, [], ◌∷◌, refl, ap}
 use Rattle.std.specs.Prelude.{Option, Some, None, if◌then◌else◌}
 use Rattle.php_syntax.specs.declared.token.Sign.{Sign}
 use Rattle.php_syntax.specs.declared.token.Sign.TheVariants as sign
@@ -13,8 +13,8 @@ use Rattle.stmt_machine.specs.declared.frame.Focus.TheVariants as focus
 use Rattle.stmt_machine.specs.declared.frame.Frame.{Frame}
 use Rattle.stmt_machine.specs.declared.frame.Frame.TheVariants as frame
 use Rattle.stmt_machine.specs.Actions.{open_action, if_action, run_action, exit_action, parameter_action}
-use Rattle.stmt_machine.specs.Machine.{moves, stuck, colon_next, semicolon_next, paren_end_next, condition_at, statement_at, behind_paren, value_move, word_move, sign_move, begin_move, include_move, exit_move, jump_move, more_move, literal_word, literal_at, default_move, parameter_move, function_body_move, parameters_move, parameter_end_move, function_move, part_move, else_move, arm_move, colon_arm_move, colon_else_end_move, colon_body_move, do_move, block_move, function_end_move}
-use Rattle.stmt_parser.specs.Nexts.{keyed_next, variable_next, each_next, colon_arm_end_next, included_next, with_rest, plain_at, default_at, default_next}
+use Rattle.stmt_machine.specs.Machine.{moves, stuck, colon_next, semicolon_next, paren_end_next, condition_at, statement_at, behind_paren, value_move, word_move, sign_move, begin_move, include_move, exit_move, jump_move, more_move, literal_at, default_move, parameter_move, function_body_move, parameters_move, parameter_end_move, function_move, part_move, else_move, arm_move, colon_arm_move, colon_else_end_move, colon_body_move, do_move, block_move, function_end_move}
+use Rattle.stmt_parser.specs.Nexts.{keyed_next, variable_next, each_next, colon_arm_end_next, included_next, with_rest, default_at, default_next}
 
 -- a sign does not stand next
 abbrev pub No : Sign → List Terminal → Type 0
@@ -126,26 +126,6 @@ more_none l k fs (sign_terminal sign.Comma ∷ r) h = absurd (h r refl)
 more_none l k fs _ h = refl
 
 -- functions
-
-pub literal_word_other : (k : Keyword) → k ≢ word.True → k ≢ word.False → k ≢ word.Null → literal_word k ≡ None
-literal_word_other word.True a b c = absurd (a refl)
-literal_word_other word.False a b c = absurd (b refl)
-literal_word_other word.Null a b c = absurd (c refl)
-literal_word_other _ a b c = refl
-
-pub plain_other : (ts : List Terminal) → ((z : ℤ) (r : List Terminal) → ts ≢ int_terminal z ∷ r) → ((t : List ℕ) (r : List Terminal) → ts ≢ text_terminal t ∷ r) → ((k : Keyword) (r : List Terminal) → ts ≢ word_terminal k ∷ r) → plain_at ts ≡ None
-plain_other (int_terminal z ∷ r) a b c = absurd (a z r refl)
-plain_other (text_terminal t ∷ r) a b c = absurd (b t r refl)
-plain_other (word_terminal k ∷ r) a b c = absurd (c k r refl)
-plain_other _ a b c = refl
-
-pub default_plain : (ts : List Terminal) → No sign.Minus ts → default_at ts ≡ plain_at ts
-default_plain (sign_terminal sign.Minus ∷ int_terminal z ∷ r) h = absurd (h _ refl)
-default_plain _ h = refl
-
-pub default_unsigned : (ts : List Terminal) → ((z : ℤ) (r : List Terminal) → ts ≢ int_terminal z ∷ r) → default_at (sign_terminal sign.Minus ∷ ts) ≡ None
-default_unsigned (int_terminal z ∷ r) h = absurd (h z r refl)
-default_unsigned _ h = refl
 
 default_found : (x : List ℕ) (found : Option PlainExpr) (fs : List Frame) (r : List Terminal) → default_move x found fs r ≡ default_next x fs (with_rest found r)
 default_found x None fs r = refl

@@ -1,6 +1,7 @@
 pub mod Outcomes
 pub mod Nexts
 pub mod Lasts
+pub mod Ends
 pub mod Literals
 pub mod Readings
 pub use Rattle.expr_parser.specs.Heads

@@ -1,5 +1,7 @@
 -- What a move with its actions leads to, and how the code answers it.
 use Rattle.std.specs.Prelude.{◌≡◌, Bool, true, false, List, ◌∷◌, Option, Some, None, Result, IfOk, if◌then◌else◌}
+use Rattle.std.specs.Borrow.{Bor}
+use Rattle.php_syntax.specs.declared.token.Token.{Token}
 use Rattle.script_grammar.specs.Terminals.{Terminal}
 use Rattle.expr_machine.specs.Actions.{Action}
 use Rattle.expr_machine.specs.Machine.{behind}
@@ -12,8 +14,8 @@ use Rattle.stmt_machine.specs.declared.frame.Frame.{Frame}
 use Rattle.stmt_machine.specs.Actions.{StmtAction, value_action}
 use Rattle.stmt_machine.specs.Machine.{Move, moves, finished, stuck, semicolon_next}
 use Rattle.stmt_machine.specs.Made.{Made, with_values, execute_stmts}
-use Rattle.stmt_maker.specs.declared.maker.Maker.{Maker}
 use Rattle.stmt_maker.specs.Views.{made_of}
+use Rattle.stmt_parser.specs.declared.reader.Reader.{Reader}
 use Rattle.stmt_parser.specs.declared.step.Step.{Step}
 use Rattle.stmt_parser.specs.declared.step.Step.TheVariants as step
 
@@ -40,14 +42,10 @@ seen (step.Go f r) fs m = gone f fs (terminals_of r.now) m
 seen step.Finished fs m = ended m
 seen (step.Stuck r) fs m = failed
 
--- where there is memory, the code does this move of the machine with its actions: from what was made before to what it answers, what is
--- begun and what is made afterwards
-abbrev pub Moves : {E : Type 0} → Move → Maker → Result Step E → List Frame → Maker → Type 0
-Moves move before result fs after = IfOk result (λ s. acted move (made_of before) ≡ seen s fs (made_of after))
-
--- the same, whatever is begun
-abbrev pub MovesIn : {E : Type 0} → (List Frame → Move) → Maker → Result Step E → Maker → Type 0
-MovesIn move before result after = IfOk result (λ s. (fs : List Frame) → acted (move fs) (made_of before) ≡ seen s fs (made_of after))
+-- where there is memory, the code does this move of the machine with its actions: from what was begun and made before to what it answers
+-- and what is begun and made afterwards
+abbrev pub Moves : {E : Type 0} → Move → Reader → Result Step E → Reader → Type 0
+Moves move before result after = IfOk result (λ s. acted move (made_of before.maker) ≡ seen s after.frames (made_of after.maker))
 
 -- on to another place, where an action was done
 abbrev pub gone_if : Bool → Focus → List Frame → List Terminal → Made → Outcome
@@ -89,10 +87,12 @@ with_read (Some found) m next = next found.1 (with_values found.0 m)
 abbrev pub reads_as : Option (List Action × List Terminal) → Made → (List Terminal → Made → Outcome) → Outcome
 reads_as found m next = with_read (executed found m.values) m next
 
--- an expression is not read, or it is, with this left and that made
-abbrev pub Fails : Option (List Action × List Terminal) → Made → Type 0
-Fails found m = (next : List Terminal → Made → Outcome) → reads_as found m next ≡ failed
+-- what follows an expression that the code has read, with what it left to read, what is begun and what is made afterwards; or has not
+abbrev pub read_on : Option (Bor (List Token)) → List Frame → Made → (List Frame → List Terminal → Made → Outcome) → Outcome
+read_on None fs m next = failed
+read_on (Some r) fs m next = next fs (terminals_of r.now) m
 
--- the expression is read, with this left and that made
-abbrev pub Reads : Option (List Action × List Terminal) → Made → List Terminal → Made → Type 0
-Reads found m r n = (next : List Terminal → Made → Outcome) → reads_as found m next ≡ next r n
+-- where there is memory, the code reads this expression, whatever follows: what was begun stays, and its value is put to what was made
+abbrev pub Reads : {E : Type 0} → Option (List Action × List Terminal) → Reader → Result (Option (Bor (List Token))) E → Reader → Type 0
+Reads found before result after = IfOk result (λ rest. (next : List Frame → List Terminal → Made → Outcome)
+    → reads_as found (made_of before.maker) (next before.frames) ≡ read_on rest after.frames (made_of after.maker) next)

@@ -2,7 +2,6 @@
 
 ghost use Rattle.std.specs.Prelude.{◌≡◌, ◌∷◌, List, Some, None, IfOk};
 ghost use Rattle.script_grammar.specs.Terminals.{sign_terminal, word_terminal};
-ghost use Rattle.expr_machine.specs.Reading.{expr_at};
 ghost use Rattle.expr_parser.specs.Heads.{terminals_of};
 ghost use Rattle.stmt_machine.specs.declared.frame.Frame.{Frame};
 ghost use Rattle.stmt_machine.specs.declared.frame.Loop.TheVariants as loops;
@@ -13,18 +12,15 @@ ghost use Rattle.stmt_maker.specs.Views.{made_of};
 ghost use Rattle.stmt_maker.specs.Answers.{Does};
 ghost use Rattle.stmt_parser.specs.Lasts.{last_action};
 ghost use Rattle.stmt_parser.specs.Nexts.{if_next, each_next, variable_next, keyed_next};
-ghost use Rattle.stmt_parser.specs.Outcomes.{acted, seen, Moves, MovesIn};
+ghost use Rattle.stmt_parser.specs.Outcomes.{acted, seen, Moves};
 
-use crate::bodies::{body_step, opened};
 use crate::heads::{behind_word, inline_at, word_at};
-use crate::jumps::{break_step, continue_step, exit_step, include_step, return_step};
-use crate::reads::{read_condition, read_statement, read_value};
-use crate::rows::listed_step;
+use crate::reader::Reader;
+use crate::reads::End;
 use crate::step::{Step, gone};
 use expr_parser::head::{behind_sign, sign_at, variable_at};
 use php_syntax::token::{Sign, Token};
 use script_grammar::keyword::Keyword;
-use stacks::Stack;
 use std::alloc::Global;
 use stmt_machine::frame::{Focus, Frame, Loop, Row};
 use stmt_maker::maker::Maker;
@@ -53,89 +49,6 @@ fn put_value(alloc: Global, maker: &mut Maker, last: Last) -> Result<bool, NoMem
     }
 }
 
-/// A statement of one expression and a semicolon.
-pub(crate) fn value_step<'a>(
-    alloc: Global,
-    maker: &mut Maker,
-    last: Last,
-    rest: &'a [Token],
-) -> Result<Step<'a>, NoMemory>
-    ensures { MovesIn (λ fs. machine.value_move (last_action last) fs
-        (statement_at (terminals_of rest.now))) maker.old result maker.new }
-{
-    match read_statement(alloc, maker, rest)? {
-        None => Ok(Step::Stuck(rest)),
-        Some(behind) => {
-            let done = put_value(alloc, maker, last)?;
-            Ok(gone(done, Focus::Behind, behind))
-        }
-    }
-}
-
-// Behind the condition of an `if`.
-fn if_body<'a>(
-    alloc: Global,
-    frames: &mut Stack<Frame>,
-    maker: &mut Maker,
-    rest: &'a [Token],
-) -> Result<Step<'a>, NoMemory>
-    ensures { Moves (if_next frames.old
-        (terminals_of rest.now)) maker.old result frames.new maker.new }
-{
-    match behind_sign(rest, Sign::Colon) {
-        Some(behind) => opened(
-            alloc,
-            frames,
-            maker,
-            false,
-            Frame::ColonArm(1),
-            Focus::Behind,
-            behind,
-        ),
-        None => opened(
-            alloc,
-            frames,
-            maker,
-            false,
-            Frame::Arm(1),
-            Focus::Begin,
-            rest,
-        ),
-    }
-}
-
-// Behind `if`.
-fn if_step<'a>(
-    alloc: Global,
-    frames: &mut Stack<Frame>,
-    maker: &mut Maker,
-    rest: &'a [Token],
-) -> Result<Step<'a>, NoMemory>
-    ensures { Moves (machine.if_move frames.old
-        (condition_at (terminals_of rest.now))) maker.old result frames.new maker.new }
-{
-    match read_condition(alloc, maker, rest)? {
-        None => Ok(Step::Stuck(rest)),
-        Some(behind) => if_body(alloc, frames, maker, behind),
-    }
-}
-
-// Behind `while`.
-fn while_step<'a>(
-    alloc: Global,
-    frames: &mut Stack<Frame>,
-    maker: &mut Maker,
-    rest: &'a [Token],
-) -> Result<Step<'a>, NoMemory>
-    ensures { Moves (machine.while_move frames.old
-        (condition_at (terminals_of rest.now))) maker.old result frames.new maker.new }
-{
-    match read_condition(alloc, maker, rest)? {
-        None => Ok(Step::Stuck(rest)),
-        Some(behind) => body_step(alloc, frames, maker, Loop::While, behind),
-    }
-}
-
 // A loop over keys and values.
 fn keyed_loop(alloc: Global, key: &Bytes, value: &Bytes) -> Result<Loop, NoMemory>
     ensures { IfOk result (λ of. of ≡ loops.Each (Some key.now) value.now) }
@@ -156,90 +69,6 @@ fn each_loop(alloc: Global, value: &Bytes) -> Result<Loop, NoMemory>
     })
 }
 
-// Behind the variable of a key.
-fn keyed_step<'a>(
-    alloc: Global,
-    frames: &mut Stack<Frame>,
-    maker: &mut Maker,
-    key: &Bytes,
-    rest: &'a [Token],
-) -> Result<Step<'a>, NoMemory>
-    ensures { Moves (keyed_next key.now frames.old
-        (terminals_of rest.now)) maker.old result frames.new maker.new }
-{
-    match behind_sign(rest, Sign::DoubleArrow) {
-        None => Ok(Step::Stuck(rest)),
-        Some(behind) => match variable_at(behind) {
-            None => Ok(Step::Stuck(behind)),
-            Some((value, behind)) => match behind_sign(behind, Sign::CloseParen) {
-                None => Ok(Step::Stuck(behind)),
-                Some(last) => {
-                    let of = keyed_loop(alloc, key, value)?;
-                    body_step(alloc, frames, maker, of, last)
-                }
-            },
-        },
-    }
-}
-
-// Behind the first variable of a `foreach`.
-fn variable_step<'a>(
-    alloc: Global,
-    frames: &mut Stack<Frame>,
-    maker: &mut Maker,
-    name: &Bytes,
-    rest: &'a [Token],
-) -> Result<Step<'a>, NoMemory>
-    ensures { Moves (variable_next name.now frames.old
-        (terminals_of rest.now)) maker.old result frames.new maker.new }
-{
-    match behind_sign(rest, Sign::CloseParen) {
-        Some(behind) => {
-            let of = each_loop(alloc, name)?;
-            body_step(alloc, frames, maker, of, behind)
-        }
-        None => keyed_step(alloc, frames, maker, name, rest),
-    }
-}
-
-// Behind the array of a `foreach`.
-fn each_step<'a>(
-    alloc: Global,
-    frames: &mut Stack<Frame>,
-    maker: &mut Maker,
-    rest: &'a [Token],
-) -> Result<Step<'a>, NoMemory>
-    ensures { Moves (each_next frames.old
-        (terminals_of rest.now)) maker.old result frames.new maker.new }
-{
-    match behind_word(rest, Keyword::As) {
-        None => Ok(Step::Stuck(rest)),
-        Some(behind) => match variable_at(behind) {
-            None => Ok(Step::Stuck(behind)),
-            Some((name, last)) => variable_step(alloc, frames, maker, name, last),
-        },
-    }
-}
-
-// Behind `foreach`.
-fn foreach_step<'a>(
-    alloc: Global,
-    frames: &mut Stack<Frame>,
-    maker: &mut Maker,
-    rest: &'a [Token],
-) -> Result<Step<'a>, NoMemory>
-    ensures { Moves (machine.foreach_begin_move frames.old
-        (machine.behind_paren (terminals_of rest.now))) maker.old result frames.new maker.new }
-{
-    match behind_sign(rest, Sign::OpenParen) {
-        None => Ok(Step::Stuck(rest)),
-        Some(inner) => match read_value(alloc, maker, inner)? {
-            None => Ok(Step::Stuck(inner)),
-            Some(behind) => each_step(alloc, frames, maker, behind),
-        },
-    }
-}
-
 // Behind `for`.
 fn for_step(rest: &[Token]) -> Step
     ensures { (fs : List Frame) (m : Made) →
@@ -252,81 +81,176 @@ fn for_step(rest: &[Token]) -> Step
     }
 }
 
-// A statement that begins with a sign, which is the first of the tokens.
-fn sign_step<'a>(
-    alloc: Global,
-    frames: &mut Stack<Frame>,
-    maker: &mut Maker,
-    sign: Sign,
-    behind: &'a [Token],
-    rest: &'a [Token],
-) -> Result<Step<'a>, NoMemory>
-    requires { terminals_of rest.now ≡ sign_terminal sign ∷ terminals_of behind.now }
-    ensures { Moves (machine.sign_move sign frames.old
-        (terminals_of behind.now)) maker.old result frames.new maker.new }
-{
-    match sign {
-        Sign::Semicolon => Ok(Step::Go(Focus::Behind, behind)),
-        Sign::OpenBrace => {
-            frames.push(Frame::Block)?;
-            Ok(Step::Go(Focus::Behind, behind))
+impl Reader {
+    /// A statement of one expression and a semicolon.
+    pub(crate) fn value_step<'a>(
+        &mut self,
+        last: Last,
+        rest: &'a [Token],
+    ) -> Result<Step<'a>, NoMemory>
+        ensures { Moves (machine.value_move (last_action last) self.old.frames
+            (statement_at (terminals_of rest.now))) self.old result self.new }
+    {
+        let Some(behind) = self.read_ended(End::Semicolon, rest)? else {
+            return Ok(Step::Stuck(rest));
+        };
+        let done = put_value(self.alloc, &mut self.maker, last)?;
+        Ok(gone(done, Focus::Behind, behind))
+    }
+
+    // Behind the condition of an `if`.
+    fn if_body<'a>(&mut self, rest: &'a [Token]) -> Result<Step<'a>, NoMemory>
+        ensures { Moves (if_next self.old.frames (terminals_of rest.now))
+            self.old result self.new }
+    {
+        match behind_sign(rest, Sign::Colon) {
+            Some(behind) => self.open_body(false, Frame::ColonArm(1), Focus::Behind, behind),
+            None => self.open_body(false, Frame::Arm(1), Focus::Begin, rest),
         }
-        _ => value_step(alloc, maker, Last::Run, rest),
     }
-}
 
-// A statement that begins with a word, which is the first of the tokens.
-fn word_step<'a>(
-    alloc: Global,
-    frames: &mut Stack<Frame>,
-    maker: &mut Maker,
-    word: Keyword,
-    behind: &'a [Token],
-    rest: &'a [Token],
-) -> Result<Step<'a>, NoMemory>
-    requires { terminals_of rest.now ≡ word_terminal word ∷ terminals_of behind.now }
-    ensures { Moves (machine.word_move word frames.old
-        (terminals_of behind.now)) maker.old result frames.new maker.new }
-{
-    match word {
-        Keyword::Echo => listed_step(alloc, maker, Row::Echo, 1, behind),
-        Keyword::Print => value_step(alloc, maker, Last::Print, behind),
-        Keyword::If => if_step(alloc, frames, maker, behind),
-        Keyword::While => while_step(alloc, frames, maker, behind),
-        Keyword::Do => opened(alloc, frames, maker, true, Frame::Do, Focus::Begin, behind),
-        Keyword::For => Ok(for_step(behind)),
-        Keyword::Foreach => foreach_step(alloc, frames, maker, behind),
-        Keyword::Break => break_step(maker, behind),
-        Keyword::Continue => continue_step(maker, behind),
-        Keyword::Return => return_step(alloc, maker, behind),
-        Keyword::Include => include_step(alloc, maker, behind),
-        Keyword::Require => include_step(alloc, maker, behind),
-        Keyword::Exit => exit_step(alloc, maker, behind),
-        _ => value_step(alloc, maker, Last::Run, rest),
+    // Behind `if`.
+    fn if_step<'a>(&mut self, rest: &'a [Token]) -> Result<Step<'a>, NoMemory>
+        ensures { Moves (machine.if_move self.old.frames (condition_at (terminals_of rest.now)))
+            self.old result self.new }
+    {
+        let Some(behind) = self.read_condition(rest)? else {
+            return Ok(Step::Stuck(rest));
+        };
+        self.if_body(behind)
     }
-}
 
-/// Where a statement begins.
-pub(crate) fn begin_step<'a>(
-    alloc: Global,
-    frames: &mut Stack<Frame>,
-    maker: &mut Maker,
-    rest: &'a [Token],
-) -> Result<Step<'a>, NoMemory>
-    ensures { Moves (machine.begin_move frames.old
-        (terminals_of rest.now)) maker.old result frames.new maker.new }
-{
-    match sign_at(rest) {
-        Some((sign, behind)) => sign_step(alloc, frames, maker, sign, behind, rest),
-        None => match word_at(rest) {
-            Some((word, behind)) => word_step(alloc, frames, maker, word, behind, rest),
-            None => match inline_at(rest) {
-                Some((text, behind)) => {
-                    let done = maker.inline(alloc, text)?;
-                    Ok(gone(done, Focus::Behind, behind))
-                }
-                None => value_step(alloc, maker, Last::Run, rest),
-            },
-        },
+    // Behind `while`.
+    fn while_step<'a>(&mut self, rest: &'a [Token]) -> Result<Step<'a>, NoMemory>
+        ensures { Moves (machine.while_move self.old.frames (condition_at (terminals_of rest.now)))
+            self.old result self.new }
+    {
+        let Some(behind) = self.read_condition(rest)? else {
+            return Ok(Step::Stuck(rest));
+        };
+        self.body_step(Loop::While, behind)
+    }
+
+    // Behind the variable of a key.
+    fn keyed_step<'a>(&mut self, key: &Bytes, rest: &'a [Token]) -> Result<Step<'a>, NoMemory>
+        ensures { Moves (keyed_next key.now self.old.frames (terminals_of rest.now))
+            self.old result self.new }
+    {
+        let Some(behind) = behind_sign(rest, Sign::DoubleArrow) else {
+            return Ok(Step::Stuck(rest));
+        };
+        let Some((value, closing)) = variable_at(behind) else {
+            return Ok(Step::Stuck(behind));
+        };
+        let Some(last) = behind_sign(closing, Sign::CloseParen) else {
+            return Ok(Step::Stuck(closing));
+        };
+        let of = keyed_loop(self.alloc, key, value)?;
+        self.body_step(of, last)
+    }
+
+    // Behind the first variable of a `foreach`.
+    fn variable_step<'a>(&mut self, name: &Bytes, rest: &'a [Token]) -> Result<Step<'a>, NoMemory>
+        ensures { Moves (variable_next name.now self.old.frames (terminals_of rest.now))
+            self.old result self.new }
+    {
+        let Some(behind) = behind_sign(rest, Sign::CloseParen) else {
+            return self.keyed_step(name, rest);
+        };
+        let of = each_loop(self.alloc, name)?;
+        self.body_step(of, behind)
+    }
+
+    // Behind the array of a `foreach`.
+    fn each_step<'a>(&mut self, rest: &'a [Token]) -> Result<Step<'a>, NoMemory>
+        ensures { Moves (each_next self.old.frames (terminals_of rest.now))
+            self.old result self.new }
+    {
+        let Some(behind) = behind_word(rest, Keyword::As) else {
+            return Ok(Step::Stuck(rest));
+        };
+        let Some((name, last)) = variable_at(behind) else {
+            return Ok(Step::Stuck(behind));
+        };
+        self.variable_step(name, last)
+    }
+
+    // Behind `foreach`.
+    fn foreach_step<'a>(&mut self, rest: &'a [Token]) -> Result<Step<'a>, NoMemory>
+        ensures { Moves (machine.foreach_begin_move self.old.frames
+            (machine.behind_paren (terminals_of rest.now))) self.old result self.new }
+    {
+        let Some(inner) = behind_sign(rest, Sign::OpenParen) else {
+            return Ok(Step::Stuck(rest));
+        };
+        let Some(behind) = self.read_value(inner)? else {
+            return Ok(Step::Stuck(inner));
+        };
+        self.each_step(behind)
+    }
+
+    // A statement that begins with a sign, which is the first of the tokens.
+    fn sign_step<'a>(
+        &mut self,
+        sign: Sign,
+        behind: &'a [Token],
+        rest: &'a [Token],
+    ) -> Result<Step<'a>, NoMemory>
+        requires { terminals_of rest.now ≡ sign_terminal sign ∷ terminals_of behind.now }
+        ensures { Moves (machine.sign_move sign self.old.frames (terminals_of behind.now))
+            self.old result self.new }
+    {
+        match sign {
+            Sign::Semicolon => Ok(Step::Go(Focus::Behind, behind)),
+            Sign::OpenBrace => self.enter(Frame::Block, Focus::Behind, behind),
+            _ => self.value_step(Last::Run, rest),
+        }
+    }
+
+    // A statement that begins with a word, which is the first of the tokens.
+    fn word_step<'a>(
+        &mut self,
+        word: Keyword,
+        behind: &'a [Token],
+        rest: &'a [Token],
+    ) -> Result<Step<'a>, NoMemory>
+        requires { terminals_of rest.now ≡ word_terminal word ∷ terminals_of behind.now }
+        ensures { Moves (machine.word_move word self.old.frames (terminals_of behind.now))
+            self.old result self.new }
+    {
+        match word {
+            Keyword::Echo => self.listed_step(Row::Echo, 1, behind),
+            Keyword::Print => self.value_step(Last::Print, behind),
+            Keyword::If => self.if_step(behind),
+            Keyword::While => self.while_step(behind),
+            Keyword::Do => self.open_body(true, Frame::Do, Focus::Begin, behind),
+            Keyword::For => Ok(for_step(behind)),
+            Keyword::Foreach => self.foreach_step(behind),
+            Keyword::Break => self.break_step(behind),
+            Keyword::Continue => self.continue_step(behind),
+            Keyword::Return => self.return_step(behind),
+            Keyword::Include => self.include_step(behind),
+            Keyword::Require => self.include_step(behind),
+            Keyword::Exit => self.exit_step(behind),
+            _ => self.value_step(Last::Run, rest),
+        }
+    }
+
+    /// Where a statement begins.
+    pub(crate) fn begin_step<'a>(&mut self, rest: &'a [Token]) -> Result<Step<'a>, NoMemory>
+        ensures { Moves (machine.begin_move self.old.frames (terminals_of rest.now))
+            self.old result self.new }
+    {
+        if let Some((sign, behind)) = sign_at(rest) {
+            return self.sign_step(sign, behind, rest);
+        }
+        if let Some((word, behind)) = word_at(rest) {
+            return self.word_step(word, behind, rest);
+        }
+        let Some((text, behind)) = inline_at(rest) else {
+            return self.value_step(Last::Run, rest);
+        };
+        let done = self.maker.inline(self.alloc, text)?;
+        Ok(gone(done, Focus::Behind, behind))
     }
 }

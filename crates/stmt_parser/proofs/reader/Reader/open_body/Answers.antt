@@ -1,0 +1,11 @@
+use Rattle.std.proofs.Common.{[], ◌∷◌, ap, sym, ◌∙◌}
+use Rattle.expr_parser.specs.Heads.{terminals_of}
+use Rattle.stmt_maker.specs.Views.{made_of}
+use Rattle.stmt_machine.specs.Actions.{open_action}
+use Rattle.stmt_machine.specs.Machine.{moves}
+use Rattle.stmt_parser.specs.Outcomes.{acted}
+use Rattle.stmt_parser.proofs.ActedLemmas.{acted_does}
+use Rattle.stmt_parser.proofs.reader.Reader.open_body.Goals as goal
+
+pub returns : goal.returns
+returns c = ap (λ fs. acted (moves c.args.focus fs (terminals_of c.args.rest.now) (open_action c.args.of_loop ∷ [])) (made_of c.args.self.now.maker)) (sym c.in_ok-push.ensures.ok) ∙ acted_does c.in_ok-done.done (open_action c.args.of_loop) c.args.focus c.push.new.self (terminals_of c.args.rest.now) (made_of c.args.self.now.maker) (made_of c.open.new.self) c.in_ok-done.ensures ∙ c.gone.ensures c.push.new.self (made_of c.open.new.self)
