@@ -2,7 +2,7 @@
 #![tactic(auto)]
 
 #[cfg(test)]
-mod hostile;
+mod cuts;
 #[cfg(test)]
 mod outcome;
 #[cfg(test)]

@@ -48,49 +48,6 @@ fn tables(rt: HostRuntime) -> Result<(), Fail> {
     Ok(())
 }
 
-#[test]
-fn refusals(rt: HostRuntime) -> Result<(), Fail> {
-    let rows = r#"<!ELEMENT html => NotDtd 0
-x => NotDtd 0
- <!ELEMENT a> => NotDtd 1
-<!ELEMENT a (#PCDATA|b)><!ELEMENT b EMPTY> => NotDtd 0
-<!ELEMENT a EMPTY><!ELEMENT b (a,a|a)> => NotDtd 18
-<!ELEMENT a ()> => NotDtd 0
-<!ELEMENT a EMPTY><!ATTLIST a x CDATA> => NotDtd 18
-<!ATTLIST a x CDATA '<'> => NotDtd 0
-<!ATTLIST a x CDATA '&b'> => NotDtd 0
-<!-- a -- b --> => NotDtd 0
-<?xml a?> => NotDtd 0
-<!ENTITY a '& b'> => NotDtd 0
-<!ENTITY % a SYSTEM> => NotDtd 0
-<!FOO a> => NotDtd 0
-<!FOO a>x => NotDtd 0
-<!ELEMENT a EMPTY><!FOO b><!ELEMENT c => NotDtd 18
-<!ELEMENT a EMPTY><!ELEMENT b ()><!ELEMENT c ()> => NotDtd 18
-<!ELEMENT a (b)>x => NotDtd 16
-<!ENTITY % a '<!FOO b>'>%a;x => NotDtd 25
-%a; => Entity a
-<!ENTITY % a '&#37;b; &#37;b;'><!ENTITY % b '&#37;a;'>%a; => Entity a
-<!ENTITY % a "%a;">%a; => Entity a
-<!ENTITY % a "&#37;b;"><!ENTITY % b "&#37;a;">%a; => Entity a
-<!ENTITY % b "%a;"><!ENTITY % a ""> => Entity a
-<!ELEMENT a EMPTY><!ELEMENT b EMPTY><!ELEMENT a ANY> => Twice a
-<!ENTITY % e SYSTEM "e">%e;%e; => Twice e
-<!ELEMENT a (b)> => Undeclared b
-<!ELEMENT a (#PCDATA|c)*> => Undeclared c
-<!ELEMENT a EMPTY><![INCLUDE[]]> => LeftOut 18
-<!NOTATION a SYSTEM 'b'> => LeftOut 0
-<!ATTLIST a x ENTITY #IMPLIED> => LeftOut 0
-<!ATTLIST a x NOTATION (b) #IMPLIED> => LeftOut 0
-<!ENTITY a SYSTEM 'e'> => LeftOut 0
-<!ENTITY a '&b;'> => LeftOut 0
-<!ENTITY % f SYSTEM "f">%f; => Missing f"#;
-    for row in rows.lines() {
-        assert!(rt; row_is_so(rt.alloc(), row)?, "{row}");
-    }
-    Ok(())
-}
-
 // The examples of XML 1.0 (3.2, 3.2.1, 3.2.2, 3.3, 4.2, 4.4.5, 4.5 and appendix D), where they
 // declare what they name.
 #[test]

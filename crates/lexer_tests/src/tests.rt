@@ -1,7 +1,6 @@
-//! Tables of texts with the tokens that the PHP manual says, and of files that are refused.
+//! Tables of texts with the tokens that the PHP manual says.
 
-use lexical_grammar::fault::LexicalFault;
-use php_lexer::{LexRefusal, lex};
+use php_lexer::lex;
 use php_syntax::token::{Part, PartKey, Sign, Token, TokenKind};
 use std::alloc::{AllocError, Global};
 use std::test::Fail;
@@ -137,58 +136,5 @@ fn texts(rt: HostRuntime) -> Result<(), Fail> {
         let found = shown(rt.alloc(), file)?;
         assert_eq!(rt; found.as_str(), expected);
     }
-    Ok(())
-}
-
-#[test]
-fn refusals(rt: HostRuntime) -> Result<(), Fail> {
-    let table: [(&[u8], LexicalFault, u32); 28] = [
-        (b"<?= &1", LexicalFault::BadByte, 4),
-        (b"<?= 1 / 2", LexicalFault::BadByte, 6),
-        (b"<?= $1", LexicalFault::BadByte, 4),
-        (b"<?= #[A]", LexicalFault::BadByte, 4),
-        (b"<?= a\xc3", LexicalFault::BadByte, 5),
-        (b"<?= 012", LexicalFault::BadByte, 5),
-        (b"<?= 0x1", LexicalFault::BadByte, 5),
-        (b"<?= 12a", LexicalFault::BadByte, 6),
-        (b"<?= 'a", LexicalFault::Unclosed, 4),
-        (b"<?= \"\\x", LexicalFault::Unclosed, 4),
-        (b"<?= /*/", LexicalFault::Unclosed, 4),
-        (b"<?= <<<A\na A", LexicalFault::Unclosed, 4),
-        (b"<?= 1.5", LexicalFault::Float, 4),
-        (b"<?= .5", LexicalFault::Float, 4),
-        (b"<?= 1E-5", LexicalFault::Float, 4),
-        (b"<?= 9223372036854775808", LexicalFault::BigInt, 4),
-        (b"<?= \"a\\0\"", LexicalFault::Escape, 6),
-        (b"<?= \"${a}\"", LexicalFault::Escape, 5),
-        (b"<?= \"{$a->b}\"", LexicalFault::Escape, 5),
-        (b"<?= \"a$b->c\"", LexicalFault::Escape, 6),
-        (b"<?= \"$a['b']\"", LexicalFault::Escape, 5),
-        (b"<?= \"$a\xc3\"", LexicalFault::Escape, 5),
-        (b"<?= <<<A\na\n  A\nA", LexicalFault::Escape, 11),
-        (b"<?= <<<A\n\\\"\nA", LexicalFault::Escape, 9),
-        (b"<?= <<<A\na\rA\nA", LexicalFault::Escape, 10),
-        (b"<?= <<<A\n\r \tA\nA", LexicalFault::Escape, 9),
-        (b"<?= <<<'A'\na\rA\nA", LexicalFault::Escape, 12),
-        (b"<?= <<<'A'\n\tA\nA", LexicalFault::Escape, 11),
-    ];
-    for (file, fault, at) in table {
-        let found = shown(rt.alloc(), file)?;
-        let expected = LexRefusal::Breaks { fault, at };
-        let wanted = format!(in rt.alloc(); "{expected:?}")?;
-        assert_eq!(rt; found.as_str(), wanted.as_str());
-    }
-    Ok(())
-}
-
-#[test]
-fn the_longest_file(rt: HostRuntime) -> Result<(), Fail> {
-    let alloc = rt.alloc();
-    let mut file = vec![in alloc; b'a'; 1_048_576]?;
-    let found = shown(alloc, file.as_slice())?;
-    assert_eq!(rt; found.len(), 1_048_581);
-    file.push(b'a')?;
-    let found = shown(alloc, file.as_slice())?;
-    assert_eq!(rt; found.as_str(), "TooLong { len: 1048577 }");
     Ok(())
 }

@@ -1,15 +1,8 @@
-//! Tests of page_validator.
+//! Tests of page_validator: where a page that is not valid is said to be so. Which pages are valid
+//! is told by the rows of check_rows.
 #![tactic(auto)]
 
 #[cfg(test)]
-mod judging;
+mod deep;
 #[cfg(test)]
-mod long;
-#[cfg(test)]
-mod rules;
-#[cfg(test)]
-mod small;
-#[cfg(test)]
-mod standard;
-#[cfg(test)]
-mod strict;
+mod places;

@@ -3,8 +3,6 @@
 #![tactic(auto)]
 
 #[cfg(test)]
-mod places;
-#[cfg(test)]
 mod tests;
 #[cfg(test)]
 mod written;

@@ -1,0 +1,71 @@
+// A call of the program on files and outputs in memory.
+use anyhow::Result;
+use io_edge::{MemFiles, MemSink};
+use phpsa_main::{Exit, phpsa};
+use std::alloc::Global;
+use text_base::Bytes;
+
+/// The room of the two outputs, which call of the files fails, and how much of the first file there
+/// is.
+#[derive(Clone, Copy)]
+pub struct Outside {
+    pub out: Option<u64>,
+    pub err: Option<u64>,
+    pub fails: Option<u64>,
+    pub front: Option<usize>,
+}
+
+/// All room, no failure, and whole files.
+pub const QUIET: Outside = Outside {
+    out: None,
+    err: None,
+    fails: None,
+    front: None,
+};
+
+/// How a call ended, and what it wrote.
+#[derive(Drop)]
+pub struct Ending {
+    pub exit: Exit,
+    pub out: MemSink,
+    pub err: MemSink,
+}
+
+/// Files, each a name and its bytes.
+pub type Held = Vec<(Bytes, Bytes)>;
+
+// A copy of the files, of the first one so much.
+fn copied(alloc: Global, files: &[(Bytes, Bytes)], front: Option<usize>) -> Result<Held> {
+    let mut held = Vec::new(alloc);
+    let mut front = front;
+    for (name, bytes) in files {
+        let whole = bytes.as_slice();
+        let kept = match front.take() {
+            None => whole,
+            Some(length) => whole.get(..length).unwrap_or(whole),
+        };
+        held.push((
+            Bytes::from_slice(alloc, name.as_slice())?,
+            Bytes::from_slice(alloc, kept)?,
+        ))?;
+    }
+    Ok(held)
+}
+
+/// Calls the program with these words over these files.
+pub fn call(
+    alloc: Global,
+    words: &Vec<String>,
+    files: &[(Bytes, Bytes)],
+    outside: Outside,
+) -> Result<Ending> {
+    let mut fail = Vec::new(alloc);
+    if let Some(call) = outside.fails {
+        fail.push(call)?;
+    }
+    let mut source = MemFiles::new(copied(alloc, files, outside.front)?, fail);
+    let mut out = MemSink::new(alloc, outside.out);
+    let mut err = MemSink::new(alloc, outside.err);
+    let exit = phpsa(alloc, words, &mut source, &mut out, &mut err);
+    Ok(Ending { exit, out, err })
+}

@@ -1,0 +1,62 @@
+//! Rows of calls of the program, from files: each with its words and the files that it finds, and
+//! with the status and the outputs that were worked out for it by hand. A row that ends otherwise is
+//! printed, and last how many are as they should be. The words are the names of the files with rows;
+//! README.md tells how a row is written.
+#![tactic(auto)]
+
+mod calls;
+mod derived;
+mod grammars;
+mod rows;
+mod table;
+mod texts;
+mod tries;
+mod wishes;
+
+use anyhow::{Context, Result};
+use io_edge::{DiskFiles, Files};
+use std::rt::Env;
+use std::{env, rt};
+use table::Table;
+
+// Adds a line of its own to the text of the line before it.
+fn add_line(open: &mut String, line: &str) -> Result<()> {
+    if !open.as_str().ends_with("\\n") {
+        open.push(' ')?;
+    }
+    open.push_str(line.strip_prefix(" ").unwrap_or(line))?;
+    open.push_str("\\n")?;
+    Ok(())
+}
+
+// Takes the lines of a file with rows.
+fn take_file(
+    rt: &(impl Print + rt::Files + AllocGlobal),
+    table: &mut Table,
+    name: &str,
+) -> Result<()> {
+    let alloc = rt.alloc();
+    let bytes = DiskFiles::new(rt).read(alloc, name).context("a file of rows")?;
+    let text = str::from_utf8(bytes.as_slice()).context("a file in UTF-8")?;
+    let mut open = String::new(alloc);
+    let mut place = 0u64;
+    for line in text.lines() {
+        if let Some(more) = line.strip_prefix("|") {
+            add_line(&mut open, more)?;
+        } else {
+            table.take(rt, (name, place), open.as_str())?;
+            open = String::from_str(alloc, line)?;
+        }
+        place = place.saturating_add(1);
+    }
+    table.take(rt, (name, place), open.as_str())
+}
+
+fn main(rt: HostRuntime) -> Result<()> {
+    let mut table = Table::new(rt.alloc())?;
+    for name in env::args(&rt)?.skip(1) {
+        take_file(&rt, &mut table, name.as_str())?;
+    }
+    println!(rt; "{} rows passed, {} failed", table.passed, table.failed)?;
+    Ok(())
+}
