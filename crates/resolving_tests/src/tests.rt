@@ -1,5 +1,6 @@
 //! Systems as one grammar: which words it derives, with near misses.
 
+use crate::derivations::derived;
 use crate::derives;
 use cfg_grammar::{Grammar, Production, Right, Symbol};
 use grammar_image::ImageRefusal;
@@ -11,6 +12,13 @@ use text_base::{ByteRange, Bytes, NoMemory, Nt};
 
 fn one(byte: u8) -> Symbol {
     Symbol::Range(ByteRange { lo: byte, hi: byte })
+}
+
+fn production(left: u64, right: Right) -> Production {
+    Production {
+        left: Nt(left),
+        right,
+    }
 }
 
 /// The texts of 0 are `aa` and those of 1, which are the texts of 0 with `b` for each `aa`.
@@ -85,6 +93,51 @@ fn in_a_cycle(rt: HostRuntime) -> Result<(), Fail> {
     assert!(rt; derives(alloc, &grammar, "abba")?);
     assert!(rt; !derives(alloc, &grammar, "c")?);
     assert!(rt; !derives(alloc, &grammar, "abc")?);
+    Ok(())
+}
+
+/// The texts of 0 are `ab` and those of 1, which are the texts of 0 with `ab` for each `b`.
+fn lengthened_in_a_loop(alloc: Global) -> Result<Option<OpSystem>, NoMemory> {
+    let mut productions = Vec::new(alloc);
+    productions.push(production(0, Right::Two(one(b'a'), one(b'b'))))?;
+    productions.push(production(0, Right::One(Symbol::Nt(Nt(1)))))?;
+    let search = Bytes::from_slice(alloc, "b".as_bytes())?;
+    let with = Bytes::from_slice(alloc, "ab".as_bytes())?;
+    let mut ops = Vec::new(alloc);
+    ops.push(OpRule {
+        left: Nt(1),
+        op: Op::Replace { search, with },
+        operand: Nt(0),
+    })?;
+    let Some(grammar) = Grammar::new(Nt(0), 2, productions) else {
+        return Ok(None);
+    };
+    Ok(OpSystem::new(grammar, ops, Nt(0)))
+}
+
+/// Of `$s = 'ab'; while (..) { $s = str_replace('b', 'ab', $s); }`: the text `bba`, which no run
+/// has, is derived, by all texts over `a` and `b` as one nonterminal behind the two of the system.
+#[test]
+fn derived_in_a_cycle(rt: HostRuntime) -> Result<(), Fail> {
+    let alloc = rt.alloc();
+    let system = lengthened_in_a_loop(alloc)?.ok_or("a system")?;
+    let grammar = resolve(alloc, &system, 0).map_err(|_| "a grammar")?;
+    let (a, b) = (one(b'a'), one(b'b'));
+    let (looped, any) = (Symbol::Nt(Nt(1)), Symbol::Nt(Nt(2)));
+    let bba = [
+        production(0, Right::One(looped)),
+        production(1, Right::One(any)),
+        production(2, Right::Two(b, any)),
+        production(2, Right::Two(b, any)),
+        production(2, Right::Two(a, any)),
+        production(2, Right::Empty),
+    ];
+    let ab = [production(0, Right::Two(a, b))];
+    assert!(rt; derived(alloc, &grammar, &bba)?.as_deref() == Some(&b"bba"[..]));
+    assert!(rt; derived(alloc, &grammar, &ab)?.as_deref() == Some(&b"ab"[..]));
+    assert!(rt; derived(alloc, &grammar, &bba[..5])?.is_none());
+    let c = [production(0, Right::One(one(b'c')))];
+    assert!(rt; derived(alloc, &grammar, &c)?.is_none());
     Ok(())
 }
 
