@@ -1,8 +1,8 @@
 //! Builds the machines of a search of a thousand bytes and of a cut of 1,024, and copies their
-//! tables; and puts grammars through the machines of three operations. Without an argument it prints
+//! tables; and puts grammars through the machines of four operations. Without an argument it prints
 //! how large the machines are, and how many items the images of small grammars have; with `machines`
 //! too how much longer than the copy the building takes; with `chain`, `choices` or `texts` how long
-//! larger images of these take, under all three operations or under the one that a second word names.
+//! larger images of these take, under all four operations or under the one that a second word names.
 #![tactic(auto)]
 
 mod images;
@@ -105,7 +105,12 @@ fn main(rt: HostRuntime) -> Result<()> {
     if word.is_none() || word == Some("machines") {
         measure_machines(&rt, word.is_some())?;
     }
-    for operation in [Operation::Escapes, Operation::Search, Operation::Cut] {
+    for operation in [
+        Operation::Escapes,
+        Operation::Search,
+        Operation::Cut,
+        Operation::Short,
+    ] {
         if named.is_none() || named == Some(operation.word()) {
             measure_images(&rt, operation, word)?;
         }
