@@ -9,6 +9,7 @@ use Rattle.text_base.specs.declared.page_token.PageToken.{PageToken}
 use Rattle.text_base.specs.declared.page_token.PageToken.TheVariants.{Doctype, Start, End, Blank, Text, Misc, Bad}
 use Rattle.cfg_grammar.specs.declared.symbol.Symbol.TheVariants.{Nt}
 use Rattle.cfg_grammar.specs.declared.production.Production.{Production}
+use Rattle.cfg_grammar.specs.declared.grammar.Grammar.{Grammar}
 use Rattle.cfg_grammar.specs.Derives.{Derives, by_one, by_two}
 use Rattle.useful_nonterminals.specs.Useful.{IsUseful, at_start, alone, as_first, as_second}
 use Rattle.tag_sums.specs.Nesting.{Nest, torn, nest, join, nest_of, is_balanced, nest_count}
@@ -108,20 +109,21 @@ module _ (IsPage : List ℕ → Type 0) (HasTokens : List ℕ → List PageToken
       let (h, l, d) = pair.derived in
       subst IsSmall pair.same (small_sum (tokens_in pair.sentence) (within ps start a pair.sentence echo pair.useful (derives_of ps (Nt a) pair.sentence h d)))
 
-  no_many : (limit count height : ℕ) → 2 ≤ limit → HasManySums IsPage HasTokens nest_of is_balanced limit count height → ⊥
-  no_many limit count height two h =
-      let (a, sums, long, different, each) = h.sums in
-      let over = h.over in
-      few_sums sums (omega arith) different (λ s c. small_pair h.productions h.start a height s h.echo (each s c))
+  module _ (IsImage : Grammar → Type 0) where
+    no_many : (limit count height : ℕ) → 2 ≤ limit → HasManySums IsPage HasTokens nest_of is_balanced IsImage limit count height → ⊥
+    no_many limit count height two h =
+        let (a, sums, long, different, each) = h.sums in
+        let over = h.over in
+        few_sums sums (omega arith) different (λ s c. small_pair h.image.productions.items h.image.start a height s h.echo (each s c))
 
-  no_tagged : (count height : ℕ) → HasManyTags IsPage HasTokens nest_of is_balanced nest_count count height → ⊥
-  no_tagged count height h =
-      let none : nest_count h.sum ≡ 0 = small_count h.sum (small_pair h.productions h.start h.nonterminal height h.sum h.echo h.of_sentence) in
-      let tagged = h.tagged in
-      let over = h.over in
-      omega arith
+    no_tagged : (count height : ℕ) → HasManyTags IsPage HasTokens nest_of is_balanced IsImage nest_count count height → ⊥
+    no_tagged count height h =
+        let none : nest_count h.sum ≡ 0 = small_count h.sum (small_pair h.image.productions.items h.image.start h.nonterminal height h.sum h.echo h.of_sentence) in
+        let tagged = h.tagged in
+        let over = h.over in
+        omega arith
 
-  pub all_nested : (limit : ℕ) → 2 ≤ limit → NoneFound IsPage HasTokens nest_of is_balanced nest_count limit → AreAllNested IsPage HasTokens
-  all_nested limit two (are_whole all) = all
-  all_nested limit two (many_sums count height h) = absurd (no_many limit count height two h)
-  all_nested limit two (many_tags count height h) = absurd (no_tagged count height h)
+    pub all_nested : (limit : ℕ) → 2 ≤ limit → NoneFound IsPage HasTokens nest_of is_balanced IsImage nest_count limit → AreAllNested IsPage HasTokens
+    all_nested limit two (are_whole all) = all
+    all_nested limit two (many_sums count height h) = absurd (no_many limit count height two h)
+    all_nested limit two (many_tags count height h) = absurd (no_tagged count height h)

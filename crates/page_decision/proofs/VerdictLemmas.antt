@@ -3,6 +3,7 @@ use Rattle.std.proofs.Common.{◌≡◌, ◌<◌, ◌↔◌, ℕ, Bool, true, Li
 use Rattle.std.specs.Prelude.{All}
 use Rattle.text_base.specs.declared.letter.Letter.{Letter}
 use Rattle.text_base.specs.declared.page_token.PageToken.{PageToken}
+use Rattle.cfg_grammar.specs.declared.grammar.Grammar.{Grammar}
 use Rattle.dtd_model.specs.Table.{Table}
 use Rattle.derivations.specs.declared.derivation.Derivation.{Derivation}
 use Rattle.page_model.specs.PageTokens.{PageTokens}
@@ -51,39 +52,42 @@ module _ (table : Table) (IsPage : List ℕ → Type 0) where
       writes = h.writes;
     }
 
-  -- by the automaton of the definition
-  of_sums : SumsTellValid → (parts : Parts) → AreStatesOf table parts.states → parts ≡ parts_of table parts.states → (limit : ℕ) (v : Verdict)
-      → IsTextVerdict IsPage (PageTokens table) (sum_of (page_automaton parts)) (is_whole (page_automaton parts)) tag_count limit v → IsPageVerdict table IsPage Goal.Valid limit v
-  of_sums law parts states same limit v is = go v (subst (λ (p : Parts). IsTextVerdict IsPage (PageTokens table) (sum_of (page_automaton p)) (is_whole (page_automaton p)) tag_count limit v) same is)
-    where
-      go : (v : Verdict) → IsTextVerdict IsPage (PageTokens table) (sum_of (page_automaton (parts_of table parts.states))) (is_whole (page_automaton (parts_of table parts.states))) tag_count limit v
-          → IsPageVerdict table IsPage Goal.Valid limit v
-      go Yes all = λ page is_page. good_by_sum Goal.Valid _ _ (law table parts.states states) page (all page is_page)
-      go (No d) h = bad_by_sum Goal.Valid _ _ (law table parts.states states) d h
-      go (Pairs count height) h = (parts.states, states, h)
-      go (Tags count height) h = (parts.states, states, h)
+  module _ (IsImage : Grammar → Type 0) where
+    -- by the automaton of the definition
+    of_sums : SumsTellValid → (parts : Parts) → AreStatesOf table parts.states → parts ≡ parts_of table parts.states → (limit : ℕ) (v : Verdict)
+        → IsTextVerdict IsPage (PageTokens table) (sum_of (page_automaton parts)) (is_whole (page_automaton parts)) IsImage tag_count limit v → IsPageVerdict table IsPage IsImage Goal.Valid limit v
+    of_sums law parts states same limit v is = go v (subst (λ (p : Parts). IsTextVerdict IsPage (PageTokens table) (sum_of (page_automaton p)) (is_whole (page_automaton p)) IsImage tag_count limit v) same is)
+      where
+        go : (v : Verdict) → IsTextVerdict IsPage (PageTokens table) (sum_of (page_automaton (parts_of table parts.states))) (is_whole (page_automaton (parts_of table parts.states))) IsImage tag_count limit v
+            → IsPageVerdict table IsPage IsImage Goal.Valid limit v
+        go Yes all = λ page is_page. good_by_sum Goal.Valid _ _ (law table parts.states states) page (all page is_page)
+        go (No d) h = bad_by_sum Goal.Valid _ _ (law table parts.states states) d h
+        go (Pairs count height) h = (parts.states, states, h)
+        go (Tags count height) h = (parts.states, states, h)
 
-  of_nests : NestsTellNested → (limit : ℕ) (v : Verdict) → IsTextVerdict IsPage (PageTokens table) nest_of is_balanced nest_count limit v → IsPageVerdict table IsPage Goal.Nested limit v
-  of_nests law limit Yes all = λ page is_page. good_by_sum Goal.Nested nest_of is_balanced (law table) page (all page is_page)
-  of_nests law limit (No d) h = bad_by_sum Goal.Nested nest_of is_balanced (law table) d h
-  of_nests law limit (Pairs count height) h = h
-  of_nests law limit (Tags count height) h = h
+    of_nests : NestsTellNested → (limit : ℕ) (v : Verdict) → IsTextVerdict IsPage (PageTokens table) nest_of is_balanced IsImage nest_count limit v → IsPageVerdict table IsPage IsImage Goal.Nested limit v
+    of_nests law limit Yes all = λ page is_page. good_by_sum Goal.Nested nest_of is_balanced (law table) page (all page is_page)
+    of_nests law limit (No d) h = bad_by_sum Goal.Nested nest_of is_balanced (law table) d h
+    of_nests law limit (Pairs count height) h = h
+    of_nests law limit (Tags count height) h = h
 
   module _ (fits : (page : List ℕ) → IsPage page → All (λ byte. byte < 256) page) {S : Type 0} (first : S) (steps : S → ℕ → S → List Letter → Type 0) (ends : S → List Letter → Type 0) where
     has_tokens : IsPageMachine table first steps ends → (page : List ℕ) (tokens : List PageToken) → IsPage page → PutsTokens first steps ends page tokens → PageTokens table page tokens
     has_tokens machine page tokens is puts = machine.tokens page tokens (fits page is) puts
 
-    pub valid_verdict : SumsTellValid → IsPageMachine table first steps ends → (segments : Segments) → AreSegmentsOf table segments → (limit : ℕ) (v : Verdict)
-        → IsTextVerdict IsPage (PutsTokens first steps ends) (sum_of (page_automaton (parts_in segments))) (is_whole (page_automaton (parts_in segments))) tag_count limit v
-        → IsPageVerdict table IsPage Goal.Valid limit v
-    valid_verdict law machine segments are limit v h =
-        of_sums law (parts_in segments) are.states are.parts limit v
-        (verdict_along IsPage IsPage (PutsTokens first steps ends) (PageTokens table) (itself IsPage) (has_tokens machine) (sum_of (page_automaton (parts_in segments))) (is_whole (page_automaton (parts_in segments))) tag_count limit v h)
+    pub valid_verdict : SumsTellValid → IsPageMachine table first steps ends → (segments : Segments) → AreSegmentsOf table segments → (IsImage : Grammar → Type 0) (limit : ℕ) (v : Verdict)
+        → IsTextVerdict IsPage (PutsTokens first steps ends) (sum_of (page_automaton (parts_in segments))) (is_whole (page_automaton (parts_in segments))) IsImage tag_count limit v
+        → IsPageVerdict table IsPage IsImage Goal.Valid limit v
+    valid_verdict law machine segments are IsImage limit v h =
+        of_sums IsImage law (parts_in segments) are.states are.parts limit v
+        (verdict_along IsPage IsPage (PutsTokens first steps ends) (PageTokens table) (itself IsPage) (has_tokens machine) (sum_of (page_automaton (parts_in segments))) (is_whole (page_automaton (parts_in segments)))
+        IsImage IsImage (λ image is. is) tag_count limit v h)
 
-    pub nested_verdict : NestsTellNested → IsPageMachine table first steps ends → (limit : ℕ) (v : Verdict)
-        → IsTextVerdict IsPage (PutsTokens first steps ends) nest_of is_balanced nest_count limit v → IsPageVerdict table IsPage Goal.Nested limit v
-    nested_verdict law machine limit v h =
-        of_nests law limit v (verdict_along IsPage IsPage (PutsTokens first steps ends) (PageTokens table) (itself IsPage) (has_tokens machine) nest_of is_balanced nest_count limit v h)
+    pub nested_verdict : NestsTellNested → IsPageMachine table first steps ends → (IsImage : Grammar → Type 0) (limit : ℕ) (v : Verdict)
+        → IsTextVerdict IsPage (PutsTokens first steps ends) nest_of is_balanced IsImage nest_count limit v → IsPageVerdict table IsPage IsImage Goal.Nested limit v
+    nested_verdict law machine IsImage limit v h =
+        of_nests IsImage law limit v (verdict_along IsPage IsPage (PutsTokens first steps ends) (PageTokens table) (itself IsPage) (has_tokens machine) nest_of is_balanced
+        IsImage IsImage (λ image is. is) nest_count limit v h)
 
     -- what the machine of broken pages finds is bad
     pub broken_is_bad : IsBrokenMachine table first steps ends → (goal : Goal) (d : Derivation) → IsNotWhole IsPage (PutsTokens first steps ends) nest_of is_balanced d → IsBadPage table IsPage goal d

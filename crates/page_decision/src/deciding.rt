@@ -8,7 +8,7 @@ ghost use Rattle.grammar_image.specs.Refusals.{IsCause};
 ghost use Rattle.page_decision.specs.Machines.{IsBrokenMachine, IsPageMachine, PutsNoTags};
 ghost use Rattle.page_decision.specs.PageSums.{AreSumsOf};
 ghost use Rattle.page_decision.specs.PageVerdicts.{AreAllNested, IsBadPage, IsPageVerdict};
-ghost use Rattle.text_decision.specs.Echoes.{PutsTokens};
+ghost use Rattle.text_decision.specs.Echoes.{IsMachineImage, PutsTokens};
 
 use crate::sums::PageSums;
 use cfg_grammar::Grammar;
@@ -45,8 +45,9 @@ pub fn decide_pages<M: Machine>(
         (M.ends machine.now) }
     requires sums { AreSumsOf goal (table_of dtd.now) sums.now }
     ensures verdict { IfOk result (IsPageVerdict (table_of dtd.now)
-        (DerivesText grammar.now.productions.items (symbols.Symbol.Nt grammar.now.start)) goal
-        pairs) }
+        (DerivesText grammar.now.productions.items (symbols.Symbol.Nt grammar.now.start))
+        (IsMachineImage grammar.now (M.first machine.now) (M.steps machine.now)
+        (M.ends machine.now)) goal pairs) }
     ensures cause { IfErr result
         (IsCause grammar.now.productions.items (M.steps machine.now) grammar.now.start
         (M.first machine.now) items) }

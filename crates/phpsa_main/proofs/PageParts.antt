@@ -62,13 +62,13 @@ file_does files file d fault Refusal.Memory why faults once says = wanting_does 
 
 -- there is no definition
 pub definition_does : (files : SourceCall) (file : List ℕ) (d : NamedType) (cause : DefinitionRefusal) (refusal : Refusal)
-    → IsDefinitionRefusal (definition_call files) d cause → IsOnce files d → IsTold refusal (definition_status cause) (definition_text cause) → Does files (page_check file d) (Err refusal)
-definition_does files file d cause (Refusal.Told message) why once (status_is, text_is) = record {
-  due = page_lacks_definition (not_defined cause why status_is text_is);
+    (page : List ℕ) → Tells (files.content file) (Some page) → IsDefinitionRefusal (definition_call files) d cause → IsOnce files d → IsTold refusal (definition_status cause) (definition_text cause) → Does files (page_check file d) (Err refusal)
+definition_does files file d cause (Refusal.Told message) page told why once (status_is, text_is) = record {
+  due = page_lacks_definition page told (not_defined cause why status_is text_is);
   read = λ built_in. inl (once built_in);
   faults = told_faults files (definition_status cause) message.status status_is (definition_faults (definition_call files) d cause why);
 }
-definition_does files file d cause Refusal.Memory why once says = wanting_does files file d once
+definition_does files file d cause Refusal.Memory page told why once says = wanting_does files file d once
 
 -- the page is judged, or not
 pub judged_does : (files : SourceCall) (file : List ℕ) (d : NamedType) (table : Table) (page : List ℕ) (result : TaskResult) → HasTable files.content d table
@@ -81,7 +81,7 @@ judged_does files file d table page (Ok (reply.Text message)) has told once calm
 judged_does files file d table page (Ok (reply.Grammar grammar)) has told once calm says = absurd says
 judged_does files file d table page (Ok (reply.Halted printed message)) has told once calm says = absurd says
 judged_does files file d table page (Err (Refusal.Told message)) has told once calm (count, many, (status_is, text_is)) = record {
-  due = page_lacks_definition (many_states table count has many status_is text_is);
+  due = page_lacks_definition page told (many_states table count has many status_is text_is);
   read = λ built_in. inl (once built_in);
   faults = inr calm;
 }

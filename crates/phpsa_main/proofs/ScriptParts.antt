@@ -65,19 +65,19 @@ load_decides files file d goal limit cause Refusal.Memory why says = tt
 
 -- there is no definition
 pub definition_decides : (files : SourceCall) (file : List ℕ) (d : NamedType) (goal : Goal) (limit : ℕ) (cause : DefinitionRefusal) (refusal : Refusal)
-    → IsDefinitionRefusal (definition_call files) d cause → (IsBuiltIn d → ReadsItsFiles files file)
+    (program : PlainProgram) → IsLoaded files.content file program → IsDefinitionRefusal (definition_call files) d cause → (IsBuiltIn d → ReadsItsFiles files file)
     → IsTold refusal (definition_status cause) (definition_text cause) → Decides files file d goal limit (Err refusal)
-definition_decides files file d goal limit cause (Refusal.Told message) why read (status_is, text_is) = record {
-  why = lacks_definition (not_defined cause why status_is text_is);
+definition_decides files file d goal limit cause (Refusal.Told message) program loaded why read (status_is, text_is) = record {
+  why = lacks_definition program loaded (not_defined cause why status_is text_is);
   read = λ built_in. inr (read built_in);
   faults = told_faults files (definition_status cause) message.status status_is (definition_faults (definition_call files) d cause why);
 }
-definition_decides files file d goal limit cause Refusal.Memory why read says = tt
+definition_decides files file d goal limit cause Refusal.Memory program loaded why read says = tt
 
 program_refused : (files : SourceCall) (file : List ℕ) (d : NamedType) (table : Table) (program : PlainProgram) (message : Message) → HasTable files.content d table
     → IsLoaded files.content file program → IsProgramRefused table program file message → RefusesScript files file d message.status message.text
 program_refused files file d table program message has loaded (inl (long, (status_is, text_is))) = has_long_text program loaded long status_is text_is
-program_refused files file d table program message has loaded (inr (count, many, (status_is, text_is))) = lacks_definition (many_states table count has many status_is text_is)
+program_refused files file d table program message has loaded (inr (count, many, (status_is, text_is))) = lacks_definition program loaded (many_states table count has many status_is text_is)
 
 -- the program is decided, or not
 pub program_decides : (files : SourceCall) (file : List ℕ) (d : NamedType) (goal : Goal) (limit : ℕ) (table : Table) (program : PlainProgram) (decision : Decision)

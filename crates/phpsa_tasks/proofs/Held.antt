@@ -209,7 +209,7 @@ held_script : ProgramLaws → (files : SourceCall) (file : List ℕ) (d : NamedT
     → RefusesScript files file d status text → PassesScriptLimit goal x.table x.program limit status ⊎ (status ≡ Memory)
 held_script laws files file d goal limit x status text calm h t w (not_loaded cause why status_is text_is) =
     inr (status_is ∙ ap load_status (laws.not_refused files file x.program cause h.holds h.short calm why))
-held_script laws files file d goal limit x status text calm h t w (lacks_definition why) = inr (definition_memory files d x.table status text t w calm why)
+held_script laws files file d goal limit x status text calm h t w (lacks_definition program found why) = inr (definition_memory files d x.table status text t w calm why)
 held_script laws files file d goal limit x status text calm h t w (has_long_text program found long status_is text_is) =
     let own : HasLongText x.program = subst HasLongText (sym (laws.one_program files.content file x.program program h.holds found)) long in
     inl (subst (PassesScriptLimit goal x.table x.program limit) (sym status_is) own)
@@ -220,7 +220,7 @@ pub held_refusal : ProgramLaws → (files : SourceCall) (task : Task) (x : Subje
 held_refusal laws files (script_check file d goal limit form) x status text calm (h, t) w why = inr (held_script laws files file d goal limit x status text calm h t w why)
 held_refusal laws files (page_check file d) x status text calm (h, t) w (not_read fault why status_is text_is) =
     inr (inr (status_is ∙ file_memory files file x.page fault h calm why))
-held_refusal laws files (page_check file d) x status text calm (h, t) w (page_lacks_definition why) = inr (inr (definition_memory files d x.table status text t w calm why))
+held_refusal laws files (page_check file d) x status text calm (h, t) w (page_lacks_definition read told why) = inr (inr (definition_memory files d x.table status text t w calm why))
 held_refusal laws files (script_making n) x status text calm h w (size, status_is, text_is) = inl (subst (IsVerdict (script_making n) tt) (sym status_is) size)
 held_refusal laws files (made_check n) x status text calm (size, h, t) w (no_size none status_is text_is) = absurd (none size)
 held_refusal laws files (made_check n) x status text calm (size, h, t) w (made_refused size' misses reads why) =

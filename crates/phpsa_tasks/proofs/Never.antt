@@ -82,12 +82,12 @@ of_definition files d status text (many_states table count has many is text_is) 
 
 of_script : (files : SourceCall) (file : List ℕ) (d : NamedType) (status : Exit) (text : List ℕ) → RefusesScript files file d status text → IsOther status
 of_script files file d status text (not_loaded cause why is text_is) = subst IsOther (sym is) (of_load cause)
-of_script files file d status text (lacks_definition why) = of_definition files d status text why
+of_script files file d status text (lacks_definition program found why) = of_definition files d status text why
 of_script files file d status text (has_long_text program found long is text_is) = subst IsOther (sym is) tt
 
 of_page : (files : SourceCall) (file : List ℕ) (d : NamedType) (status : Exit) (text : List ℕ) → RefusesPage files file d status text → IsOther status
 of_page files file d status text (not_read fault why is text_is) = subst IsOther (sym is) (of_file fault)
-of_page files file d status text (page_lacks_definition why) = of_definition files d status text why
+of_page files file d status text (page_lacks_definition read told why) = of_definition files d status text why
 
 of_made : (n : ℕ) (status : Exit) (text : List ℕ) → RefusesMade n status text → IsOther status
 of_made n status text (no_size size is text_is) = subst IsOther (sym is) tt

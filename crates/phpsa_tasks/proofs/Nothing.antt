@@ -19,7 +19,6 @@ use Rattle.phpsa_tasks.specs.Requests.{unread, no_request_in, RefusesRequest}
 use Rattle.phpsa_tasks.specs.Subjects.{LacksFile}
 use Rattle.phpsa_tasks.specs.Causes.{not_loaded, lacks_definition, has_long_text, not_read, page_lacks_definition, no_size, made_refused, Refuses}
 use Rattle.phpsa_tasks.specs.Answered.{statuses_of_nothing}
-use Rattle.phpsa_tasks.proofs.Held.{definition_memory}
 
 abbrev pub Among : Task → Exit → Type 0
 Among task status = Contains (statuses_of_nothing task) status
@@ -81,12 +80,10 @@ pub of_refusal : (files : SourceCall) (task : Task) (status : Exit) (text : List
     → Among task status
 of_refusal files (script_check file d goal limit form) status text calm lacks (not_loaded cause why is text_is) =
     subst (Among (script_check file d goal limit form)) (sym is) (of_load files file cause calm why)
-of_refusal files (script_check file d goal limit form) status text calm ((table, t, w), none) (lacks_definition why) =
-    of_memory files (script_check file d goal limit form) status ((table, t, w), none) (definition_memory files d table status text t w calm why)
-of_refusal files (script_check file d goal limit form) status text calm (defined, none) (has_long_text program found long is text_is) = absurd (none program found)
+of_refusal files (script_check file d goal limit form) status text calm lacks (lacks_definition program found why) = absurd (lacks program found)
+of_refusal files (script_check file d goal limit form) status text calm lacks (has_long_text program found long is text_is) = absurd (lacks program found)
 of_refusal files (page_check file d) status text calm lacks (not_read fault why is text_is) = subst (Among (page_check file d)) (sym is) (of_file files file d fault calm why)
-of_refusal files (page_check file d) status text calm ((table, t, w), none) (page_lacks_definition why) =
-    of_memory files (page_check file d) status ((table, t, w), none) (definition_memory files d table status text t w calm why)
+of_refusal files (page_check file d) status text calm lacks (page_lacks_definition read told why) = absurd (lacks read told)
 of_refusal files (script_making n) status text calm lacks why = absurd lacks
 of_refusal files (made_check n) status text calm lacks (no_size size is text_is) = subst (Among (made_check n)) (sym is) (0, lit< tt, refl)
 of_refusal files (made_check n) status text calm lacks (made_refused size misses reads why) = absurd (lacks size)

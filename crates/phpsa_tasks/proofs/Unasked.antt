@@ -2,7 +2,6 @@
 use Rattle.std.proofs.Common.{◌≡◌, ◌∙◌, ℕ, List, Some, refl, sym, ap, subst, inl, inr}
 use Rattle.std.specs.Prelude.{◌⊎◌}
 use Rattle.io_edge.specs.Counts.{Rises}
-use Rattle.program_files.specs.Source.{SourceCall}
 use Rattle.script_meaning.specs.Requests.{PlainRequest}
 use Rattle.told_programs.specs.Told.{Content}
 use Rattle.request_reading.specs.Outcome.{Outcome, not_json, not_request, not_admitted, stands_for, outcome}

@@ -76,9 +76,8 @@ PassesLimit task subject status = ⊥
 abbrev pub IsStopped : (task : Task) → Subject task → Exit → Type 0
 IsStopped task subject status = PassesLimit task subject status ⊎ (status ≡ Memory)
 
--- the statuses of a task that finds nothing under the name of a file: a name is missing, a file is no script or a rule is broken, or a
--- limit is
--- passed
+-- the statuses of a task that finds nothing under the name of a file, whatever its document type: a name is missing, a file is no script or
+-- a rule is broken, or a limit is passed
 abbrev pub statuses_of_nothing : Task → List Exit
 statuses_of_nothing (script_check file document_type goal limit form) = Missing ∷ Script ∷ Input ∷ Memory ∷ []
 statuses_of_nothing (page_check file document_type) = Missing ∷ Input ∷ Memory ∷ []

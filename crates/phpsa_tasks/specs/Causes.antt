@@ -1,6 +1,7 @@
 -- Why a task is refused: a status, and a text on `err`.
-use Rattle.std.specs.Prelude.{◌≡◌, ◌⊎◌, ℕ, List, Option}
+use Rattle.std.specs.Prelude.{◌≡◌, ◌⊎◌, ℕ, List, Option, Some}
 use Rattle.io_edge.specs.Reasons.{HasReason}
+use Rattle.io_edge.specs.Told.{Tells}
 use Rattle.io_edge.specs.declared.files.FileFault.{FileFault}
 use Rattle.script_meaning.specs.Programs.{PlainProgram}
 use Rattle.program_files.specs.Source.{SourceCall, source_call}
@@ -34,19 +35,21 @@ pub data RefusesDefinition (files : SourceCall) (document_type : NamedType) (sta
   many_states : (table : Table) (count : ℕ) → HasTable files.content document_type table → HasManyStates table count
       → status ≡ Dtd → text ≡ states_text count → RefusesDefinition files document_type status text
 
--- the program is not loaded, there is no definition for it, or a text in it is over the limit of a run
+-- the program is not loaded; or it is, and there is no definition for it, or a text in it is over the limit of a run
 pub data RefusesScript (files : SourceCall) (file : List ℕ) (document_type : NamedType) (status : Exit) (text : List ℕ) : Type 0 where
   not_loaded : (cause : LoadRefusal) → IsLoadCause files file cause → status ≡ load_status cause → text ≡ load_text cause
       → RefusesScript files file document_type status text
-  lacks_definition : RefusesDefinition files document_type status text → RefusesScript files file document_type status text
+  lacks_definition : (program : PlainProgram) → IsLoaded files.content file program → RefusesDefinition files document_type status text
+      → RefusesScript files file document_type status text
   has_long_text : (program : PlainProgram) → IsLoaded files.content file program → HasLongText program
       → status ≡ Input → text ≡ long_text file → RefusesScript files file document_type status text
 
--- the page is not read, or there is no definition for it
+-- the page is not read; or it is, and there is no definition for it
 pub data RefusesPage (files : SourceCall) (file : List ℕ) (document_type : NamedType) (status : Exit) (text : List ℕ) : Type 0 where
   not_read : (fault : FileFault) → HasReason (files.content file) files.faults files.faults' files.misses files.misses' fault
       → status ≡ file_status fault → text ≡ file_text fault file → RefusesPage files file document_type status text
-  page_lacks_definition : RefusesDefinition files document_type status text → RefusesPage files file document_type status text
+  page_lacks_definition : (page : List ℕ) → Tells (files.content file) (Some page) → RefusesDefinition files document_type status text
+      → RefusesPage files file document_type status text
 
 -- a script cannot have so many functions, or the generated one is refused as the one file of a source that does not fail
 pub data RefusesMade (functions : ℕ) (status : Exit) (text : List ℕ) : Type 0 where

@@ -107,18 +107,10 @@ IsWithin content (script_run file request steps) subject = ⊤
 IsWithin content (grammar_making file) subject = ⊤
 IsWithin content usage subject = ⊤
 
--- the document type has a table, within its limits
-abbrev pub HoldsDefinition : Content → NamedType → Type 0
-HoldsDefinition content document_type = (table : Table) × HoldsTable content document_type table × IsSmall content document_type table
-
--- the document type has a table, where there is one to ask for, and under the file's name nothing is found, or no request under its own; or
--- there is no
--- generated script of this size
+-- under the file's name nothing is found, or no request under its own; or there is no generated script of this size
 abbrev pub LacksFile : Content → Task → Type 0
-LacksFile content (script_check file document_type goal limit form) =
-    HoldsDefinition content document_type × ((program : PlainProgram) → IsLoaded content file program → ⊥)
-LacksFile content (page_check file document_type) =
-    HoldsDefinition content document_type × ((page : List ℕ) → Tells (content file) (Some page) → ⊥)
+LacksFile content (script_check file document_type goal limit form) = (program : PlainProgram) → IsLoaded content file program → ⊥
+LacksFile content (page_check file document_type) = (page : List ℕ) → Tells (content file) (Some page) → ⊥
 LacksFile content (script_making functions) = ⊥
 LacksFile content (made_check functions) = IsSize functions → ⊥
 LacksFile content (script_run file request steps) =

@@ -12,6 +12,7 @@ use Rattle.dtd_model.specs.Table.{Table}
 use Rattle.summary_fixpoint.specs.declared.verdict.Verdict.{Verdict}
 use Rattle.summary_fixpoint.specs.declared.verdict.Verdict.TheVariants.{Yes, No, Pairs, Tags}
 use Rattle.page_goals.specs.declared.goal.Goal.{Goal}
+use Rattle.page_decision.specs.Echoes.{IsMachineImage}
 use Rattle.page_decision.specs.PageVerdicts.{IsPageVerdict}
 use Rattle.page_decision.proofs.AlongLemmas.{page_verdict_along}
 use Rattle.grammar_image.specs.declared.refusal.ImageRefusal.{ImageRefusal}
@@ -19,7 +20,7 @@ use Rattle.grammar_image.specs.declared.refusal.ImageRefusal.TheVariants.{Large,
 use Rattle.grammar_image.specs.Refusals as images
 use Rattle.loose_grammar.specs.declared.refusal.TheConstants.{ITEM_LIMIT}
 use Rattle.loose_grammar.specs.Pages.{IsLoosePage, DerivePages, IsPageGrammar}
-use Rattle.program_answers.specs.Answers.{by_pages, IsAnswerBy}
+use Rattle.program_answers.specs.Answers.{by_pages, IsPageImage, IsAnswerBy}
 use Rattle.program_answers.specs.Steps.{IsItemCause, answer_of}
 
 same_bytes : (u v : List ℕ) → map OfByte u ≡ map OfByte v → u ≡ v
@@ -39,18 +40,24 @@ module _ (program : PlainProgram) where
       λ loose. (are (map OfByte page)).1 (page, refl, loose),
     )
 
-    pub verdict_on_program : (table : Table) (goal : Goal) (limit : ℕ) (v : Verdict) → IsPageVerdict table (DerivesText productions (Nt start)) goal limit v
-        → IsPageVerdict table (IsLoosePage program) goal limit v
-    verdict_on_program table goal limit v h = page_verdict_along table (DerivesText productions (Nt start)) (IsLoosePage program) texts_are_pages goal limit v h
+  module _ {S : Type 0} (first : S) (steps : S → ℕ → S → List Letter → Type 0) (ends : S → List Letter → Type 0) where
+    -- a verdict on the pages of the grammar that is made of the program is one on its loose pages
+    pub verdict_on_program : (grammar : Grammar) → IsPageGrammar program grammar → (table : Table) (goal : Goal) (limit : ℕ) (v : Verdict)
+        → IsPageVerdict table (DerivesText grammar.productions.items (Nt grammar.start)) (IsMachineImage grammar first steps ends) goal limit v
+        → IsPageVerdict table (IsLoosePage program) (IsPageImage first steps ends program) goal limit v
+    verdict_on_program grammar is table goal limit v h =
+        page_verdict_along table (DerivesText grammar.productions.items (Nt grammar.start)) (IsLoosePage program) (texts_are_pages grammar.productions.items grammar.start is.pages)
+        (IsMachineImage grammar first steps ends) (IsPageImage first steps ends program)
+        (λ image of_grammar. record { grammar = grammar; of_program = is; of_grammar = of_grammar }) goal limit v h
 
-  module _ {S : Type 0} (first : S) (steps : S → ℕ → S → List Letter → Type 0) where
-    pub answer_by_verdict : (table : Table) (goal : Goal) (limit : ℕ) (v : Verdict) → IsPageVerdict table (IsLoosePage program) goal limit v
-        → IsAnswerBy first steps goal table program limit (answer_of v)
+    pub answer_by_verdict : (table : Table) (goal : Goal) (limit : ℕ) (v : Verdict) → IsPageVerdict table (IsLoosePage program) (IsPageImage first steps ends program) goal limit v
+        → IsAnswerBy first steps ends goal table program limit (answer_of v)
     answer_by_verdict table goal limit Yes h = h
     answer_by_verdict table goal limit (No d) h = h
     answer_by_verdict table goal limit (Pairs count height) h = h
     answer_by_verdict table goal limit (Tags count height) h = h
 
+  module _ {S : Type 0} (first : S) (steps : S → ℕ → S → List Letter → Type 0) where
     -- the image of the pages is too large
     pub pages_cause : (grammar : Grammar) (r : ImageRefusal) → IsPageGrammar program grammar → images.IsCause grammar.productions.items steps grammar.start first ITEM_LIMIT r
         → IsItemCause first steps program r

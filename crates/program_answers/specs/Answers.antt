@@ -14,6 +14,7 @@ use Rattle.loose_grammar.specs.Refusals.{HasLargeImage}
 use Rattle.dtd_model.specs.Table.{Table}
 use Rattle.page_goals.specs.declared.goal.Goal.{Goal}
 use Rattle.page_goals.specs.Goals.{IsGood}
+use Rattle.page_decision.specs.Echoes.{IsMachineImage}
 use Rattle.page_decision.specs.PageVerdicts.{IsBadPage, HasManyPairs, HasManyOpenTags}
 use Rattle.program_answers.specs.declared.answer.Answer.{Answer}
 
@@ -33,13 +34,21 @@ pub data HasManyItems {S : Type 0} (first : S) (steps : S → ℕ → S → List
   by_pages : (grammar : Grammar) → IsPageGrammar program grammar → HasItems grammar.productions.items steps grammar.start first count
       → HasManyItems first steps program count
 
-module _ {S : Type 0} (first : S) (steps : S → ℕ → S → List Letter → Type 0) where
+module _ {S : Type 0} (first : S) (steps : S → ℕ → S → List Letter → Type 0) (ends : S → List Letter → Type 0) where
+  -- the grammar is an image, under the machine that reads pages, of the grammar of loose pages that is made of the program
+  pub record IsPageImage (program : PlainProgram) (image : Grammar) : Type 0 where
+    pub grammar : Grammar
+    pub of_program : IsPageGrammar program grammar
+    pub of_grammar : IsMachineImage grammar first steps ends image
+
   -- the answer is that of the program, by a machine that reads pages, with this limit on sums
   abbrev pub IsAnswerBy : Goal → Table → PlainProgram → ℕ → Answer → Type 0
   IsAnswerBy goal table program limit Answer.Yes = EachIsGood goal table program
   IsAnswerBy goal table program limit (Answer.No derivation) = IsCounterexample goal table program derivation
-  IsAnswerBy goal table program limit (Answer.Pairs count height) = HasManyPairs table (IsLoosePage program) goal limit count height
-  IsAnswerBy goal table program limit (Answer.Tags count height) = HasManyOpenTags table (IsLoosePage program) goal count height
+  IsAnswerBy goal table program limit (Answer.Pairs count height) =
+      HasManyPairs table (IsLoosePage program) (IsPageImage program) goal limit count height
+  IsAnswerBy goal table program limit (Answer.Tags count height) =
+      HasManyOpenTags table (IsLoosePage program) (IsPageImage program) goal count height
   IsAnswerBy goal table program limit (Answer.Items count) = (ITEM_LIMIT < count) × HasManyItems first steps program count
 
 -- every run of the program, for every admitted request and every number of units, that ends prints a page that is good

@@ -7,7 +7,7 @@ ghost use Rattle.loose_grammar.specs.Pages.{IsLoosePage, IsPageGrammar};
 ghost use Rattle.page_decision.specs.Machines.{IsPageMachine};
 ghost use Rattle.page_decision.specs.PageSums.{AreSumsOf};
 ghost use Rattle.page_decision.specs.PageVerdicts.{IsPageVerdict};
-ghost use Rattle.program_answers.specs.Answers.{IsAnswerBy};
+ghost use Rattle.program_answers.specs.Answers.{IsAnswerBy, IsPageImage};
 ghost use Rattle.program_answers.specs.Steps.{IsItemCause};
 
 use crate::answer::{Answer, verdict_answer};
@@ -39,7 +39,9 @@ fn verdict_by<M: Machine>(
         (M.ends machine.now) }
     requires sums { AreSumsOf goal (table_of dtd.now) sums.now }
     ensures verdict { IfOk result
-        (IsPageVerdict (table_of dtd.now) (IsLoosePage (program_of program.now)) goal pairs) }
+        (IsPageVerdict (table_of dtd.now) (IsLoosePage (program_of program.now))
+        (IsPageImage (M.first machine.now) (M.steps machine.now) (M.ends machine.now)
+        (program_of program.now)) goal pairs) }
     ensures cause { IfErr result
         (IsItemCause (M.first machine.now) (M.steps machine.now) (program_of program.now)) }
 {
@@ -69,8 +71,8 @@ pub fn answer_by<M: Machine>(
         (M.ends machine.now) }
     requires sums { AreSumsOf goal (table_of dtd.now) sums.now }
     ensures { IfOk result
-        (IsAnswerBy (M.first machine.now) (M.steps machine.now) goal (table_of dtd.now)
-        (program_of program.now) pairs) }
+        (IsAnswerBy (M.first machine.now) (M.steps machine.now) (M.ends machine.now) goal
+        (table_of dtd.now) (program_of program.now) pairs) }
 {
     match verdict_by(alloc, program, grammar, dtd, goal, machine, sums, pairs) {
         Ok(verdict) => Ok(verdict_answer(verdict)),

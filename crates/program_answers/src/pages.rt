@@ -6,6 +6,7 @@ ghost use Rattle.dtd_model.specs.TableOf.{table_of};
 ghost use Rattle.image_meaning.specs.Outputs.{DerivesText};
 ghost use Rattle.grammar_image.specs.Refusals.{IsCause};
 ghost use Rattle.coarse_reader.specs.Coarse.{is_broken};
+ghost use Rattle.page_decision.specs.Echoes.{IsMachineImage};
 ghost use Rattle.page_decision.specs.Machines.{IsPageMachine};
 ghost use Rattle.page_decision.specs.PageSums.{AreSumsOf};
 ghost use Rattle.page_decision.specs.PageVerdicts.{IsBadPage, IsPageVerdict};
@@ -65,8 +66,9 @@ pub(crate) fn decide_grammar<M: Machine>(
         (M.ends machine.now) }
     requires sums { AreSumsOf goal (table_of dtd.now) sums.now }
     ensures verdict { IfOk result (IsPageVerdict (table_of dtd.now)
-        (DerivesText grammar.now.productions.items (symbols.Symbol.Nt grammar.now.start)) goal
-        pairs) }
+        (DerivesText grammar.now.productions.items (symbols.Symbol.Nt grammar.now.start))
+        (IsMachineImage grammar.now (M.first machine.now) (M.steps machine.now)
+        (M.ends machine.now)) goal pairs) }
     ensures cause { IfErr result
         (IsCause grammar.now.productions.items (M.steps machine.now) grammar.now.start
         (M.first machine.now) ITEM_LIMIT) }

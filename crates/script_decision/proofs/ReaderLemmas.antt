@@ -4,7 +4,7 @@ use Rattle.std.specs.Prelude.{Result, Ok, Err, IfOk}
 use Rattle.script_meaning.specs.Programs.{PlainProgram}
 use Rattle.dtd_model.specs.Table.{Table}
 use Rattle.page_goals.specs.declared.goal.Goal.{Goal}
-use Rattle.echoing_machine.specs.Echoes.{EchoStep}
+use Rattle.echoing_machine.specs.Echoes.{EchoStep, EchoEnd}
 use Rattle.merged_reader.specs.ReaderStates.{first_state, tokens_at, tokens_behind}
 use Rattle.merged_reader.specs.States.{merged_next}
 use Rattle.program_answers.specs.declared.answer.Answer.{Answer}
@@ -14,7 +14,8 @@ use Rattle.script_decision.specs.Decision.{IsAnswerOf}
 
 module _ (goal : Goal) (table : Table) (program : PlainProgram) (limit : ℕ) where
   abbrev pub IsByReader : Answer → Type 0
-  IsByReader answer = IsAnswerBy first_state (EchoStep (merged_next table) (tokens_at table) (tokens_behind table)) goal table program limit answer
+  IsByReader answer =
+      IsAnswerBy first_state (EchoStep (merged_next table) (tokens_at table) (tokens_behind table)) (EchoEnd (merged_next table) (tokens_at table) (tokens_behind table)) goal table program limit answer
 
   of_reader : (answer : Answer) → IsByReader answer → IsAnswerOf goal table program limit answer
   of_reader Answer.Yes is = is

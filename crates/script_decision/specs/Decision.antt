@@ -1,5 +1,6 @@
 -- What the answer for a program says of its loose pages, and why it has none.
 use Rattle.std.specs.Prelude.{◌<◌, ℕ, ⊤}
+use Rattle.cfg_grammar.specs.declared.grammar.Grammar.{Grammar}
 use Rattle.script_meaning.specs.Programs.{PlainProgram}
 use Rattle.program_literals.specs.Short.{HasLongText}
 use Rattle.dtd_model.specs.Table.{Table}
@@ -8,7 +9,7 @@ use Rattle.content_automata.specs.Decides.{shapes_in}
 use Rattle.content_automata.specs.Tables.{HasStates}
 use Rattle.page_goals.specs.declared.goal.Goal.{Goal}
 use Rattle.page_decision.specs.PageVerdicts.{HasManyPairs, HasManyOpenTags}
-use Rattle.echoing_machine.specs.Echoes.{EchoStep}
+use Rattle.echoing_machine.specs.Echoes.{EchoStep, EchoEnd}
 use Rattle.merged_reader.specs.ReaderStates.{first_state, tokens_at, tokens_behind}
 use Rattle.merged_reader.specs.States.{merged_next}
 use Rattle.program_answers.specs.declared.answer.Answer.{Answer}
@@ -25,13 +26,20 @@ abbrev pub HasManyItems : Table → PlainProgram → ℕ → Type 0
 HasManyItems table program count =
     by_machine.HasManyItems first_state (EchoStep (merged_next table) (tokens_at table) (tokens_behind table)) program count
 
+-- the grammar is an image, under the reader of the definition's pages, of the grammar of loose pages that is made of the program
+abbrev pub IsReaderImage : Table → PlainProgram → Grammar → Type 0
+IsReaderImage table = by_machine.IsPageImage first_state (EchoStep (merged_next table) (tokens_at table) (tokens_behind table))
+    (EchoEnd (merged_next table) (tokens_at table) (tokens_behind table))
+
 -- yes: each loose page is good; no: a derivation of one that is not; a stated count that is passed: of sums of the sentences of a
 -- nonterminal, of unmatched tags, of items
 abbrev pub IsAnswerOf : Goal → Table → PlainProgram → ℕ → Answer → Type 0
 IsAnswerOf goal table program limit Answer.Yes = EachIsGood goal table program
 IsAnswerOf goal table program limit (Answer.No derivation) = IsCounterexample goal table program derivation
-IsAnswerOf goal table program limit (Answer.Pairs count height) = HasManyPairs table (IsLoosePage program) goal limit count height
-IsAnswerOf goal table program limit (Answer.Tags count height) = HasManyOpenTags table (IsLoosePage program) goal count height
+IsAnswerOf goal table program limit (Answer.Pairs count height) =
+    HasManyPairs table (IsLoosePage program) (IsReaderImage table program) goal limit count height
+IsAnswerOf goal table program limit (Answer.Tags count height) =
+    HasManyOpenTags table (IsLoosePage program) (IsReaderImage table program) goal count height
 IsAnswerOf goal table program limit (Answer.Items count) = (ITEM_LIMIT < count) × HasManyItems table program count
 
 -- the content models of the definition have over 4,096 states, at least so many

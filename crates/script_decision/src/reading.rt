@@ -7,7 +7,7 @@ ghost use Rattle.program_points.specs.Texts.{TextsFit};
 ghost use Rattle.program_answers.specs.Pages.{IsPageGrammar};
 ghost use Rattle.page_decision.specs.PageSums.{AreSumsOf};
 ghost use Rattle.page_echo.specs.Readers.{ReadsPages};
-ghost use Rattle.echoing_machine.specs.Echoes.{EchoStep};
+ghost use Rattle.echoing_machine.specs.Echoes.{EchoEnd, EchoStep};
 ghost use Rattle.program_answers.specs.Answers.{IsAnswerBy, SaysOfRuns};
 ghost use Rattle.script_decision.specs.Decision.{IsCheckRefusal};
 
@@ -44,7 +44,8 @@ fn answer_grammar<R: ByteReader + Drop>(
     requires sums { AreSumsOf goal (table_of dtd.now) sums.now }
     ensures answer { IfOk result
         (IsAnswerBy (R.first reader) (EchoStep (R.next reader) (R.puts reader) (R.lasts reader))
-        goal (table_of dtd.now) (program_of program.now) pairs) }
+        (EchoEnd (R.next reader) (R.puts reader) (R.lasts reader)) goal (table_of dtd.now)
+        (program_of program.now) pairs) }
     ensures sound { IfOk result (SaysOfRuns goal (table_of dtd.now) (program_of program.now)) }
 {
     good_loose_pages_make_good_runs();
@@ -68,7 +69,8 @@ fn decide_program<R: ByteReader + Drop>(
     requires sums { AreSumsOf goal (table_of dtd.now) sums.now }
     ensures answer { IfOk result
         (IsAnswerBy (R.first reader) (EchoStep (R.next reader) (R.puts reader) (R.lasts reader))
-        goal (table_of dtd.now) (program_of program.now) pairs) }
+        (EchoEnd (R.next reader) (R.puts reader) (R.lasts reader)) goal (table_of dtd.now)
+        (program_of program.now) pairs) }
     ensures sound { IfOk result (SaysOfRuns goal (table_of dtd.now) (program_of program.now)) }
     ensures refusal { IfErr result (IsCheckRefusal (table_of dtd.now) (program_of program.now)) }
 {
@@ -105,7 +107,8 @@ pub fn check_by<R: ByteReader + Drop>(
         (R.first reader) }
     ensures answer { IfOk result
         (IsAnswerBy (R.first reader) (EchoStep (R.next reader) (R.puts reader) (R.lasts reader))
-        goal (table_of dtd.now) (program_of program.now) pairs) }
+        (EchoEnd (R.next reader) (R.puts reader) (R.lasts reader)) goal (table_of dtd.now)
+        (program_of program.now) pairs) }
     ensures sound { IfOk result (SaysOfRuns goal (table_of dtd.now) (program_of program.now)) }
     ensures refusal { IfErr result (IsCheckRefusal (table_of dtd.now) (program_of program.now)) }
 {

@@ -1,5 +1,5 @@
 -- What is shown of the page of a derivation is shown of a loose page that is not good.
-use Rattle.std.proofs.Common.{◌≡◌, ℕ, List, subst}
+use Rattle.std.proofs.Common.{ℕ, List, subst}
 use Rattle.text_base.specs.declared.letter.Letter.{Letter}
 use Rattle.text_base.specs.declared.numbers.Nt as nt
 use Rattle.cfg_grammar.specs.declared.production.Production.{Production}

@@ -9,11 +9,12 @@ pub enum ShownAnswer {
     Yes,
     /// A loose page is not good, of which this is shown.
     No(ShownPage),
-    /// Some nonterminal of a grammar of the loose pages has at least `count` different sums of
-    /// sentences with derivations of at most `height`, and `count` is over the limit. Every loose
-    /// page with a derivation of a smaller height is good.
+    /// Some nonterminal of an image, under the reader of pages, of the grammar that is made of the
+    /// program has at least `count` different sums of sentences with derivations of at most
+    /// `height`, and `count` is over the limit. Every loose page with a derivation of a smaller
+    /// height is good.
     Pairs { count: u64, height: u64 },
-    /// Some sentence of a nonterminal of such a grammar with a derivation of at most `height` has
+    /// Some sentence of a nonterminal of such an image with a derivation of at most `height` has
     /// `count` unmatched tags, and `count` is over 4,096. Every loose page with a derivation of a
     /// smaller height is good.
     Tags { count: u64, height: u64 },

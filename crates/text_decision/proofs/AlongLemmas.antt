@@ -3,6 +3,7 @@ use Rattle.std.proofs.Common.{◌↔◌, ℕ, Bool, true, false, List}
 use Rattle.text_base.specs.declared.page_token.PageToken.{PageToken}
 use Rattle.text_base.specs.declared.numbers.Nt as nt
 use Rattle.cfg_grammar.specs.declared.production.Production.{Production}
+use Rattle.cfg_grammar.specs.declared.grammar.Grammar.{Grammar}
 use Rattle.derivations.specs.declared.derivation.Derivation.{Derivation}
 use Rattle.summary_fixpoint.specs.declared.verdict.Verdict.{Verdict}
 use Rattle.summary_fixpoint.specs.declared.verdict.Verdict.TheVariants.{Yes, No, Pairs, Tags}
@@ -25,31 +26,32 @@ module _ (IsText Other : List ℕ → Type 0) (Puts Has : List ℕ → List Page
     pub not_whole_along : (d : Derivation) → IsNotWhole IsText Puts sum_of whole d → IsNotWhole Other Has sum_of whole d
     not_whole_along d h = record { text = h.text; is_text = (same h.text).0 h.is_text; not_whole = sum_along h.text false h.is_text h.not_whole; writes = h.writes }
 
-    pub sums_along : (limit count height : ℕ) → HasManySums IsText Puts sum_of whole limit count height → HasManySums Other Has sum_of whole limit count height
-    sums_along limit count height h = record {
-      productions = h.productions;
-      start = h.start;
-      echo = echo_along h.productions h.start h.echo;
-      over = h.over;
-      sums = h.sums;
-      whole_below = h.whole_below;
-    }
+    module _ (IsImage Wider : Grammar → Type 0) (of_image : (image : Grammar) → IsImage image → Wider image) where
+      pub sums_along : (limit count height : ℕ) → HasManySums IsText Puts sum_of whole IsImage limit count height → HasManySums Other Has sum_of whole Wider limit count height
+      sums_along limit count height h = record {
+        image = h.image;
+        is_image = of_image h.image h.is_image;
+        echo = echo_along h.image.productions.items h.image.start h.echo;
+        over = h.over;
+        sums = h.sums;
+        whole_below = h.whole_below;
+      }
 
-    pub tags_along : (tags : S → ℕ) (count height : ℕ) → HasManyTags IsText Puts sum_of whole tags count height → HasManyTags Other Has sum_of whole tags count height
-    tags_along tags count height h = record {
-      productions = h.productions;
-      start = h.start;
-      echo = echo_along h.productions h.start h.echo;
-      over = h.over;
-      nonterminal = h.nonterminal;
-      sum = h.sum;
-      of_sentence = h.of_sentence;
-      tagged = h.tagged;
-      whole_below = h.whole_below;
-    }
+      pub tags_along : (tags : S → ℕ) (count height : ℕ) → HasManyTags IsText Puts sum_of whole IsImage tags count height → HasManyTags Other Has sum_of whole Wider tags count height
+      tags_along tags count height h = record {
+        image = h.image;
+        is_image = of_image h.image h.is_image;
+        echo = echo_along h.image.productions.items h.image.start h.echo;
+        over = h.over;
+        nonterminal = h.nonterminal;
+        sum = h.sum;
+        of_sentence = h.of_sentence;
+        tagged = h.tagged;
+        whole_below = h.whole_below;
+      }
 
-    pub verdict_along : (tags : S → ℕ) (limit : ℕ) (v : Verdict) → IsTextVerdict IsText Puts sum_of whole tags limit v → IsTextVerdict Other Has sum_of whole tags limit v
-    verdict_along tags limit Yes all = λ text is. sum_along text true ((same text).1 is) (all text ((same text).1 is))
-    verdict_along tags limit (No d) h = not_whole_along d h
-    verdict_along tags limit (Pairs count height) h = sums_along limit count height h
-    verdict_along tags limit (Tags count height) h = tags_along tags count height h
+      pub verdict_along : (tags : S → ℕ) (limit : ℕ) (v : Verdict) → IsTextVerdict IsText Puts sum_of whole IsImage tags limit v → IsTextVerdict Other Has sum_of whole Wider tags limit v
+      verdict_along tags limit Yes all = λ text is. sum_along text true ((same text).1 is) (all text ((same text).1 is))
+      verdict_along tags limit (No d) h = not_whole_along d h
+      verdict_along tags limit (Pairs count height) h = sums_along limit count height h
+      verdict_along tags limit (Tags count height) h = tags_along tags count height h

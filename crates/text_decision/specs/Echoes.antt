@@ -1,12 +1,15 @@
 -- Machines that copy a text and put page tokens between its bytes.
-use Rattle.std.specs.Prelude.{◌≡◌, ℕ, ◌<◌, List, All}
+use Rattle.std.specs.Prelude.{◌≡◌, ◌↔◌, ℕ, ◌<◌, List, length, All}
 use Rattle.text_base.specs.declared.letter.Letter.{Letter}
 use Rattle.text_base.specs.declared.page_token.PageToken.{PageToken}
 use Rattle.text_base.specs.declared.numbers.Nt as nt
 use Rattle.cfg_grammar.specs.declared.symbol.Symbol.TheVariants.{Nt}
 use Rattle.cfg_grammar.specs.declared.production.Production.{Production}
+use Rattle.cfg_grammar.specs.declared.grammar.Grammar.{Grammar}
 use Rattle.cfg_grammar.specs.Derives.{Derives}
 use Rattle.fst_core.specs.Runs.{Relates}
+use Rattle.image_meaning.specs.Outputs.{Outputs}
+use Rattle.image_meaning.specs.Weight.{IsSmall}
 use Rattle.sentence_writing.specs.Bytes.{bytes_in}
 use Rattle.summary_fixpoint.specs.Pairs.{tokens_in}
 
@@ -28,3 +31,11 @@ pub record EchoTexts (IsText : List ℕ → Type 0) (HasTokens : List ℕ → Li
   pub tokens : (letters : List Letter) → Derives productions (Nt start) letters → HasTokens (bytes_in letters) (tokens_in letters)
   pub sentences : (text : List ℕ) → IsText text
       → (letters : List Letter) × Derives productions (Nt start) letters × (bytes_in letters ≡ text)
+
+-- the grammar is an image of the source under the machine: it derives exactly what the machine puts out over the texts of the source, and
+-- has few nonterminals and productions, by the weight of the source under the machine
+pub record IsMachineImage {S : Type 0} (source : Grammar) (first : S) (steps : S → ℕ → S → List Letter → Type 0)
+    (ends : S → List Letter → Type 0) (image : Grammar) : Type 0 where
+  pub sentences : (letters : List Letter) → Derives image.productions.items (Nt image.start) letters
+      ↔ Outputs source.productions.items (Nt source.start) first steps ends letters
+  pub small : IsSmall source.productions.items steps ends source.start first image.count (length image.productions.items)

@@ -4,6 +4,7 @@ use Rattle.text_base.specs.declared.letter.Letter.{Letter}
 use Rattle.text_base.specs.declared.page_token.PageToken.{PageToken}
 use Rattle.text_base.specs.declared.numbers.Nt as nt
 use Rattle.cfg_grammar.specs.declared.production.Production.{Production}
+use Rattle.cfg_grammar.specs.declared.grammar.Grammar.{Grammar}
 use Rattle.derivations.specs.Stands.{IsDerivation}
 use Rattle.derivations.specs.declared.derivation.Derivation.{Derivation}
 use Rattle.sentence_writing.specs.Bytes.{bytes_in}
@@ -36,41 +37,42 @@ module _ (IsText : List ℕ → Type 0) (HasTokens : List ℕ → List PageToken
     pub not_whole : HasSum text false
     pub writes : WritesText derivation text
 
-  -- a nonterminal of productions that derive the texts with their tokens has so many different sums of sentences of at most a height, over
-  -- the limit, and
-  -- each sentence of a smaller height is whole
-  pub record HasManySums (limit count height : ℕ) : Type 0 where
-    pub productions : List Production
-    pub start : nt.Nt
-    pub echo : EchoTexts IsText HasTokens productions start
-    pub over : limit < count
-    pub sums : HasPairs sum_of productions start height count
-    pub whole_below : AreWholeBelow sum_of whole productions start height
+  -- over the images that are made
+  module _ (IsImage : Grammar → Type 0) where
+    -- a nonterminal of such an image, which derives the texts with their tokens, has so many different sums of sentences of at most a
+    -- height, over the limit, and each sentence of a smaller height is whole
+    pub record HasManySums (limit count height : ℕ) : Type 0 where
+      pub image : Grammar
+      pub is_image : IsImage image
+      pub echo : EchoTexts IsText HasTokens image.productions.items image.start
+      pub over : limit < count
+      pub sums : HasPairs sum_of image.productions.items image.start height count
+      pub whole_below : AreWholeBelow sum_of whole image.productions.items image.start height
 
-  -- the sum of a sentence of at most a height has so many unmatched tags, over the limit, and each sentence of a smaller height is whole
-  pub record HasManyTags (tags : S → ℕ) (count height : ℕ) : Type 0 where
-    pub productions : List Production
-    pub start : nt.Nt
-    pub echo : EchoTexts IsText HasTokens productions start
-    pub over : TAG_LIMIT < count
-    pub nonterminal : nt.Nt
-    pub sum : S
-    pub of_sentence : IsPair sum_of productions start height nonterminal sum
-    pub tagged : tags sum ≡ count
-    pub whole_below : AreWholeBelow sum_of whole productions start height
+    -- the sum of a sentence of at most a height has so many unmatched tags, over the limit, and each sentence of a smaller height is whole
+    pub record HasManyTags (tags : S → ℕ) (count height : ℕ) : Type 0 where
+      pub image : Grammar
+      pub is_image : IsImage image
+      pub echo : EchoTexts IsText HasTokens image.productions.items image.start
+      pub over : TAG_LIMIT < count
+      pub nonterminal : nt.Nt
+      pub sum : S
+      pub of_sentence : IsPair sum_of image.productions.items image.start height nonterminal sum
+      pub tagged : tags sum ≡ count
+      pub whole_below : AreWholeBelow sum_of whole image.productions.items image.start height
 
-  -- yes: each text is whole; no: a derivation of one that is not; a limit that is passed
-  abbrev pub IsTextVerdict : (S → ℕ) → ℕ → Verdict → Type 0
-  IsTextVerdict tags limit Yes = (text : List ℕ) → IsText text → HasSum text true
-  IsTextVerdict tags limit (No derivation) = IsNotWhole derivation
-  IsTextVerdict tags limit (Pairs count height) = HasManySums limit count height
-  IsTextVerdict tags limit (Tags count height) = HasManyTags tags count height
+    -- yes: each text is whole; no: a derivation of one that is not; a limit that is passed
+    abbrev pub IsTextVerdict : (S → ℕ) → ℕ → Verdict → Type 0
+    IsTextVerdict tags limit Yes = (text : List ℕ) → IsText text → HasSum text true
+    IsTextVerdict tags limit (No derivation) = IsNotWhole derivation
+    IsTextVerdict tags limit (Pairs count height) = HasManySums limit count height
+    IsTextVerdict tags limit (Tags count height) = HasManyTags tags count height
 
-  -- why no text that is not whole is found: each text is whole, or a limit is passed
-  pub data NoneFound (tags : S → ℕ) (limit : ℕ) : Type 0 where
-    are_whole : ((text : List ℕ) → IsText text → HasSum text true) → NoneFound tags limit
-    many_sums : (count height : ℕ) → HasManySums limit count height → NoneFound tags limit
-    many_tags : (count height : ℕ) → HasManyTags tags count height → NoneFound tags limit
+    -- why no text that is not whole is found: each text is whole, or a limit is passed
+    pub data NoneFound (tags : S → ℕ) (limit : ℕ) : Type 0 where
+      are_whole : ((text : List ℕ) → IsText text → HasSum text true) → NoneFound tags limit
+      many_sums : (count height : ℕ) → HasManySums limit count height → NoneFound tags limit
+      many_tags : (count height : ℕ) → HasManyTags tags count height → NoneFound tags limit
 
 -- the derivation that a verdict has
 abbrev pub found_of : Verdict → Option Derivation

@@ -4,7 +4,7 @@ ghost use Rattle.std.specs.Prelude.{◌≡◌, IfOk, IfErr, IfSome, IfNone};
 ghost use Rattle.cfg_grammar.specs.declared.symbol.Symbol as symbols;
 ghost use Rattle.image_meaning.specs.Outputs.{DerivesText};
 ghost use Rattle.grammar_image.specs.Refusals.{IsCause};
-ghost use Rattle.text_decision.specs.Echoes.{EchoTexts, IsEchoing, PutsTokens};
+ghost use Rattle.text_decision.specs.Echoes.{EchoTexts, IsEchoing, IsMachineImage, PutsTokens};
 ghost use Rattle.text_decision.specs.TextVerdicts.{IsNotWhole, IsTextVerdict, NoneFound, found_of};
 
 use crate::bytes::texts_fit;
@@ -30,6 +30,9 @@ fn echo<M: Machine>(
         (symbols.Symbol.Nt grammar.now.start))
         (PutsTokens (M.first machine.now) (M.steps machine.now) (M.ends machine.now))
         echo.productions.items echo.start) }
+    ensures image { IfOk result
+        (IsMachineImage grammar.now (M.first machine.now) (M.steps machine.now)
+        (M.ends machine.now)) }
     ensures cause { IfErr result
         (IsCause grammar.now.productions.items (M.steps machine.now) grammar.now.start
         (M.first machine.now) items) }
@@ -59,7 +62,9 @@ pub fn decide_texts<M: Machine, S: Summary>(
         (IsTextVerdict (DerivesText grammar.now.productions.items
         (symbols.Symbol.Nt grammar.now.start))
         (PutsTokens (M.first machine.now) (M.steps machine.now) (M.ends machine.now))
-        (S.sum_of summary.now) (S.is_whole summary.now) (S.tag_count summary.now) pairs) }
+        (S.sum_of summary.now) (S.is_whole summary.now)
+        (IsMachineImage grammar.now (M.first machine.now) (M.steps machine.now)
+        (M.ends machine.now)) (S.tag_count summary.now) pairs) }
     ensures cause { IfErr result
         (IsCause grammar.now.productions.items (M.steps machine.now) grammar.now.start
         (M.first machine.now) items) }
@@ -107,7 +112,9 @@ pub fn find_wrong<M: Machine, S: Summary>(
     ensures none { IfOk result (λ found. IfNone found (NoneFound
         (DerivesText grammar.now.productions.items (symbols.Symbol.Nt grammar.now.start))
         (PutsTokens (M.first machine.now) (M.steps machine.now) (M.ends machine.now))
-        (S.sum_of summary.now) (S.is_whole summary.now) (S.tag_count summary.now) pairs)) }
+        (S.sum_of summary.now) (S.is_whole summary.now)
+        (IsMachineImage grammar.now (M.first machine.now) (M.steps machine.now)
+        (M.ends machine.now)) (S.tag_count summary.now) pairs)) }
     ensures cause { IfErr result
         (IsCause grammar.now.productions.items (M.steps machine.now) grammar.now.start
         (M.first machine.now) items) }

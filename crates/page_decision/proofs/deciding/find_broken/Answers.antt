@@ -4,7 +4,7 @@ use Rattle.cfg_grammar.specs.declared.symbol.Symbol as symbols
 use Rattle.derivations.specs.declared.derivation.Derivation.{Derivation}
 use Rattle.image_meaning.specs.Outputs.{DerivesText}
 use Rattle.dtd_model.specs.TableOf.{table_of}
-use Rattle.text_decision.specs.Echoes.{PutsTokens}
+use Rattle.text_decision.specs.Echoes.{IsMachineImage, PutsTokens}
 use Rattle.page_decision.proofs.FoundLemmas.{all_nested}
 use Rattle.page_decision.proofs.VerdictLemmas.{broken_is_bad}
 use Rattle.page_decision.proofs.deciding.find_broken.Goals as goal
@@ -31,5 +31,6 @@ returns-clause-none g c = λ two no_tags.
     let m = c.args.machine.now in
     IfOk-weaker c.find_wrong.result _ _
     (λ found is. if_none found
-    (λ none. all_nested (DerivesText c.args.grammar.now.productions.items (symbols.Symbol.Nt c.args.grammar.now.start)) (PutsTokens (g.B.Machine.first m) (g.B.Machine.steps m) (g.B.Machine.ends m)) no_tags c.args.pairs two none) is)
+    (λ none. all_nested (DerivesText c.args.grammar.now.productions.items (symbols.Symbol.Nt c.args.grammar.now.start)) (PutsTokens (g.B.Machine.first m) (g.B.Machine.steps m) (g.B.Machine.ends m)) no_tags
+    (IsMachineImage c.args.grammar.now (g.B.Machine.first m) (g.B.Machine.steps m) (g.B.Machine.ends m)) c.args.pairs two none) is)
     c.find_wrong.ensures.none

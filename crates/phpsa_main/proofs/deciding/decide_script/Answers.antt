@@ -18,7 +18,10 @@ returns-in-Err-definition g c =
     let files =
     source_call (g.F.Files.content c.args.files.now) (g.F.Files.faults c.args.files.now) (g.F.Files.faults c.definition.new.files) (g.F.Files.misses c.args.files.now) (g.F.Files.misses c.definition.new.files) (g.F.Files.reads c.args.files.now) (g.F.Files.reads c.definition.new.files) in
     let loaded = c.in-Ok.ensures.ok in
-    definition_decides files c.args.file.now (type_of c.args.document_type) c.args.goal c.args.limit c.in-Err-definition.refusal c.definition_refusal.result
+    definition_decides files c.args.file.now (type_of c.args.document_type) c.args.goal c.args.limit c.in-Err-definition.refusal c.definition_refusal.result (program_of c.in-Ok.program)
+    (c.loads_are_loaded.ensures
+    (source_call (g.F.Files.content c.args.files.now) (g.F.Files.faults c.args.files.now) (g.F.Files.faults c.load.new.source) (g.F.Files.misses c.args.files.now) (g.F.Files.misses c.load.new.source) (g.F.Files.reads c.args.files.now) (g.F.Files.reads c.load.new.source))
+    c.args.file.now (program_of c.in-Ok.program) loaded)
     (definition_cause files (type_of c.args.document_type) (g.F.Files.content c.load.new.source) (g.F.Files.faults c.load.new.source) (g.F.Files.misses c.load.new.source) c.in-Err-definition.refusal
     c.load.ensures.same loaded.source.unfailed loaded.source.unmissed c.in-Err-definition.ensures.err)
     (λ built_in. reads_its_files

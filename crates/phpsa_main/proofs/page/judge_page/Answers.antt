@@ -18,7 +18,7 @@ pub returns-in-Err-definition : goal.returns-in-Err-definition
 returns-in-Err-definition g c =
     let files =
     source_call (g.F.Files.content c.args.files.now) (g.F.Files.faults c.args.files.now) (g.F.Files.faults c.definition.new.files) (g.F.Files.misses c.args.files.now) (g.F.Files.misses c.definition.new.files) (g.F.Files.reads c.args.files.now) (g.F.Files.reads c.definition.new.files) in
-    definition_does files c.args.file.now (type_of c.args.document_type) c.in-Err-definition.refusal c.definition_refusal.result
+    definition_does files c.args.file.now (type_of c.args.document_type) c.in-Err-definition.refusal c.definition_refusal.result c.in-Ok.page c.in-Ok.ensures.content
     (definition_cause files (type_of c.args.document_type) (g.F.Files.content c.read.new.self) (g.F.Files.faults c.read.new.self) (g.F.Files.misses c.read.new.self) c.in-Err-definition.refusal
     c.read.ensures.same (ok_faults c.read.result _ _ _ c.in-Ok.is c.read.ensures.unfailed) (ok_misses c.read.result _ _ _ c.in-Ok.is c.read.ensures.unmissed) c.in-Err-definition.ensures.err)
     (λ built_in. one_read _ _ _ (c.definition.ensures.reads built_in) c.read.ensures.asked) c.definition_refusal.ensures

@@ -6,9 +6,10 @@ use Rattle.program_answers.proofs.answering.verdict_by.Goals as goal
 
 pub returns-clause-verdict : goal.returns-clause-verdict
 returns-clause-verdict g c =
+    let m = c.args.machine.now in
     let made = c.args.grammar.now in
     IfOk-weaker c.decide_grammar.result _ _
-    (λ v is. verdict_on_program (program_of c.args.program.now) made.productions.items made.start c.requires.grammar.pages (table_of c.args.dtd.now) c.args.goal c.args.pairs v is)
+    (λ v is. verdict_on_program (program_of c.args.program.now) (g.M.Machine.first m) (g.M.Machine.steps m) (g.M.Machine.ends m) made c.requires.grammar (table_of c.args.dtd.now) c.args.goal c.args.pairs v is)
     c.decide_grammar.ensures.verdict
 
 pub returns-clause-cause : goal.returns-clause-cause

@@ -2,7 +2,7 @@ use Rattle.std.proofs.Common.{Option, IfNone, IfSome, sym, subst}
 use Rattle.cfg_grammar.specs.declared.symbol.Symbol as symbols
 use Rattle.derivations.specs.declared.derivation.Derivation.{Derivation}
 use Rattle.image_meaning.specs.Outputs.{DerivesText}
-use Rattle.text_decision.specs.Echoes.{PutsTokens}
+use Rattle.text_decision.specs.Echoes.{PutsTokens, IsMachineImage}
 use Rattle.text_decision.specs.TextVerdicts.{IsNotWhole, NoneFound}
 use Rattle.text_decision.proofs.FoundLemmas.{some_found, none_found}
 use Rattle.text_decision.proofs.deciding.find_wrong.Goals as goal
@@ -13,8 +13,9 @@ returns-in-Ok-clause-found g c =
     let m = c.args.machine.now in
     let texts = DerivesText c.args.grammar.now.productions.items (symbols.Symbol.Nt c.args.grammar.now.start) in
     let puts = PutsTokens (g.M.Machine.first m) (g.M.Machine.steps m) (g.M.Machine.ends m) in
+    let is_image = IsMachineImage c.args.grammar.now (g.M.Machine.first m) (g.M.Machine.steps m) (g.M.Machine.ends m) in
     subst (λ (o : Option Derivation). IfSome o (IsNotWhole texts puts (g.S.Summary.sum_of s) (g.S.Summary.is_whole s))) (sym c.found_in.ensures)
-    (some_found texts puts (g.S.Summary.sum_of s) (g.S.Summary.is_whole s) (g.S.Summary.tag_count s) c.args.pairs c.in-Ok.verdict c.in-Ok.ensures.verdict)
+    (some_found texts puts (g.S.Summary.sum_of s) (g.S.Summary.is_whole s) is_image (g.S.Summary.tag_count s) c.args.pairs c.in-Ok.verdict c.in-Ok.ensures.verdict)
 
 pub returns-in-Ok-clause-none : goal.returns-in-Ok-clause-none
 returns-in-Ok-clause-none g c =
@@ -22,5 +23,6 @@ returns-in-Ok-clause-none g c =
     let m = c.args.machine.now in
     let texts = DerivesText c.args.grammar.now.productions.items (symbols.Symbol.Nt c.args.grammar.now.start) in
     let puts = PutsTokens (g.M.Machine.first m) (g.M.Machine.steps m) (g.M.Machine.ends m) in
-    subst (λ (o : Option Derivation). IfNone o (NoneFound texts puts (g.S.Summary.sum_of s) (g.S.Summary.is_whole s) (g.S.Summary.tag_count s) c.args.pairs)) (sym c.found_in.ensures)
-    (none_found texts puts (g.S.Summary.sum_of s) (g.S.Summary.is_whole s) (g.S.Summary.tag_count s) c.args.pairs c.in-Ok.verdict c.in-Ok.ensures.verdict)
+    let is_image = IsMachineImage c.args.grammar.now (g.M.Machine.first m) (g.M.Machine.steps m) (g.M.Machine.ends m) in
+    subst (λ (o : Option Derivation). IfNone o (NoneFound texts puts (g.S.Summary.sum_of s) (g.S.Summary.is_whole s) is_image (g.S.Summary.tag_count s) c.args.pairs)) (sym c.found_in.ensures)
+    (none_found texts puts (g.S.Summary.sum_of s) (g.S.Summary.is_whole s) is_image (g.S.Summary.tag_count s) c.args.pairs c.in-Ok.verdict c.in-Ok.ensures.verdict)
