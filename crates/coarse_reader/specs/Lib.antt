@@ -1,4 +1,5 @@
 pub mod States
+pub mod Runs
 pub mod Exactness
 pub mod Laws
 pub use Rattle.broken_pages.specs.Coarse

@@ -8,6 +8,7 @@
 pub mod laws;
 mod openers;
 mod reader;
+mod runs;
 mod state;
 mod steps;
 mod targets;

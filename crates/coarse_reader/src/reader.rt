@@ -6,6 +6,7 @@ ghost use Rattle.coarse_reader.specs.States.{coded, seen, wide_on, step_on, next
 ghost use Rattle.coarse_reader.specs.declared.state.CoarseState.TheVariants as state;
 ghost use Rattle.std.specs.Option.{is_none};
 
+use crate::runs::last_from;
 use crate::state::CoarseState;
 use crate::steps::{
     closing_step, comment_step, content_step, doctype_quotes_step, doctype_step, end_tag_step,
@@ -14,6 +15,7 @@ use crate::steps::{
 };
 use crate::targets::target_step;
 use byte_readers::{ByteReader, Emit, ReaderStep};
+use echoing_machine::RunReader;
 use std::alloc::Global;
 use text_base::{Bytes, NoMemory, PageToken};
 
@@ -115,7 +117,7 @@ fn state_behind(alloc: Global, state: &CoarseState, byte: u8) -> Result<CoarseSt
 }
 
 /// Whether the reader has failed.
-fn has_failed(state: &CoarseState) -> bool
+pub fn has_failed(state: &CoarseState) -> bool
     ensures { result ≡ is_none (seen state.now) }
 {
     matches!(state, CoarseState::Failed)
@@ -187,5 +189,11 @@ impl ByteReader for CoarseReader {
 
     fn last(&self, state: &CoarseState) -> Emit {
         emit_behind(state)
+    }
+}
+
+impl RunReader for CoarseReader {
+    fn last_alike(&self, state: &CoarseState, byte: u8) -> u8 {
+        last_from(state, byte)
     }
 }

@@ -12,7 +12,7 @@ use text_base::{Bytes, NoMemory};
 use xml_text::{in_name, is_blank};
 
 /// Whether the byte is one of the two quotes.
-fn is_quote(byte: u8) -> bool
+pub fn is_quote(byte: u8) -> bool
     ensures { result ≡ parts.is_quote byte }
 {
     byte == b'"' || byte == b'\''

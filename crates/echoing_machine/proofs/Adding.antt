@@ -1,4 +1,4 @@
--- One byte more among moves.
+-- A run of bytes more among moves.
 use Rattle.std.specs.Prelude.{◌≡◌, ℕ, ◌+◌, ◌≤◌, ◌↔◌, true, List, [], ◌∷◌, ◌++◌, map, All, Contains, refl}
 use Rattle.std.proofs.Common.{ap, sym, subst, ◌∙◌, rules, arith, inl, inr, IsTrue}
 use Rattle.std.specs.Cmp.{first_so, second_so}
@@ -10,6 +10,7 @@ use Rattle.std.proofs.lemmas.Bool.{cases_lt}
 use Rattle.std.proofs.lemmas.List.Elements.{Contains-push_cases, Contains-append_left, Contains-push, All-push, All-nil, All-contains}
 use Rattle.fst_core.proofs.LayerLemmas.{All-from_contains}
 use Rattle.text_base.specs.Exactness.{IsExact}
+use Rattle.text_base.specs.declared.byte_range.ByteRange.{ByteRange}
 use Rattle.text_base.specs.ByteRange.{InRange}
 use Rattle.text_base.specs.declared.letter.Letter.{Letter}
 use Rattle.text_base.specs.declared.letter.Letter.TheVariants.{OfToken}
@@ -21,7 +22,8 @@ use Rattle.fst_core.specs.declared.machine.Move.{Move}
 use Rattle.fst_core.specs.declared.out.Out.{Out}
 use Rattle.fst_core.specs.declared.out.Out.TheVariants.{Same, Token}
 use Rattle.fst_core.specs.contracts.out.OutPartialEq.TheImpl as outs
-use Rattle.echoing_machine.specs.Groups.{IsBetween, AddsByte, AreMovesBelow, echo_letters}
+use Rattle.echoing_machine.specs.Groups.{IsBetween, AddsRun, AreMovesBelow, echo_letters}
+use Rattle.echoing_machine.specs.Runs.{AreAlike}
 
 exact_out : IsExact (outs.ghosts).eq
 exact_out = search rules
@@ -35,36 +37,34 @@ exact_outs (x ∷ xs) (y ∷ ys) h =
     let f : xs ≡ ys = exact_outs xs ys (second_so ((outs.ghosts).eq x y) (pointwise (outs.ghosts).eq xs ys) h) in
     ap (λ (z : Out). z ∷ xs) e ∙ ap (λ (zs : List Out). y ∷ zs) f
 
-wider : {S : Type 0} (lo byte : ℕ) (old : List (Move S)) → All (IsBetween lo byte) old → All (IsBetween lo (byte + 1)) old
-wider lo byte old a = λ k d h. ((a k d h).0, omega (arith, (a k d h).1))
+wider : {S : Type 0} (lo n m : ℕ) (old : List (Move S)) → n ≤ m → All (IsBetween lo n) old → All (IsBetween lo m) old
+wider lo n m old h a = λ k d i. ((a k d i).0, omega (arith, (a k d i).1, h))
 
-pub adds_alone : {S : Type 0} (old new : List (Move S)) (m : Move S) (byte : ℕ) → m.range.lo ≡ byte → m.range.hi ≡ byte → new ≡ old ++ m ∷ [] → AddsByte old new byte m.to m.out.items
-adds_alone old new m byte lo hi e =
+pub adds_alone : {S : Type 0} (old new : List (Move S)) (m : Move S) → new ≡ old ++ m ∷ [] → AddsRun old new m.range m.to m.out.items
+adds_alone {S} old new m e =
     record {
       exact = λ b t letters. (
-        λ f. elim (Contains-push_cases old m f.0 (subst (λ (y : List (Move _)). Contains y f.0) e f.1)) [
+        λ f. elim (Contains-push_cases old m f.0 (subst (λ (y : List (Move S)). Contains y f.0) e f.1)) [
           | inl d ↦ inl (f.0, d, f.2, f.3, f.4)
-          | inr d ↦
-              let i : InRange m.range b = subst (λ (y : Move _). InRange y.range b) (sym d) f.2 in
-              let same : b ≡ byte = omega (arith, i.0, i.1, lo, hi) in
-              inr (same, ap (λ (y : Move _). y.to) d ∙ f.3, ap (λ (n : ℕ). map (letter_of n) m.out.items) (sym same) ∙ (ap (λ (y : Move _). map (letter_of b) y.out.items) d ∙ f.4))
-        ],
-        λ f. elim f [
-          | inl d ↦ (d.0, subst (λ (y : List (Move _)). Contains y d.0) (sym e) (Contains-append_left old (m ∷ []) d.0 d.1), d.2, d.3, d.4)
-          | inr d ↦ (
-            m,
-            subst (λ (y : List (Move _)). Contains y m) (sym e) (Contains-push old m),
-            (omega (arith, d.0, lo), omega (arith, d.0, hi)),
-            d.1,
-            ap (λ (n : ℕ). map (letter_of n) m.out.items) d.0 ∙ d.2,
+          | inr d ↦ inr (
+            subst (λ (y : Move S). InRange y.range b) (sym d) f.2,
+            ap (λ (y : Move S). y.to) d ∙ f.3,
+            ap (λ (y : Move S). map (letter_of b) y.out.items) d ∙ f.4,
           )
         ],
+        λ f. elim f [
+          | inl d ↦ (d.0, subst (λ (y : List (Move S)). Contains y d.0) (sym e) (Contains-append_left old (m ∷ []) d.0 d.1), d.2, d.3, d.4)
+          | inr d ↦ (m, subst (λ (y : List (Move S)). Contains y m) (sym e) (Contains-push old m), d.0, d.1, d.2)
+        ],
       );
-      within = λ from h a. subst (λ (y : List (Move _)). All (IsBetween from (byte + 1)) y) (sym e) (All-push (IsBetween from (byte + 1)) old m (wider from byte old a) (omega (arith, lo, h), omega (arith, hi)));
+      within = λ lo h a.
+          let before : All (IsBetween lo (m.range.hi + 1)) old = wider lo m.range.lo (m.range.hi + 1) old (omega (arith, m.range.ordered)) a in
+          subst (λ (y : List (Move S)). All (IsBetween lo (m.range.hi + 1)) y) (sym e) (All-push (IsBetween lo (m.range.hi + 1)) old m before (h, omega arith));
     }
 
-pub adds_longer : {S : Type 0} (old new : List (Move S)) (last m : Move S) (byte : ℕ) → last.range.hi + 1 ≡ byte → m.range.lo ≡ last.range.lo → m.range.hi ≡ byte → m.out.items ≡ last.out.items → m.to ≡ last.to → new ≡ old ++ m ∷ [] → AddsByte (old ++ last ∷ []) new byte last.to last.out.items
-adds_longer {S} old new last m byte before lo hi out to e =
+pub adds_longer : {S : Type 0} (old new : List (Move S)) (last m : Move S) (run : ByteRange) → last.range.hi + 1 ≡ run.lo → m.range.lo ≡ last.range.lo → m.range.hi ≡ run.hi
+    → m.out.items ≡ last.out.items → m.to ≡ last.to → new ≡ old ++ m ∷ [] → AddsRun (old ++ last ∷ []) new run last.to last.out.items
+adds_longer {S} old new last m run before lo hi out to e =
     record {
       exact = λ b t letters. (
         λ f. elim (Contains-push_cases old m f.0 (subst (λ (y : List (Move S)). Contains y f.0) e f.1)) [
@@ -73,11 +73,9 @@ adds_longer {S} old new last m byte before lo hi out to e =
               let i : InRange m.range b = subst (λ (y : Move S). InRange y.range b) (sym d) f.2 in
               let goes : last.to ≡ t = sym to ∙ (ap (λ (y : Move S). y.to) d ∙ f.3) in
               let writes : map (letter_of b) last.out.items ≡ letters = ap (λ (y : List Out). map (letter_of b) y) (sym out) ∙ (ap (λ (y : Move S). map (letter_of b) y.out.items) d ∙ f.4) in
-              elim (cases_lt b byte) [
+              elim (cases_lt b run.lo) [
                 | inl s ↦ inl (last, Contains-push old last, (omega (arith, i.0, lo), omega (arith, s, before)), goes, writes)
-                | inr s ↦
-                    let same : b ≡ byte = omega (arith, i.1, hi, s) in
-                    inr (same, goes, ap (λ (n : ℕ). map (letter_of n) last.out.items) (sym same) ∙ writes)
+                | inr s ↦ inr ((s, omega (arith, i.1, hi)), goes, writes)
               ]
         ],
         λ f. elim f [
@@ -87,7 +85,7 @@ adds_longer {S} old new last m byte before lo hi out to e =
                 let i : InRange last.range b = subst (λ (y : Move S). InRange y.range b) (sym g) d.2 in (
                   m,
                   subst (λ (y : List (Move S)). Contains y m) (sym e) (Contains-push old m),
-                  (omega (arith, i.0, lo), omega (arith, i.1, hi, before)),
+                  (omega (arith, i.0, lo), omega (arith, i.1, hi, before, run.ordered)),
                   to ∙ (ap (λ (y : Move S). y.to) g ∙ d.3),
                   ap (λ (y : List Out). map (letter_of b) y) out ∙ (ap (λ (y : Move S). map (letter_of b) y.out.items) g ∙ d.4),
                 )
@@ -95,16 +93,17 @@ adds_longer {S} old new last m byte before lo hi out to e =
           | inr d ↦ (
             m,
             subst (λ (y : List (Move S)). Contains y m) (sym e) (Contains-push old m),
-            (omega (arith, d.0, lo, before, last.range.ordered), omega (arith, d.0, hi)),
+            (omega (arith, d.0.0, lo, before, last.range.ordered), omega (arith, d.0.1, hi)),
             to ∙ d.1,
-            ap (λ (y : List Out). map (letter_of b) y) out ∙ (ap (λ (n : ℕ). map (letter_of n) last.out.items) d.0 ∙ d.2),
+            ap (λ (y : List Out). map (letter_of b) y) out ∙ d.2,
           )
         ],
       );
       within = λ from h a.
-          let inner : All (IsBetween from byte) old = All-from_contains (IsBetween from byte) old (λ x g. All-contains (IsBetween from byte) (old ++ last ∷ []) x a (Contains-append_left old (last ∷ []) x g)) in
-          let own : IsBetween from byte last = All-contains (IsBetween from byte) (old ++ last ∷ []) last a (Contains-push old last) in
-          subst (λ (y : List (Move S)). All (IsBetween from (byte + 1)) y) (sym e) (All-push (IsBetween from (byte + 1)) old m (wider from byte old inner) (omega (arith, own.0, lo), omega (arith, hi)));
+          let inner : All (IsBetween from run.lo) old = All-from_contains (IsBetween from run.lo) old (λ x g. All-contains (IsBetween from run.lo) (old ++ last ∷ []) x a (Contains-append_left old (last ∷ []) x g)) in
+          let own : IsBetween from run.lo last = All-contains (IsBetween from run.lo) (old ++ last ∷ []) last a (Contains-push old last) in
+          let wide : All (IsBetween from (run.hi + 1)) old = wider from run.lo (run.hi + 1) old (omega (arith, run.ordered)) inner in
+          subst (λ (y : List (Move S)). All (IsBetween from (run.hi + 1)) y) (sym e) (All-push (IsBetween from (run.hi + 1)) old m wide (omega (arith, own.0, lo), omega (arith, hi)));
     }
 
 echo_outs : (tokens : List PageToken) (byte : ℕ) → map (letter_of byte) (map Token tokens ++ Same ∷ []) ≡ echo_letters tokens byte
@@ -115,33 +114,32 @@ pub last_outs : (tokens : List PageToken) → map (letter_of 0) (map Token token
 last_outs [] = refl
 last_outs (t ∷ ts) = ap (λ (w : List Letter). OfToken t ∷ w) (last_outs ts)
 
-pub bytes_none : {S : Type 0} (next : ℕ → S) (puts : ℕ → List PageToken) (lo : ℕ) → AreMovesBelow next puts lo lo []
-bytes_none {S} next puts lo =
+pub none_yet : {S : Type 0} (next : ℕ → S) (puts : ℕ → List PageToken) (lo : ℕ) → AreMovesBelow next puts lo lo []
+none_yet {S} next puts lo =
     record {
       exact = λ b h g t letters. absurd (omega (arith, h, g));
       within = All-nil (IsBetween lo lo);
     }
 
-pub bytes_more : {S : Type 0} (next : ℕ → S) (puts : ℕ → List PageToken) (lo n : ℕ) (old new : List (Move S)) (to : S) (out : List Out) → lo ≤ n → to ≡ next n → out ≡ map Token (puts n) ++ Same ∷ []
-    → AreMovesBelow next puts lo n old → AddsByte old new n to out → AreMovesBelow next puts lo (n + 1) new
-bytes_more {S} next puts lo n old new to out h is puts_so before adds =
-    let writes : map (letter_of n) out ≡ echo_letters (puts n) n = ap (λ (y : List Out). map (letter_of n) y) puts_so ∙ echo_outs (puts n) n in
+pub run_more : {S : Type 0} (next : ℕ → S) (puts : ℕ → List PageToken) (lo : ℕ) (run : ByteRange) (old new : List (Move S)) (to : S) (out : List Out) → lo ≤ run.lo → to ≡ next run.lo → out ≡ map Token (puts run.lo) ++ Same ∷ []
+    → AreAlike next puts run.lo run.hi → AreMovesBelow next puts lo run.lo old → AddsRun old new run to out → AreMovesBelow next puts lo (run.hi + 1) new
+run_more {S} next puts lo run old new to out h is puts_so alike before adds =
+    let leads : (b : ℕ) → InRange run b → to ≡ next b = λ b i. is ∙ sym (alike b i.0 i.1).0 in
+    let writes : (b : ℕ) → InRange run b → map (letter_of b) out ≡ echo_letters (puts b) b =
+    λ b i. ap (λ (y : List Out). map (letter_of b) y) puts_so ∙ echo_outs (puts run.lo) b ∙ ap (λ (ts : List PageToken). echo_letters ts b) (sym (alike b i.0 i.1).1) in
     record {
       exact = λ b f g t letters. (
         λ o. elim ((adds.exact b t letters).0 o) [
           | inl d ↦
-              let w : IsBetween lo n d.0 = All-contains (IsBetween lo n) old d.0 before.within d.1 in
+              let w : IsBetween lo run.lo d.0 = All-contains (IsBetween lo run.lo) old d.0 before.within d.1 in
               (before.exact b f (omega (arith, w.1, d.2.1)) t letters).0 d
-          | inr d ↦ (
-            sym d.1 ∙ (is ∙ ap next (sym d.0)),
-            sym d.2 ∙ (writes ∙ ap (λ (m : ℕ). echo_letters (puts m) m) (sym d.0)),
-          )
+          | inr d ↦ (sym d.1 ∙ leads b d.0, sym d.2 ∙ writes b d.0)
         ],
-        λ o. (adds.exact b t letters).1 (elim (cases_lt b n) [
+        λ o. (adds.exact b t letters).1 (elim (cases_lt b run.lo) [
           | inl s ↦ inl ((before.exact b f s t letters).1 o)
           | inr s ↦
-              let same : b ≡ n = omega (arith, g, s) in
-              inr (same, is ∙ (ap next (sym same) ∙ sym o.0), writes ∙ (ap (λ (m : ℕ). echo_letters (puts m) m) (sym same) ∙ sym o.1))
+              let i : InRange run b = (s, omega (arith, g)) in
+              inr (i, leads b i ∙ sym o.0, writes b i ∙ sym o.1)
         ]),
       );
       within = adds.within lo h before.within;

@@ -1,5 +1,7 @@
--- Moves by neighbouring bytes, as they are listed byte by byte.
+-- Moves by neighbouring bytes, as they are listed run by run.
 use Rattle.std.specs.Prelude.{◌≡◌, ℕ, ◌+◌, ◌≤◌, ◌<◌, ◌⊎◌, ◌↔◌, List, [], ◌∷◌, ◌++◌, map, All}
+use Rattle.text_base.specs.declared.byte_range.ByteRange.{ByteRange}
+use Rattle.text_base.specs.ByteRange.{InRange}
 use Rattle.text_base.specs.declared.letter.Letter.{Letter}
 use Rattle.text_base.specs.declared.letter.Letter.TheVariants.{OfByte, OfToken}
 use Rattle.text_base.specs.declared.page_token.PageToken.{PageToken}
@@ -12,11 +14,11 @@ use Rattle.fst_core.specs.declared.out.Out.{Out}
 abbrev pub IsBetween : {S : Type 0} → ℕ → ℕ → Move S → Type 0
 IsBetween lo n m = (lo ≤ m.range.lo) × (m.range.hi < n)
 
--- one byte more leads to the state and puts this out
-pub record AddsByte {S : Type 0} (old new : List (Move S)) (byte : ℕ) (to : S) (out : List Out) : Type 0 where
+-- the bytes of a run more lead to the state, and each puts this out
+pub record AddsRun {S : Type 0} (old new : List (Move S)) (run : ByteRange) (to : S) (out : List Out) : Type 0 where
   pub exact : (b : ℕ) (t : S) (letters : List Letter)
-      → Offers new b t letters ↔ (Offers old b t letters ⊎ ((b ≡ byte) × (to ≡ t) × (map (letter_of byte) out ≡ letters)))
-  pub within : (lo : ℕ) → lo ≤ byte → All (IsBetween lo byte) old → All (IsBetween lo (byte + 1)) new
+      → Offers new b t letters ↔ (Offers old b t letters ⊎ (InRange run b × (to ≡ t) × (map (letter_of b) out ≡ letters)))
+  pub within : (lo : ℕ) → lo ≤ run.lo → All (IsBetween lo run.lo) old → All (IsBetween lo (run.hi + 1)) new
 
 -- the tokens, and the byte behind them
 abbrev pub echo_letters : List PageToken → ℕ → List Letter

@@ -1,7 +1,7 @@
 //! Neighbouring bytes that do the same.
 
 ghost use Rattle.std.specs.Prelude.{◌≡◌, ◌+◌, ◌++◌, ◌∷◌, [], ℕ, List, OnOk, IsTrue};
-ghost use Rattle.echoing_machine.specs.Groups.{AddsByte};
+ghost use Rattle.echoing_machine.specs.Groups.{AddsRun};
 
 use fst_core::{Move, Out};
 use std::hash::Hash;
@@ -25,57 +25,57 @@ fn same_outs(a: &[Out], b: &[Out]) -> bool
     a == b
 }
 
-/// Adds a byte: to the last move where that goes on so, else as a move of its own.
-pub fn add_byte<S: Exact + Hash + Drop>(
+/// Adds a run of bytes: to the last move where that goes on so, else as a move of its own.
+pub fn add_run<S: Exact + Hash + Drop>(
     moves: &mut Vec<Move<S>>,
-    byte: u8,
+    run: ByteRange,
     to: S,
     out: Vec<Out>,
 ) -> Result<(), NoMemory>
-    ensures { OnOk result (AddsByte moves.old.items moves.new.items byte to out.items) }
+    ensures { OnOk result (AddsRun moves.old.items moves.new.items run to out.items) }
 {
     let Some(last) = moves.pop() else {
-        return add_alone(moves, byte, to, out);
+        return add_alone(moves, run, to, out);
     };
-    if goes_on(&last, byte, &to, out.as_slice()) {
-        return add_longer(moves, last, byte);
+    if goes_on(&last, run.lo, &to, out.as_slice()) {
+        return add_longer(moves, last, run);
     }
     moves.push(last)?;
-    add_alone(moves, byte, to, out)
+    add_alone(moves, run, to, out)
 }
 
-/// Adds a move by the byte alone.
+/// Adds a move by the run alone.
 fn add_alone<S: Exact + Hash + Drop>(
     moves: &mut Vec<Move<S>>,
-    byte: u8,
+    run: ByteRange,
     to: S,
     out: Vec<Out>,
 ) -> Result<(), NoMemory>
-    ensures { OnOk result (AddsByte moves.old.items moves.new.items byte to out.items) }
+    ensures { OnOk result (AddsRun moves.old.items moves.new.items run to out.items) }
 {
     moves.push(Move {
-        range: ByteRange { lo: byte, hi: byte },
+        range: run,
         out,
         to,
     })?;
     Ok(())
 }
 
-/// Adds the move with one byte more.
+/// Adds the move with the bytes of the run behind its own.
 fn add_longer<S: Exact + Hash + Drop>(
     moves: &mut Vec<Move<S>>,
     last: Move<S>,
-    byte: u8,
+    run: ByteRange,
 ) -> Result<(), NoMemory>
-    requires { last.range.hi + 1 ≡ byte }
+    requires { last.range.hi + 1 ≡ run.lo }
     ensures { OnOk result
-        (AddsByte (moves.old.items ++ last ∷ []) moves.new.items byte last.to last.out.items) }
+        (AddsRun (moves.old.items ++ last ∷ []) moves.new.items run last.to last.out.items) }
 {
     let Move { range, out, to } = last;
     moves.push(Move {
         range: ByteRange {
             lo: range.lo,
-            hi: byte,
+            hi: run.hi,
         },
         out,
         to,

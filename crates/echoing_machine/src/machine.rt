@@ -7,8 +7,9 @@ ghost use Rattle.byte_readers.specs.Reading.{emitted};
 ghost use Rattle.echoing_machine.specs.Groups.{AreMovesBelow};
 ghost use Rattle.echoing_machine.specs.Echoes.{EchoStep, EchoEnd, IsEcho};
 
-use crate::groups::add_byte;
+use crate::groups::add_run;
 use crate::outputs::{echo_out, tokens_out};
+use crate::runs::{RunReader, run_from};
 use byte_readers::ByteReader;
 use fst_core::{Machine, Move, Out};
 use std::alloc::Global;
@@ -17,12 +18,13 @@ use text_base::{ByteRange, NoMemory};
 /// The machine that puts out what it reads, with the tokens of a reader before each byte at which
 /// they are put out, and behind the text.
 #[derive(Drop)]
-pub struct Echoing<R: ByteReader + Drop> {
+pub struct Echoing<R: RunReader + Drop> {
     pub reader: R,
 }
 
 /// The moves from a state by the bytes of a range, with one move for neighbours that do the same.
-fn moves_by<R: ByteReader>(
+/// The reader is asked once for each run that it tells.
+fn moves_by<R: RunReader>(
     alloc: Global,
     reader: &R,
     state: &R::State,
@@ -33,10 +35,13 @@ fn moves_by<R: ByteReader>(
         (range.hi + 1) moves.items) }
 {
     let mut moves = Vec::new(alloc);
-    for byte in u16::from(range.lo)..u16::from(range.hi) + 1 {
-        let step = reader.step(alloc, state, byte as u8)?;
+    let mut next = u16::from(range.lo);
+    while next <= u16::from(range.hi) {
+        let run = run_from(reader, state, next as u8, range.hi);
+        let step = reader.step(alloc, state, run.lo)?;
         let out = echo_out(alloc, step.emit)?;
-        add_byte(&mut moves, byte as u8, step.to, out)?;
+        add_run(&mut moves, run, step.to, out)?;
+        next = u16::from(run.hi) + 1;
     }
     Ok(moves)
 }
@@ -52,7 +57,7 @@ fn last_out<R: ByteReader>(
     tokens_out(alloc, reader.last(state))
 }
 
-impl<R: ByteReader + Drop> Machine for Echoing<R> {
+impl<R: RunReader + Drop> Machine for Echoing<R> {
     type State = R::State;
 
     ghost first = { λ m. R.first m.reader };

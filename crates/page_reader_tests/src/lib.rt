@@ -1,5 +1,6 @@
-//! Tests of page_reader and merged_reader: both readers on pages with their tokens, on generated
-//! pages beside a plain reading piece by piece, and where two texts share a state.
+//! Tests of page_reader, merged_reader and page_runs: both readers on pages with their tokens, on
+//! generated pages beside a plain reading piece by piece, where two texts share a state, and how
+//! many bytes do the same.
 #![tactic(auto)]
 
 #[cfg(test)]
@@ -14,5 +15,7 @@ mod number_rows;
 mod page_rows;
 #[cfg(test)]
 mod reading;
+#[cfg(test)]
+mod run_rows;
 #[cfg(test)]
 mod token_words;

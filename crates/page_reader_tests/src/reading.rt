@@ -5,11 +5,14 @@ use byte_readers::ByteReader;
 use dtd_index::IndexedDtd;
 use dtd_model::Dtd;
 use dtd_reader::read_dtd;
+use echoing_machine::{Echoing, RunReader};
+use fst_core::Machine;
 use io_edge::MemFiles;
 use merged_reader::{MergedReader, PageReader};
+use page_runs::PageRunReader;
 use std::alloc::Global;
 use std::test::Fail;
-use text_base::{Bytes, NoMemory};
+use text_base::{ByteRange, Bytes, NoMemory};
 
 /// The definition that a text spells.
 pub fn definition(alloc: Global, text: &[u8]) -> Result<Dtd, Fail> {
@@ -130,4 +133,30 @@ fn state_behind<R: ByteReader>(
         state = reader.step(alloc, &state, *byte)?.to;
     }
     Ok(state)
+}
+
+/// How many runs of bytes the reader tells behind a text, and how many moves its machine has there
+/// by all bytes.
+pub fn runs_and_moves(alloc: Global, dtd: &Dtd, text: &[u8]) -> Result<(usize, usize), NoMemory> {
+    let indexed = IndexedDtd::new(alloc, dtd)?;
+    let reader = PageRunReader { indexed: &indexed };
+    let state = state_behind(alloc, &reader, text)?;
+    let runs = runs_from(&reader, &state);
+    let machine = Echoing { reader };
+    let moves = machine.moves(alloc, &state, ByteRange { lo: 0, hi: 0xFF })?;
+    Ok((runs, moves.len()))
+}
+
+// How many runs of bytes follow one another from the first byte to the last: a byte begins one
+// where it stands behind the last of the run before it.
+fn runs_from<R: RunReader>(reader: &R, state: &R::State) -> usize {
+    let mut count = 0;
+    let mut behind = 0;
+    for byte in 0..256_u16 {
+        if byte == behind {
+            count += 1;
+            behind = u16::from(reader.last_alike(state, byte as u8)) + 1;
+        }
+    }
+    count
 }

@@ -3,10 +3,10 @@
 ghost use Rattle.dtd_model.specs.TableOf.{table_of};
 ghost use Rattle.reader_echo.specs.Laws.{IsMachineOf};
 
-use merged_reader::MergedReader;
+use page_runs::PageRunReader;
 
 /// By each definition the echoing machine of its reader is a machine that reads pages.
-pub fn is_page_machine(reader: &MergedReader<'_>)
+pub fn is_page_machine(reader: &PageRunReader<'_>)
     ensures { IsMachineOf (table_of reader.now.indexed.now.dtd.now) }
 {
     merged_reader::laws::reads_pages(reader.indexed.dtd);

@@ -1,6 +1,5 @@
-use Rattle.std.proofs.Common.{refl}
 use Rattle.echoing_machine.proofs.Adding.{adds_alone}
 use Rattle.echoing_machine.proofs.groups.add_alone.Goals as goal
 
 pub returns : goal.returns
-returns g c = adds_alone c.args.moves.now.items c.push.new.self.items _ c.args.byte refl refl c.in_ok-push.ensures.items
+returns g c = adds_alone c.args.moves.now.items c.push.new.self.items _ c.in_ok-push.ensures.items

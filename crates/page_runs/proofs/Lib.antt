@@ -1,0 +1,5 @@
+mod Encodings
+mod ClassLemmas
+mod RunLemmas
+mod Steps
+mod Moves
