@@ -24,11 +24,20 @@ pub const QUIET: Outside = Outside {
 };
 
 /// How a call ended, and what it wrote.
-#[derive(Drop)]
 pub struct Ending {
     pub exit: Exit,
     pub out: MemSink,
     pub err: MemSink,
+}
+
+impl Drop for Ending {
+    fn drop(self) {
+        let Ending {
+            exit: _,
+            out: _,
+            err: _,
+        } = self;
+    }
 }
 
 /// Files, each a name and its bytes.

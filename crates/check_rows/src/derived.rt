@@ -7,21 +7,20 @@ use std::alloc::Global;
 
 /// Which nonterminals derive the part from a place to an end, and which are asked for from a place
 /// on.
-#[derive(Drop)]
 struct Chart {
     found: IndexSet<(u64, usize, usize)>,
     asked: IndexSet<(u64, usize)>,
 }
 
+impl Drop for Chart {
+    fn drop(self) {
+        let Chart { found: _, asked: _ } = self;
+    }
+}
+
 impl Chart {
     // Where the part may end that a symbol derives from a place on, by what is found so far.
-    fn ends(
-        &mut self,
-        alloc: Global,
-        text: &[u8],
-        sign: Sign,
-        from: usize,
-    ) -> Result<Vec<usize>> {
+    fn ends(&mut self, alloc: Global, text: &[u8], sign: Sign, from: usize) -> Result<Vec<usize>> {
         let mut ends = Vec::new(alloc);
         match sign {
             Sign::Range(first, last) => {

@@ -11,10 +11,15 @@ pub enum Sign {
 }
 
 /// A production.
-#[derive(Drop)]
 pub struct Production {
     pub left: u64,
     pub right: Vec<Sign>,
+}
+
+impl Drop for Production {
+    fn drop(self) {
+        let Production { left: _, right: _ } = self;
+    }
 }
 
 /// The nonterminal of a grammar's sentences.

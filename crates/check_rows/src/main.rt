@@ -29,15 +29,18 @@ fn add_line(open: &mut String, line: &str) -> Result<()> {
     Ok(())
 }
 
-// Takes the lines of a file with rows.
+// Takes the lines of a file with rows, and prints how many came out.
 fn take_file(
     rt: &(impl Print + rt::Files + AllocGlobal),
     table: &mut Table,
     name: &str,
 ) -> Result<()> {
     let alloc = rt.alloc();
-    let bytes = DiskFiles::new(rt).read(alloc, name).context("a file of rows")?;
+    let bytes = DiskFiles::new(rt)
+        .read(alloc, name)
+        .context("a file of rows")?;
     let text = str::from_utf8(bytes.as_slice()).context("a file in UTF-8")?;
+    let (passed, failed) = (table.passed, table.failed);
     let mut open = String::new(alloc);
     let mut place = 0u64;
     for line in text.lines() {
@@ -49,7 +52,13 @@ fn take_file(
         }
         place = place.saturating_add(1);
     }
-    table.take(rt, (name, place), open.as_str())
+    table.take(rt, (name, place), open.as_str())?;
+    println!(rt;
+        "{name}: {} passed, {} failed",
+        table.passed.saturating_sub(passed),
+        table.failed.saturating_sub(failed)
+    )?;
+    Ok(())
 }
 
 fn main(rt: HostRuntime) -> Result<()> {

@@ -11,7 +11,6 @@ use text_base::Bytes;
 
 /// A form of rows that are one line: its sign, the status that it ends with, and the text of one
 /// output, which may have a place for what the line says of it.
-#[derive(Drop)]
 struct Form {
     sign: String,
     status: u8,
@@ -20,9 +19,20 @@ struct Form {
     text: Vec<Piece>,
 }
 
+impl Drop for Form {
+    fn drop(self) {
+        let Form {
+            sign: _,
+            status: _,
+            is_told: _,
+            is_filled: _,
+            text: _,
+        } = self;
+    }
+}
+
 /// The texts, words, files and forms that stand so far, the row that is being read, and how many
 /// rows came out.
-#[derive(Drop)]
 pub struct Table {
     names: Names,
     words: Vec<Vec<String>>,
@@ -32,6 +42,21 @@ pub struct Table {
     row: Row,
     pub passed: u64,
     pub failed: u64,
+}
+
+impl Drop for Table {
+    fn drop(self) {
+        let Table {
+            names: _,
+            words: _,
+            given: _,
+            around: _,
+            forms: _,
+            row: _,
+            passed: _,
+            failed: _,
+        } = self;
+    }
 }
 
 fn number(text: &str) -> Result<u64> {
@@ -266,7 +291,10 @@ impl Table {
             }
             return Ok(statuses);
         }
-        let form = self.forms.iter().position(|form| form.sign.as_str() == sign);
+        let form = self
+            .forms
+            .iter()
+            .position(|form| form.sign.as_str() == sign);
         if let Some(form) = form {
             if let Some(status) = self.fill_row(alloc, form, text)? {
                 statuses.push(status)?;

@@ -15,9 +15,14 @@ pub enum Piece {
 }
 
 /// Texts by their names.
-#[derive(Drop)]
 pub struct Names {
     held: Vec<(String, Vec<Piece>)>,
+}
+
+impl Drop for Names {
+    fn drop(self) {
+        let Names { held: _ } = self;
+    }
 }
 
 fn push_bytes(pieces: &mut Vec<Piece>, bytes: &[u8]) -> Result<()> {
@@ -88,12 +93,7 @@ impl Names {
     }
 
     // What an escape stands for, where its text begins behind the backslash; the text behind it.
-    fn escape<'a>(
-        &self,
-        alloc: Global,
-        pieces: &mut Vec<Piece>,
-        text: &'a str,
-    ) -> Result<&'a str> {
+    fn escape<'a>(&self, alloc: Global, pieces: &mut Vec<Piece>, text: &'a str) -> Result<&'a str> {
         if let Some(behind) = text.strip_prefix("(") {
             let (name, behind) = behind.split_once(")").context("a name's end")?;
             self.push_named(alloc, pieces, name)?;

@@ -60,7 +60,11 @@ fn shape_of(alloc: Global, text: &[u8]) -> Result<(Vec<u8>, Vec<u64>)> {
 }
 
 fn are_above(numbers: &[u64], least: &[u64]) -> bool {
-    numbers.len() == least.len() && numbers.iter().zip(least).all(|(number, least)| number > least)
+    numbers.len() == least.len()
+        && numbers
+            .iter()
+            .zip(least)
+            .all(|(number, least)| number > least)
 }
 
 // The page that is shown in a no.
