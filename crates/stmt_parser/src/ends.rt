@@ -39,15 +39,13 @@ fn behind_loop<'a>(of: &Loop, rest: &'a [Token]) -> Option<&'a [Token]>
         machine.colon_body_move of.now fs (terminals_of rest.now)
         ≡ machine.jump_move (loop_action of.now) fs (terminals_of behind.now)) }
 {
-    match word_at(rest) {
-        None => None,
-        Some((word, behind)) => {
-            if ends_loop(of, word) {
-                return Some(behind);
-            }
-            None
-        }
+    let Some((word, behind)) = word_at(rest) else {
+        return None;
+    };
+    if ends_loop(of, word) {
+        return Some(behind);
     }
+    None
 }
 
 impl Reader {
