@@ -1,5 +1,5 @@
 -- What the private functions say to one another. No public clause cites these.
-use Rattle.std.specs.Prelude.{◌<◌, ℕ, List, ⊤}
+use Rattle.std.specs.Prelude.{◌<◌, ℕ, Bool, true, false, List, Result, Ok, Err, ⊤}
 use Rattle.text_base.specs.declared.letter.Letter.{Letter}
 use Rattle.script_meaning.specs.Programs.{PlainProgram}
 use Rattle.grammar_image.specs.declared.refusal.ImageRefusal.{ImageRefusal}
@@ -21,3 +21,12 @@ answer_of verdict.Yes = Answer.Yes
 answer_of (verdict.No derivation) = Answer.No derivation
 answer_of (verdict.Pairs count height) = Answer.Pairs count height
 answer_of (verdict.Tags count height) = Answer.Tags count height
+
+-- the pages are decided, or there was no memory for it
+abbrev pub is_settled : Result Verdict ImageRefusal → Bool
+is_settled (Ok verdict.Yes) = true
+is_settled (Ok (verdict.No derivation)) = true
+is_settled (Ok (verdict.Pairs count height)) = false
+is_settled (Ok (verdict.Tags count height)) = false
+is_settled (Err (image.Large count)) = false
+is_settled (Err image.Memory) = true

@@ -8,6 +8,7 @@ mod answer;
 mod answering;
 pub mod laws;
 mod pages;
+mod single_bytes;
 
 pub use answer::Answer;
 pub use answering::answer_by;

@@ -1,4 +1,4 @@
-//! The pages of a grammar: a broken one is looked for first.
+//! The pages of a grammar, and when a broken one is looked for.
 
 ghost use Rattle.std.specs.Prelude.{◌≡◌, ℕ, List, false, IfOk, IfErr, IfSome, IfNone};
 ghost use Rattle.cfg_grammar.specs.declared.symbol.Symbol as symbols;
@@ -10,7 +10,9 @@ ghost use Rattle.page_decision.specs.Echoes.{IsMachineImage};
 ghost use Rattle.page_decision.specs.Machines.{IsPageMachine};
 ghost use Rattle.page_decision.specs.PageSums.{AreSumsOf};
 ghost use Rattle.page_decision.specs.PageVerdicts.{IsBadPage, IsPageVerdict};
+ghost use Rattle.program_answers.specs.Steps.{is_settled};
 
+use crate::single_bytes::are_of_single_bytes;
 use cfg_grammar::Grammar;
 use coarse_reader::CoarseReader;
 use coarse_reader::laws::finds_broken;
@@ -50,10 +52,51 @@ fn find_broken_page(
     find_broken(alloc, grammar, dtd, goal, &machine, ITEM_LIMIT, COARSE_SUMS)
 }
 
-/// Whether each page that the grammar derives is good by the goal and the definition. A broken page
-/// is looked for first by a reader of few states, since the whole reader meets too many where what
-/// comes from outside stands in a page as it is.
-pub(crate) fn decide_grammar<M: Machine>(
+/// Whether the pages are decided, or there was no memory for it.
+fn is_settled(decided: &Result<Verdict, ImageRefusal>) -> bool
+    ensures { result ≡ is_settled decided.now }
+{
+    match decided {
+        Ok(Verdict::Yes | Verdict::No(_)) | Err(ImageRefusal::Memory) => true,
+        Ok(Verdict::Pairs { .. } | Verdict::Tags { .. }) | Err(ImageRefusal::Large { .. }) => false,
+    }
+}
+
+/// Whether each page that the grammar derives is good. Where the decision passes a limit, a broken
+/// page is looked for.
+fn decide_first<M: Machine>(
+    alloc: Global,
+    grammar: &Grammar,
+    dtd: &Dtd,
+    goal: Goal,
+    machine: &M,
+    sums: &PageSums,
+    pairs: u64,
+) -> Result<Verdict, ImageRefusal>
+    requires machine { IsPageMachine (table_of dtd.now) (M.first machine.now) (M.steps machine.now)
+        (M.ends machine.now) }
+    requires sums { AreSumsOf goal (table_of dtd.now) sums.now }
+    ensures verdict { IfOk result (IsPageVerdict (table_of dtd.now)
+        (DerivesText grammar.now.productions.items (symbols.Symbol.Nt grammar.now.start))
+        (IsMachineImage grammar.now (M.first machine.now) (M.steps machine.now)
+        (M.ends machine.now)) goal pairs) }
+    ensures cause { IfErr result
+        (IsCause grammar.now.productions.items (M.steps machine.now) grammar.now.start
+        (M.first machine.now) ITEM_LIMIT) }
+{
+    let decided = decide_pages(alloc, grammar, dtd, goal, machine, sums, ITEM_LIMIT, pairs);
+    if is_settled(&decided) {
+        return decided;
+    }
+    match find_broken_page(alloc, grammar, dtd, goal) {
+        Ok(Some(derivation)) => Ok(Verdict::No(derivation)),
+        Err(ImageRefusal::Memory) => Err(ImageRefusal::Memory),
+        _ => decided,
+    }
+}
+
+/// Whether each page that the grammar derives is good. A broken page is looked for first.
+fn find_first<M: Machine>(
     alloc: Global,
     grammar: &Grammar,
     dtd: &Dtd,
@@ -77,5 +120,37 @@ pub(crate) fn decide_grammar<M: Machine>(
         Ok(Some(derivation)) => Ok(Verdict::No(derivation)),
         Err(ImageRefusal::Memory) => Err(ImageRefusal::Memory),
         _ => decide_pages(alloc, grammar, dtd, goal, machine, sums, ITEM_LIMIT, pairs),
+    }
+}
+
+/// Whether each page that the grammar derives is good by the goal and the definition. Where texts
+/// from outside may be printed, a broken page is looked for first, by a reader of few states: the
+/// whole reader meets too many where such a text stands in a page as it is. Where single bytes alone
+/// are printed it meets few, so that one pass decides; a broken page is looked for behind it, if it
+/// has passed a limit.
+pub(crate) fn decide_grammar<M: Machine>(
+    alloc: Global,
+    grammar: &Grammar,
+    dtd: &Dtd,
+    goal: Goal,
+    machine: &M,
+    sums: &PageSums,
+    pairs: u64,
+) -> Result<Verdict, ImageRefusal>
+    requires machine { IsPageMachine (table_of dtd.now) (M.first machine.now) (M.steps machine.now)
+        (M.ends machine.now) }
+    requires sums { AreSumsOf goal (table_of dtd.now) sums.now }
+    ensures verdict { IfOk result (IsPageVerdict (table_of dtd.now)
+        (DerivesText grammar.now.productions.items (symbols.Symbol.Nt grammar.now.start))
+        (IsMachineImage grammar.now (M.first machine.now) (M.steps machine.now)
+        (M.ends machine.now)) goal pairs) }
+    ensures cause { IfErr result
+        (IsCause grammar.now.productions.items (M.steps machine.now) grammar.now.start
+        (M.first machine.now) ITEM_LIMIT) }
+{
+    if are_of_single_bytes(&grammar.productions) {
+        decide_first(alloc, grammar, dtd, goal, machine, sums, pairs)
+    } else {
+        find_first(alloc, grammar, dtd, goal, machine, sums, pairs)
     }
 }
