@@ -10,9 +10,9 @@ use crate::reading::check_by;
 use crate::refusal::CheckRefusal;
 use dtd_index::IndexedDtd;
 use dtd_model::Dtd;
-use merged_reader::MergedReader;
 use merged_reader::laws::reads_pages;
 use page_goals::Goal;
+use page_runs::PageRunReader;
 use php_program::Program;
 use program_answers::Answer;
 use std::alloc::Global;
@@ -33,7 +33,7 @@ fn check_indexed(
         (IsCheckRefusal (table_of indexed.now.dtd.now) (program_of program.now)) }
 {
     reads_pages(indexed.dtd);
-    let reader = MergedReader { indexed };
+    let reader = PageRunReader { indexed };
     check_by(alloc, program, indexed.dtd, goal, reader, pairs)
 }
 

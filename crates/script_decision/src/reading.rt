@@ -1,4 +1,4 @@
-//! The decision by any reader that has the tokens of pages.
+//! The decision by any reader that has the tokens of pages and tells runs of bytes.
 
 ghost use Rattle.std.specs.Prelude.{IfOk, IfErr};
 ghost use Rattle.dtd_model.specs.TableOf.{table_of};
@@ -12,11 +12,10 @@ ghost use Rattle.program_answers.specs.Answers.{IsAnswerBy, SaysOfRuns};
 ghost use Rattle.script_decision.specs.Decision.{IsCheckRefusal};
 
 use crate::refusal::CheckRefusal;
-use byte_readers::ByteReader;
 use cfg_grammar::Grammar;
 use content_automata::ContentRefusal;
 use dtd_model::Dtd;
-use echoing_machine::Echoing;
+use echoing_machine::{Echoing, RunReader};
 use page_decision::{PageSums, sums_of};
 use page_echo::laws::echo_is_page_machine;
 use page_goals::Goal;
@@ -27,7 +26,7 @@ use std::alloc::Global;
 use text_base::NoMemory;
 
 // The answer for a program, from the grammar of its loose pages and the summary of the goal.
-fn answer_grammar<R: ByteReader + Drop>(
+fn answer_grammar<R: RunReader + Drop>(
     alloc: Global,
     program: &Program,
     grammar: &Grammar,
@@ -55,7 +54,7 @@ fn answer_grammar<R: ByteReader + Drop>(
 }
 
 // The answer for a program, by the summary of the goal.
-fn decide_program<R: ByteReader + Drop>(
+fn decide_program<R: RunReader + Drop>(
     alloc: Global,
     program: &Program,
     dtd: &Dtd,
@@ -95,7 +94,7 @@ fn decide_program<R: ByteReader + Drop>(
 /// `LongText` only where a text literal of the program has over 16,777,216 bytes; `Limit` only
 /// where the content models of the definition have over 4,096 states. `Memory` may come at any
 /// time.
-pub fn check_by<R: ByteReader + Drop>(
+pub fn check_by<R: RunReader + Drop>(
     alloc: Global,
     program: &Program,
     dtd: &Dtd,
