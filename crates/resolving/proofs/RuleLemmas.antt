@@ -1,5 +1,5 @@
 -- One rule more.
-use Rattle.std.proofs.Common.{◌≡◌, ◌<◌, ◌≤◌, ◌+◌, ◌↔◌, ℕ, Bool, List, ◌∷◌, length, refl, get_or, Some, slice_get, Contains, sym, subst, arith}
+use Rattle.std.proofs.Common.{◌≡◌, ◌<◌, ◌+◌, ◌↔◌, ℕ, Bool, List, ◌∷◌, length, refl, get_or, Some, slice_get, Contains, sym, subst, arith}
 use Rattle.std.proofs.lemmas.Option.{slice_get-get_or}
 use Rattle.text_base.specs.ByteSet.{Has}
 use Rattle.cfg_grammar.specs.declared.symbol.Symbol.TheVariants.{Nt}

@@ -6,9 +6,17 @@ use Rattle.text_base.specs.ByteSet.{Has}
 use Rattle.cfg_grammar.specs.declared.symbol.Symbol.TheVariants.{Range, Nt}
 use Rattle.cfg_grammar.specs.declared.production.Right.TheVariants.{Two}
 use Rattle.cfg_grammar.specs.declared.production.Production.{Production}
+use Rattle.op_system.specs.declared.system.OpRule.{OpRule}
+use Rattle.op_system.specs.declared.system.OpSystem.{OpSystem}
+use Rattle.op_cycles.specs.Cycles.{IsInCycle}
+use Rattle.op_bytes.specs.Bytes.{AreByteSets}
 use Rattle.resolve_laws.specs.Drafts.{IsByte, AddsAny}
 use Rattle.resolving.specs.declared.draft.Draft.{Draft}
 use Rattle.resolving.specs.Draft.{IsIndexed, Puts}
+
+-- these are the byte sets of the system, where some operation of it is in a cycle
+abbrev pub AreNeededSets : OpSystem → List (List Bool) → Type 0
+AreNeededSets s sets = (rule : OpRule) → Contains s.ops.items rule → IsInCycle s rule → AreByteSets s sets
 
 -- the byte before the nonterminal itself
 abbrev pub byte_production : nt.Nt → ByteRange → Production

@@ -1,5 +1,5 @@
 -- The order in which rules are added to a draft. No public clause cites this.
-use Rattle.std.specs.Prelude.{◌≡◌, ◌<◌, ◌≤◌, ◌+◌, ℕ, List, ◌∷◌, length, Some, slice_get, Contains, All}
+use Rattle.std.specs.Prelude.{◌≡◌, ◌<◌, ◌≤◌, ℕ, List, ◌∷◌, length, Some, slice_get, Contains, All}
 use Rattle.std.specs.List.Sorted.{IsNonDecreasingBy}
 use Rattle.cfg_grammar.specs.declared.production.Production.{Production}
 use Rattle.op_system.specs.declared.system.OpRule.{OpRule}

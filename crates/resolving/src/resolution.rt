@@ -5,11 +5,11 @@ ghost use Rattle.text_base.specs.declared.letter.Letter.{Letter};
 ghost use Rattle.cfg_grammar.specs.Derives.{Derives};
 ghost use Rattle.cfg_grammar.specs.Tokens.{HaveNoToken};
 ghost use Rattle.cfg_grammar.specs.declared.symbol.Symbol as symbols;
-ghost use Rattle.op_bytes.specs.Bytes.{AreByteSets};
 ghost use Rattle.op_cycles.specs.Cycles.{AreNumbers};
 ghost use Rattle.system_bytes.specs.Bytes.{HasBytes};
 ghost use Rattle.resolve_laws.specs.Resolved.{HasLetters};
 ghost use Rattle.resolve_laws.specs.Drafted.{IsResolved};
+ghost use Rattle.resolving.specs.AnyTexts.{AreNeededSets};
 ghost use Rattle.resolving.specs.Causes.{IsCause};
 ghost use Rattle.resolving.specs.Order.{AllAdded, IsDraftedBy, IsDraftOf, IsOrder};
 
@@ -19,10 +19,23 @@ use crate::rules::add_rule;
 use cfg_grammar::Grammar;
 use grammar_image::ImageRefusal;
 use op_bytes::{byte_sets, fits};
-use op_cycles::numbers;
+use op_cycles::{is_circular, numbers};
 use op_system::OpSystem;
 use std::alloc::Global;
-use text_base::ByteSet;
+use text_base::{ByteSet, NoMemory};
+
+/// The byte sets of a system with some operation in a cycle; none where there is no such operation.
+fn needed_sets(alloc: Global, s: &OpSystem, numbers: &[usize]) -> Result<Vec<ByteSet>, NoMemory>
+    requires numbers { AreNumbers s.now numbers.now }
+    ensures { IfOk result (λ sets. AreNeededSets s.now sets.items) }
+{
+    for rule in &s.ops {
+        if is_circular(s, numbers, rule) {
+            return byte_sets(alloc, s);
+        }
+    }
+    Ok(Vec::new(alloc))
+}
 
 /// Adds all rules, in their order.
 fn add_rules(
@@ -36,7 +49,7 @@ fn add_rules(
 ) -> Result<(), ImageRefusal>
     requires bytes { HasBytes s.now }
     requires numbers { AreNumbers s.now numbers.now }
-    requires sets { AreByteSets s.now sets.now }
+    requires sets { AreNeededSets s.now sets.now }
     requires order { IsOrder s.now numbers.now order.now }
     requires draft { IsDraftOf s.now draft.old }
     requires begins { IsDraftedBy s.now draft.old [] }
@@ -58,8 +71,8 @@ fn add_rules(
 /// only where the image of an operation in no cycle has more items than the limit, so many that it
 /// says. No page token stands in the grammar; nonterminals that the start does not come to may
 /// stand there. Each operation is added once, in time and memory of its image; the rest is linear
-/// in the system, but for byte sets, which are passed on at most 256 times, and for the sort of the
-/// rules.
+/// in the system, but for byte sets, which are made only where some operation is in a cycle, and
+/// passed on at most 256 times, and for the sort of the rules.
 pub fn resolve(alloc: Global, s: &OpSystem, limit: u64) -> Result<Grammar, ImageRefusal>
     ensures exact { IfOk result
         (λ g. (w : List Letter) → Derives g.productions.items (symbols.Symbol.Nt g.start) w
@@ -70,7 +83,7 @@ pub fn resolve(alloc: Global, s: &OpSystem, limit: u64) -> Result<Grammar, Image
 {
     fits(s);
     let numbers = numbers(alloc, s)?;
-    let sets = byte_sets(alloc, s)?;
+    let sets = needed_sets(alloc, s, numbers.as_slice())?;
     let order = rules_in_order(alloc, s, numbers.as_slice())?;
     let mut draft = begin(alloc, s)?;
     match add_rules(

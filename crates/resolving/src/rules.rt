@@ -1,10 +1,10 @@
 //! Adding one rule to a draft.
 
 ghost use Rattle.std.specs.Prelude.{◌≡◌, ◌<◌, Contains, Some, slice_get, length, IfErr, OnOk};
-ghost use Rattle.op_bytes.specs.Bytes.{AreByteSets};
 ghost use Rattle.op_cycles.specs.Cycles.{AreNumbers};
 ghost use Rattle.system_bytes.specs.Bytes.{HasBytes};
 ghost use Rattle.resolve_laws.specs.Drafts.{IsDraft, IsReady};
+ghost use Rattle.resolving.specs.AnyTexts.{AreNeededSets};
 ghost use Rattle.resolving.specs.Causes.{IsCause};
 ghost use Rattle.resolving.specs.Draft.{IsIndexed};
 ghost use Rattle.resolving.specs.Order.{AddsRule, IsDraftOf, IsReadyFor, MayBeAdded};
@@ -31,7 +31,7 @@ pub fn add_rule(
 ) -> Result<(), ImageRefusal>
     requires bytes { HasBytes s.now }
     requires numbers { AreNumbers s.now numbers.now }
-    requires sets { AreByteSets s.now sets.now }
+    requires sets { AreNeededSets s.now sets.now }
     requires rule { Contains s.now.ops.items rule.now }
     requires draft { IsDraftOf s.now draft.old }
     requires next { MayBeAdded s.now rule.now draft.old }

@@ -1,4 +1,4 @@
-use Rattle.resolving.proofs.OrderLemmas.{read_rule, ready_at, may_at, added_none, added_more, all_added}
+use Rattle.resolving.proofs.OrderLemmas.{read_rule, ready_at, may_at, added_more, all_added}
 use Rattle.resolving.proofs.resolution.add_rules.Goals as goal
 
 pub add_rule-requires-clause-ready : goal.add_rule-requires-clause-ready
