@@ -150,11 +150,11 @@ pub fn runs_and_moves(alloc: Global, dtd: &Dtd, text: &[u8]) -> Result<(usize, u
 // How many runs of bytes follow one another from the first byte to the last: a byte begins one
 // where it stands behind the last of the run before it.
 fn runs_from<R: RunReader>(reader: &R, state: &R::State) -> usize {
-    let mut count = 0;
+    let mut count = 0_usize;
     let mut behind = 0;
     for byte in 0..256_u16 {
         if byte == behind {
-            count += 1;
+            count = count.saturating_add(1);
             behind = u16::from(reader.last_alike(state, byte as u8)) + 1;
         }
     }
