@@ -15,7 +15,6 @@ mod wishes;
 
 use anyhow::{Context, Result};
 use io_edge::{DiskFiles, Files};
-use std::rt::Env;
 use std::{env, rt};
 use table::Table;
 

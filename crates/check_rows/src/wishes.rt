@@ -1,8 +1,8 @@
 // What a row wishes of the output.
-use crate::calls::{Ending, QUIET, call};
+use crate::calls::{QUIET, call};
 use crate::derived::derives;
 use crate::grammars::has_sentence;
-use anyhow::{Context, Result};
+use anyhow::Result;
 use std::alloc::Global;
 use text_base::Bytes;
 
