@@ -51,7 +51,7 @@ fn verdict_by<M: Machine>(
 
 /// Whether each loose page of the program is good by the goal and the definition, with at most
 /// `pairs` different sums of sentences a nonterminal. A page that is broken whatever the definition
-/// is looked for first, and is found also where the whole decision would pass a limit.
+/// is looked for too, and is found also where the whole decision passes a limit.
 ///
 /// # Errors
 ///
