@@ -1,6 +1,5 @@
 -- Versions of a slot at a point, and the definitions behind them (static single assignment: Cytron and others, 1991, but with a join at
--- each
--- point into which several edges lead, so that no dominators are needed).
+-- each point that does not only go on from the one before it, so that no dominators are needed).
 use Rattle.std.specs.Prelude.{◌≡◌, ◌≢◌, ⊤, ℕ, List, Some, Contains}
 use Rattle.loose_sets.specs.Points.{PlainPoint, PlainFlowFunction, PlainFlow, point_at, function_at}
 use Rattle.loose_sets.specs.Lawful.{sets, nexts, IsOwnSlot}
