@@ -4,6 +4,8 @@
 #[cfg(test)]
 mod pages;
 #[cfg(test)]
+mod readings;
+#[cfg(test)]
 mod scripts;
 #[cfg(test)]
 mod sizes;

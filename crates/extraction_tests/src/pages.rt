@@ -7,8 +7,13 @@ use std::alloc::Global;
 use std::test::Fail;
 use text_base::NoMemory;
 
-// Whether all texts are derived, or none of them; they stand between `|`.
-fn all_are(alloc: Global, grammar: &Grammar, texts: &str, wanted: bool) -> Result<bool, NoMemory> {
+/// Whether all texts are derived, or none of them; they stand between `|`.
+pub fn all_are(
+    alloc: Global,
+    grammar: &Grammar,
+    texts: &str,
+    wanted: bool,
+) -> Result<bool, NoMemory> {
     for text in texts.split('|') {
         if derives(alloc, grammar, text)? != wanted {
             return Ok(false);

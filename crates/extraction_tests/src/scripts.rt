@@ -10,8 +10,8 @@ use resolving::resolve;
 use std::alloc::Global;
 use text_base::{Bytes, NoMemory};
 
-// A source of `t.php` with this text.
-fn script(alloc: Global, text: &str) -> Result<MemFiles, NoMemory> {
+/// A source of `t.php` with this text.
+pub fn script(alloc: Global, text: &str) -> Result<MemFiles, NoMemory> {
     let mut held = Vec::new(alloc);
     let name = Bytes::from_slice(alloc, b"t.php")?;
     let text = Bytes::from_slice(alloc, text.as_bytes())?;
@@ -19,8 +19,8 @@ fn script(alloc: Global, text: &str) -> Result<MemFiles, NoMemory> {
     Ok(MemFiles::new(held, Vec::new(alloc)))
 }
 
-// The points of the script of a source.
-fn points_of(alloc: Global, source: &mut MemFiles) -> Option<FlowProgram> {
+/// The points of the script of a source.
+pub fn points_of(alloc: Global, source: &mut MemFiles) -> Option<FlowProgram> {
     let program = load(alloc, source, "t.php").ok()?;
     lower(alloc, &program).ok()
 }

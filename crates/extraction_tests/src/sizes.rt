@@ -26,6 +26,24 @@ fn many_keys(alloc: Global) -> Result<String, NoMemory> {
     Ok(text)
 }
 
+// 1,000 assignments, 1,000 texts that are printed, and then 1,000 variables: no edge joins another, so
+// no definition is joined with another, however many are read far behind.
+fn many_definitions(alloc: Global) -> Result<String, NoMemory> {
+    let mut text = String::from_str(alloc, "<?php ")?;
+    for number in 0..1000u64 {
+        let assignment = format!(in alloc; "$x{number} = 'a';")?;
+        text.push_str(assignment.as_str())?;
+    }
+    for _ in 0..1000u32 {
+        text.push_str("echo 'b';")?;
+    }
+    for number in 0..1000u64 {
+        let shown = format!(in alloc; "echo $x{number};")?;
+        text.push_str(shown.as_str())?;
+    }
+    Ok(text)
+}
+
 // At most 64 nonterminals for each point, each byte and each key that is told apart (once, and once
 // a point), and one more; and at most 256 productions and operations, for one key more than these,
 // for each point, byte, key and read definition, and one more.
@@ -40,5 +58,15 @@ fn small_systems(rt: HostRuntime) -> Result<(), Fail> {
     let (nonterminals, rules) = counts_of(alloc, keys.as_str())?.ok_or("a system")?;
     assert!(rt; nonterminals <= 64 * (4 + 2 + 4 + 1));
     assert!(rt; rules <= 256 * 2 * (4 + 2 + 3 + 1));
+    Ok(())
+}
+
+// At most three points a statement, and a byte for each of 2,000 of them.
+#[test]
+fn far_reads(rt: HostRuntime) -> Result<(), Fail> {
+    let alloc = rt.alloc();
+    let script = many_definitions(alloc)?;
+    let (nonterminals, _) = counts_of(alloc, script.as_str())?.ok_or("a system")?;
+    assert!(rt; nonterminals <= 64 * (3 * 3000 + 2000 + 1));
     Ok(())
 }
