@@ -4,7 +4,7 @@ ghost use Rattle.std.specs.Prelude.{◌≡◌, ◌<◌, Contains, Some, slice_ge
 ghost use Rattle.op_cycles.specs.Cycles.{AreNumbers};
 ghost use Rattle.system_bytes.specs.Bytes.{HasBytes};
 ghost use Rattle.resolve_laws.specs.Drafts.{IsDraft, IsReady};
-ghost use Rattle.resolving.specs.AnyTexts.{AreNeededSets};
+ghost use Rattle.resolving.specs.AnyTexts.{AddsAnyTexts, AreNeededSets};
 ghost use Rattle.resolving.specs.Causes.{IsCause};
 ghost use Rattle.resolving.specs.Draft.{IsIndexed};
 ghost use Rattle.resolving.specs.Order.{AddsRule, IsDraftOf, IsReadyFor, MayBeAdded};
@@ -16,7 +16,16 @@ use grammar_image::ImageRefusal;
 use op_cycles::is_circular;
 use op_system::{OpRule, OpSystem};
 use std::alloc::Global;
-use text_base::ByteSet;
+use text_base::{ByteSet, NoMemory};
+
+/// Adds what an operation in a cycle gives: all texts over the bytes of the set of its left side.
+fn add_cycle(alloc: Global, rule: &OpRule, set: &ByteSet, draft: &mut Draft) -> Result<(), NoMemory>
+    requires indexed { IsIndexed draft.old }
+    requires below { rule.now.left.0 < length draft.old.places.items }
+    ensures { OnOk result (AddsAnyTexts rule.now.left set.now draft.old draft.new) }
+{
+    add_any_texts(alloc, draft, rule.left, set)
+}
 
 /// Adds what the operation of a rule gives, where all rules are added whose left sides have lower
 /// numbers.
@@ -40,7 +49,7 @@ pub fn add_rule(
     ensures cause { IfErr result (IsCause s.now limit) }
 {
     if is_circular(s, numbers, rule) {
-        add_any_texts(alloc, draft, rule.left, &sets[rule.left.0 as usize])?;
+        add_cycle(alloc, rule, &sets[rule.left.0 as usize], draft)?;
         return Ok(());
     }
     let image = match image_of(alloc, draft, rule, limit) {

@@ -13,7 +13,7 @@ returns-then-is_circular-clause-adds c =
     let sets = c.requires.sets rule c.requires.rule circles in
     let left = rule_left_below s.grammar.count s.ops.items rule s.rules_below c.requires.rule in
     let at = slice_get_read c.args.sets.now (length c.args.sets.now) rule.left.0 c.index-sets-rule.result refl (omega (arith, left, sets.size)) c.index-sets-rule.is in
-    any_rule s rule c.index-sets-rule.result c.args.draft.now c.add_any_texts.new.draft c.requires.bytes c.requires.draft c.requires.rule circles (sets.exact rule.left c.index-sets-rule.result at) c.in_ok-add_any_texts.ensures
+    any_rule s rule c.index-sets-rule.result c.args.draft.now c.add_cycle.new.draft c.requires.bytes c.requires.draft c.requires.rule circles (sets.exact rule.left c.index-sets-rule.result at) c.in_ok-add_cycle.ensures
 
 pub image_of-requires-clause-op : goal.image_of-requires-clause-op
 image_of-requires-clause-op c e = true≢false (sym (c.is_circular.ensures.1 (any_in_cycle c.args.s.now c.args.rule.now e)) ∙ c.if-is_circular.false)
