@@ -4,6 +4,7 @@ use crate::derivations::derived;
 use crate::derives;
 use cfg_grammar::{Grammar, Production, Right, Symbol};
 use grammar_image::ImageRefusal;
+use op_cycles::circular;
 use op_system::{Op, OpRule, OpSystem};
 use resolving::resolve;
 use std::alloc::Global;
@@ -156,6 +157,27 @@ fn escaped(rt: HostRuntime) -> Result<(), Fail> {
     assert!(rt; derives(alloc, &grammar, "aa&lt;")?);
     assert!(rt; !derives(alloc, &grammar, "a<")?);
     assert!(rt; !derives(alloc, &grammar, "aa")?);
+    Ok(())
+}
+
+/// A replacement whose operand comes of it is in a cycle; two operations of which one stands on the
+/// other are in none.
+#[test]
+fn cycles(rt: HostRuntime) -> Result<(), Fail> {
+    let alloc = rt.alloc();
+    let Some(looped) = replaced_in_a_loop(alloc)? else {
+        assert!(rt; false);
+        return Ok(());
+    };
+    assert_eq!(rt; circular(alloc, &looped)?.as_slice(), [true].as_slice());
+    let Some(straight) = escaped_in_capitals(alloc, 2)? else {
+        assert!(rt; false);
+        return Ok(());
+    };
+    assert_eq!(rt;
+        circular(alloc, &straight)?.as_slice(),
+        [false, false].as_slice()
+    );
     Ok(())
 }
 
