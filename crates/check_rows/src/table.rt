@@ -82,6 +82,7 @@ fn split_line(line: &str) -> (&str, &str) {
 }
 
 impl Table {
+    /// Nothing was read yet, and no row was called.
     pub fn new(alloc: Global) -> Result<Table> {
         Ok(Table {
             names: Names::new(alloc)?,
