@@ -59,5 +59,6 @@ meets a b = nat_le a.lo b.hi && nat_le b.lo a.hi
 abbrev pub offers_of : List TableMove → ℕ → ByteRange → List (ℕ × ℕ × List Out × ℕ)
 offers_of [] s range = []
 offers_of (m ∷ moves) s range =
-    if m.from == s && meets m.range range then (max m.range.lo range.lo, min m.range.hi range.hi, m.out.items, m.to) ∷ offers_of moves s range
+    if m.from == s && meets m.range range
+    then (max m.range.lo range.lo, min m.range.hi range.hi, m.out.items, m.to) ∷ offers_of moves s range
     else offers_of moves s range

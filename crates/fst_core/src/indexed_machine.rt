@@ -11,8 +11,8 @@ ghost use Rattle.fst_core.specs.Tables.{TableStep, TableStop};
 
 use crate::indexed::IndexedTable;
 use crate::machine::{Machine, Move};
+use crate::offering::{offer, offer_last};
 use crate::out::Out;
-use crate::table_machine::{offer, offer_last};
 use std::alloc::Global;
 use text_base::{ByteRange, NoMemory};
 

@@ -9,10 +9,10 @@ mod indexed_machine;
 mod layers;
 mod machine;
 mod moves;
+mod offering;
 mod out;
 mod rows;
 mod table;
-mod table_machine;
 
 pub use indexed::IndexedTable;
 pub use layers::applies;

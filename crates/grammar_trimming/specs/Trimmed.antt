@@ -24,8 +24,8 @@ pub record AreNamed (old : List Production) (start : nt.Nt) (new : List Producti
   pub only : (a : nt.Nt) (k : ℕ) → name_at names a ≡ Some k → (a ≡ start) ⊎ IsUseful old start a
   pub different : (a b : nt.Nt) (k : ℕ) → name_at names a ≡ Some k → name_at names b ≡ Some k → a ≡ b
 
--- the sentences are those of the old grammar; each nonterminal but the start is useful; no page token is new; nothing is more; and it is the
--- old grammar under other names
+-- the sentences are those of the old grammar; each nonterminal but the start is useful; no page token is new; nothing is more; and it
+-- is the old grammar under other names
 pub record IsTrimmed (old : List Production) (start : nt.Nt) (count : ℕ) (new : List Production) (start' : nt.Nt) (count' : ℕ) :
     Type 0 where
   pub sentences : (w : List Letter) → Derives old (Nt start) w ↔ Derives new (Nt start') w

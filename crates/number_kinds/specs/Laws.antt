@@ -9,7 +9,8 @@ use Rattle.number_kinds.specs.Kinds.{decimal_kind, hexadecimal_kind}
 -- with the same digits behind them, or none, both numbers are those of characters, or neither is
 abbrev pub AreAlike : ℕ → (ℕ → Bool) → ℕ → ℕ → Type 0
 AreAlike base is_digit n m =
-    (digits : List ℕ) → list_all is_digit digits ≡ true → is_character (number_written base n digits) ≡ is_character (number_written base m digits)
+    (digits : List ℕ) → list_all is_digit digits ≡ true
+    → is_character (number_written base n digits) ≡ is_character (number_written base m digits)
 
 -- the number of its kind is a character's where it is one, and one digit more leads to numbers of one kind; all over 0x10FFFF are of one
 pub record LeadsOn (base : ℕ) (kind : ℕ → ℕ) (n : ℕ) : Type 0 where

@@ -65,7 +65,8 @@ unfoldable mutual
   collected_of own (if_stmt arms otherwise) = arms_collected own arms ++ stmts_collected own otherwise
   collected_of own (while_stmt e body) = collected own e ++ stmts_collected own body
   collected_of own (do_while_stmt body e) = stmts_collected own body ++ collected own e
-  collected_of own (for_stmt begin e next body) = part_collected own begin ++ (maybe_collected own e ++ (part_collected own next ++ stmts_collected own body))
+  collected_of own (for_stmt begin e next body) =
+      part_collected own begin ++ (maybe_collected own e ++ (part_collected own next ++ stmts_collected own body))
   collected_of own (each_stmt e key x body) = collected own e ++ (key_collected own key ++ (own (var_expr x) ++ stmts_collected own body))
   collected_of own break_stmt = []
   collected_of own continue_stmt = []

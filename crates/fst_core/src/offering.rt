@@ -1,15 +1,12 @@
-//! A table as a machine.
+//! What one move and one end of a table offer.
 
-ghost use Rattle.std.specs.Prelude.{◌≡◌, ℕ, ◌<◌, List, [], ◌∷◌, ◌++◌, map, OnOk};
-ghost use Rattle.text_base.specs.declared.letter.Letter.{Letter};
+ghost use Rattle.std.specs.Prelude.{◌≡◌, [], ◌∷◌, ◌++◌, map, OnOk};
 ghost use Rattle.fst_core.specs.Offers.{OffersMore, OffersLastMore, offer_of, offers_of};
 ghost use Rattle.fst_core.specs.Choices.{stops};
-ghost use Rattle.fst_core.specs.Tables.{TableStep, TableStop};
 
-use crate::machine::{Machine, Move};
+use crate::machine::Move;
 use crate::moves::{TableEnd, TableMove};
 use crate::out::Out;
-use crate::table::Table;
 use std::alloc::Global;
 use text_base::{ByteRange, NoMemory};
 
@@ -56,45 +53,4 @@ pub(crate) fn offer_last(
     }
     lasts.push(Vec::from_slice(alloc, end.out.as_slice())?)?;
     Ok(())
-}
-
-impl Machine for Table {
-    type State = u64;
-
-    ghost first = { λ table. table.start };
-
-    ghost steps = { λ table s byte t letters. TableStep table.moves.items s byte t letters };
-
-    ghost ends = { λ table s letters. TableStop table.ends.items s letters };
-
-    ghost gives = { λ table s. s < table.states };
-
-    fn copy(&self, _alloc: Global, state: &u64) -> Result<u64, NoMemory> {
-        Ok(*state)
-    }
-
-    fn start(&self, _alloc: Global) -> Result<u64, NoMemory> {
-        Ok(self.start)
-    }
-
-    fn moves(
-        &self,
-        alloc: Global,
-        state: &u64,
-        range: ByteRange,
-    ) -> Result<Vec<Move<u64>>, NoMemory> {
-        let mut moves = Vec::new(alloc);
-        for step in &self.moves {
-            offer(alloc, &mut moves, step, *state, range)?;
-        }
-        Ok(moves)
-    }
-
-    fn last(&self, alloc: Global, state: &u64) -> Result<Vec<Vec<Out>>, NoMemory> {
-        let mut lasts = Vec::new(alloc);
-        for end in &self.ends {
-            offer_last(alloc, &mut lasts, end, *state)?;
-        }
-        Ok(lasts)
-    }
 }

@@ -1,7 +1,7 @@
 use Rattle.std.proofs.Common.{◌∙◌}
 use Rattle.fst_core.proofs.OfferLemmas.{lasts_push}
 use Rattle.fst_core.proofs.IndexLemmas.{last_push, last_other}
-use Rattle.fst_core.proofs.table_machine.offer_last.Goals as goal
+use Rattle.fst_core.proofs.offering.offer_last.Goals as goal
 
 pub returns-clause-more : goal.returns-clause-more
 returns-clause-more c =
