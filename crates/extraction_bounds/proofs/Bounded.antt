@@ -15,7 +15,7 @@ use Rattle.set_simulations.specs.Simulations.{Alike}
 use Rattle.table_systems.specs.Written.{text_bytes, text_bytes_in}
 use Rattle.function_pairs.specs.Handed.{Handing, has_key}
 use Rattle.point_rows.specs.Rows.{points_seen}
-use Rattle.ssa_form.specs.Versions.{joined_by}
+use Rattle.ssa_form.specs.Versions.{asks_of, joined_by}
 use Rattle.set_names.specs.declared.name.Half.TheVariants.{Text, Array}
 use Rattle.set_names.specs.declared.name.Aspect.{Aspect}
 use Rattle.set_names.specs.declared.name.Leaving.TheVariants.{Return, Exit}
@@ -101,7 +101,7 @@ module _ (t : FlowTables) (are : AreTables t) where
   points = points_in fs
 
   abbrev asks : List (ℕ × ℕ)
-  asks = t.versions.asks.keys
+  asks = asks_of t.versions
 
   abbrev bs : List Aspect
   bs = aspects (told_keys flow)

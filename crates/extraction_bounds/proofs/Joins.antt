@@ -10,7 +10,7 @@ use Rattle.useful_nonterminals.proofs.RuleLemmas.{flat_map_has}
 use Rattle.flow_code.specs.Points.{PlainPoint, PlainFlowFunction, PlainFlow, points_in, point_at}
 use Rattle.flow_code.specs.Lawful.{reads, nexts}
 use Rattle.ssa_form.specs.declared.versions.Versions.{Versions}
-use Rattle.ssa_form.specs.Versions.{joined_by, arrivals_at, AreOnce, AreJoins}
+use Rattle.ssa_form.specs.Versions.{asks_of, joined_by, arrivals_at, AreOnce, AreJoins}
 use Rattle.set_listing.proofs.ListLemmas.{map_has, from_place}
 use Rattle.extraction_bounds.specs.Sizes.{points_count, reads_count, joins_count, links_count}
 use Rattle.extraction_bounds.proofs.Sums.{sum_flat, sum_map, sum_le, sum_same, sum_add, sum_none, sum_ones, sum_most, sum_times_right, covered}
@@ -65,7 +65,7 @@ module _ (flow : PlainFlow) (versions : Versions) (once : AreOnce versions) (joi
   points = points_in flow.functions_of
 
   abbrev asks : List (ℕ × ℕ)
-  asks = versions.asks.keys
+  asks = asks_of versions
 
   abbrev slots : List ℕ
   slots = flat_map reads points

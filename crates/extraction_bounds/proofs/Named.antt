@@ -1,8 +1,6 @@
 -- The sets that rows name are among all names of the program.
 use Rattle.std.proofs.Common.{◌≡◌, ◌≤◌, ◌+◌, inl, inr, ℕ, zero, suc, Bool, true, false, if◌then◌else◌, List, [], ◌∷◌, ◌++◌, Option, Some, None, refl, sym, subst, ap, arith, slice_get, length, map}
 use Rattle.std.specs.Prelude.{⊤, Contains, flat_map}
-use Rattle.std.specs.declared.vec.Vec.{Vec}
-use Rattle.std.specs.declared.alloc.Global.{Global}
 use Rattle.std.proofs.lemmas.Option.{slice_get_within}
 use Rattle.std.proofs.lemmas.List.Elements.{Contains-append_left, Contains-append_right, Contains-append_cases}
 use Rattle.string_functions.proofs.Members.{Contains-nil, Contains-cons_cases, Contains-head, Contains-later}
@@ -24,7 +22,7 @@ use Rattle.version_rows.proofs.Reading.{AllNamed, rows_read}
 use Rattle.ssa_form.specs.declared.version.Version.{Version}
 use Rattle.ssa_form.specs.declared.versions.Versions.{Versions}
 use Rattle.ssa_form.specs.Views as ssa
-use Rattle.ssa_form.specs.Versions.{joins_in, joins_of, version_of, IsExact, AreJoins}
+use Rattle.ssa_form.specs.Versions.{joins_in, asks_of, rows_of, joins_of, version_of, IsExact, AreJoins}
 use Rattle.set_names.specs.declared.name.Half as halves
 use Rattle.set_names.specs.declared.name.Aspect as aspects
 use Rattle.set_names.specs.declared.name.Aspect.TheVariants as aspect
@@ -46,10 +44,10 @@ use Rattle.set_versions.proofs.Exact.{seen_back}
 use Rattle.extraction_bounds.proofs.Universe as universe
 
 -- a join that is asked for is one of the keys
-joined_key : (keys : List (ℕ × ℕ)) (rows : List (Vec Version Global)) (p x : ℕ) → asked_in (joins_in keys rows) p x → Contains keys (p, x)
+joined_key : (keys : List (ℕ × ℕ)) (rows : List (List Version)) (p x : ℕ) → asked_in (joins_in keys rows) p x → Contains keys (p, x)
 joined_key [] rows p x (vs, has) = Contains-nil (record { point = p; slot = x; versions = vs }) has
 joined_key (k ∷ keys) [] p x (vs, has) = Contains-nil (record { point = p; slot = x; versions = vs }) has
-joined_key (k ∷ keys) (r ∷ rows) p x (vs, has) = elim (Contains-cons_cases (record { point = k.0; slot = k.1; versions = ssa.versions_seen r.items }) (joins_in keys rows) (record { point = p; slot = x; versions = vs }) has) [
+joined_key (k ∷ keys) (r ∷ rows) p x (vs, has) = elim (Contains-cons_cases (record { point = k.0; slot = k.1; versions = ssa.versions_seen r }) (joins_in keys rows) (record { point = p; slot = x; versions = vs }) has) [
   | inl e ↦ (
       let at : k ≡ (p, x) = ap (λ (j : PlainJoin). (j.point, j.slot)) e in
       subst (λ (z : ℕ × ℕ). Contains (k ∷ keys) z) at (Contains-head k keys)
@@ -80,7 +78,7 @@ module _ (flow : PlainFlow) (versions : Versions) (exact : IsExact flow versions
   points = points_in fs
 
   abbrev asks : List (ℕ × ℕ)
-  asks = versions.asks.keys
+  asks = asks_of versions
 
   abbrev at : Versioned
   at = seen_at (read_at versions)
@@ -96,7 +94,7 @@ module _ (flow : PlainFlow) (versions : Versions) (exact : IsExact flow versions
   IsThere (join_at p x) = Contains asks (p, x)
 
   stands_there : (p x : ℕ) (v : PlainVersion) → Stands flow p x v → IsKept (asked_in (joins_of versions)) v → IsThere v
-  stands_there _ _ _ (Stands.here p x) kept = joined_key asks versions.rows.items p x kept
+  stands_there _ _ _ (Stands.here p x) kept = joined_key asks (rows_of versions) p x kept
   stands_there _ _ _ (Stands.set_before p q x only set) kept = (set.point, set.there)
   stands_there _ _ _ (Stands.left_before p q x v only leaves stands) kept = stands_there q x v stands kept
 

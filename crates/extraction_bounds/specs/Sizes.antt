@@ -6,7 +6,7 @@ use Rattle.plain_values.specs.Text.{text_of}
 use Rattle.flow_code.specs.Points.{PlainKeyRef, int_ref, text_ref, PlainSource, literal_source, array_source, put_source, concat_source, PlainPoint, set_point, call_point, print_point, PlainFlowFunction, PlainFlow, points_in}
 use Rattle.flow_code.specs.Lawful.{reads}
 use Rattle.ssa_form.specs.declared.versions.Versions.{Versions}
-use Rattle.ssa_form.specs.Versions.{joined_by}
+use Rattle.ssa_form.specs.Versions.{asks_of, joined_by}
 
 -- how many bytes a key has that stands in the script
 unfoldable pub key_bytes : Option PlainKeyRef → ℕ
@@ -66,8 +66,8 @@ points_count flow = length (points_in flow.functions_of)
 
 -- how many joins the versions of a program have
 abbrev pub joins_count : Versions → ℕ
-joins_count versions = length versions.asks.keys
+joins_count versions = length (asks_of versions)
 
 -- how many versions these join, together
 abbrev pub links_count : Versions → ℕ
-links_count versions = sum_by (λ k. length (joined_by versions k.0 k.1)) versions.asks.keys
+links_count versions = sum_by (λ k. length (joined_by versions k.0 k.1)) (asks_of versions)

@@ -1,6 +1,6 @@
 //! The points of a program as a graph: what each reads, sets and leads to, which points and
 //! functions lead to each, and which points stand in a row that is entered at its first alone.
-//! Below stand flow_code and, for the words of edges, slot_versions.
+//! Below stand text_base, numbered_sets and flow_code.
 #![tactic(auto)]
 
 pub mod arrivals;

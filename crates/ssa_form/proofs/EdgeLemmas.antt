@@ -11,9 +11,10 @@ use Rattle.flow_graph.specs.declared.arrivals.Arrival.{Arrival}
 use Rattle.flow_graph.specs.declared.arrivals.Arrival.TheVariants.{Edge as of_edge, Entry as of_entry}
 use Rattle.flow_graph.specs.Steps.{PlainStep, step_of_point}
 use Rattle.flow_graph.specs.Arrivals.{within, from_exits, from_steps, from_functions}
-use Rattle.flow_graph.specs.Heads.{GoesOn}
+use Rattle.flow_graph.specs.Heads.{ComesFrom, GoesOn}
 use Rattle.slot_versions.specs.Versions.{Edge, IsOnly}
 use Rattle.ssa_form.specs.Marks.{IsGraph, IsPoint}
+use Rattle.ssa_form.specs.Versions.{OnlyGoesOn}
 use Rattle.ssa_form.proofs.HeadLemmas.{contiguous, is_first}
 use Rattle.ssa_form.proofs.ReadLemmas.{in_one}
 
@@ -158,22 +159,59 @@ module _ (flow : PlainFlow) (steps : List PlainStep) (all : List (ℕ × Arrival
         | inr k ↦ (let r = functions_only (length steps) 0 flow.functions_of p a k in inr (r.place, r.is ∙ ap of_entry (omega arith), r.function, r.there, r.entered))
       ]
 
-  only_edge : (p b : ℕ) → GoesOn steps all p → p ≡ suc b → p < length steps → IsOnly flow p b
-  only_edge p b goes e h =
-      let same : goes.before ≡ b = (let f = goes.follows in omega arith) in
-      let i = point_of goes.before goes.step goes.there in
-      record {
-        edge = subst (λ (q : ℕ). Edge flow q p) same
-            (record { point = i.0; there = i.1; leads = subst (λ (s : PlainStep). Contains s.nexts_of p) i.2 (subst (λ (ns : List ℕ). Contains ns p) (sym goes.on) (one_of p)) });
-        alone = λ q k. edge_same q goes.before (goes.alone (of_edge q) (edge_listed q p k h)) ∙ same;
-        inside = λ f g there at. entry_edge f goes.before (goes.alone (of_entry f) (subst (λ (z : ℕ). Contains all (z, of_entry f)) (sym at) (entry_listed f g there (subst (λ (z : ℕ). z < length steps) at h))));
-      }
+  -- where all that leads to a point is an edge from one point, and there is the edge
+  pub only_from : (p b : ℕ) → Edge flow b p → ComesFrom all p b → p < length steps → IsOnly flow p b
+  only_from p b e from h = record {
+    edge = e;
+    alone = λ q k. edge_same q b (from (of_edge q) (edge_listed q p k h));
+    inside = λ f g there at. entry_edge f b (from (of_entry f) (subst (λ (z : ℕ). Contains all (z, of_entry f)) (sym at) (entry_listed f g there (subst (λ (z : ℕ). z < length steps) at h))));
+  }
     where
       edge_same : (q r : ℕ) → of_edge q ≡ of_edge r → q ≡ r
       edge_same q r k = cc
 
       entry_edge : (f r : ℕ) → of_entry f ≡ of_edge r → ⊥
       entry_edge f r k = cc
+
+  only_edge : (p b : ℕ) → GoesOn steps all p → p ≡ suc b → p < length steps → IsOnly flow p b
+  only_edge p b goes e h =
+      let same : goes.before ≡ b = (let f = goes.follows in omega arith) in
+      let i = point_of goes.before goes.step goes.there in
+      let edge : Edge flow goes.before p = record { point = i.0; there = i.1; leads = subst (λ (s : PlainStep). Contains s.nexts_of p) i.2 (subst (λ (ns : List ℕ). Contains ns p) (sym goes.on) (one_of p)) } in
+      subst (λ (q : ℕ). IsOnly flow p q) same (only_from p goes.before edge goes.alone h)
+
+  -- an arrival that is an edge is one of the program
+  pub listed_edge : (p q : ℕ) → Contains all (p, of_edge q) → Edge flow q p
+  listed_edge p q c = elim (listed p (of_edge q) c) [
+    | inl e ↦ subst (λ (r : ℕ). Edge flow r p) (sym (same_edge q e.0 e.1)) e.2
+    | inr e ↦ absurd (no_entry q e.0 e.1)
+  ]
+    where
+      same_edge : (q r : ℕ) → of_edge q ≡ of_edge r → q ≡ r
+      same_edge q r k = cc
+
+      no_entry : (q f : ℕ) → of_edge q ≡ of_entry f → ⊥
+      no_entry q f k = cc
+
+  -- where the point before goes on there alone, no row begins
+  pub no_first : (p : ℕ) → slice_get heads p ≡ Some p → OnlyGoesOn flow p → ⊥
+  no_first p first goes =
+      let at : slice_get heads (suc goes.before) ≡ Some p = subst (λ (z : ℕ). slice_get heads z ≡ Some p) goes.follows first in
+      let before = graph.go_on goes.before p at (record {
+        before = goes.before;
+        follows = refl;
+        step = step_of_point goes.point;
+        there = step_at goes.before goes.point goes.there;
+        on = goes.on ∙ ap (λ (z : ℕ). z ∷ []) goes.follows;
+        alone = λ a c. comes a (listed p a (subst (λ (z : ℕ). Contains all (z, a)) (sym goes.follows) c));
+      }) in
+      let low = graph.heads_are.before goes.before p before in
+      let f = goes.follows in
+      omega arith
+    where
+      comes : (a : Arrival) → ((q : ℕ) × (a ≡ of_edge q) × Edge flow q p) ⊎ ((f : ℕ) × (a ≡ of_entry f) × (g : PlainFlowFunction) × (function_at flow f ≡ Some g) × (g.entry_of ≡ p)) → a ≡ of_edge goes.before
+      comes a (inl k) = k.1 ∙ ap (λ (q : ℕ). of_edge q) (goes.only.alone k.0 k.2)
+      comes a (inr k) = absurd (goes.only.inside k.0 k.2 k.3 (sym k.4))
 
   pub is_point : (h p : ℕ) (step : PlainStep) → slice_get heads p ≡ Some h → slice_get steps p ≡ Some step → IsPoint flow heads h p step
   is_point h p step at there =

@@ -1,13 +1,9 @@
 -- A join joins no more versions than lead to its point.
-use Rattle.std.proofs.Common.{◌≡◌, ◌≤◌, ◌<◌, ◌+◌, ◌⊎◌, inl, inr, ℕ, zero, suc, Bool, true, false, cond, if◌then◌else◌, List, [], ◌∷◌, ◌++◌, length, Option, Some, None, refl, sym, subst, ◌∙◌, ap, arith, slice_get, Contains, map, flat_map}
+use Rattle.std.proofs.Common.{◌≡◌, ◌≤◌, ◌+◌, ℕ, suc, Bool, true, false, cond, if◌then◌else◌, List, [], ◌∷◌, ◌++◌, length, Option, Some, None, refl, ◌∙◌, ap, arith, slice_get, map, flat_map}
 use Rattle.std.specs.Prelude.{nat_eq, nat_lt}
-use Rattle.std.specs.List.{sum_by, count_by}
-use Rattle.std.specs.declared.vec.Vec.{Vec}
-use Rattle.std.specs.declared.alloc.Global.{Global}
-use Rattle.std.proofs.lemmas.List.{map-append, length-append, length-map}
+use Rattle.std.specs.List.{count_by}
+use Rattle.std.proofs.lemmas.List.{map-append}
 use Rattle.std.proofs.lemmas.List.Sums.{sum_by-cons, sum_by-append}
-use Rattle.std.proofs.lemmas.Option.{same_Some}
-use Rattle.indexmap.specs.IndexMap.{IndexMap}
 use Rattle.numbered_sets.specs.Places.{places_of}
 use Rattle.flow_code.specs.Points.{PlainPoint, PlainFlowFunction, PlainFlow, points_in}
 use Rattle.flow_code.specs.Lawful.{nexts}
@@ -20,9 +16,10 @@ use Rattle.function_pairs.proofs.FoundLemmas.{number_is}
 use Rattle.ssa_form.specs.declared.version.Version.{Version}
 use Rattle.ssa_form.specs.Views.{versions_seen}
 use Rattle.ssa_form.specs.Marks.{IsGraph}
-use Rattle.ssa_form.specs.Rows.{IsRow}
 use Rattle.ssa_form.specs.Joins.{AreRows}
-use Rattle.ssa_form.specs.Versions.{in_row, row_of, arrivals_at}
+use Rattle.ssa_form.specs.Versions.{row_of, arrivals_at}
+use Rattle.ssa_form.specs.JoinRows.{row_in}
+use Rattle.slot_versions.specs.Versions.{PlainVersion}
 
 -- one or none
 abbrev one_if : Bool → ℕ
@@ -99,14 +96,14 @@ arrivals_few flow steps all heads graph p =
     omega (arith, a, b, c, d, e, f)
 
 -- the row of a join has no more versions than that
-pub joined_few : {S : Type 0} (flow : PlainFlow) (heads : List ℕ) (last : IndexMap (ℕ × ℕ) ℕ S) (all : List (ℕ × Arrival)) (firsts asks : List (ℕ × ℕ)) (rows : List (Vec Version Global))
-    → AreRows flow.functions_of heads last all firsts asks rows → ((p : ℕ) → length (places_of (map target all) p 0) ≤ arrivals_at flow p) → (p x : ℕ) → length (row_of rows (number_in asks p x)) ≤ arrivals_at flow p
-joined_few flow heads last all firsts asks rows made few p x = by (number_in asks p x) refl
+pub joined_few : (flow : PlainFlow) (heads : List ℕ) (behind : ℕ → ℕ → PlainVersion) (all : List (ℕ × Arrival)) (firsts asks : List (ℕ × ℕ)) (rows : List (List Version))
+    → AreRows flow.functions_of heads behind all firsts asks rows → ((p : ℕ) → length (places_of (map target all) p 0) ≤ arrivals_at flow p) → (p x : ℕ) → length (row_of rows (number_in asks p x)) ≤ arrivals_at flow p
+joined_few flow heads behind all firsts asks rows made few p x = by (number_in asks p x) refl
   where
     by : (o : Option ℕ) → number_in asks p x ≡ o → length (row_of rows o) ≤ arrivals_at flow p
     by None e = omega arith
     by (Some i) e = at (slice_get rows i) refl
       where
-        at : (o : Option (Vec Version Global)) → slice_get rows i ≡ o → length (in_row o) ≤ arrivals_at flow p
+        at : (o : Option (List Version)) → slice_get rows i ≡ o → length (versions_seen (row_in o)) ≤ arrivals_at flow p
         at None there = omega arith
         at (Some r) there = let a = (made.each i p x r (number_is asks (p, x) i e) there).few in let b = few p in omega (arith, a, b)

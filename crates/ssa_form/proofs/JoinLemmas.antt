@@ -1,12 +1,9 @@
 -- Joins that are asked for, and their rows.
 use Rattle.std.proofs.Common.{◌≡◌, ◌≤◌, ◌<◌, ◌+◌, ◌⊎◌, inl, inr, ℕ, zero, suc, Bool, true, false, if◌then◌else◌, List, [], ◌∷◌, ◌++◌, length, take, get_or, Option, Some, None, refl, sym, subst, ◌∙◌, ap, arith, slice_get, Contains, length-append}
-use Rattle.std.specs.declared.vec.Vec.{Vec}
-use Rattle.std.specs.declared.alloc.Global.{Global}
 use Rattle.std.proofs.Math.Seq.{take-suc}
 use Rattle.std.proofs.lemmas.List.{map-append}
 use Rattle.std.proofs.lemmas.Option.{same_Some, slice_get_within}
 use Rattle.std.proofs.lemmas.List.Elements.{Contains-append_left, Contains-append_right, Contains-append_cases}
-use Rattle.indexmap.specs.IndexMap.{IndexMap}
 use Rattle.numbered_sets.specs.Numbers.{Keeps}
 use Rattle.flow_code.specs.Points.{PlainFlowFunction}
 use Rattle.flow_graph.specs.declared.arrivals.Arrival.{Arrival}
@@ -15,11 +12,11 @@ use Rattle.flow_graph.proofs.HeadLemmas.{push_cases}
 use Rattle.slot_versions.specs.Reaching.{at_entry}
 use Rattle.slot_versions.specs.Versions.{PlainVersion, of_definition, join_at, IsKept}
 use Rattle.ssa_form.specs.declared.version.Version.{Version}
-use Rattle.ssa_form.specs.Views.{version_seen, versions_seen, held}
-use Rattle.ssa_form.specs.Marks.{found, asked_by}
+use Rattle.ssa_form.specs.Views.{version_seen, versions_seen}
+use Rattle.ssa_form.specs.Marks.{asked_by}
 use Rattle.ssa_form.specs.Rows.{link_of, link_from, link_into, owns, IsRow}
 use Rattle.ssa_form.specs.Joins.{AsksFor, AreFirst, AreRows}
-use Rattle.ssa_form.proofs.ReadLemmas.{contains_at, contains_kept, in_one, kept_more, joins_at, joins_slot}
+use Rattle.ssa_form.proofs.ReadLemmas.{contains_at, contains_kept, in_one, kept_more}
 
 none_of : {X : Type 0} (x : X) → Contains [] x → ⊥
 none_of x c = let h = c.1 in omega arith
@@ -76,17 +73,19 @@ get_there [] n h = absurd (omega arith)
 get_there (x ∷ xs) zero h = (x, refl)
 get_there (x ∷ xs) (suc n) h = get_there xs n (omega arith)
 
-module _ {S : Type 0} (fs : List PlainFlowFunction) (heads : List ℕ) (last : IndexMap (ℕ × ℕ) ℕ S) (all : List (ℕ × Arrival)) (first : AreFirst heads) (firsts : List (ℕ × ℕ)) where
+-- joins behind rows stand at first points of rows, and are those of the slot
+abbrev pub JoinsFirst : List ℕ → (ℕ → ℕ → PlainVersion) → Type 0
+JoinsFirst heads behind = (g x h y : ℕ) → slice_get heads g ≡ Some g → behind g x ≡ join_at h y → (slice_get heads h ≡ Some h) × (y ≡ x)
+
+module _ (fs : List PlainFlowFunction) (heads : List ℕ) (behind : ℕ → ℕ → PlainVersion) (all : List (ℕ × Arrival)) (first : AreFirst heads) (joins : JoinsFirst heads behind) (firsts : List (ℕ × ℕ)) where
   -- a join comes from the first point of a row
-  join_first : (x : ℕ) (a : Arrival) (h y : ℕ) → Contains (link_of fs heads last x a) (join_at h y) → slice_get heads h ≡ Some h
+  join_first : (x : ℕ) (a : Arrival) (h y : ℕ) → Contains (link_of fs heads behind x a) (join_at h y) → slice_get heads h ≡ Some h
   unfolding link_of
   join_first x (Edge q) h y c = by (slice_get heads q) refl c
     where
-      by : (o : Option ℕ) → slice_get heads q ≡ o → Contains (link_from o last x) (join_at h y) → slice_get heads h ≡ Some h
+      by : (o : Option ℕ) → slice_get heads q ≡ o → Contains (link_from o behind x) (join_at h y) → slice_get heads h ≡ Some h
       by None e k = absurd (none_of (join_at h y) k)
-      by (Some g) e k =
-          let same : h ≡ g = joins_at (held last g x) g x h y (in_one (found (held last g x) g x) (join_at h y) k) in
-          subst (λ (n : ℕ). slice_get heads n ≡ Some n) (sym same) (first q g e)
+      by (Some g) e k = (joins g x h y (first q g e) (in_one (behind g x) (join_at h y) k)).0
   join_first x (Entry f) h y c = by (slice_get fs f) c
     where
       entry_only : (b : Bool) → Contains (if b then of_definition (at_entry f x) ∷ [] else []) (join_at h y) → slice_get heads h ≡ Some h
@@ -101,13 +100,13 @@ module _ {S : Type 0} (fs : List PlainFlowFunction) (heads : List ℕ) (last : I
       by (Some g) k = entry_only (owns g x) k
 
   -- and is one of the slot
-  join_slot : (x : ℕ) (a : Arrival) (h y : ℕ) → Contains (link_of fs heads last x a) (join_at h y) → y ≡ x
+  join_slot : (x : ℕ) (a : Arrival) (h y : ℕ) → Contains (link_of fs heads behind x a) (join_at h y) → y ≡ x
   unfolding link_of
-  join_slot x (Edge q) h y c = by (slice_get heads q) c
+  join_slot x (Edge q) h y c = by (slice_get heads q) refl c
     where
-      by : (o : Option ℕ) → Contains (link_from o last x) (join_at h y) → y ≡ x
-      by None k = absurd (none_of (join_at h y) k)
-      by (Some g) k = joins_slot (held last g x) g x h y (in_one (found (held last g x) g x) (join_at h y) k)
+      by : (o : Option ℕ) → slice_get heads q ≡ o → Contains (link_from o behind x) (join_at h y) → y ≡ x
+      by None e k = absurd (none_of (join_at h y) k)
+      by (Some g) e k = (joins g x h y (first q g e) (in_one (behind g x) (join_at h y) k)).1
   join_slot x (Entry f) h y c = by (slice_get fs f) c
     where
       entry_only : (b : Bool) → Contains (if b then of_definition (at_entry f x) ∷ [] else []) (join_at h y) → y ≡ x
@@ -121,8 +120,8 @@ module _ {S : Type 0} (fs : List PlainFlowFunction) (heads : List ℕ) (last : I
       by None k = absurd (none_of (join_at h y) k)
       by (Some g) k = entry_only (owns g x) k
 
-  pub rows_more : (asks new : List (ℕ × ℕ)) (rows : List (Vec Version Global)) (r : Vec Version Global) (j : ℕ × ℕ) → AreRows fs heads last all firsts asks rows → length rows < length asks → slice_get asks (length rows) ≡ Some j
-      → IsRow fs heads last all j.0 j.1 (versions_seen r.items) → AsksFor asks new (versions_seen r.items) → AreRows fs heads last all firsts new (rows ++ r ∷ [])
+  pub rows_more : (asks new : List (ℕ × ℕ)) (rows : List (List Version)) (r : List Version) (j : ℕ × ℕ) → AreRows fs heads behind all firsts asks rows → length rows < length asks → slice_get asks (length rows) ≡ Some j
+      → IsRow fs heads behind all j.0 j.1 (versions_seen r) → AsksFor asks new (versions_seen r) → AreRows fs heads behind all firsts new (rows ++ r ∷ [])
   rows_more asks new rows r j are less at row adds = record {
     within = (let e = length-append rows (r ∷ []) in let k = keeps_length asks new adds.keeps in omega arith);
     each = λ i p x s here there. elim (push_cases rows r i s there) [
@@ -131,12 +130,12 @@ module _ {S : Type 0} (fs : List PlainFlowFunction) (heads : List ℕ) (last : I
           are.each i p x s (o.1 ∙ ap (λ (q : ℕ × ℕ). Some q) same) k.1)
       | inr k ↦
           let same : j ≡ (p, x) = same_Some j (p, x) (sym (adds.keeps i j (subst (λ (n : ℕ). slice_get asks n ≡ Some j) (sym k.0) at)) ∙ here) in
-          subst (λ (t : Vec Version Global). IsRow fs heads last all p x (versions_seen t.items)) k.1
-          (subst (λ (q : ℕ × ℕ). IsRow fs heads last all q.0 q.1 (versions_seen r.items)) same row)
+          subst (λ (t : List Version). IsRow fs heads behind all p x (versions_seen t)) k.1
+          (subst (λ (q : ℕ × ℕ). IsRow fs heads behind all q.0 q.1 (versions_seen r)) same row)
     ];
     kept = λ i s v there c. elim (push_cases rows r i s there) [
       | inl k ↦ kept_more asks new v (λ h x. contains_kept asks new (h, x) adds.keeps) (are.kept i s v k.1 c)
-      | inr k ↦ adds.kept v (subst (λ (t : Vec Version Global). Contains (versions_seen t.items) v) (sym k.1) c)
+      | inr k ↦ adds.kept v (subst (λ (t : List Version). Contains (versions_seen t) v) (sym k.1) c)
     ];
     asked = λ h x c. elim (adds.adds (h, x) c) [
       | inl k ↦ are.asked h x k
@@ -149,5 +148,5 @@ module _ {S : Type 0} (fs : List PlainFlowFunction) (heads : List ℕ) (last : I
     ];
   }
 
-  pub no_rows : ((h x : ℕ) → Contains firsts (h, x) → slice_get heads h ≡ Some h) → AreRows fs heads last all firsts firsts []
+  pub no_rows : ((h x : ℕ) → Contains firsts (h, x) → slice_get heads h ≡ Some h) → AreRows fs heads behind all firsts firsts []
   no_rows asked = record { within = omega arith; each = λ i p x r here there. absurd (cc); kept = λ i r v there c. absurd (cc); asked = asked; slots = λ h x c. (h, c) }

@@ -1,7 +1,9 @@
+pub mod BehindLemmas
 pub mod EdgeLemmas
 pub mod ExactLemmas
 pub mod HeadLemmas
 pub mod JoinLemmas
+pub mod JoinRowLemmas
 pub mod MarkLemmas
 pub mod ReadLemmas
 pub mod RowLemmas

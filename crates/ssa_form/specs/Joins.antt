@@ -1,9 +1,6 @@
 -- The joins that are asked for, with what they join. No public clause cites it.
 use Rattle.std.specs.Prelude.{◌≡◌, ◌≤◌, ◌⊎◌, ℕ, List, Some, length, Contains, slice_get}
-use Rattle.std.specs.declared.vec.Vec.{Vec}
-use Rattle.std.specs.declared.alloc.Global.{Global}
 use Rattle.numbered_sets.specs.Numbers.{Keeps}
-use Rattle.indexmap.specs.IndexMap.{IndexMap}
 use Rattle.flow_code.specs.Points.{PlainFlowFunction}
 use Rattle.flow_graph.specs.declared.arrivals.Arrival.{Arrival}
 use Rattle.slot_versions.specs.Versions.{PlainVersion, join_at, IsKept}
@@ -24,12 +21,12 @@ AreFirst heads = (q h : ℕ) → slice_get heads q ≡ Some h → slice_get head
 
 -- so far each join has its row, whose joins are asked for; and joins are asked for at first points of rows alone, for slots of the first
 -- joins
-pub record AreRows {S : Type 0} (fs : List PlainFlowFunction) (heads : List ℕ) (last : IndexMap (ℕ × ℕ) ℕ S) (all : List (ℕ × Arrival))
-    (firsts asks : List (ℕ × ℕ)) (rows : List (Vec Version Global)) : Type 0 where
+pub record AreRows (fs : List PlainFlowFunction) (heads : List ℕ) (behind : ℕ → ℕ → PlainVersion) (all : List (ℕ × Arrival))
+    (firsts asks : List (ℕ × ℕ)) (rows : List (List Version)) : Type 0 where
   pub within : length rows ≤ length asks
-  pub each : (i p x : ℕ) (r : Vec Version Global) → slice_get asks i ≡ Some (p, x) → slice_get rows i ≡ Some r
-      → IsRow fs heads last all p x (versions_seen r.items)
-  pub kept : (i : ℕ) (r : Vec Version Global) (v : PlainVersion) → slice_get rows i ≡ Some r → Contains (versions_seen r.items) v
+  pub each : (i p x : ℕ) (r : List Version) → slice_get asks i ≡ Some (p, x) → slice_get rows i ≡ Some r
+      → IsRow fs heads behind all p x (versions_seen r)
+  pub kept : (i : ℕ) (r : List Version) (v : PlainVersion) → slice_get rows i ≡ Some r → Contains (versions_seen r) v
       → IsKept (asked_by asks) v
   pub asked : (h x : ℕ) → Contains asks (h, x) → slice_get heads h ≡ Some h
   pub slots : (h x : ℕ) → Contains asks (h, x) → (g : ℕ) × Contains firsts (g, x)

@@ -1,3 +1,5 @@
+pub mod Behind
+pub mod JoinRows
 pub mod Joins
 pub mod Marks
 pub mod Rows

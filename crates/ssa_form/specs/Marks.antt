@@ -6,7 +6,7 @@ use Rattle.flow_code.specs.Lawful.{reads}
 use Rattle.flow_graph.specs.declared.arrivals.Arrival.{Arrival}
 use Rattle.flow_graph.specs.Steps.{PlainStep, step_of_point, steps_of_points}
 use Rattle.flow_graph.specs.Arrivals.{from_steps, from_functions}
-use Rattle.flow_graph.specs.Heads.{AreHeads}
+use Rattle.flow_graph.specs.Heads.{AreHeads, RowsGoOn}
 use Rattle.slot_versions.specs.Reaching.{at_point}
 use Rattle.slot_versions.specs.Versions.{PlainVersion, of_definition, join_at, Sets, Leaves, IsOnly, Stands, Asked, IsKept}
 use Rattle.ssa_form.specs.declared.marks.Marks.{Marks}
@@ -68,6 +68,7 @@ pub record IsGraph (flow : PlainFlow) (steps : List PlainStep) (all : List (ℕ 
   pub steps_are : steps ≡ steps_of_points (points_in flow.functions_of)
   pub all_are : all ≡ from_steps (length steps) 0 steps ++ from_functions (length steps) 0 flow.functions_of
   pub heads_are : AreHeads steps all heads
+  pub go_on : RowsGoOn steps all heads
   pub long : length heads ≡ length steps
 
 -- a point with the first point of its row, and what it does

@@ -6,10 +6,13 @@ ghost use Rattle.numbered_sets.specs.Numbers.{Keeps};
 ghost use Rattle.numbered_sets.specs.Places.{ArePlaces, AreInOrder};
 ghost use Rattle.flow_graph.specs.Arrivals.{target};
 ghost use Rattle.ssa_form.specs.Views.{versions_seen};
+ghost use Rattle.ssa_form.specs.JoinRows.{rows_in, AreEnds};
+ghost use Rattle.ssa_form.specs.Behind.{behind_rows};
 ghost use Rattle.ssa_form.specs.Joins.{AsksFor, AreFirst, AreRows};
 
+use crate::join_rows::JoinRows;
 use crate::marks::ask;
-use crate::rows::{Found, row_of};
+use crate::rows::{Found, put_row};
 use crate::version::Version;
 use indexmap::IndexSet;
 use numbered_sets::count;
@@ -37,32 +40,35 @@ fn join_of(asks: &IndexSet<(u64, u64)>, number: usize) -> (u64, u64)
     }
 }
 
-// The next join, with what it joins.
+// The next join, with what it joins, which is put in a list that is used for each of them.
 fn next_row(
-    alloc: Global,
     found_out: Found<'_>,
     asks: &mut IndexSet<(u64, u64)>,
-    rows: &mut Vec<Vec<Version>>,
+    rows: &mut JoinRows,
+    row: &mut Vec<Version>,
 ) -> Result<(), NoMemory>
     requires places { ArePlaces (map target found_out.arrivals.now.all.items)
         found_out.arrivals.now.at.items }
     requires order { AreInOrder (map target found_out.arrivals.now.all.items)
         found_out.arrivals.now.at.items }
     requires heads { length found_out.heads.now ≡ vec_len found_out.arrivals.now.at }
-    requires next { vec_len rows.old < length asks.old.keys }
+    requires next { length rows.old.ends.items < length asks.old.keys }
+    requires ends { AreEnds (length rows.old.versions.items) 0 rows.old.ends.items }
     ensures keeps { OnOk result (Keeps asks.old.keys asks.new.keys) }
-    ensures more { OnOk result (vec_len rows.new ≡ vec_len rows.old + 1) }
+    ensures more { OnOk result (length rows.new.ends.items ≡ length rows.old.ends.items + 1) }
+    ensures ends { OnOk result (AreEnds (length rows.new.versions.items) 0 rows.new.ends.items) }
     ensures rows { OnOk result ((firsts : List (ℕ × ℕ)) → AreFirst found_out.entry.heads.now
         → AreRows (map plain_flow_function found_out.entry.functions.now) found_out.entry.heads.now
-        found_out.entry.last.now
-        found_out.entry.arrivals.now.all.items firsts asks.old.keys rows.old.items
+        (behind_rows found_out.entry)
+        found_out.entry.arrivals.now.all.items firsts asks.old.keys (rows_in rows.old)
         → AreRows (map plain_flow_function found_out.entry.functions.now) found_out.entry.heads.now
-        found_out.entry.last.now
-        found_out.entry.arrivals.now.all.items firsts asks.new.keys rows.new.items) }
+        (behind_rows found_out.entry)
+        found_out.entry.arrivals.now.all.items firsts asks.new.keys (rows_in rows.new)) }
 {
     let (point, slot) = join_of(asks, rows.len());
-    let row = row_of(alloc, found_out, point, slot)?;
-    ask_all(asks, &row)?;
+    row.clear();
+    put_row(found_out, point, slot, row)?;
+    ask_all(asks, row)?;
     rows.push(row)?;
     Ok(())
 }
@@ -73,24 +79,25 @@ pub fn rows_of(
     alloc: Global,
     found_out: Found<'_>,
     asks: &mut IndexSet<(u64, u64)>,
-) -> Result<Vec<Vec<Version>>, NoMemory>
+) -> Result<JoinRows, NoMemory>
     requires places { ArePlaces (map target found_out.arrivals.now.all.items)
         found_out.arrivals.now.at.items }
     requires order { AreInOrder (map target found_out.arrivals.now.all.items)
         found_out.arrivals.now.at.items }
     requires heads { length found_out.heads.now ≡ vec_len found_out.arrivals.now.at }
     ensures keeps { OnOk result (Keeps asks.old.keys asks.new.keys) }
-    ensures len { IfOk result (λ rows. vec_len rows ≡ length asks.new.keys) }
+    ensures len { IfOk result (λ rows. length (rows_in rows) ≡ length asks.new.keys) }
     ensures rows { IfOk result (λ rows. AreFirst found_out.entry.heads.now
         → ((h x : ℕ) → Contains asks.old.keys (h, x) → slice_get found_out.entry.heads.now h
         ≡ Some h)
         → AreRows (map plain_flow_function found_out.entry.functions.now) found_out.entry.heads.now
-        found_out.entry.last.now
-        found_out.entry.arrivals.now.all.items asks.old.keys asks.new.keys rows.items) }
+        (behind_rows found_out.entry)
+        found_out.entry.arrivals.now.all.items asks.old.keys asks.new.keys (rows_in rows)) }
 {
-    let mut rows = Vec::new(alloc);
+    let mut rows = JoinRows::new(alloc);
+    let mut row = Vec::new(alloc);
     while rows.len() < count(asks) {
-        next_row(alloc, found_out, asks, &mut rows)?;
+        next_row(found_out, asks, &mut rows, &mut row)?;
     }
     Ok(rows)
 }

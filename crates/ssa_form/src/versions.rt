@@ -13,6 +13,7 @@ ghost use Rattle.ssa_form.specs.Marks.{IsGraph};
 ghost use Rattle.function_pairs.specs.Found.{number_in};
 ghost use Rattle.ssa_form.specs.Versions.{joins_of, version_of, IsLinked, IsExact, joined_by, links_of, AreOnce, AreJoins};
 
+use crate::join_rows::JoinRows;
 use crate::joins::rows_of;
 use crate::marks::marks_of;
 use crate::rows::Found;
@@ -24,12 +25,16 @@ use numbered_sets::{count, number_of};
 use std::alloc::Global;
 use text_base::{NoMemory, Point, Slot};
 
+// How many rows a version is looked for behind an edge, where each is entered at the end of the next
+// alone: behind so many there is a join, so that each look takes constant time.
+const ROWS_BEHIND: u64 = 4;
+
 /// The versions of the slots that the points of a program read.
 #[derive(Debug, Drop)]
 pub struct Versions {
     versions: IndexMap<(u64, u64), Version>,
     asks: IndexSet<(u64, u64)>,
-    rows: Vec<Vec<Version>>,
+    rows: JoinRows,
 }
 
 // The number of a join, if it is asked for.
@@ -74,10 +79,7 @@ impl Versions {
         let Some(number) = row_number(&self.asks, point, slot) else {
             return &[];
         };
-        match self.rows.get(number) {
-            Some(row) => row,
-            None => &[],
-        }
+        self.rows.row(number)
     }
 }
 
@@ -108,6 +110,7 @@ fn versions_of(
         arrivals,
         heads,
         last: &marks.last,
+        rows_behind: ROWS_BEHIND,
     };
     let rows = rows_of(alloc, found_out, &mut marks.asks)?;
     Ok(Versions {
@@ -129,8 +132,8 @@ fn exact_versions(alloc: Global, flow: &FlowProgram) -> Result<Versions, NoMemor
 }
 
 /// The versions of a program of points: one for each slot that a point reads, and the definitions
-/// behind it are exactly those that reach the point. Its time is linear in the points, in what they
-/// read, and for each join in the edges into its point.
+/// behind it are exactly those that reach the point. Its steps are linear in the points, in what
+/// they read, and for each join in the edges into its point.
 pub fn ssa(alloc: Global, flow: &FlowProgram) -> Result<Versions, NoMemory>
     ensures exact { IfOk result (IsExact (plain_flow flow.now)) }
     ensures once { IfOk result AreOnce }

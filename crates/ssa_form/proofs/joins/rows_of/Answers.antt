@@ -1,10 +1,22 @@
-use Rattle.std.proofs.Common.{◌≤◌, length, arith}
+use Rattle.std.proofs.Common.{◌≡◌, ◌≤◌, length, arith}
+use Rattle.ssa_form.specs.JoinRows.{rows_in}
 use Rattle.ssa_form.proofs.JoinLemmas.{keeps_length}
+use Rattle.ssa_form.proofs.JoinRowLemmas.{rows_count}
 use Rattle.ssa_form.proofs.joins.rows_of.Goals as goal
 
-pub loop-alloc-preserved : goal.loop-alloc-preserved
-loop-alloc-preserved c =
-    let before = c.loop-alloc.invariant in
-    let long : length c.next_row.new.rows.items ≤ length c.next_row.new.asks.keys =
-    (let k = keeps_length c.loop-alloc.asks.keys c.next_row.new.asks.keys c.in_ok-next_row.ensures.keeps in let m = c.in_ok-next_row.ensures.more in let t = c.loop-alloc-test.true in let e = c.len.ensures in let f = c.count.ensures.length in omega arith) in
-    (λ n x h. c.in_ok-next_row.ensures.keeps n x (before.0 n x h), long, λ first asked. c.in_ok-next_row.ensures.rows c.args.asks.now.keys first (before.2 first asked))
+pub loop-found_out-preserved : goal.loop-found_out-preserved
+loop-found_out-preserved c =
+    let before = c.loop-found_out.invariant in
+    let long : length c.next_row.new.rows.ends.items ≤ length c.next_row.new.asks.keys =
+    (let k = keeps_length c.loop-found_out.asks.keys c.next_row.new.asks.keys c.in_ok-next_row.ensures.keeps in let m = c.in_ok-next_row.ensures.more in let t = c.loop-found_out-test.true in let e = c.len.ensures in let f = c.count.ensures.length in omega arith) in
+    (λ n x h. c.in_ok-next_row.ensures.keeps n x (before.0 n x h), long, c.in_ok-next_row.ensures.ends, λ first asked. c.in_ok-next_row.ensures.rows c.args.asks.now.keys first (before.3 first asked))
+
+pub returns-clause-len : goal.returns-clause-len
+returns-clause-len c =
+    let rows = c.loop-found_out.rows in
+    let within : length rows.ends.items ≤ length c.loop-found_out.asks.keys = c.loop-found_out.invariant.1 in
+    let count : length (rows_in rows) ≡ length rows.ends.items = rows_count rows.versions.items 0 rows.ends.items in
+    let past = c.loop-found_out-test.false in
+    let len = c.len.ensures in
+    let asks = c.count.ensures.length in
+    omega (arith, within, count, past, len, asks)
