@@ -96,7 +96,8 @@ module _ (from : nt.Nt) (fs : List Passage) (rs : List Reading) (ls : List Last)
   pub record IsPaid (base before : ℕ) (o : Outputs) : Type 0 where
     pub said : All (IsSaid base o.fronts.keys) o.said.keys
     pub long : length o.wide.items ≡ length o.heads.keys
-    pub wide : (n : ℕ) (h : Head) (f : ℕ) → slice_get o.heads.keys n ≡ Some h → slice_get o.wide.items n ≡ Some f → IsWide base o.fronts.keys h f
+    pub wide : (n : ℕ) (h : Head) (f : ℕ) → slice_get o.heads.keys n ≡ Some h → slice_get o.wide.items n ≡ Some f
+        → IsWide base o.fronts.keys h f
     pub fronts : (n : ℕ) → n < length o.fronts.keys
         → OfText base o.fronts.keys n ⊎ OfWide base o.fronts.keys o.heads.keys o.wide.items n
     pub count : length o.out.items ≡ before + (length o.said.keys + length o.heads.keys)

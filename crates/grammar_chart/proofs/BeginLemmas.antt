@@ -1,19 +1,14 @@
 -- The chart with which all begins.
-use Rattle.std.proofs.Common.{◌≡◌, ℕ, ◌<◌, ◌≤◌, inl, inr, List, [], ◌∷◌, length, Contains, refl, sym, ◌∙◌, ap, subst, arith, Some, slice_get}
-use Rattle.std.specs.List.{All}
+use Rattle.std.proofs.Common.{◌≡◌, ℕ, inl, inr, List, [], length, Contains, sym, ◌∙◌, ap, subst, arith, Some, slice_get}
 use Rattle.std.proofs.lemmas.List.Elements.{All-nil}
 use Rattle.std.proofs.lemmas.Option.{slice_get_within}
 use Rattle.text_base.specs.declared.numbers.Nt as nt
 use Rattle.cfg_grammar.specs.declared.symbol.Symbol.TheVariants.{Nt}
 use Rattle.cfg_grammar.specs.declared.production.Production.{Production}
-use Rattle.image_meaning.specs.Items.{Enters, at_start}
+use Rattle.image_meaning.specs.Items.{at_start}
 use Rattle.numbered_sets.specs.Numbers.{AddsOnly}
 use Rattle.grammar_chart.specs.declared.keys.Entry.{Entry}
-use Rattle.grammar_chart.specs.declared.keys.Begun.{Begun}
-use Rattle.grammar_chart.specs.declared.keys.Passage.{Passage}
-use Rattle.grammar_chart.specs.declared.keys.Reading.{Reading}
 use Rattle.grammar_chart.specs.declared.steps.Visit.{Visit}
-use Rattle.grammar_chart.specs.Rules.{ReadingStep}
 use Rattle.grammar_chart.specs.Visits.{VisitsGrow}
 use Rattle.grammar_chart.specs.Charts.{IsBegun, IsEntered, IsPassage, IsChart}
 use Rattle.grammar_chart.proofs.AddingLemmas.{contains_at}

@@ -1,5 +1,5 @@
 -- What the machine comes to is below the count.
-use Rattle.std.proofs.Common.{◌≡◌, ℕ, ◌<◌, ◌≤◌, zero, suc, Bool, true, ◌&&◌, IsTrue, ltb, List, [], ◌∷◌, Some, slice_get, subst, sym, arith}
+use Rattle.std.proofs.Common.{◌≡◌, ℕ, ◌<◌, zero, suc, Bool, IsTrue, ltb, List, [], ◌∷◌, Some, slice_get, subst, arith}
 use Rattle.std.specs.List.{list_all}
 use Rattle.std.specs.Cmp.{first_so, second_so}
 use Rattle.std.proofs.lemmas.Bool.{ltb-true}

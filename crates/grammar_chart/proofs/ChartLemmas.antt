@@ -1,34 +1,28 @@
 -- What the steps on a chart keep.
-use Rattle.std.proofs.Common.{◌≡◌, ℕ, ◌+◌, ◌<◌, ◌≤◌, ◌⊎◌, ◌↔◌, inl, inr, zero, suc, List, [], ◌∷◌, ◌++◌, length, get_or, Contains, refl, sym, ◌∙◌, ap, subst, arith, Option, None, Some, slice_get}
+use Rattle.std.proofs.Common.{◌≡◌, ℕ, List, [], ◌∷◌, get_or, Contains, refl, sym, ◌∙◌, ap, subst, Option, None, Some, slice_get}
 use Rattle.std.specs.List.{All}
-use Rattle.std.specs.Option.{MatchOption}
 use Rattle.std.proofs.lemmas.List.Elements.{All-contains}
-use Rattle.std.proofs.lemmas.Option.{slice_get-get_or, slice_get_within, get_or_from_slice_get}
-use Rattle.std.proofs.lemmas.Bool.{cases_eq}
+use Rattle.std.proofs.lemmas.Option.{slice_get-get_or}
 use Rattle.text_base.specs.declared.numbers.Nt as nt
-use Rattle.text_base.specs.declared.letter.Letter.{Letter}
 use Rattle.cfg_grammar.specs.declared.symbol.Symbol.{Symbol}
-use Rattle.cfg_grammar.specs.declared.symbol.Symbol.TheVariants.{Range, Nt}
+use Rattle.cfg_grammar.specs.declared.symbol.Symbol.TheVariants.{Nt}
 use Rattle.cfg_grammar.specs.declared.production.Right.{Right}
 use Rattle.cfg_grammar.specs.declared.production.Right.TheVariants.{Empty, One, Two}
 use Rattle.cfg_grammar.specs.declared.production.Production.{Production}
 use Rattle.cfg_grammar.specs.Below.{symbols_of}
 use Rattle.image_meaning.specs.Outputs.{Leads}
-use Rattle.image_meaning.specs.Items.{Item, IsItem, ReadsTo, Enters, at_start, by_item}
+use Rattle.image_meaning.specs.Items.{IsItem, ReadsTo, Enters, by_item}
 use Rattle.image_meaning.proofs.Reading.{leads_empty, leads_one, leads_two}
-use Rattle.numbered_sets.specs.Numbers.{Keeps, AddsOnly}
+use Rattle.numbered_sets.specs.Numbers.{Keeps}
 use Rattle.grammar_chart.specs.declared.keys.Entry.{Entry}
 use Rattle.grammar_chart.specs.declared.keys.Read.{Read}
 use Rattle.grammar_chart.specs.declared.keys.Read.TheVariants.{Nothing, First, Both}
 use Rattle.grammar_chart.specs.declared.keys.Begun.{Begun}
 use Rattle.grammar_chart.specs.declared.keys.Passage.{Passage}
 use Rattle.grammar_chart.specs.declared.keys.Reading.{Reading}
-use Rattle.grammar_chart.specs.declared.steps.Visit.{Visit}
 use Rattle.grammar_chart.specs.Rules.{awaited_by, awaited_in, awaited_of, passage_by, passage_in, passage_of, read_by, read_on, last_by, states_of, item_of, ReadingStep}
-use Rattle.grammar_chart.specs.Visits.{VisitsGrow, AddsWaiting, AddsExit}
-use Rattle.grammar_chart.specs.Adding.{AddsAll}
-use Rattle.grammar_chart.specs.Charts.{HasRead, IsBegun, IsEntered, IsPassage, IsSound, IsVisited, WaitsAt, IsTakenUp, IsExit, IsOpened, OfFirst, Awaits, Leaves, IsChart}
-use Rattle.grammar_chart.proofs.AddingLemmas.{contains_at, at_contains, contains_kept, keeps_both}
+use Rattle.grammar_chart.specs.Charts.{HasRead, IsBegun, IsEntered, IsPassage}
+use Rattle.grammar_chart.proofs.AddingLemmas.{contains_at, contains_kept}
 
 -- an `All` by membership
 pub all_by : {X : Type 0} (P : X → Type 0) (xs : List X) → ((x : X) → Contains xs x → P x) → All P xs

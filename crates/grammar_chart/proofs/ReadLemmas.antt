@@ -1,14 +1,12 @@
 -- A reading more.
-use Rattle.std.proofs.Common.{◌≡◌, ℕ, ◌+◌, ◌<◌, ◌≤◌, inl, inr, List, [], ◌∷◌, ◌++◌, length, map, Contains, refl, sym, ◌∙◌, ap, subst, arith, Some, slice_get}
-use Rattle.std.specs.List.{All}
+use Rattle.std.proofs.Common.{◌≡◌, ℕ, ◌≤◌, inl, inr, List, [], ◌∷◌, ◌++◌, map, Contains, refl, sym, subst, arith}
 use Rattle.std.proofs.lemmas.List.Elements.{All-contains, Contains-append_left, Contains-push}
 use Rattle.text_base.specs.declared.numbers.Nt as nt
 use Rattle.text_base.specs.declared.letter.Letter.{Letter}
-use Rattle.text_base.specs.declared.letter.Letter.TheVariants.{OfByte}
 use Rattle.cfg_grammar.specs.declared.symbol.Symbol.{Symbol}
 use Rattle.cfg_grammar.specs.declared.symbol.Symbol.TheVariants.{Range, Nt}
 use Rattle.cfg_grammar.specs.declared.production.Production.{Production}
-use Rattle.cfg_grammar.specs.Derives.{Derives, by_range}
+use Rattle.cfg_grammar.specs.Derives.{by_range}
 use Rattle.fst_core.specs.Letter.{letter_of}
 use Rattle.image_meaning.specs.Outputs.{Leads}
 use Rattle.image_meaning.specs.Items.{Enters}
@@ -21,7 +19,7 @@ use Rattle.grammar_chart.specs.declared.keys.Reading.{Reading}
 use Rattle.grammar_chart.specs.declared.steps.Visit.{Visit}
 use Rattle.grammar_chart.specs.Rules.{ReadingStep}
 use Rattle.grammar_chart.specs.Charts.{IsBegun, IsEntered, IsPassage, IsExit, IsTakenUp, IsChart}
-use Rattle.grammar_chart.proofs.AddingLemmas.{contains_at, contains_kept}
+use Rattle.grammar_chart.proofs.AddingLemmas.{contains_kept}
 use Rattle.grammar_chart.proofs.ChartLemmas.{all_by, begun_kept}
 use Rattle.grammar_chart.proofs.StepLemmas.{first_kept, taken_kept, visits_same, longer}
 
@@ -85,7 +83,7 @@ chart_reads ps from es vs bs fs gs rs ss opened taken left r c entry is low high
         combined = c.visited.combined;
       };
       opens = c.opens;
-      takes = first_kept (IsTakenUp ps es vs fs) (IsTakenUp ps es vs gs) bs bs taken (λ n y i. i) c.taken_within
-          (λ x h. taken_kept ps es es vs vs fs gs x (λ n y i. i) (visits_same vs) keeps h) c.takes;
+      takes = first_kept (IsTakenUp ps es vs bs fs) (IsTakenUp ps es vs bs gs) bs bs taken (λ n y i. i) c.taken_within
+          (λ x h. taken_kept ps es es vs vs bs bs fs gs x (λ n y i. i) (visits_same vs) (λ n y i. i) keeps h) c.takes;
       lets = first_kept (IsExit es vs) (IsExit es vs) fs gs left keeps c.left_within (λ x h. h) c.lets;
     }

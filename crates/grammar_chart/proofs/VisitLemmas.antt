@@ -1,15 +1,13 @@
 -- What is kept of entries.
-use Rattle.std.proofs.Common.{◌≡◌, ℕ, ◌+◌, ◌<◌, ◌≤◌, ◌⊎◌, ◌↔◌, inl, inr, zero, suc, List, [], ◌∷◌, ◌++◌, length, get_or, set, Contains, refl, sym, ◌∙◌, ap, subst, arith, Some, slice_get}
-use Rattle.std.specs.declared.vec.Vec.{Vec}
-use Rattle.std.specs.declared.alloc.Global.{Global}
-use Rattle.std.proofs.lemmas.List.Elements.{Contains-push_cases, Contains-append_left, Contains-push}
+use Rattle.std.proofs.Common.{◌≡◌, ℕ, ◌<◌, ◌⊎◌, ◌↔◌, inl, inr, zero, suc, List, [], ◌∷◌, ◌++◌, length, get_or, set, Contains, refl, sym, ◌∙◌, ap, subst, Some, slice_get}
+use Rattle.std.specs.List.{All}
+use Rattle.std.proofs.lemmas.List.Elements.{All-nil, Contains-push_cases, Contains-append_left, Contains-push}
 use Rattle.std.proofs.lemmas.Option.{slice_get_read}
 use Rattle.std.proofs.lemmas.Bool.{cases_eq}
 use Rattle.numbered_sets.proofs.NumberLemmas.{at_front}
 use Rattle.numbered_sets.proofs.PlaceLemmas.{slice_get-set_other, slice_get-set_same}
-use Rattle.grammar_chart.specs.declared.keys.Begun.{Begun}
 use Rattle.grammar_chart.specs.declared.steps.Visit.{Visit}
-use Rattle.grammar_chart.specs.Visits.{VisitsGrow, AddsWaiting, AddsExit}
+use Rattle.grammar_chart.specs.Visits.{VisitsGrow, AddsWaiting, AddsExit, AreWithin}
 
 pub grow_none : (old new : List Visit) → new ≡ old → VisitsGrow old new
 grow_none old new e =
@@ -48,7 +46,7 @@ has_pushed {X} was now x q at eq e b = (
 same_elsewhere : {X : Type 0} (was : List X) (x : X) (q at : ℕ) → (q ≡ at → ⊥) → (b : X) → Contains was b ↔ (Contains was b ⊎ ((q ≡ at) × (b ≡ x)))
 same_elsewhere was x q at other b = (λ c. inl c, λ c. elim c [ inl f ↦ f | inr f ↦ absurd (other f.0) ])
 
-pub waiting_added : (old : List Visit) (at : ℕ) (one : Begun) (was now : Visit) → at < length old → was ≡ get_or old at was → now.exits ≡ was.exits → now.waiting.items ≡ was.waiting.items ++ one ∷ [] → AddsWaiting old (set old at now) at one
+pub waiting_added : (old : List Visit) (at : ℕ) (one : ℕ) (was now : Visit) → at < length old → was ≡ get_or old at was → now.exits ≡ was.exits → now.waiting.items ≡ was.waiting.items ++ one ∷ [] → AddsWaiting old (set old at now) at one
 waiting_added old at one was now h is same e q v found =
     let here : slice_get old at ≡ Some was = slice_get_read old (length old) at was refl h is in
     elim (cases_eq q at) [
@@ -76,4 +74,12 @@ exit_added old at exit was now h is same e q v found =
             λ t. has_pushed was.exits.items v.exits.items exit q at eq (ap (λ (u : Visit). u.exits.items) two ∙ e) t,
           )
       | inr other ↦ (v, sym (slice_get-set_other old at q now other) ∙ found, refl, λ t. same_elsewhere v.exits.items exit q at other t)
+    ]
+
+-- what waits at an entry when visits have grown has the numbers of before
+pub within_grown : (old new : List Visit) (count : ℕ) → VisitsGrow old new → AreWithin old count → AreWithin new count
+within_grown old new count grows within q v at =
+    elim (grows.empty q v at) [
+      | inl before ↦ within q v before
+      | inr none ↦ subst (λ (xs : List ℕ). All (λ n. n < count) xs) (sym none.0) (All-nil (λ (n : ℕ). n < count))
     ]

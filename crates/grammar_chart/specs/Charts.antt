@@ -1,7 +1,7 @@
 -- What a chart keeps, on the lists of its parts.
-use Rattle.std.specs.Prelude.{◌≡◌, ◌<◌, ◌≤◌, ℕ, List, [], length, Option, None, Some, slice_get, Contains, All, MatchOption}
+use Rattle.std.specs.Prelude.{◌≡◌, ◌<◌, ◌≤◌, ℕ, List, length, Option, Some, slice_get, Contains, All, MatchOption}
 use Rattle.text_base.specs.declared.numbers.Nt as nt
-use Rattle.cfg_grammar.specs.declared.symbol.Symbol.TheVariants.{Range, Nt}
+use Rattle.cfg_grammar.specs.declared.symbol.Symbol.TheVariants.{Nt}
 use Rattle.cfg_grammar.specs.declared.production.Right.{Right}
 use Rattle.cfg_grammar.specs.declared.production.Right.TheVariants.{Empty, One, Two}
 use Rattle.cfg_grammar.specs.declared.production.Production.{Production}
@@ -15,7 +15,7 @@ use Rattle.grammar_chart.specs.declared.keys.Begun.{Begun}
 use Rattle.grammar_chart.specs.declared.keys.Passage.{Passage}
 use Rattle.grammar_chart.specs.declared.keys.Reading.{Reading}
 use Rattle.grammar_chart.specs.declared.steps.Visit.{Visit}
-use Rattle.grammar_chart.specs.Rules.{awaited_of, passage_of, read_on, ReadingStep}
+use Rattle.grammar_chart.specs.Rules.{awaited_of, passage_of, read_on, begun_at, ReadingStep}
 use Rattle.grammar_chart.specs.Visits.{VisitsGrow, AddsWaiting, AddsExit}
 use Rattle.grammar_chart.specs.Adding.{AddsAll}
 
@@ -54,21 +54,22 @@ module _ (ps : List Production) (from : nt.Nt) where
 
 -- what is kept of an entry is so, and what waits there has gone on by each exit
 pub record IsVisited (ps : List Production) (es : List Entry) (vs : List Visit) (bs : List Begun) (fs : List Passage) : Type 0 where
-  pub waiting : (q : ℕ) (v : Visit) (e : Entry) (b : Begun) → slice_get vs q ≡ Some v → slice_get es q ≡ Some e → Contains v.waiting.items b
-      → Contains bs b × (awaited_of ps b ≡ Some e)
+  pub waiting : (q : ℕ) (v : Visit) (e : Entry) (n : ℕ) → slice_get vs q ≡ Some v → slice_get es q ≡ Some e → Contains v.waiting.items n
+      → (b : Begun) × (slice_get bs n ≡ Some b) × (awaited_of ps b ≡ Some e)
   pub exits : (q : ℕ) (v : Visit) (e : Entry) (t : ℕ) → slice_get vs q ≡ Some v → slice_get es q ≡ Some e → Contains v.exits.items t
       → Contains fs (record { symbol = e.symbol; from = e.state; to = t })
-  pub combined : (q : ℕ) (v : Visit) (b : Begun) (t : ℕ) → slice_get vs q ≡ Some v → Contains v.waiting.items b → Contains v.exits.items t
-      → Contains bs (read_on b t)
+  pub combined : (q : ℕ) (v : Visit) (n t : ℕ) → slice_get vs q ≡ Some v → Contains v.waiting.items n → Contains v.exits.items t
+      → (b : Begun) × (slice_get bs n ≡ Some b) × Contains bs (read_on b t)
 
--- the begun production waits for its next symbol, or leads somewhere
-abbrev pub WaitsAt : List Entry → List Visit → Begun → Entry → Type 0
-WaitsAt es vs b e = (q : ℕ) × (slice_get es q ≡ Some e) × (v : Visit) × (slice_get vs q ≡ Some v) × Contains v.waiting.items b
+-- the begun production waits at the entry, by its number
+abbrev pub WaitsAt : List Entry → List Visit → List Begun → Begun → Entry → Type 0
+WaitsAt es vs bs b e = (q : ℕ) × (slice_get es q ≡ Some e) × (v : Visit) × (slice_get vs q ≡ Some v) × (n : ℕ) × Contains v.waiting.items n
+    × (slice_get bs n ≡ Some b)
 
 -- a begun production waits at the entry of its next symbol, or, where all is read, its passage is listed
-abbrev pub IsTakenUp : List Production → List Entry → List Visit → List Passage → Begun → Type 0
-IsTakenUp ps es vs fs b = MatchOption (awaited_of ps b) (MatchOption (passage_of ps b) (Unit {0}) (λ f. Contains fs f))
-    (λ e. WaitsAt es vs b e)
+abbrev pub IsTakenUp : List Production → List Entry → List Visit → List Begun → List Passage → Begun → Type 0
+IsTakenUp ps es vs bs fs b = MatchOption (awaited_of ps b) (MatchOption (passage_of ps b) (Unit {0}) (λ f. Contains fs f))
+    (λ e. WaitsAt es vs bs b e)
 
 -- the passage is an exit of its entry
 abbrev pub IsExit : List Entry → List Visit → Passage → Type 0
@@ -84,8 +85,8 @@ IsOpened ps bs e = (a : nt.Nt) → e.symbol ≡ Nt a → (place : ℕ) (p : Prod
 abbrev pub OfFirst : {X : Type 0} → (X → Type 0) → List X → ℕ → Type 0
 OfFirst {X} P xs n = (k : ℕ) (x : X) → k < n → slice_get xs k ≡ Some x → P x
 
--- what a begun production comes to as its next symbol is awaited
-pub record Awaits (es new : List Entry) (vs after : List Visit) (bs more : List Begun) (b : Begun) (e : Entry) : Type 0 where
+-- what a begun production with a number comes to as its next symbol is awaited
+pub record Awaits (es new : List Entry) (vs after : List Visit) (bs more : List Begun) (b : Begun) (n : ℕ) (e : Entry) : Type 0 where
   pub place : ℕ
   pub visits : List Visit
   pub visit : Visit
@@ -95,7 +96,7 @@ pub record Awaits (es new : List Entry) (vs after : List Visit) (bs more : List 
   pub grows : VisitsGrow vs visits
   pub is_visit : slice_get visits place ≡ Some visit
   pub advances : AddsAll bs more visit.exits.items (λ (t : ℕ). read_on b t)
-  pub waits : AddsWaiting visits after place b
+  pub waits : AddsWaiting visits after place n
   pub long : length visits ≡ length new
   pub still_long : length after ≡ length new
 
@@ -109,7 +110,7 @@ pub record Leaves (es new : List Entry) (vs after : List Visit) (bs more : List 
   pub adds : AddsOnly es new (record { symbol = f.symbol; state = f.from })
   pub grows : VisitsGrow vs visits
   pub is_visit : slice_get visits place ≡ Some visit
-  pub advances : AddsAll bs more visit.waiting.items (λ (b : Begun). read_on b f.to)
+  pub advances : AddsAll bs more visit.waiting.items (λ (n : ℕ). read_on (begun_at bs n) f.to)
   pub leaves : AddsExit visits after place f.to
   pub long : length visits ≡ length new
   pub still_long : length after ≡ length new
@@ -125,7 +126,7 @@ pub record IsChart (ps : List Production) (from : nt.Nt) (es : List Entry) (vs :
   pub sound : IsSound ps from es bs fs rs
   pub visited : IsVisited ps es vs bs fs
   pub opens : OfFirst (IsOpened ps bs) es opened
-  pub takes : OfFirst (IsTakenUp ps es vs fs) bs taken
+  pub takes : OfFirst (IsTakenUp ps es vs bs fs) bs taken
   pub lets : OfFirst (IsExit es vs) fs left
 
 -- the passage, if there is one, is added

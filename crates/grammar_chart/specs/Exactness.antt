@@ -1,5 +1,5 @@
 -- Equality of symbols is exact.
-use Rattle.std.specs.Prelude.{◌≡◌, ℕ, Bool, true, false, ◌&&◌, nat_eq, refl}
+use Rattle.std.specs.Prelude.{◌≡◌, ℕ, true, ◌&&◌, nat_eq}
 use Rattle.std.proofs.Common.{rules, ap, ◌∙◌, subst, ◌≤◌}
 use Rattle.std.proofs.Math.Bridge.{le_prop}
 use Rattle.std.specs.Cmp.{first_so, second_so}

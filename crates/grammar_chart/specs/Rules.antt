@@ -1,6 +1,5 @@
 -- What begun productions wait for, and where they lead.
-use Rattle.std.specs.Prelude.{◌≡◌, ℕ, List, [], ◌∷◌, Option, None, Some, slice_get, map, Contains}
-use Rattle.text_base.specs.declared.numbers.Nt as nt
+use Rattle.std.specs.Prelude.{◌≡◌, ℕ, List, [], ◌∷◌, Option, None, Some, slice_get, get_or, map, Contains}
 use Rattle.text_base.specs.declared.letter.Letter.{Letter}
 use Rattle.text_base.specs.ByteRange.{InRange}
 use Rattle.fst_core.specs.Letter.{letter_of}
@@ -54,6 +53,10 @@ read_by (Both t u) v = Both t u
 -- a begun production with one symbol more read, which leads to this state
 abbrev pub read_on : Begun → ℕ → Begun
 read_on b t = record { place = b.place; from = b.from; read = read_by b.read t }
+
+-- the begun production with a number; past the last one, one of which nothing is read
+abbrev pub begun_at : List Begun → ℕ → Begun
+begun_at begun n = get_or begun n (record { place = 0; from = 0; read = Nothing })
 
 -- the state behind what is read
 abbrev pub last_by : Read → ℕ → ℕ

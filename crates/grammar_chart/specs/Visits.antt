@@ -1,6 +1,5 @@
 -- What is kept of the entries of a chart.
-use Rattle.std.specs.Prelude.{◌≡◌, ◌⊎◌, ◌↔◌, ℕ, List, [], Some, slice_get, Contains}
-use Rattle.grammar_chart.specs.declared.keys.Begun.{Begun}
+use Rattle.std.specs.Prelude.{◌≡◌, ◌<◌, ◌⊎◌, ◌↔◌, ℕ, List, [], Some, slice_get, Contains, All}
 use Rattle.grammar_chart.specs.declared.steps.Visit.{Visit}
 
 -- what was kept stays, and of a new entry nothing is kept yet
@@ -8,12 +7,16 @@ pub record VisitsGrow (old new : List Visit) : Type 0 where
   pub kept : (q : ℕ) (v : Visit) → slice_get old q ≡ Some v → slice_get new q ≡ Some v
   pub empty : (q : ℕ) (v : Visit) → slice_get new q ≡ Some v → (slice_get old q ≡ Some v) ⊎ ((v.waiting.items ≡ []) × (v.exits.items ≡ []))
 
--- one more waits at an entry
-abbrev pub AddsWaiting : List Visit → List Visit → ℕ → Begun → Type 0
+-- one more begun production waits at an entry, by its number
+abbrev pub AddsWaiting : List Visit → List Visit → ℕ → ℕ → Type 0
 AddsWaiting old new at one =
     (q : ℕ) (v : Visit) → slice_get new q ≡ Some v
     → (w : Visit) × (slice_get old q ≡ Some w) × (v.exits ≡ w.exits)
-    × ((b : Begun) → Contains v.waiting.items b ↔ (Contains w.waiting.items b ⊎ ((q ≡ at) × (b ≡ one))))
+    × ((n : ℕ) → Contains v.waiting.items n ↔ (Contains w.waiting.items n ⊎ ((q ≡ at) × (n ≡ one))))
+
+-- the numbers of what waits are those of begun productions
+abbrev pub AreWithin : List Visit → ℕ → Type 0
+AreWithin visits count = (q : ℕ) (v : Visit) → slice_get visits q ≡ Some v → All (λ n. n < count) v.waiting.items
 
 -- one more exit of an entry
 abbrev pub AddsExit : List Visit → List Visit → ℕ → ℕ → Type 0

@@ -8,11 +8,12 @@ ghost use Rattle.cfg_grammar.specs.Below.{AreBelow};
 ghost use Rattle.numbered_sets.specs.Numbers.{Keeps};
 ghost use Rattle.grammar_chart.specs.Rules.{awaited_of, passage_of};
 ghost use Rattle.grammar_chart.specs.Charts.{Awaits, Leaves, Finishes};
+ghost use Rattle.grammar_chart.specs.Visits.{AreWithin};
 ghost use Rattle.grammar_chart.specs.Kept.{IsChartOf, GoesOn, IsCounted, IsTurn, AreProductionsOf};
 
 use crate::keys::{Begun, Entry, Passage, Reading};
 use crate::rules::{awaited, passage};
-use crate::steps::{Visit, advance_all, advance_over, begin_all, enter, leave, wait};
+use crate::steps::{Visit, advance_all, advance_over, begin_all, begun_at, enter, leave, wait};
 use crate::turns::Turn;
 use cfg_grammar::{Production, Symbol};
 use fst_core::Out;
@@ -56,23 +57,24 @@ impl Drop for Chart {
     }
 }
 
-/// A begun production waits for its next symbol.
+/// A begun production with a number waits for its next symbol.
 fn await_symbol(
     alloc: Global,
     entries: &mut IndexSet<Entry>,
     visits: &mut Vec<Visit>,
     begun: &mut IndexSet<Begun>,
     one: Begun,
+    number: u64,
     entry: Entry,
 ) -> Result<(), NoMemory>
     requires { vec_len visits.old ≡ length entries.old.keys }
     ensures { OnOk result
         (Awaits entries.old.keys entries.new.keys visits.old.items visits.new.items
-        begun.old.keys begun.new.keys one entry) }
+        begun.old.keys begun.new.keys one number entry) }
 {
     let at = enter(alloc, entries, visits, entry)?;
     advance_over(begun, one, visits[at].exits.as_slice())?;
-    wait(visits, at, one)?;
+    wait(visits, at, number)?;
     Ok(())
 }
 
@@ -84,7 +86,8 @@ fn leave_entry(
     begun: &mut IndexSet<Begun>,
     one: Passage,
 ) -> Result<(), NoMemory>
-    requires { vec_len visits.old ≡ length entries.old.keys }
+    requires long { vec_len visits.old ≡ length entries.old.keys }
+    requires within { AreWithin visits.old.items (length begun.old.keys) }
     ensures { OnOk result
         (Leaves entries.old.keys entries.new.keys visits.old.items visits.new.items
         begun.old.keys begun.new.keys one) }
@@ -115,17 +118,6 @@ fn finish(
             Ok(())
         }
     }
-}
-
-/// The member with a number, if there is one.
-fn begun_at(begun: &IndexSet<Begun>, number: usize) -> Option<Begun>
-    ensures value { result ≡ slice_get begun.now.keys number }
-    ensures small { IfSome result (λ b. number < 9223372036854775808) }
-{
-    if number >= count(begun) {
-        return None;
-    }
-    begun.get_index(number).copied()
 }
 
 /// The member with a number, if there is one.
@@ -172,6 +164,7 @@ fn take_up_waiting(
         &mut chart.visits,
         &mut chart.begun,
         one,
+        chart.taken as u64,
         entry,
     )?;
     chart.taken += 1;
@@ -345,6 +338,19 @@ pub fn turn(
             Ok(Turn::Went)
         }
     }
+}
+
+/// Lets go of the entries and what is kept of them, which only the filling of the chart needs.
+pub fn let_go(alloc: Global, chart: &mut Chart)
+    ensures from { chart.new.from ≡ chart.old.from }
+    ensures begun { chart.new.begun.keys ≡ chart.old.begun.keys }
+    ensures passages { chart.new.passages.keys ≡ chart.old.passages.keys }
+    ensures readings { chart.new.readings.items ≡ chart.old.readings.items }
+    ensures entries { chart.new.entries.keys ≡ [] }
+    ensures visits { chart.new.visits.items ≡ [] }
+{
+    chart.entries = IndexSet::new(alloc);
+    chart.visits = Vec::new(alloc);
 }
 
 /// A chart in which only the start is entered, in the state 0.

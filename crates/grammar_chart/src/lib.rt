@@ -11,7 +11,7 @@ pub mod rules;
 mod steps;
 mod turns;
 
-pub use chart::{Chart, begin, pass, read, turn};
+pub use chart::{Chart, begin, let_go, pass, read, turn};
 pub use keys::{Begun, Entry, Passage, Read, Reading};
 pub use steps::Visit;
 pub use turns::Turn;

@@ -1,8 +1,8 @@
 //! Single steps on the parts of a chart.
 
-ghost use Rattle.std.specs.Prelude.{◌≡◌, ◌⊎◌, ◌<◌, ◌++◌, ◌∷◌, [], ℕ, All, Contains, OnOk, IfOk, Some, slice_get, length, vec_len};
+ghost use Rattle.std.specs.Prelude.{◌≡◌, ◌⊎◌, ◌<◌, ◌++◌, ◌∷◌, [], ℕ, All, Contains, OnOk, IfOk, IfSome, Some, slice_get, length, vec_len};
 ghost use Rattle.numbered_sets.specs.Numbers.{Keeps};
-ghost use Rattle.grammar_chart.specs.Rules.{read_on};
+ghost use Rattle.grammar_chart.specs.Rules.{read_on, begun_at};
 ghost use Rattle.grammar_chart.specs.Adding.{AddsAll};
 ghost use Rattle.grammar_chart.specs.Visits.{VisitsGrow, AddsWaiting, AddsExit};
 ghost use Rattle.grammar_chart.specs.declared.keys.Read.TheVariants.{Nothing};
@@ -10,16 +10,29 @@ ghost use Rattle.grammar_chart.specs.declared.keys.Read.TheVariants.{Nothing};
 use crate::keys::{Begun, Entry, Read};
 use crate::rules::advanced;
 use indexmap::IndexSet;
-use numbered_sets::number;
+use numbered_sets::{count, number};
+use smallvec::SmallVec;
 use std::alloc::Global;
 use text_base::NoMemory;
 
-/// What is kept of an entry: the begun productions that wait for its symbol there, and the states
-/// in which it is left.
+/// What is kept of an entry. Most have one of each, which needs no allocation.
 #[derive(Drop)]
 pub struct Visit {
-    pub waiting: Vec<Begun>,
-    pub exits: Vec<u64>,
+    /// The numbers of the begun productions that wait for its symbol there.
+    pub waiting: SmallVec<u64, 1>,
+    /// The states in which it is left.
+    pub exits: SmallVec<u64, 1>,
+}
+
+/// The member with a number, if there is one.
+pub fn begun_at(begun: &IndexSet<Begun>, number: usize) -> Option<Begun>
+    ensures value { result ≡ slice_get begun.now.keys number }
+    ensures small { IfSome result (λ b. number < 9223372036854775808) }
+{
+    if number >= count(begun) {
+        return None;
+    }
+    begun.get_index(number).copied()
 }
 
 /// Adds a begun production, unless it is there.
@@ -42,16 +55,19 @@ pub fn advance_over(begun: &mut IndexSet<Begun>, one: Begun, exits: &[u64]) -> R
     Ok(())
 }
 
-/// Adds what each of the begun productions becomes by an exit of the symbol that they wait for.
-pub fn advance_all(
-    begun: &mut IndexSet<Begun>,
-    waiting: &[Begun],
-    exit: u64,
-) -> Result<(), NoMemory>
-    ensures { OnOk result (AddsAll begun.old.keys begun.new.keys waiting.now (λ b. read_on b exit)) }
+/// Adds what each of the begun productions with these numbers becomes by an exit of the symbol that
+/// they wait for.
+pub fn advance_all(begun: &mut IndexSet<Begun>, waiting: &[u64], exit: u64) -> Result<(), NoMemory>
+    requires { All (λ n. n < length begun.old.keys) waiting.now }
+    ensures { OnOk result
+        (AddsAll begun.old.keys begun.new.keys waiting.now
+        (λ n. read_on (begun_at begun.old.keys n) exit)) }
 {
-    for one in waiting {
-        add_begun(begun, advanced(*one, exit))?;
+    for number in waiting {
+        let Some(one) = begun_at(begun, *number as usize) else {
+            unreachable!()
+        };
+        add_begun(begun, advanced(one, exit))?;
     }
     Ok(())
 }
@@ -93,15 +109,15 @@ pub fn enter(
     let (place, is_new) = number(entries, entry)?;
     if is_new {
         visits.push(Visit {
-            waiting: Vec::new(alloc),
-            exits: Vec::new(alloc),
+            waiting: SmallVec::new(alloc),
+            exits: SmallVec::new(alloc),
         })?;
     }
     Ok(place)
 }
 
-/// Notes that a begun production waits at an entry.
-pub fn wait(visits: &mut Vec<Visit>, at: usize, one: Begun) -> Result<(), NoMemory>
+/// Notes that the begun production with a number waits at an entry.
+pub fn wait(visits: &mut Vec<Visit>, at: usize, one: u64) -> Result<(), NoMemory>
     requires { at < vec_len visits.old }
     ensures len { vec_len visits.new ≡ vec_len visits.old }
     ensures adds { OnOk result (AddsWaiting visits.old.items visits.new.items at one) }

@@ -86,6 +86,8 @@ fn zeros(alloc: Global, count: u64) -> Result<Vec<u64>, NoMemory>
 /// A table with no pair.
 fn empty_table<T: Exact + Hash + Drop>(alloc: Global, count: u64) -> Result<Table<T>, NoMemory>
     ensures entries { IfOk result (λ t. t.entries.keys ≡ []) }
+    ensures joins { IfOk result (λ t. t.joins.keys ≡ []) }
+    ensures joined { IfOk result (λ t. t.joined.items ≡ []) }
     ensures nodes { IfOk result (λ t. t.nodes.nodes.items ≡ []) }
     ensures len { IfOk result (λ t. length t.counts.items ≡ count) }
     ensures zero { IfOk result (λ t. All (λ n. n ≡ 0) t.counts.items) }
@@ -95,6 +97,8 @@ fn empty_table<T: Exact + Hash + Drop>(alloc: Global, count: u64) -> Result<Tabl
     let counts = zeros(alloc, count)?;
     Ok(Table {
         sums: IndexSet::new(alloc),
+        joins: IndexSet::new(alloc),
+        joined: Vec::new(alloc),
         entries: IndexSet::new(alloc),
         nodes: Nodes::new(alloc),
         counts,

@@ -68,14 +68,14 @@ module _ {S : Type 0} (K : List S) (steps : S → ℕ → S → List Letter → 
     (chart : IsChart ps from es vs bs fs rs opened taken left) (opens : length es ≤ opened) (takes : length bs ≤ taken) (lets : length fs ≤ left) (entries : AreDifferent es) (passages : AreDifferent fs)
     (fr : List Front) (base : ℕ) (ls : List Last) (qs : List Production) (lifts : AreLifts ps from bs fs rs fr base ls qs) (based : base ≡ suc (length fs))
     (answers : (k : ℕ) (range : ByteRange) (i : ℕ) → slice_get es k ≡ Some (record { symbol = Range range; state = i }) → IsAnswered steps K fs rs range i) where
-  taken_up : (b : Begun) → Contains bs b → IsTakenUp ps es vs fs b
+  taken_up : (b : Begun) → Contains bs b → IsTakenUp ps es vs bs fs b
   taken_up b h = let a = at_contains bs b h in chart.takes a.0 b (let w = slice_get_within bs a.0 b a.1 in omega (arith, w, takes)) a.1
 
   awaited_at : (b : Begun) (p : Production) → slice_get ps b.place ≡ Some p → awaited_of ps b ≡ awaited_by p.right b.from b.read
   awaited_at b p placed = ap (λ (o : Option Production). awaited_in o b) placed
 
-  waits : (b : Begun) (e : Entry) → Contains bs b → awaited_of ps b ≡ Some e → WaitsAt es vs b e
-  waits b e h is = subst (λ (o : Option Entry). MatchOption o (MatchOption (passage_of ps b) (Unit {0}) (λ f. Contains fs f)) (λ x. WaitsAt es vs b x)) is (taken_up b h)
+  waits : (b : Begun) (e : Entry) → Contains bs b → awaited_of ps b ≡ Some e → WaitsAt es vs bs b e
+  waits b e h is = subst (λ (o : Option Entry). MatchOption o (MatchOption (passage_of ps b) (Unit {0}) (λ f. Contains fs f)) (λ x. WaitsAt es vs bs b x)) is (taken_up b h)
 
   -- by a passage of the symbol that it waits for, a begun production goes on
   goes_on : (b : Begun) (e : Entry) (j : ℕ) → Contains bs b → awaited_of ps b ≡ Some e → Contains fs (record { symbol = e.symbol; from = e.state; to = j }) → Contains bs (read_on b j)
@@ -86,12 +86,14 @@ module _ {S : Type 0} (K : List S) (steps : S → ℕ → S → List Letter → 
       let same : w.0 ≡ x.0 = entries w.0 x.0 e w.1 x.1 in
       let v : Some w.2 ≡ Some x.2 = sym w.3 ∙ (ap (slice_get vs) same ∙ x.3) in
       let one : w.2 ≡ x.2 = some_same w.2 x.2 v in
-      chart.visited.combined w.0 w.2 b j w.3 w.4 (subst (λ (z : Visit). Contains z.exits.items j) (sym one) x.4)
+      let gone = chart.visited.combined w.0 w.2 w.4 j w.3 w.5 (subst (λ (z : Visit). Contains z.exits.items j) (sym one) x.4) in
+      let here : Some gone.0 ≡ Some b = sym gone.1 ∙ w.6 in
+      subst (λ (z : Begun). Contains bs (read_on z j)) (some_same gone.0 b here) gone.2
 
   -- where all is read, the left side has its passage
   ends : (b : Begun) (p : Production) → Contains bs b → slice_get ps b.place ≡ Some p → awaited_of ps b ≡ None → Contains fs (passage_by p b)
   ends b p h placed none =
-      let t = subst (λ (o : Option Entry). MatchOption o (MatchOption (passage_of ps b) (Unit {0}) (λ f. Contains fs f)) (λ x. WaitsAt es vs b x)) none (taken_up b h) in
+      let t = subst (λ (o : Option Entry). MatchOption o (MatchOption (passage_of ps b) (Unit {0}) (λ f. Contains fs f)) (λ x. WaitsAt es vs bs b x)) none (taken_up b h) in
       let is : passage_of ps b ≡ Some (passage_by p b) = ap (λ (o : Option Production). passage_in o b) placed in
       subst (λ (o : Option Passage). MatchOption o (Unit {0}) (λ f. Contains fs f)) is t
 

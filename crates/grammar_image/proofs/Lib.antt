@@ -9,3 +9,4 @@ pub mod CountLemmas
 pub mod PassageLemmas
 pub mod SpellLemmas
 pub mod SmallLemmas
+pub mod RestLemmas

@@ -17,7 +17,7 @@ use crate::refusal::ImageRefusal;
 use cfg_grammar::{Grammar, Production};
 use chart_grammar::grammar_of;
 use fst_core::Machine;
-use grammar_chart::{Chart, begin};
+use grammar_chart::{Chart, begin, let_go};
 use indexmap::IndexSet;
 use numbered_sets::{count, number, places_by};
 use std::alloc::Global;
@@ -52,30 +52,32 @@ fn first_state<M: Machine>(alloc: Global, machine: &M) -> Result<IndexSet<M::Sta
     Ok(states)
 }
 
-/// The grammar of a chart that is filled.
+/// The grammar of a chart that is filled. What only the filling needs is let go first, so that the
+/// productions take its room.
 fn finish<M: Machine>(
     alloc: Global,
     productions: &[Production],
     machine: &M,
     states: &IndexSet<M::State>,
-    chart: &Chart,
+    chart: &mut Chart,
 ) -> Result<Grammar, NoMemory>
     requires worked { IsWorked (M.steps machine.now) (M.gives machine.now) (M.first machine.now)
-        productions.now states.now.keys chart.now }
-    requires done { IsDone chart.now }
+        productions.now states.now.keys chart.old }
+    requires done { IsDone chart.old }
     ensures sentences { IfOk result
         (λ image. (w : List Letter)
         → Derives image.productions.items (symbols.Symbol.Nt image.start) w
-        ↔ Outputs productions.now (symbols.Symbol.Nt chart.now.from) (M.first machine.now)
+        ↔ Outputs productions.now (symbols.Symbol.Nt chart.old.from) (M.first machine.now)
         (M.steps machine.now) (M.ends machine.now) w) }
     ensures small { IfOk result
-        (λ image. IsSmall productions.now (M.steps machine.now) (M.ends machine.now) chart.now.from
+        (λ image. IsSmall productions.now (M.steps machine.now) (M.ends machine.now) chart.old.from
         (M.first machine.now) image.count (length image.productions.items)) }
 {
     let _states = count(states);
     let _begun = count(&chart.begun);
     let _entries = count(&chart.entries);
     let _passages = count(&chart.passages);
+    let_go(alloc, chart);
     let lasts = lasts_of(alloc, machine, states)?;
     let grammar = grammar_of(alloc, productions, chart, lasts.as_slice())?;
     Ok(grammar)
@@ -122,7 +124,7 @@ pub fn image_over<M: Machine>(
         Ok(()) => {}
         Err(refusal) => return Err(refusal),
     }
-    match finish(alloc, productions, machine, &states, &chart) {
+    match finish(alloc, productions, machine, &states, &mut chart) {
         Ok(grammar) => Ok(grammar),
         Err(_) => Err(ImageRefusal::Memory),
     }

@@ -56,7 +56,7 @@ fn replaced(rt: HostRuntime) -> Result<(), Fail> {
     };
     let search = Bytes::from_slice(alloc, "ab".as_bytes())?;
     let with = Bytes::from_slice(alloc, "-".as_bytes())?;
-    let table = machine_of(alloc, &Op::Replace { search, with })?;
+    let table = IndexedTable::new(alloc, machine_of(alloc, &Op::Replace { search, with })?)?;
     let made = image(alloc, &grammar, grammar.start, &table, 1000);
     let Ok(image) = made else {
         assert!(rt; false);
@@ -80,7 +80,7 @@ fn escaped(rt: HostRuntime) -> Result<(), Fail> {
         assert!(rt; false);
         return Ok(());
     };
-    let table = machine_of(alloc, &Op::Url)?;
+    let table = IndexedTable::new(alloc, machine_of(alloc, &Op::Url)?)?;
     let made = image(alloc, &grammar, grammar.start, &table, 1000);
     let Ok(image) = made else {
         assert!(rt; false);
@@ -103,7 +103,7 @@ fn limits(rt: HostRuntime) -> Result<(), Fail> {
         assert!(rt; false);
         return Ok(());
     };
-    let table = machine_of(alloc, &Op::Same)?;
+    let table = IndexedTable::new(alloc, machine_of(alloc, &Op::Same)?)?;
     assert!(rt;
         match image(alloc, &grammar, grammar.start, &table, 2) {
             Err(ImageRefusal::Large { items }) => items > 2,
@@ -129,7 +129,7 @@ fn no_items_at_all(rt: HostRuntime) -> Result<(), Fail> {
         assert!(rt; false);
         return Ok(());
     };
-    let table = machine_of(alloc, &Op::Lower)?;
+    let table = IndexedTable::new(alloc, machine_of(alloc, &Op::Lower)?)?;
     assert!(rt;
         match image(alloc, &grammar, grammar.start, &table, 0) {
             Err(ImageRefusal::Large { items }) => items > 0,
@@ -149,7 +149,7 @@ fn one_range(rt: HostRuntime) -> Result<(), Fail> {
         assert!(rt; false);
         return Ok(());
     };
-    let table = machine_of(alloc, &Op::Same)?;
+    let table = IndexedTable::new(alloc, machine_of(alloc, &Op::Same)?)?;
     let Ok(image) = image(alloc, &grammar, grammar.start, &table, 100) else {
         assert!(rt; false);
         return Ok(());
@@ -235,7 +235,7 @@ fn whole_ranges(rt: HostRuntime) -> Result<(), Fail> {
         assert!(rt; false);
         return Ok(());
     };
-    let table = machine_of(alloc, &Op::Same)?;
+    let table = IndexedTable::new(alloc, machine_of(alloc, &Op::Same)?)?;
     let made = image(alloc, &grammar, grammar.start, &table, 1000);
     let Ok(image) = made else {
         assert!(rt; false);

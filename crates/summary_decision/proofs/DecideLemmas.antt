@@ -46,11 +46,12 @@ no_height ps b w h (DerivesIn.by_one left x v j c d) a e l = omega (arith, l)
 no_height ps b w h (DerivesIn.by_two left x y u v i j c d f) a e l = omega (arith, l)
 
 module _ {S : Type 0} (sum_of : List PageToken → S) (composed : S → S → S) (whole : S → Bool) (ps : List Production) (start : nt.Nt) (count : ℕ) where
-  pub empty_is_table : (t : Table S) → t.entries.keys ≡ [] → t.nodes.nodes.items ≡ [] → length t.counts.items ≡ count → All (λ (n : ℕ). n ≡ 0) t.counts.items → t.height ≡ 0 → t.bound ≡ 0 → IsTable sum_of composed whole ps start count t
-  empty_is_table t entries nodes spread zeros height bound =
+  pub empty_is_table : (t : Table S) → t.entries.keys ≡ [] → t.joins.keys ≡ [] → t.joined.items ≡ [] → t.nodes.nodes.items ≡ [] → length t.counts.items ≡ count → All (λ (n : ℕ). n ≡ 0) t.counts.items → t.height ≡ 0 → t.bound ≡ 0 → IsTable sum_of composed whole ps start count t
+  empty_is_table t entries joins joined nodes spread zeros height bound =
       let none = no_known t entries in
       record {
         numbered = subst (λ (es : List Entry). All (λ (entry : Entry). entry.sum < length t.sums.keys) es) (sym entries) (All-nil (λ (entry : Entry). entry.sum < length t.sums.keys));
+        joined = record { long = ap length joined ∙ sym (ap length joins); right = λ n r join at here. absurd (none_at t.joins.keys n join joins at) };
         long = ap length nodes ∙ sym (ap length none);
         spread = spread;
         counted = λ a n e. All-contains (λ (n : ℕ). n ≡ 0) t.counts.items n zeros (contained t.counts.items a n e) ∙ sym (ap (λ (l : List (Pair S)). length (sums_at a l)) none);

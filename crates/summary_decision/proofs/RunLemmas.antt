@@ -30,6 +30,7 @@ module _ {S : Type 0} (sum_of : List PageToken → S) (composed : S → S → S)
       closed_complete sum_of composed appended ps start (known t) taken.count t.height up.closed (subst (λ (n : ℕ). IsComplete sum_of composed ps start (known t) n t.height) same table.complete) in
       record {
         numbered = table.numbered;
+        joined = table.joined;
         long = table.long;
         spread = table.spread;
         counted = table.counted;

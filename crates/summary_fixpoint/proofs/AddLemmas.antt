@@ -125,3 +125,8 @@ length_counts old new place qs left s b notes = by_test b notes.counts
     by_test : (c : Bool) → new.counts.items ≡ (if c then set old.counts.items left (get_or old.counts.items left 0 + 1) else old.counts.items) → length new.counts.items ≡ length old.counts.items
     by_test true e = ap length e ∙ length-set old.counts.items left (get_or old.counts.items left 0 + 1)
     by_test false e = ap length e
+
+-- what holds of the member with a number holds of each
+pub known_only : {S E : Type 0} (r : Result (Unit {0}) E) (P : S → Type 0) (xs : List S) (n : ℕ) (s : S) → slice_get xs n ≡ Some s → OnOk r (P s) → OnOk r ((t : S) → slice_get xs n ≡ Some t → P t)
+known_only (Err e) P xs n s at h = tt
+known_only (Ok u) P xs n s at h = λ t here. subst P (same_Some s t (sym at ∙ here)) h

@@ -28,11 +28,27 @@ use Rattle.summary_fixpoint.specs.declared.joint.Side.TheVariants.{First, Second
 use Rattle.summary_fixpoint.specs.declared.joint.Joint.{Joint}
 use Rattle.summary_fixpoint.specs.declared.letters.Piece.{Piece}
 use Rattle.summary_fixpoint.specs.declared.table.Table.{Table}
+use Rattle.summary_fixpoint.specs.declared.table.Join.{Join}
 use Rattle.summary_fixpoint.specs.Closed.{Pair, HasSum}
 use Rattle.summary_fixpoint.specs.Tables.{known, Supports, Makes, MakesAt, IsTable, GoesOn, Adds}
-use Rattle.summary_fixpoint.specs.Joints.{right_by, parts_by, composed_by, IsLetterOf, AreTaken, IsBeside, ArePartners, MeetsPairs, MeetsSymbol}
+use Rattle.summary_fixpoint.specs.Joints.{right_by, parts_by, composed_by, join_by, IsLetterOf, AreTaken, IsBeside, ArePartners, MeetsPairs, MeetsSymbol}
 use Rattle.summary_fixpoint.proofs.KnownLemmas.{keeps_member}
 use Rattle.summary_fixpoint.proofs.AddLemmas.{passes_at}
+
+-- the number of a composition, by the side
+pub joined_by : {S : Type 0} (composed : S → S → S) (side : Side) (sums more : List S) (own other : ℕ) (join : Join) (r : ℕ) (s t : S) → join ≡ join_by side own other → ((a b : S) → slice_get sums join.first ≡ Some a → slice_get sums join.second ≡ Some b → slice_get more r ≡ Some (composed a b)) → slice_get sums own ≡ Some s → slice_get sums other ≡ Some t → slice_get more r ≡ Some (composed_by composed side s t)
+joined_by composed First sums more own other join r s t is h first second =
+    h s t (ap (λ (x : Join). slice_get sums x.first) is ∙ first) (ap (λ (x : Join). slice_get sums x.second) is ∙ second)
+joined_by composed Second sums more own other join r s t is h first second =
+    h t s (ap (λ (x : Join). slice_get sums x.first) is ∙ second) (ap (λ (x : Join). slice_get sums x.second) is ∙ first)
+
+pub first_below : (side : Side) (own other count : ℕ) → own < count → other < count → (join_by side own other).first < count
+first_below First own other count h k = h
+first_below Second own other count h k = k
+
+pub second_below : (side : Side) (own other count : ℕ) → own < count → other < count → (join_by side own other).second < count
+second_below First own other count h k = k
+second_below Second own other count h k = h
 
 module _ {S : Type 0} (sum_of : List PageToken → S) (composed : S → S → S) (whole : S → Bool) (ps : List Production) (start : nt.Nt) where
   pub letter_supports : (nodes : List Node) (k : ℕ) (b : Symbol) (piece : Piece S) → IsLetterOf sum_of b (Some piece) → Supports sum_of composed whole ps start nodes k piece.part b piece.sum
@@ -96,6 +112,10 @@ module _ {S : Type 0} (sum_of : List PageToken → S) (composed : S → S → S)
 
     pub goes_both : (old mid new : Table S) → GoesOn sum_of composed whole ps start count old mid → GoesOn sum_of composed whole ps start count mid new → GoesOn sum_of composed whole ps start count old new
     goes_both old mid new p q = record { table = q.table; height = q.height ∙ p.height; bound = q.bound ∙ p.bound; keeps = λ n x h. q.keeps n x (p.keeps n x h) }
+
+    -- the same behind what goes on
+    pub adds_behind : (old mid new : Table S) (place : ℕ) (s : S) → GoesOn sum_of composed whole ps start count old mid → Adds sum_of composed whole ps start count mid new place s → Adds sum_of composed whole ps start count old new place s
+    adds_behind old mid new place s goes h = record { goes = goes_both old mid new goes h.goes; has = h.has }
 
     -- what makes the composition with one pair
     pub pair_makes : (t : Table S) (joint : Joint) (s : S) (c : nt.Nt) (pairs : List ℕ) (j : ℕ) (u : S) → IsTable sum_of composed whole ps start count t → IsBeside sum_of composed whole ps start t joint s (Nt c) → ArePartners sum_of composed whole ps start t c.0 pairs → Contains pairs j → slice_get (known t) j ≡ Some (c.0, u) → MakesAt sum_of composed whole ps start t joint.place (parts_by joint.side (part.Inner joint.pair) (part.Inner j)) (composed_by composed joint.side s u)

@@ -23,9 +23,10 @@ use Rattle.numbered_sets.proofs.NumberLemmas.{at_front}
 use Rattle.numbered_sets.proofs.PlaceLemmas.{slice_get-set_other, slice_get-set_same}
 use Rattle.useful_nonterminals.specs.Useful.{IsUseful}
 use Rattle.summary_fixpoint.specs.declared.table.Table.{Table}
+use Rattle.summary_fixpoint.specs.declared.table.Join.{Join}
 use Rattle.summary_fixpoint.specs.Pairs.{tokens_in, HasPairs, AreWholeBelow}
 use Rattle.summary_fixpoint.specs.Closed.{Pair, HasSum}
-use Rattle.summary_fixpoint.specs.Tables.{known, sums_at, Supports, IsMade, Makes, IsTable, GoesOn}
+use Rattle.summary_fixpoint.specs.Tables.{known, sums_at, AreNumbered, IsJoin, AreJoins, Supports, IsMade, Makes, IsTable, GoesOn}
 use Rattle.summary_fixpoint.specs.Notes.{Notes}
 use Rattle.summary_fixpoint.proofs.ClosedLemmas.{contained, placed}
 use Rattle.summary_fixpoint.proofs.KnownLemmas.{at_cases, at_before}
@@ -89,6 +90,74 @@ module _ {S : Type 0} where
   sums_short a [] = omega arith
   sums_short a (y ∷ ys) = if_short (nat_eq y.0 a) y.1 (sums_at a ys) (length ys) (sums_short a ys)
 
+module _ {S : Type 0} (composed : S → S → S) where
+  -- a composition that is noted is that of the sums with these numbers
+  pub join_told : (sums : List S) (join : Join) (r : ℕ) (s t : S) → IsJoin composed sums join r → slice_get sums join.first ≡ Some s → slice_get sums join.second ≡ Some t → slice_get sums r ≡ Some (composed s t)
+  join_told sums join r s t is first second =
+      let one = same_Some is.0 s (sym is.2 ∙ first) in
+      let two = same_Some is.1 t (sym is.3 ∙ second) in
+      is.4 ∙ ap (λ (x : S). Some (composed x is.1)) one ∙ ap (λ (y : S). Some (composed s y)) two
+
+  -- compositions stay noted as sums are added
+  pub joins_kept : (sums more : List S) (joins after : List Join) (joined answers : List ℕ) → Keeps sums more → after ≡ joins → answers ≡ joined → AreJoins composed sums joins joined → AreJoins composed more after answers
+  joins_kept sums more joins after joined answers keeps asked told h =
+      record {
+        long = ap length told ∙ (h.long ∙ sym (ap length asked));
+        right = λ n r join at here.
+            let k = h.right n r join (subst (λ (l : List Join). slice_get l n ≡ Some join) asked at) (subst (λ (l : List ℕ). slice_get l n ≡ Some r) told here) in
+            (k.0, k.1, keeps join.first k.0 k.2, keeps join.second k.1 k.3, keeps r (composed k.0 k.1) k.4);
+      }
+
+  -- and one more
+  pub joins_more : (sums more : List S) (joins after : List Join) (joined answers : List ℕ) (join : Join) (r : ℕ) → Keeps sums more → after ≡ joins ++ join ∷ [] → answers ≡ joined ++ r ∷ [] → IsJoin composed more join r → AreJoins composed sums joins joined → AreJoins composed more after answers
+  joins_more sums more joins after joined answers join r keeps asked told is h =
+      let longer = ap length asked ∙ length-append joins (join ∷ []) in
+      let more_told = ap length told ∙ length-append joined (r ∷ []) in
+      record {
+        long = omega (arith, longer, more_told, h.long);
+        right = λ n q other at here.
+            elim (at_cases joins join n other (subst (λ (l : List Join). slice_get l n ≡ Some other) asked at)) [
+              | inl k ↦ elim (at_cases joined r n q (subst (λ (l : List ℕ). slice_get l n ≡ Some q) told here)) [
+                | inl i ↦
+                    let j = h.right n q other k.1 i.1 in
+                    (j.0, j.1, keeps other.first j.0 j.2, keeps other.second j.1 j.3, keeps q (composed j.0 j.1) j.4)
+                | inr i ↦ absurd (omega (arith, k.0, i.0, h.long))
+              ]
+              | inr k ↦ elim (at_cases joined r n q (subst (λ (l : List ℕ). slice_get l n ≡ Some q) told here)) [
+                | inl i ↦ absurd (omega (arith, k.0, i.0, h.long))
+                | inr i ↦ subst (λ (x : Join). IsJoin composed more x q) k.1 (subst (λ (m : ℕ). IsJoin composed more join m) i.1 is)
+              ]
+            ];
+      }
+
+module _ {S : Type 0} (sum_of : List PageToken → S) (composed : S → S → S) (whole : S → Bool) (ps : List Production) (start : nt.Nt) where
+  -- more sums and compositions change nothing else
+  pub table_stays : (count : ℕ) (old new : Table S) → IsTable sum_of composed whole ps start count old → AreNumbered new.sums.keys new.entries.keys → AreJoins composed new.sums.keys new.joins.keys new.joined.items → known new ≡ known old → new.nodes.nodes.items ≡ old.nodes.nodes.items → new.counts.items ≡ old.counts.items → new.height ≡ old.height → new.bound ≡ old.bound → GoesOn sum_of composed whole ps start count old new
+  table_stays count old new table numbered joined pairs nodes counts height bound =
+      record {
+        table = record {
+          numbered = numbered;
+          joined = joined;
+          long = ap length nodes ∙ (table.long ∙ sym (ap length pairs));
+          spread = ap length counts ∙ table.spread;
+          counted = λ a n e. table.counted a n (subst (λ (l : List ℕ). slice_get l a ≡ Some n) counts e) ∙ sym (ap (λ (l : List (Pair S)). length (sums_at a l)) pairs);
+          different = λ a. subst (λ (l : List (Pair S)). AllPairs (λ (x y : S). x ≢ y) (sums_at a l)) (sym pairs) (table.different a);
+          bounded = omega (arith, table.bounded, bound, ap length pairs);
+          raised = omega (arith, table.raised, bound, height);
+          made = λ n x e. subst (λ (h : ℕ). IsMade sum_of composed whole ps start new.nodes.nodes.items (h + 1) n x) (sym height)
+              (subst (λ (ns : List Node). IsMade sum_of composed whole ps start ns (old.height + 1) n x) (sym nodes) (table.made n x (subst (λ (l : List (Pair S)). slice_get l n ≡ Some x) pairs e)));
+          early = λ n x l e. subst (λ (h : ℕ). IsMade sum_of composed whole ps start new.nodes.nodes.items h n x) (sym height)
+              (subst (λ (ns : List Node). IsMade sum_of composed whole ps start ns old.height n x) (sym nodes) (table.early n x (omega (arith, l, bound)) (subst (λ (l : List (Pair S)). slice_get l n ≡ Some x) pairs e)));
+          whole_at_start = λ t c. table.whole_at_start t (subst (λ (l : List (Pair S)). Contains l (start.0, t)) pairs c);
+          complete = λ a w h l u d.
+              let has = table.complete a w h (omega (arith, l, height)) u d in
+              (has.0, omega (arith, has.1, bound), subst (λ (l : List (Pair S)). slice_get l has.0 ≡ Some (a.0, sum_of (tokens_in w))) (sym pairs) has.2);
+        };
+        height = height;
+        bound = bound;
+        keeps = λ n x h. subst (λ (l : List (Pair S)). slice_get l n ≡ Some x) (sym pairs) h;
+      }
+
 module _ {S : Type 0} (sum_of : List PageToken → S) (composed : S → S → S) (whole : S → Bool) (ps : List Production) (start : nt.Nt) where
   pub has_sum_on : (xs ys : List (Pair S)) (n : ℕ) (a : nt.Nt) (s : S) → Keeps xs ys → HasSum sum_of composed xs n (symbol.Nt a) s → HasSum sum_of composed ys n (symbol.Nt a) s
   has_sum_on xs ys n a s keeps h = (h.0, h.1, keeps h.0 (a.0, s) h.2)
@@ -105,6 +174,7 @@ module _ {S : Type 0} (sum_of : List PageToken → S) (composed : S → S → S)
     table_old place qs left s notes =
         record {
           numbered = notes.numbered;
+          joined = joins_kept composed old.sums.keys new.sums.keys old.joins.keys new.joins.keys old.joined.items new.joined.items notes.sums notes.joins notes.joined table.joined;
           long = ap length notes.nodes ∙ (table.long ∙ sym (ap length notes.pairs));
           spread = ap length notes.counts ∙ table.spread;
           counted = λ a n e. table.counted a n (subst (λ (l : List ℕ). slice_get l a ≡ Some n) notes.counts e) ∙ sym (ap (λ (l : List (Pair S)). length (sums_at a l)) notes.pairs);
@@ -187,6 +257,7 @@ module _ {S : Type 0} (sum_of : List PageToken → S) (composed : S → S → S)
       table_new below is_whole =
           record {
             numbered = notes.numbered;
+            joined = joins_kept composed old.sums.keys new.sums.keys old.joins.keys new.joins.keys old.joined.items new.joined.items notes.sums notes.joins notes.joined table.joined;
             long = ap length notes.nodes ∙ (length-append old.nodes.nodes.items (node ∷ []) ∙ (ap (λ (n : ℕ). n + 1) table.long ∙ sym pair_count));
             spread = ap length notes.counts ∙ (length-set old.counts.items left.0 (get_or old.counts.items left.0 0 + 1) ∙ table.spread);
             counted = λ a n e. counted_more (omega (arith, below, table.spread)) a n (subst (λ (l : List ℕ). slice_get l a ≡ Some n) notes.counts e) ∙ sym (ap (λ (l : List (Pair S)). length (sums_at a l)) notes.pairs);

@@ -20,6 +20,7 @@ use Rattle.summary_fixpoint.specs.declared.joint.Side.TheVariants.{First, Second
 use Rattle.summary_fixpoint.specs.declared.joint.Joint.{Joint}
 use Rattle.summary_fixpoint.specs.declared.letters.Piece.{Piece}
 use Rattle.summary_fixpoint.specs.declared.table.Table.{Table}
+use Rattle.summary_fixpoint.specs.declared.table.Join.{Join}
 use Rattle.summary_fixpoint.specs.Closed.{Pair, HasSum}
 use Rattle.summary_fixpoint.specs.Tables.{known, GoesOn}
 
@@ -37,6 +38,11 @@ parts_by Second p q = parts.Two q p
 abbrev pub composed_by : {S : Type 0} → (S → S → S) → Side → S → S → S
 composed_by composed First s t = composed s t
 composed_by composed Second s t = composed t s
+
+-- two sums by their numbers, of which the first named stands on the side
+abbrev pub join_by : Side → ℕ → ℕ → Join
+join_by First own other = record { first = own; second = other }
+join_by Second own other = record { first = other; second = own }
 
 -- of two symbols, the one that does not stand on the side
 abbrev pub other_by : Side → Symbol → Symbol → Symbol

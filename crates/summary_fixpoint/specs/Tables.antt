@@ -20,6 +20,7 @@ use Rattle.numbered_sets.specs.Numbers.{Keeps}
 use Rattle.useful_nonterminals.specs.Useful.{IsUseful}
 use Rattle.summary_fixpoint.specs.declared.table.Entry.{Entry}
 use Rattle.summary_fixpoint.specs.declared.table.Table.{Table}
+use Rattle.summary_fixpoint.specs.declared.table.Join.{Join}
 use Rattle.summary_fixpoint.specs.Pairs.{tokens_in}
 use Rattle.summary_fixpoint.specs.Closed.{Pair, IsComplete}
 
@@ -47,6 +48,16 @@ module _ {S : Type 0} where
   abbrev pub AreNumbered : List S → List Entry → Type 0
   AreNumbered sums entries = All (λ entry. entry.sum < length sums) entries
 
+-- the number is that of the composition of two sums
+abbrev pub IsJoin : {S : Type 0} → (S → S → S) → List S → Join → ℕ → Type 0
+IsJoin {S} composed sums join n = (s : S) × (t : S) × (slice_get sums join.first ≡ Some s) × (slice_get sums join.second ≡ Some t)
+    × (slice_get sums n ≡ Some (composed s t))
+
+-- each composition that is noted is that of its sums
+pub record AreJoins {S : Type 0} (composed : S → S → S) (sums : List S) (joins : List Join) (joined : List ℕ) : Type 0 where
+  pub long : length joined ≡ length joins
+  pub right : (n r : ℕ) (join : Join) → slice_get joins n ≡ Some join → slice_get joined n ≡ Some r → IsJoin composed sums join r
+
 module _ {S : Type 0} (sum_of : List PageToken → S) (composed : S → S → S) (whole : S → Bool) (productions : List Production)
     (start : nt.Nt) where
   -- the part is a derivation of at most a height, of a sentence with the sum
@@ -73,6 +84,7 @@ module _ {S : Type 0} (sum_of : List PageToken → S) (composed : S → S → S)
   -- all that the table keeps; the pairs before the bound have derivations of at most the height, all of at most one more
   pub record IsTable (count : ℕ) (t : Table S) : Type 0 where
     pub numbered : AreNumbered t.sums.keys t.entries.keys
+    pub joined : AreJoins composed t.sums.keys t.joins.keys t.joined.items
     pub long : length t.nodes.nodes.items ≡ length (known t)
     pub spread : length t.counts.items ≡ count
     pub counted : (a n : ℕ) → slice_get t.counts.items a ≡ Some n → n ≡ length (sums_at a (known t))

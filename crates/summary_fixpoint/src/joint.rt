@@ -1,8 +1,9 @@
 //! Where a pair stands in a production.
 
 ghost use Rattle.std.specs.Prelude.{◌≡◌};
-ghost use Rattle.summary_fixpoint.specs.Joints.{parts_by, other_by};
+ghost use Rattle.summary_fixpoint.specs.Joints.{parts_by, other_by, join_by};
 
+use crate::table::Join;
 use cfg_grammar::Symbol;
 use derivations::{Part, Parts};
 
@@ -28,6 +29,22 @@ pub fn parts(side: Side, own: Part, other: Part) -> Parts
     match side {
         Side::First => Parts::Two(own, other),
         Side::Second => Parts::Two(other, own),
+    }
+}
+
+/// Two sums by their numbers, of which the first named stands on the side.
+pub fn join_on(side: Side, own: u64, other: u64) -> Join
+    ensures { result ≡ join_by side own other }
+{
+    match side {
+        Side::First => Join {
+            first: own,
+            second: other,
+        },
+        Side::Second => Join {
+            first: other,
+            second: own,
+        },
     }
 }
 

@@ -6,6 +6,7 @@
 
 mod adding;
 mod halt;
+mod joining;
 mod joint;
 mod laws;
 mod letters;
@@ -21,7 +22,6 @@ pub use joint::{Joint, Side, other, parts};
 pub use laws::closed_pairs;
 pub use letters::{Piece, letter};
 pub use meeting::{compose, meet, sum_of_pair};
-pub use noting::note;
 pub use question::Question;
-pub use table::{Entry, Table, Taken};
+pub use table::{Entry, Join, Table, Taken};
 pub use verdict::{TAG_LIMIT, Verdict};

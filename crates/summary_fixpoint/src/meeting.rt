@@ -7,9 +7,10 @@ ghost use Rattle.summary_fixpoint.specs.Tables.{known, IsTable, MakesAt, Adds, A
 ghost use Rattle.summary_fixpoint.specs.Halts.{Explains};
 ghost use Rattle.summary_fixpoint.specs.Joints.{composed_by, parts_by, IsBeside, ArePartners, AreTaken, MeetsPairs, MeetsSymbol};
 
-use crate::adding::add;
+use crate::adding::{add, add_known};
 use crate::halt::Halt;
-use crate::joint::{Joint, Side, parts};
+use crate::joining::{join, sum_number};
+use crate::joint::{Joint, Side, join_on, parts};
 use crate::letters::letter;
 use crate::question::Question;
 use crate::table::{Table, Taken};
@@ -88,11 +89,14 @@ fn meet_pairs<S: Summary>(
         question.now.grammar.now.productions.items question.now.grammar.now.start question.now.limit
         table.new.nodes.nodes.items table.new.height h) }
 {
+    let _ = sum;
     for pair in pairs {
-        let joined = compose(question, joint.side, sum, sum_of_pair(table, *pair))?;
+        let first = sum_number(table, joint.pair);
+        let second = sum_number(table, *pair);
+        let joined = join(question, table, join_on(joint.side, first, second))?;
         let own = Part::Inner(joint.pair as u64);
         let other = Part::Inner(*pair as u64);
-        add(
+        add_known(
             question,
             table,
             joint.place,

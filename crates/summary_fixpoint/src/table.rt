@@ -18,12 +18,27 @@ impl Exact for Entry {
     ghost exact = { Prim.search rules };
 }
 
+/// Two sums by their numbers, to be composed in this order.
+#[derive(Clone, Copy, Debug, PartialEq, Eq, Hash)]
+pub struct Join {
+    pub first: u64,
+    pub second: u64,
+}
+
+impl Exact for Join {
+    ghost exact = { Prim.search rules };
+}
+
 /// The pairs in the order in which they are found, which is that of the least heights of their
 /// derivations.
 #[derive(Drop)]
 pub struct Table<T: Exact + Hash + Drop> {
     /// Each sum once.
     pub sums: IndexSet<T>,
+    /// Each two sums of pairs that were composed.
+    pub joins: IndexSet<Join>,
+    /// The number of the composition of each two of these.
+    pub joined: Vec<u64>,
     pub entries: IndexSet<Entry>,
     /// The node at the place of each entry.
     pub nodes: Nodes,

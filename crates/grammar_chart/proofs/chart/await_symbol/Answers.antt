@@ -1,6 +1,5 @@
-use Rattle.std.proofs.Common.{◌≡◌, ◌<◌, ℕ, List, length, refl, sym, ◌∙◌, ap, subst, arith}
+use Rattle.std.proofs.Common.{◌≡◌, ◌<◌, ℕ, List, length, refl, subst, arith}
 use Rattle.std.proofs.lemmas.Option.{slice_get_read, slice_get_within}
-use Rattle.grammar_chart.specs.declared.keys.Begun.{Begun}
 use Rattle.grammar_chart.specs.Rules.{read_on}
 use Rattle.grammar_chart.specs.Adding.{AddsAll}
 use Rattle.grammar_chart.proofs.chart.await_symbol.Goals as goal
@@ -22,7 +21,7 @@ returns c =
       adds = c.in_ok-at.ensures.adds;
       grows = c.in_ok-at.ensures.grows;
       is_visit = slice_get_read visits.items (length visits.items) c.in_ok-at.at c.index.result.now refl within c.index.ensures;
-      advances = subst (λ (xs : List ℕ). AddsAll c.args.begun.now.keys c.advance_over.new.begun.keys xs (λ (t : ℕ). read_on c.args.one t)) c.as_slice.ensures.value c.in_ok-advance_over.ensures;
+      advances = subst (λ (xs : List ℕ). AddsAll c.args.begun.now.keys c.advance_over.new.begun.keys xs (λ (t : ℕ). read_on c.args.one t)) c.as_slice.ensures c.in_ok-advance_over.ensures;
       waits = c.in_ok-wait.ensures.adds;
       long = long;
       still_long = still;

@@ -1,4 +1,4 @@
-use Rattle.std.proofs.Common.{◌≡◌, Some, sym, slice_get, ◌∙◌}
+use Rattle.std.proofs.Common.{sym}
 use Rattle.std.proofs.lemmas.List.Elements.{All-contains}
 use Rattle.grammar_chart.specs.Rules.{ReadingStep}
 use Rattle.grammar_chart.specs.Charts.{IsEntered}

@@ -1,5 +1,3 @@
-use Rattle.std.proofs.Common.{ap, sym, ◌∙◌, ℕ, subst, ◌≡◌, get_or, Contains}
-use Rattle.grammar_chart.specs.declared.keys.Begun.{Begun}
 use Rattle.grammar_chart.specs.Rules.{read_on}
 use Rattle.grammar_chart.proofs.AddingLemmas.{adding_more_is, adding_all}
 use Rattle.grammar_chart.proofs.steps.advance_over.Goals as goal

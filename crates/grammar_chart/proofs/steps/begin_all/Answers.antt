@@ -1,5 +1,4 @@
 use Rattle.std.proofs.Common.{refl, ℕ}
-use Rattle.grammar_chart.specs.declared.keys.Begun.{Begun}
 use Rattle.grammar_chart.specs.declared.keys.Read.TheVariants.{Nothing}
 use Rattle.grammar_chart.proofs.AddingLemmas.{adding_more_is, adding_all}
 use Rattle.grammar_chart.proofs.steps.begin_all.Goals as goal

@@ -15,7 +15,7 @@ uses_on-requires-2 g c = subst (λ (xs : List Bool). (a : nt.Nt) → IsMarked xs
 pub work-ended-requires-clause-table : goal.work-ended-requires-clause-table
 work-ended-requires-clause-table g c =
     let t = c.in_ok-table.ensures in
-    empty_is_table (g.S.Summary.sum_of c.args.summary.now) (g.S.Summary.composed c.args.summary.now) (g.S.Summary.is_whole c.args.summary.now) c.args.grammar.now.productions.items c.args.grammar.now.start c.args.grammar.now.count c.in_ok-table.table t.entries t.nodes t.len t.zero t.height t.bound
+    empty_is_table (g.S.Summary.sum_of c.args.summary.now) (g.S.Summary.composed c.args.summary.now) (g.S.Summary.is_whole c.args.summary.now) c.args.grammar.now.productions.items c.args.grammar.now.start c.args.grammar.now.count c.in_ok-table.table t.entries t.joins t.joined t.nodes t.len t.zero t.height t.bound
 
 pub work-ended-requires-clause-useful : goal.work-ended-requires-clause-useful
 work-ended-requires-clause-useful g c = subst (λ (xs : List Bool). (a : nt.Nt) → IsMarked xs a.0 ↔ IsUseful c.args.grammar.now.productions.items c.args.grammar.now.start a) (sym c.as_slice-4.ensures.value) c.in_ok-useful.ensures.exact

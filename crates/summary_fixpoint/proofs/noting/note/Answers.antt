@@ -13,6 +13,9 @@ returns-then-not-is_new g c =
     let keys : c.number-2.new.keys.keys ≡ (if false then old.entries.keys ++ e ∷ [] else old.entries.keys) = subst (λ (b : Bool). c.number-2.new.keys.keys ≡ (if b then old.entries.keys ++ e ∷ [] else old.entries.keys)) c.if-not-is_new.true n.keys in
     record {
       numbered = noted_numbered old.sums.keys c.number.new.keys.keys old.entries.keys c.number-2.new.keys.keys e c.args.sum c.requires.numbered s.keeps s.number false keys;
+      sums = s.keeps;
+      joins = refl;
+      joined = refl;
       pairs = noted_pairs old.sums.keys c.number.new.keys.keys old.entries.keys c.number-2.new.keys.keys e c.args.sum c.requires.numbered s.keeps s.number false keys;
       has = noted_has old.sums.keys c.number.new.keys.keys old.entries.keys c.number-2.new.keys.keys e c.args.sum c.requires.numbered s.keeps s.number false _ keys n.number;
       fresh = noted_fresh old.sums.keys c.number.new.keys.keys old.entries.keys c.number-2.new.keys.keys e c.args.sum c.requires.numbered s.keeps s.number false keys c.count-sums.ensures.different c.count-entries.ensures.different;
@@ -40,6 +43,9 @@ returns g c =
     let m : c.index_mut.result.now ≡ get_or counts.items c.args.left 0 = get_or_read_under counts.items c.args.left (length counts.items) c.index_mut.result.now 0 c.index_mut.ensures.value c.requires.left refl in
     record {
       numbered = noted_numbered old.sums.keys c.number.new.keys.keys old.entries.keys c.number-2.new.keys.keys e c.args.sum c.requires.numbered s.keeps s.number true keys;
+      sums = s.keeps;
+      joins = refl;
+      joined = refl;
       pairs = noted_pairs old.sums.keys c.number.new.keys.keys old.entries.keys c.number-2.new.keys.keys e c.args.sum c.requires.numbered s.keeps s.number true keys;
       has = noted_has old.sums.keys c.number.new.keys.keys old.entries.keys c.number-2.new.keys.keys e c.args.sum c.requires.numbered s.keeps s.number true _ keys n.number;
       fresh = noted_fresh old.sums.keys c.number.new.keys.keys old.entries.keys c.number-2.new.keys.keys e c.args.sum c.requires.numbered s.keeps s.number true keys c.count-sums.ensures.different c.count-entries.ensures.different;
