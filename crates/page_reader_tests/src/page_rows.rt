@@ -2,6 +2,7 @@
 
 use crate::reading::{both_say, both_say_in_pieces, definition};
 use std::test::Fail;
+use xhtml_strict::strict;
 
 const DEFINITION: &[u8] = b"<!ELEMENT html (body)>
 <!ELEMENT body (p | br)*>
@@ -151,6 +152,28 @@ fn in_two_pieces(rt: HostRuntime) -> Result<(), Fail> {
         (
             b"<br/>a]]<p id='a' id='b'>c</p>".as_slice(),
             b"<br /br text text text bad ".as_slice(),
+        ),
+        (
+            b"<!-- --><p>a &lt;</p>".as_slice(),
+            b"misc <p text _ text /p ".as_slice(),
+        ),
+    ] {
+        assert!(rt; both_say_in_pieces(rt.alloc(), &dtd, page, words)?);
+    }
+    // By XHTML 1.0 Strict, where `p` has `class` and `title`, and is one of the further elements.
+    let dtd = strict(rt.alloc())?;
+    for (page, words) in [
+        (
+            b"<p class=\"x\" class=\"x\">".as_slice(),
+            b"bad ".as_slice(),
+        ),
+        (
+            b"<p class=\"x\" title=\"x\">".as_slice(),
+            b"<other ".as_slice(),
+        ),
+        (
+            b"<!-- --><p>a &lt;</p>".as_slice(),
+            b"misc <other text _ text /other ".as_slice(),
         ),
     ] {
         assert!(rt; both_say_in_pieces(rt.alloc(), &dtd, page, words)?);

@@ -1,0 +1,64 @@
+//! How many states of the reader of pages a page meets, and how many pairs of a state and a byte; with
+//! the word `figures` also how long a step takes, anew at each byte and by a table.
+#![tactic(auto)]
+
+mod figures;
+mod pages;
+mod reading;
+
+use anyhow::{Context, Result};
+use dtd_index::IndexedDtd;
+use dtd_model::{Dtd, mini};
+use figures::measure;
+use merged_reader::MergedReader;
+use pages::{MINI, Parts, STRICT, page_of};
+use reading::Met;
+use std::env;
+use std::rt::{Clock, Env};
+use xhtml_strict::strict;
+
+/// How many bytes the pages have at most.
+const SIZES: [usize; 3] = [512, 25_000, 1_048_576];
+
+fn report(
+    rt: &(impl Clock + AllocGlobal + Print),
+    name: &str,
+    reader: MergedReader<'_>,
+    page: &[u8],
+    timed: bool,
+) -> Result<()> {
+    let mut met = Met::new(rt.alloc(), reader)?;
+    let (bytes, tokens) = (page.len(), met.tokens_of(rt.alloc(), page)?);
+    let (states, pairs) = (met.states(), met.pairs());
+    println!(rt; "{name}: {bytes} bytes, {tokens} tokens, {states} states, {pairs} pairs")?;
+    if timed {
+        measure(rt, reader, page)?;
+    }
+    Ok(())
+}
+
+// Reports on the pages of a definition.
+fn report_all(
+    rt: &(impl Clock + AllocGlobal + Print),
+    name: &str,
+    dtd: &Dtd,
+    parts: &Parts,
+    timed: bool,
+) -> Result<()> {
+    let indexed = IndexedDtd::new(rt.alloc(), dtd)?;
+    let reader = MergedReader { indexed: &indexed };
+    for most in SIZES {
+        let page = page_of(rt.alloc(), parts, most)?;
+        report(rt, name, reader, page.as_slice(), timed)?;
+    }
+    Ok(())
+}
+
+fn main(rt: HostRuntime) -> Result<()> {
+    let word = env::args(&rt)?.nth(1);
+    let timed = word.as_deref() == Some("figures");
+    let large = strict(rt.alloc()).ok().context("the built-in definition")?;
+    report_all(&rt, "strict", &large, &STRICT, timed)?;
+    let small = mini(rt.alloc())?;
+    report_all(&rt, "mini", &small, &MINI, timed)
+}
