@@ -11,11 +11,13 @@ use Rattle.character_steps.specs.Bytes.{decoded, is_begun}
 use Rattle.character_steps.specs.Encoded.{Held, lifted, by_character, is_some_byte}
 use Rattle.page_fronts.specs.Fronts.{Open, nothing, in_reference, in_opener, in_tag_name, in_tag, at_empty_end, in_end_tag, in_comment, in_section, in_target, behind_target, in_instruction, in_declaration, at_declaration_end, in_doctype, kept_place}
 use Rattle.page_steps.specs.PageSteps.{PageState, page_reader, page_hold, is_inside}
-use Rattle.page_reader.specs.Passing.{passes, open_passes, takes_several, narrow_reader}
+use Rattle.page_endings.specs.Ending.{open_can_end, takes_several, goes_on_with}
+use Rattle.page_reader.specs.Passing.{passes, narrow_reader}
 use Rattle.merged_reader.specs.Alike.{second_alike, alike, representative}
 use Rattle.merged_reader.specs.Merging.{open_alike, takes_all_alike, merged_begun}
 use Rattle.merged_reader.proofs.Whole.{is_whole, none_decoded, is_several}
 use Rattle.merged_reader.proofs.Behind.{same_behind}
+use Rattle.merged_reader.proofs.GoingOn.{alike_goes_on}
 use Rattle.merged_reader.proofs.Steps.{alike_steps}
 
 -- the state with the first bytes that stand for those of its open character
@@ -89,6 +91,10 @@ some_end : (bytes : List ℕ) (b : ℕ) → is_some_byte (bytes ++ b ∷ []) ≡
 some_end [] b = refl
 some_end (a ∷ bytes) b = refl
 
+and_true : (b : Bool) → (b && true) ≡ b
+and_true true = refl
+and_true false = refl
+
 -- what moves put out, and where they lead
 pub record SameMoves (table : Table) (m n : Move Place PageToken (Held PageState)) : Type 0 where
   pub puts : put_out (narrow_reader table) m ≡ put_out (narrow_reader table) n
@@ -125,14 +131,17 @@ module _ (table : Table) (s : PageState) (takes : takes_all_alike s ≡ true) (b
   abbrev by_tests : List ℕ → Bool → Bool → Move Place PageToken (Held PageState)
   by_tests x begun passes = if begun then (if passes then go (held x) else fail) else fail
 
-  pass : (x : List ℕ) → passes table (held x) ≡ (open_passes table s.inside && takes_several s.inside)
-  pass x = ap (λ (y : Bool). open_passes table s.inside && (if y then takes_several s.inside else true)) (some_end x b)
+  pass : (x : List ℕ) → passes table (held x) ≡ (open_can_end table s.inside && takes_several s.inside)
+  pass x =
+      ap (λ (y : Bool). open_can_end table s.inside && (if y then takes_several s.inside && goes_on_with table s.inside (x ++ b ∷ []) else true)) (some_end x b)
+      ∙ ap (λ (y : Bool). open_can_end table s.inside && (takes_several s.inside && y)) (alike_goes_on table s.place s.inside (x ++ b ∷ []) takes)
+      ∙ ap (λ (y : Bool). open_can_end table s.inside && y) (and_true (takes_several s.inside))
 
   stays_open : (a : ℕ) (x : List ℕ) → is_whole (a ∷ (x ++ b ∷ [])) ≡ false
-      → step (a ∷ x) ≡ by_tests (a ∷ x) (is_begun (a ∷ (x ++ b ∷ []))) (open_passes table s.inside && takes_several s.inside)
+      → step (a ∷ x) ≡ by_tests (a ∷ x) (is_begun (a ∷ (x ++ b ∷ []))) (open_can_end table s.inside && takes_several s.inside)
   stays_open a x h = ap (by_option (a ∷ x)) (none_behind a x b h) ∙ by (is_begun (a ∷ (x ++ b ∷ [])))
     where
-      by : (y : Bool) → kept (passes table) (if y then go (held (a ∷ x)) else fail) ≡ by_tests (a ∷ x) y (open_passes table s.inside && takes_several s.inside)
+      by : (y : Bool) → kept (passes table) (if y then go (held (a ∷ x)) else fail) ≡ by_tests (a ∷ x) y (open_can_end table s.inside && takes_several s.inside)
       by true = ap (λ (z : Bool). if z then go (held (a ∷ x)) else fail) (pass (a ∷ x))
       by false = refl
 
@@ -167,7 +176,7 @@ module _ (table : Table) (s : PageState) (takes : takes_all_alike s ≡ true) (b
       let w = some_representative a u in
       let z : List ℕ = w.first ∷ w.more in
       let behind = same_behind x b in
-      let test : Bool = open_passes table s.inside && takes_several s.inside in
+      let test : Bool = open_can_end table s.inside && takes_several s.inside in
       let whole : is_whole (z ++ b ∷ []) ≡ false = ap (λ (bytes : List ℕ). is_whole (bytes ++ b ∷ [])) (sym w.is) ∙ behind.whole ∙ h in
       let begun : is_begun (z ++ b ∷ []) ≡ is_begun (x ++ b ∷ []) = ap (λ (bytes : List ℕ). is_begun (bytes ++ b ∷ [])) (sym w.is) ∙ behind.begun in
       let leads : step y ≡ by_tests y (is_begun (x ++ b ∷ [])) test =

@@ -1,6 +1,7 @@
 mod Whole
 mod Behind
 mod Steps
+pub mod GoingOn
 mod Held
 mod NumberMoves
 mod Full

@@ -23,7 +23,8 @@ use Rattle.page_steps.specs.PageSteps.{OpenMove, PageState, page_step, page_read
 use Rattle.page_steps.specs.ReferenceSteps.{reference_step, reference_good, decimal_step, hexadecimal_step}
 use Rattle.page_steps.specs.TagSteps.{step_of, good_of, names_with}
 use Rattle.page_steps.specs.ValueSteps.{in_reference_of, semicolon_step, may_stand}
-use Rattle.page_reader.specs.Passing.{passes, open_passes, reference_passes, declared_passes, tag_passes, value_takes, attribute_takes, takes_several, narrow_reader}
+use Rattle.page_endings.specs.Ending.{reference_can_end, value_can_end, declared_so, may_be_all, tag_can_end, open_can_end, value_takes, attribute_takes, takes_several, value_goes_on, tag_goes_on, goes_on_with}
+use Rattle.page_reader.specs.Passing.{passes, narrow_reader}
 use Rattle.merged_reader.specs.Merging.{value_alike, attribute_alike, open_alike}
 use Rattle.merged_reader.specs.Numbers.{merged_reference, merged_value, merged_attribute, merged_open, merged_numbers}
 
@@ -43,7 +44,7 @@ same_good entities (in_decimal n) = (ten_leads n).good
 same_good entities (in_hexadecimal None) = refl
 same_good entities (in_hexadecimal (Some n)) = (sixteen_leads n).good
 
-same_passes : (entities : List (List ℕ)) (r : OpenReference) → reference_passes entities (merged_reference r) ≡ reference_passes entities r
+same_passes : (entities : List (List ℕ)) (r : OpenReference) → reference_can_end entities (merged_reference r) ≡ reference_can_end entities r
 same_passes entities (in_entity name) = refl
 same_passes entities at_number = refl
 same_passes entities (in_decimal n) = (ten_leads n).within
@@ -395,20 +396,21 @@ module _ (table : Table) where
 
   -- The test of states.
 
-  declared_same : (o : Option Declared) (r : OpenReference)
-      → declared_passes table.entities o (in_value_reference (merged_reference r)) ≡ declared_passes table.entities o (in_value_reference r)
-  declared_same None r = refl
-  declared_same (Some d) r = same_passes table.entities r
+  declared_same : (o : Option Declared) (quote : ℕ) (r : OpenReference)
+      → declared_so (λ d. value_can_end table.entities d quote (in_value_reference (merged_reference r))) o ≡ declared_so (λ d. value_can_end table.entities d quote (in_value_reference r)) o
+  declared_same None quote r = refl
+  declared_same (Some d) quote r = same_passes table.entities r
 
-  tag_same : (o : Option Rule) (name : List ℕ) (quote : ℕ) (r : OpenReference)
-      → tag_passes table.entities o (in_value name quote (in_value_reference (merged_reference r)))
-      ≡ tag_passes table.entities o (in_value name quote (in_value_reference r))
-  tag_same None name quote r = refl
-  tag_same (Some rule) name quote r = declared_same (find_declared rule.attributes name) r
+  tag_same : (o : Option Rule) (tag : List ℕ) (names : List (List ℕ)) (name : List ℕ) (quote : ℕ) (r : OpenReference)
+      → tag_can_end table.entities tag names (in_value name quote (in_value_reference (merged_reference r))) o
+      ≡ tag_can_end table.entities tag names (in_value name quote (in_value_reference r)) o
+  tag_same None tag names name quote r = refl
+  tag_same (Some rule) tag names name quote r =
+      ap (λ (b : Bool). b && may_be_all table.entities tag rule.attributes (name ∷ names)) (declared_same (find_declared rule.attributes name) quote r)
 
   attribute_same : (tag : List ℕ) (names : List (List ℕ)) (o : OpenAttribute)
-      → open_passes table (in_tag tag names (merged_attribute o)) ≡ open_passes table (in_tag tag names o)
-  attribute_same tag names (in_value name quote (in_value_reference r)) = tag_same (find_rule table.elements tag) name quote r
+      → open_can_end table (in_tag tag names (merged_attribute o)) ≡ open_can_end table (in_tag tag names o)
+  attribute_same tag names (in_value name quote (in_value_reference r)) = tag_same (find_rule table.elements tag) tag names name quote r
   attribute_same tag names (in_value name quote in_text) = refl
   attribute_same tag names (in_value name quote (in_fixed value)) = refl
   attribute_same tag names (in_value name quote (in_choice word spaced)) = refl
@@ -418,7 +420,7 @@ module _ (table : Table) where
   attribute_same tag names (behind_name name) = refl
   attribute_same tag names (behind_equals name) = refl
 
-  open_same : (o : Open) → open_passes table (merged_open o) ≡ open_passes table o
+  open_same : (o : Open) → open_can_end table (merged_open o) ≡ open_can_end table o
   open_same nothing = refl
   open_same (in_reference r) = same_passes table.entities r
   open_same (in_opener begun) = refl
@@ -435,10 +437,45 @@ module _ (table : Table) where
   open_same at_declaration_end = refl
   open_same (in_doctype o) = refl
 
+  -- what a value goes on with
+  value_goes_same : (d : Option Declared) (v : OpenValue) (u : List ℕ) → value_goes_on d (merged_value v) u ≡ value_goes_on d v u
+  value_goes_same None v u = refl
+  value_goes_same (Some d) in_text u = refl
+  value_goes_same (Some d) (in_value_reference r) u = refl
+  value_goes_same (Some d) (in_fixed value) u = refl
+  value_goes_same (Some d) (in_choice word spaced) u = refl
+  value_goes_same (Some d) (in_words inside one) u = refl
+
+  tag_goes_same : (f : Option Rule) (o : OpenAttribute) (u : List ℕ) → tag_goes_on f (merged_attribute o) u ≡ tag_goes_on f o u
+  tag_goes_same None o u = refl
+  tag_goes_same (Some rule) (between spaced) u = refl
+  tag_goes_same (Some rule) (in_attribute_name name) u = refl
+  tag_goes_same (Some rule) (behind_name name) u = refl
+  tag_goes_same (Some rule) (behind_equals name) u = refl
+  tag_goes_same (Some rule) (in_value name quote v) u = ap (λ (b : Bool). not (is_quote quote) || b) (value_goes_same (find_declared rule.attributes name) v u)
+
+  goes_same : (o : Open) (u : List ℕ) → goes_on_with table (merged_open o) u ≡ goes_on_with table o u
+  goes_same nothing u = refl
+  goes_same (in_reference r) u = refl
+  goes_same (in_opener begun) u = refl
+  goes_same (in_tag_name name) u = refl
+  goes_same (in_tag tag names o) u = tag_goes_same (find_rule table.elements tag) o u
+  goes_same (at_empty_end name names) u = refl
+  goes_same (in_end_tag name spaced) u = refl
+  goes_same (in_comment dashes) u = refl
+  goes_same (in_section brackets) u = refl
+  goes_same (in_target o) u = refl
+  goes_same behind_target u = refl
+  goes_same (in_instruction asked) u = refl
+  goes_same (in_declaration names o) u = refl
+  goes_same at_declaration_end u = refl
+  goes_same (in_doctype o) u = refl
+
   passes_same : (h : Held PageState) → passes table (numbered h) ≡ passes table h
   passes_same h =
-      ap (λ (b : Bool). b && (if is_some_byte h.begun then takes_several (merged_open h.state.inside) else true)) (open_same h.state.inside)
-      ∙ ap (λ (b : Bool). open_passes table h.state.inside && (if is_some_byte h.begun then b else true)) (takes_same h.state.inside)
+      ap (λ (b : Bool). b && (if is_some_byte h.begun then takes_several (merged_open h.state.inside) && goes_on_with table (merged_open h.state.inside) h.begun else true)) (open_same h.state.inside)
+      ∙ ap (λ (b : Bool). open_can_end table h.state.inside && (if is_some_byte h.begun then b && goes_on_with table (merged_open h.state.inside) h.begun else true)) (takes_same h.state.inside)
+      ∙ ap (λ (b : Bool). open_can_end table h.state.inside && (if is_some_byte h.begun then takes_several h.state.inside && b else true)) (goes_same h.state.inside h.begun)
 
   kept_moves : (m : Move Place PageToken (Held PageState)) → numbered_move (kept (passes table) m) ≡ kept (passes table) (numbered_move m)
   kept_moves (go h) = at (passes table h) ∙ ap (λ (b : Bool). if b then go (numbered h) else fail) (sym (passes_same h))

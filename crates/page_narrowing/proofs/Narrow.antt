@@ -1,43 +1,29 @@
 -- The reader that fails at once has the tokens of a page, and keeps that each state passes.
-use Rattle.std.proofs.Common.{◌≡◌, ◌⊎◌, inl, inr, ℕ, Bool, true, false, List, [], ◌∷◌, ◌++◌, Option, Some, None, refl, sym, ◌∙◌, ap}
+use Rattle.std.proofs.Common.{◌≡◌, ℕ, Bool, true, false, List, [], ◌∷◌, ◌++◌, Option, Some, None, refl, sym, ◌∙◌, ap}
 use Rattle.std.specs.Prelude.{if◌then◌else◌, nat_eq}
 use Rattle.std.specs.List.{Any}
 use Rattle.std.proofs.lemmas.Bool.{and_parts, eqb-true}
 use Rattle.std.proofs.lemmas.List.Folds.{Any-from_list_any, list_any-from_Any}
-use Rattle.text_base.specs.declared.page_token.PageToken.{PageToken}
 use Rattle.dtd_model.specs.Table.{Table}
-use Rattle.page_model.specs.Pieces.{Piece}
-use Rattle.page_model.specs.Places.{Place, at_beginning}
-use Rattle.piece_steps.specs.Languages.{Language}
+use Rattle.page_model.specs.Places.{at_beginning}
 use Rattle.piece_steps.specs.Readers.{Move, go, done, fail, Reader, to_state, state_after, kept, narrowed}
 use Rattle.piece_steps.specs.Reads.{Reads}
-use Rattle.piece_steps.proofs.Narrowed.{AllPass, narrowed_reads}
+use Rattle.piece_steps.proofs.Narrowed.{narrowed_reads}
 use Rattle.piece_steps.proofs.Whole.{tokens_are_read}
-use Rattle.character_steps.specs.Encoded.{encoded_language, at_state, encoded}
+use Rattle.character_steps.specs.Encoded.{at_state, encoded}
 use Rattle.character_steps.proofs.Encoding.{encoded_reads}
 use Rattle.page_steps.specs.DoctypeSteps.{begins}
-use Rattle.page_steps.specs.PageSteps.{PageState, page_reader, page_hold, page_language}
+use Rattle.page_steps.specs.PageSteps.{page_reader, page_hold, page_language}
 use Rattle.page_step_laws.specs.Laws.{beginning}
 use Rattle.page_step_laws.proofs.Held.{read_by_characters}
 use Rattle.page_step_laws.proofs.Tokens.{pieces}
 use Rattle.page_reads.specs.Laws.{IsLawfulTable}
 use Rattle.page_reads.proofs.All.{pieces_read, page_tokens_read}
-use Rattle.page_narrowing.specs.Laws.{EndsPass, NarrowTokensRead, FirstKept, StepsKeep, MetKept, BeginningsTold}
-use Rattle.page_narrowing.specs.Passing.{some_begins, open_passes, takes_several, passes, narrow_reader}
-use Rattle.page_narrowing.proofs.Begins.{begins_less, begins_itself}
-use Rattle.page_narrowing.proofs.Opens.{pages_keep}
-use Rattle.page_narrowing.proofs.Refusals.{pages_refuse}
-use Rattle.page_narrowing.proofs.Traps.{Trap, all_pass_by_bytes, end_passes_by_bytes}
-
-trap : (table : Table) → Trap (page_reader table) page_hold (λ (s : PageState). open_passes table s.inside) (λ (s : PageState). takes_several s.inside)
-trap table = record { keeps = pages_keep table; refuses = pages_refuse table; held_test = λ s. refl; held_takes = λ s. refl }
-
-all_pass : (table : Table) → AllPass (passes table) (encoded (page_reader table) page_hold)
-all_pass table = all_pass_by_bytes (page_reader table) page_hold (λ (s : PageState). open_passes table s.inside) (λ (s : PageState). takes_several s.inside) (trap table)
-
-pub ends_pass : EndsPass
-ends_pass table h bytes rest next tokens e =
-    end_passes_by_bytes (page_reader table) page_hold (λ (s : PageState). open_passes table s.inside) (λ (s : PageState). takes_several s.inside) (trap table) bytes h next tokens rest e
+use Rattle.page_narrowing.specs.Laws.{NarrowTokensRead, FirstKept, StepsKeep, MetKept, BeginningsTold}
+use Rattle.page_narrowing.specs.Passing.{passes, narrow_reader}
+use Rattle.page_endings.specs.Ending.{some_name_begins}
+use Rattle.page_endings.proofs.Begins.{begins_less, begins_itself}
+use Rattle.page_endings.proofs.Halts.{all_pass}
 
 by_bytes : (table : Table) → IsLawfulTable table → Reads (pieces table) (encoded (page_reader table) page_hold)
 by_bytes table h = encoded_reads (page_language table) (page_reader table) page_hold (read_by_characters table) (pieces_read table h)
@@ -110,12 +96,10 @@ any_map : {P Q : List ℕ → Type 0} → ((x : List ℕ) → P x → Q x) → (
 any_map f xs (i, x, l, e, p) = (i, x, l, e, f x p)
 
 pub beginnings_told : BeginningsTold
-beginnings_told names [] = (λ e. inl refl, λ e. refl)
-beginnings_told names (c ∷ cs) = (tells, told)
+beginnings_told names front = (tells, told)
   where
-    tells : some_begins names (c ∷ cs) ≡ true → (c ∷ cs ≡ []) ⊎ Any (λ (name : List ℕ). (more : List ℕ) × (name ≡ (c ∷ cs) ++ more)) names
-    tells e = inr (any_map (λ w h. begun (c ∷ cs) w h) names (Any-from_list_any (λ (w : List ℕ). begins w (c ∷ cs)) names e))
+    tells : some_name_begins names front ≡ true → Any (λ (name : List ℕ). (more : List ℕ) × (name ≡ front ++ more)) names
+    tells e = any_map (λ w h. begun front w h) names (Any-from_list_any (λ (w : List ℕ). begins w front) names e)
 
-    told : (c ∷ cs ≡ []) ⊎ Any (λ (name : List ℕ). (more : List ℕ) × (name ≡ (c ∷ cs) ++ more)) names → some_begins names (c ∷ cs) ≡ true
-    told (inl e) = cc
-    told (inr a) = list_any-from_Any (λ (w : List ℕ). begins w (c ∷ cs)) names (any_map (λ w h. begins_so (c ∷ cs) w h) names a)
+    told : Any (λ (name : List ℕ). (more : List ℕ) × (name ≡ front ++ more)) names → some_name_begins names front ≡ true
+    told a = list_any-from_Any (λ (w : List ℕ). begins w front) names (any_map (λ w h. begins_so front w h) names a)

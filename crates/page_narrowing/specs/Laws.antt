@@ -1,21 +1,17 @@
 -- The reader of pages that fails at once, as statements.
-use Rattle.std.specs.Prelude.{◌≡◌, ◌↔◌, ◌⊎◌, ℕ, true, List, [], ◌++◌, Some}
+use Rattle.std.specs.Prelude.{◌≡◌, ◌↔◌, ℕ, true, List, ◌++◌, Some}
 use Rattle.std.specs.List.{Any}
 use Rattle.text_base.specs.declared.page_token.PageToken.{PageToken}
 use Rattle.dtd_model.specs.Table.{Table}
 use Rattle.page_model.specs.PageTokens.{PageTokens}
 use Rattle.page_model.specs.Places.{Place}
-use Rattle.piece_steps.specs.Readers.{go, whole, ends, state_after, all_tokens}
-use Rattle.character_steps.specs.Encoded.{Held, at_state, encoded}
-use Rattle.page_steps.specs.PageSteps.{PageState, page_reader, page_hold}
+use Rattle.piece_steps.specs.Readers.{go, state_after, all_tokens}
+use Rattle.character_steps.specs.Encoded.{Held, at_state}
+use Rattle.page_steps.specs.PageSteps.{PageState}
 use Rattle.page_step_laws.specs.Laws.{beginning}
 use Rattle.page_reads.specs.Laws.{IsLawfulTable}
-use Rattle.page_narrowing.specs.Passing.{some_begins, passes, narrow_reader}
-
--- each state passes from which some bytes lead to the end of a piece
-abbrev pub EndsPass : Type 0
-EndsPass = (table : Table) (h : Held PageState) (bytes rest : List ℕ) (behind : Place) (tokens : List PageToken)
-    → ends (encoded (page_reader table) page_hold) h bytes ≡ whole behind tokens rest → passes table h ≡ true
+use Rattle.page_endings.specs.Ending.{some_name_begins}
+use Rattle.page_narrowing.specs.Passing.{passes, narrow_reader}
 
 -- what the narrowed reader puts out over a page
 abbrev pub narrow_tokens : Table → List ℕ → List PageToken
@@ -46,4 +42,4 @@ MetKept = (table : Table) (bytes : List ℕ) (h : Held PageState)
 -- the test of names tells that one of them begins so
 abbrev pub BeginningsTold : Type 0
 BeginningsTold = (names : List (List ℕ)) (front : List ℕ)
-    → (some_begins names front ≡ true) ↔ ((front ≡ []) ⊎ Any (λ (name : List ℕ). (more : List ℕ) × (name ≡ front ++ more)) names)
+    → (some_name_begins names front ≡ true) ↔ Any (λ (name : List ℕ). (more : List ℕ) × (name ≡ front ++ more)) names

@@ -1,11 +1,6 @@
 //! The laws. Each function does nothing, and stands for the law that its contract states.
 
-ghost use Rattle.page_narrowing.specs.Laws.{BeginningsTold, EndsPass, FirstKept, MetKept, NarrowTokensRead, StepsKeep};
-
-/// Each state passes from which some bytes lead to the end of a piece.
-pub fn ends_pass()
-    ensures { EndsPass }
-{}
+ghost use Rattle.page_narrowing.specs.Laws.{BeginningsTold, FirstKept, MetKept, NarrowTokensRead, StepsKeep};
 
 /// The narrowed reader puts out exactly the tokens of a page.
 pub fn narrow_tokens_read()
@@ -27,7 +22,7 @@ pub fn met_kept()
     ensures { MetKept }
 {}
 
-/// The test of names tells that nothing is read yet, or that one of them begins so.
+/// The test of names tells that one of them begins so; where nothing is read, that there is one.
 pub fn beginnings_told()
     ensures { BeginningsTold }
 {}

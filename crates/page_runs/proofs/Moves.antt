@@ -12,7 +12,8 @@ use Rattle.character_steps.specs.Encoded.{Held, lifted, by_character, is_some_by
 use Rattle.character_steps.proofs.Begun.{decoded_is}
 use Rattle.page_fronts.specs.Fronts.{Open, nothing, in_reference, in_opener, in_tag_name, in_tag, at_empty_end, in_end_tag, in_comment, in_section, in_target, behind_target, in_instruction, in_declaration, at_declaration_end, in_doctype, kept_place}
 use Rattle.page_steps.specs.PageSteps.{PageState, page_reader, page_step, page_hold}
-use Rattle.page_reader.specs.Passing.{passes, open_passes, takes_several, narrow_reader}
+use Rattle.page_endings.specs.Ending.{open_can_end, takes_several, goes_on_with}
+use Rattle.page_reader.specs.Passing.{passes, narrow_reader}
 use Rattle.page_reader.specs.States.{coded, tokens_at}
 use Rattle.page_reader.specs.declared.state.ReaderState.{ReaderState}
 use Rattle.page_reader.specs.declared.state.ReaderState.TheVariants.{Failed, Reading}
@@ -24,6 +25,7 @@ use Rattle.merged_reader.specs.Alike.{representative}
 use Rattle.merged_reader.specs.Merging.{open_alike, takes_all_alike}
 use Rattle.merged_reader.specs.NumbersInMemory.{merged_open}
 use Rattle.merged_reader.specs.States.{merged, merged_next}
+use Rattle.merged_reader.proofs.GoingOn.{alike_goes_on}
 use Rattle.echoing_machine.specs.Runs.{AreAlike}
 use Rattle.page_runs.specs.Classes.{is_ordinary, Class, ordinary, other, begun, no_character, class_of, class_behind}
 use Rattle.page_runs.specs.Runs.{last_behind}
@@ -77,7 +79,7 @@ module _ (table : Table) (h : HeldState) (takes : takes_all_alike (plain_state h
   })
 
   abbrev may_go_on : Bool
-  may_go_on = open_passes table s.inside && takes_several s.inside
+  may_go_on = open_can_end table s.inside && takes_several s.inside
 
   -- by a class of bytes; an ordinary character does what `a` does
   abbrev leads : Class → ReaderState
@@ -126,7 +128,14 @@ module _ (table : Table) (h : HeldState) (takes : takes_all_alike (plain_state h
       tested y = if y then go (record { state = page_hold s; begun = h.begun ++ b ∷ [] }) else fail
 
       pass : passes table (record { state = page_hold s; begun = h.begun ++ b ∷ [] }) ≡ may_go_on
-      pass = ap (λ (y : Bool). open_passes table s.inside && (if y then takes_several s.inside else true)) (some_end h.begun b)
+      pass =
+          ap (λ (y : Bool). open_can_end table s.inside && (if y then takes_several s.inside && goes_on_with table s.inside (h.begun ++ b ∷ []) else true)) (some_end h.begun b)
+          ∙ ap (λ (y : Bool). open_can_end table s.inside && (takes_several s.inside && y)) (alike_goes_on table s.place s.inside (h.begun ++ b ∷ []) takes)
+          ∙ ap (λ (y : Bool). open_can_end table s.inside && y) (and_true (takes_several s.inside))
+
+      and_true : (x : Bool) → (x && true) ≡ x
+      and_true true = refl
+      and_true false = refl
 
       held : (y : Bool) → to (tested y) ≡ (if y then state_with (representative (h.begun ++ b ∷ [])) else Failed)
       held true = ap (λ (x : Bool). state_with (if x then representative (h.begun ++ b ∷ []) else h.begun ++ b ∷ [])) takes_held

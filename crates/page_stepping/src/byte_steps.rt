@@ -67,23 +67,27 @@ pub fn narrow_step(
         ≡ (passing.narrow_reader (table_of indexed.now.dtd.now)).step (plain_held held.now) byte) }
 {
     let to = byte_step(alloc, indexed, held, byte)?;
-    Ok(kept(indexed, to))
+    kept(alloc, indexed, to)
 }
 
 // The move, but that it fails at a state that does not pass.
-fn kept(indexed: &IndexedDtd<'_>, to: StateMove<HeldState>) -> StateMove<HeldState>
-    ensures { plain_move_by plain_held result
-        ≡ readers.kept (passing.passes (table_of indexed.now.dtd.now)) (plain_move_by plain_held to) }
+fn kept(
+    alloc: Global,
+    indexed: &IndexedDtd<'_>,
+    to: StateMove<HeldState>,
+) -> Result<StateMove<HeldState>, NoMemory>
+    ensures { IfOk result (λ led. plain_move_by plain_held led
+        ≡ readers.kept (passing.passes (table_of indexed.now.dtd.now)) (plain_move_by plain_held to)) }
 {
     match to {
         StateMove::Go(held) => {
-            if passes(indexed, &held) {
-                StateMove::Go(held)
+            if passes(alloc, indexed, &held)? {
+                Ok(StateMove::Go(held))
             } else {
-                StateMove::Fail
+                Ok(StateMove::Fail)
             }
         }
-        StateMove::Done(place, emit) => StateMove::Done(place, emit),
-        StateMove::Fail => StateMove::Fail,
+        StateMove::Done(place, emit) => Ok(StateMove::Done(place, emit)),
+        StateMove::Fail => Ok(StateMove::Fail),
     }
 }

@@ -7,7 +7,7 @@ use Rattle.page_steps.specs.PageSteps.{PageState}
 use Rattle.page_step_laws.specs.Laws.{beginning}
 use Rattle.page_reads.specs.Laws.{IsLawfulTable}
 use Rattle.page_narrowing.specs.Passing.{narrow_reader}
-use Rattle.front_laws.specs.Laws.{SameFronts}
+use Rattle.exact_fronts.specs.Laws.{EqualFronts}
 use Rattle.state_codes.proofs.OneToOne.{plain_coded_held}
 use Rattle.page_reader.specs.declared.state.ReaderState.{ReaderState}
 use Rattle.page_reader.specs.States.{coded, first_state, next_state}
@@ -31,14 +31,14 @@ module _ (table : Table) where
   state_merged s (b ∷ bs) =
       ap (λ (t : ReaderState). state_over (merged_next table) t bs) (same_next table s b) ∙ state_merged (next_state table s b) bs
 
-  pub plain_alike : SameFronts → IsLawfulTable table → LeadsAlike table (next_state table)
-  plain_alike law lawful first second place o begun f g =
+  pub plain_alike : EqualFronts → IsLawfulTable table → LeadsAlike table (next_state table)
+  plain_alike law lawful first second f h g =
       state_coded (Some (at_state beginning)) first
-      ∙ ap coded (law table lawful first second place o begun f g)
+      ∙ ap coded (law table lawful first second f h g)
       ∙ sym (state_coded (Some (at_state beginning)) second)
 
-  pub merged_alike : SameFronts → IsLawfulTable table → LeadsAlike table (merged_next table)
-  merged_alike law lawful first second place o begun f g =
+  pub merged_alike : EqualFronts → IsLawfulTable table → LeadsAlike table (merged_next table)
+  merged_alike law lawful first second f h g =
       state_merged first_state first
-      ∙ ap merged (plain_alike law lawful first second place o begun f g)
+      ∙ ap merged (plain_alike law lawful first second f h g)
       ∙ sym (state_merged first_state second)

@@ -2,8 +2,7 @@
 use Rattle.std.specs.Prelude.{◌≡◌, ◌<◌, ℕ, List, [], ◌∷◌, ◌++◌, All}
 use Rattle.text_base.specs.declared.page_token.PageToken.{PageToken}
 use Rattle.dtd_model.specs.Table.{Table}
-use Rattle.page_model.specs.Places.{Place}
-use Rattle.page_fronts.specs.Fronts.{Open, bad, front, HasFront}
+use Rattle.page_fronts.specs.Fronts.{Front, bad, HasFront}
 use Rattle.byte_readers.specs.Reading.{tokens_over}
 use Rattle.page_reader.specs.States.{first_state}
 use Rattle.page_reader.specs.declared.state.ReaderState.{ReaderState}
@@ -13,10 +12,9 @@ abbrev pub state_over : {S : Type 0} → (S → ℕ → S) → S → List ℕ �
 state_over next s [] = s
 state_over next s (b ∷ bs) = state_over next (next s b) bs
 
--- two texts with one front that is not bad lead to one state
+-- two texts with equal fronts lead to one state
 abbrev pub LeadsAlike : Table → (ReaderState → ℕ → ReaderState) → Type 0
-LeadsAlike table next = (first second : List ℕ) (place : Place) (o : Open) (begun : List ℕ)
-    → HasFront table first (front place o begun) → HasFront table second (front place o begun)
+LeadsAlike table next = (first second : List ℕ) (f : Front) → HasFront table first f → HasFront table second f
     → state_over next first_state first ≡ state_over next first_state second
 
 -- behind a text with a bad front nothing makes a difference to the tokens: one bad one stands for all of it

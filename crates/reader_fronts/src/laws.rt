@@ -7,13 +7,13 @@ ghost use Rattle.reader_fronts.specs.Laws.{EndsBad, LeadsAlike};
 
 use dtd_model::Dtd;
 
-/// By each definition two pages with one front that is not bad lead each reader to one state.
+/// By each definition two pages with equal fronts lead each reader to one state, bad ones too.
 pub fn fronts_lead_alike(dtd: &Dtd)
     ensures plain { LeadsAlike (table_of dtd.now) (next_state (table_of dtd.now)) }
     ensures merged { LeadsAlike (table_of dtd.now) (merged_next (table_of dtd.now)) }
 {
     let _ = dtd;
-    front_laws::laws::same_fronts();
+    exact_fronts::laws::equal_fronts();
 }
 
 /// By each definition each reader puts out the same behind a page with a bad front, whatever more

@@ -1,1 +1,1 @@
-pub mod Encodings
+pub mod Rests

@@ -1,10 +1,10 @@
--- The values of the definition that values in memory stand for, and words for what the calls compute.
-use Rattle.std.specs.Prelude.{ℕ, Bool, List, map}
-use Rattle.dtd_model.specs.Table.{Rule, declared_of}
+-- Words for what the calls compute.
+use Rattle.std.specs.Prelude.{ℕ, Bool, true, ◌||◌, if◌then◌else◌, List, map}
+use Rattle.dtd_model.specs.Table.{Declared, Rule}
+use Rattle.page_model.specs.Attributes.{must_stand}
 use Rattle.page_steps.specs.DoctypeSteps.{begins}
-use Rattle.page_narrowing.specs.Passing as passing
-use Rattle.state_testing.specs.declared.attributes.Testing.{Testing}
-use Rattle.state_testing.specs.declared.attributes.Testing.TheVariants.{Element, Declaration}
+use Rattle.page_steps.specs.TagSteps.{is_among}
+use Rattle.page_endings.specs.Ending.{can_be_written}
 
 -- the name begins with these characters
 abbrev pub begins_so : List ℕ → List ℕ → Bool
@@ -14,7 +14,7 @@ begins_so front name = begins name front
 abbrev pub names_of_elements : List Rule → List (List ℕ)
 names_of_elements rules = map (λ (r : Rule). r.name) rules
 
--- what the test of attributes goes by
-abbrev pub plain_testing : Testing → passing.Testing
-plain_testing (Element entities rules) = passing.testing_element entities.now.items (map declared_of rules.now.items)
-plain_testing Declaration = passing.testing_declaration
+-- the attribute is among these, or can be written, where it has to stand
+abbrev pub is_wanted : List (List ℕ) → List ℕ → List Declared → List (List ℕ) → Declared → Bool
+is_wanted entities tag_name rules names d =
+    if must_stand tag_name d then is_among names d.name || can_be_written entities rules d.name else true

@@ -1,8 +1,7 @@
 //! Texts that begin so.
 
-ghost use Rattle.std.specs.Prelude.{◌≡◌, ◌≤◌, IsTrue, length};
-ghost use Rattle.std.specs.Char as chars;
-ghost use Rattle.std.specs.Str.{encode_utf8_all, str_to_ascii_lowercase};
+ghost use Rattle.std.specs.Prelude.{◌≡◌};
+ghost use Rattle.std.specs.Str.{str_to_ascii_lowercase};
 ghost use Rattle.page_steps.specs.DoctypeSteps as steps;
 
 /// Whether the characters are the first of the ASCII text.
@@ -42,28 +41,4 @@ pub fn begins_lowercased(whole: &[u8], front: &[char]) -> bool
         }
     }
     true
-}
-
-/// Whether the UTF-8 of the characters is the first of the bytes.
-pub fn begins_encoded(whole: &[u8], front: &[char]) -> bool
-    ensures { result ≡ steps.begins whole.now (encode_utf8_all front.now) }
-{
-    let mut rest = whole;
-    for c in front {
-        if !begins_with(rest, *c) {
-            return false;
-        }
-        let (_, others) = rest.split_at(c.len_utf8());
-        rest = others;
-    }
-    true
-}
-
-fn begins_with(whole: &[u8], c: char) -> bool
-    ensures is { result ≡ steps.begins whole.now (chars.encode_utf8 c) }
-    ensures bound { IsTrue result → chars.len_utf8 c ≤ length whole.now }
-{
-    let mut buffer = [0u8; 4];
-    let encoded = c.encode_utf8(&mut buffer);
-    whole.starts_with(encoded.as_bytes())
 }

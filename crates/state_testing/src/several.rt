@@ -1,14 +1,14 @@
 //! Where a character of several bytes may stand.
 
 ghost use Rattle.std.specs.Prelude.{◌≡◌};
-ghost use Rattle.page_narrowing.specs.Passing as passing;
+ghost use Rattle.page_endings.specs.Ending as ending;
 ghost use Rattle.open_pieces.specs.Views.{plain_attribute, plain_doctype, plain_open, plain_value};
 
 use open_pieces::{OpenAttribute, OpenDoctype, OpenPiece, OpenValue};
 use page_cutting::is_quote;
 
 fn value_takes(value: &OpenValue) -> bool
-    ensures { result ≡ passing.value_takes (plain_value value.now) }
+    ensures { result ≡ ending.value_takes (plain_value value.now) }
 {
     match value {
         OpenValue::Text | OpenValue::Fixed(_) => true,
@@ -17,7 +17,7 @@ fn value_takes(value: &OpenValue) -> bool
 }
 
 fn attribute_takes(attribute: &OpenAttribute) -> bool
-    ensures { result ≡ passing.attribute_takes (plain_attribute attribute.now) }
+    ensures { result ≡ ending.attribute_takes (plain_attribute attribute.now) }
 {
     match attribute {
         OpenAttribute::Value(_, quote, value) => !is_quote(*quote) || value_takes(value),
@@ -29,7 +29,7 @@ fn attribute_takes(attribute: &OpenAttribute) -> bool
 }
 
 fn doctype_takes(doctype: &OpenDoctype) -> bool
-    ensures { result ≡ passing.doctype_takes (plain_doctype doctype.now) }
+    ensures { result ≡ ending.doctype_takes (plain_doctype doctype.now) }
 {
     match doctype {
         OpenDoctype::FreePublic(quote) | OpenDoctype::KeptPublic(quote, _) => !is_quote(*quote),
@@ -46,7 +46,7 @@ fn doctype_takes(doctype: &OpenDoctype) -> bool
 
 /// Whether a character of several bytes may stand next in the open piece.
 pub fn takes_several(piece: &OpenPiece) -> bool
-    ensures { result ≡ passing.takes_several (plain_open piece.now) }
+    ensures { result ≡ ending.takes_several (plain_open piece.now) }
 {
     match piece {
         OpenPiece::Nothing | OpenPiece::Section(_) | OpenPiece::Instruction(_) => true,

@@ -1,77 +1,101 @@
 //! What is open in a value.
 
-ghost use Rattle.std.specs.Prelude.{◌≡◌, []};
-ghost use Rattle.dtd_model.specs.Table.{declared_of, kind_of, presence_of};
-ghost use Rattle.page_narrowing.specs.Passing as passing;
+ghost use Rattle.std.specs.Prelude.{◌≡◌, IfOk};
+ghost use Rattle.dtd_model.specs.Table.{declared_of, kind_of};
+ghost use Rattle.dtd_model.specs.TableOf.{table_of};
+ghost use Rattle.page_endings.specs.Ending as ending;
+ghost use Rattle.page_steps.specs.ValueSteps as steps;
 ghost use Rattle.open_pieces.specs.Views.{plain_value};
-ghost use Rattle.tag_rules.specs.Found.{plain_declared};
 
-use crate::beginnings::{begins, begins_encoded, begins_lowercased};
-use crate::names::{reference_passes, some_begins};
-use dtd_model::{AttrKind, AttrRule, Need};
+use crate::beginnings::{begins, begins_lowercased};
+use crate::fixed::fixed_can_end;
+use crate::names::{any_begins, reference_can_end};
+use dtd_index::IndexedDtd;
+use dtd_model::{AttrKind, AttrRule};
 use open_pieces::OpenValue;
-use text_base::Bytes;
-use value_rules::is_word;
+use std::alloc::Global;
+use text_base::NoMemory;
+use value_rules::{is_one_of, is_some, is_word};
+use value_stepping::value_start;
 
-// A fixed value begins so, byte by byte.
-fn fixed_passes(need: &Need, value: &[char]) -> bool
-    ensures { result ≡ passing.fixed_passes (presence_of need.now) value.now }
-{
-    match need {
-        Need::Fixed(wanted) => begins_encoded(wanted.as_slice(), value),
-        Need::Implied | Need::Required | Need::Default => true,
-    }
-}
-
-fn is_nothing(word: &[char]) -> bool
-    ensures { result ≡ passing.some_begins [] word.now }
-{
-    match word {
-        [] => true,
-        [_, ..] => false,
-    }
-}
-
-fn choice_passes(kind: &AttrKind, word: &[char]) -> bool
-    ensures { result ≡ passing.some_begins (passing.choices (kind_of kind.now)) word.now }
+fn is_chosen(kind: &AttrKind, word: &[char]) -> bool
+    ensures { result ≡ steps.is_chosen (kind_of kind.now) word.now }
 {
     match kind {
-        AttrKind::Choice(tokens) => some_begins(tokens, word),
+        AttrKind::Choice(tokens) => is_one_of(word, tokens),
         AttrKind::Cdata
         | AttrKind::Id
         | AttrKind::Idref
         | AttrKind::Idrefs
         | AttrKind::Nmtoken
-        | AttrKind::Nmtokens => is_nothing(word),
+        | AttrKind::Nmtokens => false,
     }
 }
 
-fn value_passes(entities: &Vec<Bytes>, rule: &AttrRule, value: &OpenValue) -> bool
-    ensures { result ≡ passing.value_passes entities.now.items (declared_of rule.now)
-        (plain_value value.now) }
+fn choice_begins(kind: &AttrKind, word: &[char]) -> bool
+    ensures { result ≡ ending.some_name_begins (ending.choices (kind_of kind.now)) word.now }
+{
+    match kind {
+        AttrKind::Choice(tokens) => any_begins(tokens, word),
+        AttrKind::Cdata
+        | AttrKind::Id
+        | AttrKind::Idref
+        | AttrKind::Idrefs
+        | AttrKind::Nmtoken
+        | AttrKind::Nmtokens => false,
+    }
+}
+
+fn choice_can_end(kind: &AttrKind, word: &[char], spaced: bool) -> bool
+    ensures { result ≡ ending.choice_can_end (kind_of kind.now) word.now spaced }
+{
+    if spaced {
+        is_some(word) && is_chosen(kind, word)
+    } else {
+        choice_begins(kind, word)
+    }
+}
+
+/// Whether a value can be written to its end in these quotes, by how its attribute is declared.
+/// Takes memory for a fixed value alone.
+pub fn value_can_end(
+    alloc: Global,
+    indexed: &IndexedDtd<'_>,
+    rule: &AttrRule,
+    quote: char,
+    value: &OpenValue,
+) -> Result<bool, NoMemory>
+    ensures { IfOk result (λ is. is
+        ≡ ending.value_can_end (table_of indexed.now.dtd.now).entities (declared_of rule.now) quote
+        (plain_value value.now)) }
 {
     match value {
-        OpenValue::Text | OpenValue::Words(_, _) => true,
-        OpenValue::Reference(reference) => reference_passes(entities, reference),
-        OpenValue::Fixed(text) => fixed_passes(&rule.need, text.as_slice()),
-        OpenValue::Choice(word, _) => choice_passes(&rule.kind, word.as_slice()),
+        OpenValue::Text => Ok(true),
+        OpenValue::Reference(reference) => {
+            Ok(reference_can_end(&indexed.dtd.entities, reference))
+        }
+        OpenValue::Fixed(text) => fixed_can_end(alloc, indexed, rule, quote, text),
+        OpenValue::Choice(word, spaced) => {
+            Ok(choice_can_end(&rule.kind, word.as_slice(), *spaced))
+        }
+        OpenValue::Words(_, _) => Ok(true),
     }
 }
 
-/// Whether a value may still come, where these are the declared entities and its attribute is
-/// declared so, if it is.
-pub fn declared_passes(entities: &Vec<Bytes>, rule: Option<&AttrRule>, value: &OpenValue) -> bool
-    ensures { result ≡ passing.declared_passes entities.now.items (plain_declared rule.entry)
-        (plain_value value.now) }
+/// Whether some value of the attribute can be written, in one of the two quotes.
+pub fn has_value(alloc: Global, indexed: &IndexedDtd<'_>, rule: &AttrRule) -> Result<bool, NoMemory>
+    ensures { IfOk result (λ is. is
+        ≡ ending.has_value (table_of indexed.now.dtd.now).entities (declared_of rule.now)) }
 {
-    match rule {
-        None => false,
-        Some(rule) => value_passes(entities, rule, value),
+    let start = value_start(alloc, rule);
+    if value_can_end(alloc, indexed, rule, '"', &start)? {
+        return Ok(true);
     }
+    value_can_end(alloc, indexed, rule, '\'', &start)
 }
 
 fn word_begins(name: &[char], value: &[char]) -> bool
-    ensures { result ≡ passing.word_begins name.now value.now }
+    ensures { result ≡ ending.word_begins name.now value.now }
 {
     if is_word(name, b"version") {
         return begins(b"1.0", value);
@@ -82,9 +106,9 @@ fn word_begins(name: &[char], value: &[char]) -> bool
     begins(b"yes", value) || begins(b"no", value)
 }
 
-/// Whether a value of this name may still come in the XML declaration (XML 1.0, 2.8).
-pub fn word_passes(name: &[char], value: &OpenValue) -> bool
-    ensures { result ≡ passing.word_passes name.now (plain_value value.now) }
+/// Whether a value of this name can be written to its end in the XML declaration (XML 1.0, 2.8).
+pub fn word_can_end(name: &[char], value: &OpenValue) -> bool
+    ensures { result ≡ ending.word_can_end name.now (plain_value value.now) }
 {
     match value {
         OpenValue::Fixed(text) => word_begins(name, text.as_slice()),
