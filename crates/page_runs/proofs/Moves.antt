@@ -127,15 +127,15 @@ module _ (table : Table) (h : HeldState) (takes : takes_all_alike (plain_state h
       tested : Bool → Move Place PageToken (Held PageState)
       tested y = if y then go (record { state = page_hold s; begun = h.begun ++ b ∷ [] }) else fail
 
+      and_true : (x : Bool) → (x && true) ≡ x
+      and_true true = refl
+      and_true false = refl
+
       pass : passes table (record { state = page_hold s; begun = h.begun ++ b ∷ [] }) ≡ may_go_on
       pass =
           ap (λ (y : Bool). open_can_end table s.inside && (if y then takes_several s.inside && goes_on_with table s.inside (h.begun ++ b ∷ []) else true)) (some_end h.begun b)
           ∙ ap (λ (y : Bool). open_can_end table s.inside && (takes_several s.inside && y)) (alike_goes_on table s.place s.inside (h.begun ++ b ∷ []) takes)
           ∙ ap (λ (y : Bool). open_can_end table s.inside && y) (and_true (takes_several s.inside))
-
-      and_true : (x : Bool) → (x && true) ≡ x
-      and_true true = refl
-      and_true false = refl
 
       held : (y : Bool) → to (tested y) ≡ (if y then state_with (representative (h.begun ++ b ∷ [])) else Failed)
       held true = ap (λ (x : Bool). state_with (if x then representative (h.begun ++ b ∷ []) else h.begun ++ b ∷ [])) takes_held
