@@ -139,17 +139,6 @@ fn first_moves<M: Machine>(
 }
 
 #[test]
-fn a_table_as_a_machine(rt: HostRuntime) -> Result<(), Fail> {
-    let alloc = rt.alloc();
-    let table = lower(alloc)?;
-    let digits = ByteRange { lo: b'0', hi: b'9' };
-    assert_eq!(rt; first_moves(alloc, &table, ALL)?, 1);
-    assert_eq!(rt; first_moves(alloc, &table, digits)?, 0);
-    assert_eq!(rt; first_moves(alloc, &parts(alloc)?, digits)?, 2);
-    Ok(())
-}
-
-#[test]
 fn an_indexed_table_as_a_machine(rt: HostRuntime) -> Result<(), Fail> {
     let alloc = rt.alloc();
     let digits = ByteRange { lo: b'0', hi: b'9' };
