@@ -1,14 +1,16 @@
 //! How long the versions of a program of points take, and its extraction, for scripts of many
 //! statements over 500 variables. Without an argument it takes 100 statements of each kind and prints
 //! no figures; with a kind and a number it takes so many statements of that kind, and prints the
-//! seconds of both and how large the system is.
+//! seconds of both, how many times that is what a plain set of as many pairs takes as there are
+//! statements and variables that matter at them, and how large the system is.
 #![tactic(auto)]
 
 ghost use Rattle.std.specs.Prelude.{◌<◌};
 
-use anyhow::{Context, Result};
+use anyhow::{Context, Result, ensure};
 use extraction::extract;
 use flow_code::FlowProgram;
+use indexmap::IndexSet;
 use io_edge::MemFiles;
 use php_program::Program;
 use program_loader::load;
@@ -54,6 +56,14 @@ impl Kind {
         match self {
             Kind::Near => 3,
             Kind::Far => 2,
+        }
+    }
+
+    // How many variables matter at each group of statements.
+    fn matter(self) -> u64 {
+        match self {
+            Kind::Near => 2,
+            Kind::Far => VARIABLES,
         }
     }
 
@@ -114,6 +124,8 @@ struct Figures {
     versions: f64,
     /// The seconds that its extraction takes, which makes versions of its own.
     extraction: f64,
+    /// The seconds of a set of a pair for each group of statements and each variable that matters there.
+    set: f64,
     /// How large its system is.
     nonterminals: u64,
     productions: usize,
@@ -128,8 +140,37 @@ fn versions_of(rt: &(impl Clock + AllocGlobal), flow: &FlowProgram) -> Result<f6
     Ok(seconds)
 }
 
+// A set of a pair for each group and each variable that matters there, each of which is then looked
+// for: how many are found.
+fn found_in_set(alloc: Global, groups: u64, matter: u64) -> Result<usize, AllocError> {
+    let mut set = IndexSet::new(alloc);
+    for group in 0..groups {
+        for variable in 0..matter {
+            set.insert((group, variable))?;
+        }
+    }
+    let mut found = 0_usize;
+    for group in 0..groups {
+        for variable in 0..matter {
+            if set.contains(&(group, variable)) {
+                found = found.wrapping_add(1);
+            }
+        }
+    }
+    Ok(found)
+}
+
+// The seconds that this takes.
+fn set_of(rt: &(impl Clock + AllocGlobal), kind: Kind, count: u64) -> Result<f64> {
+    let start = Instant::now(rt)?;
+    let found = found_in_set(rt.alloc(), count / kind.together(), kind.matter())?;
+    let seconds = start.elapsed(rt)?.as_secs_f64();
+    ensure!(found > 0, "a set without its pairs");
+    Ok(seconds)
+}
+
 // What is measured of points.
-fn figures_of(rt: &(impl Clock + AllocGlobal), flow: &FlowProgram) -> Result<Figures> {
+fn figures_of(rt: &(impl Clock + AllocGlobal), flow: &FlowProgram, set: f64) -> Result<Figures> {
     let versions = versions_of(rt, flow)?;
     let start = Instant::now(rt)?;
     let system = extract(rt.alloc(), flow)?;
@@ -137,6 +178,7 @@ fn figures_of(rt: &(impl Clock + AllocGlobal), flow: &FlowProgram) -> Result<Fig
     Ok(Figures {
         versions,
         extraction,
+        set,
         nonterminals: system.grammar.count,
         productions: system.grammar.productions.len(),
     })
@@ -144,8 +186,9 @@ fn figures_of(rt: &(impl Clock + AllocGlobal), flow: &FlowProgram) -> Result<Fig
 
 // What is measured of a script of so many statements.
 fn measured(rt: &(impl Clock + AllocGlobal), kind: Kind, count: u64) -> Result<Figures> {
+    let set = set_of(rt, kind, count)?;
     let flow = points_of(rt.alloc(), kind, count)?;
-    figures_of(rt, &flow)
+    figures_of(rt, &flow, set)
 }
 
 // Measures a script of so many statements, and tells the figures where they are asked for.
@@ -164,11 +207,16 @@ fn show(
     let Figures {
         versions,
         extraction,
+        set,
         nonterminals,
         productions,
     } = figures;
     println!(rt;
         "{count} statements, {word}: versions {versions:.4} s, extraction {extraction:.4} s"
+    )?;
+    let (of_versions, of_extraction) = (versions / set, extraction / set);
+    println!(rt;
+        "  {of_versions:.1} and {of_extraction:.1} times a plain set, which takes {set:.4} s"
     )?;
     println!(rt; "  {nonterminals} nonterminals, {productions} productions")?;
     Ok(())

@@ -18,11 +18,24 @@ use Rattle.grammar_chart.specs.declared.keys.Reading.{Reading}
 use Rattle.grammar_chart.specs.declared.steps.Visit.{Visit}
 use Rattle.grammar_chart.specs.Rules.{awaited_of, passage_of, read_on, begun_at, ReadingStep}
 use Rattle.grammar_chart.specs.Visits.{VisitsGrow, AddsWaiting, AddsExit, AreWithin}
-use Rattle.grammar_chart.specs.Adding.{AddsAll}
+use Rattle.grammar_chart.specs.Adding.{AddsThose}
+use Rattle.grammar_chart.specs.Kept.{lefts_of}
 use Rattle.grammar_chart.specs.Charts.{IsBegun, IsEntered, IsPassage, IsSound, IsVisited, WaitsAt, IsTakenUp, IsExit, IsOpened, OfFirst, Awaits, Leaves, IsChart, Finishes}
 use Rattle.grammar_chart.proofs.AddingLemmas.{contains_at, contains_kept}
 use Rattle.image_meaning.specs.Items.{Enters}
 use Rattle.grammar_chart.proofs.ChartLemmas.{all_by, some_same, begun_kept, begun_more, entered_begun, passage_begun}
+
+some_is : (p q : Production) → Some p ≡ Some q → p ≡ q
+some_is p q e = cc
+
+-- the places of the productions of a nonterminal
+at_lefts : (ps : List Production) (i : ℕ) (a : nt.Nt) → slice_get (lefts_of ps) i ≡ Some a.0 ↔ ((p : Production) × (slice_get ps i ≡ Some p) × (p.left ≡ a))
+at_lefts [] i a = (λ h. cc, λ h. let e = h.1 in cc)
+at_lefts (p ∷ ps) zero a = (
+  λ h. let same : p.left.0 ≡ a.0 = cc in (p, refl, ap (λ (n : ℕ). let b : nt.Nt = record { 0 = n } in b) same),
+  λ h. let one : p ≡ h.0 = some_is p h.0 h.1 in ap (λ (q : Production). Some q.left.0) one ∙ ap (λ (b : nt.Nt). Some b.0) h.2,
+)
+at_lefts (p ∷ ps) (suc i) a = at_lefts ps i a
 
 pub at_below : {X : Type 0} (xs : List X) (n : ℕ) → n < length xs → (x : X) × (slice_get xs n ≡ Some x)
 at_below [] n h = absurd (omega (arith, h))
@@ -391,8 +404,8 @@ module _ (ps : List Production) (from : nt.Nt) (es : List Entry) (vs : List Visi
       }
 
   -- the productions of an entry's nonterminal are begun
-  pub chart_opens : (more : List Begun) (e : Entry) (a : nt.Nt) (places : List ℕ) → slice_get es opened ≡ Some e → e.symbol ≡ Nt a → ((i : ℕ) → Contains places i ↔ ((p : Production) × (slice_get ps i ≡ Some p) × (p.left ≡ a))) → AddsAll bs more places (λ (p : ℕ). let b : Begun = record { place = p; from = e.state; read = Nothing } in b) → IsChart ps from es vs more fs rs (opened + 1) taken left
-  chart_opens more e a places here is all adds =
+  pub chart_opens : (more : List Begun) (e : Entry) (a : nt.Nt) → slice_get es opened ≡ Some e → e.symbol ≡ Nt a → AddsThose bs more (λ (i : ℕ). slice_get (lefts_of ps) i ≡ Some a.0) (λ (p : ℕ). let b : Begun = record { place = p; from = e.state; read = Nothing } in b) → IsChart ps from es vs more fs rs (opened + 1) taken left
+  chart_opens more e a here is adds =
       let long = longer bs more adds.keeps in
       let entered : IsEntered ps from rs e = All-contains (IsEntered ps from rs) es e c.sound.entered (contains_at es opened e here) in
       record {
@@ -406,7 +419,7 @@ module _ (ps : List Production) (from : nt.Nt) (es : List Entry) (vs : List Visi
           begun = all_by (IsBegun ps from fs rs) more (λ x h. elim (adds.adds x h) [
             | inl old ↦ All-contains (IsBegun ps from fs rs) bs x c.sound.begun old
             | inr d ↦
-                let p = (all d.0).0 d.1 in
+                let p = (at_lefts ps d.0 a).0 d.1 in
                 let first : IsBegun ps from fs rs (record { place = d.0; from = e.state; read = Nothing }) =
                 record {
                   production = p.0;
@@ -427,7 +440,7 @@ module _ (ps : List Production) (from : nt.Nt) (es : List Entry) (vs : List Visi
             (λ x isx place p at left.
             let s : Nt x ≡ Nt a = sym isx ∙ is in
             let same : x ≡ a = cc in
-            All-contains (λ (i : ℕ). Contains more (record { place = i; from = e.state; read = Nothing })) places place adds.all ((all place).1 (p, at, left ∙ same)))
+            adds.all place ((at_lefts ps place a).1 (p, at, left ∙ same)))
             (first_kept (IsOpened ps bs) (IsOpened ps more) es es opened (λ n y i. i) c.opened_within (λ x h. opened_kept ps bs more x adds.keeps h) c.opens);
         takes = first_kept (IsTakenUp ps es vs bs fs) (IsTakenUp ps es vs more fs) bs more taken adds.keeps c.taken_within
             (λ x h. taken_kept ps es es vs vs bs more fs fs x (λ n y i. i) (visits_same vs) adds.keeps (λ n y i. i) h) c.takes;

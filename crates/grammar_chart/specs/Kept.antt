@@ -1,7 +1,7 @@
 -- What a chart keeps, and how it goes on.
-use Rattle.std.specs.Prelude.{◌≡◌, ◌+◌, ◌<◌, ◌↔◌, ◌≤◌, ℕ, List, length, Some, slice_get, Contains}
-use Rattle.std.specs.declared.vec.Vec.{Vec}
-use Rattle.std.specs.declared.alloc.Global.{Global}
+use Rattle.std.specs.Prelude.{◌≡◌, ◌+◌, ◌<◌, ◌≤◌, ℕ, List, map, length, Some, slice_get}
+use Rattle.number_chains.specs.declared.Chains.{Chains}
+use Rattle.number_chains.specs.Chains.{AreChains}
 use Rattle.cfg_grammar.specs.declared.production.Production.{Production}
 use Rattle.numbered_sets.specs.Numbers.{Keeps}
 use Rattle.cfg_grammar.specs.declared.symbol.Symbol.TheVariants.{Range}
@@ -23,10 +23,13 @@ pub record GoesOn (old new : Chart) : Type 0 where
   pub passages : Keeps old.passages.keys new.passages.keys
   pub readings : new.readings.items ≡ old.readings.items
 
+-- the numbers of the nonterminals on the left
+abbrev pub lefts_of : List Production → List ℕ
+lefts_of ps = map (λ p. p.left.0) ps
+
 -- for each nonterminal, the places of its productions
-abbrev pub AreProductionsOf : List Production → List (Vec ℕ Global) → Type 0
-AreProductionsOf ps lists = (a : ℕ) (v : Vec ℕ Global) → slice_get lists a ≡ Some v → (i : ℕ)
-    → Contains v.items i ↔ ((p : Production) × (slice_get ps i ≡ Some p) × (p.left ≡ record { 0 = a }))
+abbrev pub AreProductionsOf : List Production → Chains → Type 0
+AreProductionsOf ps chains = AreChains (lefts_of ps) chains.last.items chains.before.items
 
 -- so many more entries are opened, begun productions taken up and passages let through
 pub record IsCounted (old new : Chart) (opened taken left : ℕ) : Type 0 where

@@ -18,6 +18,7 @@ use crate::turns::Turn;
 use cfg_grammar::{Production, Symbol};
 use fst_core::Out;
 use indexmap::IndexSet;
+use number_chains::Chains;
 use numbered_sets::{count, number};
 use std::alloc::Global;
 use text_base::{ByteRange, NoMemory, Nt};
@@ -234,14 +235,14 @@ fn let_through(
 /// Begins the productions of an entry's nonterminal.
 fn open_nonterminal(
     productions: &[Production],
-    places: &[Vec<usize>],
+    places: &Chains,
     chart: &mut Chart,
     entry: Entry,
     left: Nt,
 ) -> Result<(), NoMemory>
     requires chart { IsChartOf productions.now chart.old }
     requires places { AreProductionsOf productions.now places.now }
-    requires below { left.0 < length places.now }
+    requires below { left.0 < length places.now.last.items }
     requires next { slice_get chart.old.entries.keys chart.old.opened ≡ Some entry }
     requires small { chart.old.opened < 9223372036854775808 }
     requires symbol { entry.symbol ≡ symbols.Symbol.Nt left }
@@ -249,11 +250,7 @@ fn open_nonterminal(
     ensures goes_on { OnOk result (GoesOn chart.old chart.new) }
     ensures step { OnOk result (IsCounted chart.old chart.new 1 0 0) }
 {
-    begin_all(
-        &mut chart.begun,
-        places[left.0 as usize].as_slice(),
-        entry.state,
-    )?;
+    begin_all(&mut chart.begun, places, left.0, entry.state)?;
     chart.opened += 1;
     Ok(())
 }
@@ -307,13 +304,13 @@ pub fn pass(chart: &mut Chart, entry: Entry)
 pub fn turn(
     alloc: Global,
     productions: &[Production],
-    places: &[Vec<usize>],
+    places: &Chains,
     chart: &mut Chart,
 ) -> Result<Turn, NoMemory>
     requires chart { IsChartOf productions.now chart.old }
     requires places { AreProductionsOf productions.now places.now }
-    requires below { AreBelow (length places.now) productions.now }
-    requires from { chart.old.from.0 < length places.now }
+    requires below { AreBelow (length places.now.last.items) productions.now }
+    requires from { chart.old.from.0 < length places.now.last.items }
     ensures turn { IfOk result (λ t. IsTurn productions.now chart.old chart.new t) }
 {
     if let Some(one) = begun_at(&chart.begun, chart.taken) {

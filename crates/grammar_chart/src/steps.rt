@@ -1,15 +1,17 @@
 //! Single steps on the parts of a chart.
 
-ghost use Rattle.std.specs.Prelude.{◌≡◌, ◌⊎◌, ◌<◌, ◌++◌, ◌∷◌, [], ℕ, All, Contains, OnOk, IfOk, IfSome, Some, slice_get, length, vec_len};
+ghost use Rattle.std.specs.Prelude.{◌≡◌, ◌⊎◌, ◌<◌, ◌++◌, ◌∷◌, [], ℕ, List, All, Contains, OnOk, IfOk, IfSome, Some, slice_get, length, vec_len};
 ghost use Rattle.numbered_sets.specs.Numbers.{Keeps};
 ghost use Rattle.grammar_chart.specs.Rules.{read_on, begun_at};
-ghost use Rattle.grammar_chart.specs.Adding.{AddsAll};
+ghost use Rattle.number_chains.specs.Chains.{AreChains, Falls};
+ghost use Rattle.grammar_chart.specs.Adding.{AddsAll, AddsThose};
 ghost use Rattle.grammar_chart.specs.Visits.{VisitsGrow, AddsWaiting, AddsExit};
 ghost use Rattle.grammar_chart.specs.declared.keys.Read.TheVariants.{Nothing};
 
 use crate::keys::{Begun, Entry, Read};
 use crate::rules::advanced;
 use indexmap::IndexSet;
+use number_chains::Chains;
 use numbered_sets::{count, number};
 use smallvec::SmallVec;
 use std::alloc::Global;
@@ -72,21 +74,31 @@ pub fn advance_all(begun: &mut IndexSet<Begun>, waiting: &[u64], exit: u64) -> R
     Ok(())
 }
 
-/// Adds the productions at these places, of which nothing is read yet.
-pub fn begin_all(begun: &mut IndexSet<Begun>, places: &[usize], from: u64) -> Result<(), NoMemory>
+/// Adds the productions at the places of a number, of which nothing is read yet.
+pub fn begin_all(
+    begun: &mut IndexSet<Begun>,
+    places: &Chains,
+    left: u64,
+    from: u64,
+) -> Result<(), NoMemory>
+    requires below { left < length places.now.last.items }
+    requires falls { Falls places.now.before.items }
     ensures { OnOk result
-        (AddsAll begun.old.keys begun.new.keys places.now
+        ((keys : List ℕ) → AreChains keys places.now.last.items places.now.before.items
+        → AddsThose begun.old.keys begun.new.keys (λ k. slice_get keys k ≡ Some left)
         (λ p. record { place = p; from = from; read = Nothing })) }
 {
-    for place in places {
+    let mut place = places.last_place(left);
+    while let Some(before) = places.place_before(place) {
         add_begun(
             begun,
             Begun {
-                place: *place as u64,
+                place: place as u64,
                 from,
                 read: Read::Nothing,
             },
         )?;
+        place = before;
     }
     Ok(())
 }

@@ -3,8 +3,6 @@ use Rattle.std.proofs.Common.{◌≡◌, ℕ, ◌+◌, ◌<◌, ◌≤◌, ◌�
 use Rattle.std.specs.List.{All, list_all}
 use Rattle.std.specs.Option.{option_map}
 use Rattle.std.specs.Cmp.{first_so, second_so}
-use Rattle.std.specs.declared.vec.Vec.{Vec}
-use Rattle.std.specs.declared.alloc.Global.{Global}
 use Rattle.std.proofs.lemmas.List.Elements.{All-nil, All-cons}
 use Rattle.std.proofs.lemmas.Option.{slice_get_within, slice_get-map}
 use Rattle.std.proofs.lemmas.Bool.{ltb-true}
@@ -13,10 +11,9 @@ use Rattle.text_base.specs.declared.letter.Letter.{Letter}
 use Rattle.cfg_grammar.specs.declared.production.Production.{Production}
 use Rattle.cfg_grammar.specs.Below.{production_below, symbol_below, symbols_of, AreBelow}
 use Rattle.numbered_sets.specs.Numbers.{AddsOnly}
-use Rattle.numbered_sets.specs.Places.{ArePlaces}
 use Rattle.grammar_chart.specs.declared.keys.Reading.{Reading}
 use Rattle.grammar_chart.specs.declared.chart.Chart.{Chart}
-use Rattle.grammar_chart.specs.Kept.{IsChartOf, AreProductionsOf}
+use Rattle.grammar_chart.specs.Kept.{IsChartOf}
 use Rattle.grammar_chart.proofs.AddingLemmas.{contains_at}
 use Rattle.grammar_chart.proofs.ChartLemmas.{all_by}
 use Rattle.grammar_chart.proofs.StepLemmas.{at_below}
@@ -32,21 +29,6 @@ lefts_below count (p ∷ ps) h =
     let one = first_so (production_below count p) (list_all (production_below count) ps) h in
     let below = ltb-true p.left.0 count (first_so (ltb p.left.0 count) (list_all (symbol_below count) (symbols_of p.right)) one) in
     All-cons (λ (k : ℕ). k < count) p.left.0 (map (λ (q : Production). q.left.0) ps) below (lefts_below count ps (second_so (production_below count p) (list_all (production_below count) ps) h))
-
-at_lefts : (ps : List Production) (i a : ℕ) → slice_get (map (λ (p : Production). p.left.0) ps) i ≡ Some a ↔ ((p : Production) × (slice_get ps i ≡ Some p) × (p.left ≡ record { 0 = a }))
-at_lefts [] i a = (λ h. cc, λ h. let e = h.1 in cc)
-at_lefts (p ∷ ps) zero a = (
-  λ h. let same : p.left.0 ≡ a = cc in (p, refl, ap (λ (n : ℕ). let b : nt.Nt = record { 0 = n } in b) same),
-  λ h. let one : p ≡ h.0 = some_same p h.0 h.1 in ap (λ (q : Production). Some q.left.0) one ∙ ap (λ (b : nt.Nt). Some b.0) h.2,
-)
-at_lefts (p ∷ ps) (suc i) a = at_lefts ps i a
-
-pub places_of_lefts : (ps : List Production) (keys : List ℕ) (lists : List (Vec ℕ Global)) → keys ≡ map (λ (p : Production). p.left.0) ps → ArePlaces keys lists → AreProductionsOf ps lists
-places_of_lefts ps keys lists is places a v at i =
-    let e : slice_get keys i ≡ slice_get (map (λ (p : Production). p.left.0) ps) i = ap (λ (xs : List ℕ). slice_get xs i) is in
-    let l = at_lefts ps i a in
-    let p = places a v at i in
-    (λ c. l.0 (sym e ∙ p.0 c), λ h. p.1 (e ∙ l.1 h))
 
 none_in : {X : Type 0} (xs : List X) (x : X) → xs ≡ [] → Contains xs x → ⊥
 none_in {X} xs x e c = let d : Contains [] x = subst (λ (ys : List X). Contains ys x) e c in absurd (omega (arith, d.1))

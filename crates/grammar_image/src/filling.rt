@@ -12,6 +12,7 @@ use cfg_grammar::Production;
 use fst_core::Machine;
 use grammar_chart::Chart;
 use indexmap::IndexSet;
+use number_chains::Chains;
 use numbered_sets::count;
 use std::alloc::Global;
 
@@ -41,7 +42,7 @@ fn within_limit<M: Machine>(
 pub fn fill<M: Machine>(
     alloc: Global,
     productions: &[Production],
-    places: &[Vec<usize>],
+    places: &Chains,
     machine: &M,
     states: &mut IndexSet<M::State>,
     chart: &mut Chart,
@@ -50,8 +51,8 @@ pub fn fill<M: Machine>(
     requires worked { IsWorked (M.steps machine.now) (M.gives machine.now) (M.first machine.now)
         productions.now states.old.keys chart.old }
     requires places { AreProductionsOf productions.now places.now }
-    requires below { AreBelow (length places.now) productions.now }
-    requires from { chart.old.from.0 < length places.now }
+    requires below { AreBelow (length places.now.last.items) productions.now }
+    requires from { chart.old.from.0 < length places.now.last.items }
     ensures worked { OnOk result
         (IsWorked (M.steps machine.now) (M.gives machine.now) (M.first machine.now) productions.now
         states.new.keys chart.new) }

@@ -1,6 +1,6 @@
 //! Images of grammars under machines.
 
-ghost use Rattle.std.specs.Prelude.{◌≡◌, ◌<◌, ◌↔◌, List, All, Some, map, slice_get, length, IfOk, IfErr, vec_len};
+ghost use Rattle.std.specs.Prelude.{◌≡◌, ◌<◌, ◌↔◌, List, All, Some, map, slice_get, length, IfOk, IfErr};
 ghost use Rattle.text_base.specs.declared.letter.Letter.{Letter};
 ghost use Rattle.cfg_grammar.specs.Below.{AreBelow};
 ghost use Rattle.cfg_grammar.specs.Derives.{Derives};
@@ -19,7 +19,8 @@ use chart_grammar::grammar_of;
 use fst_core::Machine;
 use grammar_chart::{Chart, begin, let_go};
 use indexmap::IndexSet;
-use numbered_sets::{count, number, places_by};
+use number_chains::{Chains, chains_of};
+use numbered_sets::{count, number};
 use std::alloc::Global;
 use text_base::{NoMemory, Nt};
 
@@ -32,12 +33,12 @@ fn lefts(alloc: Global, productions: &[Production]) -> Result<Vec<u64>, NoMemory
 }
 
 /// For each nonterminal, the places of its productions.
-fn places_by_left(alloc: Global, g: &Grammar) -> Result<Vec<Vec<usize>>, NoMemory>
-    ensures len { IfOk result (λ v. vec_len v ≡ g.now.count) }
-    ensures places { IfOk result (λ v. AreProductionsOf g.now.productions.items v.items) }
+fn places_by_left(alloc: Global, g: &Grammar) -> Result<Chains, NoMemory>
+    ensures len { IfOk result (λ chains. length chains.last.items ≡ g.now.count) }
+    ensures places { IfOk result (AreProductionsOf g.now.productions.items) }
 {
     let lefts = lefts(alloc, g.productions.as_slice())?;
-    let places = places_by(alloc, g.count, lefts.as_slice())?;
+    let places = chains_of(alloc, g.count, lefts.as_slice())?;
     Ok(places)
 }
 
@@ -91,14 +92,14 @@ fn finish<M: Machine>(
 pub fn image_over<M: Machine>(
     alloc: Global,
     productions: &[Production],
-    places: &[Vec<usize>],
+    places: &Chains,
     from: Nt,
     machine: &M,
     limit: u64,
 ) -> Result<Grammar, ImageRefusal>
     requires places { AreProductionsOf productions.now places.now }
-    requires below { AreBelow (length places.now) productions.now }
-    requires from { from.0 < length places.now }
+    requires below { AreBelow (length places.now.last.items) productions.now }
+    requires from { from.0 < length places.now.last.items }
     ensures sentences { IfOk result
         (λ image. (w : List Letter)
         → Derives image.productions.items (symbols.Symbol.Nt image.start) w
@@ -155,5 +156,5 @@ pub fn image<M: Machine>(
 {
     let productions = g.productions.as_slice();
     let places = places_by_left(alloc, g)?;
-    image_over(alloc, productions, places.as_slice(), from, machine, limit)
+    image_over(alloc, productions, &places, from, machine, limit)
 }

@@ -11,6 +11,7 @@ use cfg_grammar::{Production, Symbol};
 use fst_core::Machine;
 use grammar_chart::{Chart, Entry, Turn, pass, turn};
 use indexmap::IndexSet;
+use number_chains::Chains;
 use std::alloc::Global;
 use text_base::{ByteRange, NoMemory};
 
@@ -49,7 +50,7 @@ fn answer<M: Machine>(
 pub fn work<M: Machine>(
     alloc: Global,
     productions: &[Production],
-    places: &[Vec<usize>],
+    places: &Chains,
     machine: &M,
     states: &mut IndexSet<M::State>,
     chart: &mut Chart,
@@ -57,8 +58,8 @@ pub fn work<M: Machine>(
     requires worked { IsWorked (M.steps machine.now) (M.gives machine.now) (M.first machine.now)
         productions.now states.old.keys chart.old }
     requires places { AreProductionsOf productions.now places.now }
-    requires below { AreBelow (length places.now) productions.now }
-    requires from { chart.old.from.0 < length places.now }
+    requires below { AreBelow (length places.now.last.items) productions.now }
+    requires from { chart.old.from.0 < length places.now.last.items }
     ensures worked { OnOk result
         (IsWorked (M.steps machine.now) (M.gives machine.now) (M.first machine.now) productions.now
         states.new.keys chart.new) }

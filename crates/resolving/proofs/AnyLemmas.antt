@@ -64,7 +64,7 @@ pub stop_below : (n : ℕ) (t : nt.Nt) → t.0 < n → production_below n (recor
 stop_below n t l = both_so (nat_lt t.0 n) true (lt-ltb t.0 n l) refl
 
 -- all are added
-pub any_added : (left t : nt.Nt) (set : List Bool) (old a b c new : Draft) → t ≡ record { 0 = length old.places.items } → Widens old a 1 → Puts a b (link_of left t) → Puts b c (record { left = t; right = Empty }) → PutsBytes t set 256 c new → AddsAnyTexts left set old new
+pub any_added : (left t : nt.Nt) (set : List Bool) (old a b c new : Draft) → t ≡ record { 0 = length old.chains.last.items } → Widens old a 1 → Puts a b (link_of left t) → Puts b c (record { left = t; right = Empty }) → PutsBytes t set 256 c new → AddsAnyTexts left set old new
 any_added left t set old a b c new is wide link stop bytes = record {
   indexed = bytes.indexed;
   count = (let p = bytes.count in let q = stop.count in let r = link.count in let w = wide.more in omega arith);

@@ -1,16 +1,14 @@
 -- Drafts in memory.
 use Rattle.std.proofs.Common.{◌≡◌, ◌<◌, ◌≤◌, ◌+◌, ℕ, zero, suc, true, List, [], ◌∷◌, ◌++◌, length, Some, slice_get, Contains, inl, inr, refl, sym, ◌∙◌, ap, subst, arith, length-append, append_assoc}
 use Rattle.std.specs.Prelude.{◌⊎◌, nat_lt}
-use Rattle.std.specs.declared.vec.Vec.{Vec}
-use Rattle.std.specs.declared.alloc.Global.{Global}
+use Rattle.std.specs.List.{All}
 use Rattle.std.proofs.lemmas.Bool.{lt-ltb}
-use Rattle.std.proofs.lemmas.List.Elements.{Contains-push_cases}
+use Rattle.std.proofs.lemmas.List.Elements.{All-nil, All-cons, Contains-push_cases}
 use Rattle.text_base.specs.declared.numbers.Nt as nt
 use Rattle.cfg_grammar.specs.declared.production.Production.{Production}
 use Rattle.cfg_grammar.specs.Below.{AreBelow, production_below}
-use Rattle.numbered_sets.specs.Places.{PushesAt}
-use Rattle.numbered_sets.proofs.NumberLemmas.{at_front}
-use Rattle.grammar_chart.specs.Kept.{AreProductionsOf}
+use Rattle.number_chains.specs.Chains.{AreChains}
+use Rattle.grammar_chart.specs.Kept.{lefts_of, AreProductionsOf}
 use Rattle.op_system.specs.declared.system.OpSystem.{OpSystem}
 use Rattle.resolve_laws.specs.Drafts.{IsDraft, link_of}
 use Rattle.resolve_laws.proofs.LetterLemmas.{none_in, contained, all_at, all_from, both_so}
@@ -35,26 +33,18 @@ last_or_before [] y (suc i) x h = absurd (cc)
 last_or_before (z ∷ xs) y zero x h = inl h
 last_or_before (z ∷ xs) y (suc i) x h = elim (last_or_before xs y i x h) [ inl b ↦ inl b | inr e ↦ inr (ap (λ (n : ℕ). suc n) e.0, e.1) ]
 
-nt_at : (a : nt.Nt) (n : ℕ) → a.0 ≡ n → a ≡ record { 0 = n }
-nt_at a n e = ap (λ (k : ℕ). let z : nt.Nt = record { 0 = k } in z) e
+-- the nonterminals on the left of one production more
+lefts_more : (ps : List Production) (p : Production) → lefts_of (ps ++ p ∷ []) ≡ lefts_of ps ++ p.left.0 ∷ []
+lefts_more [] p = refl
+lefts_more (q ∷ ps) p = ap (λ (ns : List ℕ). q.left.0 ∷ ns) (lefts_more ps p)
 
-same_left : (p q : Production) → p ≡ q → p.left.0 ≡ q.left.0
-same_left p q e = cc
-
--- one production more
-pub indexed_more : (ps : List Production) (lists new : List (Vec ℕ Global)) (p : Production) → AreProductionsOf ps lists → PushesAt lists new p.left.0 (length ps) → AreProductionsOf (ps ++ p ∷ []) new
-indexed_more ps lists new p are pushes a v found i =
-    let w = pushes a v found in
-    let q = are a w.0 w.1 i in (
-      λ c. elim ((w.2 i).0 c) [
-        | inl d ↦ (let o = q.0 d in (o.0, at_front ps p i o.0 o.1, o.2))
-        | inr d ↦ (p, subst (λ (n : ℕ). slice_get (ps ++ p ∷ []) n ≡ Some p) (sym d.1) (at_end ps p), nt_at p.left a (sym d.0))
-      ],
-      λ o. elim (last_or_before ps p i o.0 o.1) [
-        | inl b ↦ (w.2 i).1 (inl (q.1 (o.0, b, o.2)))
-        | inr e ↦ (w.2 i).1 (inr (ap (λ (x : nt.Nt). x.0) (sym o.2) ∙ same_left o.0 p e.1, e.0))
-      ],
-    )
+lefts_below : (count : ℕ) (ps : List Production) → AreBelow count ps → All (λ (k : ℕ). k < count) (lefts_of ps)
+lefts_below count [] below = All-nil (λ (k : ℕ). k < count)
+lefts_below count (p ∷ ps) below =
+    All-cons (λ (k : ℕ). k < count) p.left.0 (lefts_of ps) (left_below count (p ∷ ps) p below (contained (p ∷ ps) 0 p refl)) (lefts_below count ps (all_from (production_below count) ps (λ q c. all_at (production_below count) (p ∷ ps) q below (behind q c))))
+  where
+    behind : (q : Production) → Contains ps q → Contains (p ∷ ps) q
+    behind q c = (suc c.0, omega (arith, c.1), c.2)
 
 pub below_more : (n : ℕ) (ps : List Production) (p : Production) → AreBelow n ps → production_below n p ≡ true → AreBelow n (ps ++ p ∷ [])
 below_more n ps p all one = all_from (production_below n) (ps ++ p ∷ []) (λ q c. elim (Contains-push_cases ps p q c) [
@@ -65,40 +55,29 @@ below_more n ps p all one = all_from (production_below n) (ps ++ p ∷ []) (λ q
 pub below_higher : (n m : ℕ) (ps : List Production) → n ≤ m → AreBelow n ps → AreBelow m ps
 below_higher n m ps le all = all_from (production_below m) ps (λ p c. higher n m le p (all_at (production_below n) ps p all c))
 
-pub puts_one : (old new : Draft) (p : Production) → IsIndexed old → production_below (length old.places.items) p ≡ true → new.productions.items ≡ old.productions.items ++ p ∷ [] → length new.places.items ≡ length old.places.items
-    → PushesAt old.places.items new.places.items p.left.0 (length old.productions.items) → Puts old new p
-puts_one old new p indexed below is len pushes = record {
+pub puts_one : (old new : Draft) (p : Production) → IsIndexed old → production_below (length old.chains.last.items) p ≡ true → new.productions.items ≡ old.productions.items ++ p ∷ [] → length new.chains.last.items ≡ length old.chains.last.items
+    → ((keys : List ℕ) → AreChains keys old.chains.last.items old.chains.before.items → AreChains (keys ++ p.left.0 ∷ []) new.chains.last.items new.chains.before.items) → Puts old new p
+puts_one old new p indexed below is len more = record {
   indexed = record {
-    places = subst (λ (ps : List Production). AreProductionsOf ps new.places.items) (sym is) (indexed_more old.productions.items old.places.items new.places.items p indexed.places pushes);
-    below = subst (λ (n : ℕ). AreBelow n new.productions.items) (sym len) (subst (λ (ps : List Production). AreBelow (length old.places.items) ps) (sym is) (below_more (length old.places.items) old.productions.items p indexed.below below));
+    places = subst (λ (ps : List Production). AreProductionsOf ps new.chains) (sym is)
+        (subst (λ (keys : List ℕ). AreChains keys new.chains.last.items new.chains.before.items) (sym (lefts_more old.productions.items p)) (more (lefts_of old.productions.items) indexed.places));
+    below = subst (λ (n : ℕ). AreBelow n new.productions.items) (sym len) (subst (λ (ps : List Production). AreBelow (length old.chains.last.items) ps) (sym is) (below_more (length old.chains.last.items) old.productions.items p indexed.below below));
   };
   productions = is;
   count = len;
 }
 
--- one nonterminal more, without productions
-pub places_wider : (ps : List Production) (lists : List (Vec ℕ Global)) (v : Vec ℕ Global) → AreBelow (length lists) ps → AreProductionsOf ps lists → v.items ≡ [] → AreProductionsOf ps (lists ++ v ∷ [])
-places_wider ps lists v below are empty a x found i = elim (last_or_before lists v a x found) [
-  | inl b ↦ are a x b i
-  | inr e ↦ (
-    λ c. none_in i (subst (λ (xs : List ℕ). Contains xs i) (ap (λ (y : Vec ℕ Global). y.items) e.1 ∙ empty) c),
-    λ o. absurd (let l = left_below (length lists) ps o.0 below (contained ps i o.0 o.1) in let f : o.0.left.0 ≡ a = ap (λ (y : nt.Nt). y.0) o.2 in let g = e.0 in omega arith),
-  )
-]
-
-pub widens_none : (d : Draft) → IsIndexed d → Widens d d 0
-widens_none d indexed = record { indexed = indexed; productions = refl; more = omega arith }
-
-pub widens_more : (old mid new : Draft) (n : ℕ) (v : Vec ℕ Global) → Widens old mid n → new.productions.items ≡ mid.productions.items → new.places.items ≡ mid.places.items ++ v ∷ [] → v.items ≡ [] → Widens old new (n + 1)
-widens_more old mid new n v w same is empty =
-    let len : length new.places.items ≡ length mid.places.items + 1 = ap length is ∙ length-append mid.places.items (v ∷ []) in record {
-      indexed = record {
-        places = subst (λ (ps : List Production). AreProductionsOf ps new.places.items) (sym same) (subst (λ (ls : List (Vec ℕ Global)). AreProductionsOf mid.productions.items ls) (sym is) (places_wider mid.productions.items mid.places.items v w.indexed.below w.indexed.places empty));
-        below = subst (λ (ps : List Production). AreBelow (length new.places.items) ps) (sym same) (below_higher (length mid.places.items) (length new.places.items) mid.productions.items (omega arith) w.indexed.below);
-      };
-      productions = same ∙ w.productions;
-      more = (let m = w.more in omega arith);
-    }
+-- so many nonterminals more, without productions
+pub widens_by : (old new : Draft) (count : ℕ) → IsIndexed old → new.productions.items ≡ old.productions.items → length new.chains.last.items ≡ length old.chains.last.items + count
+    → ((keys : List ℕ) → All (λ k. k < length old.chains.last.items) keys → AreChains keys old.chains.last.items old.chains.before.items → AreChains keys new.chains.last.items new.chains.before.items) → Widens old new count
+widens_by old new count indexed same len wider = record {
+  indexed = record {
+    places = subst (λ (ps : List Production). AreProductionsOf ps new.chains) (sym same) (wider (lefts_of old.productions.items) (lefts_below (length old.chains.last.items) old.productions.items indexed.below) indexed.places);
+    below = subst (λ (ps : List Production). AreBelow (length new.chains.last.items) ps) (sym same) (below_higher (length old.chains.last.items) (length new.chains.last.items) old.productions.items (omega (arith, len)) indexed.below);
+  };
+  productions = same;
+  more = len;
+}
 
 -- one production more
 pub one_longer : (old new : Draft) (p : Production) → Puts old new p → length new.productions.items ≡ length old.productions.items + 1
@@ -119,7 +98,7 @@ puts_more old mid new ps qs p before one is = record {
 }
 
 -- the draft of the system alone
-pub begins : (s : OpSystem) (d e : Draft) → length d.places.items ≡ 0 → d.productions.items ≡ [] → Widens d e s.grammar.count → (f : Draft) → PutsAll e f s.grammar.productions.items → IsOfSystem s f
+pub begins : (s : OpSystem) (d e : Draft) → length d.chains.last.items ≡ 0 → d.productions.items ≡ [] → Widens d e s.grammar.count → (f : Draft) → PutsAll e f s.grammar.productions.items → IsOfSystem s f
 begins s d e len none w f p = record {
   indexed = p.indexed;
   productions = p.productions ∙ ap (λ (xs : List Production). xs ++ s.grammar.productions.items) (w.productions ∙ none);

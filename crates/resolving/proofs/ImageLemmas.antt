@@ -90,7 +90,7 @@ moved_more base qs n q old mid new at plain b one = record {
   ];
 }
 
-pub grammar_added : (left : nt.Nt) (image : Grammar) (base : ℕ) (old a b new : Draft) → base ≡ length old.places.items → Widens old a image.count → Puts a b (link_of left (record { 0 = base + image.start.0 }))
+pub grammar_added : (left : nt.Nt) (image : Grammar) (base : ℕ) (old a b new : Draft) → base ≡ length old.chains.last.items → Widens old a image.count → Puts a b (link_of left (record { 0 = base + image.start.0 }))
     → AddsProductions base image.productions.items (length image.productions.items) b new → AddsMoved left image old new
 grammar_added left image base old a b new is wide link all = record {
   indexed = all.indexed;

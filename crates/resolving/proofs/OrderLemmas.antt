@@ -132,9 +132,9 @@ module _ (s : OpSystem) (numbers : List ℕ) (order : List Ranked) (are : IsOrde
   }
 
 -- the grammar of a draft with all operations
-pub resolved_of : (s : OpSystem) (g : Grammar) (d : Draft) → AllAdded s d → g.start ≡ s.start → g.count ≡ length d.places.items → g.productions.items ≡ d.productions.items → IsResolved s g
+pub resolved_of : (s : OpSystem) (g : Grammar) (d : Draft) → AllAdded s d → g.start ≡ s.start → g.count ≡ length d.chains.last.items → g.productions.items ≡ d.productions.items → IsResolved s g
 resolved_of s g d all start count productions =
-    let drafted : Drafted s g.productions.items g.count all.added = subst (λ (n : ℕ). Drafted s g.productions.items n all.added) (sym count) (subst (λ (ps : List Production). Drafted s ps (length d.places.items) all.added) (sym productions) all.drafted) in record {
+    let drafted : Drafted s g.productions.items g.count all.added = subst (λ (n : ℕ). Drafted s g.productions.items n all.added) (sym count) (subst (λ (ps : List Production). Drafted s ps (length d.chains.last.items) all.added) (sym productions) all.drafted) in record {
       start = start;
       added = all.added;
       drafted = drafted;

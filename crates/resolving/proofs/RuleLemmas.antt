@@ -34,20 +34,20 @@ texts_drafted : (s : OpSystem) (rule : OpRule) (set : List Bool) (old new : Draf
     → (added : List Added) (place : ℕ) → IsDraftedBy s old added → IsNext s added place rule → (a : Added) × (a.place ≡ place) × IsDraftedBy s new (a ∷ added)
 texts_drafted s rule set old new circles exact adds added place drafted next =
     let a : Added = record { place = place; nonterminals = 1; productions = 258 } in
-    let step : AddsTexts s old.productions.items (length old.places.items) rule new.productions.items = record { in_cycle = circles; set = set; bytes = exact; adds = adds.adds; few = adds.few } in
-    (a, refl, subst (λ (n : ℕ). Drafted s new.productions.items n (a ∷ added)) (sym adds.count) (Drafted.by_texts old.productions.items new.productions.items (length old.places.items) place added rule drafted next step))
+    let step : AddsTexts s old.productions.items (length old.chains.last.items) rule new.productions.items = record { in_cycle = circles; set = set; bytes = exact; adds = adds.adds; few = adds.few } in
+    (a, refl, subst (λ (n : ℕ). Drafted s new.productions.items n (a ∷ added)) (sym adds.count) (Drafted.by_texts old.productions.items new.productions.items (length old.chains.last.items) place added rule drafted next step))
 
 image_drafted : (s : OpSystem) (rule : OpRule) (image : Grammar) (old new : Draft) → (IsInCycle s rule → ⊥) → AreExact s old.productions.items (Nt rule.operand) → IsImageOf old.productions.items rule image → AddsMoved rule.left image old new
     → (added : List Added) (place : ℕ) → IsDraftedBy s old added → IsNext s added place rule → (a : Added) × (a.place ≡ place) × IsDraftedBy s new (a ∷ added)
 image_drafted s rule image old new in_none exact is adds added place drafted next =
     let a : Added = record { place = place; nonterminals = image.count; productions = 1 + length image.productions.items } in
-    let step : AddsOperation s old.productions.items (length old.places.items) rule image new.productions.items = record { in_no_cycle = in_none; exact = exact; is_image = is; adds = adds.adds; few = adds.few } in
-    (a, refl, subst (λ (n : ℕ). Drafted s new.productions.items n (a ∷ added)) (sym adds.count) (Drafted.by_image old.productions.items new.productions.items (length old.places.items) place added rule image drafted next step))
+    let step : AddsOperation s old.productions.items (length old.chains.last.items) rule image new.productions.items = record { in_no_cycle = in_none; exact = exact; is_image = is; adds = adds.adds; few = adds.few } in
+    (a, refl, subst (λ (n : ℕ). Drafted s new.productions.items n (a ∷ added)) (sym adds.count) (Drafted.by_image old.productions.items new.productions.items (length old.chains.last.items) place added rule image drafted next step))
 
 pub any_rule : (s : OpSystem) (rule : OpRule) (set : List Bool) (old new : Draft) → HasBytes s → IsDraftOf s old → Contains s.ops.items rule → IsInCycle s rule → ((b : ℕ) → b < 256 → Has set b ↔ ByteOf s (Nt rule.left) b)
     → AddsAnyTexts rule.left set old new → AddsRule s rule old new
 any_rule s rule set old new fit is has circles exact adds =
-    let r = any_done s old.productions.items new.productions.items (length old.places.items) rule set fit is.is_draft has circles exact adds.adds in record {
+    let r = any_done s old.productions.items new.productions.items (length old.chains.last.items) rule set fit is.is_draft has circles exact adds.adds in record {
       draft = record { indexed = adds.indexed; is_draft = subst (λ (n : ℕ). IsDraft s new.productions.items n) (sym adds.count) r.0 };
       keeps = adds.adds.keeps;
       done = r.1;
@@ -62,11 +62,11 @@ pub image_rule : (s : OpSystem) (rule : OpRule) (numbers : List ℕ) (image : Gr
 image_rule s rule numbers image old new fit are is has in_none ready made adds =
     let at = number_of s numbers rule are has in
     let k : ℕ = get_or numbers rule.left.0 0 in
-    let r = image_done s old.productions.items (length old.places.items) rule numbers k is.is_draft has in_none are at (ready k at) new.productions.items made.table image fit made.machine made.is adds.adds in record {
+    let r = image_done s old.productions.items (length old.chains.last.items) rule numbers k is.is_draft has in_none are at (ready k at) new.productions.items made.table image fit made.machine made.is adds.adds in record {
       draft = record { indexed = adds.indexed; is_draft = subst (λ (n : ℕ). IsDraft s new.productions.items n) (sym adds.count) r.0 };
       keeps = adds.adds.keeps;
       done = r.1;
-      drafted = image_drafted s rule image old new in_none (operand_exact s old.productions.items (length old.places.items) rule numbers k is.is_draft has in_none are at (ready k at)) made adds;
+      drafted = image_drafted s rule image old new in_none (operand_exact s old.productions.items (length old.chains.last.items) rule numbers k is.is_draft has in_none are at (ready k at)) made adds;
     }
 
 pub cause_of : (s : OpSystem) (rule : OpRule) (numbers : List ℕ) (limit : ℕ) (old : Draft) → AreNumbers s numbers → IsDraftOf s old → Contains s.ops.items rule → (IsInCycle s rule → ⊥)
@@ -77,7 +77,7 @@ cause_of s rule numbers limit old are is has in_none ready may (Large items) cau
       cause.0,
       record {
         productions = old.productions.items;
-        count = length old.places.items;
+        count = length old.chains.last.items;
         added = may.added;
         drafted = may.drafted;
         place = may.place;
@@ -86,7 +86,7 @@ cause_of s rule numbers limit old are is has in_none ready may (Large items) cau
         in_no_cycle = in_none;
         table = cause.1.table;
         machine = cause.1.machine;
-        exact = operand_exact s old.productions.items (length old.places.items) rule numbers k is.is_draft has in_none are at (ready k at);
+        exact = operand_exact s old.productions.items (length old.chains.last.items) rule numbers k is.is_draft has in_none are at (ready k at);
         many = cause.1.many;
       },
     )

@@ -32,7 +32,7 @@ pub record PutsByte (t : nt.Nt) (byte : ℕ) (old new : Draft) : Type 0 where
 -- those of the bytes of the set below n are put, and no other, at most n
 pub record PutsBytes (t : nt.Nt) (set : List Bool) (n : ℕ) (old new : Draft) : Type 0 where
   pub indexed : IsIndexed new
-  pub count : length new.places.items ≡ length old.places.items
+  pub count : length new.chains.last.items ≡ length old.chains.last.items
   pub few : length new.productions.items ≤ length old.productions.items + n
   pub keeps : (p : Production) → Contains old.productions.items p → Contains new.productions.items p
   pub only : (p : Production) → Contains new.productions.items p → Contains old.productions.items p ⊎ IsByte t set n p
@@ -42,6 +42,6 @@ pub record PutsBytes (t : nt.Nt) (set : List Bool) (n : ℕ) (old new : Draft) :
 -- all texts over the bytes of the set are added to those of a nonterminal, by one nonterminal and at most 258 productions more
 pub record AddsAnyTexts (left : nt.Nt) (set : List Bool) (old new : Draft) : Type 0 where
   pub indexed : IsIndexed new
-  pub count : length new.places.items ≡ length old.places.items + 1
+  pub count : length new.chains.last.items ≡ length old.chains.last.items + 1
   pub few : length new.productions.items ≤ length old.productions.items + 258
-  pub adds : AddsAny old.productions.items left (record { 0 = length old.places.items }) set new.productions.items
+  pub adds : AddsAny old.productions.items left (record { 0 = length old.chains.last.items }) set new.productions.items

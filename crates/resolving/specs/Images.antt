@@ -39,7 +39,7 @@ pub record IsMovedOf (base : ℕ) (qs : List Production) (p : Production) : Type
 -- the first n of the productions without a page token are put with higher numbers, and no other, at most n
 pub record AddsProductions (base : ℕ) (qs : List Production) (n : ℕ) (old new : Draft) : Type 0 where
   pub indexed : IsIndexed new
-  pub count : length new.places.items ≡ length old.places.items
+  pub count : length new.chains.last.items ≡ length old.chains.last.items
   pub few : length new.productions.items ≤ length old.productions.items + n
   pub keeps : (p : Production) → Contains old.productions.items p → Contains new.productions.items p
   pub only : (p : Production) → Contains new.productions.items p → Contains old.productions.items p ⊎ IsMovedOf base qs p
@@ -50,9 +50,9 @@ pub record AddsProductions (base : ℕ) (qs : List Production) (n : ℕ) (old ne
 -- one production
 pub record AddsMoved (left : nt.Nt) (image : Grammar) (old new : Draft) : Type 0 where
   pub indexed : IsIndexed new
-  pub count : length new.places.items ≡ length old.places.items + image.count
+  pub count : length new.chains.last.items ≡ length old.chains.last.items + image.count
   pub few : length new.productions.items ≤ length old.productions.items + (1 + length image.productions.items)
-  pub adds : AddsImage old.productions.items left (length old.places.items) image new.productions.items
+  pub adds : AddsImage old.productions.items left (length old.chains.last.items) image new.productions.items
 
 -- the image of what the productions derive for the operand has at least so many items, under a machine of the operation
 pub record HasManyItems (ps : List Production) (rule : OpRule) (items : ℕ) : Type 0 where

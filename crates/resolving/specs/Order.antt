@@ -43,7 +43,7 @@ pub record IsOrder (s : OpSystem) (numbers : List ℕ) (order : List Ranked) : T
 -- the draft in memory is one of the system
 pub record IsDraftOf (s : OpSystem) (draft : Draft) : Type 0 where
   pub indexed : IsIndexed draft
-  pub is_draft : IsDraft s draft.productions.items (length draft.places.items)
+  pub is_draft : IsDraft s draft.productions.items (length draft.chains.last.items)
 
 -- all rules with lower numbers than this one's are done
 abbrev pub IsReadyFor : OpSystem → List ℕ → List Production → OpRule → Type 0
@@ -51,7 +51,7 @@ IsReadyFor s numbers ps rule = (k : ℕ) → slice_get numbers rule.left.0 ≡ S
 
 -- the draft in memory is drafted from these operations
 abbrev pub IsDraftedBy : OpSystem → Draft → List Added → Type 0
-IsDraftedBy s draft added = Drafted s draft.productions.items (length draft.places.items) added
+IsDraftedBy s draft added = Drafted s draft.productions.items (length draft.chains.last.items) added
 
 -- the rule may be added next
 pub record MayBeAdded (s : OpSystem) (rule : OpRule) (draft : Draft) : Type 0 where

@@ -23,7 +23,7 @@ pub fn link(left: Nt, right: Nt) -> Production
 /// Puts the production by which a nonterminal becomes the byte before itself.
 fn put_byte(draft: &mut Draft, texts: Nt, byte: u8) -> Result<(), NoMemory>
     requires indexed { IsIndexed draft.old }
-    requires below { texts.0 < length draft.old.places.items }
+    requires below { texts.0 < length draft.old.chains.last.items }
     ensures { OnOk result (PutsByte texts byte draft.old draft.new) }
 {
     let range = ByteRange { lo: byte, hi: byte };
@@ -40,7 +40,7 @@ fn put_byte(draft: &mut Draft, texts: Nt, byte: u8) -> Result<(), NoMemory>
 /// Does so for each byte of a set.
 fn put_bytes(draft: &mut Draft, texts: Nt, set: &ByteSet) -> Result<(), NoMemory>
     requires indexed { IsIndexed draft.old }
-    requires below { texts.0 < length draft.old.places.items }
+    requires below { texts.0 < length draft.old.chains.last.items }
     ensures { OnOk result (PutsBytes texts set.now 256 draft.old draft.new) }
 {
     for number in 0..256_usize {
@@ -62,11 +62,11 @@ pub fn add_any_texts(
     set: &ByteSet,
 ) -> Result<(), NoMemory>
     requires indexed { IsIndexed draft.old }
-    requires below { left.0 < length draft.old.places.items }
+    requires below { left.0 < length draft.old.chains.last.items }
     ensures { OnOk result (AddsAnyTexts left set.now draft.old draft.new) }
 {
-    let texts = Nt(draft.places.len() as u64);
-    widen(alloc, draft, 1)?;
+    let texts = Nt(draft.chains.last.len() as u64);
+    widen(draft, 1)?;
     put(draft, link(left, texts))?;
     put(
         draft,

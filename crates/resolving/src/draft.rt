@@ -1,60 +1,47 @@
 //! Drafts of a grammar.
 
-ghost use Rattle.std.specs.Prelude.{◌≡◌, ◌<◌, IsTrue, length, vec_len, IfOk, OnOk};
+ghost use Rattle.std.specs.Prelude.{IsTrue, length, IfOk, OnOk};
 ghost use Rattle.cfg_grammar.specs.Below.{AreBelow, production_below};
-ghost use Rattle.numbered_sets.specs.Places.{PushesAt};
 ghost use Rattle.resolving.specs.Draft.{IsIndexed, IsOfSystem, Puts, PutsAll, Widens};
 
 use cfg_grammar::Production;
+use number_chains::Chains;
 use op_system::OpSystem;
 use std::alloc::Global;
 use text_base::NoMemory;
 
-/// Productions, and for each nonterminal the places of its productions among them. The nonterminals
-/// are the numbers below the length of `places`.
+/// Productions, and for each nonterminal the places of its productions among them, as chains. The
+/// nonterminals are the numbers that the chains are of.
 #[derive(Drop)]
 pub struct Draft {
     pub productions: Vec<Production>,
-    pub places: Vec<Vec<usize>>,
-}
-
-/// Puts a place behind those of a nonterminal.
-fn push_at(lists: &mut Vec<Vec<usize>>, at: u64, place: usize) -> Result<(), NoMemory>
-    requires { at < vec_len lists.old }
-    ensures len { vec_len lists.new ≡ vec_len lists.old }
-    ensures pushes { OnOk result (PushesAt lists.old.items lists.new.items at place) }
-{
-    lists[at as usize].push(place)?;
-    Ok(())
+    pub chains: Chains,
 }
 
 /// Puts a production behind the others.
 pub fn put(draft: &mut Draft, production: Production) -> Result<(), NoMemory>
     requires indexed { IsIndexed draft.old }
-    requires below { IsTrue (production_below (length draft.old.places.items) production) }
+    requires below { IsTrue (production_below (length draft.old.chains.last.items) production) }
     ensures { OnOk result (Puts draft.old draft.new production) }
 {
-    let place = draft.productions.len();
     draft.productions.push(production)?;
-    push_at(&mut draft.places, production.left.0, place)?;
+    draft.chains.push(production.left.0)?;
     Ok(())
 }
 
 /// Adds so many nonterminals without productions.
-pub fn widen(alloc: Global, draft: &mut Draft, count: u64) -> Result<(), NoMemory>
+pub fn widen(draft: &mut Draft, count: u64) -> Result<(), NoMemory>
     requires { IsIndexed draft.old }
     ensures { OnOk result (Widens draft.old draft.new count) }
 {
-    for _ in 0..count {
-        draft.places.push(Vec::new(alloc))?;
-    }
+    draft.chains.widen(count)?;
     Ok(())
 }
 
 /// Puts productions behind the others, in turn.
 fn put_all(draft: &mut Draft, productions: &[Production]) -> Result<(), NoMemory>
     requires indexed { IsIndexed draft.old }
-    requires below { AreBelow (length draft.old.places.items) productions.now }
+    requires below { AreBelow (length draft.old.chains.last.items) productions.now }
     ensures { OnOk result (PutsAll draft.old draft.new productions.now) }
 {
     for production in productions {
@@ -69,9 +56,9 @@ pub fn begin(alloc: Global, s: &OpSystem) -> Result<Draft, NoMemory>
 {
     let mut draft = Draft {
         productions: Vec::new(alloc),
-        places: Vec::new(alloc),
+        chains: Chains::new(alloc),
     };
-    widen(alloc, &mut draft, s.grammar.count)?;
+    widen(&mut draft, s.grammar.count)?;
     put_all(&mut draft, s.grammar.productions.as_slice())?;
     Ok(draft)
 }

@@ -54,7 +54,7 @@ fn put_moved(
     productions: &[Production],
 ) -> Result<(), NoMemory>
     requires indexed { IsIndexed draft.old }
-    requires room { base + count ≤ length draft.old.places.items }
+    requires room { base + count ≤ length draft.old.chains.last.items }
     requires fits { base + count < 18446744073709551616 }
     requires below { AreBelow count productions.now }
     ensures { OnOk result
@@ -77,12 +77,12 @@ pub fn add_grammar(
     image: &Grammar,
 ) -> Result<(), NoMemory>
     requires indexed { IsIndexed draft.old }
-    requires below { left.0 < length draft.old.places.items }
+    requires below { left.0 < length draft.old.chains.last.items }
     ensures { OnOk result (AddsMoved left image.now draft.old draft.new) }
 {
-    let base = draft.places.len() as u64;
-    widen(alloc, draft, image.count)?;
-    let _count = draft.places.len() as u64;
+    let base = draft.chains.last.len() as u64;
+    widen(draft, image.count)?;
+    let _count = draft.chains.last.len() as u64;
     put(draft, link(left, Nt(base + image.start.0)))?;
     put_moved(draft, base, image.count, image.productions.as_slice())?;
     Ok(())
@@ -97,7 +97,7 @@ pub fn image_of(
     limit: u64,
 ) -> Result<Grammar, ImageRefusal>
     requires indexed { IsIndexed draft.now }
-    requires below { rule.now.operand.0 < length draft.now.places.items }
+    requires below { rule.now.operand.0 < length draft.now.chains.last.items }
     requires op { rule.now.op ≢ Any }
     ensures image { IfOk result (IsImageOf draft.now.productions.items rule.now) }
     ensures cause { IfErr result (IsImageCause draft.now.productions.items rule.now limit) }
@@ -107,7 +107,7 @@ pub fn image_of(
     match image_over(
         alloc,
         draft.productions.as_slice(),
-        draft.places.as_slice(),
+        &draft.chains,
         rule.operand,
         &machine,
         limit,

@@ -98,7 +98,7 @@ pub fn resolve(alloc: Global, s: &OpSystem, limit: u64) -> Result<Grammar, Image
         Ok(()) => {}
         Err(refusal) => return Err(refusal),
     }
-    let count = draft.places.len() as u64;
+    let count = draft.chains.last.len() as u64;
     Ok(Grammar {
         start: s.start,
         count,

@@ -21,7 +21,7 @@ use text_base::{ByteSet, NoMemory};
 /// Adds what an operation in a cycle gives: all texts over the bytes of the set of its left side.
 fn add_cycle(alloc: Global, rule: &OpRule, set: &ByteSet, draft: &mut Draft) -> Result<(), NoMemory>
     requires indexed { IsIndexed draft.old }
-    requires below { rule.now.left.0 < length draft.old.places.items }
+    requires below { rule.now.left.0 < length draft.old.chains.last.items }
     ensures { OnOk result (AddsAnyTexts rule.now.left set.now draft.old draft.new) }
 {
     add_any_texts(alloc, draft, rule.left, set)

@@ -2,18 +2,17 @@
 use Rattle.std.proofs.Common.{◌≡◌, ℕ, ◌+◌, ◌<◌, ◌≤◌, ◌⊎◌, ◌↔◌, inl, inr, Bool, true, false, List, [], ◌∷◌, ◌++◌, length, get_or, set, map, Contains, refl, sym, ◌∙◌, ap, subst, arith, Some, None, Ok, Err, Result, OnOk, slice_get, true≢false}
 use Rattle.std.specs.List.{All}
 use Rattle.std.specs.Option.{option_map}
-use Rattle.std.specs.declared.vec.Vec.{Vec}
-use Rattle.std.specs.declared.alloc.Global.{Global}
 use Rattle.std.proofs.lemmas.List.Elements.{Contains-push_cases, Contains-append_left, Contains-push, Contains-get_or, All-contains}
 use Rattle.std.proofs.lemmas.Option.{slice_get-get_or, slice_get_within, get_or_from_slice_get, slice_get-map, same_Some, slice_get_read, none-some}
 use Rattle.std.proofs.lemmas.Bool.{cases_eq, cases_lt}
 use Rattle.numbered_sets.specs.Numbers.{Keeps, AddsOnly}
-use Rattle.numbered_sets.specs.Places.{ArePlaces}
+use Rattle.number_chains.specs.Chains.{AreChains}
+use Rattle.number_chains.proofs.ChainLemmas.{walk_next, walk_met, walk_end}
 use Rattle.numbered_sets.proofs.NumberLemmas.{at_front}
 use Rattle.numbered_sets.proofs.PlaceLemmas.{slice_get-set_other, slice_get-set_same}
 use Rattle.useful_nonterminals.specs.declared.rule.Rule.{Rule}
 use Rattle.useful_nonterminals.specs.Follows.{Follows, IsRuleBelow, IsMarked}
-use Rattle.useful_nonterminals.specs.Work.{IsNoted, Concludes, IsAmong, IsWork}
+use Rattle.useful_nonterminals.specs.Work.{IsNoted, Concludes, IsAmong, IsWork, AreDrawnTo}
 
 -- a member has a place, and the reverse
 pub placed : {X : Type 0} (xs : List X) (x : X) → Contains xs x → (n : ℕ) × (slice_get xs n ≡ Some x)
@@ -113,6 +112,34 @@ module _ (rules : List Rule) where
   concludes_fewer P R marks after order more weaker p =
       record { long = p.long; noted = p.noted; keeps = p.keeps; sound = p.sound; drawn = λ place rule asked at a b. p.drawn place rule (weaker place asked) at a b }
 
+-- a walk along the chain of a number
+module _ (rules : List Rule) (keys : List ℕ) where
+  pub drawn_none : (last before : List ℕ) (n place : ℕ) (marks : List Bool) (order : List ℕ) → IsNoted marks order → AreChains keys last before → slice_get last n ≡ Some place → AreDrawnTo rules keys n place marks order marks order
+  drawn_none last before n place marks order noted chains at = record {
+    so_many = length keys;
+    within = omega arith;
+    last = chains.ends n place at;
+    concludes = concludes_same rules (λ (k : ℕ). (slice_get keys k ≡ Some n) × (length keys ≤ k)) marks order noted
+        (λ k rule asked found a b. let w = slice_get_within keys k n asked.0 in absurd (omega (arith, w, asked.1)));
+  }
+
+  pub drawn_more : (last before : List ℕ) (n place next : ℕ) (marks mid after : List Bool) (order some more : List ℕ) → AreChains keys last before → slice_get before place ≡ Some next → AreDrawnTo rules keys n place marks order mid some → Concludes rules (λ (k : ℕ). k ≡ place) mid some after more → AreDrawnTo rules keys n next marks order after more
+  drawn_more last before n place next marks mid after order some more chains at done one =
+      let w = walk_next keys before done.so_many n place next chains.links done.last at in
+      record {
+        so_many = place;
+        within = (let l = slice_get_within keys place n w.0 in omega (arith, l));
+        last = w.1;
+        concludes = concludes_more rules (λ (k : ℕ). (slice_get keys k ≡ Some n) × (done.so_many ≤ k)) (λ (k : ℕ). k ≡ place) (λ (k : ℕ). (slice_get keys k ≡ Some n) × (place ≤ k))
+            marks mid after order some more
+            (λ k asked. elim (walk_met keys done.so_many n place k done.last asked.0 asked.1) [ inl h ↦ inl (asked.0, h) | inr h ↦ inr h ]) done.concludes one;
+      }
+
+  pub drawn_all : (last before : List ℕ) (n place : ℕ) (marks after : List Bool) (order more : List ℕ) → AreChains keys last before → slice_get before place ≡ None → AreDrawnTo rules keys n place marks order after more → Concludes rules (λ (k : ℕ). slice_get keys k ≡ Some n) marks order after more
+  drawn_all last before n place marks after order more chains none done =
+      concludes_fewer rules (λ (k : ℕ). (slice_get keys k ≡ Some n) × (done.so_many ≤ k)) (λ (k : ℕ). slice_get keys k ≡ Some n) marks after order more
+      (λ k stands. (stands, walk_end keys before done.so_many n place k chains.links done.within done.last none stands)) done.concludes
+
 -- places among the first of a list
 pub among_none : (places : List ℕ) (k : ℕ) → IsAmong places 0 k → ⊥
 among_none places k h = absurd (omega (arith, h.1))
@@ -172,8 +199,8 @@ module _ (facts : List ℕ) (rules : List Rule) (count : ℕ) where
       let w = slice_get_within marks n true m in
       omega (arith, w, work.long)
 
-  pub work_more : (firsts seconds : List (Vec ℕ Global)) (first second : Vec ℕ Global) (marks mid after : List Bool) (order some more : List ℕ) (taken n : ℕ) → ArePlaces (map (λ (r : Rule). r.first) rules) firsts → ArePlaces (map (λ (r : Rule). r.second) rules) seconds → slice_get firsts n ≡ Some first → slice_get seconds n ≡ Some second → IsWork facts rules count marks order taken → slice_get order taken ≡ Some n → Concludes rules (λ (k : ℕ). Contains first.items k) marks order mid some → Concludes rules (λ (k : ℕ). Contains second.items k) mid some after more → IsWork facts rules count after more (taken + 1)
-  work_more firsts seconds first second marks mid after order some more taken n by_first by_second is_first is_second work at p q =
+  pub work_more : (marks mid after : List Bool) (order some more : List ℕ) (taken n : ℕ) → IsWork facts rules count marks order taken → slice_get order taken ≡ Some n → Concludes rules (λ (k : ℕ). slice_get (map (λ (r : Rule). r.first) rules) k ≡ Some n) marks order mid some → Concludes rules (λ (k : ℕ). slice_get (map (λ (r : Rule). r.second) rules) k ≡ Some n) mid some after more → IsWork facts rules count after more (taken + 1)
+  work_more marks mid after order some more taken n work at p q =
       record {
         long = q.long ∙ (p.long ∙ work.long);
         noted = q.noted;
@@ -201,11 +228,11 @@ module _ (facts : List ℕ) (rules : List Rule) (count : ℕ) where
             | inr same ↦
                 let key : slice_get (map (λ (r : Rule). r.first) rules) place.0 ≡ Some n = slice_get-map (λ (r : Rule). r.first) rules place.0 ∙ (ap (option_map (λ (r : Rule). r.first)) place.1 ∙ ap Some same) in
                 keeps_contains some more rule.conclusion q.keeps
-                (p.drawn place.0 rule ((by_first n first is_first place.0).1 key) place.1 (among_contains order (taken + 1) rule.first a) (among_contains order (taken + 1) rule.second b))
+                (p.drawn place.0 rule key place.1 (among_contains order (taken + 1) rule.first a) (among_contains order (taken + 1) rule.second b))
             | inl below ↦ elim (among_more order taken n at rule.second b) [
               | inr same ↦
                   let key : slice_get (map (λ (r : Rule). r.second) rules) place.0 ≡ Some n = slice_get-map (λ (r : Rule). r.second) rules place.0 ∙ (ap (option_map (λ (r : Rule). r.second)) place.1 ∙ ap Some same) in
-                  q.drawn place.0 rule ((by_second n second is_second place.0).1 key) place.1
+                  q.drawn place.0 rule key place.1
                   (keeps_contains order some rule.first p.keeps (among_contains order (taken + 1) rule.first a))
                   (keeps_contains order some rule.second p.keeps (among_contains order (taken + 1) rule.second b))
               | inl both ↦ kept rule.conclusion (work.drawn rule c below both)

@@ -1,37 +1,39 @@
 //! What follows from facts by rules, in time linear in both.
 
-ghost use Rattle.std.specs.Prelude.{◌≡◌, ◌<◌, ◌≤◌, ◌↔◌, [], ℕ, true, false, Some, slice_get, Contains, length, vec_len, map, IfOk, OnOk};
+ghost use Rattle.std.specs.Prelude.{◌≡◌, ◌<◌, ◌↔◌, [], ℕ, List, Some, slice_get, Contains, length, map, IfOk, OnOk};
 ghost use Rattle.std.specs.List.{All};
-ghost use Rattle.numbered_sets.specs.Places.{ArePlaces};
+ghost use Rattle.number_chains.specs.Chains.{AreChains, Falls};
 ghost use Rattle.numbered_sets.specs.Numbers.{Keeps, AddsOnly};
 ghost use Rattle.useful_nonterminals.specs.Follows.{Follows, IsRuleBelow, IsMarked};
-ghost use Rattle.useful_nonterminals.specs.Work.{IsNoted, Concludes, IsAmong, IsWork};
+ghost use Rattle.useful_nonterminals.specs.Work.{IsNoted, Concludes};
 
 use crate::rule::Rule;
-use numbered_sets::places_by;
+use number_chains::{Chains, chains_of};
 use std::alloc::Global;
 use text_base::NoMemory;
 
 /// For each number, the rules whose first premise it is.
-fn by_first(alloc: Global, count: u64, rules: &[Rule]) -> Result<Vec<Vec<usize>>, NoMemory>
+fn by_first(alloc: Global, count: u64, rules: &[Rule]) -> Result<Chains, NoMemory>
     requires { All (IsRuleBelow count) rules.now }
-    ensures len { IfOk result (λ places. vec_len places ≡ count) }
-    ensures exact { IfOk result (λ places. ArePlaces (map (λ r. r.first) rules.now) places.items) }
+    ensures len { IfOk result (λ chains. length chains.last.items ≡ count) }
+    ensures chains { IfOk result (λ chains. AreChains (map (λ r. r.first) rules.now)
+        chains.last.items chains.before.items) }
 {
     let keys: Vec<u64> = rules.iter().map(|r| r.first).collect(alloc)?;
-    let places = places_by(alloc, count, keys.as_slice())?;
-    Ok(places)
+    let chains = chains_of(alloc, count, keys.as_slice())?;
+    Ok(chains)
 }
 
 /// For each number, the rules whose second premise it is.
-fn by_second(alloc: Global, count: u64, rules: &[Rule]) -> Result<Vec<Vec<usize>>, NoMemory>
+fn by_second(alloc: Global, count: u64, rules: &[Rule]) -> Result<Chains, NoMemory>
     requires { All (IsRuleBelow count) rules.now }
-    ensures len { IfOk result (λ places. vec_len places ≡ count) }
-    ensures exact { IfOk result (λ places. ArePlaces (map (λ r. r.second) rules.now) places.items) }
+    ensures len { IfOk result (λ chains. length chains.last.items ≡ count) }
+    ensures chains { IfOk result (λ chains. AreChains (map (λ r. r.second) rules.now)
+        chains.last.items chains.before.items) }
 {
     let keys: Vec<u64> = rules.iter().map(|r| r.second).collect(alloc)?;
-    let places = places_by(alloc, count, keys.as_slice())?;
-    Ok(places)
+    let chains = chains_of(alloc, count, keys.as_slice())?;
+    Ok(chains)
 }
 
 /// Marks a number, and puts it behind the others where it was not marked.
@@ -90,21 +92,29 @@ fn conclude_one(
     mark(marks, order, rule.conclusion)
 }
 
-/// Draws the conclusions of the rules at these places whose premises are marked.
+/// Draws the conclusions of the rules on the chain of a number whose premises are marked.
 fn conclude(
     rules: &[Rule],
-    places: &[usize],
+    chains: &Chains,
+    n: u64,
     marks: &mut Vec<bool>,
     order: &mut Vec<u64>,
 ) -> Result<(), NoMemory>
+    requires number { n < length chains.now.last.items }
+    requires falls { Falls chains.now.before.items }
     requires below { All (IsRuleBelow (length marks.old.items)) rules.now }
     requires noted { IsNoted marks.old.items order.old.items }
-    ensures { OnOk result
-        (Concludes rules.now (λ k. Contains places.now k) marks.old.items order.old.items
+    ensures long { OnOk result (length marks.new.items ≡ length marks.old.items) }
+    ensures noted { OnOk result (IsNoted marks.new.items order.new.items) }
+    ensures drawn { OnOk result
+        ((keys : List ℕ) → AreChains keys chains.now.last.items chains.now.before.items
+        → Concludes rules.now (λ k. slice_get keys k ≡ Some n) marks.old.items order.old.items
         marks.new.items order.new.items) }
 {
-    for place in places {
-        conclude_one(rules, *place, marks, order)?;
+    let mut place = chains.last_place(n);
+    while let Some(next) = chains.place_before(place) {
+        conclude_one(rules, place, marks, order)?;
+        place = next;
     }
     Ok(())
 }
@@ -144,13 +154,8 @@ pub fn closure(
     mark_all(&mut marks, &mut order, facts)?;
     let mut taken = 0;
     while let Some(n) = number_at(order.as_slice(), taken) {
-        conclude(rules, firsts[n as usize].as_slice(), &mut marks, &mut order)?;
-        conclude(
-            rules,
-            seconds[n as usize].as_slice(),
-            &mut marks,
-            &mut order,
-        )?;
+        conclude(rules, &firsts, n, &mut marks, &mut order)?;
+        conclude(rules, &seconds, n, &mut marks, &mut order)?;
         taken += 1;
     }
     Ok(marks)

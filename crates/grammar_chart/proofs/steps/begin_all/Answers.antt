@@ -1,11 +1,16 @@
-use Rattle.std.proofs.Common.{refl, ℕ}
+use Rattle.std.proofs.Common.{sym, ℕ}
 use Rattle.grammar_chart.specs.declared.keys.Read.TheVariants.{Nothing}
-use Rattle.grammar_chart.proofs.AddingLemmas.{adding_more_is, adding_all}
+use Rattle.grammar_chart.proofs.AddingLemmas.{adding_chain_none, adding_chain_more, adding_chain_all}
 use Rattle.grammar_chart.proofs.steps.begin_all.Goals as goal
 
-pub loop-place-preserved : goal.loop-place-preserved
-loop-place-preserved c =
-    adding_more_is _ _ _ _ _ 0 _ _ c.loop-place-test.true c.loop-place.invariant refl c.in_ok-add_begun.ensures.has c.in_ok-add_begun.ensures.keeps c.in_ok-add_begun.ensures.adds
+pub loop-before-init : goal.loop-before-init
+loop-before-init c = λ keys chains. adding_chain_none _ keys _ _ c.args.left _ (λ (p : ℕ). record { place = p; from = c.args.from; read = Nothing }) chains c.last_place-place.ensures
+
+pub loop-before-preserved : goal.loop-before-preserved
+loop-before-preserved c = λ keys chains.
+    adding_chain_more _ _ _ keys _ _ c.args.left _ _ (λ (p : ℕ). record { place = p; from = c.args.from; read = Nothing }) chains (sym c.in-Some.ensures) (c.loop-before.invariant keys chains)
+    c.in_ok-add_begun.ensures.has c.in_ok-add_begun.ensures.keeps c.in_ok-add_begun.ensures.adds
 
 pub returns : goal.returns
-returns c = adding_all _ _ _ _ (λ (p : ℕ). record { place = p; from = c.args.from; read = Nothing }) c.loop-place-test.false c.loop-place.invariant
+returns c = λ keys chains.
+    adding_chain_all _ _ keys _ _ c.args.left _ (λ (p : ℕ). record { place = p; from = c.args.from; read = Nothing }) chains (sym c.in_default.ensures) (c.loop-before.invariant keys chains)

@@ -1,6 +1,12 @@
-use Rattle.grammar_chart.specs.Adding.{AddsFirst}
+use Rattle.std.proofs.Common.{◌+◌, ℕ, List, length, if◌then◌else◌, nat_lt}
+use Rattle.number_chains.specs.Chains.{AreChains}
+use Rattle.grammar_chart.specs.Adding.{AddsTo}
 use Rattle.grammar_chart.specs.declared.keys.Read.TheVariants.{Nothing}
 use Rattle.grammar_chart.proofs.steps.begin_all.Given as goal
 
-abbrev pub invariant-loop-place : goal.invariant-loop-place
-invariant-loop-place l = AddsFirst l.fn.begun.keys l.begun.keys l.places l.place-index (λ p. record { place = p; from = l.from; read = Nothing })
+abbrev pub invariant-loop-before : goal.invariant-loop-before
+invariant-loop-before l = (keys : List ℕ) → AreChains keys l.places.last.items l.places.before.items
+    → AddsTo l.fn.begun.keys l.begun.keys keys l.left l.place (λ (p : ℕ). record { place = p; from = l.from; read = Nothing })
+
+abbrev pub decreases-loop-before : goal.decreases-loop-before
+decreases-loop-before l = if nat_lt l.place (length l.places.before.items) then l.place + 1 else 0

@@ -1,5 +1,4 @@
 use Rattle.std.proofs.Common.{List, length, sym, subst}
-use Rattle.std.specs.declared.vec.Vec.{Vec}
 use Rattle.cfg_grammar.specs.declared.production.Production.{Production}
 use Rattle.fst_core.specs.Tables.{TableStep, TableStop}
 use Rattle.fst_core.specs.declared.table.Table.{Table}
@@ -15,8 +14,7 @@ use Rattle.resolving.proofs.images.image_of.Goals as goal
 
 pub image_over-requires-clause-places : goal.image_over-requires-clause-places
 image_over-requires-clause-places c =
-    subst (λ (ps : List Production). AreProductionsOf ps c.as_slice-2.result.now) (sym c.as_slice.ensures.value)
-    (subst (λ (ls : List (Vec _ _)). AreProductionsOf c.args.draft.now.productions.items ls) (sym c.as_slice-2.ensures.value) c.requires.indexed.places)
+    subst (λ (ps : List Production). AreProductionsOf ps c.args.draft.now.chains) (sym c.as_slice.ensures.value) c.requires.indexed.places
 
 pub returns-in-Ok-clause-image : goal.returns-in-Ok-clause-image
 returns-in-Ok-clause-image c =

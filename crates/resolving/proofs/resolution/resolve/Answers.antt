@@ -14,10 +14,10 @@ pub returns-clause-resolved : goal.returns-clause-resolved
 returns-clause-resolved c =
     let d = c.add_rules.new.draft in
     let added = c.in-Ok.ensures.added in
-    resolved_of c.args.s.now _ d added refl (omega (arith, c.len-count.ensures, d.places.ok.0)) refl
+    resolved_of c.args.s.now _ d added refl (omega (arith, c.len-count.ensures, d.chains.last.ok.0)) refl
 
 pub returns-clause-exact : goal.returns-clause-exact
 returns-clause-exact c =
     let d = c.add_rules.new.draft in
     let added = c.in-Ok.ensures.added in
-    all_exact c.args.s.now d.productions.items (length d.places.items) added.is_draft.is_draft added.done c.args.s.now.start c.args.s.now.start_below
+    all_exact c.args.s.now d.productions.items (length d.chains.last.items) added.is_draft.is_draft added.done c.args.s.now.start c.args.s.now.start_below

@@ -1,15 +1,24 @@
-use Rattle.std.proofs.Common.{◌+◌, ℕ, Contains}
-use Rattle.std.proofs.lemmas.Option.{slice_get-get_or}
-use Rattle.useful_nonterminals.specs.Work.{IsAmong}
-use Rattle.useful_nonterminals.proofs.DrawLemmas.{concludes_more, concludes_fewer, among_more, among_all}
+use Rattle.std.proofs.Common.{◌∙◌, refl, sym}
+use Rattle.useful_nonterminals.proofs.DrawLemmas.{drawn_none, drawn_more, drawn_all}
 use Rattle.useful_nonterminals.proofs.drawing.conclude.Goals as goal
 
-pub loop-place-preserved : goal.loop-place-preserved
-loop-place-preserved c =
-    let n = c.loop-place.place-index in
-    let at = slice_get-get_or c.args.places.now n 0 c.loop-place-test.true in
-    concludes_more c.args.rules.now (IsAmong c.args.places.now n) _ (IsAmong c.args.places.now (n + 1)) _ _ _ _ _ _ (among_more c.args.places.now n _ at) c.loop-place.invariant c.in_ok-conclude_one.ensures
+pub loop-next-init : goal.loop-next-init
+loop-next-init c = record {
+  long = refl;
+  noted = c.requires.noted;
+  walk = λ keys chains. drawn_none c.args.rules.now keys _ _ c.args.n _ c.args.marks.now.items c.args.order.now.items c.requires.noted chains c.last_place-place.ensures;
+}
 
-pub returns : goal.returns
-returns c =
-    concludes_fewer c.args.rules.now (IsAmong c.args.places.now c.loop-place.place-index) (λ (k : ℕ). Contains c.args.places.now k) _ _ _ _ (among_all c.args.places.now c.loop-place.place-index c.loop-place-test.false) c.loop-place.invariant
+pub loop-next-preserved : goal.loop-next-preserved
+loop-next-preserved c =
+    let e = c.in_ok-conclude_one.ensures in
+    let i = c.loop-next.invariant in
+    record {
+      long = e.long ∙ i.long;
+      noted = e.noted;
+      walk = λ keys chains. drawn_more c.args.rules.now keys _ _ c.args.n c.loop-next.place c.in-Some.next _ _ _ _ _ _ chains (sym c.in-Some.ensures) (i.walk keys chains) e;
+    }
+
+pub returns-clause-drawn : goal.returns-clause-drawn
+returns-clause-drawn c = λ keys chains.
+    drawn_all c.args.rules.now keys _ _ c.args.n c.loop-next.place _ _ _ _ chains (sym c.in_default.ensures) (c.loop-next.invariant.walk keys chains)
