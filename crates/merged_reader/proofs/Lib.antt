@@ -1,5 +1,5 @@
-mod Whole
-mod Behind
+pub mod Whole
+pub mod Behind
 mod Steps
 pub mod GoingOn
 mod Held

@@ -62,7 +62,7 @@ module _ (table : Table) where
       ap (λ (g : Held PageState). put_out (narrow_reader table) ((narrow_reader table).step g b)) (plain_merged_held h)
       ∙ merged_puts table (plain_held h) b
 
-  same_lasts : (s : ReaderState) → tokens_behind table (merged s) ≡ tokens_behind table s
+  pub same_lasts : (s : ReaderState) → tokens_behind table (merged s) ≡ tokens_behind table s
   same_lasts Failed = refl
   same_lasts (Reading h) =
       ap (λ (g : Held PageState). last_tokens (narrow_reader table) g) (plain_merged_held h) ∙ merged_last table (plain_held h)

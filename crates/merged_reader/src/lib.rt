@@ -13,5 +13,7 @@ mod merging;
 mod numbers;
 mod reader;
 
+pub use first_bytes::representative;
+pub use merging::merged;
 pub use page_reader::PageReader;
 pub use reader::MergedReader;

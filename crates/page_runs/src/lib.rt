@@ -10,4 +10,4 @@ mod reader;
 mod runs;
 mod tables;
 
-pub use reader::PageRunReader;
+pub use reader::{PageRunReader, last_from};

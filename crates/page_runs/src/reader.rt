@@ -28,7 +28,7 @@ pub struct PageRunReader<'a> {
 }
 
 /// The last byte of a run that begins with the byte and does the same from a state.
-fn last_from(held: &HeldState, byte: u8) -> u8
+pub fn last_from(held: &HeldState, byte: u8) -> u8
     ensures last { byte ≤ result }
     ensures alike { (table : Table) → AreAlike (merged_next table (Reading held.now))
         (tokens_at table (Reading held.now)) byte result }

@@ -13,6 +13,7 @@ ghost use Rattle.page_decision.specs.PageVerdicts.{IsBadPage, IsPageVerdict};
 ghost use Rattle.program_answers.specs.Steps.{is_settled};
 
 use crate::single_bytes::are_of_single_bytes;
+use broken_search::find_broken_page;
 use cfg_grammar::Grammar;
 use coarse_reader::CoarseReader;
 use coarse_reader::laws::finds_broken;
@@ -22,6 +23,7 @@ use echoing_machine::Echoing;
 use fst_core::Machine;
 use grammar_image::ImageRefusal;
 use loose_grammar::ITEM_LIMIT;
+use loose_machine::laws::broken_is_not_good;
 use page_decision::{PageSums, decide_pages, find_broken};
 use page_goals::Goal;
 use std::alloc::Global;
@@ -31,9 +33,9 @@ use summary_fixpoint::Verdict;
 /// sentence has a bad token or none.
 const COARSE_SUMS: u64 = 2;
 
-/// A derivation of a page that is broken, and so good by no goal. None comes only where no page is
-/// broken.
-fn find_broken_page(
+/// A derivation of a page that is broken for the coarse reader, and so good by no goal. None comes
+/// only where no page is.
+fn find_coarsely(
     alloc: Global,
     grammar: &Grammar,
     dtd: &Dtd,
@@ -62,8 +64,23 @@ fn is_settled(decided: &Result<Verdict, ImageRefusal>) -> bool
     }
 }
 
-/// Whether each page that the grammar derives is good. Where the decision passes a limit, a broken
-/// page is looked for.
+/// A derivation of a page that is broken by the definition, and so good by no goal, if there is one.
+fn find_exactly(
+    alloc: Global,
+    grammar: &Grammar,
+    dtd: &Dtd,
+    goal: Goal,
+) -> Result<Option<Derivation>, ImageRefusal>
+    ensures { IfOk result (λ found. IfSome found (IsBadPage (table_of dtd.now)
+        (DerivesText grammar.now.productions.items (symbols.Symbol.Nt grammar.now.start)) goal)) }
+{
+    let _ = goal;
+    broken_is_not_good();
+    find_broken_page(alloc, grammar, dtd, ITEM_LIMIT)
+}
+
+/// Whether each page that the grammar derives is good. Where the decision passes a limit, a page that
+/// is broken by the definition is looked for.
 fn decide_first<M: Machine>(
     alloc: Global,
     grammar: &Grammar,
@@ -88,14 +105,15 @@ fn decide_first<M: Machine>(
     if is_settled(&decided) {
         return decided;
     }
-    match find_broken_page(alloc, grammar, dtd, goal) {
+    match find_exactly(alloc, grammar, dtd, goal) {
         Ok(Some(derivation)) => Ok(Verdict::No(derivation)),
         Err(ImageRefusal::Memory) => Err(ImageRefusal::Memory),
         _ => decided,
     }
 }
 
-/// Whether each page that the grammar derives is good. A broken page is looked for first.
+/// Whether each page that the grammar derives is good. A page that is broken whatever the definition
+/// is looked for first.
 fn find_first<M: Machine>(
     alloc: Global,
     grammar: &Grammar,
@@ -116,18 +134,18 @@ fn find_first<M: Machine>(
         (IsCause grammar.now.productions.items (M.steps machine.now) grammar.now.start
         (M.first machine.now) ITEM_LIMIT) }
 {
-    match find_broken_page(alloc, grammar, dtd, goal) {
+    match find_coarsely(alloc, grammar, dtd, goal) {
         Ok(Some(derivation)) => Ok(Verdict::No(derivation)),
         Err(ImageRefusal::Memory) => Err(ImageRefusal::Memory),
-        _ => decide_pages(alloc, grammar, dtd, goal, machine, sums, ITEM_LIMIT, pairs),
+        _ => decide_first(alloc, grammar, dtd, goal, machine, sums, pairs),
     }
 }
 
 /// Whether each page that the grammar derives is good by the goal and the definition. Where texts
-/// from outside may be printed, a broken page is looked for first, by a reader of few states: the
-/// whole reader meets too many where such a text stands in a page as it is. Where single bytes alone
-/// are printed it meets few, so that one pass decides; a broken page is looked for behind it, if it
-/// has passed a limit.
+/// from outside may be printed, a page that is broken whatever the definition is looked for first, by
+/// a reader of few states: the whole reader meets too many where such a text stands in a page as it
+/// is. Where single bytes alone are printed it meets few, so that one pass decides. Where that has
+/// passed a limit, a page that is broken by the definition is looked for behind it.
 pub(crate) fn decide_grammar<M: Machine>(
     alloc: Global,
     grammar: &Grammar,

@@ -4,7 +4,7 @@ use Rattle.cfg_grammar.specs.declared.symbol.Symbol as symbols
 use Rattle.dtd_model.specs.TableOf.{table_of}
 use Rattle.image_meaning.specs.Outputs.{DerivesText}
 use Rattle.coarse_reader.proofs.BrokenLemmas.{puts_no_tags, none_broken}
-use Rattle.program_answers.proofs.pages.find_broken_page.Goals as goal
+use Rattle.program_answers.proofs.pages.find_coarsely.Goals as goal
 
 pub find_broken-requires : goal.find_broken-requires
 find_broken-requires c = c.finds_broken.ensures (table_of c.args.dtd.now) c.args.dtd.now.lawful

@@ -1,0 +1,73 @@
+//! The search.
+
+ghost use Rattle.std.specs.Prelude.{ℕ, List, IfOk, IfErr, IfSome, IfNone};
+ghost use Rattle.cfg_grammar.specs.declared.symbol.Symbol as symbols;
+ghost use Rattle.dtd_model.specs.TableOf.{table_of};
+ghost use Rattle.image_meaning.specs.Outputs.{DerivesText};
+ghost use Rattle.page_model.specs.Broken.{Broken};
+ghost use Rattle.broken_search.specs.Found.{IsBrokenPage, IsLargeSearch};
+
+use cfg_grammar::Grammar;
+use derivations::Derivation;
+use dtd_index::IndexedDtd;
+use dtd_model::Dtd;
+use dyck_balance::Nesting;
+use echoing_machine::Echoing;
+use grammar_image::ImageRefusal;
+use loose_machine::laws::{loose_finds_broken, loose_misses_none, loose_tells_broken};
+use merged_loose::MergedLooseReader;
+use std::alloc::Global;
+use text_decision::{find_wrong, texts_fit};
+
+/// The most different sums of the sentences of a nonterminal by the tokens of the reader of loose
+/// pieces: a sentence has a bad token or none.
+const SUMS: u64 = 2;
+
+// The same by a definition with its index.
+fn find_by(
+    alloc: Global,
+    grammar: &Grammar,
+    indexed: &IndexedDtd<'_>,
+    items: u64,
+) -> Result<Option<Derivation>, ImageRefusal>
+    ensures found { IfOk result (λ found. IfSome found (IsBrokenPage (table_of indexed.now.dtd.now)
+        (DerivesText grammar.now.productions.items (symbols.Symbol.Nt grammar.now.start)))) }
+    ensures none { IfOk result (λ found. IfNone found ((page : List ℕ)
+        → DerivesText grammar.now.productions.items (symbols.Symbol.Nt grammar.now.start) page
+        → Broken (table_of indexed.now.dtd.now) page → ⊥)) }
+    ensures cause { IfErr result (IsLargeSearch (table_of indexed.now.dtd.now) grammar.now items) }
+{
+    loose_tells_broken();
+    loose_misses_none();
+    loose_finds_broken();
+    texts_fit(grammar);
+    let machine = Echoing {
+        reader: MergedLooseReader { indexed },
+    };
+    let nesting = Nesting::new();
+    find_wrong(alloc, grammar, &machine, &nesting, items, SUMS)
+}
+
+/// A derivation whose bytes are a page that the grammar derives and that is broken by the
+/// definition; None exactly where it derives no such page.
+///
+/// # Errors
+///
+/// `Large` only where the image of the grammar under the machine of the reader of loose pieces has
+/// at least so many items, over `items`. `Memory` may come at any time.
+pub fn find_broken_page(
+    alloc: Global,
+    grammar: &Grammar,
+    dtd: &Dtd,
+    items: u64,
+) -> Result<Option<Derivation>, ImageRefusal>
+    ensures found { IfOk result (λ found. IfSome found (IsBrokenPage (table_of dtd.now)
+        (DerivesText grammar.now.productions.items (symbols.Symbol.Nt grammar.now.start)))) }
+    ensures none { IfOk result (λ found. IfNone found ((page : List ℕ)
+        → DerivesText grammar.now.productions.items (symbols.Symbol.Nt grammar.now.start) page
+        → Broken (table_of dtd.now) page → ⊥)) }
+    ensures cause { IfErr result (IsLargeSearch (table_of dtd.now) grammar.now items) }
+{
+    let indexed = IndexedDtd::new(alloc, dtd)?;
+    find_by(alloc, grammar, &indexed, items)
+}

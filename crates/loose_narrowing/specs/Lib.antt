@@ -1,0 +1,2 @@
+pub mod LoosePassing
+pub mod Laws

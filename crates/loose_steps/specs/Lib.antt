@@ -1,0 +1,3 @@
+pub mod TagTurns
+pub mod NumberTurns
+pub mod LooseReading

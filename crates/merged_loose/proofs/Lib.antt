@@ -1,0 +1,6 @@
+mod Named
+mod Moving
+mod Beginning
+mod Tokens
+mod Meaningless
+mod Running
