@@ -1,95 +1,138 @@
--- Adding members one by one.
-use Rattle.std.proofs.Common.{◌≡◌, ℕ, ◌+◌, ◌<◌, ◌≤◌, ◌⊎◌, inl, inr, List, length, take, take_all, get_or, Contains, sym, subst, arith, None, Some, slice_get}
+-- Adding begun productions.
+use Rattle.std.proofs.Common.{◌≡◌, ℕ, ◌+◌, ◌<◌, ◌≤◌, ◌⊎◌, ◌↔◌, inl, inr, zero, suc, List, [], ◌∷◌, ◌++◌, length, map, take, take_all, get_or, Contains, refl, sym, ◌∙◌, ap, subst, arith, Option, None, Some, slice_get}
 use Rattle.std.specs.List.{All}
-use Rattle.std.proofs.lemmas.List.Elements.{All-nil, All-more, All-weaker, Contains-get_or}
-use Rattle.std.proofs.lemmas.Option.{slice_get-get_or, slice_get_within, get_or_from_slice_get}
+use Rattle.std.proofs.lemmas.List.{append_assoc, append-nil, map-append, take_more}
+use Rattle.std.proofs.lemmas.List.Elements.{Contains-append_left, Contains-append_right, Contains-append_cases, Contains-push_cases, Contains-push}
+use Rattle.std.proofs.lemmas.Option.{slice_get_within, get_or_from_slice_get}
+use Rattle.text_base.specs.declared.numbers.Nt as nt
+use Rattle.cfg_grammar.specs.declared.production.Production.{Production}
 use Rattle.numbered_sets.specs.Numbers.{Keeps}
 use Rattle.number_chains.specs.Chains.{AreChains}
 use Rattle.number_chains.proofs.ChainLemmas.{walk_next, walk_met, walk_end}
-use Rattle.grammar_chart.specs.Adding.{AddsFirst, AddsAll, AddsThose, AddsTo}
+use Rattle.grammar_chart.specs.declared.keys.Begun.{Begun}
+use Rattle.grammar_chart.specs.Rules.{begun_at}
+use Rattle.grammar_chart.specs.Kept.{lefts_of}
+use Rattle.grammar_chart.specs.Adding.{AddsPlaces, AddsTo}
+use Rattle.grammar_chart.proofs.MemberLemmas.{all_by, at_below, at_old, none_in, mapped_at, contains_map, keeps_more, different_none, different_push}
+pub use Rattle.grammar_chart.proofs.MemberLemmas.{contains_at, at_contains, contains_kept}
 
-pub contains_at : {X : Type 0} (xs : List X) (n : ℕ) (x : X) → slice_get xs n ≡ Some x → Contains xs x
-contains_at xs n x h = (n, slice_get_within xs n x h, get_or_from_slice_get xs n x x h)
+-- those of all things of a list are there, the old ones stay, and nothing else is added
+pub record AddsAll {A K : Type 0} (old new : List K) (xs : List A) (f : A → K) : Type 0 where
+  pub all : All (λ (a : A). Contains new (f a)) xs
+  pub keeps : Keeps old new
+  pub adds : (x : K) → Contains new x → Contains old x ⊎ ((a : A) × Contains xs a × (x ≡ f a))
 
-pub at_contains : {X : Type 0} (xs : List X) (x : X) → Contains xs x → (n : ℕ) × (slice_get xs n ≡ Some x)
-at_contains {X} xs x c = (c.0, subst (λ (y : X). slice_get xs c.0 ≡ Some y) c.2 (slice_get-get_or xs c.0 x c.1))
-
-pub contains_kept : {X : Type 0} (old new : List X) (x : X) → Keeps old new → Contains old x → Contains new x
-contains_kept old new x keeps c = let a = at_contains old x c in contains_at new a.0 x (keeps a.0 x a.1)
-
-pub keeps_both : {X : Type 0} (a b c : List X) → Keeps a b → Keeps b c → Keeps a c
-keeps_both a b c k l = λ n x h. l n x (k n x h)
-
-pub adding_none : {A K : Type 0} (old : List K) (xs : List A) (f : A → K) → AddsFirst old old xs 0 f
-adding_none {A} {K} old xs f = record { all = All-nil (λ (a : A). Contains old (f a)); keeps = λ n x h. h; adds = λ x h. inl h }
-
-pub adding_more : {A K : Type 0} (old mid new : List K) (xs : List A) (n : ℕ) (d : A) (f : A → K) → n < length xs → AddsFirst old mid xs n f → Contains new (f (get_or xs n d)) → Keeps mid new → ((x : K) → Contains new x → Contains mid x ⊎ (x ≡ f (get_or xs n d))) → AddsFirst old new xs (n + 1) f
-adding_more {A} {K} old mid new xs n d f h before has keeps adds =
+pub adds_all : {A K : Type 0} (old new : List K) (xs : List A) (f : A → K) → new ≡ old ++ map f xs → AddsAll old new xs f
+adds_all {A} {K} old new xs f e =
     record {
-      all = All-more (λ (a : A). Contains new (f a)) xs n d h
-          (All-weaker (λ (a : A). Contains mid (f a)) (λ (a : A). Contains new (f a)) (λ a c. contains_kept mid new (f a) keeps c) (take n xs) before.all) has;
-      keeps = keeps_both old mid new before.keeps keeps;
-      adds = λ x c. elim (adds x c) [ inl m ↦ before.adds x m | inr e ↦ inr (get_or xs n d, Contains-get_or xs n d h, e) ];
+      all = all_by (λ (a : A). Contains new (f a)) xs
+          (λ a c. subst (λ (ys : List K). Contains ys (f a)) (sym e) (Contains-append_right old (map f xs) (f a) (contains_map f xs a c)));
+      keeps = keeps_more old new (map f xs) e;
+      adds = λ x c. elim (Contains-append_cases old (map f xs) x (subst (λ (ys : List K). Contains ys x) e c)) [
+        | inl was ↦ inl was
+        | inr one ↦ let o = at_contains (map f xs) x one in let m = mapped_at f xs o.0 x o.1 in inr (m.0, contains_at xs o.0 m.0 m.1, m.2)
+      ];
     }
+
+-- one more at the end
+pub map_push : {A K : Type 0} (f : A → K) (old : List K) (xs : List A) (a : A) → (old ++ map f xs) ++ f a ∷ [] ≡ old ++ map f (xs ++ a ∷ [])
+map_push {A} {K} f old xs a = append_assoc old (map f xs) (f a ∷ []) ∙ ap (λ (ys : List K). old ++ ys) (sym (map-append f xs (a ∷ [])))
 
 -- those of a number, along its chain: of the places before that of the walk nothing is added yet
 pub adding_chain_none : {K : Type 0} (old : List K) (keys last before : List ℕ) (number place : ℕ) (f : ℕ → K) → AreChains keys last before → slice_get last number ≡ Some place → AddsTo old old keys number place f
-adding_chain_none old keys last before number place f chains at =
+adding_chain_none {K} old keys last before number place f chains at =
     record {
       so_many = length keys;
       within = omega arith;
       last = chains.ends number place at;
-      added = record {
-        all = λ k h. absurd (let w = slice_get_within keys k number h.0 in omega (arith, w, h.1));
-        keeps = λ n x h. h;
-        adds = λ x h. inl h;
-      };
+      places = [];
+      different = different_none;
+      exactly = λ k. (
+        λ h. absurd (none_in [] k refl h),
+        λ h. absurd (let w = slice_get_within keys k number h.0 in omega (arith, w, h.1)),
+      );
+      added = sym (append-nil old);
     }
 
-pub adding_chain_more : {K : Type 0} (old mid new : List K) (keys last before : List ℕ) (number place next : ℕ) (f : ℕ → K) → AreChains keys last before → slice_get before place ≡ Some next → AddsTo old mid keys number place f → Contains new (f place) → Keeps mid new → ((x : K) → Contains new x → Contains mid x ⊎ (x ≡ f place)) → AddsTo old new keys number next f
-adding_chain_more {K} old mid new keys last before number place next f chains at was has keeps adds =
+pub adding_chain_more : {K : Type 0} (old mid new : List K) (keys last before : List ℕ) (number place next : ℕ) (f : ℕ → K) → AreChains keys last before → slice_get before place ≡ Some next → AddsTo old mid keys number place f → new ≡ mid ++ f place ∷ [] → AddsTo old new keys number next f
+adding_chain_more {K} old mid new keys last before number place next f chains at was e =
     let w = walk_next keys before was.so_many number place next chains.links was.last at in
     record {
       so_many = place;
       within = (let l = slice_get_within keys place number w.0 in omega (arith, l));
       last = w.1;
-      added = record {
-        all = λ k h. elim (walk_met keys was.so_many number place k was.last h.0 h.1) [
-          | inl met ↦ contains_kept mid new (f k) keeps (was.added.all k (h.0, met))
-          | inr here ↦ subst (λ (n : ℕ). Contains new (f n)) (sym here) has
-        ];
-        keeps = keeps_both old mid new was.added.keeps keeps;
-        adds = λ x h. elim (adds x h) [
-          | inl m ↦ elim (was.added.adds x m) [
-            | inl o ↦ inl o
-            | inr d ↦ inr (d.0, (d.1.0, (let l = slice_get_within keys d.0 number d.1.0 in let e = later d.0 d.1.1 d.1.0 in e)), d.2)
-          ]
-          | inr e ↦ inr (place, (w.0, omega arith), e)
-        ];
-      };
+      places = was.places ++ place ∷ [];
+      different = different_push was.places place was.different (λ c. below place ((was.exactly place).0 c).1 refl);
+      exactly = λ k. (
+        λ h. elim (Contains-push_cases was.places place k h) [
+          | inl met ↦ let m = (was.exactly k).0 met in (m.0, later k m.1)
+          | inr here ↦ (subst (λ (n : ℕ). slice_get keys n ≡ Some number) here w.0, omega (arith, here))
+        ],
+        λ h. elim (walk_met keys was.so_many number place k was.last h.0 h.1) [
+          | inl met ↦ Contains-append_left was.places (place ∷ []) k ((was.exactly k).1 (h.0, met))
+          | inr here ↦ subst (λ (n : ℕ). Contains (was.places ++ place ∷ []) n) (sym here) (Contains-push was.places place)
+        ],
+      );
+      added = e ∙ (ap (λ (ys : List K). ys ++ f place ∷ []) was.added ∙ map_push f old was.places place);
     }
   where
-    -- what was met stands behind the place
-    later : (k : ℕ) → was.so_many ≤ k → slice_get keys k ≡ Some number → place ≤ k
-    later k met stands = elim was.last.stands [
+    -- the place of the walk stands before what was met
+    stands_before : place < was.so_many
+    stands_before = elim was.last.stands [
       | inl none ↦ absurd (let l = slice_get_within before place next at in omega (arith, l, none, chains.links.long, chains.links.few))
-      | inr h ↦ omega (arith, h.0, met)
+      | inr h ↦ h.0
     ]
 
-pub adding_chain_all : {K : Type 0} (old new : List K) (keys last before : List ℕ) (number place : ℕ) (f : ℕ → K) → AreChains keys last before → slice_get before place ≡ None → AddsTo old new keys number place f → AddsThose old new (λ (k : ℕ). slice_get keys k ≡ Some number) f
+    later : (k : ℕ) → was.so_many ≤ k → place ≤ k
+    later k met = omega (arith, met, stands_before)
+
+    below : (k : ℕ) → was.so_many ≤ k → k ≡ place → ⊥
+    below k met same = omega (arith, met, same, stands_before)
+
+pub adding_chain_all : {K : Type 0} (old new : List K) (keys last before : List ℕ) (number place : ℕ) (f : ℕ → K) → AreChains keys last before → slice_get before place ≡ None → AddsTo old new keys number place f → AddsPlaces old new keys number f
 adding_chain_all old new keys last before number place f chains none was =
     record {
-      all = λ k stands. was.added.all k (stands, walk_end keys before was.so_many number place k chains.links was.within was.last none stands);
-      keeps = was.added.keeps;
-      adds = λ x h. elim (was.added.adds x h) [ inl o ↦ inl o | inr d ↦ inr (d.0, d.1.0, d.2) ];
+      places = was.places;
+      different = was.different;
+      exactly = λ k. (
+        λ h. ((was.exactly k).0 h).0,
+        λ stands. (was.exactly k).1 (stands, walk_end keys before was.so_many number place k chains.links was.within was.last none stands),
+      );
+      added = was.added;
     }
 
-pub adding_all : {A K : Type 0} (old new : List K) (xs : List A) (n : ℕ) (f : A → K) → length xs ≤ n → AddsFirst old new xs n f → AddsAll old new xs f
-adding_all {A} {K} old new xs n f h a =
-    record { all = subst (λ (ys : List A). All (λ (x : A). Contains new (f x)) ys) (take_all n xs h) a.all; keeps = a.keeps; adds = a.adds }
+some_is : (p q : Production) → Some p ≡ Some q → p ≡ q
+some_is p q e = cc
 
--- the same where the member has a name of its own
-pub adding_more_is : {A K : Type 0} (old mid new : List K) (xs : List A) (n : ℕ) (d : A) (f : A → K) (k : K) → n < length xs → AddsFirst old mid xs n f → k ≡ f (get_or xs n d) → Contains new k → Keeps mid new → ((x : K) → Contains new x → Contains mid x ⊎ (x ≡ k)) → AddsFirst old new xs (n + 1) f
-adding_more_is {A} {K} old mid new xs n d f k h before e has keeps adds =
-    adding_more old mid new xs n d f h before (subst (λ (x : K). Contains new x) e has) keeps
-    (λ x c. elim (adds x c) [ inl m ↦ inl m | inr g ↦ inr (subst (λ (y : K). x ≡ y) e g) ])
+-- the places of the productions of a nonterminal
+pub at_lefts : (ps : List Production) (i : ℕ) (a : nt.Nt) → slice_get (lefts_of ps) i ≡ Some a.0 ↔ ((p : Production) × (slice_get ps i ≡ Some p) × (p.left ≡ a))
+at_lefts [] i a = (λ h. cc, λ h. let e = h.1 in cc)
+at_lefts (p ∷ ps) zero a = (
+  λ h. let same : p.left.0 ≡ a.0 = cc in (p, refl, ap (λ (n : ℕ). let b : nt.Nt = record { 0 = n } in b) same),
+  λ h. let one : p ≡ h.0 = some_is p h.0 h.1 in ap (λ (q : Production). Some q.left.0) one ∙ ap (λ (b : nt.Nt). Some b.0) h.2,
+)
+at_lefts (p ∷ ps) (suc i) a = at_lefts ps i a
+
+-- a begun production by its number
+pub begun_is : (bs : List Begun) (n : ℕ) (b : Begun) → slice_get bs n ≡ Some b → begun_at bs n ≡ b
+begun_is bs n b h = get_or_from_slice_get bs n b _ h
+
+-- the same of a longer list
+pub begun_same : (old new : List Begun) (n : ℕ) (b : Begun) → Keeps old new → n < length old → slice_get new n ≡ Some b → b ≡ begun_at old n
+begun_same old new n b keeps h at = sym (begun_is old n b (at_old old new n b keeps h at))
+
+-- there is one with each number of before
+pub begun_there : (old new : List Begun) (n : ℕ) → Keeps old new → n < length old → slice_get new n ≡ None → ⊥
+begun_there old new n keeps h none =
+    let o = at_below old n h in
+    let e : None ≡ Some o.0 = sym none ∙ keeps n o.0 o.1 in
+    cc
+
+-- one thing more is taken up
+pub adding_more : {A K : Type 0} (old mid new : List K) (xs : List A) (n : ℕ) (d : A) (f : A → K) (x : K) → n < length xs → mid ≡ old ++ map f (take n xs) → x ≡ f (get_or xs n d) → new ≡ mid ++ x ∷ [] → new ≡ old ++ map f (take (n + 1) xs)
+adding_more {A} {K} old mid new xs n d f x h before is e =
+    e ∙ (ap (λ (y : K). mid ++ y ∷ []) is ∙ (ap (λ (ys : List K). ys ++ f (get_or xs n d) ∷ []) before
+    ∙ (map_push f old (take n xs) (get_or xs n d) ∙ ap (λ (ys : List A). old ++ map f ys) (sym (take_more xs n d h)))))
+
+pub adding_all : {A K : Type 0} (old new : List K) (xs : List A) (n : ℕ) (f : A → K) → length xs ≤ n → new ≡ old ++ map f (take n xs) → new ≡ old ++ map f xs
+adding_all {A} old new xs n f h e = e ∙ ap (λ (ys : List A). old ++ map f ys) (take_all n xs h)

@@ -1,22 +1,17 @@
 -- The chart with which all begins.
-use Rattle.std.proofs.Common.{◌≡◌, ℕ, inl, inr, List, [], length, Contains, sym, ◌∙◌, ap, subst, arith, Some, slice_get}
+use Rattle.std.proofs.Common.{◌≡◌, ℕ, inl, inr, List, [], length, Contains, refl, sym, ◌∙◌, ap, subst, arith, Some, slice_get}
 use Rattle.std.proofs.lemmas.List.Elements.{All-nil}
 use Rattle.std.proofs.lemmas.Option.{slice_get_within}
 use Rattle.text_base.specs.declared.numbers.Nt as nt
 use Rattle.cfg_grammar.specs.declared.symbol.Symbol.TheVariants.{Nt}
 use Rattle.cfg_grammar.specs.declared.production.Production.{Production}
 use Rattle.image_meaning.specs.Items.{at_start}
-use Rattle.numbered_sets.specs.Numbers.{AddsOnly}
+use Rattle.numbered_sets.specs.Numbers.{AddsOnly, AreDifferent}
 use Rattle.grammar_chart.specs.declared.keys.Entry.{Entry}
 use Rattle.grammar_chart.specs.declared.steps.Visit.{Visit}
 use Rattle.grammar_chart.specs.Visits.{VisitsGrow}
 use Rattle.grammar_chart.specs.Charts.{IsBegun, IsEntered, IsPassage, IsChart}
-use Rattle.grammar_chart.proofs.AddingLemmas.{contains_at}
-use Rattle.grammar_chart.proofs.ChartLemmas.{all_by}
-use Rattle.grammar_chart.proofs.StepLemmas.{at_below}
-
-none_in : {X : Type 0} (xs : List X) (x : X) → xs ≡ [] → Contains xs x → ⊥
-none_in {X} xs x e c = let d : Contains [] x = subst (λ (ys : List X). Contains ys x) e c in absurd (omega (arith, d.1))
+use Rattle.grammar_chart.proofs.MemberLemmas.{contains_at, all_by, at_below, none_in, different_none}
 
 nothing_at : {X : Type 0} (n : ℕ) (x : X) → slice_get [] n ≡ Some x → ⊥
 nothing_at n x h = cc
@@ -49,4 +44,12 @@ chart_begins ps from old es before vs n none empty long at adds grows =
       opens = λ k x below. absurd (omega (arith, below));
       takes = λ k x below. absurd (omega (arith, below));
       lets = λ k x below. absurd (omega (arith, below));
+      once = record {
+        different = different_none;
+        arises = λ b h. absurd (none_in [] b refl h);
+        waiting = λ q v is. subst (λ (xs : List ℕ). AreDifferent xs) (sym (fresh q v is).0) different_none;
+        taken_up = λ q v n is h. absurd (none_in v.waiting.items n (fresh q v is).0 h);
+        exits = λ q v is. subst (λ (xs : List ℕ). AreDifferent xs) (sym (fresh q v is).1) different_none;
+        let_through = λ q v x t is at2 h. absurd (none_in v.exits.items t (fresh q v is).1 h);
+      };
     }

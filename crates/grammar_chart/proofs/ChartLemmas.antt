@@ -1,8 +1,7 @@
 -- What the steps on a chart keep.
-use Rattle.std.proofs.Common.{◌≡◌, ℕ, List, [], ◌∷◌, get_or, Contains, refl, sym, ◌∙◌, ap, subst, Option, None, Some, slice_get}
+use Rattle.std.proofs.Common.{◌≡◌, ℕ, List, [], ◌∷◌, Contains, refl, sym, ◌∙◌, ap, subst, Option, None, Some, slice_get}
 use Rattle.std.specs.List.{All}
 use Rattle.std.proofs.lemmas.List.Elements.{All-contains}
-use Rattle.std.proofs.lemmas.Option.{slice_get-get_or}
 use Rattle.text_base.specs.declared.numbers.Nt as nt
 use Rattle.cfg_grammar.specs.declared.symbol.Symbol.{Symbol}
 use Rattle.cfg_grammar.specs.declared.symbol.Symbol.TheVariants.{Nt}
@@ -22,11 +21,8 @@ use Rattle.grammar_chart.specs.declared.keys.Passage.{Passage}
 use Rattle.grammar_chart.specs.declared.keys.Reading.{Reading}
 use Rattle.grammar_chart.specs.Rules.{awaited_by, awaited_in, awaited_of, passage_by, passage_in, passage_of, read_by, read_on, last_by, states_of, item_of, ReadingStep}
 use Rattle.grammar_chart.specs.Charts.{HasRead, IsBegun, IsEntered, IsPassage}
-use Rattle.grammar_chart.proofs.AddingLemmas.{contains_at, contains_kept}
-
--- an `All` by membership
-pub all_by : {X : Type 0} (P : X → Type 0) (xs : List X) → ((x : X) → Contains xs x → P x) → All P xs
-all_by P xs h k d below = h (get_or xs k d) (contains_at xs k (get_or xs k d) (slice_get-get_or xs k d below))
+use Rattle.grammar_chart.proofs.MemberLemmas.{contains_at, contains_kept}
+pub use Rattle.grammar_chart.proofs.MemberLemmas.{all_by}
 
 has_read_kept : (fs gs : List Passage) (right : Right) (from : ℕ) (read : Read) → Keeps fs gs → HasRead fs right from read → HasRead gs right from read
 has_read_kept fs gs right from Nothing k h = tt

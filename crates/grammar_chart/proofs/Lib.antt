@@ -1,6 +1,8 @@
+pub mod MemberLemmas
 pub mod AddingLemmas
 pub mod VisitLemmas
 pub mod ChartLemmas
+pub mod OnceLemmas
 pub mod StepLemmas
 pub mod ReadLemmas
 pub mod BelowLemmas

@@ -19,9 +19,11 @@ use Rattle.grammar_chart.specs.declared.keys.Reading.{Reading}
 use Rattle.grammar_chart.specs.declared.steps.Visit.{Visit}
 use Rattle.grammar_chart.specs.Rules.{ReadingStep}
 use Rattle.grammar_chart.specs.Charts.{IsBegun, IsEntered, IsPassage, IsExit, IsTakenUp, IsChart}
-use Rattle.grammar_chart.proofs.AddingLemmas.{contains_kept}
-use Rattle.grammar_chart.proofs.ChartLemmas.{all_by, begun_kept}
-use Rattle.grammar_chart.proofs.StepLemmas.{first_kept, taken_kept, visits_same, longer}
+use Rattle.grammar_chart.proofs.MemberLemmas.{contains_kept, all_by, longer}
+use Rattle.grammar_chart.proofs.ChartLemmas.{begun_kept}
+use Rattle.grammar_chart.proofs.VisitLemmas.{visits_same}
+use Rattle.grammar_chart.proofs.OnceLemmas.{once_more}
+use Rattle.grammar_chart.proofs.StepLemmas.{first_kept, taken_kept}
 
 module _ (ps : List Production) (rs ss : List Reading) (more : (r : Reading) → Contains rs r → Contains ss r) where
   step_over : (s byte u : ℕ) (letters : List Letter) (t : ℕ) → ReadingStep rs s byte u letters → s ≡ t → (v : ℕ) × (u ≡ v) × ReadingStep ss t byte v letters
@@ -86,4 +88,5 @@ chart_reads ps from es vs bs fs gs rs ss opened taken left r c entry is low high
       takes = first_kept (IsTakenUp ps es vs bs fs) (IsTakenUp ps es vs bs gs) bs bs taken (λ n y i. i) c.taken_within
           (λ x h. taken_kept ps es es vs vs bs bs fs gs x (λ n y i. i) (visits_same vs) (λ n y i. i) keeps h) c.takes;
       lets = first_kept (IsExit es vs) (IsExit es vs) fs gs left keeps c.left_within (λ x h. h) c.lets;
+      once = once_more ps es vs bs fs gs opened taken left c.once keeps opened taken (omega arith) (omega arith);
     }

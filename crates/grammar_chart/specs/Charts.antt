@@ -1,5 +1,5 @@
 -- What a chart keeps, on the lists of its parts.
-use Rattle.std.specs.Prelude.{◌≡◌, ◌<◌, ◌≤◌, ℕ, List, length, Option, Some, slice_get, Contains, All, MatchOption}
+use Rattle.std.specs.Prelude.{◌≡◌, ◌<◌, ◌≤◌, ◌⊎◌, ◌++◌, ℕ, List, length, map, Option, Some, slice_get, Contains, All, MatchOption}
 use Rattle.text_base.specs.declared.numbers.Nt as nt
 use Rattle.cfg_grammar.specs.declared.symbol.Symbol.TheVariants.{Nt}
 use Rattle.cfg_grammar.specs.declared.production.Right.{Right}
@@ -7,7 +7,7 @@ use Rattle.cfg_grammar.specs.declared.production.Right.TheVariants.{Empty, One, 
 use Rattle.cfg_grammar.specs.declared.production.Production.{Production}
 use Rattle.image_meaning.specs.Outputs.{Leads}
 use Rattle.image_meaning.specs.Items.{Enters}
-use Rattle.numbered_sets.specs.Numbers.{Keeps, AddsOnly}
+use Rattle.numbered_sets.specs.Numbers.{Keeps, AddsOnly, AreDifferent}
 use Rattle.grammar_chart.specs.declared.keys.Entry.{Entry}
 use Rattle.grammar_chart.specs.declared.keys.Read.{Read}
 use Rattle.grammar_chart.specs.declared.keys.Read.TheVariants.{Nothing, First, Both}
@@ -17,7 +17,6 @@ use Rattle.grammar_chart.specs.declared.keys.Reading.{Reading}
 use Rattle.grammar_chart.specs.declared.steps.Visit.{Visit}
 use Rattle.grammar_chart.specs.Rules.{awaited_of, passage_of, read_on, begun_at, ReadingStep}
 use Rattle.grammar_chart.specs.Visits.{VisitsGrow, AddsWaiting, AddsExit}
-use Rattle.grammar_chart.specs.Adding.{AddsAll}
 
 -- each symbol that is read has its passage
 abbrev pub HasRead : List Passage → Right → ℕ → Read → Type 0
@@ -81,6 +80,39 @@ abbrev pub IsOpened : List Production → List Begun → Entry → Type 0
 IsOpened ps bs e = (a : nt.Nt) → e.symbol ≡ Nt a → (place : ℕ) (p : Production) → slice_get ps place ≡ Some p → p.left ≡ a
     → Contains bs (record { place = place; from = e.state; read = Nothing })
 
+-- the begun production has nothing read, and is one of an entry that is opened
+pub record IsOfEntry (ps : List Production) (es : List Entry) (opened : ℕ) (b : Begun) : Type 0 where
+  pub number : ℕ
+  pub production : Production
+  pub within : number < opened
+  pub placed : slice_get ps b.place ≡ Some production
+  pub at : slice_get es number ≡ Some (record { symbol = Nt production.left; state = b.from })
+  pub nothing : b.read ≡ Nothing
+
+-- the begun production is what one that waits becomes by an exit of its entry
+pub record IsOfExit (vs : List Visit) (bs : List Begun) (b : Begun) : Type 0 where
+  pub number : ℕ
+  pub visit : Visit
+  pub is_visit : slice_get vs number ≡ Some visit
+  pub waiting : ℕ
+  pub waits : Contains visit.waiting.items waiting
+  pub before : Begun
+  pub is_before : slice_get bs waiting ≡ Some before
+  pub exit : ℕ
+  pub exits : Contains visit.exits.items exit
+  pub is : b ≡ read_on before exit
+
+-- no begun production arises twice: each comes of an opened entry, or of one that waits and an exit, and none of these is met twice
+pub record AriseOnce (ps : List Production) (es : List Entry) (vs : List Visit) (bs : List Begun) (fs : List Passage)
+    (opened taken left : ℕ) : Type 0 where
+  pub different : AreDifferent bs
+  pub arises : (b : Begun) → Contains bs b → IsOfEntry ps es opened b ⊎ IsOfExit vs bs b
+  pub waiting : (q : ℕ) (v : Visit) → slice_get vs q ≡ Some v → AreDifferent v.waiting.items
+  pub taken_up : (q : ℕ) (v : Visit) (n : ℕ) → slice_get vs q ≡ Some v → Contains v.waiting.items n → n < taken
+  pub exits : (q : ℕ) (v : Visit) → slice_get vs q ≡ Some v → AreDifferent v.exits.items
+  pub let_through : (q : ℕ) (v : Visit) (e : Entry) (t : ℕ) → slice_get vs q ≡ Some v → slice_get es q ≡ Some e → Contains v.exits.items t
+      → (k : ℕ) × (k < left) × (slice_get fs k ≡ Some (record { symbol = e.symbol; from = e.state; to = t }))
+
 -- so of the first of the members
 abbrev pub OfFirst : {X : Type 0} → (X → Type 0) → List X → ℕ → Type 0
 OfFirst {X} P xs n = (k : ℕ) (x : X) → k < n → slice_get xs k ≡ Some x → P x
@@ -95,7 +127,7 @@ pub record Awaits (es new : List Entry) (vs after : List Visit) (bs more : List 
   pub adds : AddsOnly es new e
   pub grows : VisitsGrow vs visits
   pub is_visit : slice_get visits place ≡ Some visit
-  pub advances : AddsAll bs more visit.exits.items (λ (t : ℕ). read_on b t)
+  pub advances : more ≡ bs ++ map (λ (t : ℕ). read_on b t) visit.exits.items
   pub waits : AddsWaiting visits after place n
   pub long : length visits ≡ length new
   pub still_long : length after ≡ length new
@@ -110,7 +142,7 @@ pub record Leaves (es new : List Entry) (vs after : List Visit) (bs more : List 
   pub adds : AddsOnly es new (record { symbol = f.symbol; state = f.from })
   pub grows : VisitsGrow vs visits
   pub is_visit : slice_get visits place ≡ Some visit
-  pub advances : AddsAll bs more visit.waiting.items (λ (n : ℕ). read_on (begun_at bs n) f.to)
+  pub advances : more ≡ bs ++ map (λ (n : ℕ). read_on (begun_at bs n) f.to) visit.waiting.items
   pub leaves : AddsExit visits after place f.to
   pub long : length visits ≡ length new
   pub still_long : length after ≡ length new
@@ -128,6 +160,7 @@ pub record IsChart (ps : List Production) (from : nt.Nt) (es : List Entry) (vs :
   pub opens : OfFirst (IsOpened ps bs) es opened
   pub takes : OfFirst (IsTakenUp ps es vs bs fs) bs taken
   pub lets : OfFirst (IsExit es vs) fs left
+  pub once : AriseOnce ps es vs bs fs opened taken left
 
 -- the passage, if there is one, is added
 abbrev pub Finishes : List Passage → List Passage → Option Passage → Type 0

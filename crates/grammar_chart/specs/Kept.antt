@@ -13,13 +13,13 @@ use Rattle.grammar_chart.specs.Charts.{IsChart}
 
 -- the lists of the chart keep what a chart of these productions keeps
 abbrev pub IsChartOf : List Production → Chart → Type 0
-IsChartOf ps c = IsChart ps c.from c.entries.keys c.visits.items c.begun.keys c.passages.keys c.readings.items c.opened c.taken c.left
+IsChartOf ps c = IsChart ps c.from c.entries.keys c.visits.items c.begun.items c.passages.keys c.readings.items c.opened c.taken c.left
 
 -- what is listed stays, and no reading is added
 pub record GoesOn (old new : Chart) : Type 0 where
   pub from : new.from ≡ old.from
   pub entries : Keeps old.entries.keys new.entries.keys
-  pub begun : Keeps old.begun.keys new.begun.keys
+  pub begun : Keeps old.begun.items new.begun.items
   pub passages : Keeps old.passages.keys new.passages.keys
   pub readings : new.readings.items ≡ old.readings.items
 
@@ -52,7 +52,7 @@ pub record Goes (ps : List Production) (old new : Chart) : Type 0 where
 -- nothing is left to be done
 pub record IsDone (c : Chart) : Type 0 where
   pub opened : length c.entries.keys ≤ c.opened
-  pub taken : length c.begun.keys ≤ c.taken
+  pub taken : length c.begun.items ≤ c.taken
   pub left : length c.passages.keys ≤ c.left
 
 -- what a turn did: one step; or the next entry is a range, whose readings the machine is asked for; or all is done

@@ -29,7 +29,8 @@ pub struct Chart {
     pub from: Nt,
     pub entries: IndexSet<Entry>,
     pub visits: Vec<Visit>,
-    pub begun: IndexSet<Begun>,
+    /// Each arises once, so they are not looked up.
+    pub begun: Vec<Begun>,
     pub passages: IndexSet<Passage>,
     pub readings: Vec<Reading>,
     /// How many entries are opened.
@@ -58,12 +59,32 @@ impl Drop for Chart {
     }
 }
 
+impl Chart {
+    /// The passages; all else is let go.
+    pub fn into_passages(self) -> IndexSet<Passage>
+        ensures { result ≡ self.passages }
+    {
+        let Chart {
+            from: _,
+            entries: _,
+            visits: _,
+            begun: _,
+            passages,
+            readings: _,
+            opened: _,
+            taken: _,
+            left: _,
+        } = self;
+        passages
+    }
+}
+
 /// A begun production with a number waits for its next symbol.
 fn await_symbol(
     alloc: Global,
     entries: &mut IndexSet<Entry>,
     visits: &mut Vec<Visit>,
-    begun: &mut IndexSet<Begun>,
+    begun: &mut Vec<Begun>,
     one: Begun,
     number: u64,
     entry: Entry,
@@ -71,7 +92,7 @@ fn await_symbol(
     requires { vec_len visits.old ≡ length entries.old.keys }
     ensures { OnOk result
         (Awaits entries.old.keys entries.new.keys visits.old.items visits.new.items
-        begun.old.keys begun.new.keys one number entry) }
+        begun.old.items begun.new.items one number entry) }
 {
     let at = enter(alloc, entries, visits, entry)?;
     advance_over(begun, one, visits[at].exits.as_slice())?;
@@ -84,14 +105,14 @@ fn leave_entry(
     alloc: Global,
     entries: &mut IndexSet<Entry>,
     visits: &mut Vec<Visit>,
-    begun: &mut IndexSet<Begun>,
+    begun: &mut Vec<Begun>,
     one: Passage,
 ) -> Result<(), NoMemory>
     requires long { vec_len visits.old ≡ length entries.old.keys }
-    requires within { AreWithin visits.old.items (length begun.old.keys) }
+    requires within { AreWithin visits.old.items (length begun.old.items) }
     ensures { OnOk result
         (Leaves entries.old.keys entries.new.keys visits.old.items visits.new.items
-        begun.old.keys begun.new.keys one) }
+        begun.old.items begun.new.items one) }
 {
     let entry = Entry {
         symbol: one.symbol,
@@ -152,8 +173,7 @@ fn take_up_waiting(
     entry: Entry,
 ) -> Result<(), NoMemory>
     requires chart { IsChartOf productions.now chart.old }
-    requires next { slice_get chart.old.begun.keys chart.old.taken ≡ Some one }
-    requires small { chart.old.taken < 9223372036854775808 }
+    requires next { slice_get chart.old.begun.items chart.old.taken ≡ Some one }
     requires awaited { awaited_of productions.now one ≡ Some entry }
     ensures chart { OnOk result (IsChartOf productions.now chart.new) }
     ensures goes_on { OnOk result (GoesOn chart.old chart.new) }
@@ -175,8 +195,7 @@ fn take_up_waiting(
 /// A begun production of which all is read leads where its left side does.
 fn take_up_whole(productions: &[Production], chart: &mut Chart, one: Begun) -> Result<(), NoMemory>
     requires chart { IsChartOf productions.now chart.old }
-    requires next { slice_get chart.old.begun.keys chart.old.taken ≡ Some one }
-    requires small { chart.old.taken < 9223372036854775808 }
+    requires next { slice_get chart.old.begun.items chart.old.taken ≡ Some one }
     requires whole { awaited_of productions.now one ≡ None }
     ensures chart { OnOk result (IsChartOf productions.now chart.new) }
     ensures goes_on { OnOk result (GoesOn chart.old chart.new) }
@@ -195,8 +214,7 @@ fn take_up(
     one: Begun,
 ) -> Result<(), NoMemory>
     requires chart { IsChartOf productions.now chart.old }
-    requires next { slice_get chart.old.begun.keys chart.old.taken ≡ Some one }
-    requires small { chart.old.taken < 9223372036854775808 }
+    requires next { slice_get chart.old.begun.items chart.old.taken ≡ Some one }
     ensures chart { OnOk result (IsChartOf productions.now chart.new) }
     ensures goes_on { OnOk result (GoesOn chart.old chart.new) }
     ensures step { OnOk result (IsCounted chart.old chart.new 0 1 0) }
@@ -228,6 +246,8 @@ fn let_through(
         &mut chart.begun,
         one,
     )?;
+    let _entries = count(&chart.entries);
+    let _passages = count(&chart.passages);
     chart.left += 1;
     Ok(())
 }
@@ -250,6 +270,7 @@ fn open_nonterminal(
     ensures goes_on { OnOk result (GoesOn chart.old chart.new) }
     ensures step { OnOk result (IsCounted chart.old chart.new 1 0 0) }
 {
+    let _entries = count(&chart.entries);
     begin_all(&mut chart.begun, places, left.0, entry.state)?;
     chart.opened += 1;
     Ok(())
@@ -265,7 +286,7 @@ pub fn read(chart: &mut Chart, reading: Reading) -> Result<(), NoMemory>
         ((ps : List plain.Production) → IsChartOf ps chart.old → IsChartOf ps chart.new) }
     ensures entries { OnOk result (chart.new.entries.keys ≡ chart.old.entries.keys) }
     ensures from { OnOk result (chart.new.from ≡ chart.old.from) }
-    ensures begun { OnOk result (chart.new.begun.keys ≡ chart.old.begun.keys) }
+    ensures begun { OnOk result (chart.new.begun.items ≡ chart.old.begun.items) }
     ensures passages { OnOk result (Keeps chart.old.passages.keys chart.new.passages.keys) }
     ensures passage { OnOk result
         (Contains chart.new.passages.keys
@@ -313,7 +334,7 @@ pub fn turn(
     requires from { chart.old.from.0 < length places.now.last.items }
     ensures turn { IfOk result (λ t. IsTurn productions.now chart.old chart.new t) }
 {
-    if let Some(one) = begun_at(&chart.begun, chart.taken) {
+    if let Some(one) = begun_at(chart.begun.as_slice(), chart.taken) {
         take_up(alloc, productions, chart, one)?;
         return Ok(Turn::Went);
     }
@@ -340,7 +361,7 @@ pub fn turn(
 /// Lets go of the entries and what is kept of them, which only the filling of the chart needs.
 pub fn let_go(alloc: Global, chart: &mut Chart)
     ensures from { chart.new.from ≡ chart.old.from }
-    ensures begun { chart.new.begun.keys ≡ chart.old.begun.keys }
+    ensures begun { chart.new.begun.items ≡ chart.old.begun.items }
     ensures passages { chart.new.passages.keys ≡ chart.old.passages.keys }
     ensures readings { chart.new.readings.items ≡ chart.old.readings.items }
     ensures entries { chart.new.entries.keys ≡ [] }
@@ -372,7 +393,7 @@ pub fn begin(alloc: Global, from: Nt) -> Result<Chart, NoMemory>
         from,
         entries,
         visits,
-        begun: IndexSet::new(alloc),
+        begun: Vec::new(alloc),
         passages: IndexSet::new(alloc),
         readings: Vec::new(alloc),
         opened: 0,

@@ -1,6 +1,5 @@
 //! What a chart holds.
 
-ghost use Rattle.std.proofs.Common.{rules};
 ghost use Rattle.grammar_chart.specs.Exactness.{exact_entry, exact_passage};
 
 use cfg_grammar::Symbol;
@@ -15,7 +14,7 @@ pub struct Entry {
 }
 
 /// The states behind the symbols of a production that are read.
-#[derive(Clone, Copy, Debug, PartialEq, Eq, Hash)]
+#[derive(Clone, Copy, Debug, PartialEq, Eq)]
 pub enum Read {
     Nothing,
     First(u64),
@@ -24,7 +23,7 @@ pub enum Read {
 
 /// A production by its place in the grammar, the state in which the machine comes to it, and what
 /// of it is read.
-#[derive(Clone, Copy, Debug, PartialEq, Eq, Hash)]
+#[derive(Clone, Copy, Debug, PartialEq, Eq)]
 pub struct Begun {
     pub place: u64,
     pub from: u64,
@@ -53,10 +52,6 @@ pub struct Reading {
 
 impl Exact for Entry {
     ghost exact = { exact_entry };
-}
-
-impl Exact for Begun {
-    ghost exact = { Prim.search rules };
 }
 
 impl Exact for Passage {

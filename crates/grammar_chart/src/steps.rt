@@ -1,10 +1,10 @@
 //! Single steps on the parts of a chart.
 
-ghost use Rattle.std.specs.Prelude.{◌≡◌, ◌⊎◌, ◌<◌, ◌++◌, ◌∷◌, [], ℕ, List, All, Contains, OnOk, IfOk, IfSome, Some, slice_get, length, vec_len};
+ghost use Rattle.std.specs.Prelude.{◌≡◌, ◌⊎◌, ◌<◌, ◌++◌, ℕ, List, All, Contains, OnOk, IfOk, Some, map, slice_get, length, vec_len};
 ghost use Rattle.numbered_sets.specs.Numbers.{Keeps};
 ghost use Rattle.grammar_chart.specs.Rules.{read_on, begun_at};
 ghost use Rattle.number_chains.specs.Chains.{AreChains, Falls};
-ghost use Rattle.grammar_chart.specs.Adding.{AddsAll, AddsThose};
+ghost use Rattle.grammar_chart.specs.Adding.{AddsPlaces};
 ghost use Rattle.grammar_chart.specs.Visits.{VisitsGrow, AddsWaiting, AddsExit};
 ghost use Rattle.grammar_chart.specs.declared.keys.Read.TheVariants.{Nothing};
 
@@ -12,7 +12,7 @@ use crate::keys::{Begun, Entry, Read};
 use crate::rules::advanced;
 use indexmap::IndexSet;
 use number_chains::Chains;
-use numbered_sets::{count, number};
+use numbered_sets::number;
 use smallvec::SmallVec;
 use std::alloc::Global;
 use text_base::NoMemory;
@@ -26,57 +26,44 @@ pub struct Visit {
     pub exits: SmallVec<u64, 1>,
 }
 
-/// The member with a number, if there is one.
-pub fn begun_at(begun: &IndexSet<Begun>, number: usize) -> Option<Begun>
-    ensures value { result ≡ slice_get begun.now.keys number }
-    ensures small { IfSome result (λ b. number < 9223372036854775808) }
+/// The begun production with a number, if there is one.
+pub fn begun_at(begun: &[Begun], number: usize) -> Option<Begun>
+    ensures { result ≡ slice_get begun.now number }
 {
-    if number >= count(begun) {
-        return None;
-    }
-    begun.get_index(number).copied()
-}
-
-/// Adds a begun production, unless it is there.
-pub fn add_begun(begun: &mut IndexSet<Begun>, one: Begun) -> Result<(), NoMemory>
-    ensures has { OnOk result (Contains begun.new.keys one) }
-    ensures keeps { Keeps begun.old.keys begun.new.keys }
-    ensures adds { (x : Begun) → Contains begun.new.keys x → Contains begun.old.keys x ⊎ (x ≡ one) }
-{
-    let (_, _) = number(begun, one)?;
-    Ok(())
+    begun.get(number).copied()
 }
 
 /// Adds what a begun production becomes by each of the exits of the symbol that it waits for.
-pub fn advance_over(begun: &mut IndexSet<Begun>, one: Begun, exits: &[u64]) -> Result<(), NoMemory>
-    ensures { OnOk result (AddsAll begun.old.keys begun.new.keys exits.now (λ t. read_on one t)) }
+pub fn advance_over(begun: &mut Vec<Begun>, one: Begun, exits: &[u64]) -> Result<(), NoMemory>
+    ensures { OnOk result
+        (begun.new.items ≡ begun.old.items ++ map (λ t. read_on one t) exits.now) }
 {
     for exit in exits {
-        add_begun(begun, advanced(one, *exit))?;
+        begun.push(advanced(one, *exit))?;
     }
     Ok(())
 }
 
 /// Adds what each of the begun productions with these numbers becomes by an exit of the symbol that
 /// they wait for.
-pub fn advance_all(begun: &mut IndexSet<Begun>, waiting: &[u64], exit: u64) -> Result<(), NoMemory>
-    requires { All (λ n. n < length begun.old.keys) waiting.now }
+pub fn advance_all(begun: &mut Vec<Begun>, waiting: &[u64], exit: u64) -> Result<(), NoMemory>
+    requires { All (λ n. n < length begun.old.items) waiting.now }
     ensures { OnOk result
-        (AddsAll begun.old.keys begun.new.keys waiting.now
-        (λ n. read_on (begun_at begun.old.keys n) exit)) }
+        (begun.new.items
+        ≡ begun.old.items ++ map (λ n. read_on (begun_at begun.old.items n) exit) waiting.now) }
 {
     for number in waiting {
-        let Some(one) = begun_at(begun, *number as usize) else {
+        let Some(one) = begun_at(begun.as_slice(), *number as usize) else {
             unreachable!()
         };
-        add_begun(begun, advanced(one, exit))?;
+        begun.push(advanced(one, exit))?;
     }
     Ok(())
 }
 
 /// Adds the productions at the places of a number, of which nothing is read yet.
 pub fn begin_all(
-    begun: &mut IndexSet<Begun>,
+    begun: &mut Vec<Begun>,
     places: &Chains,
     left: u64,
     from: u64,
@@ -85,19 +72,16 @@ pub fn begin_all(
     requires falls { Falls places.now.before.items }
     ensures { OnOk result
         ((keys : List ℕ) → AreChains keys places.now.last.items places.now.before.items
-        → AddsThose begun.old.keys begun.new.keys (λ k. slice_get keys k ≡ Some left)
+        → AddsPlaces begun.old.items begun.new.items keys left
         (λ p. record { place = p; from = from; read = Nothing })) }
 {
     let mut place = places.last_place(left);
     while let Some(before) = places.place_before(place) {
-        add_begun(
-            begun,
-            Begun {
-                place: place as u64,
-                from,
-                read: Read::Nothing,
-            },
-        )?;
+        begun.push(Begun {
+            place: place as u64,
+            from,
+            read: Read::Nothing,
+        })?;
         place = before;
     }
     Ok(())

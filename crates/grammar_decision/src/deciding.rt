@@ -2,16 +2,16 @@
 
 ghost use Rattle.std.specs.Prelude.{◌≡◌, ◌<◌, [], All, IfErr, IfOk, OnOk, length};
 ghost use Rattle.summary_fixpoint.specs.Pairs.{AreWhole};
-ghost use Rattle.summary_fixpoint.specs.Tables.{known, IsTable};
+ghost use Rattle.number_chains.specs.Chains.{AreChains};
+ghost use Rattle.summary_fixpoint.specs.Tables.{IsTable};
 ghost use Rattle.summary_fixpoint.specs.Halts.{Explains};
-ghost use Rattle.summary_fixpoint.specs.Joints.{AreTaken};
 ghost use Rattle.summary_fixpoint.specs.Verdicts.{IsVerdict};
 
 use crate::running::work;
 use cfg_grammar::Grammar;
 use derivations::{Derivation, Nodes};
 use indexmap::IndexSet;
-use numbered_sets::places_by;
+use number_chains::Chains;
 use std::alloc::Global;
 use std::hash::Hash;
 use summary_decision::{Uses, uses_on};
@@ -107,6 +107,17 @@ fn empty_table<T: Exact + Hash + Drop>(alloc: Global, count: u64) -> Result<Tabl
     })
 }
 
+/// No pair that is taken up.
+fn none_taken(alloc: Global, count: u64) -> Result<Taken, NoMemory>
+    ensures chains { IfOk result (λ taken. AreChains [] taken.chains.last.items
+        taken.chains.before.items) }
+    ensures len { IfOk result (λ taken. length taken.chains.last.items ≡ count) }
+{
+    let mut chains = Chains::new(alloc);
+    chains.widen(count)?;
+    Ok(Taken { chains })
+}
+
 /// Whether each sentence of a grammar is whole by a summary, with at most `pairs` different sums
 /// of sentences a nonterminal and `TAG_LIMIT` unmatched tags a sum (Knuth, A generalization of
 /// Dijkstra's algorithm, 1977, for heights in place of lengths). Each production is composed once
@@ -124,10 +135,8 @@ pub fn decide<S: Summary>(
     let useful = useful_nonterminals(alloc, grammar)?;
     let firsts = uses_on(alloc, Side::First, grammar, useful.as_slice())?;
     let seconds = uses_on(alloc, Side::Second, grammar, useful.as_slice())?;
-    let none: Vec<u64> = Vec::new(alloc);
-    let lists = places_by(alloc, grammar.count, none.as_slice())?;
     let mut table = empty_table(alloc, grammar.count)?;
-    let mut taken = Taken { lists, count: 0 };
+    let mut taken = none_taken(alloc, grammar.count)?;
     let uses = Uses { firsts, seconds };
     let question = Question {
         alloc,

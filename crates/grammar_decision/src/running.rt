@@ -4,10 +4,11 @@ ghost use Rattle.std.specs.Prelude.{◌≡◌, ◌↔◌, ◌<◌, ◌≤◌, []
 ghost use Rattle.text_base.specs.declared.numbers.Nt as nt;
 ghost use Rattle.useful_nonterminals.specs.Follows.{IsMarked};
 ghost use Rattle.useful_nonterminals.specs.Useful.{IsUseful};
+ghost use Rattle.number_chains.specs.Chains.{AreChains};
 ghost use Rattle.summary_fixpoint.specs.Pairs.{AreWhole};
-ghost use Rattle.summary_fixpoint.specs.Tables.{known, IsTable};
+ghost use Rattle.summary_fixpoint.specs.Tables.{IsTable};
 ghost use Rattle.summary_fixpoint.specs.Halts.{Explains};
-ghost use Rattle.summary_fixpoint.specs.Joints.{AreTaken, AreUses};
+ghost use Rattle.summary_fixpoint.specs.Joints.{AreUses};
 ghost use Rattle.summary_decision.specs.Taking.{AreUp};
 ghost use Rattle.summary_decision.specs.Running.{raised};
 
@@ -43,11 +44,9 @@ fn run<S: Summary>(
         (S.is_whole question.now.summary.now) question.now.grammar.now.productions.items
         question.now.grammar.now.start question.now.grammar.now.count table.old taken.old }
     requires firsts { AreUses Side.First question.now.grammar.now.productions.items
-        question.now.grammar.now.start question.now.grammar.now.count uses.now.firsts.items }
+        question.now.grammar.now.start question.now.grammar.now.count uses.now.firsts }
     requires seconds { AreUses Side.Second question.now.grammar.now.productions.items
-        question.now.grammar.now.start question.now.grammar.now.count uses.now.seconds.items }
-    requires many { question.now.grammar.now.count < length uses.now.firsts.items }
-    requires as_many { question.now.grammar.now.count < length uses.now.seconds.items }
+        question.now.grammar.now.start question.now.grammar.now.count uses.now.seconds }
     ensures ok { OnOk result
         (AreWhole (S.sum_of question.now.summary.now) (S.is_whole question.now.summary.now)
         question.now.grammar.now.productions.items question.now.grammar.now.start) }
@@ -56,8 +55,8 @@ fn run<S: Summary>(
         question.now.grammar.now.productions.items question.now.grammar.now.start question.now.limit
         table.new.nodes.nodes.items table.new.height h) }
 {
-    while taken.count < count(&table.entries) {
-        raise(table, taken.count);
+    while taken.count() < count(&table.entries) {
+        raise(table, taken.count());
         take(question, table, uses, taken)?;
     }
     Ok(())
@@ -78,15 +77,12 @@ pub(crate) fn work<S: Summary>(
     requires useful { (a : nt.Nt)
         → IsMarked useful.now a.0 ↔ IsUseful question.now.grammar.now.productions.items
         question.now.grammar.now.start a }
-    requires none { taken.old.count ≡ 0 }
-    requires lists { AreTaken (known table.old) 0 taken.old.lists.items }
-    requires spread { length taken.old.lists.items ≡ question.now.grammar.now.count }
+    requires none { AreChains [] taken.old.chains.last.items taken.old.chains.before.items }
+    requires spread { length taken.old.chains.last.items ≡ question.now.grammar.now.count }
     requires firsts { AreUses Side.First question.now.grammar.now.productions.items
-        question.now.grammar.now.start question.now.grammar.now.count uses.now.firsts.items }
+        question.now.grammar.now.start question.now.grammar.now.count uses.now.firsts }
     requires seconds { AreUses Side.Second question.now.grammar.now.productions.items
-        question.now.grammar.now.start question.now.grammar.now.count uses.now.seconds.items }
-    requires many { question.now.grammar.now.count < length uses.now.firsts.items }
-    requires as_many { question.now.grammar.now.count < length uses.now.seconds.items }
+        question.now.grammar.now.start question.now.grammar.now.count uses.now.seconds }
     ensures ok { OnOk result
         (AreWhole (S.sum_of question.now.summary.now) (S.is_whole question.now.summary.now)
         question.now.grammar.now.productions.items question.now.grammar.now.start) }

@@ -1,6 +1,6 @@
 //! The places at which each number stands in a list, as chains through the list: from the last place
-//! of a number to the one before it, and so on. Two numbers for each place and number, however they
-//! are spread; `places_by` of numbered_sets makes a list for each number. Below stand text_base and
+//! of a number to the one before it, and so on. They take one number for each place and one for each
+//! number, however the numbers are spread; `places_by` of numbered_sets makes a list for each number. Below stand text_base and
 //! numbered_sets.
 #![tactic(auto)]
 
@@ -70,8 +70,8 @@ impl Chains {
         self.last[number as usize]
     }
 
-    /// The place before one of the list, at which the same number stands, or no place of a list; None
-    /// where that is no place of the list itself.
+    /// The place before this one at which the same number stands, or no place of a list where there is
+    /// none. None where this is no place of the list.
     pub fn place_before(&self, place: usize) -> Option<usize>
         ensures { result ≡ slice_get self.now.before.items place }
     {

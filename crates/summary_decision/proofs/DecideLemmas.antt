@@ -1,8 +1,6 @@
 -- The beginning and the end of the decision.
-use Rattle.std.proofs.Common.{◌≡◌, ◌≢◌, ℕ, zero, suc, ◌+◌, ◌-◌, ◌<◌, ◌≤◌, Bool, true, false, List, [], ◌∷◌, length, Contains, refl, sym, ◌∙◌, ap, subst, arith, None, Some, slice_get}
-use Rattle.std.specs.List.{All, AllPairs}
-use Rattle.std.specs.declared.vec.Vec.{Vec}
-use Rattle.std.specs.declared.alloc.Global.{Global}
+use Rattle.std.proofs.Common.{◌≡◌, ℕ, ◌-◌, ◌<◌, ◌≤◌, Bool, List, [], length, Contains, refl, sym, ◌∙◌, ap, subst, arith, None, Some, slice_get}
+use Rattle.std.specs.List.{All}
 use Rattle.std.proofs.lemmas.List.Elements.{All-contains, All-nil}
 use Rattle.std.proofs.lemmas.Option.{slice_get_within, none-some}
 use Rattle.text_base.specs.declared.letter.Letter.{Letter}
@@ -13,16 +11,16 @@ use Rattle.cfg_grammar.specs.declared.symbol.Symbol.TheVariants.{Nt}
 use Rattle.cfg_grammar.specs.declared.production.Production.{Production}
 use Rattle.cfg_grammar.specs.Derives.{DerivesIn}
 use Rattle.derivations.specs.declared.node.Part.{Part}
-use Rattle.derivations.specs.declared.node.Part.TheVariants.{Byte, Token, Inner}
+use Rattle.derivations.specs.declared.node.Part.TheVariants.{Inner}
 use Rattle.derivations.specs.declared.node.Node.{Node}
 use Rattle.derivations.specs.Stands.{Stands, IsDerivation}
-use Rattle.numbered_sets.specs.Places.{ArePlaces}
+use Rattle.number_chains.specs.Chains.{AreChains}
 use Rattle.summary_fixpoint.specs.declared.table.Entry.{Entry}
 use Rattle.summary_fixpoint.specs.declared.table.Table.{Table}
 use Rattle.summary_fixpoint.specs.declared.table.Taken.{Taken}
 use Rattle.summary_fixpoint.specs.Closed.{Pair, IsClosed}
-use Rattle.summary_fixpoint.specs.Tables.{known, known_of, sums_at, AreNumbered, IsTable}
-use Rattle.summary_fixpoint.specs.Joints.{AreTaken}
+use Rattle.summary_fixpoint.specs.Tables.{known, known_of, sums_at, IsTable}
+use Rattle.summary_fixpoint.specs.Joints.{first_nonterminals, taken_count}
 use Rattle.summary_fixpoint.proofs.ClosedLemmas.{contained}
 use Rattle.summary_decision.specs.Beginning.{Begins}
 use Rattle.summary_decision.specs.Taking.{AreUp}
@@ -64,24 +62,16 @@ module _ {S : Type 0} (sum_of : List PageToken → S) (composed : S → S → S)
         complete = λ a w h l u d. absurd (no_height ps (Nt a) w h d a refl (omega (arith, l, height)));
       }
 
-  pub up_begun : (old new : Table S) (taken : Taken) → taken.count ≡ 0 → AreTaken (known old) 0 taken.lists.items → length taken.lists.items ≡ count → Begins sum_of composed whole ps start count old new (λ (k : ℕ). k < length ps) → AreUp sum_of composed whole ps start count new taken
-  up_begun old new taken none lists spread b =
+  pub up_begun : (old new : Table S) (taken : Taken) → AreChains [] taken.chains.last.items taken.chains.before.items → length taken.chains.last.items ≡ count → Begins sum_of composed whole ps start count old new (λ (k : ℕ). k < length ps) → AreUp sum_of composed whole ps start count new taken
+  up_begun old new taken chains spread b =
+      let none : taken_count taken ≡ 0 = chains.links.long in
       record {
         table = b.goes.table;
-        lists = λ a v at i. (
-          λ c. let p = (lists a v at i).0 c in absurd (omega (arith, p.0)),
-          λ p. absurd (omega (arith, p.0, none)),
-        );
+        chains = subst (λ (n : ℕ). AreChains (first_nonterminals (known new) n) taken.chains.last.items taken.chains.before.items) (sym none) chains;
         spread = spread;
         within = omega (arith, none);
         closed = subst (λ (n : ℕ). IsClosed sum_of composed ps start (known new) n) (sym none) (begun_closed sum_of composed whole ps start count old new b);
       }
-
-pub no_taken : {S : Type 0} (pairs : List (Pair S)) (keys : List ℕ) (lists : List (Vec ℕ Global)) → keys ≡ [] → ArePlaces keys lists → AreTaken pairs 0 lists
-no_taken pairs keys lists none places a v at i = (
-  λ c. absurd (none_at keys i a none ((places a v at i).0 c)),
-  λ p. absurd (omega (arith, p.0)),
-)
 
 inner_within : (nodes : List Node) (m n : ℕ) (node : Node) → slice_get nodes m ≡ Some node → Inner m ≡ Inner n → n < length nodes
 inner_within nodes m n node at e =

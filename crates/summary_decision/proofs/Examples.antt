@@ -4,7 +4,6 @@ use Rattle.text_base.specs.declared.page_token.PageToken.{PageToken}
 use Rattle.text_base.specs.declared.page_token.PageToken.TheVariants.{Text}
 use Rattle.cfg_grammar.specs.declared.symbol.Symbol.TheVariants.{Token}
 use Rattle.cfg_grammar.specs.declared.production.Right.TheVariants.{Empty, One}
-use Rattle.summary_fixpoint.specs.Closed.{Pair}
 use Rattle.summary_decision.specs.Using.{key_of}
 use Rattle.summary_decision.specs.Beginning.{IsBegun}
 

@@ -1,11 +1,9 @@
 -- What a pair that is taken up gives.
-use Rattle.std.proofs.Common.{◌≡◌, ℕ, zero, suc, ◌+◌, ◌<◌, ◌≤◌, ◌⊎◌, ◌↔◌, inl, inr, Bool, true, false, ◌&&◌, List, [], ◌∷◌, ◌++◌, length, get_or, Contains, refl, sym, ◌∙◌, ap, subst, arith, Option, None, Some, slice_get, Result, Ok, Err, OnOk}
+use Rattle.std.proofs.Common.{◌≡◌, ℕ, ◌+◌, ◌<◌, ◌≤◌, ◌⊎◌, inl, inr, Bool, List, [], ◌∷◌, ◌++◌, length, get_or, Contains, refl, sym, ◌∙◌, ap, subst, arith, None, Some, slice_get, Result, Ok, Err, OnOk, length-append}
 use Rattle.std.specs.Prelude.{nat_lt}
 use Rattle.std.specs.List.{list_all}
 use Rattle.std.specs.Cmp.{first_so}
-use Rattle.std.specs.declared.vec.Vec.{Vec}
-use Rattle.std.specs.declared.alloc.Global.{Global}
-use Rattle.std.proofs.lemmas.Bool.{ltb-true, cases_lt}
+use Rattle.std.proofs.lemmas.Bool.{ltb-true}
 use Rattle.std.proofs.lemmas.Option.{same_Some, slice_get_within, get_or_from_slice_get}
 use Rattle.text_base.specs.declared.letter.Letter.{Letter}
 use Rattle.text_base.specs.declared.page_token.PageToken.{PageToken}
@@ -20,11 +18,10 @@ use Rattle.cfg_grammar.specs.Derives.{Derives}
 use Rattle.derivations.specs.declared.node.Parts.TheVariants as parts
 use Rattle.derivations.specs.declared.node.Part.TheVariants as part
 use Rattle.numbered_sets.specs.Numbers.{Keeps}
-use Rattle.numbered_sets.specs.Places.{PushesAt}
-use Rattle.useful_nonterminals.specs.Work.{IsAmong}
-use Rattle.useful_nonterminals.specs.Useful.{IsUseful}
+use Rattle.number_chains.specs.Chains.{AreChains}
+use Rattle.number_chains.specs.declared.Chains.{Chains}
+use Rattle.number_chains.proofs.ChainLemmas.{walk_next, walk_met, walk_end}
 use Rattle.useful_nonterminals.specs.Rules.{number_in}
-use Rattle.useful_nonterminals.proofs.DrawLemmas.{among_none, among_more, among_all}
 use Rattle.summary_fixpoint.specs.declared.joint.Side.{Side}
 use Rattle.summary_fixpoint.specs.declared.joint.Side.TheVariants.{First, Second}
 use Rattle.summary_fixpoint.specs.declared.joint.Joint.{Joint}
@@ -32,14 +29,15 @@ use Rattle.summary_fixpoint.specs.declared.table.Table.{Table}
 use Rattle.summary_fixpoint.specs.declared.table.Taken.{Taken}
 use Rattle.summary_fixpoint.specs.Closed.{Pair, HasSum, IsClosed, IsTaken}
 use Rattle.summary_fixpoint.specs.Tables.{known, AreNumbered, IsTable, GoesOn, MakesAt, Adds}
-use Rattle.summary_fixpoint.specs.Joints.{right_by, other_by, number_by, composed_by, AreTaken, AreUses, IsAt, IsBeside, IsGiven, Gives, MeetsSymbol}
-use Rattle.summary_fixpoint.proofs.ClosedLemmas.{placed, contained, takes_one}
+use Rattle.summary_fixpoint.specs.Joints.{right_by, other_by, number_by, composed_by, StandsOn, first_nonterminals, taken_count, AreTaken, AreUses, IsAt, IsBeside, IsGiven, Gives, MeetsSymbol}
+use Rattle.summary_fixpoint.proofs.ClosedLemmas.{placed, takes_one}
 use Rattle.summary_fixpoint.proofs.KnownLemmas.{at_before, keeps_member, is_there, known_length, not_absent, at_known}
 use Rattle.summary_fixpoint.specs.declared.table.Entry.{Entry}
+use Rattle.summary_fixpoint.proofs.TakenLemmas.{first_kept, first_more}
 use Rattle.summary_fixpoint.proofs.AddLemmas.{passes_at}
 use Rattle.summary_fixpoint.proofs.MadeLemmas.{derives_of}
 use Rattle.summary_fixpoint.proofs.JointLemmas.{goes_none, goes_both}
-use Rattle.summary_decision.specs.Taking.{UsesAt, AreUp, Takes}
+use Rattle.summary_decision.specs.Taking.{GivesTo, AreUp, Takes}
 
 -- nonterminals that derive something are below the count
 left_below : (ps : List Production) (count : ℕ) → AreBelow count ps → (left : nt.Nt) (r : Right) → Contains ps (record { left = left; right = r }) → (a : ℕ) → number_in (Nt left) ≡ Some a → a < count
@@ -122,8 +120,8 @@ module _ {S : Type 0} (sum_of : List PageToken → S) (composed : S → S → S)
           within = omega (arith, h.within, goes.bound);
         }
 
-    pub alone_makes : (t : Table S) (joint : Joint) (s u : S) (a : Symbol) → u ≡ s → joint.side ≡ First → IsTable sum_of composed whole ps start count t → IsAt sum_of composed whole ps start t joint s → ((p : Production) → slice_get ps joint.place ≡ Some p → p.right ≡ One a) → MakesAt sum_of composed whole ps start t joint.place (parts.One (part.Inner joint.pair)) u
-    alone_makes t joint s u a same first table h right = subst (λ (z : S). MakesAt sum_of composed whole ps start t joint.place (parts.One (part.Inner joint.pair)) z) (sym same) (made a (right h.production h.at) (ap (λ (side : Side). number_by side h.production.right) (sym first) ∙ h.number))
+    pub alone_makes : (t : Table S) (joint : Joint) (s : S) (a : Symbol) → joint.side ≡ First → IsTable sum_of composed whole ps start count t → IsAt sum_of composed whole ps start t joint s → ((p : Production) → slice_get ps joint.place ≡ Some p → p.right ≡ One a) → MakesAt sum_of composed whole ps start t joint.place (parts.One (part.Inner joint.pair)) s
+    alone_makes t joint s a first table h right = made a (right h.production h.at) (ap (λ (side : Side). number_by side h.production.right) (sym first) ∙ h.number)
       where
         made : (x : Symbol) → h.production.right ≡ One x → number_by First h.production.right ≡ Some h.nonterminal.0 → MakesAt sum_of composed whole ps start t joint.place (parts.One (part.Inner joint.pair)) s
         made x e n = with_symbol x e (ap (number_by First) (sym e) ∙ n)
@@ -140,16 +138,17 @@ module _ {S : Type 0} (sum_of : List PageToken → S) (composed : S → S → S)
                   makes = (table.early joint.pair (h.nonterminal.0, s) h.within h.pair).supports;
                 }
 
-    pub gives_alone : {E : Type 0} (r : Result (Unit {0}) E) (old new : Table S) (joint : Joint) (s u : S) (n : ℕ) (a : Symbol) → u ≡ s → joint.side ≡ First → ((p : Production) → slice_get ps joint.place ≡ Some p → p.right ≡ One a) → OnOk r (Adds sum_of composed whole ps start count old new joint.place u) → OnOk r (Gives sum_of composed whole ps start count old new joint.side s n (λ (k : ℕ). k ≡ joint.place))
-    gives_alone (Err e) old new joint s u n a same first right adds = tt
-    gives_alone (Ok e) old new joint s u n a same first right adds =
+    pub gives_alone : {E : Type 0} (r : Result (Unit {0}) E) (old new : Table S) (joint : Joint) (s : S) (number n : ℕ) (a : Symbol) → slice_get old.sums.keys number ≡ Some s → joint.side ≡ First → ((p : Production) → slice_get ps joint.place ≡ Some p → p.right ≡ One a) → OnOk r ((u : S) → slice_get old.sums.keys number ≡ Some u → Adds sum_of composed whole ps start count old new joint.place u) → OnOk r (Gives sum_of composed whole ps start count old new joint.side s n (λ (k : ℕ). k ≡ joint.place))
+    gives_alone (Err e) old new joint s number n a told first right adds = tt
+    gives_alone (Ok e) old new joint s number n a told first right adds =
+        let added = adds s told in
         record {
-          goes = adds.goes;
+          goes = added.goes;
           given = λ place p here at.
               let at' : slice_get ps joint.place ≡ Some p = ap (slice_get ps) (sym here) ∙ at in
               subst (λ (side : Side). IsGiven sum_of composed whole ps start (known old) (known new) n p.left.0 side p.right s) (sym first)
               (subst (λ (z : Right). IsGiven sum_of composed whole ps start (known old) (known new) n p.left.0 First z s) (sym (right p at'))
-              (subst (λ (z : S). Contains (known new) (p.left.0, z)) same (adds.has p at')));
+              (added.has p at'));
         }
 
     pub gives_nothing : (t : Table S) (joint : Joint) (s : S) (n : ℕ) (r : Right) → IsTable sum_of composed whole ps start count t → ((p : Production) → slice_get ps joint.place ≡ Some p → p.right ≡ r) → ((m left : ℕ) → IsGiven sum_of composed whole ps start (known t) (known t) m left joint.side r s) → Gives sum_of composed whole ps start count t t joint.side s n (λ (k : ℕ). k ≡ joint.place)
@@ -185,58 +184,69 @@ module _ {S : Type 0} (sum_of : List PageToken → S) (composed : S → S → S)
         by_side First left f = f
         by_side Second left f = f
 
-    -- places one by one
-    pub gives_none : (t : Table S) (side : Side) (s : S) (n : ℕ) (places : List ℕ) → IsTable sum_of composed whole ps start count t → Gives sum_of composed whole ps start count t t side s n (IsAmong places 0)
-    gives_none t side s n places table = record { goes = goes_none sum_of composed whole ps start count t table; given = λ place p asked at. absurd (among_none places place asked) }
-
-    pub gives_more : (old mid new : Table S) (side : Side) (s : S) (n : ℕ) (places : List ℕ) (i place : ℕ) → slice_get places i ≡ Some place → Gives sum_of composed whole ps start count old mid side s n (IsAmong places i) → Gives sum_of composed whole ps start count mid new side s n (λ (k : ℕ). k ≡ place) → Gives sum_of composed whole ps start count old new side s n (IsAmong places (i + 1))
-    gives_more old mid new side s n places i place at p q =
+    gives_more : (P Q R : ℕ → Type 0) (old mid new : Table S) (side : Side) (s : S) (n : ℕ) → ((k : ℕ) → R k → P k ⊎ Q k) → Gives sum_of composed whole ps start count old mid side s n P → Gives sum_of composed whole ps start count mid new side s n Q → Gives sum_of composed whole ps start count old new side s n R
+    gives_more P Q R old mid new side s n splits p q =
         record {
           goes = goes_both sum_of composed whole ps start count old mid new p.goes q.goes;
-          given = λ k r asked here. elim (among_more places i place at k asked) [
-            | inl before ↦ given_on (known old) (known mid) (known new) n r.left.0 side r.right s q.goes.keeps (p.given k r before here)
-            | inr same ↦ given_from (known old) (known mid) (known new) n r.left.0 side r.right s p.goes.keeps (q.given k r same here)
+          given = λ k r asked here. elim (splits k asked) [
+            | inl h ↦ given_on (known old) (known mid) (known new) n r.left.0 side r.right s q.goes.keeps (p.given k r h here)
+            | inr h ↦ given_from (known old) (known mid) (known new) n r.left.0 side r.right s p.goes.keeps (q.given k r h here)
           ];
         }
 
-    pub gives_all : (old new : Table S) (side : Side) (s : S) (n : ℕ) (places : List ℕ) (i : ℕ) → length places ≤ i → Gives sum_of composed whole ps start count old new side s n (IsAmong places i) → Gives sum_of composed whole ps start count old new side s n (λ (k : ℕ). Contains places k)
-    gives_all old new side s n places i past g = record { goes = g.goes; given = λ k p asked at. g.given k p (among_all places i past k asked) at }
+    -- a walk along the chain of the nonterminal
+    module _ (side : Side) (s : S) (n a : ℕ) (uses : Chains) (are : AreUses side ps start count uses) where
+      pub walk_begun : (t : Table S) (place : ℕ) → IsTable sum_of composed whole ps start count t → slice_get uses.last.items a ≡ Some place → GivesTo sum_of composed whole ps start count t t side s n are.keys a place
+      walk_begun t place table at =
+          record {
+            so_many = length are.keys;
+            within = omega arith;
+            last = are.chains.ends a place at;
+            gives = record {
+              goes = goes_none sum_of composed whole ps start count t table;
+              given = λ k p asked here. absurd (let w = slice_get_within are.keys k a asked.0 in omega (arith, w, asked.1));
+            };
+          }
 
-    pub uses_at : (old t : Table S) (side : Side) (pair place : ℕ) (s : S) (places : List ℕ) → GoesOn sum_of composed whole ps start count old t → UsesAt sum_of composed whole ps start old side pair s places → Contains places place → IsAt sum_of composed whole ps start t (record { place = place; side = side; pair = pair }) s
-    uses_at old t side pair place s places goes u c =
-        let h = u.uses place c in
-        record {
-          production = h.0;
-          at = h.1;
-          useful = h.2;
-          nonterminal = u.nonterminal;
-          number = h.3;
-          pair = goes.keeps pair (u.nonterminal.0, s) u.here;
-          within = omega (arith, u.within, goes.bound);
-        }
+      pub walk_further : (old mid new : Table S) (place next : ℕ) → slice_get uses.before.items place ≡ Some next → GivesTo sum_of composed whole ps start count old mid side s n are.keys a place → Gives sum_of composed whole ps start count mid new side s n (λ (k : ℕ). k ≡ place) → GivesTo sum_of composed whole ps start count old new side s n are.keys a next
+      walk_further old mid new place next at done one =
+          let w = walk_next are.keys uses.before.items done.so_many a place next are.chains.links done.last at in
+          record {
+            so_many = place;
+            within = (let l = slice_get_within are.keys place a w.0 in omega (arith, l));
+            last = w.1;
+            gives = gives_more (λ (k : ℕ). (slice_get are.keys k ≡ Some a) × (done.so_many ≤ k)) (λ (k : ℕ). k ≡ place) (λ (k : ℕ). (slice_get are.keys k ≡ Some a) × (place ≤ k)) old mid new side s n
+                (λ k asked. elim (walk_met are.keys done.so_many a place k done.last asked.0 asked.1) [ inl h ↦ inl (asked.0, h) | inr h ↦ inr h ]) done.gives one;
+          }
 
-    pub taken_on : (old new : Table S) (n : ℕ) (lists : List (Vec ℕ Global)) → n ≤ length (known old) → GoesOn sum_of composed whole ps start count old new → AreTaken (known old) n lists → AreTaken (known new) n lists
-    taken_on old new n lists l goes h a v at i = (
-      λ c. let p = (h a v at i).0 c in (p.0, (p.1.0, goes.keeps i (a, p.1.0) p.1.1)),
-      λ p. (h a v at i).1 (p.0, (p.1.0, at_before (known old) (known new) i (a, p.1.0) goes.keeps (omega (arith, p.0, l)) p.1.1)),
-    )
+      -- where the walk is at an end, all is given at the productions in which the nonterminal stands
+      pub walk_ended : (old new : Table S) (place : ℕ) → a < count → slice_get uses.before.items place ≡ None → GivesTo sum_of composed whole ps start count old new side s n are.keys a place → Gives sum_of composed whole ps start count old new side s n (λ (k : ℕ). StandsOn side ps start a k)
+      walk_ended old new place below none done =
+          record {
+            goes = done.gives.goes;
+            given = λ k p asked at.
+                let stands : slice_get are.keys k ≡ Some a = (are.exact a k below).1 asked in
+                done.gives.given k p (stands, walk_end are.keys uses.before.items done.so_many a place k are.chains.links done.within done.last none stands) at;
+          }
 
-    pub taken_more : (pairs : List (Pair S)) (n a : ℕ) (s : S) (lists more : List (Vec ℕ Global)) → slice_get pairs n ≡ Some (a, s) → AreTaken pairs n lists → PushesAt lists more a n → AreTaken pairs (n + 1) more
-    taken_more pairs n a s lists more here h pushes b v at i =
-        let p = pushes b v at in
-        let q = h b p.0 p.1 i in (
-          λ c. elim ((p.2 i).0 c) [
-            | inl d ↦ let r = q.0 d in (omega (arith, r.0), r.1)
-            | inr d ↦ (omega (arith, d.1), (s, ap (slice_get pairs) d.1 ∙ (here ∙ ap (λ (k : ℕ). let x : Pair S = (k, s) in Some x) (sym d.0))))
-          ],
-          λ r. elim (cases_lt i n) [
-            | inl below ↦ (p.2 i).1 (inl (q.1 (below, r.1)))
-            | inr above ↦
-                let same : i ≡ n = omega (arith, above, r.0) in
-                let one : ◌≡◌ {A = Pair S} (b, r.1.0) (a, s) = same_Some _ _ (sym r.1.1 ∙ (ap (slice_get pairs) same ∙ here)) in
-                (p.2 i).1 (inr (ap (λ (x : Pair S). x.0) one, same))
-          ],
-        )
+      -- at a place that the walk comes to, the pair stands on the side
+      pub walk_at : (old mid : Table S) (pair place next : ℕ) → a < count → slice_get (known old) pair ≡ Some (a, s) → pair < old.bound → slice_get uses.before.items place ≡ Some next → GivesTo sum_of composed whole ps start count old mid side s n are.keys a place → IsAt sum_of composed whole ps start mid (record { place = place; side = side; pair = pair }) s
+      walk_at old mid pair place next below here within at done =
+          let w = walk_next are.keys uses.before.items done.so_many a place next are.chains.links done.last at in
+          let h = (are.exact a place below).0 w.0 in
+          record {
+            production = h.0;
+            at = h.1;
+            useful = h.2;
+            nonterminal = record { 0 = a };
+            number = h.3;
+            pair = done.gives.goes.keeps pair (a, s) here;
+            within = omega (arith, within, done.gives.goes.bound);
+          }
+
+    pub taken_on : (old new : Table S) (taken : Taken) → taken_count taken ≤ length (known old) → GoesOn sum_of composed whole ps start count old new → AreTaken (known old) taken → AreTaken (known new) taken
+    taken_on old new taken l goes h =
+        subst (λ (keys : List ℕ). AreChains keys taken.chains.last.items taken.chains.before.items) (sym (first_kept (known old) (known new) (taken_count taken) goes.keeps l)) h
 
     closed_on : (xs ys : List (Pair S)) (n : ℕ) → Keeps xs ys → n ≤ length xs → IsClosed sum_of composed ps start xs n → IsClosed sum_of composed ps start ys n
     closed_on xs ys n keeps l h =
@@ -247,7 +257,7 @@ module _ {S : Type 0} (sum_of : List PageToken → S) (composed : S → S → S)
         }
 
     -- all that a pair gives
-    module _ (old mid new : Table S) (n : ℕ) (a : nt.Nt) (s : S) (firsts seconds : List (Vec ℕ Global)) (v w : Vec ℕ Global) (below : a.0 < count) (first_uses : AreUses First ps start count firsts) (second_uses : AreUses Second ps start count seconds) (at_first : slice_get firsts a.0 ≡ Some v) (at_second : slice_get seconds a.0 ≡ Some w) (here : slice_get (known old) n ≡ Some (a.0, s)) (second : Gives sum_of composed whole ps start count old mid Second s n (λ (k : ℕ). Contains w.items k)) (first : Gives sum_of composed whole ps start count mid new First s (n + 1) (λ (k : ℕ). Contains v.items k)) where
+    module _ (old mid new : Table S) (n : ℕ) (a : nt.Nt) (s : S) (here : slice_get (known old) n ≡ Some (a.0, s)) (second : Gives sum_of composed whole ps start count old mid Second s n (λ (k : ℕ). StandsOn Second ps start a.0 k)) (first : Gives sum_of composed whole ps start count mid new First s (n + 1) (λ (k : ℕ). StandsOn First ps start a.0 k)) where
       within_old : n < length (known old)
       within_old = slice_get_within (known old) n (a.0, s) here
 
@@ -262,15 +272,15 @@ module _ {S : Type 0} (sum_of : List PageToken → S) (composed : S → S → S)
           record {
             ones = λ left c u.
                 let p = placed ps _ c in
-                first.given p.0 (record { left = left; right = One (Nt a) }) ((first_uses a.0 v below at_first p.0).1 (record { left = left; right = One (Nt a) }, p.2, u, refl)) p.2;
+                first.given p.0 (record { left = left; right = One (Nt a) }) (record { left = left; right = One (Nt a) }, p.2, u, refl) p.2;
             firsts = λ left b t c u has.
                 let p = placed ps _ c in
-                first.given p.0 (record { left = left; right = Two (Nt a) b }) ((first_uses a.0 v below at_first p.0).1 (record { left = left; right = Two (Nt a) b }, p.2, u, refl)) p.2 t
+                first.given p.0 (record { left = left; right = Two (Nt a) b }) (record { left = left; right = Two (Nt a) b }, p.2, u, refl) p.2 t
                 (has_before (known mid) (known new) (n + 1) b t first.goes.keeps (omega (arith, within_mid)) has);
             seconds = λ left b t c u has.
                 let p = placed ps _ c in
                 keeps_member (known mid) (known new) (left.0, composed t s) first.goes.keeps
-                (second.given p.0 (record { left = left; right = Two b (Nt a) }) ((second_uses a.0 w below at_second p.0).1 (record { left = left; right = Two b (Nt a) }, p.2, u, refl)) p.2 t
+                (second.given p.0 (record { left = left; right = Two b (Nt a) }) (record { left = left; right = Two b (Nt a) }, p.2, u, refl) p.2 t
                 (has_before (known old) (known new) n b t keeps_all (omega (arith, within_old)) has));
           }
 
@@ -283,45 +293,37 @@ module _ {S : Type 0} (sum_of : List PageToken → S) (composed : S → S → S)
         let x = is_there pairs n l in
         x.1 ∙ (ap (λ (k : ℕ). let y : Pair S = (k, x.0.1) in Some y) (sym (f x.0 x.1)) ∙ ap (λ (u : S). let y : Pair S = (a, u) in Some y) (sym (h x.0 x.1)))
 
-    pub uses_of : (t : Table S) (side : Side) (pair : ℕ) (a : ℕ) (s : S) (lists : List (Vec ℕ Global)) (v : Vec ℕ Global) (places : List ℕ) → AreUses side ps start count lists → a < count → slice_get lists a ≡ Some v → places ≡ v.items → slice_get (known t) pair ≡ Some (a, s) → pair < t.bound → UsesAt sum_of composed whole ps start t side pair s places
-    uses_of t side pair a s lists v places uses below at same here within =
-        record {
-          nonterminal = record { 0 = a };
-          here = here;
-          within = within;
-          uses = λ place c. (uses a v below at place).0 (subst (λ (xs : List ℕ). Contains xs place) same c);
-        }
+    -- one pair more is taken up
+    module _ (before after : Taken) (a : ℕ) (pushed : (keys : List ℕ) → AreChains keys before.chains.last.items before.chains.before.items → AreChains (keys ++ a ∷ []) after.chains.last.items after.chains.before.items) where
+      pub count_more : (pairs : List (Pair S)) → AreTaken pairs before → taken_count after ≡ taken_count before + 1
+      count_more pairs chains =
+          let keys = first_nonterminals pairs (taken_count before) in
+          omega (arith, (pushed keys chains).links.long, length-append keys (a ∷ []), chains.links.long)
 
-    gives_along : (old new : Table S) (side : Side) (s : S) (n m : ℕ) (xs ys : List ℕ) → n ≡ m → xs ≡ ys → Gives sum_of composed whole ps start count old new side s n (λ (k : ℕ). Contains xs k) → Gives sum_of composed whole ps start count old new side s m (λ (k : ℕ). Contains ys k)
-    gives_along old new side s n m xs ys e f g =
-        subst (λ (k : ℕ). Gives sum_of composed whole ps start count old new side s k (λ (i : ℕ). Contains ys i)) e
-        (subst (λ (zs : List ℕ). Gives sum_of composed whole ps start count old new side s n (λ (i : ℕ). Contains zs i)) f g)
+      pub chains_more : (old mid : Table S) (s : S) → AreUp sum_of composed whole ps start count old before → GoesOn sum_of composed whole ps start count old mid → slice_get (known old) (taken_count before) ≡ Some (a, s) → AreTaken (known mid) after
+      chains_more old mid s up goes here =
+          let n = taken_count before in
+          let later = taken_on old mid before (let w = slice_get_within (known old) n (a, s) here in omega (arith, w)) goes up.chains in
+          subst (λ (k : ℕ). AreChains (first_nonterminals (known mid) k) after.chains.last.items after.chains.before.items) (sym (count_more (known mid) later))
+          (subst (λ (keys : List ℕ). AreChains keys after.chains.last.items after.chains.before.items) (sym (first_more (known mid) n a s (goes.keeps n (a, s) here))) (pushed (first_nonterminals (known mid) n) later))
 
-    pub lists_on : (old mid : Table S) (before after : Taken) (a : ℕ) (s : S) → AreUp sum_of composed whole ps start count old before → GoesOn sum_of composed whole ps start count old mid → slice_get (known old) before.count ≡ Some (a, s) → PushesAt before.lists.items after.lists.items a before.count → after.count ≡ before.count + 1 → AreTaken (known mid) after.count after.lists.items
-    lists_on old mid before after a s up goes here pushes one =
-        subst (λ (k : ℕ). AreTaken (known mid) k after.lists.items) (sym one)
-        (taken_more (known mid) before.count a s before.lists.items after.lists.items (goes.keeps before.count (a, s) here)
-        (taken_on old mid before.count before.lists.items (let w = slice_get_within (known old) before.count (a, s) here in omega (arith, w)) goes up.lists) pushes)
-
-    pub takes_all : (old mid new : Table S) (before after : Taken) (a : ℕ) (s : S) (firsts seconds : List (Vec ℕ Global)) (v w : Vec ℕ Global) (xs ys : List ℕ) → a < count → AreUses First ps start count firsts → AreUses Second ps start count seconds → slice_get firsts a ≡ Some v → slice_get seconds a ≡ Some w → xs ≡ w.items → ys ≡ v.items → AreUp sum_of composed whole ps start count old before → before.count < old.bound → slice_get (known old) before.count ≡ Some (a, s) → PushesAt before.lists.items after.lists.items a before.count → length after.lists.items ≡ length before.lists.items → after.count ≡ before.count + 1 → Gives sum_of composed whole ps start count old mid Second s before.count (λ (k : ℕ). Contains xs k) → Gives sum_of composed whole ps start count mid new First s after.count (λ (k : ℕ). Contains ys k) → Takes sum_of composed whole ps start count old new before after
-    takes_all old mid new before after a s firsts seconds v w xs ys below first_uses second_uses at_first at_second same_w same_v up more here pushes long one second first =
-        let second' = gives_along old mid Second s before.count before.count xs w.items refl same_w second in
-        let first' = gives_along mid new First s after.count (before.count + 1) ys v.items one same_v first in
-        let goes = goes_both sum_of composed whole ps start count old mid new second.goes first.goes in
-        let lists = lists_on old mid before after a s up second.goes here pushes one in
-        let l = slice_get_within (known mid) before.count (a, s) (second.goes.keeps before.count (a, s) here) in
-        record {
-          goes = goes;
-          up = record {
-            table = first.goes.table;
-            lists = taken_on mid new after.count after.lists.items (omega (arith, l, one)) first.goes lists;
-            spread = long ∙ up.spread;
-            within = omega (arith, more, one, goes.bound);
-            closed = subst (λ (k : ℕ). IsClosed sum_of composed ps start (known new) k) (sym one)
-                (closed_more old mid new before.count (record { 0 = a }) s firsts seconds v w below first_uses second_uses at_first at_second here second' first' up.closed);
-          };
-          one = one;
-        }
+      pub takes_all : (old mid new : Table S) (s : S) → length after.chains.last.items ≡ length before.chains.last.items → AreUp sum_of composed whole ps start count old before → taken_count before < old.bound → slice_get (known old) (taken_count before) ≡ Some (a, s) → Gives sum_of composed whole ps start count old mid Second s (taken_count before) (λ (k : ℕ). StandsOn Second ps start a k) → Gives sum_of composed whole ps start count mid new First s (taken_count after) (λ (k : ℕ). StandsOn First ps start a k) → Takes sum_of composed whole ps start count old new before after
+      takes_all old mid new s long up more here second first =
+          let one = count_more (known old) up.chains in
+          let first' = subst (λ (k : ℕ). Gives sum_of composed whole ps start count mid new First s k (λ (i : ℕ). StandsOn First ps start a i)) one first in
+          let goes = goes_both sum_of composed whole ps start count old mid new second.goes first.goes in
+          let l = slice_get_within (known mid) (taken_count before) (a, s) (second.goes.keeps (taken_count before) (a, s) here) in
+          record {
+            goes = goes;
+            up = record {
+              table = first.goes.table;
+              chains = taken_on mid new after (omega (arith, l, one)) first.goes (chains_more old mid s up second.goes here);
+              spread = long ∙ up.spread;
+              within = omega (arith, more, one, goes.bound);
+              closed = subst (λ (k : ℕ). IsClosed sum_of composed ps start (known new) k) (sym one) (closed_more old mid new (taken_count before) (record { 0 = a }) s here second first' up.closed);
+            };
+            one = one;
+          }
 
 pub entry_pair : {S : Type 0} (t : Table S) (numbered : AreNumbered t.sums.keys t.entries.keys) (n : ℕ) (e : Entry) → Some e ≡ slice_get t.entries.keys n → (x : Pair S) → slice_get (known t) n ≡ Some x → e.nonterminal ≡ x.0
 entry_pair t numbered n e at x known_at =

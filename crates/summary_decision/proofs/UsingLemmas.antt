@@ -1,10 +1,8 @@
--- Productions that are listed by a nonterminal.
-use Rattle.std.proofs.Common.{◌≡◌, ℕ, zero, suc, ◌+◌, ◌<◌, ◌≤◌, ◌⊎◌, ◌↔◌, inl, inr, Bool, true, false, ◌&&◌, List, [], ◌∷◌, length, get_or, map, Contains, refl, sym, ◌∙◌, ap, subst, arith, Option, None, Some, slice_get, true≢false}
+-- Productions on the chains of nonterminals.
+use Rattle.std.proofs.Common.{◌≡◌, ℕ, ◌+◌, ◌<◌, ◌↔◌, inl, inr, Bool, true, false, ◌&&◌, List, [], ◌∷◌, length, get_or, map, refl, sym, ◌∙◌, ap, subst, arith, Option, None, Some, slice_get, true≢false}
 use Rattle.std.specs.Option.{option_map}
 use Rattle.std.specs.List.{All, list_all}
 use Rattle.std.specs.Cmp.{first_so, second_so}
-use Rattle.std.specs.declared.vec.Vec.{Vec}
-use Rattle.std.specs.declared.alloc.Global.{Global}
 use Rattle.std.proofs.lemmas.Bool.{ltb-true, cases_lt}
 use Rattle.std.proofs.lemmas.List.{get_or_default, get_or_past}
 use Rattle.std.proofs.lemmas.List.Elements.{All-nil, All-cons}
@@ -15,14 +13,15 @@ use Rattle.cfg_grammar.specs.declared.symbol.Symbol.TheVariants.{Range, Token, N
 use Rattle.cfg_grammar.specs.declared.production.Right.{Right}
 use Rattle.cfg_grammar.specs.declared.production.Right.TheVariants.{Empty, One, Two}
 use Rattle.cfg_grammar.specs.declared.production.Production.{Production}
-use Rattle.cfg_grammar.specs.Below.{AreBelow, production_below, symbol_below, symbols_of}
-use Rattle.numbered_sets.specs.Places.{ArePlaces}
+use Rattle.cfg_grammar.specs.Below.{production_below, symbol_below, symbols_of}
+use Rattle.number_chains.specs.Chains.{AreChains}
+use Rattle.number_chains.specs.declared.Chains.{Chains}
 use Rattle.useful_nonterminals.specs.Follows.{IsMarked}
 use Rattle.useful_nonterminals.specs.Rules.{number_in}
 use Rattle.useful_nonterminals.specs.Useful.{IsUseful}
 use Rattle.summary_fixpoint.specs.declared.joint.Side.{Side}
 use Rattle.summary_fixpoint.specs.declared.joint.Side.TheVariants.{First, Second}
-use Rattle.summary_fixpoint.specs.Joints.{number_by, AreUses}
+use Rattle.summary_fixpoint.specs.Joints.{number_by, StandsOn, AreUses}
 use Rattle.summary_decision.specs.Using.{key_of}
 
 -- a test of marks against the marks
@@ -76,17 +75,23 @@ module _ (side : Side) (count : ℕ) (useful : List Bool) where
       (key_below count (get_or useful p.left.0 false) (number_by side p.right) (λ a e. number_below count side p.right a (second_so _ _ here) e))
       (keys_below ps (second_so (production_below count p) (list_all (production_below count) ps) h))
 
-  pub uses_exact : (ps : List Production) (start : nt.Nt) (lists : List (Vec ℕ Global)) → ((a : nt.Nt) → IsMarked useful a.0 ↔ IsUseful ps start a) → ArePlaces (map (λ (p : Production). key_of count (get_or useful p.left.0 false) (number_by side p.right)) ps) lists → AreUses side ps start count lists
-  uses_exact ps start lists exact places a v below at i = (
-    λ c. there (slice_get ps i) refl (sym (slice_get-map key ps i) ∙ (places a v at i).0 c),
-    λ h.
-        let t = marked_test useful h.0.left.0 ((exact h.0.left).1 h.2) in
-        (places a v at i).1 (slice_get-map key ps i ∙ (ap (option_map key) h.1 ∙ ap Some (is_key count (get_or useful h.0.left.0 false) (number_by side h.0.right) a t h.3))),
-  )
+  pub uses_exact : (ps : List Production) (start : nt.Nt) (uses : Chains) → ((a : nt.Nt) → IsMarked useful a.0 ↔ IsUseful ps start a) → length uses.last.items ≡ count + 1 → AreChains (map (λ (p : Production). key_of count (get_or useful p.left.0 false) (number_by side p.right)) ps) uses.last.items uses.before.items → AreUses side ps start count uses
+  uses_exact ps start uses marked long chains =
+      record {
+        keys = map key ps;
+        chains = chains;
+        spread = omega (arith, long);
+        exact = λ a i below. (
+          λ e. there a i below (slice_get ps i) refl (sym (slice_get-map key ps i) ∙ e),
+          λ h.
+              let t = marked_test useful h.0.left.0 ((marked h.0.left).1 h.2) in
+              slice_get-map key ps i ∙ (ap (option_map key) h.1 ∙ ap Some (is_key count (get_or useful h.0.left.0 false) (number_by side h.0.right) a t h.3)),
+        );
+      }
     where
-      there : (o : Option Production) → slice_get ps i ≡ o → option_map key (slice_get ps i) ≡ Some a → (p : Production) × (slice_get ps i ≡ Some p) × IsUseful ps start p.left × (number_by side p.right ≡ Some a)
-      there None e h = let f : None ≡ Some a = sym (ap (option_map key) e) ∙ h in absurd (none-some a f)
-      there (Some p) e h =
+      there : (a i : ℕ) → a < count → (o : Option Production) → slice_get ps i ≡ o → option_map key (slice_get ps i) ≡ Some a → StandsOn side ps start a i
+      there a i below None e h = let f : None ≡ Some a = sym (ap (option_map key) e) ∙ h in absurd (none-some a f)
+      there a i below (Some p) e h =
           let one : key p ≡ a = same_Some (key p) a (sym (ap (option_map key) e) ∙ h) in
           let k = key_is count (get_or useful p.left.0 false) (number_by side p.right) a one below in
-          (p, e, (exact p.left).0 (test_marked useful p.left.0 k.0), k.1)
+          (p, e, (marked p.left).0 (test_marked useful p.left.0 k.0), k.1)

@@ -1,5 +1,5 @@
 -- Pairs of productions in which no nonterminal stands on the right.
-use Rattle.std.specs.Prelude.{◌≡◌, ◌<◌, ℕ, Bool, List, [], Option, None, Some, slice_get, Contains}
+use Rattle.std.specs.Prelude.{◌≡◌, ℕ, Bool, List, [], Option, None, Some, slice_get, Contains}
 use Rattle.text_base.specs.declared.page_token.PageToken.{PageToken}
 use Rattle.text_base.specs.declared.numbers.Nt as nt
 use Rattle.cfg_grammar.specs.declared.production.Right.{Right}

@@ -1,5 +1,5 @@
 -- Going on to the next height.
-use Rattle.std.specs.Prelude.{◌≡◌, ◌+◌, ℕ, if◌then◌else◌, nat_lt, length}
+use Rattle.std.specs.Prelude.{◌+◌, ℕ, if◌then◌else◌, nat_lt, length}
 use Rattle.summary_fixpoint.specs.declared.table.Table.{Table}
 
 -- where all pairs before the bound are taken up, all pairs that are found so far come before the bound

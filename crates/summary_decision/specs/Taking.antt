@@ -1,37 +1,35 @@
 -- Taking up a pair.
-use Rattle.std.specs.Prelude.{◌≡◌, ◌+◌, ◌<◌, ◌≤◌, ℕ, Bool, List, length, Some, slice_get, Contains}
+use Rattle.std.specs.Prelude.{◌≡◌, ◌+◌, ◌≤◌, ℕ, Bool, List, length, Some, slice_get}
 use Rattle.text_base.specs.declared.page_token.PageToken.{PageToken}
 use Rattle.text_base.specs.declared.numbers.Nt as nt
 use Rattle.cfg_grammar.specs.declared.production.Production.{Production}
-use Rattle.useful_nonterminals.specs.Useful.{IsUseful}
+use Rattle.number_chains.specs.Chains.{IsLast}
 use Rattle.summary_fixpoint.specs.declared.joint.Side.{Side}
 use Rattle.summary_fixpoint.specs.declared.table.Table.{Table}
 use Rattle.summary_fixpoint.specs.declared.table.Taken.{Taken}
-use Rattle.summary_fixpoint.specs.Closed.{Pair, IsClosed}
+use Rattle.summary_fixpoint.specs.Closed.{IsClosed}
 use Rattle.summary_fixpoint.specs.Tables.{known, IsTable, GoesOn}
-use Rattle.summary_fixpoint.specs.Joints.{number_by, AreTaken}
+use Rattle.summary_fixpoint.specs.Joints.{taken_count, AreTaken, Gives}
 
 module _ {S : Type 0} (sum_of : List PageToken → S) (composed : S → S → S) (whole : S → Bool) (productions : List Production)
     (start : nt.Nt) where
-  -- the pair's nonterminal stands on the side of the productions at these places, whose left sides are useful
-  pub record UsesAt (t : Table S) (side : Side) (pair : ℕ) (s : S) (places : List ℕ) : Type 0 where
-    pub nonterminal : nt.Nt
-    pub here : slice_get (known t) pair ≡ Some (nonterminal.0, s)
-    pub within : pair < t.bound
-    pub uses : (place : ℕ) → Contains places place
-        → (p : Production) × (slice_get productions place ≡ Some p) × IsUseful productions start p.left
-        × (number_by side p.right ≡ Some nonterminal.0)
+  -- a walk along the chain of a nonterminal has come to a place: what the pair gives at its productions from so many on is there
+  pub record GivesTo (count : ℕ) (old new : Table S) (side : Side) (s : S) (n : ℕ) (keys : List ℕ) (a place : ℕ) : Type 0 where
+    pub so_many : ℕ
+    pub within : so_many ≤ length keys
+    pub last : IsLast keys so_many a place
+    pub gives : Gives sum_of composed whole productions start count old new side s n (λ k. (slice_get keys k ≡ Some a) × (so_many ≤ k))
 
   -- the first pairs are taken up
   pub record AreUp (count : ℕ) (t : Table S) (taken : Taken) : Type 0 where
     pub table : IsTable sum_of composed whole productions start count t
-    pub lists : AreTaken (known t) taken.count taken.lists.items
-    pub spread : length taken.lists.items ≡ count
-    pub within : taken.count ≤ t.bound
-    pub closed : IsClosed sum_of composed productions start (known t) taken.count
+    pub chains : AreTaken (known t) taken
+    pub spread : length taken.chains.last.items ≡ count
+    pub within : taken_count taken ≤ t.bound
+    pub closed : IsClosed sum_of composed productions start (known t) (taken_count taken)
 
   -- one more is taken up
   pub record Takes (count : ℕ) (old new : Table S) (before after : Taken) : Type 0 where
     pub goes : GoesOn sum_of composed whole productions start count old new
     pub up : AreUp count new after
-    pub one : after.count ≡ before.count + 1
+    pub one : taken_count after ≡ taken_count before + 1

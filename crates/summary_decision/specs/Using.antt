@@ -1,4 +1,4 @@
--- The numbers under which productions are listed.
+-- The numbers on whose chains productions stand.
 use Rattle.std.specs.Prelude.{ℕ, Bool, true, false, Option, None, Some}
 
 -- the nonterminal on the side, where the left side is useful; else the count of nonterminals

@@ -1,23 +1,24 @@
 //! Taking up a pair: it meets the pairs that are taken up, at the productions in which its
 //! nonterminal stands.
 
-ghost use Rattle.std.specs.Prelude.{◌≡◌, ◌+◌, ◌<◌, ◌≤◌, ℕ, [], ◌∷◌, ◌++◌, Some, slice_get, Contains, IfErr, IfSome, OnOk, length};
+ghost use Rattle.std.specs.Prelude.{◌≡◌, ◌<◌, ◌≤◌, ℕ, Some, slice_get, IfErr, OnOk, length};
 ghost use Rattle.cfg_grammar.specs.declared.production.Right as plain;
 ghost use Rattle.cfg_grammar.specs.declared.production.Production as productions;
-ghost use Rattle.numbered_sets.specs.Places.{PushesAt};
-ghost use Rattle.summary_fixpoint.specs.Closed.{IsClosed};
-ghost use Rattle.summary_fixpoint.specs.Tables.{known, IsTable, GoesOn, AreNumbered};
+ghost use Rattle.summary_fixpoint.specs.Tables.{known, IsTable, AreNumbered};
 ghost use Rattle.summary_fixpoint.specs.Halts.{Explains};
-ghost use Rattle.summary_fixpoint.specs.Joints.{AreTaken, AreUses, IsAt, IsGiven, Gives};
-ghost use Rattle.summary_decision.specs.Taking.{Takes, AreUp, UsesAt};
+ghost use Rattle.summary_fixpoint.specs.Joints.{StandsOn, taken_count, AreTaken, AreUses, IsAt, Gives};
+ghost use Rattle.summary_decision.specs.Taking.{Takes, AreUp};
 
 use crate::using::Uses;
 use cfg_grammar::{Right, Symbol};
 use derivations::{Part, Parts};
+use number_chains::Chains;
 use std::hash::Hash;
-use summary_fixpoint::{Halt, Joint, Question, Side, Table, Taken, add, meet, other, sum_of_pair};
+use summary_fixpoint::{
+    Halt, Joint, Question, Side, Table, Taken, add_known, meet, other, sum_number, sum_of_pair,
+};
 use tag_sums::Summary;
-use text_base::{Exact, NoMemory};
+use text_base::Exact;
 
 /// What a pair gives at a production in which its nonterminal stands alone.
 fn take_alone<S: Summary>(
@@ -42,22 +43,18 @@ fn take_alone<S: Summary>(
         (Gives (S.sum_of question.now.summary.now) (S.composed question.now.summary.now)
         (S.is_whole question.now.summary.now) question.now.grammar.now.productions.items
         question.now.grammar.now.start question.now.grammar.now.count table.old table.new joint.side
-        sum.now taken.now.count (λ k. k ≡ joint.place)) }
+        sum.now (taken_count taken.now) (λ k. k ≡ joint.place)) }
     ensures err { IfErr result (λ h. Explains (S.sum_of question.now.summary.now)
         (S.is_whole question.now.summary.now) (S.tag_count question.now.summary.now)
         question.now.grammar.now.productions.items question.now.grammar.now.start question.now.limit
         table.new.nodes.nodes.items table.new.height h) }
 {
+    let _ = sum;
     match joint.side {
         Side::First => {
-            let copy = question.summary.copy(question.alloc, sum)?;
-            add(
-                question,
-                table,
-                joint.place,
-                Parts::One(Part::Inner(joint.pair as u64)),
-                copy,
-            )
+            let number = sum_number(table, joint.pair);
+            let parts = Parts::One(Part::Inner(joint.pair as u64));
+            add_known(question, table, joint.place, parts, number)
         }
         Side::Second => Ok(()),
     }
@@ -83,14 +80,14 @@ fn take_beside<S: Summary>(
     requires right { (p : productions.Production)
         → slice_get question.now.grammar.now.productions.items joint.place ≡ Some p → p.right
         ≡ plain.Right.Two first second }
-    requires taken { AreTaken (known table.old) taken.now.count taken.now.lists.items }
-    requires spread { length taken.now.lists.items ≡ question.now.grammar.now.count }
-    requires within { taken.now.count ≤ table.old.bound }
+    requires taken { AreTaken (known table.old) taken.now }
+    requires spread { length taken.now.chains.last.items ≡ question.now.grammar.now.count }
+    requires within { taken_count taken.now ≤ table.old.bound }
     ensures ok { OnOk result
         (Gives (S.sum_of question.now.summary.now) (S.composed question.now.summary.now)
         (S.is_whole question.now.summary.now) question.now.grammar.now.productions.items
         question.now.grammar.now.start question.now.grammar.now.count table.old table.new joint.side
-        sum.now taken.now.count (λ k. k ≡ joint.place)) }
+        sum.now (taken_count taken.now) (λ k. k ≡ joint.place)) }
     ensures err { IfErr result (λ h. Explains (S.sum_of question.now.summary.now)
         (S.is_whole question.now.summary.now) (S.tag_count question.now.summary.now)
         question.now.grammar.now.productions.items question.now.grammar.now.start question.now.limit
@@ -121,14 +118,14 @@ fn take_at<S: Summary>(
     requires at { IsAt (S.sum_of question.now.summary.now) (S.composed question.now.summary.now)
         (S.is_whole question.now.summary.now) question.now.grammar.now.productions.items
         question.now.grammar.now.start table.old joint sum.now }
-    requires taken { AreTaken (known table.old) taken.now.count taken.now.lists.items }
-    requires spread { length taken.now.lists.items ≡ question.now.grammar.now.count }
-    requires within { taken.now.count ≤ table.old.bound }
+    requires taken { AreTaken (known table.old) taken.now }
+    requires spread { length taken.now.chains.last.items ≡ question.now.grammar.now.count }
+    requires within { taken_count taken.now ≤ table.old.bound }
     ensures ok { OnOk result
         (Gives (S.sum_of question.now.summary.now) (S.composed question.now.summary.now)
         (S.is_whole question.now.summary.now) question.now.grammar.now.productions.items
         question.now.grammar.now.start question.now.grammar.now.count table.old table.new joint.side
-        sum.now taken.now.count (λ k. k ≡ joint.place)) }
+        sum.now (taken_count taken.now) (λ k. k ≡ joint.place)) }
     ensures err { IfErr result (λ h. Explains (S.sum_of question.now.summary.now)
         (S.is_whole question.now.summary.now) (S.tag_count question.now.summary.now)
         question.now.grammar.now.productions.items question.now.grammar.now.start question.now.limit
@@ -141,57 +138,47 @@ fn take_at<S: Summary>(
     }
 }
 
-/// What a pair gives at productions in which its nonterminal stands on a side.
+/// What a pair gives at the productions in which its nonterminal stands on a side.
 fn take_side<S: Summary>(
     question: &Question<S>,
     table: &mut Table<S::Sum>,
     side: Side,
     pair: usize,
+    nonterminal: u64,
     sum: &S::Sum,
     taken: &Taken,
-    places: &[usize],
+    uses: &Chains,
 ) -> Result<(), Halt>
     requires table { IsTable (S.sum_of question.now.summary.now)
         (S.composed question.now.summary.now)
         (S.is_whole question.now.summary.now) question.now.grammar.now.productions.items
         question.now.grammar.now.start question.now.grammar.now.count table.old }
-    requires uses { UsesAt (S.sum_of question.now.summary.now) (S.composed question.now.summary.now)
-        (S.is_whole question.now.summary.now) question.now.grammar.now.productions.items
-        question.now.grammar.now.start table.old side pair sum.now places.now }
-    requires taken { AreTaken (known table.old) taken.now.count taken.now.lists.items }
-    requires spread { length taken.now.lists.items ≡ question.now.grammar.now.count }
-    requires within { taken.now.count ≤ table.old.bound }
+    requires here { slice_get (known table.old) pair ≡ Some (nonterminal, sum.now) }
+    requires before { pair < table.old.bound }
+    requires below { nonterminal < question.now.grammar.now.count }
+    requires uses { AreUses side question.now.grammar.now.productions.items
+        question.now.grammar.now.start question.now.grammar.now.count uses.now }
+    requires taken { AreTaken (known table.old) taken.now }
+    requires spread { length taken.now.chains.last.items ≡ question.now.grammar.now.count }
+    requires within { taken_count taken.now ≤ table.old.bound }
     ensures ok { OnOk result
         (Gives (S.sum_of question.now.summary.now) (S.composed question.now.summary.now)
         (S.is_whole question.now.summary.now) question.now.grammar.now.productions.items
         question.now.grammar.now.start question.now.grammar.now.count table.old table.new side
-        sum.now taken.now.count (λ k. Contains places.now k)) }
+        sum.now (taken_count taken.now)
+        (λ k. StandsOn side question.now.grammar.now.productions.items
+        question.now.grammar.now.start nonterminal k)) }
     ensures err { IfErr result (λ h. Explains (S.sum_of question.now.summary.now)
         (S.is_whole question.now.summary.now) (S.tag_count question.now.summary.now)
         question.now.grammar.now.productions.items question.now.grammar.now.start question.now.limit
         table.new.nodes.nodes.items table.new.height h) }
 {
-    for place in places {
-        let joint = Joint {
-            place: *place,
-            side,
-            pair,
-        };
+    let mut place = uses.last_place(nonterminal);
+    while let Some(before) = uses.place_before(place) {
+        let joint = Joint { place, side, pair };
         take_at(question, table, joint, sum, taken)?;
+        place = before;
     }
-    Ok(())
-}
-
-/// Puts a pair behind those of its nonterminal that are taken up.
-fn push_taken(taken: &mut Taken, at: u64, pair: usize) -> Result<(), NoMemory>
-    requires at { at < length taken.old.lists.items }
-    requires small { pair < 9223372036854775808 }
-    ensures len { OnOk result (length taken.new.lists.items ≡ length taken.old.lists.items) }
-    ensures pushes { OnOk result (PushesAt taken.old.lists.items taken.new.lists.items at pair) }
-    ensures count { OnOk result (taken.new.count ≡ pair + 1) }
-{
-    taken.lists[at as usize].push(pair)?;
-    taken.count = pair + 1;
     Ok(())
 }
 
@@ -217,14 +204,11 @@ pub fn take<S: Summary>(
     requires up { AreUp (S.sum_of question.now.summary.now) (S.composed question.now.summary.now)
         (S.is_whole question.now.summary.now) question.now.grammar.now.productions.items
         question.now.grammar.now.start question.now.grammar.now.count table.old taken.old }
-    requires more { taken.old.count < table.old.bound }
-    requires small { taken.old.count < 9223372036854775808 }
+    requires more { taken_count taken.old < table.old.bound }
     requires firsts { AreUses Side.First question.now.grammar.now.productions.items
-        question.now.grammar.now.start question.now.grammar.now.count uses.now.firsts.items }
+        question.now.grammar.now.start question.now.grammar.now.count uses.now.firsts }
     requires seconds { AreUses Side.Second question.now.grammar.now.productions.items
-        question.now.grammar.now.start question.now.grammar.now.count uses.now.seconds.items }
-    requires many { question.now.grammar.now.count < length uses.now.firsts.items }
-    requires as_many { question.now.grammar.now.count < length uses.now.seconds.items }
+        question.now.grammar.now.start question.now.grammar.now.count uses.now.seconds }
     ensures ok { OnOk result
         (Takes (S.sum_of question.now.summary.now) (S.composed question.now.summary.now)
         (S.is_whole question.now.summary.now) question.now.grammar.now.productions.items
@@ -235,15 +219,33 @@ pub fn take<S: Summary>(
         question.now.grammar.now.productions.items question.now.grammar.now.start question.now.limit
         table.new.nodes.nodes.items table.new.height h) }
 {
-    let pair = taken.count;
+    let pair = taken.count();
     let nonterminal = nonterminal_of(table, pair);
     let sum = question
         .summary
         .copy(question.alloc, sum_of_pair(table, pair))?;
-    let seconds = uses.seconds[nonterminal as usize].as_slice();
-    take_side(question, table, Side::Second, pair, &sum, taken, seconds)?;
-    push_taken(taken, nonterminal, pair)?;
-    let firsts = uses.firsts[nonterminal as usize].as_slice();
-    take_side(question, table, Side::First, pair, &sum, taken, firsts)?;
+    let seconds = &uses.seconds;
+    take_side(
+        question,
+        table,
+        Side::Second,
+        pair,
+        nonterminal,
+        &sum,
+        taken,
+        seconds,
+    )?;
+    taken.chains.push(nonterminal)?;
+    let firsts = &uses.firsts;
+    take_side(
+        question,
+        table,
+        Side::First,
+        pair,
+        nonterminal,
+        &sum,
+        taken,
+        firsts,
+    )?;
     Ok(())
 }

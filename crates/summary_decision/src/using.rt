@@ -9,16 +9,16 @@ ghost use Rattle.summary_fixpoint.specs.Joints.{number_by, AreUses};
 ghost use Rattle.summary_decision.specs.Using.{key_of};
 
 use cfg_grammar::{Grammar, Production, Right, Symbol};
-use numbered_sets::places_by;
+use number_chains::{Chains, chains_of};
 use std::alloc::Global;
 use summary_fixpoint::Side;
 use text_base::NoMemory;
 
-/// For each nonterminal, where it stands on each side.
+/// For each nonterminal, a chain of the places where it stands on each side.
 #[derive(Drop)]
 pub struct Uses {
-    pub firsts: Vec<Vec<usize>>,
-    pub seconds: Vec<Vec<usize>>,
+    pub firsts: Chains,
+    pub seconds: Chains,
 }
 
 /// Whether a number is marked.
@@ -55,7 +55,7 @@ fn number_on(side: Side, right: Right) -> Option<u64>
     }
 }
 
-/// The number under which a production is listed: the count, where it is not to be found.
+/// The number on whose chain a production stands: the count, where it is not to be found.
 fn key(side: Side, count: u64, useful: &[bool], production: Production) -> u64
     ensures { result ≡ key_of count (get_or useful.now production.left.0 false)
         (number_by side production.right) }
@@ -69,7 +69,7 @@ fn key(side: Side, count: u64, useful: &[bool], production: Production) -> u64
     }
 }
 
-/// The numbers under which productions are listed.
+/// The numbers on whose chains productions stand.
 fn all_keys(
     alloc: Global,
     side: Side,
@@ -88,22 +88,22 @@ fn all_keys(
     Ok(keys)
 }
 
-/// For each nonterminal, the places of the productions with useful left sides in which it stands
-/// on the side. Linear.
+/// A chain for each nonterminal, of the places of the productions with useful left sides in which it
+/// stands on the side. Linear.
 pub fn uses_on(
     alloc: Global,
     side: Side,
     grammar: &Grammar,
     useful: &[bool],
-) -> Result<Vec<Vec<usize>>, NoMemory>
+) -> Result<Chains, NoMemory>
     requires { (a : nt.Nt)
         → IsMarked useful.now a.0 ↔ IsUseful grammar.now.productions.items grammar.now.start a }
-    ensures len { IfOk result (λ lists. length lists.items ≡ grammar.now.count + 1) }
+    ensures len { IfOk result (λ uses. length uses.last.items ≡ grammar.now.count + 1) }
     ensures exact { IfOk result
-        (λ lists. AreUses side grammar.now.productions.items grammar.now.start
-        grammar.now.count lists.items) }
+        (λ uses. AreUses side grammar.now.productions.items grammar.now.start
+        grammar.now.count uses) }
 {
-    let Some(lists) = grammar.count.checked_add(1) else {
+    let Some(numbers) = grammar.count.checked_add(1) else {
         return Err(NoMemory);
     };
     let keys = all_keys(
@@ -113,6 +113,6 @@ pub fn uses_on(
         useful,
         grammar.productions.as_slice(),
     )?;
-    let places = places_by(alloc, lists, keys.as_slice())?;
-    Ok(places)
+    let uses = chains_of(alloc, numbers, keys.as_slice())?;
+    Ok(uses)
 }

@@ -1,12 +1,10 @@
 -- A pair that meets others.
-use Rattle.std.proofs.Common.{◌≡◌, ℕ, ◌+◌, ◌<◌, ◌≤◌, inl, inr, Bool, true, List, [], ◌∷◌, length, Contains, refl, sym, ◌∙◌, ap, subst, arith, Some, slice_get, Result, Ok, Err, OnOk}
+use Rattle.std.proofs.Common.{◌≡◌, ℕ, ◌<◌, ◌≤◌, ◌⊎◌, inl, inr, Bool, true, List, [], ◌∷◌, length, Contains, refl, sym, ◌∙◌, ap, subst, arith, None, Some, slice_get, Result, Ok, Err, OnOk}
 use Rattle.std.specs.Prelude.{nat_lt}
 use Rattle.std.specs.List.{list_all}
 use Rattle.std.specs.Cmp.{first_so, second_so}
 use Rattle.std.proofs.lemmas.Bool.{ltb-true}
-use Rattle.std.proofs.lemmas.Option.{same_Some}
-use Rattle.std.specs.declared.vec.Vec.{Vec}
-use Rattle.std.specs.declared.alloc.Global.{Global}
+use Rattle.std.proofs.lemmas.Option.{same_Some, slice_get_within}
 use Rattle.text_base.specs.declared.letter.Letter.TheVariants.{OfByte, OfToken}
 use Rattle.text_base.specs.declared.page_token.PageToken.{PageToken}
 use Rattle.text_base.specs.declared.numbers.Nt as nt
@@ -21,18 +19,20 @@ use Rattle.derivations.specs.declared.node.Part.{Part}
 use Rattle.derivations.specs.declared.node.Part.TheVariants as part
 use Rattle.derivations.specs.declared.node.Node.{Node}
 use Rattle.derivations.specs.Stands.{Stands}
-use Rattle.useful_nonterminals.specs.Work.{IsAmong}
-use Rattle.useful_nonterminals.proofs.DrawLemmas.{among_none, among_more, among_all}
+use Rattle.number_chains.specs.Chains.{AreChains}
+use Rattle.number_chains.proofs.ChainLemmas.{walk_next, walk_met, walk_end}
 use Rattle.summary_fixpoint.specs.declared.joint.Side.{Side}
 use Rattle.summary_fixpoint.specs.declared.joint.Side.TheVariants.{First, Second}
 use Rattle.summary_fixpoint.specs.declared.joint.Joint.{Joint}
 use Rattle.summary_fixpoint.specs.declared.letters.Piece.{Piece}
 use Rattle.summary_fixpoint.specs.declared.table.Table.{Table}
 use Rattle.summary_fixpoint.specs.declared.table.Join.{Join}
+use Rattle.summary_fixpoint.specs.declared.table.Taken.{Taken}
 use Rattle.summary_fixpoint.specs.Closed.{Pair, HasSum}
 use Rattle.summary_fixpoint.specs.Tables.{known, Supports, Makes, MakesAt, IsTable, GoesOn, Adds}
-use Rattle.summary_fixpoint.specs.Joints.{right_by, parts_by, composed_by, join_by, IsLetterOf, AreTaken, IsBeside, ArePartners, MeetsPairs, MeetsSymbol}
+use Rattle.summary_fixpoint.specs.Joints.{right_by, parts_by, composed_by, join_by, IsLetterOf, AreTaken, first_nonterminals, taken_count, IsBeside, IsPartner, MeetsPairs, MeetsTo, MeetsSymbol}
 use Rattle.summary_fixpoint.proofs.KnownLemmas.{keeps_member}
+use Rattle.summary_fixpoint.proofs.TakenLemmas.{key_told, told_key}
 use Rattle.summary_fixpoint.proofs.AddLemmas.{passes_at}
 
 -- the number of a composition, by the side
@@ -104,8 +104,8 @@ module _ {S : Type 0} (sum_of : List PageToken → S) (composed : S → S → S)
           within = omega (arith, h.within, goes.bound);
         }
 
-    pub partners_on : (old new : Table S) (c : ℕ) (pairs : List ℕ) → GoesOn sum_of composed whole ps start count old new → ArePartners sum_of composed whole ps start old c pairs → ArePartners sum_of composed whole ps start new c pairs
-    partners_on old new c pairs goes h j m = let p = h j m in (omega (arith, p.0, goes.bound), (p.1.0, goes.keeps j (c, p.1.0) p.1.1))
+    partner_on : (old new : Table S) (c j : ℕ) → GoesOn sum_of composed whole ps start count old new → IsPartner sum_of composed whole ps start old c j → IsPartner sum_of composed whole ps start new c j
+    partner_on old new c j goes p = (omega (arith, p.0, goes.bound), (p.1.0, goes.keeps j (c, p.1.0) p.1.1))
 
     pub goes_none : (t : Table S) → IsTable sum_of composed whole ps start count t → GoesOn sum_of composed whole ps start count t t
     goes_none t table = record { table = table; height = refl; bound = refl; keeps = λ n x h. h }
@@ -118,42 +118,81 @@ module _ {S : Type 0} (sum_of : List PageToken → S) (composed : S → S → S)
     adds_behind old mid new place s goes h = record { goes = goes_both old mid new goes h.goes; has = h.has }
 
     -- what makes the composition with one pair
-    pub pair_makes : (t : Table S) (joint : Joint) (s : S) (c : nt.Nt) (pairs : List ℕ) (j : ℕ) (u : S) → IsTable sum_of composed whole ps start count t → IsBeside sum_of composed whole ps start t joint s (Nt c) → ArePartners sum_of composed whole ps start t c.0 pairs → Contains pairs j → slice_get (known t) j ≡ Some (c.0, u) → MakesAt sum_of composed whole ps start t joint.place (parts_by joint.side (part.Inner joint.pair) (part.Inner j)) (composed_by composed joint.side s u)
-    pair_makes t joint s c pairs j u table beside partners m at =
-        beside_makes t joint s (Nt c) (part.Inner j) u table beside (table.early j (c.0, u) (partners j m).0 at).supports
+    pub pair_makes : (t : Table S) (joint : Joint) (s : S) (c : nt.Nt) (j : ℕ) (u : S) → IsTable sum_of composed whole ps start count t → IsBeside sum_of composed whole ps start t joint s (Nt c) → j < t.bound → slice_get (known t) j ≡ Some (c.0, u) → MakesAt sum_of composed whole ps start t joint.place (parts_by joint.side (part.Inner joint.pair) (part.Inner j)) (composed_by composed joint.side s u)
+    pair_makes t joint s c j u table beside within at = beside_makes t joint s (Nt c) (part.Inner j) u table beside (table.early j (c.0, u) within at).supports
 
-    pub meets_none : (t : Table S) (joint : Joint) (s : S) (c : ℕ) (pairs : List ℕ) → IsTable sum_of composed whole ps start count t → MeetsPairs sum_of composed whole ps start count t t joint s c (IsAmong pairs 0)
-    meets_none t joint s c pairs table = record { goes = goes_none t table; met = λ j u p asked at here. absurd (among_none pairs j asked) }
-
-    pub meets_more : (old mid new : Table S) (joint : Joint) (s : S) (c : ℕ) (pairs : List ℕ) (n j : ℕ) (u : S) → slice_get pairs n ≡ Some j → slice_get (known old) j ≡ Some (c, u) → MeetsPairs sum_of composed whole ps start count old mid joint s c (IsAmong pairs n) → Adds sum_of composed whole ps start count mid new joint.place (composed_by composed joint.side s u) → MeetsPairs sum_of composed whole ps start count old new joint s c (IsAmong pairs (n + 1))
-    meets_more old mid new joint s c pairs n j u at here before adds =
+    pub meets_one : {E : Type 0} (r : Result (Unit {0}) E) (old mid new : Table S) (joint : Joint) (s : S) (c j number : ℕ) (partner : IsPartner sum_of composed whole ps start old c j) → slice_get mid.sums.keys number ≡ Some (composed_by composed joint.side s partner.1.0) → GoesOn sum_of composed whole ps start count old mid → OnOk r ((u : S) → slice_get mid.sums.keys number ≡ Some u → Adds sum_of composed whole ps start count mid new joint.place u) → OnOk r (MeetsPairs sum_of composed whole ps start count old new joint s c (λ (i : ℕ). i ≡ j))
+    meets_one (Err e) old mid new joint s c j number partner told goes h = tt
+    meets_one (Ok e) old mid new joint s c j number partner told goes h =
+        let adds = h (composed_by composed joint.side s partner.1.0) told in
         record {
-          goes = goes_both old mid new before.goes adds.goes;
-          met = λ i v p asked known_at placed_at. elim (among_more pairs n j at i asked) [
-            | inl k ↦ keeps_member (known mid) (known new) (p.left.0, composed_by composed joint.side s v) adds.goes.keeps (before.met i v p k known_at placed_at)
-            | inr same ↦
-                let one : ◌≡◌ {A = Pair S} (c, u) (c, v) = same_Some (c, u) (c, v) (sym here ∙ (ap (slice_get (known old)) (sym same) ∙ known_at)) in
-                subst (λ (x : Pair S). Contains (known new) (p.left.0, composed_by composed joint.side s x.1)) one (adds.has p placed_at)
+          goes = goes_both old mid new goes adds.goes;
+          met = λ i v p same at here.
+              let one : ◌≡◌ {A = Pair S} (c, partner.1.0) (c, v) = same_Some (c, partner.1.0) (c, v) (sym partner.1.1 ∙ (ap (slice_get (known old)) (sym same) ∙ at)) in
+              subst (λ (x : Pair S). Contains (known new) (p.left.0, composed_by composed joint.side s x.1)) one (adds.has p here);
+        }
+
+    meets_more : (P Q R : ℕ → Type 0) (old mid new : Table S) (joint : Joint) (s : S) (c : ℕ) → ((j : ℕ) → R j → P j ⊎ Q j) → MeetsPairs sum_of composed whole ps start count old mid joint s c P → MeetsPairs sum_of composed whole ps start count mid new joint s c Q → MeetsPairs sum_of composed whole ps start count old new joint s c R
+    meets_more P Q R old mid new joint s c splits p q =
+        record {
+          goes = goes_both old mid new p.goes q.goes;
+          met = λ j u r asked at here. elim (splits j asked) [
+            | inl h ↦ keeps_member (known mid) (known new) (r.left.0, composed_by composed joint.side s u) q.goes.keeps (p.met j u r h at here)
+            | inr h ↦ q.met j u r h (p.goes.keeps j (c, u) at) here
           ];
         }
 
-    pub meets_all : (old new : Table S) (joint : Joint) (s : S) (c : ℕ) (pairs : List ℕ) (n : ℕ) → length pairs ≤ n → MeetsPairs sum_of composed whole ps start count old new joint s c (IsAmong pairs n) → MeetsPairs sum_of composed whole ps start count old new joint s c (λ (j : ℕ). Contains pairs j)
-    meets_all old new joint s c pairs n past h = record { goes = h.goes; met = λ j u p asked at here. h.met j u p (among_all pairs n past j asked) at here }
+    -- a walk along the chain of the nonterminal
+    module _ (keys last before : List ℕ) (c : ℕ) (chains : AreChains keys last before) where
+      pub walk_begun : (t : Table S) (joint : Joint) (s : S) (place : ℕ) → IsTable sum_of composed whole ps start count t → slice_get last c ≡ Some place → MeetsTo sum_of composed whole ps start count t t joint s keys c place
+      walk_begun t joint s place table at =
+          record {
+            so_many = length keys;
+            within = omega arith;
+            last = chains.ends c place at;
+            meets = record { goes = goes_none t table; met = λ j u p asked found here. absurd (let w = slice_get_within keys j c asked.0 in omega (arith, w, asked.1)) };
+          }
 
-    -- all pairs of the nonterminal that are taken up
-    pub meets_symbol : {E : Type 0} (r : Result (Unit {0}) E) (old new : Table S) (joint : Joint) (s : S) (n : ℕ) (c : nt.Nt) (lists : List (Vec ℕ Global)) (v : Vec ℕ Global) → AreTaken (known old) n lists → slice_get lists c.0 ≡ Some v → OnOk r (MeetsPairs sum_of composed whole ps start count old new joint s c.0 (λ (j : ℕ). Contains v.items j)) → OnOk r (MeetsSymbol sum_of composed whole ps start count old new joint s n (Nt c))
-    meets_symbol (Err e) old new joint s n c lists v taken at h = tt
-    meets_symbol (Ok e) old new joint s n c lists v taken at h =
-        record { goes = h.goes; met = λ u p has here. h.met has.0 u p ((taken c.0 v at has.0).1 (has.1, (u, has.2))) has.2 here }
+      pub walk_further : (old mid new : Table S) (joint : Joint) (s : S) (place next : ℕ) → slice_get before place ≡ Some next → MeetsTo sum_of composed whole ps start count old mid joint s keys c place → MeetsPairs sum_of composed whole ps start count mid new joint s c (λ (j : ℕ). j ≡ place) → MeetsTo sum_of composed whole ps start count old new joint s keys c next
+      walk_further old mid new joint s place next at done one =
+          let w = walk_next keys before done.so_many c place next chains.links done.last at in
+          record {
+            so_many = place;
+            within = (let l = slice_get_within keys place c w.0 in omega (arith, l));
+            last = w.1;
+            meets = meets_more (λ (j : ℕ). (slice_get keys j ≡ Some c) × (done.so_many ≤ j)) (λ (j : ℕ). j ≡ place) (λ (j : ℕ). (slice_get keys j ≡ Some c) × (place ≤ j)) old mid new joint s c
+                (λ j asked. elim (walk_met keys done.so_many c place j done.last asked.0 asked.1) [ inl h ↦ inl (asked.0, h) | inr h ↦ inr h ]) done.meets one;
+          }
 
-    pub taken_partners : (t : Table S) (n : ℕ) (c : nt.Nt) (lists : List (Vec ℕ Global)) (v : Vec ℕ Global) → AreTaken (known t) n lists → n ≤ t.bound → slice_get lists c.0 ≡ Some v → ArePartners sum_of composed whole ps start t c.0 v.items
-    taken_partners t n c lists v taken within at j m = let p = (taken c.0 v at j).0 m in (omega (arith, p.0, within), p.1)
+    -- where the walk is at an end, all pairs of the nonterminal that are taken up are met
+    pub walk_ended : (old new : Table S) (joint : Joint) (s : S) (c : nt.Nt) (taken : Taken) (place : ℕ) → AreTaken (known old) taken → slice_get taken.chains.before.items place ≡ None → MeetsTo sum_of composed whole ps start count old new joint s (first_nonterminals (known old) (taken_count taken)) c.0 place → MeetsSymbol sum_of composed whole ps start count old new joint s (taken_count taken) (Nt c)
+    walk_ended old new joint s c taken place chains none done =
+        let keys = first_nonterminals (known old) (taken_count taken) in
+        record {
+          goes = done.meets.goes;
+          met = λ u p has here.
+              let stands : slice_get keys has.0 ≡ Some c.0 = told_key (known old) (taken_count taken) has.0 c.0 u has.1 has.2 in
+              done.meets.met has.0 u p (stands, walk_end keys taken.chains.before.items done.so_many c.0 place has.0 chains.links done.within done.last none stands) has.2 here;
+        }
+
+    -- a place that the walk comes to has a pair of the nonterminal
+    pub walk_partner : (old mid : Table S) (joint : Joint) (s : S) (c : ℕ) (taken : Taken) (place next : ℕ) → AreTaken (known old) taken → taken_count taken ≤ old.bound → slice_get taken.chains.before.items place ≡ Some next → MeetsTo sum_of composed whole ps start count old mid joint s (first_nonterminals (known old) (taken_count taken)) c place → IsPartner sum_of composed whole ps start mid c place
+    walk_partner old mid joint s c taken place next chains within at done =
+        let keys = first_nonterminals (known old) (taken_count taken) in
+        let w = walk_next keys taken.chains.before.items done.so_many c place next chains.links done.last at in
+        let k = key_told (known old) (taken_count taken) place c w.0 in
+        partner_on old mid c place done.meets.goes (omega (arith, k.0, within), k.1)
 
     -- the letter
-    pub meets_letter : {E : Type 0} (r : Result (Unit {0}) E) (old new : Table S) (joint : Joint) (s : S) (n : ℕ) (b : Symbol) (piece : Piece S) → IsLetterOf sum_of b (Some piece) → OnOk r (Adds sum_of composed whole ps start count old new joint.place (composed_by composed joint.side s piece.sum)) → OnOk r (MeetsSymbol sum_of composed whole ps start count old new joint s n b)
-    meets_letter (Err e) old new joint s n b piece is h = tt
-    meets_letter (Ok e) old new joint s n b piece is h =
+    pub meets_letter : {E : Type 0} (r : Result (Unit {0}) E) (old new : Table S) (joint : Joint) (s : S) (b : Symbol) (piece : Piece S) → IsLetterOf sum_of b (Some piece) → OnOk r (Adds sum_of composed whole ps start count old new joint.place (composed_by composed joint.side s piece.sum)) → OnOk r ((n : ℕ) → MeetsSymbol sum_of composed whole ps start count old new joint s n b)
+    meets_letter (Err e) old new joint s b piece is h = tt
+    meets_letter (Ok e) old new joint s b piece is h = λ n.
         record { goes = h.goes; met = λ u p has here. subst (λ (x : S). Contains (known new) (p.left.0, composed_by composed joint.side s x)) (letter_is (known old) n b piece u is has) (h.has p here) }
+
+    -- whatever the count
+    pub letter_taken : {E : Type 0} (r : Result (Unit {0}) E) (old new : Table S) (joint : Joint) (s : S) (b : Symbol) (n : ℕ) → OnOk r ((m : ℕ) → MeetsSymbol sum_of composed whole ps start count old new joint s m b) → OnOk r (MeetsSymbol sum_of composed whole ps start count old new joint s n b)
+    letter_taken (Err e) old new joint s b n h = tt
+    letter_taken (Ok e) old new joint s b n h = h n
 
     pub makes_along : (t : Table S) (place : ℕ) (qs rs : Parts) (s u : S) → rs ≡ qs → u ≡ s → MakesAt sum_of composed whole ps start t place qs s → MakesAt sum_of composed whole ps start t place rs u
     makes_along t place qs rs s u e f h =
@@ -185,6 +224,3 @@ module _ {S : Type 0} (sum_of : List PageToken → S) (composed : S → S → S)
         by_side Second e =
             let two : list_all (symbol_below count) (symbols_of (right_by Second (Nt h.nonterminal) (Nt c))) ≡ true = ap (λ (r : Right). list_all (symbol_below count) (symbols_of r)) (sym e) ∙ all in
             ltb-true c.0 count (first_so _ _ two)
-
-    pub results_along : {E : Type 0} (r : Result (Unit {0}) E) (old new : Table S) (joint : Joint) (s : S) (c : ℕ) (xs ys : List ℕ) → xs ≡ ys → OnOk r (MeetsPairs sum_of composed whole ps start count old new joint s c (λ (j : ℕ). Contains xs j)) → OnOk r (MeetsPairs sum_of composed whole ps start count old new joint s c (λ (j : ℕ). Contains ys j))
-    results_along r old new joint s c xs ys e h = subst (λ (zs : List ℕ). OnOk r (MeetsPairs sum_of composed whole ps start count old new joint s c (λ (j : ℕ). Contains zs j))) e h

@@ -4,4 +4,5 @@ pub mod KnownLemmas
 pub mod MadeLemmas
 pub mod TableLemmas
 pub mod AddLemmas
+pub mod TakenLemmas
 pub mod JointLemmas

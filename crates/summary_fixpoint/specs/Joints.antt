@@ -1,7 +1,5 @@
 -- How a pair that is taken up meets others at a production.
-use Rattle.std.specs.Prelude.{◌≡◌, ◌↔◌, Bool, ℕ, ◌<◌, List, [], ◌∷◌, Option, None, Some, slice_get, Contains}
-use Rattle.std.specs.declared.vec.Vec.{Vec}
-use Rattle.std.specs.declared.alloc.Global.{Global}
+use Rattle.std.specs.Prelude.{◌≡◌, ◌↔◌, Bool, ℕ, ◌<◌, ◌≤◌, List, [], ◌∷◌, length, map, take, Option, None, Some, slice_get, Contains}
 use Rattle.text_base.specs.declared.page_token.PageToken.{PageToken}
 use Rattle.text_base.specs.declared.numbers.Nt as nt
 use Rattle.cfg_grammar.specs.declared.symbol.Symbol.{Symbol}
@@ -9,6 +7,8 @@ use Rattle.cfg_grammar.specs.declared.symbol.Symbol.TheVariants.{Range, Token, N
 use Rattle.cfg_grammar.specs.declared.production.Right.{Right}
 use Rattle.cfg_grammar.specs.declared.production.Right.TheVariants.{Empty, One, Two}
 use Rattle.cfg_grammar.specs.declared.production.Production.{Production}
+use Rattle.number_chains.specs.Chains.{IsLast, AreChains}
+use Rattle.number_chains.specs.declared.Chains.{Chains}
 use Rattle.derivations.specs.declared.node.Part.{Part}
 use Rattle.derivations.specs.declared.node.Part.TheVariants as part
 use Rattle.derivations.specs.declared.node.Parts.{Parts}
@@ -21,6 +21,7 @@ use Rattle.summary_fixpoint.specs.declared.joint.Joint.{Joint}
 use Rattle.summary_fixpoint.specs.declared.letters.Piece.{Piece}
 use Rattle.summary_fixpoint.specs.declared.table.Table.{Table}
 use Rattle.summary_fixpoint.specs.declared.table.Join.{Join}
+use Rattle.summary_fixpoint.specs.declared.table.Taken.{Taken}
 use Rattle.summary_fixpoint.specs.Closed.{Pair, HasSum}
 use Rattle.summary_fixpoint.specs.Tables.{known, GoesOn}
 
@@ -67,17 +68,29 @@ IsLetterOf sum_of (Token token) (Some piece) = (piece.part ≡ part.Token token)
 IsLetterOf sum_of (Nt a) None = Unit {0}
 IsLetterOf sum_of (Nt a) (Some piece) = ⊥
 
--- for each nonterminal, the places of the productions with useful left sides in which it stands on a side
-abbrev pub AreUses : Side → List Production → nt.Nt → ℕ → List (Vec ℕ Global) → Type 0
-AreUses side productions start count lists =
-    (a : ℕ) (v : Vec ℕ Global) → a < count → slice_get lists a ≡ Some v → (i : ℕ)
-    → Contains v.items i ↔ ((p : Production) × (slice_get productions i ≡ Some p) × IsUseful productions start p.left
-    × (number_by side p.right ≡ Some a))
+-- the nonterminal stands on a side of the production at a place, whose left side is useful
+abbrev pub StandsOn : Side → List Production → nt.Nt → ℕ → ℕ → Type 0
+StandsOn side productions start a place =
+    (p : Production) × (slice_get productions place ≡ Some p) × IsUseful productions start p.left × (number_by side p.right ≡ Some a)
 
--- for each nonterminal, its pairs among the first so many
-abbrev pub AreTaken : {S : Type 0} → List (Pair S) → ℕ → List (Vec ℕ Global) → Type 0
-AreTaken {S} pairs n lists = (a : ℕ) (v : Vec ℕ Global) → slice_get lists a ≡ Some v → (i : ℕ)
-    → Contains v.items i ↔ ((i < n) × ((s : S) × (slice_get pairs i ≡ Some (a, s))))
+-- a chain for each nonterminal, of the places of the productions with useful left sides in which it stands on a side
+pub record AreUses (side : Side) (productions : List Production) (start : nt.Nt) (count : ℕ) (uses : Chains) : Type 0 where
+  pub keys : List ℕ
+  pub chains : AreChains keys uses.last.items uses.before.items
+  pub spread : count ≤ length uses.last.items
+  pub exact : (a place : ℕ) → a < count → (slice_get keys place ≡ Some a) ↔ StandsOn side productions start a place
+
+-- the nonterminals of the first so many pairs
+abbrev pub first_nonterminals : {S : Type 0} → List (Pair S) → ℕ → List ℕ
+first_nonterminals pairs n = map (λ x. x.0) (take n pairs)
+
+-- how many pairs are taken up
+abbrev pub taken_count : Taken → ℕ
+taken_count taken = length taken.chains.before.items
+
+-- a chain for each nonterminal, of the places of its pairs that are taken up
+abbrev pub AreTaken : {S : Type 0} → List (Pair S) → Taken → Type 0
+AreTaken pairs taken = AreChains (first_nonterminals pairs (taken_count taken)) taken.chains.last.items taken.chains.before.items
 
 module _ {S : Type 0} (sum_of : List PageToken → S) (composed : S → S → S) (whole : S → Bool) (productions : List Production)
     (start : nt.Nt) where
@@ -101,15 +114,22 @@ module _ {S : Type 0} (sum_of : List PageToken → S) (composed : S → S → S)
     pub pair : slice_get (known t) joint.pair ≡ Some (nonterminal.0, s)
     pub within : joint.pair < t.bound
 
-  -- pairs of a nonterminal before the bound
-  abbrev pub ArePartners : Table S → ℕ → List ℕ → Type 0
-  ArePartners t c partners = (j : ℕ) → Contains partners j → (j < t.bound) × ((u : S) × (slice_get (known t) j ≡ Some (c, u)))
+  -- a pair of a nonterminal before the bound
+  abbrev pub IsPartner : Table S → ℕ → ℕ → Type 0
+  IsPartner t c j = (j < t.bound) × ((u : S) × (slice_get (known t) j ≡ Some (c, u)))
 
   -- the compositions with these pairs are there
   pub record MeetsPairs (count : ℕ) (old new : Table S) (joint : Joint) (s : S) (c : ℕ) (Asked : ℕ → Type 0) : Type 0 where
     pub goes : GoesOn sum_of composed whole productions start count old new
     pub met : (j : ℕ) (u : S) (p : Production) → Asked j → slice_get (known old) j ≡ Some (c, u)
         → slice_get productions joint.place ≡ Some p → Contains (known new) (p.left.0, composed_by composed joint.side s u)
+
+  -- a walk along the chain of a nonterminal has come to a place: the compositions with its pairs from so many on are there
+  pub record MeetsTo (count : ℕ) (old new : Table S) (joint : Joint) (s : S) (keys : List ℕ) (c place : ℕ) : Type 0 where
+    pub so_many : ℕ
+    pub within : so_many ≤ length keys
+    pub last : IsLast keys so_many c place
+    pub meets : MeetsPairs count old new joint s c (λ j. (slice_get keys j ≡ Some c) × (so_many ≤ j))
 
   -- the compositions with each sum of the symbol are there, as far as its pairs are among the first so many
   pub record MeetsSymbol (count : ℕ) (old new : Table S) (joint : Joint) (s : S) (n : ℕ) (b : Symbol) : Type 0 where

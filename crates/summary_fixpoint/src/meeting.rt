@@ -5,7 +5,7 @@ ghost use Rattle.text_base.specs.declared.numbers.Nt as nt;
 ghost use Rattle.cfg_grammar.specs.declared.symbol.Symbol as symbols;
 ghost use Rattle.summary_fixpoint.specs.Tables.{known, IsTable, MakesAt, Adds, AreNumbered};
 ghost use Rattle.summary_fixpoint.specs.Halts.{Explains};
-ghost use Rattle.summary_fixpoint.specs.Joints.{composed_by, parts_by, IsBeside, ArePartners, AreTaken, MeetsPairs, MeetsSymbol};
+ghost use Rattle.summary_fixpoint.specs.Joints.{composed_by, parts_by, IsBeside, IsPartner, AreTaken, taken_count, MeetsPairs, MeetsSymbol};
 
 use crate::adding::{add, add_known};
 use crate::halt::Halt;
@@ -57,14 +57,14 @@ pub fn compose<S: Summary>(
     }
 }
 
-/// The pair meets pairs of the nonterminal on the other side.
-fn meet_pairs<S: Summary>(
+/// The pair meets a pair of the nonterminal on the other side.
+fn meet_pair<S: Summary>(
     question: &Question<S>,
     table: &mut Table<S::Sum>,
     joint: Joint,
     sum: &S::Sum,
     partner: Nt,
-    pairs: &[usize],
+    pair: usize,
 ) -> Result<(), Halt>
     requires table { IsTable (S.sum_of question.now.summary.now)
         (S.composed question.now.summary.now)
@@ -74,35 +74,70 @@ fn meet_pairs<S: Summary>(
         (S.composed question.now.summary.now)
         (S.is_whole question.now.summary.now) question.now.grammar.now.productions.items
         question.now.grammar.now.start table.old joint sum.now (symbols.Symbol.Nt partner) }
-    requires partners { ArePartners (S.sum_of question.now.summary.now)
+    requires partner { IsPartner (S.sum_of question.now.summary.now)
         (S.composed question.now.summary.now)
         (S.is_whole question.now.summary.now) question.now.grammar.now.productions.items
-        question.now.grammar.now.start table.old partner.0 pairs.now }
+        question.now.grammar.now.start table.old partner.0 pair }
     ensures ok { OnOk result
         (MeetsPairs (S.sum_of question.now.summary.now) (S.composed question.now.summary.now)
         (S.is_whole question.now.summary.now) question.now.grammar.now.productions.items
         question.now.grammar.now.start question.now.grammar.now.count table.old table.new joint
         sum.now partner.0
-        (λ j. Contains pairs.now j)) }
+        (λ j. j ≡ pair)) }
     ensures err { IfErr result (λ h. Explains (S.sum_of question.now.summary.now)
         (S.is_whole question.now.summary.now) (S.tag_count question.now.summary.now)
         question.now.grammar.now.productions.items question.now.grammar.now.start question.now.limit
         table.new.nodes.nodes.items table.new.height h) }
 {
     let _ = sum;
-    for pair in pairs {
-        let first = sum_number(table, joint.pair);
-        let second = sum_number(table, *pair);
-        let joined = join(question, table, join_on(joint.side, first, second))?;
-        let own = Part::Inner(joint.pair as u64);
-        let other = Part::Inner(*pair as u64);
-        add_known(
-            question,
-            table,
-            joint.place,
-            parts(joint.side, own, other),
-            joined,
-        )?;
+    let first = sum_number(table, joint.pair);
+    let second = sum_number(table, pair);
+    let joined = join(question, table, join_on(joint.side, first, second))?;
+    let own = Part::Inner(joint.pair as u64);
+    let other = Part::Inner(pair as u64);
+    add_known(
+        question,
+        table,
+        joint.place,
+        parts(joint.side, own, other),
+        joined,
+    )
+}
+
+/// The pair meets the pairs that are taken up of the nonterminal on the other side.
+fn meet_pairs<S: Summary>(
+    question: &Question<S>,
+    table: &mut Table<S::Sum>,
+    joint: Joint,
+    sum: &S::Sum,
+    partner: Nt,
+    taken: &Taken,
+) -> Result<(), Halt>
+    requires table { IsTable (S.sum_of question.now.summary.now)
+        (S.composed question.now.summary.now)
+        (S.is_whole question.now.summary.now) question.now.grammar.now.productions.items
+        question.now.grammar.now.start question.now.grammar.now.count table.old }
+    requires beside { IsBeside (S.sum_of question.now.summary.now)
+        (S.composed question.now.summary.now)
+        (S.is_whole question.now.summary.now) question.now.grammar.now.productions.items
+        question.now.grammar.now.start table.old joint sum.now (symbols.Symbol.Nt partner) }
+    requires partner { partner.0 < length taken.now.chains.last.items }
+    requires taken { AreTaken (known table.old) taken.now }
+    requires within { taken_count taken.now ≤ table.old.bound }
+    ensures ok { OnOk result
+        (MeetsSymbol (S.sum_of question.now.summary.now) (S.composed question.now.summary.now)
+        (S.is_whole question.now.summary.now) question.now.grammar.now.productions.items
+        question.now.grammar.now.start question.now.grammar.now.count table.old table.new joint
+        sum.now (taken_count taken.now) (symbols.Symbol.Nt partner)) }
+    ensures err { IfErr result (λ h. Explains (S.sum_of question.now.summary.now)
+        (S.is_whole question.now.summary.now) (S.tag_count question.now.summary.now)
+        question.now.grammar.now.productions.items question.now.grammar.now.start question.now.limit
+        table.new.nodes.nodes.items table.new.height h) }
+{
+    let mut place = taken.chains.last_place(partner.0);
+    while let Some(before) = taken.chains.place_before(place) {
+        meet_pair(question, table, joint, sum, partner, place)?;
+        place = before;
     }
     Ok(())
 }
@@ -114,7 +149,6 @@ fn meet_letter<S: Summary>(
     joint: Joint,
     sum: &S::Sum,
     symbol: Symbol,
-    n: usize,
 ) -> Result<(), Halt>
     requires table { IsTable (S.sum_of question.now.summary.now)
         (S.composed question.now.summary.now)
@@ -126,7 +160,7 @@ fn meet_letter<S: Summary>(
         question.now.grammar.now.start table.old joint sum.now symbol }
     requires letter { (a : nt.Nt) → symbol ≡ symbols.Symbol.Nt a → ⊥ }
     ensures ok { OnOk result
-        (MeetsSymbol (S.sum_of question.now.summary.now) (S.composed question.now.summary.now)
+        ((n : ℕ) → MeetsSymbol (S.sum_of question.now.summary.now) (S.composed question.now.summary.now)
         (S.is_whole question.now.summary.now) question.now.grammar.now.productions.items
         question.now.grammar.now.start question.now.grammar.now.count table.old table.new joint
         sum.now n symbol) }
@@ -166,28 +200,21 @@ pub fn meet<S: Summary>(
         (S.composed question.now.summary.now)
         (S.is_whole question.now.summary.now) question.now.grammar.now.productions.items
         question.now.grammar.now.start table.old joint sum.now symbol }
-    requires taken { AreTaken (known table.old) taken.now.count taken.now.lists.items }
-    requires spread { length taken.now.lists.items ≡ question.now.grammar.now.count }
-    requires within { taken.now.count ≤ table.old.bound }
+    requires taken { AreTaken (known table.old) taken.now }
+    requires spread { length taken.now.chains.last.items ≡ question.now.grammar.now.count }
+    requires within { taken_count taken.now ≤ table.old.bound }
     ensures ok { OnOk result
         (MeetsSymbol (S.sum_of question.now.summary.now) (S.composed question.now.summary.now)
         (S.is_whole question.now.summary.now) question.now.grammar.now.productions.items
         question.now.grammar.now.start question.now.grammar.now.count table.old table.new joint
-        sum.now taken.now.count symbol) }
+        sum.now (taken_count taken.now) symbol) }
     ensures err { IfErr result (λ h. Explains (S.sum_of question.now.summary.now)
         (S.is_whole question.now.summary.now) (S.tag_count question.now.summary.now)
         question.now.grammar.now.productions.items question.now.grammar.now.start question.now.limit
         table.new.nodes.nodes.items table.new.height h) }
 {
     let Symbol::Nt(partner) = symbol else {
-        return meet_letter(question, table, joint, sum, symbol, taken.count);
+        return meet_letter(question, table, joint, sum, symbol);
     };
-    meet_pairs(
-        question,
-        table,
-        joint,
-        sum,
-        partner,
-        taken.lists[partner.0 as usize].as_slice(),
-    )
+    meet_pairs(question, table, joint, sum, partner, taken)
 }

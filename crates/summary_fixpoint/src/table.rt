@@ -1,9 +1,12 @@
 //! The pairs that are found, each with a node of a derivation.
 
+ghost use Rattle.std.specs.Prelude.{◌≡◌};
 ghost use Rattle.std.proofs.Common.{rules};
+ghost use Rattle.summary_fixpoint.specs.Joints.{taken_count};
 
 use derivations::Nodes;
 use indexmap::IndexSet;
+use number_chains::Chains;
 use std::hash::Hash;
 use text_base::Exact;
 
@@ -50,9 +53,18 @@ pub struct Table<T: Exact + Hash + Drop> {
     pub bound: usize,
 }
 
-/// The pairs that are taken up: the first so many, by their nonterminals.
+/// The pairs that are taken up, which are the first ones: chains of their places by their
+/// nonterminals.
 #[derive(Drop)]
 pub struct Taken {
-    pub lists: Vec<Vec<usize>>,
-    pub count: usize,
+    pub chains: Chains,
+}
+
+impl Taken {
+    /// How many pairs are taken up.
+    pub fn count(&self) -> usize
+        ensures { result ≡ taken_count self.now }
+    {
+        self.chains.before.len()
+    }
 }

@@ -1,7 +1,6 @@
-use Rattle.std.proofs.Common.{◌≡◌, ◌<◌, ℕ, List, length, refl, subst, arith}
+use Rattle.std.proofs.Common.{◌≡◌, ◌<◌, ℕ, List, ◌++◌, length, map, refl, ap, ◌∙◌, arith}
 use Rattle.std.proofs.lemmas.Option.{slice_get_read, slice_get_within}
 use Rattle.grammar_chart.specs.Rules.{read_on}
-use Rattle.grammar_chart.specs.Adding.{AddsAll}
 use Rattle.grammar_chart.proofs.chart.await_symbol.Goals as goal
 
 pub returns : goal.returns
@@ -21,7 +20,7 @@ returns c =
       adds = c.in_ok-at.ensures.adds;
       grows = c.in_ok-at.ensures.grows;
       is_visit = slice_get_read visits.items (length visits.items) c.in_ok-at.at c.index.result.now refl within c.index.ensures;
-      advances = subst (λ (xs : List ℕ). AddsAll c.args.begun.now.keys c.advance_over.new.begun.keys xs (λ (t : ℕ). read_on c.args.one t)) c.as_slice.ensures c.in_ok-advance_over.ensures;
+      advances = c.in_ok-advance_over.ensures ∙ ap (λ (xs : List ℕ). c.args.begun.now.items ++ map (λ (t : ℕ). read_on c.args.one t) xs) c.as_slice.ensures;
       waits = c.in_ok-wait.ensures.adds;
       long = long;
       still_long = still;

@@ -8,8 +8,7 @@ loop-before-init c = λ keys chains. adding_chain_none _ keys _ _ c.args.left _ 
 
 pub loop-before-preserved : goal.loop-before-preserved
 loop-before-preserved c = λ keys chains.
-    adding_chain_more _ _ _ keys _ _ c.args.left _ _ (λ (p : ℕ). record { place = p; from = c.args.from; read = Nothing }) chains (sym c.in-Some.ensures) (c.loop-before.invariant keys chains)
-    c.in_ok-add_begun.ensures.has c.in_ok-add_begun.ensures.keeps c.in_ok-add_begun.ensures.adds
+    adding_chain_more _ _ _ keys _ _ c.args.left _ _ (λ (p : ℕ). record { place = p; from = c.args.from; read = Nothing }) chains (sym c.in-Some.ensures) (c.loop-before.invariant keys chains) c.in_ok-push.ensures.items
 
 pub returns : goal.returns
 returns c = λ keys chains.

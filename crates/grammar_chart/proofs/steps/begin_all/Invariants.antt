@@ -6,7 +6,7 @@ use Rattle.grammar_chart.proofs.steps.begin_all.Given as goal
 
 abbrev pub invariant-loop-before : goal.invariant-loop-before
 invariant-loop-before l = (keys : List ℕ) → AreChains keys l.places.last.items l.places.before.items
-    → AddsTo l.fn.begun.keys l.begun.keys keys l.left l.place (λ (p : ℕ). record { place = p; from = l.from; read = Nothing })
+    → AddsTo l.fn.begun.items l.begun.items keys l.left l.place (λ (p : ℕ). record { place = p; from = l.from; read = Nothing })
 
 abbrev pub decreases-loop-before : goal.decreases-loop-before
 decreases-loop-before l = if nat_lt l.place (length l.places.before.items) then l.place + 1 else 0

@@ -1,9 +1,8 @@
-use Rattle.std.proofs.Common.{◌≡◌, ◌<◌, ◌+◌, ◌∙◌, ◌↔◌, Bool, List, length, refl, sym, subst, arith}
+use Rattle.std.proofs.Common.{◌↔◌, Bool, List, sym, subst}
 use Rattle.text_base.specs.declared.numbers.Nt as nt
 use Rattle.useful_nonterminals.specs.Follows.{IsMarked}
 use Rattle.useful_nonterminals.specs.Useful.{IsUseful}
-use Rattle.summary_fixpoint.specs.Tables.{known}
-use Rattle.summary_decision.proofs.DecideLemmas.{empty_is_table, no_taken}
+use Rattle.summary_decision.proofs.DecideLemmas.{empty_is_table}
 use Rattle.grammar_decision.proofs.deciding.decide.Goals as goal
 
 pub uses_on-requires : goal.uses_on-requires
@@ -18,16 +17,4 @@ work-ended-requires-clause-table g c =
     empty_is_table (g.S.Summary.sum_of c.args.summary.now) (g.S.Summary.composed c.args.summary.now) (g.S.Summary.is_whole c.args.summary.now) c.args.grammar.now.productions.items c.args.grammar.now.start c.args.grammar.now.count c.in_ok-table.table t.entries t.joins t.joined t.nodes t.len t.zero t.height t.bound
 
 pub work-ended-requires-clause-useful : goal.work-ended-requires-clause-useful
-work-ended-requires-clause-useful g c = subst (λ (xs : List Bool). (a : nt.Nt) → IsMarked xs a.0 ↔ IsUseful c.args.grammar.now.productions.items c.args.grammar.now.start a) (sym c.as_slice-4.ensures.value) c.in_ok-useful.ensures.exact
-
-pub work-ended-requires-clause-lists : goal.work-ended-requires-clause-lists
-work-ended-requires-clause-lists g c = no_taken (known c.in_ok-table.table) c.as_slice-3.result.now c.in_ok-lists.lists.items (c.as_slice-3.ensures.value ∙ c.new-none.ensures.items) c.in_ok-lists.ensures.exact
-
-pub work-ended-requires-clause-spread : goal.work-ended-requires-clause-spread
-work-ended-requires-clause-spread g c = omega (arith, c.in_ok-lists.ensures.len, c.in_ok-lists.lists.ok.0)
-
-pub work-ended-requires-clause-many : goal.work-ended-requires-clause-many
-work-ended-requires-clause-many g c = omega (arith, c.in_ok-firsts.ensures.len)
-
-pub work-ended-requires-clause-as_many : goal.work-ended-requires-clause-as_many
-work-ended-requires-clause-as_many g c = omega (arith, c.in_ok-seconds.ensures.len)
+work-ended-requires-clause-useful g c = subst (λ (xs : List Bool). (a : nt.Nt) → IsMarked xs a.0 ↔ IsUseful c.args.grammar.now.productions.items c.args.grammar.now.start a) (sym c.as_slice-3.ensures.value) c.in_ok-useful.ensures.exact

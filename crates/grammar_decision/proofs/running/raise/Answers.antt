@@ -1,4 +1,4 @@
-use Rattle.std.proofs.Common.{◌≡◌, ◌<◌, ◌≤◌, ◌+◌, length, arith}
+use Rattle.std.proofs.Common.{arith}
 use Rattle.summary_decision.proofs.RunLemmas.{raised_same, raised_higher}
 use Rattle.grammar_decision.proofs.running.raise.Goals as goal
 

@@ -1,7 +1,6 @@
-use Rattle.std.proofs.Common.{◌≡◌, ◌<◌, ◌≤◌, ◌+◌, ℕ, List, Some, slice_get, length, refl, sym, ◌∙◌, ap, subst, arith}
+use Rattle.std.proofs.Common.{◌≡◌, List, Some, slice_get, length, refl, ap, subst, arith}
 use Rattle.std.proofs.lemmas.Option.{slice_get_read}
 use Rattle.cfg_grammar.specs.declared.production.Production.{Production}
-use Rattle.summary_decision.specs.Beginning.{Begins}
 use Rattle.summary_decision.proofs.BeginLemmas.{begins_none, begins_more, begins_along}
 use Rattle.summary_decision.proofs.beginning.begin.Goals as goal
 

@@ -1,4 +1,4 @@
-use Rattle.std.proofs.Common.{◌≡◌, Bool, true, false, sym, ◌∙◌, true≢false}
+use Rattle.std.proofs.Common.{sym, ◌∙◌, true≢false}
 use Rattle.summary_decision.proofs.UsingLemmas.{test_marked, marked_test}
 use Rattle.summary_decision.proofs.BeginLemmas.{begins_useless}
 use Rattle.summary_decision.proofs.beginning.begin_useful.Goals as goal

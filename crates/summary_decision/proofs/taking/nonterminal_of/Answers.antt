@@ -1,4 +1,3 @@
-use Rattle.std.proofs.Common.{◌≡◌, sym}
 use Rattle.summary_decision.proofs.TakeLemmas.{entry_pair, entry_there}
 use Rattle.summary_decision.proofs.taking.nonterminal_of.Goals as goal
 

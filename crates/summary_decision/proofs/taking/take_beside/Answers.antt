@@ -1,4 +1,4 @@
-use Rattle.std.proofs.Common.{◌≡◌, subst, sym}
+use Rattle.std.proofs.Common.{length, subst, sym}
 use Rattle.cfg_grammar.specs.declared.symbol.Symbol.{Symbol}
 use Rattle.std.specs.Prelude.{OnOk}
 use Rattle.summary_fixpoint.specs.Joints.{IsBeside, MeetsSymbol}
@@ -13,5 +13,5 @@ meet-requires-clause-beside g c =
 pub returns-clause-ok : goal.returns-clause-ok
 returns-clause-ok g c =
     let q = c.args.question.now in
-    gives_beside (g.S.Summary.sum_of q.summary.now) (g.S.Summary.composed q.summary.now) (g.S.Summary.is_whole q.summary.now) q.grammar.now.productions.items q.grammar.now.start q.grammar.now.count c.meet.result c.args.table.now c.meet.new.table c.args.joint c.args.sum.now c.args.taken.now.count c.args.first c.args.second c.requires.right
-    (subst (λ (b : Symbol). OnOk c.meet.result (MeetsSymbol (g.S.Summary.sum_of q.summary.now) (g.S.Summary.composed q.summary.now) (g.S.Summary.is_whole q.summary.now) q.grammar.now.productions.items q.grammar.now.start q.grammar.now.count c.args.table.now c.meet.new.table c.args.joint c.args.sum.now c.args.taken.now.count b)) c.other.ensures c.meet.ensures.ok)
+    gives_beside (g.S.Summary.sum_of q.summary.now) (g.S.Summary.composed q.summary.now) (g.S.Summary.is_whole q.summary.now) q.grammar.now.productions.items q.grammar.now.start q.grammar.now.count c.meet.result c.args.table.now c.meet.new.table c.args.joint c.args.sum.now (length c.args.taken.now.chains.before.items) c.args.first c.args.second c.requires.right
+    (subst (λ (b : Symbol). OnOk c.meet.result (MeetsSymbol (g.S.Summary.sum_of q.summary.now) (g.S.Summary.composed q.summary.now) (g.S.Summary.is_whole q.summary.now) q.grammar.now.productions.items q.grammar.now.start q.grammar.now.count c.args.table.now c.meet.new.table c.args.joint c.args.sum.now (length c.args.taken.now.chains.before.items) b)) c.other.ensures c.meet.ensures.ok)

@@ -16,5 +16,5 @@ pub returns-clause-ok : goal.returns-clause-ok
 returns-clause-ok g c =
     let q = c.args.question.now in
     let is = subst (λ (o : Option (Piece _)). IsLetterOf (g.S.Summary.sum_of q.summary.now) c.args.symbol o) c.in-Some.is c.in_ok-piece.ensures in
-    meets_letter (g.S.Summary.sum_of q.summary.now) (g.S.Summary.composed q.summary.now) (g.S.Summary.is_whole q.summary.now) q.grammar.now.productions.items q.grammar.now.start q.grammar.now.count c.add.result c.args.table.now c.add.new.table c.args.joint c.args.sum.now c.args.n c.args.symbol c.in-Some.piece is
+    meets_letter (g.S.Summary.sum_of q.summary.now) (g.S.Summary.composed q.summary.now) (g.S.Summary.is_whole q.summary.now) q.grammar.now.productions.items q.grammar.now.start q.grammar.now.count c.add.result c.args.table.now c.add.new.table c.args.joint c.args.sum.now c.args.symbol c.in-Some.piece is
     (adds_result (g.S.Summary.sum_of q.summary.now) (g.S.Summary.composed q.summary.now) (g.S.Summary.is_whole q.summary.now) q.grammar.now.productions.items q.grammar.now.start q.grammar.now.count c.add.result c.args.table.now c.add.new.table c.args.joint.place (composed_by (g.S.Summary.composed q.summary.now) c.args.joint.side c.args.sum.now c.in-Some.piece.sum) c.in_ok-joined.joined c.in_ok-joined.ensures c.add.ensures.ok)
