@@ -19,11 +19,12 @@ use Rattle.chart_grammar.specs.declared.fronts.Front.{Front}
 use Rattle.chart_grammar.specs.declared.lifts.Last.{Last}
 use Rattle.chart_grammar.specs.Fronts.{StandsFor, nothing, longer}
 use Rattle.chart_grammar.specs.Lifts.{nt_of, RightLift, front_right, end_by, FrontLift, IsLift, whole, of_reading, of_front, of_end, AreLifts, HasWhole, HasReading, HasFronts, HasEnd}
-use Rattle.chart_grammar.specs.Written.{WritesAll}
+use Rattle.chart_grammar.specs.Written.{WritesBehind, WritesAll}
 use Rattle.chart_grammar.specs.Writing.{WholeMade, WholeHas, ReadMade, ReadHas, EndMade, EndHas}
 use Rattle.chart_grammar.specs.declared.saying.Outputs.{Outputs}
 use Rattle.chart_grammar.specs.Paid.{IsPaid, ReadingsPay, EndsPay}
 use Rattle.chart_grammar.proofs.PaidLemmas.{none_paid}
+use Rattle.chart_grammar.proofs.BehindLemmas.{behind_keeps, behind_only}
 use Rattle.chart_grammar.proofs.MonoLemmas.{whole_has, read_has, read_lift_kept, end_has}
 
 none_in : {X : Type 0} (xs : List X) (x : X) → xs ≡ [] → Contains xs x → ⊥
@@ -31,27 +32,36 @@ none_in {X} xs x e c = let d : Contains [] x = subst (λ (ys : List X). Contains
 
 pub assembled : (ps : List Production) (from : nt.Nt) (bs : List Begun) (fs : List Passage) (rs : List Reading) (base : ℕ) (ls : List Last) (none start first fr : List Front) (old one two three four : List Production) → old ≡ []
     → WritesAll {X = Front} (WholeMade ps fs) (WholeHas ps fs) bs none none old one → WritesAll (ReadMade fs base) (ReadHas fs base) rs start first one two → WritesAll (EndMade from fs base) (EndHas from fs base) ls first fr two three
-    → ((p : Production) → Contains three p → Contains four p) → ((p : Production) → Contains four p → Contains three p ⊎ FrontLift fr base p) → HasFronts fr base four → AreLifts ps from bs fs rs fr base ls four
-assembled ps from bs fs rs base ls none start first fr old one two three four empty a b c keeps only has =
+    → WritesBehind (λ (p : Production). FrontLift fr base p) three four → HasFronts fr base four → AreLifts ps from bs fs rs fr base ls four
+assembled ps from bs fs rs base ls none start first fr old one two three four empty a b c d has =
     record {
-      only = λ p h. elim (only p h) [
+      only = λ p h. elim (behind_only (λ (q : Production). FrontLift fr base q) three four d p h) [
         | inr f ↦ of_front f
-        | inl h3 ↦ elim (c.only p h3) [
+        | inl h3 ↦ elim (behind_only (λ (q : Production). (x : Last) × Contains ls x × EndMade from fs base fr x q) two three c.puts p h3) [
           | inr e ↦ of_end e.0 e.1 e.2
-          | inl h2 ↦ elim (b.only p h2) [
+          | inl h2 ↦ elim (behind_only (λ (q : Production). (x : Reading) × Contains rs x × ReadMade fs base first x q) one two b.puts p h2) [
             | inr r ↦ of_reading r.0 r.2.0 r.1 (read_lift_kept fs base first fr r.0 r.2.0 p c.grows r.2.1)
-            | inl h1 ↦ elim (a.only p h1) [ inr w ↦ whole w.0 w.1 w.2.0 w.2.1 | inl h0 ↦ absurd (none_in old p empty h0) ]
+            | inl h1 ↦ elim (behind_only (λ (q : Production). (x : Begun) × Contains bs x × WholeMade ps fs none x q) old one a.puts p h1) [ inr w ↦ whole w.0 w.1 w.2.0 w.2.1 | inl h0 ↦ absurd (none_in old p empty h0) ]
           ]
         ]
       ];
       wholes = All-weaker (λ (x : Begun). WholeHas ps fs none x one) (λ (x : Begun). HasWhole ps fs x four)
-          (λ x h. whole_has ps fs none none x one four (λ n y k. k) (λ p k. keeps p (c.keeps p (b.keeps p k))) h) bs a.has;
+          (λ x h. whole_has ps fs none none x one four (λ n y k. k) (λ p k. kept p (kept_two p (kept_one p k))) h) bs a.has;
       readings = All-weaker (λ (x : Reading). ReadHas fs base first x two) (λ (x : Reading). HasReading fs fr base x four)
-          (λ x h. read_has fs base first fr x two four c.grows (λ p k. keeps p (c.keeps p k)) h) rs b.has;
+          (λ x h. read_has fs base first fr x two four c.grows (λ p k. kept p (kept_two p k)) h) rs b.has;
       fronts = has;
       ends = All-weaker (λ (x : Last). EndHas from fs base fr x three) (λ (x : Last). HasEnd from fs fr base x four)
-          (λ x h. end_has from fs base fr fr x three four (λ n y k. k) keeps h) ls c.has;
+          (λ x h. end_has from fs base fr fr x three four (λ n y k. k) kept h) ls c.has;
     }
+  where
+    kept : (p : Production) → Contains three p → Contains four p
+    kept p k = behind_keeps (λ (q : Production). FrontLift fr base q) three four d p k
+
+    kept_two : (p : Production) → Contains two p → Contains three p
+    kept_two p k = behind_keeps (λ (q : Production). (x : Last) × Contains ls x × EndMade from fs base fr x q) two three c.puts p k
+
+    kept_one : (p : Production) → Contains one p → Contains two p
+    kept_one p k = behind_keeps (λ (q : Production). (x : Reading) × Contains rs x × ReadMade fs base first x q) one two b.puts p k
 
 all_true : {X : Type 0} (p : X → Bool) (xs : List X) → ((x : X) → Contains xs x → IsTrue (p x)) → IsTrue (list_all p xs)
 all_true p [] h = refl
@@ -123,24 +133,23 @@ module _ (fs : List Passage) (fr : List Front) (base count : ℕ) (based : base 
 -- the same with the lists under the names that the program has for them
 pub assembled_at : (ps : List Production) (from : nt.Nt) (bs bs' : List Begun) (fs : List Passage) (rs rs' : List Reading) (base : ℕ) (ls : List Last) (start first fr fr' : List Front) (old one two three four : List Production) → old ≡ [] → bs' ≡ bs → rs' ≡ rs → fr' ≡ fr → base ≡ suc (length fs)
     → WritesAll {X = Front} (WholeMade ps fs) (WholeHas ps fs) bs' [] [] old one → WritesAll (ReadMade fs base) (ReadHas fs base) rs' start first one two → WritesAll (EndMade from fs base) (EndHas from fs base) ls first fr two three
-    → ((p : Production) → Contains three p → Contains four p) → ((p : Production) → Contains four p → Contains three p ⊎ FrontLift fr' base p) → HasFronts fr' base four → AreLifts ps from bs fs rs fr (suc (length fs)) ls four
-assembled_at ps from bs bs' fs rs rs' base ls start first fr fr' old one two three four empty eb er ef based a b c keeps only has =
+    → WritesBehind (λ (p : Production). FrontLift fr' base p) three four → HasFronts fr' base four → AreLifts ps from bs fs rs fr (suc (length fs)) ls four
+assembled_at ps from bs bs' fs rs rs' base ls start first fr fr' old one two three four empty eb er ef based a b c d has =
     subst (λ (n : ℕ). AreLifts ps from bs fs rs fr n ls four) based
     (assembled ps from bs fs rs base ls [] start first fr old one two three four empty
     (subst (λ (xs : List Begun). WritesAll {X = Front} (WholeMade ps fs) (WholeHas ps fs) xs [] [] old one) eb a)
-    (subst (λ (xs : List Reading). WritesAll (ReadMade fs base) (ReadHas fs base) xs start first one two) er b) c keeps
-    (λ p h. subst (λ (xs : List Front). Contains three p ⊎ FrontLift xs base p) ef (only p h))
+    (subst (λ (xs : List Reading). WritesAll (ReadMade fs base) (ReadHas fs base) xs start first one two) er b) c
+    (subst (λ (xs : List Front). WritesBehind (λ (p : Production). FrontLift xs base p) three four) ef d)
     (subst (λ (xs : List Front). HasFronts xs base four) ef has))
 
 -- the same with outputs
 pub assembled_outputs : (ps : List Production) (from : nt.Nt) (bs bs' : List Begun) (fs : List Passage) (rs rs' : List Reading) (base : ℕ) (ls : List Last) (o1 o2 o3 : Outputs) (fr : List Front) (wholes old out four : List Production) → old ≡ [] → bs' ≡ bs → rs' ≡ rs → fr ≡ o3.fronts.keys → base ≡ suc (length fs) → o1.out.items ≡ wholes → out ≡ o3.out.items
     → WritesAll {X = Front} (WholeMade ps fs) (WholeHas ps fs) bs' [] [] old wholes → WritesAll (ReadMade fs base) (ReadHas fs base) rs' o1.fronts.keys o2.fronts.keys o1.out.items o2.out.items → WritesAll (EndMade from fs base) (EndHas from fs base) ls o2.fronts.keys o3.fronts.keys o2.out.items o3.out.items
-    → ((p : Production) → Contains out p → Contains four p) → ((p : Production) → Contains four p → Contains out p ⊎ FrontLift fr base p) → HasFronts fr base four → AreLifts ps from bs fs rs o3.fronts.keys (suc (length fs)) ls four
-assembled_outputs ps from bs bs' fs rs rs' base ls o1 o2 o3 fr wholes old out four empty eb er ef based e1 e3 a b c keeps only has =
+    → WritesBehind (λ (p : Production). FrontLift fr base p) out four → HasFronts fr base four → AreLifts ps from bs fs rs o3.fronts.keys (suc (length fs)) ls four
+assembled_outputs ps from bs bs' fs rs rs' base ls o1 o2 o3 fr wholes old out four empty eb er ef based e1 e3 a b c d has =
     assembled_at ps from bs bs' fs rs rs' base ls o1.fronts.keys o2.fronts.keys o3.fronts.keys fr old wholes o2.out.items o3.out.items four empty eb er ef based a
     (subst (λ (qs : List Production). WritesAll (ReadMade fs base) (ReadHas fs base) rs' o1.fronts.keys o2.fronts.keys qs o2.out.items) e1 b) c
-    (λ p h. keeps p (subst (λ (qs : List Production). Contains qs p) (sym e3) h))
-    (λ p h. elim (only p h) [ inl x ↦ inl (subst (λ (qs : List Production). Contains qs p) e3 x) | inr x ↦ inr x ]) has
+    (subst (λ (qs : List Production). WritesBehind (λ (p : Production). FrontLift fr base p) qs four) e3 d) has
 
 -- all that is written is paid for
 pub assembled_paid : (from : nt.Nt) (fs : List Passage) (rs rs' : List Reading) (ls : List Last) (base : ℕ) (wholes : List Production) (o1 o2 o3 : Outputs) → rs' ≡ rs → base ≡ suc (length fs) → o1.out.items ≡ wholes → o1.fronts.keys ≡ [] → o1.said.keys ≡ [] → o1.heads.keys ≡ [] → o1.wide.items ≡ []

@@ -1,3 +1,4 @@
+pub mod BehindLemmas
 pub mod FrontLemmas
 pub mod OutLemmas
 pub mod WriteLemmas
@@ -7,3 +8,4 @@ pub mod OutputLemmas
 pub mod SayLemmas
 pub mod PaidLemmas
 pub mod AssembleLemmas
+pub mod SourceLemmas

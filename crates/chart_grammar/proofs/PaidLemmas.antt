@@ -29,8 +29,9 @@ use Rattle.chart_grammar.specs.Saying.{Says, SaysWide, Stays, IsFiled, productio
 use Rattle.chart_grammar.specs.Paid.{Charge, reads, ends, letters_of, left_by, behind_by, Spells, IsCharge, IsSaid, IsWide, OfText, OfWide, IsPaid}
 use Rattle.chart_grammar.specs.Paid.{ReadingPays, EndPays}
 use Rattle.chart_grammar.specs.Lifts.{ReadLift, EndLift, front_right, said_right, end_by}
-use Rattle.chart_grammar.specs.Written.{WritesOne}
-use Rattle.chart_grammar.specs.Writing.{EndMade, EndHas, HasPart, WritesSome, GivesOne}
+use Rattle.chart_grammar.specs.Written.{WritesBehind, WritesOne}
+use Rattle.chart_grammar.specs.Writing.{ReadMade, EndMade, EndHas, HasPart, WritesSome, GivesOne}
+use Rattle.chart_grammar.proofs.BehindLemmas.{at_behind, behind_same, behind_pushed}
 use Rattle.chart_grammar.proofs.FrontLemmas.{stands_kept}
 use Rattle.chart_grammar.proofs.WriteLemmas.{pushed_in}
 use Rattle.chart_grammar.proofs.OutputLemmas.{part_lift, end_lift, some_pushed}
@@ -54,13 +55,6 @@ wide_length part out symbols byte puts within = zip_length symbols (map (letter_
 
 front_kept : (base : ℕ) (w v : List Front) (n : ℕ) (symbols : List Symbol) → Keeps w v → IsFrontOf base w n symbols → IsFrontOf base v n symbols
 front_kept base w v n symbols k f = (f.0, f.1, stands_kept base w v (base + n) (take (suc f.0) symbols) k f.2)
-
--- what is at a place of a list to which one is put behind
-at_behind : {X : Type 0} (xs : List X) (x : X) (n : ℕ) (y : X) → slice_get (xs ++ x ∷ []) n ≡ Some y → (slice_get xs n ≡ Some y) ⊎ ((n ≡ length xs) × (x ≡ y))
-at_behind [] x zero y h = let same : x ≡ y = cc in inr (refl, same)
-at_behind [] x (suc n) y h = cc
-at_behind (z ∷ xs) x zero y h = inl h
-at_behind (z ∷ xs) x (suc n) y h = elim (at_behind xs x n y h) [ inl o ↦ inl o | inr e ↦ inr (ap (λ (m : ℕ). suc m) e.0, e.1) ]
 
 kept_behind : {X : Type 0} (xs : List X) (x y : X) (n : ℕ) → slice_get xs n ≡ Some y → slice_get (xs ++ x ∷ []) n ≡ Some y
 kept_behind [] x y n h = cc
@@ -240,16 +234,10 @@ says_filed base old new left behind symbols s filed x has = elim s.written [
   ])
 ]
 
-pub says_keeps : (base : ℕ) (old new : Outputs) (left behind : ℕ) (symbols : List Symbol) → Says base old new left behind symbols → (p : Production) → Contains old.out.items p → Contains new.out.items p
-says_keeps base old new left behind symbols s p h = elim s.written [
-  | inl e ↦ subst (λ (v : _). Contains v.items p) (sym e.1) h
-  | inr e ↦ subst (λ (qs : List Production). Contains qs p) (sym e.1) (Contains-append_left old.out.items (production_of s.said ∷ []) p h)
-]
-
-pub says_only : (base : ℕ) (old new : Outputs) (left behind : ℕ) (symbols : List Symbol) (s : Says base old new left behind symbols) (p : Production) → Contains new.out.items p → Contains old.out.items p ⊎ (production_of s.said ≡ p)
-says_only base old new left behind symbols s p h = elim s.written [
-  | inl e ↦ inl (subst (λ (v : _). Contains v.items p) e.1 h)
-  | inr e ↦ Contains-push_cases old.out.items (production_of s.said) p (subst (λ (qs : List Production). Contains qs p) e.1 h)
+pub says_behind : (P : Production → Type 0) (base : ℕ) (old new : Outputs) (left behind : ℕ) (symbols : List Symbol) (s : Says base old new left behind symbols) → P (production_of s.said) → WritesBehind P old.out.items new.out.items
+says_behind P base old new left behind symbols s h = elim s.written [
+  | inl e ↦ behind_same P old.out.items new.out.items (ap (λ (v : _). v.items) e.1)
+  | inr e ↦ behind_pushed P old.out.items new.out.items (production_of s.said) e.1 h
 ]
 
 -- the same of a range that stays whole
@@ -281,11 +269,7 @@ module _ (fs : List Passage) (base : ℕ) (r : Reading) (part : ByteRange) (left
     said_some =
         record {
           grows = s.fronts;
-          keeps = says_keeps base old new left.0 0 stood s;
-          only = λ p h. elim (says_only base old new left.0 0 stood s p h) [
-            | inl o ↦ inl o
-            | inr e ↦ inr (part, subst (λ (q : Production). ReadLift fs new.fronts.keys base r part q) e said_lift)
-          ];
+          puts = says_behind (λ (q : Production). ReadMade fs base new.fronts.keys r q) base old new left.0 0 stood s (part, said_lift);
         }
 
     pub said_has : IsFiled new → HasPart fs base r new.fronts.keys part new.out.items
@@ -323,8 +307,7 @@ pub stays_some : (fs : List Passage) (base : ℕ) (r : Reading) (old new : Outpu
 stays_some fs base r old new s =
     record {
       grows = λ n x h. subst (λ (xs : List Front). slice_get xs n ≡ Some x) (sym s.fronts) h;
-      keeps = λ p h. subst (λ (v : _). Contains v.items p) (sym s.out) h;
-      only = λ p h. inl (subst (λ (v : _). Contains v.items p) s.out h);
+      puts = behind_same (λ (q : Production). ReadMade fs base new.fronts.keys r q) old.out.items new.out.items (ap (λ (v : _). v.items) s.out);
     }
 
 -- what is said of an end
@@ -346,11 +329,7 @@ module _ (from : nt.Nt) (fs : List Passage) (base : ℕ) (l : Last) (range : Byt
   end_writes filed =
       record {
         grows = s.fronts;
-        keeps = says_keeps base old new 0 a.0 stood s;
-        only = λ p h. elim (says_only base old new 0 a.0 stood s p h) [
-          | inl o ↦ inl o
-          | inr e ↦ inr (subst (λ (q : Production). EndLift from fs new.fronts.keys base l q) e end_said)
-        ];
+        puts = says_behind (λ (q : Production). EndLift from fs new.fronts.keys base l q) base old new 0 a.0 stood s end_said;
         has = λ passed. (production_of s.said, filed s.said s.has, end_said);
       }
 

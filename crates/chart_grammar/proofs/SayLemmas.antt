@@ -103,7 +103,7 @@ module _ (ps : List Production) (from : nt.Nt) (bs : List Begun) (fs : List Pass
   positive m e = absurd (omega (arith, e, based))
 
   -- what a front's nonterminal derives is put out by the front's symbols
-  says_front : (n : ℕ) (symbols : List Symbol) (some w : List Letter) → StandsFor base fr n symbols → AllZip Puts symbols some → FromRight qs (front_right n) w → AllZip Puts symbols w
+  pub says_front : (n : ℕ) (symbols : List Symbol) (some w : List Letter) → StandsFor base fr n symbols → AllZip Puts symbols some → FromRight qs (front_right n) w → AllZip Puts symbols w
   says_front n symbols some w nothing z d = subst (λ (u : List Letter). AllZip Puts [] u) (sym d) tt
   says_front n symbols some w (longer m before last xs at rest) z d =
       let i = invert qs (nt_of (base + m)) w (record { 0 = base + m }) refl (front_right_not (base + m) w (positive m) d) in

@@ -1,27 +1,26 @@
 -- Writing productions one by one.
-use Rattle.std.proofs.Common.{◌≡◌, ℕ, ◌+◌, ◌<◌, ◌≤◌, ◌⊎◌, inl, inr, List, [], ◌∷◌, ◌++◌, length, take, take_all, get_or, Contains, refl, sym, ap, subst, arith, Some, slice_get}
+use Rattle.std.proofs.Common.{◌≡◌, ℕ, ◌+◌, ◌<◌, ◌≤◌, List, [], ◌∷◌, ◌++◌, length, take, take_all, get_or, Contains, sym, subst}
 use Rattle.std.specs.List.{All}
-use Rattle.std.proofs.lemmas.List.Elements.{All-nil, All-more, All-weaker, Contains-get_or, Contains-push_cases, Contains-append_left, Contains-push}
+use Rattle.std.proofs.lemmas.List.Elements.{All-nil, All-more, All-weaker, Contains-get_or, Contains-push}
 use Rattle.cfg_grammar.specs.declared.production.Production.{Production}
 use Rattle.numbered_sets.specs.Numbers.{Keeps}
 use Rattle.chart_grammar.specs.Written.{WritesOne, WritesFirst, WritesAll}
+use Rattle.chart_grammar.proofs.BehindLemmas.{behind_none, behind_same, behind_pushed, behind_both, behind_weaker, behind_keeps}
 
 module _ {A X : Type 0} (Made : List X → A → Production → Type 0) (Has : List X → A → List Production → Type 0) where
   pub writes_none : (xs : List A) (w : List X) (old : List Production) → WritesFirst Made Has xs 0 w w old old
-  writes_none xs w old = record { grows = λ n x h. h; keeps = λ p h. h; only = λ p h. inl h; has = All-nil (λ (a : A). Has w a old) }
+  writes_none xs w old = record { grows = λ n x h. h; puts = behind_none _ old; has = All-nil (λ (a : A). Has w a old) }
 
   module _ (made : (w v : List X) (a : A) (p : Production) → Keeps w v → Made w a p → Made v a p) (kept : (w v : List X) (a : A) (qs rs : List Production) → Keeps w v → ((p : Production) → Contains qs p → Contains rs p) → Has w a qs → Has v a rs) where
     pub writes_more : (xs : List A) (n : ℕ) (d : A) (w v u : List X) (old mid new : List Production) → n < length xs → WritesFirst Made Has xs n w v old mid → WritesOne Made Has (get_or xs n d) v u mid new → WritesFirst Made Has xs (n + 1) w u old new
     writes_more xs n d w v u old mid new h before one =
         record {
           grows = λ i x k. one.grows i x (before.grows i x k);
-          keeps = λ p k. one.keeps p (before.keeps p k);
-          only = λ p k. elim (one.only p k) [
-            | inl m ↦ elim (before.only p m) [ inl o ↦ inl o | inr f ↦ inr (f.0, f.1, made v u f.0 p one.grows f.2) ]
-            | inr f ↦ inr (get_or xs n d, Contains-get_or xs n d h, f)
-          ];
+          puts = behind_both (λ (p : Production). (a : A) × Contains xs a × Made v a p) (λ (p : Production). (a : A) × Contains xs a × Made u a p) old mid new before.puts
+              (λ p f. (f.0, f.1, made v u f.0 p one.grows f.2))
+              (behind_weaker (λ (p : Production). Made u (get_or xs n d) p) (λ (p : Production). (a : A) × Contains xs a × Made u a p) mid new (λ p f. (get_or xs n d, Contains-get_or xs n d h, f)) one.puts);
           has = All-more (λ (a : A). Has u a new) xs n d h
-              (All-weaker (λ (a : A). Has v a mid) (λ (a : A). Has u a new) (λ a k. kept v u a mid new one.grows one.keeps k) (take n xs) before.has) one.has;
+              (All-weaker (λ (a : A). Has v a mid) (λ (a : A). Has u a new) (λ a k. kept v u a mid new one.grows (behind_keeps (λ (p : Production). Made u (get_or xs n d) p) mid new one.puts) k) (take n xs) before.has) one.has;
         }
 
     -- the same where the thing has a name of its own
@@ -33,8 +32,7 @@ module _ {A X : Type 0} (Made : List X → A → Production → Type 0) (Has : L
   writes_all xs n w v old new h so =
       record {
         grows = so.grows;
-        keeps = so.keeps;
-        only = so.only;
+        puts = so.puts;
         has = subst (λ (ys : List A). All (λ (a : A). Has v a new) ys) (take_all n xs h) so.has;
       }
 
@@ -43,11 +41,7 @@ module _ {A X : Type 0} (Made : List X → A → Production → Type 0) (Has : L
   writes_push a w v old new p grows is m has =
       record {
         grows = grows;
-        keeps = λ q h. subst (λ (xs : List Production). Contains xs q) (sym is) (Contains-append_left old (p ∷ []) q h);
-        only = λ q h. elim (Contains-push_cases old p q (subst (λ (xs : List Production). Contains xs q) is h)) [
-          | inl o ↦ inl o
-          | inr e ↦ inr (subst (λ (x : Production). Made v a x) e m)
-        ];
+        puts = behind_pushed (λ (x : Production). Made v a x) old new p is m;
         has = has;
       }
 
@@ -56,8 +50,7 @@ module _ {A X : Type 0} (Made : List X → A → Production → Type 0) (Has : L
   writes_nothing a w v old new grows is has =
       record {
         grows = grows;
-        keeps = λ q h. subst (λ (xs : List Production). Contains xs q) (sym is) h;
-        only = λ q h. inl (subst (λ (xs : List Production). Contains xs q) is h);
+        puts = behind_same (λ (x : Production). Made v a x) old new is;
         has = has;
       }
 

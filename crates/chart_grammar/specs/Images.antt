@@ -13,10 +13,10 @@ use Rattle.chart_grammar.specs.Paid.{IsPaid}
 pub record IsImageOf (ps : List Production) (c : Chart) (ls : List Last) (g : Grammar) : Type 0 where
   pub starts : g.start ≡ record { 0 = 0 }
   pub outputs : Outputs
-  pub lifts : AreLifts ps c.from c.begun.keys c.passages.keys c.readings.items outputs.fronts.keys (suc (length c.passages.keys)) ls
+  pub lifts : AreLifts ps c.from c.begun.items c.passages.keys c.readings.items outputs.fronts.keys (suc (length c.passages.keys)) ls
       g.productions.items
   pub wholes : ℕ
-  pub few_wholes : wholes ≤ length c.begun.keys
+  pub few_wholes : wholes ≤ length c.begun.items
   pub paid : IsPaid c.from c.passages.keys c.readings.items ls (suc (length c.passages.keys)) wholes outputs
   pub different_fronts : AreDifferent outputs.fronts.keys
   pub different_said : AreDifferent outputs.said.keys

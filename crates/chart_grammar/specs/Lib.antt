@@ -7,3 +7,4 @@ pub mod Writing
 pub mod Images
 pub mod Saying
 pub mod Paid
+pub mod Sources

@@ -16,7 +16,7 @@ use Rattle.chart_grammar.specs.declared.fronts.Front.{Front}
 use Rattle.chart_grammar.specs.declared.lifts.Last.{Last}
 use Rattle.chart_grammar.specs.Lifts.{WholeLift, ReadLift, FrontLift, EndLift, HasWhole, HasReading, HasFronts, HasEnd, front_production}
 use Rattle.cfg_grammar.specs.Below.{production_below}
-use Rattle.chart_grammar.specs.Written.{WritesOne, WritesAll}
+use Rattle.chart_grammar.specs.Written.{WritesBehind}
 
 -- what is written for a begun production: its production, where it is read whole
 abbrev pub WholeMade : List Production → List Passage → List Front → Begun → Production → Type 0
@@ -51,11 +51,10 @@ HasPart fs base r fr part qs = Contains fs (record { symbol = Range r.asked; fro
 abbrev pub PartMade : List Passage → ℕ → Reading → List Front → ByteRange → Production → Type 0
 PartMade fs base r fr part p = ReadLift fs fr base r part p
 
--- the old ones stay, and nothing but productions of the reading is written
+-- nothing but productions of the reading is written behind the old ones
 pub record WritesSome (fs : List Passage) (base : ℕ) (r : Reading) (w v : List Front) (old new : List Production) : Type 0 where
   pub grows : Keeps w v
-  pub keeps : (p : Production) → Contains old p → Contains new p
-  pub only : (p : Production) → Contains new p → Contains old p ⊎ ReadMade fs base v r p
+  pub puts : WritesBehind (λ (p : Production). ReadMade fs base v r p) old new
 
 -- some part with the byte has its production
 abbrev pub HasByte : List Passage → ℕ → Reading → List Front → ℕ → List Production → Type 0
@@ -64,8 +63,7 @@ HasByte fs base r fr byte qs = Contains fs (record { symbol = Range r.asked; fro
 
 -- the production of a front is written, if its nonterminals are below the count
 pub record AddsFront (base count n : ℕ) (f : Front) (old new : List Production) : Type 0 where
-  pub keeps : (p : Production) → Contains old p → Contains new p
-  pub only : (p : Production) → Contains new p → Contains old p ⊎ ((p ≡ front_production base n f) × IsTrue (production_below count p))
+  pub puts : WritesBehind (λ (p : Production). (p ≡ front_production base n f) × IsTrue (production_below count p)) old new
   pub has : IsTrue (production_below count (front_production base n f)) → Contains new (front_production base n f)
 
 -- one text is put out by all bytes of the range

@@ -11,7 +11,7 @@ mod outputs;
 mod saying;
 mod symbols;
 
-pub use assembly::grammar_of;
+pub use assembly::{SourcedGrammar, grammar_of};
 pub use fronts::{Front, front_of};
 pub use lifts::{Last, write_wholes};
 pub use outputs::{write_ends, write_fronts, write_readings};

@@ -12,6 +12,7 @@ ghost use Rattle.grammar_chart.specs.Charts.{HasRead};
 ghost use Rattle.chart_grammar.specs.Lifts.{RightLift, WholeLift, front_right, front_by, end_by};
 ghost use Rattle.chart_grammar.specs.Written.{WritesOne, WritesAll};
 ghost use Rattle.chart_grammar.specs.Writing.{WholeMade, WholeHas};
+ghost use Rattle.chart_grammar.specs.Sources.{ComeOf};
 
 use crate::fronts::Front;
 use cfg_grammar::{Production, Right, Symbol};
@@ -99,17 +100,22 @@ fn lift_whole(
     }
 }
 
-/// Writes the production of a begun production, if it is read whole.
+/// Writes the production of a begun production, and at which place of the grammar it stands, if it
+/// is read whole.
 fn write_whole(
     productions: &[Production],
     passages: &IndexSet<Passage>,
     out: &mut Vec<Production>,
+    sources: &mut Vec<u64>,
     one: Begun,
 ) -> Result<(), NoMemory>
     ensures writes { OnOk result
         (WritesOne {X = front.Front} (WholeMade productions.now passages.now.keys)
         (WholeHas productions.now passages.now.keys)
         one [] [] out.old.items out.new.items) }
+    ensures sources { OnOk result
+        (ComeOf productions.now passages.now.keys sources.old.items out.old.items
+        → ComeOf productions.now passages.now.keys sources.new.items out.new.items) }
     ensures few { OnOk result (length out.new.items ≤ length out.old.items + 1) }
 {
     if awaited(productions, one).is_some() {
@@ -118,28 +124,34 @@ fn write_whole(
     match lift_whole(productions, passages, one) {
         Some(production) => {
             out.push(production)?;
+            sources.push(one.place)?;
             Ok(())
         }
         None => Ok(()),
     }
 }
 
-/// Writes the productions of all begun productions that are read whole.
+/// Writes the productions of all begun productions that are read whole, and at which places of the
+/// grammar they stand.
 pub fn write_wholes(
     productions: &[Production],
     passages: &IndexSet<Passage>,
     out: &mut Vec<Production>,
+    sources: &mut Vec<u64>,
     begun: &[Begun],
 ) -> Result<(), NoMemory>
     ensures writes { OnOk result
         (WritesAll {X = front.Front} (WholeMade productions.now passages.now.keys)
         (WholeHas productions.now passages.now.keys)
         begun.now [] [] out.old.items out.new.items) }
+    ensures sources { OnOk result
+        (ComeOf productions.now passages.now.keys sources.old.items out.old.items
+        → ComeOf productions.now passages.now.keys sources.new.items out.new.items) }
     ensures few { OnOk result
         (length out.new.items ≤ length out.old.items + length begun.now) }
 {
     for one in begun {
-        write_whole(productions, passages, out, *one)?;
+        write_whole(productions, passages, out, sources, *one)?;
     }
     Ok(())
 }

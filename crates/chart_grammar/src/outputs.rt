@@ -1,10 +1,9 @@
 //! The productions of what is put out.
 
-ghost use Rattle.std.specs.Prelude.{◌≡◌, ◌<◌, ◌≤◌, ◌+◌, ◌⊎◌, ℕ, List, Contains, IfOk, OnOk, true, length};
+ghost use Rattle.std.specs.Prelude.{◌≡◌, ◌<◌, ◌≤◌, ◌+◌, ℕ, IfOk, OnOk, true, length};
 ghost use Rattle.text_base.specs.ByteRange.{InRange};
-ghost use Rattle.cfg_grammar.specs.declared.production.Production as plain;
 ghost use Rattle.chart_grammar.specs.Lifts.{HasFronts, FrontLift};
-ghost use Rattle.chart_grammar.specs.Written.{WritesOne, WritesAll};
+ghost use Rattle.chart_grammar.specs.Written.{WritesBehind, WritesOne, WritesAll};
 ghost use Rattle.chart_grammar.specs.Writing.{ReadMade, ReadHas, EndMade, EndHas, HasPart, HasByte, WritesSome, AddsFront, GivesOne};
 ghost use Rattle.chart_grammar.specs.Saying.{IsFiled};
 ghost use Rattle.chart_grammar.specs.Paid.{ReadingPays, ReadingsPay, EndPays, EndsPay};
@@ -334,11 +333,8 @@ pub fn write_fronts(
     requires base { base ≤ 9223372036854775808 }
     requires short { length fronts.now < 9223372036854775808 }
     requires count { count ≡ base + length fronts.now }
-    ensures keeps { OnOk result
-        ((p : plain.Production) → Contains out.old.items p → Contains out.new.items p) }
-    ensures only { OnOk result
-        ((p : plain.Production) → Contains out.new.items p → Contains out.old.items p
-        ⊎ FrontLift fronts.now base p) }
+    ensures puts { OnOk result
+        (WritesBehind (λ p. FrontLift fronts.now base p) out.old.items out.new.items) }
     ensures has { OnOk result (HasFronts fronts.now base out.new.items) }
     ensures few { OnOk result
         (length out.new.items ≤ length out.old.items + length fronts.now) }

@@ -130,7 +130,8 @@ module _ (bad : BrokenIsBad) (invalid : BrokenNotValid) (reads : PageTokensRead)
   pub finds : IsBrokenMachine table state.Content (EchoStep next_state put_at put_last) (EchoEnd next_state put_at put_last)
   finds = record {
     echoing = record {
-      copies = λ text letters out. ap bytes_in ((law.only text letters).0 out) ∙ law.bytes text;
+      copies = law.copies;
+      adds_none = law.adds_none;
       total = λ text bytes. (echo_of next_state put_at put_last state.Content text, (law.only text (echo_of next_state put_at put_last state.Content text)).1 refl);
     };
     broken = λ page tokens bytes put unbalanced goal good. not_good page (broken_so (is_broken page) tokens (puts_told page tokens put) unbalanced) goal good;

@@ -74,6 +74,8 @@ module _ {S : Type 0} (next : S → ℕ → S) (puts : S → ℕ → List PageTo
 
   pub is_echo : (first : S) → IsEcho next puts lasts first
   is_echo first = record {
+    copies = λ s t byte letters step. ap bytes_in step.1 ∙ bytes_behind (puts s byte) (OfByte byte ∷ []);
+    adds_none = λ s letters end. ap bytes_in end ∙ no_bytes (lasts s);
     only = λ text letters. (relates_only first text letters, λ e. subst (λ (x : List Letter). Relates first (EchoStep next puts lasts) (EchoEnd next puts lasts) text x) (sym e) (relates_some first text));
     bytes = bytes_over first;
     tokens = put_over first;

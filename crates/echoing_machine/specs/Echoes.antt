@@ -23,8 +23,11 @@ module _ {S : Type 0} (next : S → ℕ → S) (puts : S → ℕ → List PageTo
   echo_of s [] = map OfToken (lasts s)
   echo_of s (b ∷ bs) = echo_letters (puts s b) b ++ echo_of (next s b) bs
 
-  -- over each text this is what is put out, and nothing else; its bytes are the text, and its tokens those of the reader
+  -- over each text this is what is put out, and nothing else; its bytes are the text, and its tokens those of the reader; a step puts out
+  -- its own byte, and an end none
   pub record IsEcho (first : S) : Type 0 where
+    pub copies : (s t : S) (byte : ℕ) (letters : List Letter) → EchoStep s byte t letters → bytes_in letters ≡ byte ∷ []
+    pub adds_none : (s : S) (letters : List Letter) → EchoEnd s letters → bytes_in letters ≡ []
     pub only : (text : List ℕ) (letters : List Letter) → Relates first EchoStep EchoEnd text letters ↔ (letters ≡ echo_of first text)
     pub bytes : (text : List ℕ) → bytes_in (echo_of first text) ≡ text
     pub tokens : (text : List ℕ) → tokens_in (echo_of first text) ≡ tokens_over next puts lasts first text

@@ -48,9 +48,9 @@ at_map [] n i h = cc
 at_map (b ∷ bs) zero i h = let same : item_of b ≡ i = cc in (b, refl, same)
 at_map (b ∷ bs) (suc n) i h = at_map bs n i h
 
-pub has_items : {S : Type 0} (steps : S → ℕ → S → List Letter → Type 0) (gives : S → Type 0) (first : S) (ps : List Production) (states : List S) (c : Chart) → IsWorked steps gives first ps states c → AreDifferent states → AreDifferent c.begun.keys → (n : ℕ) → n ≡ length c.begun.keys → HasItems ps steps c.from first n
-has_items {S} steps gives first ps states c w apart different n long =
-    let bs = c.begun.keys in
+pub has_items : {S : Type 0} (steps : S → ℕ → S → List Letter → Type 0) (gives : S → Type 0) (first : S) (ps : List Production) (states : List S) (c : Chart) → IsWorked steps gives first ps states c → AreDifferent states → (n : ℕ) → n ≡ length c.begun.items → HasItems ps steps c.from first n
+has_items {S} steps gives first ps states c w apart n long =
+    let bs = c.begun.items in
     let rs = c.readings.items in
     let stands : ℕ → S → Type 0 = λ i s. slice_get states i ≡ Some s in
     let items = map item_of bs in
@@ -61,6 +61,6 @@ has_items {S} steps gives first ps states c w apart different n long =
     let a = at_map bs i x h in
     let b = at_map bs j x k in
     let same : a.0 ≡ b.0 = same_begun a.0 b.0 (a.2 ∙ sym b.2) in
-    different i j a.0 a.1 (b.1 ∙ ap (λ (y : Begun). Some y) (sym same)) in
+    w.chart.once.different i j a.0 a.1 (b.1 ∙ ap (λ (y : Begun). Some y) (sym same)) in
     let numbers : HasItems ps (ReadingStep rs) c.from 0 n = (items, apart_items, all, (let l = length-map bs item_of in omega (arith, l, long))) in
     has_items_over ps (ReadingStep rs) steps stands (step_over steps states rs w.readings) c.from 0 first w.begins (λ i j s h k. apart i j s h k) n numbers

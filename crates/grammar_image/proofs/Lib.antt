@@ -10,3 +10,4 @@ pub mod PassageLemmas
 pub mod SpellLemmas
 pub mod SmallLemmas
 pub mod RestLemmas
+pub mod PutLemmas

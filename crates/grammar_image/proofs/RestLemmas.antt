@@ -13,7 +13,7 @@ use Rattle.chart_grammar.specs.Paid.{IsPaid}
 use Rattle.chart_grammar.specs.Images.{IsImageOf}
 
 -- the image of what is left is the image of the whole
-pub image_of_whole : (ps : List Production) (whole rest : Chart) (ls : List Last) (g : Grammar) → rest.from ≡ whole.from → rest.begun.keys ≡ whole.begun.keys → rest.passages.keys ≡ whole.passages.keys → rest.readings.items ≡ whole.readings.items → IsImageOf ps rest ls g → IsImageOf ps whole ls g
+pub image_of_whole : (ps : List Production) (whole rest : Chart) (ls : List Last) (g : Grammar) → rest.from ≡ whole.from → rest.begun.items ≡ whole.begun.items → rest.passages.keys ≡ whole.passages.keys → rest.readings.items ≡ whole.readings.items → IsImageOf ps rest ls g → IsImageOf ps whole ls g
 image_of_whole ps whole rest ls g from begun passages readings h =
     let fr = (h.outputs).fronts.keys in
     let L : nt.Nt → List Begun → List Passage → List Reading → Type 0 = λ a bs fs rs. AreLifts ps a bs fs rs fr (suc (length fs)) ls g.productions.items in
@@ -21,10 +21,10 @@ image_of_whole ps whole rest ls g from begun passages readings h =
     record {
       starts = h.starts;
       outputs = h.outputs;
-      lifts = subst (λ (a : nt.Nt). L a whole.begun.keys whole.passages.keys whole.readings.items) from
+      lifts = subst (λ (a : nt.Nt). L a whole.begun.items whole.passages.keys whole.readings.items) from
           (subst (λ (bs : List Begun). L rest.from bs whole.passages.keys whole.readings.items) begun
-          (subst (λ (fs : List Passage). L rest.from rest.begun.keys fs whole.readings.items) passages
-          (subst (λ (rs : List Reading). L rest.from rest.begun.keys rest.passages.keys rs) readings h.lifts)));
+          (subst (λ (fs : List Passage). L rest.from rest.begun.items fs whole.readings.items) passages
+          (subst (λ (rs : List Reading). L rest.from rest.begun.items rest.passages.keys rs) readings h.lifts)));
       wholes = h.wholes;
       few_wholes = subst (λ (bs : List Begun). h.wholes ≤ length bs) begun h.few_wholes;
       paid = subst (λ (a : nt.Nt). P a whole.passages.keys whole.readings.items) from

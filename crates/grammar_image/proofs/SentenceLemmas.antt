@@ -63,7 +63,7 @@ module _ {S : Type 0} (steps : S → ℕ → S → List Letter → Type 0) (ends
 
   sound : (w : List Letter) → Derives g.productions.items (nt_of 0) w → Outputs ps (Nt c.from) first steps ends w
   sound w d =
-      let e = start_says ps c.from c.begun.keys c.passages.keys c.readings.items (image.outputs).fronts.keys (suc (length c.passages.keys)) ls g.productions.items image.lifts refl within w d in
+      let e = start_says ps c.from c.begun.items c.passages.keys c.readings.items (image.outputs).fronts.keys (suc (length c.passages.keys)) ls g.productions.items image.lifts refl within w d in
       let l = e.0 in
       let said = e.4 in
       let run = runs_over ps (ReadingStep c.readings.items) steps (λ (i : ℕ) (s : S). slice_get states i ≡ Some s) (step_over steps states c.readings.items worked.readings) 0 said.0 l.state e.1 first said.2 worked.begins in
@@ -90,7 +90,7 @@ module _ {S : Type 0} (steps : S → ℕ → S → List Letter → Type 0) (ends
       let same : lift.number ≡ k = passages lift.number k _ (lift.passed ∙ ap (λ (x : ℕ). Some (let f : Passage = record { symbol = Nt c.from; from = 0; to = x } in f)) state) at in
       let lo = lift.range.lo in
       let z = (lift.outs last).1 (lo, (omega arith, (lift.range).ordered), fixed_all l.out.items lo 0 fixed ∙ letters) in
-      let f = derives_front ps c.from c.begun.keys fs c.readings.items (image.outputs).fronts.keys (suc (length fs)) ls g.productions.items image.lifts refl lift.front lift.symbols last lift.stands z in
+      let f = derives_front ps c.from c.begun.items fs c.readings.items (image.outputs).fronts.keys (suc (length fs)) ls g.productions.items image.lifts refl lift.front lift.symbols last lift.stands z in
       let first_part = subst (λ (n : ℕ). Derives g.productions.items (nt_of (suc n)) out) (sym same) d in
       from_right g.productions.items e.0 (record { 0 = 0 }) (end_by (suc lift.number) lift.front) (out ++ last) e.1 lift.left lift.right (by lift.front (suc lift.number) f first_part)
     where
@@ -101,7 +101,7 @@ module _ {S : Type 0} (steps : S → ℕ → S → List Letter → Type 0) (ends
   whole : (w : List Letter) → Outputs ps (Nt c.from) first steps ends w → Derives g.productions.items (nt_of 0) w
   whole w o =
       let r = o.2 in
-      let m = complete states steps ps c.from c.entries.keys c.visits.items c.begun.keys c.passages.keys c.readings.items c.opened c.taken c.left worked.chart done.opened done.taken done.left entries passages (image.outputs).fronts.keys (suc (length c.passages.keys)) ls g.productions.items image.lifts refl answers
+      let m = complete states steps ps c.from c.entries.keys c.visits.items c.begun.items c.passages.keys c.readings.items c.opened c.taken c.left worked.chart done.opened done.taken done.left entries passages (image.outputs).fronts.keys (suc (length c.passages.keys)) ls g.productions.items image.lifts refl answers
       (Nt c.from) _ o.1 o.0 refl 0 first (contains_at c.entries.keys 0 _ worked.chart.first) worked.begins r.0 r.1 r.3 in
       let here = slice_get_within states m.0 r.0 m.1 in
       let l = lasts.all m.0 r.0 r.2 here m.1 r.4 in

@@ -473,14 +473,14 @@ module _ {S : Type 0} (steps : S → ℕ → S → List Letter → Type 0) (give
           inr (r.0, record { wide = t; pays = r.1 }, r.2)
     ]
 
-    pub small : HasItems ps steps c.from first (length c.begun.keys) → IsSmall ps steps ends_of c.from first g.count (length g.productions.items)
+    pub small : HasItems ps steps c.from first (length c.begun.items) → IsSmall ps steps ends_of c.from first g.count (length g.productions.items)
     small items =
-        let begun = begun_weigh (length c.begun.keys) items in
+        let begun = begun_weigh (length c.begun.items) items in
         let led = passages_weigh in
         let said = counted Is NoneBy SomeBy none_one some_one (length (image.outputs).said.keys) said_pays in
         let heads = counted Is HeadBy HeadBy head_one head_one (length (image.outputs).heads.keys) head_pays in
         let fronts = counted Is TextBy WideBy text_one wide_one (length Fronts) front_pays in
-        let a = heavier Is (length c.begun.keys) led.0 begun led.1 in
+        let a = heavier Is (length c.begun.items) led.0 begun led.1 in
         let b = heavier Is a.0 said.0 a.1 said.1 in
         let d = heavier Is b.0 heads.0 b.1 heads.1 in
         let e = heavier Is d.0 fronts.0 d.1 fronts.1 in
@@ -491,7 +491,7 @@ module _ {S : Type 0} (steps : S → ℕ → S → List Letter → Type 0) (give
         (let z = d.3 in let v = e.2 in omega (arith, z, v))
         e.3 led.2 said.2 heads.2 fronts.2
       where
-        sum_up : (w : ℕ) → Has Is w → (p s h f : ℕ) → length c.begun.keys ≤ w → p ≤ w → s ≤ w → h ≤ w → f ≤ w → length c.passages.keys ≤ p + p → length (image.outputs).said.keys ≤ s + s → length (image.outputs).heads.keys ≤ h + h → length Fronts ≤ f + f → IsSmall ps steps ends_of c.from first g.count (length g.productions.items)
+        sum_up : (w : ℕ) → Has Is w → (p s h f : ℕ) → length c.begun.items ≤ w → p ≤ w → s ≤ w → h ≤ w → f ≤ w → length c.passages.keys ≤ p + p → length (image.outputs).said.keys ≤ s + s → length (image.outputs).heads.keys ≤ h + h → length Fronts ≤ f + f → IsSmall ps steps ends_of c.from first g.count (length g.productions.items)
         sum_up w weighs p s h f bi bp bs bh bf np ns nh nf =
             let count = image.count in
             let few = image.few in

@@ -30,7 +30,7 @@ fn within_limit<M: Machine>(
         (IsCause productions.now (M.steps machine.now) chart.now.from (M.first machine.now) limit) }
 {
     let _states = count(states);
-    let items = count(&chart.begun) as u64;
+    let items = chart.begun.len() as u64;
     if items > limit {
         return Err(ImageRefusal::Large { items });
     }

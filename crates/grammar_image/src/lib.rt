@@ -7,9 +7,12 @@
 mod ask;
 mod ends;
 mod filling;
+mod imaged;
 mod imaging;
 mod refusal;
 mod work;
 
+pub use chart_grammar::SourcedGrammar;
+pub use imaged::Imaged;
 pub use imaging::{image, image_over};
 pub use refusal::ImageRefusal;

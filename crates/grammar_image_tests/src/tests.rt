@@ -3,6 +3,7 @@
 use crate::words::derives;
 use cfg_grammar::{Grammar, Production, Right, Symbol};
 use fst_core::{IndexedTable, Out, Table, TableEnd, TableMove};
+use grammar_chart::Passage;
 use grammar_image::{ImageRefusal, image};
 use op_system::Op;
 use std::alloc::Global;
@@ -62,14 +63,14 @@ fn replaced(rt: HostRuntime) -> Result<(), Fail> {
         assert!(rt; false);
         return Ok(());
     };
-    assert!(rt; derives(alloc, &image, "b")?);
-    assert!(rt; derives(alloc, &image, "-")?);
-    assert!(rt; derives(alloc, &image, "aac-cb")?);
-    assert!(rt; derives(alloc, &image, "a-b")?);
-    assert!(rt; !derives(alloc, &image, "ab")?);
-    assert!(rt; !derives(alloc, &image, "cab")?);
-    assert!(rt; !derives(alloc, &image, "a")?);
-    assert!(rt; !derives(alloc, &image, "")?);
+    assert!(rt; derives(alloc, &image.grammar, "b")?);
+    assert!(rt; derives(alloc, &image.grammar, "-")?);
+    assert!(rt; derives(alloc, &image.grammar, "aac-cb")?);
+    assert!(rt; derives(alloc, &image.grammar, "a-b")?);
+    assert!(rt; !derives(alloc, &image.grammar, "ab")?);
+    assert!(rt; !derives(alloc, &image.grammar, "cab")?);
+    assert!(rt; !derives(alloc, &image.grammar, "a")?);
+    assert!(rt; !derives(alloc, &image.grammar, "")?);
     Ok(())
 }
 
@@ -86,12 +87,12 @@ fn escaped(rt: HostRuntime) -> Result<(), Fail> {
         assert!(rt; false);
         return Ok(());
     };
-    assert!(rt; derives(alloc, &image, "")?);
-    assert!(rt; derives(alloc, &image, "%3Cb")?);
-    assert!(rt; derives(alloc, &image, "%3C%3Cbb")?);
-    assert!(rt; !derives(alloc, &image, "%3C%3Cb")?);
-    assert!(rt; !derives(alloc, &image, "<b")?);
-    assert!(rt; !derives(alloc, &image, "%3C")?);
+    assert!(rt; derives(alloc, &image.grammar, "")?);
+    assert!(rt; derives(alloc, &image.grammar, "%3Cb")?);
+    assert!(rt; derives(alloc, &image.grammar, "%3C%3Cbb")?);
+    assert!(rt; !derives(alloc, &image.grammar, "%3C%3Cb")?);
+    assert!(rt; !derives(alloc, &image.grammar, "<b")?);
+    assert!(rt; !derives(alloc, &image.grammar, "%3C")?);
     Ok(())
 }
 
@@ -154,10 +155,10 @@ fn one_range(rt: HostRuntime) -> Result<(), Fail> {
         assert!(rt; false);
         return Ok(());
     };
-    assert!(rt; has_symbol(&image, Symbol::Range(small)));
-    assert!(rt; derives(alloc, &image, "m")?);
-    assert!(rt; !derives(alloc, &image, "A")?);
-    assert!(rt; !derives(alloc, &image, "mm")?);
+    assert!(rt; has_symbol(&image.grammar, Symbol::Range(small)));
+    assert!(rt; derives(alloc, &image.grammar, "m")?);
+    assert!(rt; !derives(alloc, &image.grammar, "A")?);
+    assert!(rt; !derives(alloc, &image.grammar, "mm")?);
     Ok(())
 }
 
@@ -203,11 +204,11 @@ fn offered_twice(rt: HostRuntime) -> Result<(), Fail> {
         assert!(rt; false);
         return Ok(());
     };
-    assert!(rt; image.productions.len() == 6);
-    assert!(rt; derives(alloc, &image, "x")?);
-    assert!(rt; derives(alloc, &image, "m")?);
-    assert!(rt; !derives(alloc, &image, "xx")?);
-    assert!(rt; !derives(alloc, &image, "")?);
+    assert!(rt; image.grammar.productions.len() == 6);
+    assert!(rt; derives(alloc, &image.grammar, "x")?);
+    assert!(rt; derives(alloc, &image.grammar, "m")?);
+    assert!(rt; !derives(alloc, &image.grammar, "xx")?);
+    assert!(rt; !derives(alloc, &image.grammar, "")?);
     Ok(())
 }
 
@@ -241,8 +242,115 @@ fn whole_ranges(rt: HostRuntime) -> Result<(), Fail> {
         assert!(rt; false);
         return Ok(());
     };
-    assert!(rt; image.productions.len() < 12);
-    assert!(rt; derives(alloc, &image, "xyzb")?);
-    assert!(rt; !derives(alloc, &image, "xyz")?);
+    assert!(rt; image.grammar.productions.len() < 12);
+    assert!(rt; derives(alloc, &image.grammar, "xyzb")?);
+    assert!(rt; !derives(alloc, &image.grammar, "xyz")?);
+    Ok(())
+}
+
+// Two bytes `a`, each by the nonterminal 1.
+fn two_letters(alloc: Global) -> Result<Option<Grammar>, NoMemory> {
+    let mut productions = Vec::new(alloc);
+    let letter = Symbol::Nt(Nt(1));
+    productions.push(Production {
+        left: Nt(0),
+        right: Right::Two(letter, letter),
+    })?;
+    productions.push(Production {
+        left: Nt(1),
+        right: Right::One(one(b'a')),
+    })?;
+    Ok(Grammar::new(Nt(0), 2, productions))
+}
+
+// A machine that puts out the first small letter as a capital and the others as they are. It begins
+// in its state 1, goes on in 0, and may end there.
+fn first_raised(alloc: Global) -> Result<Table, NoMemory> {
+    let mut table = Table::new(alloc, 2, 1);
+    let range = ByteRange { lo: b'a', hi: b'z' };
+    table.add_move(TableMove {
+        from: 1,
+        range,
+        out: Vec::from_slice(alloc, &[Out::Shift(224)])?,
+        to: 0,
+    })?;
+    table.add_move(TableMove {
+        from: 0,
+        range,
+        out: Vec::from_slice(alloc, &[Out::Same])?,
+        to: 0,
+    })?;
+    table.add_end(TableEnd {
+        state: 0,
+        out: Vec::new(alloc),
+    })?;
+    Ok(table)
+}
+
+// Whether the item stands at the place.
+fn stands_at<T: PartialEq>(items: &[T], place: usize, item: &T) -> bool {
+    match items.get(place) {
+        Some(other) => *other == *item,
+        None => false,
+    }
+}
+
+/// The state in which the machine begins has the number 0, the other one 1. The first `a` is read
+/// from 0 to 1, and the second from 1 to 1. Each of the three productions that are read whole stands
+/// with its place, in the order in which they are read.
+#[test]
+fn back_to_the_grammar(rt: HostRuntime) -> Result<(), Fail> {
+    let alloc = rt.alloc();
+    let Some(grammar) = two_letters(alloc)? else {
+        assert!(rt; false);
+        return Ok(());
+    };
+    let machine = IndexedTable::new(alloc, first_raised(alloc)?)?;
+    let Ok(image) = image(alloc, &grammar, grammar.start, &machine, 100) else {
+        assert!(rt; false);
+        return Ok(());
+    };
+    assert!(rt; derives(alloc, &image.grammar, "Aa")?);
+    let states = image.states.as_slice();
+    assert!(rt; states.len() == 2);
+    assert!(rt; stands_at(states, 0, &1));
+    assert!(rt; stands_at(states, 1, &0));
+    let passages = image.passages.as_slice();
+    assert!(rt; passages.len() == 5);
+    for (number, (symbol, from)) in [
+        (one(b'a'), 0),
+        (Symbol::Nt(Nt(1)), 0),
+        (one(b'a'), 1),
+        (Symbol::Nt(Nt(1)), 1),
+        (Symbol::Nt(Nt(0)), 0),
+    ]
+    .iter()
+    .enumerate()
+    {
+        let passage = Passage {
+            symbol: *symbol,
+            from: *from,
+            to: 1,
+        };
+        assert!(rt; stands_at(passages, number, &passage));
+    }
+    let productions = image.grammar.productions.as_slice();
+    assert!(rt; productions.len() == 8);
+    assert!(rt; image.sources.len() == 3);
+    for (number, (left, right, place)) in [
+        (2, Right::One(Symbol::Nt(Nt(1))), 1),
+        (4, Right::One(Symbol::Nt(Nt(3))), 1),
+        (5, Right::Two(Symbol::Nt(Nt(2)), Symbol::Nt(Nt(4))), 0),
+    ]
+    .iter()
+    .enumerate()
+    {
+        let production = Production {
+            left: Nt(*left),
+            right: *right,
+        };
+        assert!(rt; stands_at(productions, number, &production));
+        assert!(rt; stands_at(image.sources.as_slice(), number, place));
+    }
     Ok(())
 }

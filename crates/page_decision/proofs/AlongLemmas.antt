@@ -2,6 +2,7 @@
 use Rattle.std.proofs.Common.{◌↔◌, ℕ, List}
 use Rattle.text_base.specs.declared.page_token.PageToken.{PageToken}
 use Rattle.cfg_grammar.specs.declared.grammar.Grammar.{Grammar}
+use Rattle.derivations.specs.declared.derivation.Derivation.{Derivation}
 use Rattle.dtd_model.specs.Table.{Table}
 use Rattle.page_model.specs.PageTokens.{PageTokens}
 use Rattle.summary_fixpoint.specs.declared.verdict.Verdict.{Verdict}
@@ -25,8 +26,9 @@ module _ (table : Table) (IsPage Other : List ℕ → Type 0) (same : (page : Li
       (states, are, tags_along IsPage Other (PageTokens table) (PageTokens table) same as_it_is _ _ IsImage Wider of_image _ count height many)
   open_tags_along Goal.Nested count height many = tags_along IsPage Other (PageTokens table) (PageTokens table) same as_it_is _ _ IsImage Wider of_image _ count height many
 
-  pub page_verdict_along : (goal : Goal) (limit : ℕ) (v : Verdict) → IsPageVerdict table IsPage IsImage goal limit v → IsPageVerdict table Other Wider goal limit v
-  page_verdict_along goal limit Yes all = λ page is. all page ((same page).1 is)
-  page_verdict_along goal limit (No d) h = record { page = h.page; is_page = (same h.page).0 h.is_page; bad = h.bad; writes = h.writes }
-  page_verdict_along goal limit (Pairs count height) h = pairs_along goal limit count height h
-  page_verdict_along goal limit (Tags count height) h = open_tags_along goal count height h
+  pub page_verdict_along : (Derives Leads : Derivation → List ℕ → Type 0) → ((d : Derivation) (page : List ℕ) → Derives d page → Leads d page) → (goal : Goal) (limit : ℕ) (v : Verdict)
+      → IsPageVerdict table IsPage IsImage Derives goal limit v → IsPageVerdict table Other Wider Leads goal limit v
+  page_verdict_along Derives Leads leads goal limit Yes all = λ page is. all page ((same page).1 is)
+  page_verdict_along Derives Leads leads goal limit (No d) h = record { page = h.page; is_page = (same h.page).0 h.is_page; bad = h.bad; derives = leads d h.page h.derives }
+  page_verdict_along Derives Leads leads goal limit (Pairs count height) h = pairs_along goal limit count height h
+  page_verdict_along Derives Leads leads goal limit (Tags count height) h = open_tags_along goal count height h

@@ -39,33 +39,33 @@ only_nested P table Goal.Nested nesting are make = make
 itself : (IsPage : List ℕ → Type 0) (page : List ℕ) → IsPage page ↔ IsPage page
 itself IsPage page = (λ h. h, λ h. h)
 
-module _ (table : Table) (IsPage : List ℕ → Type 0) where
+module _ (table : Table) (IsPage : List ℕ → Type 0) (Derives : Derivation → List ℕ → Type 0) where
   module _ {S : Type 0} (goal : Goal) (sum : List PageToken → S) (whole : S → Bool) (tells : TellsGood goal table sum whole) where
     good_by_sum : (page : List ℕ) → HasSum IsPage (PageTokens table) sum whole page true → IsGood goal table page
     good_by_sum page h = (tells page h.tokens h.has).0 h.sum
 
-    bad_by_sum : (d : Derivation) → IsNotWhole IsPage (PageTokens table) sum whole d → IsBadPage table IsPage goal d
+    bad_by_sum : (d : Derivation) → IsNotWhole IsPage (PageTokens table) sum whole Derives d → IsBadPage table IsPage Derives goal d
     bad_by_sum d h = record {
       page = h.text;
       is_page = h.is_text;
       bad = λ good. let w : whole (sum h.not_whole.tokens) ≡ true = (tells h.text h.not_whole.tokens h.not_whole.has).1 good in cc (w, h.not_whole.sum);
-      writes = h.writes;
+      derives = h.derives;
     }
 
   module _ (IsImage : Grammar → Type 0) where
     -- by the automaton of the definition
     of_sums : SumsTellValid → (parts : Parts) → AreStatesOf table parts.states → parts ≡ parts_of table parts.states → (limit : ℕ) (v : Verdict)
-        → IsTextVerdict IsPage (PageTokens table) (sum_of (page_automaton parts)) (is_whole (page_automaton parts)) IsImage tag_count limit v → IsPageVerdict table IsPage IsImage Goal.Valid limit v
-    of_sums law parts states same limit v is = go v (subst (λ (p : Parts). IsTextVerdict IsPage (PageTokens table) (sum_of (page_automaton p)) (is_whole (page_automaton p)) IsImage tag_count limit v) same is)
+        → IsTextVerdict IsPage (PageTokens table) (sum_of (page_automaton parts)) (is_whole (page_automaton parts)) IsImage Derives tag_count limit v → IsPageVerdict table IsPage IsImage Derives Goal.Valid limit v
+    of_sums law parts states same limit v is = go v (subst (λ (p : Parts). IsTextVerdict IsPage (PageTokens table) (sum_of (page_automaton p)) (is_whole (page_automaton p)) IsImage Derives tag_count limit v) same is)
       where
-        go : (v : Verdict) → IsTextVerdict IsPage (PageTokens table) (sum_of (page_automaton (parts_of table parts.states))) (is_whole (page_automaton (parts_of table parts.states))) IsImage tag_count limit v
-            → IsPageVerdict table IsPage IsImage Goal.Valid limit v
+        go : (v : Verdict) → IsTextVerdict IsPage (PageTokens table) (sum_of (page_automaton (parts_of table parts.states))) (is_whole (page_automaton (parts_of table parts.states))) IsImage Derives tag_count limit v
+            → IsPageVerdict table IsPage IsImage Derives Goal.Valid limit v
         go Yes all = λ page is_page. good_by_sum Goal.Valid _ _ (law table parts.states states) page (all page is_page)
         go (No d) h = bad_by_sum Goal.Valid _ _ (law table parts.states states) d h
         go (Pairs count height) h = (parts.states, states, h)
         go (Tags count height) h = (parts.states, states, h)
 
-    of_nests : NestsTellNested → (limit : ℕ) (v : Verdict) → IsTextVerdict IsPage (PageTokens table) nest_of is_balanced IsImage nest_count limit v → IsPageVerdict table IsPage IsImage Goal.Nested limit v
+    of_nests : NestsTellNested → (limit : ℕ) (v : Verdict) → IsTextVerdict IsPage (PageTokens table) nest_of is_balanced IsImage Derives nest_count limit v → IsPageVerdict table IsPage IsImage Derives Goal.Nested limit v
     of_nests law limit Yes all = λ page is_page. good_by_sum Goal.Nested nest_of is_balanced (law table) page (all page is_page)
     of_nests law limit (No d) h = bad_by_sum Goal.Nested nest_of is_balanced (law table) d h
     of_nests law limit (Pairs count height) h = h
@@ -76,24 +76,24 @@ module _ (table : Table) (IsPage : List ℕ → Type 0) where
     has_tokens machine page tokens is puts = machine.tokens page tokens (fits page is) puts
 
     pub valid_verdict : SumsTellValid → IsPageMachine table first steps ends → (segments : Segments) → AreSegmentsOf table segments → (IsImage : Grammar → Type 0) (limit : ℕ) (v : Verdict)
-        → IsTextVerdict IsPage (PutsTokens first steps ends) (sum_of (page_automaton (parts_in segments))) (is_whole (page_automaton (parts_in segments))) IsImage tag_count limit v
-        → IsPageVerdict table IsPage IsImage Goal.Valid limit v
+        → IsTextVerdict IsPage (PutsTokens first steps ends) (sum_of (page_automaton (parts_in segments))) (is_whole (page_automaton (parts_in segments))) IsImage Derives tag_count limit v
+        → IsPageVerdict table IsPage IsImage Derives Goal.Valid limit v
     valid_verdict law machine segments are IsImage limit v h =
         of_sums IsImage law (parts_in segments) are.states are.parts limit v
         (verdict_along IsPage IsPage (PutsTokens first steps ends) (PageTokens table) (itself IsPage) (has_tokens machine) (sum_of (page_automaton (parts_in segments))) (is_whole (page_automaton (parts_in segments)))
-        IsImage IsImage (λ image is. is) tag_count limit v h)
+        IsImage IsImage (λ image is. is) Derives tag_count limit v h)
 
     pub nested_verdict : NestsTellNested → IsPageMachine table first steps ends → (IsImage : Grammar → Type 0) (limit : ℕ) (v : Verdict)
-        → IsTextVerdict IsPage (PutsTokens first steps ends) nest_of is_balanced IsImage nest_count limit v → IsPageVerdict table IsPage IsImage Goal.Nested limit v
+        → IsTextVerdict IsPage (PutsTokens first steps ends) nest_of is_balanced IsImage Derives nest_count limit v → IsPageVerdict table IsPage IsImage Derives Goal.Nested limit v
     nested_verdict law machine IsImage limit v h =
         of_nests IsImage law limit v (verdict_along IsPage IsPage (PutsTokens first steps ends) (PageTokens table) (itself IsPage) (has_tokens machine) nest_of is_balanced
-        IsImage IsImage (λ image is. is) nest_count limit v h)
+        IsImage IsImage (λ image is. is) Derives nest_count limit v h)
 
     -- what the machine of broken pages finds is bad
-    pub broken_is_bad : IsBrokenMachine table first steps ends → (goal : Goal) (d : Derivation) → IsNotWhole IsPage (PutsTokens first steps ends) nest_of is_balanced d → IsBadPage table IsPage goal d
+    pub broken_is_bad : IsBrokenMachine table first steps ends → (goal : Goal) (d : Derivation) → IsNotWhole IsPage (PutsTokens first steps ends) nest_of is_balanced Derives d → IsBadPage table IsPage Derives goal d
     broken_is_bad machine goal d h = record {
       page = h.text;
       is_page = h.is_text;
       bad = machine.broken h.text h.not_whole.tokens (fits h.text h.is_text) h.not_whole.has h.not_whole.sum goal;
-      writes = h.writes;
+      derives = h.derives;
     }

@@ -14,15 +14,15 @@ use Rattle.summary_fixpoint.specs.declared.verdict.Verdict.TheVariants.{Yes, No,
 use Rattle.page_goals.specs.declared.goal.Goal.{Goal}
 use Rattle.page_goals.specs.Goals.{IsGood}
 use Rattle.page_goals.specs.Telling.{AreStatesOf, automaton_over}
-use Rattle.text_decision.specs.TextVerdicts.{WritesText, HasSum, HasManySums, HasManyTags}
+use Rattle.text_decision.specs.TextVerdicts.{HasSum, HasManySums, HasManyTags}
 
 module _ (table : Table) (IsPage : List ℕ → Type 0) where
-  -- it is a derivation of letters whose bytes are one of the pages, which is not good
-  pub record IsBadPage (goal : Goal) (derivation : Derivation) : Type 0 where
+  -- it is a derivation of one of the pages, which is not good
+  pub record IsBadPage (Derives : Derivation → List ℕ → Type 0) (goal : Goal) (derivation : Derivation) : Type 0 where
     pub page : List ℕ
     pub is_page : IsPage page
     pub bad : IsGood goal table page → ⊥
-    pub writes : WritesText derivation page
+    pub derives : Derives derivation page
 
   -- over the images of the pages that are made
   module _ (IsImage : Grammar → Type 0) where
@@ -42,11 +42,11 @@ module _ (table : Table) (IsPage : List ℕ → Type 0) where
     HasManyOpenTags Goal.Nested count height = HasManyTags IsPage (PageTokens table) nest_of is_balanced IsImage nest_count count height
 
     -- yes: each page is good; no: a derivation of one that is not; a limit that is passed
-    abbrev pub IsPageVerdict : Goal → ℕ → Verdict → Type 0
-    IsPageVerdict goal limit Yes = (page : List ℕ) → IsPage page → IsGood goal table page
-    IsPageVerdict goal limit (No derivation) = IsBadPage goal derivation
-    IsPageVerdict goal limit (Pairs count height) = HasManyPairs goal limit count height
-    IsPageVerdict goal limit (Tags count height) = HasManyOpenTags goal count height
+    abbrev pub IsPageVerdict : (Derivation → List ℕ → Type 0) → Goal → ℕ → Verdict → Type 0
+    IsPageVerdict Derives goal limit Yes = (page : List ℕ) → IsPage page → IsGood goal table page
+    IsPageVerdict Derives goal limit (No derivation) = IsBadPage Derives goal derivation
+    IsPageVerdict Derives goal limit (Pairs count height) = HasManyPairs goal limit count height
+    IsPageVerdict Derives goal limit (Tags count height) = HasManyOpenTags goal count height
 
 -- each page has tokens that are nested
 abbrev pub AreAllNested : (List ℕ → Type 0) → (List ℕ → List PageToken → Type 0) → Type 0

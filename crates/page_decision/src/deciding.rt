@@ -9,6 +9,7 @@ ghost use Rattle.page_decision.specs.Machines.{IsBrokenMachine, IsPageMachine, P
 ghost use Rattle.page_decision.specs.PageSums.{AreSumsOf};
 ghost use Rattle.page_decision.specs.PageVerdicts.{AreAllNested, IsBadPage, IsPageVerdict};
 ghost use Rattle.text_decision.specs.Echoes.{IsMachineImage, PutsTokens};
+ghost use Rattle.text_decision.specs.TextVerdicts.{IsDerivationOf};
 
 use crate::sums::PageSums;
 use cfg_grammar::Grammar;
@@ -47,7 +48,7 @@ pub fn decide_pages<M: Machine>(
     ensures verdict { IfOk result (IsPageVerdict (table_of dtd.now)
         (DerivesText grammar.now.productions.items (symbols.Symbol.Nt grammar.now.start))
         (IsMachineImage grammar.now (M.first machine.now) (M.steps machine.now)
-        (M.ends machine.now)) goal pairs) }
+        (M.ends machine.now)) (IsDerivationOf grammar.now) goal pairs) }
     ensures cause { IfErr result
         (IsCause grammar.now.productions.items (M.steps machine.now) grammar.now.start
         (M.first machine.now) items) }
@@ -87,7 +88,8 @@ pub fn find_broken<B: Machine>(
     requires { IsBrokenMachine (table_of dtd.now) (B.first machine.now) (B.steps machine.now)
         (B.ends machine.now) }
     ensures found { IfOk result (λ found. IfSome found (IsBadPage (table_of dtd.now)
-        (DerivesText grammar.now.productions.items (symbols.Symbol.Nt grammar.now.start)) goal)) }
+        (DerivesText grammar.now.productions.items (symbols.Symbol.Nt grammar.now.start))
+        (IsDerivationOf grammar.now) goal)) }
     ensures none { let pages = DerivesText grammar.now.productions.items
         (symbols.Symbol.Nt grammar.now.start) in
         let puts = PutsTokens (B.first machine.now) (B.steps machine.now) (B.ends machine.now) in

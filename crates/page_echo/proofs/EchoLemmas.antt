@@ -21,7 +21,8 @@ module _ {S : Type 0} (table : Table) (next : S → ℕ → S) (puts : S → ℕ
   pub page_machine : IsPageMachine table first (EchoStep next puts lasts) (EchoEnd next puts lasts)
   page_machine = record {
     echoing = record {
-      copies = λ text letters out. ap bytes_in ((law.only text letters).0 out) ∙ law.bytes text;
+      copies = law.copies;
+      adds_none = law.adds_none;
       total = λ text bytes. (echo_of next puts lasts first text, (law.only text (echo_of next puts lasts first text)).1 refl);
     };
     tokens = λ page ts bytes put. subst (λ (us : List PageToken). PageTokens table page us) (sym (tokens_of page put.0 put.1) ∙ put.2) (reads page bytes);

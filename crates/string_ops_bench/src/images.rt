@@ -25,7 +25,7 @@ fn productions_within(
     limit: u64,
 ) -> Result<Option<usize>> {
     match image(alloc, grammar, grammar.start, table, limit) {
-        Ok(made) => Ok(Some(made.productions.len())),
+        Ok(made) => Ok(Some(made.grammar.productions.len())),
         Err(ImageRefusal::Large { .. }) => Ok(None),
         Err(ImageRefusal::Memory) => Err(NoMemory)?,
     }

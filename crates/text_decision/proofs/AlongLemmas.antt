@@ -23,8 +23,8 @@ module _ (IsText Other : List ℕ → Type 0) (Puts Has : List ℕ → List Page
     pub sum_along : (text : List ℕ) (is : Bool) → IsText text → HasSum IsText Puts sum_of whole text is → HasSum Other Has sum_of whole text is
     sum_along text is of_these h = record { tokens = h.tokens; has = wider text h.tokens of_these h.has; sum = h.sum }
 
-    pub not_whole_along : (d : Derivation) → IsNotWhole IsText Puts sum_of whole d → IsNotWhole Other Has sum_of whole d
-    not_whole_along d h = record { text = h.text; is_text = (same h.text).0 h.is_text; not_whole = sum_along h.text false h.is_text h.not_whole; writes = h.writes }
+    pub not_whole_along : (Derives : Derivation → List ℕ → Type 0) (d : Derivation) → IsNotWhole IsText Puts sum_of whole Derives d → IsNotWhole Other Has sum_of whole Derives d
+    not_whole_along Derives d h = record { text = h.text; is_text = (same h.text).0 h.is_text; not_whole = sum_along h.text false h.is_text h.not_whole; derives = h.derives }
 
     module _ (IsImage Wider : Grammar → Type 0) (of_image : (image : Grammar) → IsImage image → Wider image) where
       pub sums_along : (limit count height : ℕ) → HasManySums IsText Puts sum_of whole IsImage limit count height → HasManySums Other Has sum_of whole Wider limit count height
@@ -50,8 +50,9 @@ module _ (IsText Other : List ℕ → Type 0) (Puts Has : List ℕ → List Page
         whole_below = h.whole_below;
       }
 
-      pub verdict_along : (tags : S → ℕ) (limit : ℕ) (v : Verdict) → IsTextVerdict IsText Puts sum_of whole IsImage tags limit v → IsTextVerdict Other Has sum_of whole Wider tags limit v
-      verdict_along tags limit Yes all = λ text is. sum_along text true ((same text).1 is) (all text ((same text).1 is))
-      verdict_along tags limit (No d) h = not_whole_along d h
-      verdict_along tags limit (Pairs count height) h = sums_along limit count height h
-      verdict_along tags limit (Tags count height) h = tags_along tags count height h
+      pub verdict_along : (Derives : Derivation → List ℕ → Type 0) (tags : S → ℕ) (limit : ℕ) (v : Verdict) → IsTextVerdict IsText Puts sum_of whole IsImage Derives tags limit v
+          → IsTextVerdict Other Has sum_of whole Wider Derives tags limit v
+      verdict_along Derives tags limit Yes all = λ text is. sum_along text true ((same text).1 is) (all text ((same text).1 is))
+      verdict_along Derives tags limit (No d) h = not_whole_along Derives d h
+      verdict_along Derives tags limit (Pairs count height) h = sums_along limit count height h
+      verdict_along Derives tags limit (Tags count height) h = tags_along tags count height h

@@ -1,5 +1,5 @@
 -- Machines that copy a text and put page tokens between its bytes.
-use Rattle.std.specs.Prelude.{◌≡◌, ◌↔◌, ℕ, ◌<◌, List, length, All}
+use Rattle.std.specs.Prelude.{◌≡◌, ◌↔◌, ℕ, ◌<◌, List, [], ◌∷◌, length, All}
 use Rattle.text_base.specs.declared.letter.Letter.{Letter}
 use Rattle.text_base.specs.declared.page_token.PageToken.{PageToken}
 use Rattle.text_base.specs.declared.numbers.Nt as nt
@@ -14,9 +14,11 @@ use Rattle.sentence_writing.specs.Bytes.{bytes_in}
 use Rattle.summary_fixpoint.specs.Pairs.{tokens_in}
 
 module _ {S : Type 0} (first : S) (steps : S → ℕ → S → List Letter → Type 0) (ends : S → List Letter → Type 0) where
-  -- over each text of bytes the machine puts out something, and that has the bytes of the text
+  -- each step puts out the byte that it reads and no other, the ends put out none, and over each text of bytes there is something to put
+  -- out
   pub record IsEchoing : Type 0 where
-    pub copies : (text : List ℕ) (letters : List Letter) → Relates first steps ends text letters → bytes_in letters ≡ text
+    pub copies : (s t : S) (byte : ℕ) (letters : List Letter) → steps s byte t letters → bytes_in letters ≡ byte ∷ []
+    pub adds_none : (s : S) (letters : List Letter) → ends s letters → bytes_in letters ≡ []
     pub total : (text : List ℕ) → All (λ byte. byte < 256) text → (letters : List Letter) × Relates first steps ends text letters
 
   -- over the text the machine may put out these tokens

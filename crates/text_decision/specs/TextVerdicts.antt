@@ -1,26 +1,21 @@
 -- What an answer says of texts, by a summary of their tokens.
-use Rattle.std.specs.Prelude.{◌≡◌, ℕ, ◌<◌, Bool, true, false, List, Option, Some, None}
-use Rattle.text_base.specs.declared.letter.Letter.{Letter}
+use Rattle.std.specs.Prelude.{◌≡◌, ℕ, ◌<◌, Bool, true, false, List, map, Option, Some, None}
+use Rattle.text_base.specs.declared.letter.Letter.TheVariants.{OfByte}
 use Rattle.text_base.specs.declared.page_token.PageToken.{PageToken}
 use Rattle.text_base.specs.declared.numbers.Nt as nt
-use Rattle.cfg_grammar.specs.declared.production.Production.{Production}
 use Rattle.cfg_grammar.specs.declared.grammar.Grammar.{Grammar}
 use Rattle.derivations.specs.Stands.{IsDerivation}
 use Rattle.derivations.specs.declared.derivation.Derivation.{Derivation}
-use Rattle.sentence_writing.specs.Bytes.{bytes_in}
 use Rattle.summary_fixpoint.specs.declared.verdict.Verdict.{Verdict}
 use Rattle.summary_fixpoint.specs.declared.verdict.Verdict.TheVariants.{Yes, No, Pairs, Tags}
 use Rattle.summary_fixpoint.specs.declared.verdict.TheConstants.{TAG_LIMIT}
 use Rattle.summary_fixpoint.specs.Pairs.{IsPair, HasPairs, AreWholeBelow}
 use Rattle.text_decision.specs.Echoes.{EchoTexts}
 
--- it is a derivation, by some productions, of letters whose bytes are the text
-pub record WritesText (derivation : Derivation) (text : List ℕ) : Type 0 where
-  pub productions : List Production
-  pub left : nt.Nt
-  pub letters : List Letter
-  pub derived : IsDerivation productions derivation.nodes.nodes.items left letters
-  pub bytes : bytes_in letters ≡ text
+-- it is a derivation of the text by the grammar
+abbrev pub IsDerivationOf : Grammar → Derivation → List ℕ → Type 0
+IsDerivationOf grammar derivation text =
+    IsDerivation grammar.productions.items derivation.nodes.nodes.items grammar.start (map OfByte text)
 
 module _ (IsText : List ℕ → Type 0) (HasTokens : List ℕ → List PageToken → Type 0) {S : Type 0} (sum_of : List PageToken → S)
     (whole : S → Bool) where
@@ -31,11 +26,11 @@ module _ (IsText : List ℕ → Type 0) (HasTokens : List ℕ → List PageToken
     pub sum : whole (sum_of tokens) ≡ is_whole
 
   -- the derivation is one of a text that is not whole
-  pub record IsNotWhole (derivation : Derivation) : Type 0 where
+  pub record IsNotWhole (Derives : Derivation → List ℕ → Type 0) (derivation : Derivation) : Type 0 where
     pub text : List ℕ
     pub is_text : IsText text
     pub not_whole : HasSum text false
-    pub writes : WritesText derivation text
+    pub derives : Derives derivation text
 
   -- over the images that are made
   module _ (IsImage : Grammar → Type 0) where
@@ -62,11 +57,11 @@ module _ (IsText : List ℕ → Type 0) (HasTokens : List ℕ → List PageToken
       pub whole_below : AreWholeBelow sum_of whole image.productions.items image.start height
 
     -- yes: each text is whole; no: a derivation of one that is not; a limit that is passed
-    abbrev pub IsTextVerdict : (S → ℕ) → ℕ → Verdict → Type 0
-    IsTextVerdict tags limit Yes = (text : List ℕ) → IsText text → HasSum text true
-    IsTextVerdict tags limit (No derivation) = IsNotWhole derivation
-    IsTextVerdict tags limit (Pairs count height) = HasManySums limit count height
-    IsTextVerdict tags limit (Tags count height) = HasManyTags tags count height
+    abbrev pub IsTextVerdict : (Derivation → List ℕ → Type 0) → (S → ℕ) → ℕ → Verdict → Type 0
+    IsTextVerdict Derives tags limit Yes = (text : List ℕ) → IsText text → HasSum text true
+    IsTextVerdict Derives tags limit (No derivation) = IsNotWhole Derives derivation
+    IsTextVerdict Derives tags limit (Pairs count height) = HasManySums limit count height
+    IsTextVerdict Derives tags limit (Tags count height) = HasManyTags tags count height
 
     -- why no text that is not whole is found: each text is whole, or a limit is passed
     pub data NoneFound (tags : S → ℕ) (limit : ℕ) : Type 0 where

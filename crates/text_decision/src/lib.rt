@@ -1,7 +1,7 @@
 //! The decision over the texts that a grammar derives, for any machine that puts page tokens
 //! between their bytes, and any summary of page tokens. Below stand grammar_image, which makes the
-//! grammar of what the machine puts out, and grammar_decision, which decides it. No back links are
-//! kept: the bytes of a sentence of the image are the text itself.
+//! grammar of what the machine puts out and tells where its productions come from, grammar_decision,
+//! which decides it, and image_sources, which leads the derivation of a no back to the grammar.
 #![tactic(auto)]
 
 mod bytes;

@@ -11,6 +11,7 @@ loop-one-init c =
     record {
       writes = writes_none {X = Front} (WholeMade c.args.productions.now c.args.passages.now.keys) (WholeHas c.args.productions.now c.args.passages.now.keys) c.args.begun.now [] c.args.out.now.items;
       few = omega arith;
+      sources = λ h. h;
     }
 
 pub loop-one-preserved : goal.loop-one-preserved
@@ -20,6 +21,7 @@ loop-one-preserved c =
     record {
       writes = writes_more {X = Front} (WholeMade ps fs) (WholeHas ps fs) (whole_made ps fs) (whole_has ps fs) c.args.begun.now c.loop-one.one-index _ [] [] [] c.args.out.now.items c.loop-one.out.items c.write_whole.new.out.items c.loop-one-test.true c.loop-one.invariant.writes c.in_ok-write_whole.ensures.writes;
       few = (let a = c.in_ok-write_whole.ensures.few in let b = c.loop-one.invariant.few in omega (arith, a, b));
+      sources = λ h. c.in_ok-write_whole.ensures.sources (c.loop-one.invariant.sources h);
     }
 
 pub returns-clause-writes : goal.returns-clause-writes

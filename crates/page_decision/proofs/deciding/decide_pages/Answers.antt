@@ -4,6 +4,7 @@ use Rattle.cfg_grammar.specs.declared.symbol.Symbol as symbols
 use Rattle.image_meaning.specs.Outputs.{DerivesText}
 use Rattle.dtd_model.specs.TableOf.{table_of}
 use Rattle.text_decision.specs.Echoes.{IsMachineImage}
+use Rattle.text_decision.specs.TextVerdicts.{IsDerivationOf}
 use Rattle.page_goals.specs.declared.goal.Goal.{Goal}
 use Rattle.page_decision.specs.declared.sums.PageSums.{PageSums}
 use Rattle.page_decision.specs.PageSums.{AreSumsOf}
@@ -18,9 +19,9 @@ returns-in-BySegments-clause-verdict g c =
     let pages = DerivesText c.args.grammar.now.productions.items (symbols.Symbol.Nt c.args.grammar.now.start) in
     let is_image = IsMachineImage c.args.grammar.now (g.M.Machine.first m) (g.M.Machine.steps m) (g.M.Machine.ends m) in
     let sums = subst (λ (s : PageSums). AreSumsOf c.args.goal table s) c.in-BySegments.is c.requires.sums in
-    only_valid (λ (a : Goal). IfOk c.decide_texts.result (IsPageVerdict table pages is_image a c.args.pairs)) table c.args.goal c.in-BySegments.segments sums
+    only_valid (λ (a : Goal). IfOk c.decide_texts.result (IsPageVerdict table pages is_image (IsDerivationOf c.args.grammar.now) a c.args.pairs)) table c.args.goal c.in-BySegments.segments sums
     (λ are. IfOk-weaker c.decide_texts.result _ _
-    (λ v is. valid_verdict table pages c.texts_fit.ensures (g.M.Machine.first m) (g.M.Machine.steps m) (g.M.Machine.ends m) c.sums_tell_valid.ensures c.requires.machine c.in-BySegments.segments are is_image c.args.pairs v is)
+    (λ v is. valid_verdict table pages (IsDerivationOf c.args.grammar.now) c.texts_fit.ensures (g.M.Machine.first m) (g.M.Machine.steps m) (g.M.Machine.ends m) c.sums_tell_valid.ensures c.requires.machine c.in-BySegments.segments are is_image c.args.pairs v is)
     c.decide_texts.ensures.verdict)
 
 pub returns-in-ByNesting-clause-verdict : goal.returns-in-ByNesting-clause-verdict
@@ -30,7 +31,7 @@ returns-in-ByNesting-clause-verdict g c =
     let pages = DerivesText c.args.grammar.now.productions.items (symbols.Symbol.Nt c.args.grammar.now.start) in
     let is_image = IsMachineImage c.args.grammar.now (g.M.Machine.first m) (g.M.Machine.steps m) (g.M.Machine.ends m) in
     let sums = subst (λ (s : PageSums). AreSumsOf c.args.goal table s) c.in-ByNesting.is c.requires.sums in
-    only_nested (λ (a : Goal). IfOk c.decide_texts-in-ByNesting.result (IsPageVerdict table pages is_image a c.args.pairs)) table c.args.goal c.in-ByNesting.nesting sums
+    only_nested (λ (a : Goal). IfOk c.decide_texts-in-ByNesting.result (IsPageVerdict table pages is_image (IsDerivationOf c.args.grammar.now) a c.args.pairs)) table c.args.goal c.in-ByNesting.nesting sums
     (IfOk-weaker c.decide_texts-in-ByNesting.result _ _
-    (λ v is. nested_verdict table pages c.texts_fit.ensures (g.M.Machine.first m) (g.M.Machine.steps m) (g.M.Machine.ends m) c.nests_tell_nested.ensures c.requires.machine is_image c.args.pairs v is)
+    (λ v is. nested_verdict table pages (IsDerivationOf c.args.grammar.now) c.texts_fit.ensures (g.M.Machine.first m) (g.M.Machine.steps m) (g.M.Machine.ends m) c.nests_tell_nested.ensures c.requires.machine is_image c.args.pairs v is)
     c.decide_texts-in-ByNesting.ensures.verdict)

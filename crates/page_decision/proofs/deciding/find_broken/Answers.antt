@@ -5,6 +5,7 @@ use Rattle.derivations.specs.declared.derivation.Derivation.{Derivation}
 use Rattle.image_meaning.specs.Outputs.{DerivesText}
 use Rattle.dtd_model.specs.TableOf.{table_of}
 use Rattle.text_decision.specs.Echoes.{IsMachineImage, PutsTokens}
+use Rattle.text_decision.specs.TextVerdicts.{IsDerivationOf}
 use Rattle.page_decision.proofs.FoundLemmas.{all_nested}
 use Rattle.page_decision.proofs.VerdictLemmas.{broken_is_bad}
 use Rattle.page_decision.proofs.deciding.find_broken.Goals as goal
@@ -22,7 +23,7 @@ returns-clause-found g c =
     let m = c.args.machine.now in
     IfOk-weaker c.find_wrong.result _ _
     (λ found is. if_some _ _ found
-    (λ (d : Derivation) wrong. broken_is_bad (table_of c.args.dtd.now) (DerivesText c.args.grammar.now.productions.items (symbols.Symbol.Nt c.args.grammar.now.start)) c.texts_fit.ensures
+    (λ (d : Derivation) wrong. broken_is_bad (table_of c.args.dtd.now) (DerivesText c.args.grammar.now.productions.items (symbols.Symbol.Nt c.args.grammar.now.start)) (IsDerivationOf c.args.grammar.now) c.texts_fit.ensures
     (g.B.Machine.first m) (g.B.Machine.steps m) (g.B.Machine.ends m) c.requires c.args.goal d wrong) is)
     c.find_wrong.ensures.found
 

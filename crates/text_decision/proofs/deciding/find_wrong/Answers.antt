@@ -3,7 +3,7 @@ use Rattle.cfg_grammar.specs.declared.symbol.Symbol as symbols
 use Rattle.derivations.specs.declared.derivation.Derivation.{Derivation}
 use Rattle.image_meaning.specs.Outputs.{DerivesText}
 use Rattle.text_decision.specs.Echoes.{PutsTokens, IsMachineImage}
-use Rattle.text_decision.specs.TextVerdicts.{IsNotWhole, NoneFound}
+use Rattle.text_decision.specs.TextVerdicts.{IsDerivationOf, IsNotWhole, NoneFound}
 use Rattle.text_decision.proofs.FoundLemmas.{some_found, none_found}
 use Rattle.text_decision.proofs.deciding.find_wrong.Goals as goal
 
@@ -14,8 +14,8 @@ returns-in-Ok-clause-found g c =
     let texts = DerivesText c.args.grammar.now.productions.items (symbols.Symbol.Nt c.args.grammar.now.start) in
     let puts = PutsTokens (g.M.Machine.first m) (g.M.Machine.steps m) (g.M.Machine.ends m) in
     let is_image = IsMachineImage c.args.grammar.now (g.M.Machine.first m) (g.M.Machine.steps m) (g.M.Machine.ends m) in
-    subst (λ (o : Option Derivation). IfSome o (IsNotWhole texts puts (g.S.Summary.sum_of s) (g.S.Summary.is_whole s))) (sym c.found_in.ensures)
-    (some_found texts puts (g.S.Summary.sum_of s) (g.S.Summary.is_whole s) is_image (g.S.Summary.tag_count s) c.args.pairs c.in-Ok.verdict c.in-Ok.ensures.verdict)
+    subst (λ (o : Option Derivation). IfSome o (IsNotWhole texts puts (g.S.Summary.sum_of s) (g.S.Summary.is_whole s) (IsDerivationOf c.args.grammar.now))) (sym c.found_in.ensures)
+    (some_found texts puts (g.S.Summary.sum_of s) (g.S.Summary.is_whole s) is_image (IsDerivationOf c.args.grammar.now) (g.S.Summary.tag_count s) c.args.pairs c.in-Ok.verdict c.in-Ok.ensures.verdict)
 
 pub returns-in-Ok-clause-none : goal.returns-in-Ok-clause-none
 returns-in-Ok-clause-none g c =
@@ -25,4 +25,4 @@ returns-in-Ok-clause-none g c =
     let puts = PutsTokens (g.M.Machine.first m) (g.M.Machine.steps m) (g.M.Machine.ends m) in
     let is_image = IsMachineImage c.args.grammar.now (g.M.Machine.first m) (g.M.Machine.steps m) (g.M.Machine.ends m) in
     subst (λ (o : Option Derivation). IfNone o (NoneFound texts puts (g.S.Summary.sum_of s) (g.S.Summary.is_whole s) is_image (g.S.Summary.tag_count s) c.args.pairs)) (sym c.found_in.ensures)
-    (none_found texts puts (g.S.Summary.sum_of s) (g.S.Summary.is_whole s) is_image (g.S.Summary.tag_count s) c.args.pairs c.in-Ok.verdict c.in-Ok.ensures.verdict)
+    (none_found texts puts (g.S.Summary.sum_of s) (g.S.Summary.is_whole s) is_image (IsDerivationOf c.args.grammar.now) (g.S.Summary.tag_count s) c.args.pairs c.in-Ok.verdict c.in-Ok.ensures.verdict)

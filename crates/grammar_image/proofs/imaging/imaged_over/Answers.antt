@@ -6,7 +6,7 @@ use Rattle.cfg_grammar.specs.declared.symbol.Symbol as symbols
 use Rattle.image_meaning.specs.Outputs.{Outputs}
 use Rattle.image_meaning.specs.Weight.{IsSmall}
 use Rattle.grammar_image.proofs.BeginLemmas.{worked_begins}
-use Rattle.grammar_image.proofs.imaging.image_over.Goals as goal
+use Rattle.grammar_image.proofs.imaging.imaged_over.Goals as goal
 
 pub fill-requires-clause-worked : goal.fill-requires-clause-worked
 fill-requires-clause-worked g c =
@@ -16,11 +16,11 @@ fill-requires-clause-worked g c =
 pub returns-in-Ok-finish-clause-sentences : goal.returns-in-Ok-finish-clause-sentences
 returns-in-Ok-finish-clause-sentences g c =
     let m = c.args.machine.now in
-    let P : nt.Nt → Type 0 = λ a. (w : List Letter) → Derives c.in-Ok-finish.grammar.productions.items (symbols.Symbol.Nt c.in-Ok-finish.grammar.start) w ↔ Outputs c.args.productions.now (symbols.Symbol.Nt a) (g.M.Machine.first m) (g.M.Machine.steps m) (g.M.Machine.ends m) w in
+    let P : nt.Nt → Type 0 = λ a. (w : List Letter) → Derives c.in-Ok-finish.image.grammar.productions.items (symbols.Symbol.Nt c.in-Ok-finish.image.grammar.start) w ↔ Outputs c.args.productions.now (symbols.Symbol.Nt a) (g.M.Machine.first m) (g.M.Machine.steps m) (g.M.Machine.ends m) w in
     subst (λ (a : nt.Nt). P a) (c.in-Ok.ensures.from ∙ c.in_ok-chart.ensures.from) c.in-Ok-finish.ensures.sentences
 
 pub returns-in-Ok-finish-clause-small : goal.returns-in-Ok-finish-clause-small
 returns-in-Ok-finish-clause-small g c =
     let m = c.args.machine.now in
-    let P : nt.Nt → Type 0 = λ a. IsSmall c.args.productions.now (g.M.Machine.steps m) (g.M.Machine.ends m) a (g.M.Machine.first m) c.in-Ok-finish.grammar.count (length c.in-Ok-finish.grammar.productions.items) in
+    let P : nt.Nt → Type 0 = λ a. IsSmall c.args.productions.now (g.M.Machine.steps m) (g.M.Machine.ends m) a (g.M.Machine.first m) c.in-Ok-finish.image.grammar.count (length c.in-Ok-finish.image.grammar.productions.items) in
     subst (λ (a : nt.Nt). P a) (c.in-Ok.ensures.from ∙ c.in_ok-chart.ensures.from) c.in-Ok-finish.ensures.small
