@@ -22,13 +22,13 @@ if_none (Some a) go h = tt
 if_none None go h = go h
 
 module _ (misses : LooseMissesNone) (table : Table) (lawful : is_lawful table.elements table.entities ≡ true) (IsPage : List ℕ → Type 0)
-    (fits : (page : List ℕ) → IsPage page → All (λ byte. byte < 256) page) where
-  pub is_broken : (d : Derivation) → IsNotWhole IsPage (LoosePuts table) nest_of is_balanced d → IsBrokenPage table IsPage d
+    (fits : (page : List ℕ) → IsPage page → All (λ byte. byte < 256) page) (Derives : Derivation → List ℕ → Type 0) where
+  pub is_broken : (d : Derivation) → IsNotWhole IsPage (LoosePuts table) nest_of is_balanced Derives d → IsBrokenPage table IsPage Derives d
   is_broken d h = record {
     page = h.text;
     is_page = h.is_text;
     broken = (misses table lawful h.text h.not_whole.tokens (fits h.text h.is_text) h.not_whole.has).0 h.not_whole.sum;
-    writes = h.writes;
+    derives = h.derives;
   }
 
   pub none_broken : PutsNoTags IsPage (LoosePuts table) → (IsImage : Grammar → Type 0) (limit : ℕ) → 2 ≤ limit

@@ -5,7 +5,8 @@ ghost use Rattle.cfg_grammar.specs.declared.symbol.Symbol as symbols;
 ghost use Rattle.dtd_model.specs.TableOf.{table_of};
 ghost use Rattle.image_meaning.specs.Outputs.{DerivesText};
 ghost use Rattle.page_model.specs.Broken.{Broken};
-ghost use Rattle.broken_search.specs.Found.{IsBrokenPage, IsLargeSearch};
+ghost use Rattle.text_decision.specs.TextVerdicts.{IsDerivationOf};
+ghost use Rattle.broken_search.specs.Found.{IsBrokenPage, IsSearchCause};
 
 use cfg_grammar::Grammar;
 use derivations::Derivation;
@@ -31,11 +32,12 @@ fn find_by(
     items: u64,
 ) -> Result<Option<Derivation>, ImageRefusal>
     ensures found { IfOk result (λ found. IfSome found (IsBrokenPage (table_of indexed.now.dtd.now)
-        (DerivesText grammar.now.productions.items (symbols.Symbol.Nt grammar.now.start)))) }
+        (DerivesText grammar.now.productions.items (symbols.Symbol.Nt grammar.now.start))
+        (IsDerivationOf grammar.now))) }
     ensures none { IfOk result (λ found. IfNone found ((page : List ℕ)
         → DerivesText grammar.now.productions.items (symbols.Symbol.Nt grammar.now.start) page
         → Broken (table_of indexed.now.dtd.now) page → ⊥)) }
-    ensures cause { IfErr result (IsLargeSearch (table_of indexed.now.dtd.now) grammar.now items) }
+    ensures cause { IfErr result (IsSearchCause (table_of indexed.now.dtd.now) grammar.now items) }
 {
     loose_tells_broken();
     loose_misses_none();
@@ -48,8 +50,8 @@ fn find_by(
     find_wrong(alloc, grammar, &machine, &nesting, items, SUMS)
 }
 
-/// A derivation whose bytes are a page that the grammar derives and that is broken by the
-/// definition; None exactly where it derives no such page.
+/// A derivation, by the grammar, of a page that is broken by the definition; None exactly where it
+/// derives no such page.
 ///
 /// # Errors
 ///
@@ -62,11 +64,12 @@ pub fn find_broken_page(
     items: u64,
 ) -> Result<Option<Derivation>, ImageRefusal>
     ensures found { IfOk result (λ found. IfSome found (IsBrokenPage (table_of dtd.now)
-        (DerivesText grammar.now.productions.items (symbols.Symbol.Nt grammar.now.start)))) }
+        (DerivesText grammar.now.productions.items (symbols.Symbol.Nt grammar.now.start))
+        (IsDerivationOf grammar.now))) }
     ensures none { IfOk result (λ found. IfNone found ((page : List ℕ)
         → DerivesText grammar.now.productions.items (symbols.Symbol.Nt grammar.now.start) page
         → Broken (table_of dtd.now) page → ⊥)) }
-    ensures cause { IfErr result (IsLargeSearch (table_of dtd.now) grammar.now items) }
+    ensures cause { IfErr result (IsSearchCause (table_of dtd.now) grammar.now items) }
 {
     let indexed = IndexedDtd::new(alloc, dtd)?;
     find_by(alloc, grammar, &indexed, items)

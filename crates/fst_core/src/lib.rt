@@ -1,7 +1,7 @@
 //! Machines that read bytes and put out bytes and page tokens (finite-state transducers): what a
 //! machine is, the machine that is listed as a table, and the test whether a table relates two
-//! texts. The contracts cite `Runs` and `Relates` of specs/Runs.antt. Below this crate stands
-//! `text_base` alone.
+//! texts. The contracts cite `Runs` and `Relates` of specs/Runs.antt. Below stand text_base,
+//! numbered_sets and indexmap.
 #![tactic(auto)]
 
 mod indexed;

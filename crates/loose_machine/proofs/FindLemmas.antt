@@ -36,7 +36,7 @@ use Rattle.loose_narrowing.specs.LoosePassing.{narrow_loose_reader}
 use Rattle.loose_stepping.proofs.PartCodes.{plain_coded_tag, plain_coded_number}
 use Rattle.loose_reader.specs.States.{seen, coded, first_state, next_state, tokens_at, tokens_behind}
 use Rattle.loose_reader.specs.Views.{plain_loose, coded_loose}
-use Rattle.merged_loose.specs.States.{merged_loose}
+use Rattle.merged_loose.specs.States.{merged_loose_next}
 use Rattle.merged_loose.specs.Laws.{SameLooseTokens}
 use Rattle.loose_machine.specs.Laws.{loose_tokens, LooseTellsBroken, LoosePuts, LooseMissesNone, BrokenIsNotGood}
 
@@ -65,8 +65,8 @@ tells law same table lawful page bytes =
 
 -- What the machine puts out.
 
-law : (table : Table) → IsEcho (merged_loose table) (tokens_at table) (tokens_behind table) first_state
-law table = is_echo (merged_loose table) (tokens_at table) (tokens_behind table) first_state
+law : (table : Table) → IsEcho (merged_loose_next table) (tokens_at table) (tokens_behind table) first_state
+law table = is_echo (merged_loose_next table) (tokens_at table) (tokens_behind table) first_state
 
 puts : (table : Table) (page : List ℕ) (tokens : List PageToken) → LoosePuts table page tokens → tokens ≡ loose_tokens table page
 puts table page tokens put = sym put.2 ∙ (ap tokens_in (((law table).only page put.0).0 put.1) ∙ (law table).tokens page)
@@ -132,11 +132,12 @@ module _ (bad : BrokenHaveBad) (valid : ValidByTokens) (reads : PageTokensRead) 
       cc
 
 module _ (misses : LooseMissesNone) (not_good : BrokenIsNotGood) (table : Table) (lawful : IsLawfulTable table) where
-  pub finds : IsBrokenMachine table first_state (EchoStep (merged_loose table) (tokens_at table) (tokens_behind table)) (EchoEnd (merged_loose table) (tokens_at table) (tokens_behind table))
+  pub finds : IsBrokenMachine table first_state (EchoStep (merged_loose_next table) (tokens_at table) (tokens_behind table)) (EchoEnd (merged_loose_next table) (tokens_at table) (tokens_behind table))
   finds = record {
     echoing = record {
-      copies = λ text letters out. ap bytes_in (((law table).only text letters).0 out) ∙ (law table).bytes text;
-      total = λ text bytes. (echo_of (merged_loose table) (tokens_at table) (tokens_behind table) first_state text, ((law table).only text (echo_of (merged_loose table) (tokens_at table) (tokens_behind table) first_state text)).1 refl);
+      copies = (law table).copies;
+      adds_none = (law table).adds_none;
+      total = λ text bytes. (echo_of (merged_loose_next table) (tokens_at table) (tokens_behind table) first_state text, ((law table).only text (echo_of (merged_loose_next table) (tokens_at table) (tokens_behind table) first_state text)).1 refl);
     };
     broken = λ page tokens bytes put unbalanced goal good. not_good table lawful page ((misses table lawful page tokens bytes put).0 unbalanced) goal good;
   }

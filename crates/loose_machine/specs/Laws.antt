@@ -14,11 +14,11 @@ use Rattle.echoing_machine.specs.Echoes.{EchoStep, EchoEnd}
 use Rattle.loose_steps.specs.LooseReading.{is_read}
 use Rattle.loose_narrowing.specs.Laws.{told}
 use Rattle.loose_reader.specs.States.{first_state, tokens_at, tokens_behind}
-use Rattle.merged_loose.specs.States.{merged_loose}
+use Rattle.merged_loose.specs.States.{merged_loose_next}
 
 -- what the reader puts out over a page
 abbrev pub loose_tokens : Table → List ℕ → List PageToken
-loose_tokens table page = tokens_over (merged_loose table) (tokens_at table) (tokens_behind table) first_state page
+loose_tokens table page = tokens_over (merged_loose_next table) (tokens_at table) (tokens_behind table) first_state page
 
 -- nothing, or one bad token, the latter exactly where the page is broken
 abbrev pub LooseTellsBroken : Type 0
@@ -27,8 +27,8 @@ LooseTellsBroken = (table : Table) → IsLawfulTable table → (page : List ℕ)
 
 -- what the machine of the reader puts out over a page
 abbrev pub LoosePuts : Table → List ℕ → List PageToken → Type 0
-LoosePuts table = PutsTokens first_state (EchoStep (merged_loose table) (tokens_at table) (tokens_behind table))
-    (EchoEnd (merged_loose table) (tokens_at table) (tokens_behind table))
+LoosePuts table = PutsTokens first_state (EchoStep (merged_loose_next table) (tokens_at table) (tokens_behind table))
+    (EchoEnd (merged_loose_next table) (tokens_at table) (tokens_behind table))
 
 -- its tokens are not nested exactly where the page is broken
 abbrev pub LooseMissesNone : Type 0
@@ -38,8 +38,8 @@ LooseMissesNone = (table : Table) → IsLawfulTable table → (page : List ℕ) 
 -- so the machine finds pages that are good by no goal
 abbrev pub LooseFindsBroken : Type 0
 LooseFindsBroken = (table : Table) → IsLawfulTable table
-    → IsBrokenMachine table first_state (EchoStep (merged_loose table) (tokens_at table) (tokens_behind table))
-    (EchoEnd (merged_loose table) (tokens_at table) (tokens_behind table))
+    → IsBrokenMachine table first_state (EchoStep (merged_loose_next table) (tokens_at table) (tokens_behind table))
+    (EchoEnd (merged_loose_next table) (tokens_at table) (tokens_behind table))
 
 -- a page that is broken is good by no goal
 abbrev pub BrokenIsNotGood : Type 0

@@ -22,7 +22,8 @@ use std::alloc::Global;
 use text_base::{NoMemory, PageToken};
 
 /// The reader of the loose pieces of a document type definition. Over a page it puts out nothing,
-/// or one bad token, the latter exactly where the page is broken.
+/// or one bad token, the latter exactly where the page is broken: loose_machine has the law, over
+/// the reader with fewer states of merged_loose, whose tokens are the same.
 #[derive(Clone, Copy, Debug, Drop)]
 pub struct LooseReader<'a> {
     /// The definition.

@@ -29,8 +29,8 @@ use Rattle.loose_reader.specs.States.{coded, tokens_at, tokens_behind}
 use Rattle.loose_reader.specs.declared.state.LooseOpen.TheVariants.{Exact}
 use Rattle.loose_reader.specs.declared.state.LooseState.{LooseState}
 use Rattle.loose_reader.specs.declared.state.LooseState.TheVariants.{Reading}
-use Rattle.merged_loose.specs.Beginning.{front_alike, begun_state}
-use Rattle.merged_loose.specs.States.{merged, merged_loose}
+use Rattle.merged_loose.specs.Beginning.{first_bytes_alike, begun_state}
+use Rattle.merged_loose.specs.States.{merged, merged_loose_next}
 
 -- Some bytes that begin no byte order mark stand for such bytes.
 
@@ -187,7 +187,7 @@ module _ (table : Table) (b : ℕ) where
           (λ e. ap (λ (bytes : List ℕ). representative (bytes ++ b ∷ [])) (sym y.is) ∙ behind.same e))
           (stays_open a u w)
 
-  front_moves : (x : List ℕ) → SameMoves table (step (front_alike x)) (step x)
+  front_moves : (x : List ℕ) → SameMoves table (step (first_bytes_alike x)) (step x)
   front_moves [] = record { leads = refl; puts = refl }
   front_moves (a ∷ u) = at (nat_eq a 0xEF) refl
     where
@@ -199,7 +199,7 @@ module _ (table : Table) (b : ℕ) where
 
 -- a state and the one that stands for it go on alike
 pub record GoOnAlike (table : Table) (g h : HeldState) (b : ℕ) : Type 0 where
-  pub goes : merged_loose table (Reading (Exact g)) b ≡ merged_loose table (Reading (Exact h)) b
+  pub goes : merged_loose_next table (Reading (Exact g)) b ≡ merged_loose_next table (Reading (Exact h)) b
   pub puts : tokens_at table (Reading (Exact g)) b ≡ tokens_at table (Reading (Exact h)) b
 
 abbrev held_at : PagePlace → OpenPiece → List ℕ → HeldState
@@ -212,7 +212,7 @@ first_at table p o begun b = record { goes = refl; puts = refl }
 pub first_same : (table : Table) (h : HeldState) (b : ℕ) → GoOnAlike table (begun_state h) h b
 first_same table h b = first_at table h.state.place h.state.inside h.begun b
 
-same_some : (x : List ℕ) → is_some_byte (front_alike x) ≡ is_some_byte x
+same_some : (x : List ℕ) → is_some_byte (first_bytes_alike x) ≡ is_some_byte x
 same_some [] = refl
 same_some (a ∷ u) = at (nat_eq a 0xEF) refl
   where

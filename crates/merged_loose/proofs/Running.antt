@@ -31,7 +31,7 @@ use Rattle.merged_loose.specs.Exactly.{goes_exactly}
 use Rattle.merged_loose.specs.Meaning.{means_nothing, is_in_name}
 use Rattle.merged_loose.specs.Runs.{last_of_nothing}
 use Rattle.merged_loose.specs.declared.tables.TheConstants.{NOTHING}
-use Rattle.merged_loose.specs.States.{as_merged, merged, merged_loose}
+use Rattle.merged_loose.specs.States.{as_merged, merged, merged_loose_next}
 use Rattle.merged_loose.proofs.Moving.{put_of}
 use Rattle.merged_loose.proofs.Meaningless.{is_outside, tag_stops, number_stops, in_name_fails, nothing_runs}
 use Rattle.merged_loose.proofs.Tokens.{goes, puts}
@@ -49,12 +49,12 @@ outside part (inr (inr (inr (inr p)))) = ap (λ (q : TagPart). is_outside (plain
 module _ (table : Table) where
   -- two bytes do the same from the state
   abbrev DoTheSame : LooseState → ℕ → ℕ → Type 0
-  DoTheSame s b first = (merged_loose table s b ≡ merged_loose table s first) × (tokens_at table s b ≡ tokens_at table s first)
+  DoTheSame s b first = (merged_loose_next table s b ≡ merged_loose_next table s first) × (tokens_at table s b ≡ tokens_at table s first)
 
   -- as from the state of the reader of pages
   pub alike_exact : (h : HeldState) (first last : ℕ) → goes_exactly (plain_open h.state.inside) ≡ true
       → AreAlike (merged_next table (page.Reading h)) (pages.tokens_at table (page.Reading h)) first last
-      → AreAlike (merged_loose table (Reading (Exact h))) (tokens_at table (Reading (Exact h))) first last
+      → AreAlike (merged_loose_next table (Reading (Exact h))) (tokens_at table (Reading (Exact h))) first last
   alike_exact h first last e a b low high =
       let same : merged_next table (page.Reading h) b ≡ merged_next table (page.Reading h) first = (a b low high).0 in (
         goes table h b e ∙ ap as_merged same ∙ sym (goes table h first e),
@@ -62,10 +62,10 @@ module _ (table : Table) where
       )
 
   -- a byte does what it does
-  pub alike_alone : (s : LooseState) (first : ℕ) → AreAlike (merged_loose table s) (tokens_at table s) first first
+  pub alike_alone : (s : LooseState) (first : ℕ) → AreAlike (merged_loose_next table s) (tokens_at table s) first first
   alike_alone s first b low high =
       let same : b ≡ first = omega (arith, low, high) in
-      (ap (merged_loose table s) same, ap (tokens_at table s) same)
+      (ap (merged_loose_next table s) same, ap (tokens_at table s) same)
 
   -- in a tag and in a number, by turns
   tag_alike : (part : TagPart) (b first : ℕ) → tag_turn (plain_tag part) b ≡ tag_turn (plain_tag part) first → DoTheSame (Reading (InTag part)) b first
@@ -89,22 +89,22 @@ module _ (table : Table) where
 
   -- in a value, where neither the quote nor `<` is among the bytes, or nothing else
   pub alike_quotes : (quote first last : ℕ) → ((b : ℕ) → first ≤ b → b ≤ last → (nat_eq b 60 ≡ nat_eq first 60) × (nat_eq b quote ≡ nat_eq first quote))
-      → AreAlike (merged_loose table (Reading (InTag (tag.Quotes quote)))) (tokens_at table (Reading (InTag (tag.Quotes quote)))) first last
+      → AreAlike (merged_loose_next table (Reading (InTag (tag.Quotes quote)))) (tokens_at table (Reading (InTag (tag.Quotes quote)))) first last
   alike_quotes quote first last same b low high =
       let tests = same b low high in
       tag_alike (tag.Quotes quote) b first (value_alike quote b first tests.0 tests.1)
 
-  pub alike_failed : (first last : ℕ) → AreAlike (merged_loose table Failed) (tokens_at table Failed) first last
+  pub alike_failed : (first last : ℕ) → AreAlike (merged_loose_next table Failed) (tokens_at table Failed) first last
   alike_failed first last b low high = (refl, refl)
 
   -- where each byte that means nothing fails
   alike_nothing : (o : LooseOpen) → ((b : ℕ) → means_nothing b ≡ true → (narrow_loose_reader table).step (plain_loose o) b ≡ fail) → (first : ℕ)
-      → AreAlike (merged_loose table (Reading o)) (tokens_at table (Reading o)) first (last_of_nothing first)
+      → AreAlike (merged_loose_next table (Reading o)) (tokens_at table (Reading o)) first (last_of_nothing first)
   alike_nothing o fails first b low high =
       let failed : LooseState = Failed in
       let bad : List PageToken = token.Bad ∷ [] in (
-        alike_in (merged_loose table (Reading o)) NOTHING
-            (nothing_runs (merged_loose table (Reading o)) failed (λ c h. ap (λ (m : LooseMove). merged (coded (to_state (narrow_loose_reader table) m))) (fails c h)))
+        alike_in (merged_loose_next table (Reading o)) NOTHING
+            (nothing_runs (merged_loose_next table (Reading o)) failed (λ c h. ap (λ (m : LooseMove). merged (coded (to_state (narrow_loose_reader table) m))) (fails c h)))
             first b low high,
         alike_in (tokens_at table (Reading o)) NOTHING
             (nothing_runs (tokens_at table (Reading o)) bad (λ c h. ap (λ (m : LooseMove). put_out (narrow_loose_reader table) m) (fails c h)))
@@ -113,7 +113,7 @@ module _ (table : Table) where
 
   -- in the name of an entity or of a tag, where no character is begun
   pub alike_named : (h : HeldState) (first : ℕ) → h.begun ≡ [] → is_in_name (plain_open h.state.inside) ≡ true
-      → AreAlike (merged_loose table (Reading (Exact h))) (tokens_at table (Reading (Exact h))) first (last_of_nothing first)
+      → AreAlike (merged_loose_next table (Reading (Exact h))) (tokens_at table (Reading (Exact h))) first (last_of_nothing first)
   alike_named h first none e =
       alike_nothing (Exact h)
       (λ b nothing.
@@ -123,13 +123,13 @@ module _ (table : Table) where
 
   -- in a tag outside values, and in a number
   pub alike_outside : (part : TagPart) (first : ℕ) → is_outside (plain_tag part) ≡ true
-      → AreAlike (merged_loose table (Reading (InTag part))) (tokens_at table (Reading (InTag part))) first (last_of_nothing first)
+      → AreAlike (merged_loose_next table (Reading (InTag part))) (tokens_at table (Reading (InTag part))) first (last_of_nothing first)
   alike_outside part first e =
       alike_nothing (InTag part)
       (λ b nothing. ap (λ (t : Turn LooseTag). kept (loose_passes table) (inside in_loose_tag closed t)) (tag_stops (plain_tag part) b e nothing)) first
 
   pub alike_number : (part : NumberPart) (first : ℕ)
-      → AreAlike (merged_loose table (Reading (InNumber part))) (tokens_at table (Reading (InNumber part))) first (last_of_nothing first)
+      → AreAlike (merged_loose_next table (Reading (InNumber part))) (tokens_at table (Reading (InNumber part))) first (last_of_nothing first)
   alike_number part first =
       alike_nothing (InNumber part)
       (λ b nothing. ap (λ (t : Turn LooseNumber). kept (loose_passes table) (inside in_loose_number closed t)) (number_stops (plain_number part) b nothing)) first

@@ -20,7 +20,7 @@ use Rattle.loose_reader.specs.declared.state.LooseOpen.TheVariants.{Exact, InTag
 use Rattle.loose_reader.specs.declared.state.LooseState.{LooseState}
 use Rattle.loose_reader.specs.declared.state.LooseState.TheVariants.{Failed, Reading}
 use Rattle.merged_loose.specs.Exactly.{goes_exactly}
-use Rattle.merged_loose.specs.States.{as_loose, as_merged, merged, merged_loose}
+use Rattle.merged_loose.specs.States.{as_loose, as_merged, merged, merged_loose_next}
 use Rattle.merged_loose.proofs.Beginning.{first_same, first_last}
 use Rattle.merged_loose.proofs.Moving.{put_of, exact_next, exact_puts}
 
@@ -66,25 +66,25 @@ put_alike (page.Reading h) = refl
 
 module _ (table : Table) where
   pub goes : (h : HeldState) (b : ℕ) → goes_exactly (plain_open h.state.inside) ≡ true
-      → merged_loose table (Reading (Exact h)) b ≡ as_merged (exactly.merged_next table (page.Reading h) b)
+      → merged_loose_next table (Reading (Exact h)) b ≡ as_merged (exactly.merged_next table (page.Reading h) b)
   goes h b e = ap merged (exact_next table h b e) ∙ merged_alike (pages.next_state table (page.Reading h) b)
 
   pub puts : (h : HeldState) (b : ℕ) → goes_exactly (plain_open h.state.inside) ≡ true
       → tokens_at table (Reading (Exact h)) b ≡ put_of (exactly.merged_next table (page.Reading h) b)
   puts h b e = exact_puts table h b e ∙ put_alike (pages.next_state table (page.Reading h) b)
 
-  same_next : (s : LooseState) (b : ℕ) → merged_loose table (merged s) b ≡ merged_loose table s b
+  same_next : (s : LooseState) (b : ℕ) → merged_loose_next table (merged s) b ≡ merged_loose_next table s b
   same_next Failed b = refl
   same_next (Reading (InTag part)) b = refl
   same_next (Reading (InNumber part)) b = refl
   same_next (Reading (Exact h)) b = (first_same table (exactly.merged_state h) b).goes ∙ by (kept h.state.place h.state.inside h.begun)
     where
-      by : IsKept h.state.place h.state.inside h.begun → merged_loose table (Reading (Exact (exactly.merged_state h))) b ≡ merged_loose table (Reading (Exact h)) b
+      by : IsKept h.state.place h.state.inside h.begun → merged_loose_next table (Reading (Exact (exactly.merged_state h))) b ≡ merged_loose_next table (Reading (Exact h)) b
       by (inl p) =
           goes (exactly.merged_state h) b p.1
           ∙ ap as_merged (reader.same_next table (page.Reading h) b)
           ∙ sym (goes h b p.0)
-      by (inr q) = ap (λ (g : HeldState). merged_loose table (Reading (Exact g)) b) q
+      by (inr q) = ap (λ (g : HeldState). merged_loose_next table (Reading (Exact g)) b) q
 
   same_puts : (s : LooseState) (b : ℕ) → tokens_at table (merged s) b ≡ tokens_at table s b
   same_puts Failed b = refl
@@ -106,14 +106,14 @@ module _ (table : Table) where
   same_lasts (Reading (Exact h)) = first_last table (exactly.merged_state h) ∙ reader.same_lasts table (page.Reading h)
 
   same_tokens : (s : LooseState) (text : List ℕ)
-      → tokens_over (merged_loose table) (tokens_at table) (tokens_behind table) (merged s) text
+      → tokens_over (merged_loose_next table) (tokens_at table) (tokens_behind table) (merged s) text
       ≡ tokens_over (next_state table) (tokens_at table) (tokens_behind table) s text
   same_tokens s [] = same_lasts s
   same_tokens s (b ∷ bs) =
-      ap (λ (t : LooseState). tokens_at table (merged s) b ++ tokens_over (merged_loose table) (tokens_at table) (tokens_behind table) t bs) (same_next s b)
+      ap (λ (t : LooseState). tokens_at table (merged s) b ++ tokens_over (merged_loose_next table) (tokens_at table) (tokens_behind table) t bs) (same_next s b)
       ∙ ap (λ (x : List PageToken). tokens_at table (merged s) b ++ x) (same_tokens (next_state table s b) bs)
       ∙ ap (λ (x : List PageToken). x ++ tokens_over (next_state table) (tokens_at table) (tokens_behind table) (next_state table s b) bs) (same_puts s b)
 
-  pub the_same : (text : List ℕ) → tokens_over (merged_loose table) (tokens_at table) (tokens_behind table) first_state text
+  pub the_same : (text : List ℕ) → tokens_over (merged_loose_next table) (tokens_at table) (tokens_behind table) first_state text
       ≡ tokens_over (next_state table) (tokens_at table) (tokens_behind table) first_state text
   the_same text = same_tokens first_state text

@@ -1,5 +1,5 @@
--- First bytes of a character at the beginning of a page, where U+FEFF is the byte order mark, and each other character of several bytes leads
--- on alike.
+-- First bytes of a character at the beginning of a page, where U+FEFF is the byte order mark, and each other character of several bytes
+-- leads on alike.
 use Rattle.std.specs.Prelude.{ℕ, Bool, true, false, ◌==◌, if◌then◌else◌, List, [], ◌∷◌}
 use Rattle.open_pieces.specs.declared.open.OpenPiece.{OpenPiece}
 use Rattle.open_pieces.specs.declared.open.OpenPiece.TheVariants.{Nothing}
@@ -19,12 +19,12 @@ may_be_mark [] = true
 may_be_mark (a ∷ bytes) = a == 0xEF
 
 -- the first bytes that stand for these
-abbrev pub front_alike : List ℕ → List ℕ
-front_alike bytes = if may_be_mark bytes then bytes else representative bytes
+abbrev pub first_bytes_alike : List ℕ → List ℕ
+first_bytes_alike bytes = if may_be_mark bytes then bytes else representative bytes
 
 -- what is kept of an open character
 abbrev pub begun_at : PagePlace → OpenPiece → List ℕ → List ℕ
-begun_at place o begun = if is_first place o then front_alike begun else begun
+begun_at place o begun = if is_first place o then first_bytes_alike begun else begun
 
 -- the state that stands for this one
 abbrev pub begun_state : HeldState → HeldState

@@ -1,5 +1,5 @@
--- What the reader does from byte to byte: as the reader of loose pieces, but that each state behind a byte is replaced by the one that stands
--- for it.
+-- What the reader does from byte to byte: as the reader of loose pieces, but that each state behind a byte is replaced by the one that
+-- stands for it.
 use Rattle.std.specs.Prelude.{ℕ}
 use Rattle.dtd_model.specs.Table.{Table}
 use Rattle.page_reader.specs.declared.state.ReaderState.{ReaderState}
@@ -22,8 +22,8 @@ abbrev pub as_merged : ReaderState → LooseState
 as_merged pages.Failed = Failed
 as_merged (pages.Reading h) = Reading (Exact (begun_state h))
 
--- outside tags and numbers the state that stands for this one in the reader of pages, and at the beginning of a page what stands for that; in
--- tags and numbers there is nothing to replace
+-- outside tags and numbers the state that stands for this one in the reader of pages, and at the beginning of a page what stands for
+-- that; in tags and numbers there is nothing to replace
 abbrev pub merged_open : LooseOpen → LooseOpen
 merged_open (Exact h) = Exact (begun_state (merged_state h))
 merged_open (InTag part) = InTag part
@@ -35,5 +35,5 @@ merged Failed = Failed
 merged (Reading o) = Reading (merged_open o)
 
 -- behind a byte
-abbrev pub merged_loose : Table → LooseState → ℕ → LooseState
-merged_loose table s b = merged (next_state table s b)
+abbrev pub merged_loose_next : Table → LooseState → ℕ → LooseState
+merged_loose_next table s b = merged (next_state table s b)

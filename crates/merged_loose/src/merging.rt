@@ -33,8 +33,8 @@ fn may_be_mark(bytes: &[u8]) -> bool
     }
 }
 
-fn front_alike(alloc: Global, begun: Bytes) -> Result<Bytes, NoMemory>
-    ensures { IfOk result (λ first. first ≡ beginning.front_alike begun) }
+fn first_bytes_alike(alloc: Global, begun: Bytes) -> Result<Bytes, NoMemory>
+    ensures { IfOk result (λ first. first ≡ beginning.first_bytes_alike begun) }
 {
     if may_be_mark(begun.as_slice()) {
         Ok(begun)
@@ -49,7 +49,7 @@ fn begun_at(alloc: Global, state: &PageState, begun: Bytes) -> Result<Bytes, NoM
         ≡ beginning.begun_at state.now.place state.now.inside begun) }
 {
     if is_first(state) {
-        front_alike(alloc, begun)
+        first_bytes_alike(alloc, begun)
     } else {
         Ok(begun)
     }

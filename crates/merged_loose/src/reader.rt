@@ -2,7 +2,7 @@
 
 ghost use Rattle.dtd_model.specs.TableOf.{table_of};
 ghost use Rattle.loose_reader.specs.States.{first_state, tokens_at, tokens_behind};
-ghost use Rattle.merged_loose.specs.States.{merged_loose};
+ghost use Rattle.merged_loose.specs.States.{merged_loose_next};
 
 use crate::merging::merged;
 use crate::runs::last_from;
@@ -26,7 +26,7 @@ impl<'a> ByteReader for MergedLooseReader<'a> {
 
     ghost first = { λ r. first_state };
 
-    ghost next = { λ r s b. merged_loose (table_of r.indexed.now.dtd.now) s b };
+    ghost next = { λ r s b. merged_loose_next (table_of r.indexed.now.dtd.now) s b };
 
     ghost puts = { λ r s b. tokens_at (table_of r.indexed.now.dtd.now) s b };
 

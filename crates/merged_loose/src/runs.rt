@@ -10,7 +10,7 @@ ghost use Rattle.loose_reader.specs.declared.state.LooseState.TheVariants.{Readi
 ghost use Rattle.merged_loose.specs.Exactly.{goes_exactly};
 ghost use Rattle.merged_loose.specs.Meaning as meaning;
 ghost use Rattle.merged_loose.specs.Runs as spec;
-ghost use Rattle.merged_loose.specs.States.{merged_loose};
+ghost use Rattle.merged_loose.specs.States.{merged_loose_next};
 
 use crate::tables::NOTHING;
 use echoing_machine::last_in;
@@ -66,7 +66,7 @@ fn last_of_nothing(byte: u8) -> u8
 fn last_named(held: &HeldState, byte: u8) -> u8
     requires { meaning.is_in_name (plain_open held.now.state.inside) ≡ true }
     ensures last { byte ≤ result }
-    ensures alike { (table : Table) → AreAlike (merged_loose table (Reading (Exact held.now)))
+    ensures alike { (table : Table) → AreAlike (merged_loose_next table (Reading (Exact held.now)))
         (tokens_at table (Reading (Exact held.now))) byte result }
 {
     if is_whole(held) {
@@ -79,7 +79,7 @@ fn last_named(held: &HeldState, byte: u8) -> u8
 // Outside tags behind their name and outside numbers.
 fn last_exact(held: &HeldState, byte: u8) -> u8
     ensures last { byte ≤ result }
-    ensures alike { (table : Table) → AreAlike (merged_loose table (Reading (Exact held.now)))
+    ensures alike { (table : Table) → AreAlike (merged_loose_next table (Reading (Exact held.now)))
         (tokens_at table (Reading (Exact held.now))) byte result }
 {
     if may_go_exactly(&held.state.inside) {
@@ -112,7 +112,7 @@ fn last_before(low: u8, high: u8, byte: u8) -> u8
 // In a tag of a declared element, behind its name.
 fn last_tag(part: TagPart, byte: u8) -> u8
     ensures last { byte ≤ result }
-    ensures alike { (table : Table) → AreAlike (merged_loose table (Reading (InTag part)))
+    ensures alike { (table : Table) → AreAlike (merged_loose_next table (Reading (InTag part)))
         (tokens_at table (Reading (InTag part))) byte result }
 {
     match part {
@@ -127,7 +127,7 @@ fn last_tag(part: TagPart, byte: u8) -> u8
 
 fn last_open(piece: &LooseOpen, byte: u8) -> u8
     ensures last { byte ≤ result }
-    ensures alike { (table : Table) → AreAlike (merged_loose table (Reading piece.now))
+    ensures alike { (table : Table) → AreAlike (merged_loose_next table (Reading piece.now))
         (tokens_at table (Reading piece.now)) byte result }
 {
     match piece {
@@ -140,7 +140,7 @@ fn last_open(piece: &LooseOpen, byte: u8) -> u8
 /// The last byte of a run that begins with the byte, all of which do the same from the state.
 pub fn last_from(state: &LooseState, byte: u8) -> u8
     ensures last { byte ≤ result }
-    ensures alike { (table : Table) → AreAlike (merged_loose table state.now)
+    ensures alike { (table : Table) → AreAlike (merged_loose_next table state.now)
         (tokens_at table state.now) byte result }
 {
     match state {

@@ -1,5 +1,5 @@
 -- Pages that break whatever is declared of attributes: they can not be cut into pieces even where less is asked of a tag
--- and of a number.
+-- and of a number. A weaker form of XML 1.0, 2.3 (AttValue), 3.1 (STag, EmptyElemTag, Attribute) and 4.1 (CharRef, EntityRef).
 use Rattle.std.specs.Prelude.{◌≡◌, ℕ, Bool, true, not, ◌==◌, ◌&&◌, ◌||◌, List, [], ◌∷◌, ◌++◌}
 use Rattle.std.specs.Char.{is_ascii_digit, is_ascii_hexdigit}
 use Rattle.std.specs.List.{list_all}
@@ -35,7 +35,7 @@ pub record IsLooseTag (table : Table) (tag : Tag) : Type 0 where
   pub attributes : AreLooseAttributes tag.attributes
   pub blank_space : list_all is_blank tag.space ≡ true
 
--- a number of any digits, at least one
+-- a number of any digits, at least one, which are those of ASCII; or an entity that is known
 abbrev pub is_loose_reference : Table → Reference → Bool
 is_loose_reference table (decimal digits) = is_some digits && list_all is_ascii_digit digits
 is_loose_reference table (hexadecimal digits) = is_some digits && list_all is_ascii_hexdigit digits

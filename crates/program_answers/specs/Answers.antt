@@ -16,23 +16,30 @@ use Rattle.page_goals.specs.declared.goal.Goal.{Goal}
 use Rattle.page_goals.specs.Goals.{IsGood}
 use Rattle.page_decision.specs.Echoes.{IsMachineImage}
 use Rattle.page_decision.specs.PageVerdicts.{IsBadPage, HasManyPairs, HasManyOpenTags}
+use Rattle.page_decision.specs.TextVerdicts.{IsDerivationOf}
 use Rattle.program_answers.specs.declared.answer.Answer.{Answer}
+use Rattle.program_answers.specs.Searches.{IsSearched}
 
 -- each loose page of the program is good
 abbrev pub EachIsGood : Goal → Table → PlainProgram → Type 0
 EachIsGood goal table program = (page : List ℕ) → IsLoosePage program page → IsGood goal table page
 
--- the derivation is one of letters whose bytes are a loose page that is not good
-abbrev pub IsCounterexample : Goal → Table → PlainProgram → Derivation → Type 0
-IsCounterexample goal table program derivation = IsBadPage table (IsLoosePage program) goal derivation
+-- it is a derivation of the page by a grammar of loose pages that is made of the program
+abbrev pub IsDerivationBy : PlainProgram → Derivation → List ℕ → Type 0
+IsDerivationBy program derivation page =
+    (grammar : Grammar) × IsPageGrammar program grammar × IsDerivationOf grammar derivation page
 
--- one image has at least so many items: that of an operation of the system that is made of the program, or that of the grammar of loose
--- pages that is made of it, under the machine that reads pages
-pub data HasManyItems {S : Type 0} (first : S) (steps : S → ℕ → S → List Letter → Type 0) (program : PlainProgram) (count : ℕ) :
-    Type 0 where
-  by_operation : HasLargeImage program count → HasManyItems first steps program count
-  by_pages : (grammar : Grammar) → IsPageGrammar program grammar → HasItems grammar.productions.items steps grammar.start first count
-      → HasManyItems first steps program count
+-- the derivation is one of a loose page that is not good
+abbrev pub IsCounterexample : Goal → Table → PlainProgram → Derivation → Type 0
+IsCounterexample goal table program derivation = IsBadPage table (IsLoosePage program) (IsDerivationBy program) goal derivation
+
+-- one image has at least so many items: that of an operation of the system that is made of the program, or, behind a search for a broken
+-- page, that of the grammar of loose pages that is made of it, under the machine that reads pages
+pub data HasManyItems {S : Type 0} (first : S) (steps : S → ℕ → S → List Letter → Type 0) (table : Table) (program : PlainProgram)
+    (count : ℕ) : Type 0 where
+  by_operation : HasLargeImage program count → HasManyItems first steps table program count
+  by_pages : (grammar : Grammar) → IsPageGrammar program grammar → IsSearched table program
+      → HasItems grammar.productions.items steps grammar.start first count → HasManyItems first steps table program count
 
 module _ {S : Type 0} (first : S) (steps : S → ℕ → S → List Letter → Type 0) (ends : S → List Letter → Type 0) where
   -- the grammar is an image, under the machine that reads pages, of the grammar of loose pages that is made of the program
@@ -41,15 +48,16 @@ module _ {S : Type 0} (first : S) (steps : S → ℕ → S → List Letter → T
     pub of_program : IsPageGrammar program grammar
     pub of_grammar : IsMachineImage grammar first steps ends image
 
-  -- the answer is that of the program, by a machine that reads pages, with this limit on sums
+  -- the answer is that of the program, by a machine that reads pages, with this limit on sums; where a limit is passed, a broken page was
+  -- looked for
   abbrev pub IsAnswerBy : Goal → Table → PlainProgram → ℕ → Answer → Type 0
   IsAnswerBy goal table program limit Answer.Yes = EachIsGood goal table program
   IsAnswerBy goal table program limit (Answer.No derivation) = IsCounterexample goal table program derivation
   IsAnswerBy goal table program limit (Answer.Pairs count height) =
-      HasManyPairs table (IsLoosePage program) (IsPageImage program) goal limit count height
+      IsSearched table program × HasManyPairs table (IsLoosePage program) (IsPageImage program) goal limit count height
   IsAnswerBy goal table program limit (Answer.Tags count height) =
-      HasManyOpenTags table (IsLoosePage program) (IsPageImage program) goal count height
-  IsAnswerBy goal table program limit (Answer.Items count) = (ITEM_LIMIT < count) × HasManyItems first steps program count
+      IsSearched table program × HasManyOpenTags table (IsLoosePage program) (IsPageImage program) goal count height
+  IsAnswerBy goal table program limit (Answer.Items count) = (ITEM_LIMIT < count) × HasManyItems first steps table program count
 
 -- every run of the program, for every admitted request and every number of units, that ends prints a page that is good
 abbrev pub RunsAreGood : Goal → Table → PlainProgram → Type 0

@@ -1,4 +1,5 @@
 pub mod Answers
+pub mod Searches
 pub mod Steps
 pub mod SingleBytes
 pub use Rattle.loose_grammar.specs.Pages

@@ -8,12 +8,13 @@ use Rattle.summary_fixpoint.specs.declared.verdict.Verdict.{Verdict}
 use Rattle.summary_fixpoint.specs.declared.verdict.Verdict.TheVariants as verdict
 use Rattle.program_answers.specs.declared.answer.Answer.{Answer}
 use Rattle.loose_grammar.specs.declared.refusal.TheConstants.{ITEM_LIMIT}
+use Rattle.dtd_model.specs.Table.{Table}
 use Rattle.program_answers.specs.Answers.{HasManyItems}
 
 -- why no image of the pages is made: it has so many items, over the limit; want of memory says nothing
-abbrev pub IsItemCause : {S : Type 0} → S → (S → ℕ → S → List Letter → Type 0) → PlainProgram → ImageRefusal → Type 0
-IsItemCause first steps program (image.Large count) = (ITEM_LIMIT < count) × HasManyItems first steps program count
-IsItemCause first steps program image.Memory = ⊤
+abbrev pub IsItemCause : {S : Type 0} → S → (S → ℕ → S → List Letter → Type 0) → Table → PlainProgram → ImageRefusal → Type 0
+IsItemCause first steps table program (image.Large count) = (ITEM_LIMIT < count) × HasManyItems first steps table program count
+IsItemCause first steps table program image.Memory = ⊤
 
 -- the answer that a verdict on the pages is
 abbrev pub answer_of : Verdict → Answer

@@ -11,7 +11,7 @@ use summary_fixpoint::Verdict;
 pub enum Answer {
     /// Every loose page is good.
     Yes,
-    /// This is a derivation of a loose page that is not good.
+    /// This is a derivation of a loose page that is not good, by the grammar of loose pages.
     No(Derivation),
     /// Some nonterminal of an image, under the reader of pages, of the grammar that is made of the
     /// program has at least `count` different sums of sentences with derivations of at most

@@ -1,14 +1,15 @@
 //! From a grammar to an answer.
 
-ghost use Rattle.std.specs.Prelude.{IfOk, IfErr};
+ghost use Rattle.std.specs.Prelude.{◌≡◌, false, IfOk, IfErr};
 ghost use Rattle.dtd_model.specs.TableOf.{table_of};
 ghost use Rattle.php_program.specs.View.{program_of};
 ghost use Rattle.loose_grammar.specs.Pages.{IsLoosePage, IsPageGrammar};
 ghost use Rattle.page_decision.specs.Machines.{IsPageMachine};
 ghost use Rattle.page_decision.specs.PageSums.{AreSumsOf};
 ghost use Rattle.page_decision.specs.PageVerdicts.{IsPageVerdict};
-ghost use Rattle.program_answers.specs.Answers.{IsAnswerBy, IsPageImage};
-ghost use Rattle.program_answers.specs.Steps.{IsItemCause};
+ghost use Rattle.program_answers.specs.Answers.{IsAnswerBy, IsDerivationBy, IsPageImage};
+ghost use Rattle.program_answers.specs.Searches.{IsSearched};
+ghost use Rattle.program_answers.specs.Steps.{IsItemCause, is_settled};
 
 use crate::answer::{Answer, verdict_answer};
 use crate::pages::decide_grammar;
@@ -23,7 +24,8 @@ use std::alloc::Global;
 use summary_fixpoint::Verdict;
 use text_base::NoMemory;
 
-/// Whether each loose page is good.
+/// Whether each loose page is good. Where a limit is answered, no page is broken by the definition, or
+/// the search for one passed its own limit.
 fn verdict_by<M: Machine>(
     alloc: Global,
     program: &Program,
@@ -41,17 +43,21 @@ fn verdict_by<M: Machine>(
     ensures verdict { IfOk result
         (IsPageVerdict (table_of dtd.now) (IsLoosePage (program_of program.now))
         (IsPageImage (M.first machine.now) (M.steps machine.now) (M.ends machine.now)
-        (program_of program.now)) goal pairs) }
+        (program_of program.now)) (IsDerivationBy (program_of program.now)) goal pairs) }
     ensures cause { IfErr result
-        (IsItemCause (M.first machine.now) (M.steps machine.now) (program_of program.now)) }
+        (IsItemCause (M.first machine.now) (M.steps machine.now) (table_of dtd.now)
+        (program_of program.now)) }
+    ensures searched { is_settled result ≡ false
+        → IsSearched (table_of dtd.now) (program_of program.now) }
 {
     let _ = program;
     decide_grammar(alloc, grammar, dtd, goal, machine, sums, pairs)
 }
 
 /// Whether each loose page of the program is good by the goal and the definition, with at most
-/// `pairs` different sums of sentences a nonterminal. A page that is broken whatever the definition
-/// is looked for too, and is found also where the whole decision passes a limit.
+/// `pairs` different sums of sentences a nonterminal. Where that passes a limit, a page that is broken
+/// by the definition is looked for: if the search ends within its own limit, there is none where the
+/// limit is answered.
 ///
 /// # Errors
 ///

@@ -2,6 +2,7 @@
 
 ghost use Rattle.std.specs.Prelude.{◌≡◌, ℕ, List, false, IfOk, IfErr, IfSome, IfNone};
 ghost use Rattle.cfg_grammar.specs.declared.symbol.Symbol as symbols;
+ghost use Rattle.broken_search.specs.Found.{IsSearchCause};
 ghost use Rattle.dtd_model.specs.TableOf.{table_of};
 ghost use Rattle.image_meaning.specs.Outputs.{DerivesText};
 ghost use Rattle.grammar_image.specs.Refusals.{IsCause};
@@ -10,6 +11,9 @@ ghost use Rattle.page_decision.specs.Echoes.{IsMachineImage};
 ghost use Rattle.page_decision.specs.Machines.{IsPageMachine};
 ghost use Rattle.page_decision.specs.PageSums.{AreSumsOf};
 ghost use Rattle.page_decision.specs.PageVerdicts.{IsBadPage, IsPageVerdict};
+ghost use Rattle.page_decision.specs.TextVerdicts.{IsDerivationOf};
+ghost use Rattle.page_goals.specs.declared.goal.Goal as goals;
+ghost use Rattle.program_answers.specs.Searches.{NoneIsBroken, IsSearchedIn};
 ghost use Rattle.program_answers.specs.Steps.{is_settled};
 
 use crate::single_bytes::are_of_single_bytes;
@@ -42,7 +46,8 @@ fn find_coarsely(
     goal: Goal,
 ) -> Result<Option<Derivation>, ImageRefusal>
     ensures found { IfOk result (λ found. IfSome found (IsBadPage (table_of dtd.now)
-        (DerivesText grammar.now.productions.items (symbols.Symbol.Nt grammar.now.start)) goal)) }
+        (DerivesText grammar.now.productions.items (symbols.Symbol.Nt grammar.now.start))
+        (IsDerivationOf grammar.now) goal)) }
     ensures none { IfOk result (λ found. IfNone found ((page : List ℕ)
         → DerivesText grammar.now.productions.items (symbols.Symbol.Nt grammar.now.start) page
         → is_broken page ≡ false)) }
@@ -64,23 +69,28 @@ fn is_settled(decided: &Result<Verdict, ImageRefusal>) -> bool
     }
 }
 
-/// A derivation of a page that is broken by the definition, and so good by no goal, if there is one.
-fn find_exactly(
+/// A derivation of a page that is broken by the definition, and so good by no goal. None comes only
+/// where no page is.
+fn find_by_definition(
     alloc: Global,
     grammar: &Grammar,
     dtd: &Dtd,
-    goal: Goal,
 ) -> Result<Option<Derivation>, ImageRefusal>
-    ensures { IfOk result (λ found. IfSome found (IsBadPage (table_of dtd.now)
-        (DerivesText grammar.now.productions.items (symbols.Symbol.Nt grammar.now.start)) goal)) }
+    ensures found { IfOk result (λ found. IfSome found (λ derivation. (goal : goals.Goal)
+        → IsBadPage (table_of dtd.now)
+        (DerivesText grammar.now.productions.items (symbols.Symbol.Nt grammar.now.start))
+        (IsDerivationOf grammar.now) goal derivation)) }
+    ensures none { IfOk result (λ found. IfNone found (NoneIsBroken (table_of dtd.now)
+        (DerivesText grammar.now.productions.items (symbols.Symbol.Nt grammar.now.start)))) }
+    ensures cause { IfErr result (IsSearchCause (table_of dtd.now) grammar.now ITEM_LIMIT) }
 {
-    let _ = goal;
     broken_is_not_good();
     find_broken_page(alloc, grammar, dtd, ITEM_LIMIT)
 }
 
 /// Whether each page that the grammar derives is good. Where the decision passes a limit, a page that
-/// is broken by the definition is looked for.
+/// is broken by the definition is looked for: one that is found is the answer, and else there is none
+/// or the search passes its own limit.
 fn decide_first<M: Machine>(
     alloc: Global,
     grammar: &Grammar,
@@ -96,19 +106,24 @@ fn decide_first<M: Machine>(
     ensures verdict { IfOk result (IsPageVerdict (table_of dtd.now)
         (DerivesText grammar.now.productions.items (symbols.Symbol.Nt grammar.now.start))
         (IsMachineImage grammar.now (M.first machine.now) (M.steps machine.now)
-        (M.ends machine.now)) goal pairs) }
+        (M.ends machine.now)) (IsDerivationOf grammar.now) goal pairs) }
     ensures cause { IfErr result
         (IsCause grammar.now.productions.items (M.steps machine.now) grammar.now.start
         (M.first machine.now) ITEM_LIMIT) }
+    ensures searched { is_settled result ≡ false → IsSearchedIn (table_of dtd.now) grammar.now }
 {
     let decided = decide_pages(alloc, grammar, dtd, goal, machine, sums, ITEM_LIMIT, pairs);
     if is_settled(&decided) {
         return decided;
     }
-    match find_exactly(alloc, grammar, dtd, goal) {
+    match find_by_definition(alloc, grammar, dtd) {
         Ok(Some(derivation)) => Ok(Verdict::No(derivation)),
+        Ok(None) => decided,
+        Err(ImageRefusal::Large { items }) => {
+            let _ = items;
+            decided
+        }
         Err(ImageRefusal::Memory) => Err(ImageRefusal::Memory),
-        _ => decided,
     }
 }
 
@@ -129,10 +144,11 @@ fn find_first<M: Machine>(
     ensures verdict { IfOk result (IsPageVerdict (table_of dtd.now)
         (DerivesText grammar.now.productions.items (symbols.Symbol.Nt grammar.now.start))
         (IsMachineImage grammar.now (M.first machine.now) (M.steps machine.now)
-        (M.ends machine.now)) goal pairs) }
+        (M.ends machine.now)) (IsDerivationOf grammar.now) goal pairs) }
     ensures cause { IfErr result
         (IsCause grammar.now.productions.items (M.steps machine.now) grammar.now.start
         (M.first machine.now) ITEM_LIMIT) }
+    ensures searched { is_settled result ≡ false → IsSearchedIn (table_of dtd.now) grammar.now }
 {
     match find_coarsely(alloc, grammar, dtd, goal) {
         Ok(Some(derivation)) => Ok(Verdict::No(derivation)),
@@ -161,10 +177,11 @@ pub(crate) fn decide_grammar<M: Machine>(
     ensures verdict { IfOk result (IsPageVerdict (table_of dtd.now)
         (DerivesText grammar.now.productions.items (symbols.Symbol.Nt grammar.now.start))
         (IsMachineImage grammar.now (M.first machine.now) (M.steps machine.now)
-        (M.ends machine.now)) goal pairs) }
+        (M.ends machine.now)) (IsDerivationOf grammar.now) goal pairs) }
     ensures cause { IfErr result
         (IsCause grammar.now.productions.items (M.steps machine.now) grammar.now.start
         (M.first machine.now) ITEM_LIMIT) }
+    ensures searched { is_settled result ≡ false → IsSearchedIn (table_of dtd.now) grammar.now }
 {
     if are_of_single_bytes(&grammar.productions) {
         decide_first(alloc, grammar, dtd, goal, machine, sums, pairs)

@@ -17,29 +17,30 @@ use Rattle.program_answers.specs.refusal.TheConstants.{ITEM_LIMIT}
 use Rattle.program_answers.specs.Pages.{IsLoosePage}
 use Rattle.program_answers.specs.Answers as by_machine
 use Rattle.program_answers.specs.Answers.{EachIsGood, IsCounterexample}
+use Rattle.program_answers.specs.Searches.{IsSearched}
 use Rattle.script_decision.specs.declared.refusal.CheckRefusal.{CheckRefusal}
 use Rattle.script_decision.specs.declared.refusal.CheckRefusal.TheVariants as refusal
 
--- an image has at least so many items: that of an operation of the program, or that of its loose pages under the reader of the definition's
--- pages
+-- an image has at least so many items: that of an operation of the program, or, behind a search for a broken page, that of its loose pages
+-- under the reader of the definition's pages
 abbrev pub HasManyItems : Table → PlainProgram → ℕ → Type 0
 HasManyItems table program count =
-    by_machine.HasManyItems first_state (EchoStep (merged_next table) (tokens_at table) (tokens_behind table)) program count
+    by_machine.HasManyItems first_state (EchoStep (merged_next table) (tokens_at table) (tokens_behind table)) table program count
 
 -- the grammar is an image, under the reader of the definition's pages, of the grammar of loose pages that is made of the program
 abbrev pub IsReaderImage : Table → PlainProgram → Grammar → Type 0
 IsReaderImage table = by_machine.IsPageImage first_state (EchoStep (merged_next table) (tokens_at table) (tokens_behind table))
     (EchoEnd (merged_next table) (tokens_at table) (tokens_behind table))
 
--- yes: each loose page is good; no: a derivation of one that is not; a stated count that is passed: of sums of the sentences of a
--- nonterminal, of unmatched tags, of items
+-- yes: each loose page is good; no: a derivation of one that is not; a stated count that is passed, behind a search for a broken page: of
+-- sums of the sentences of a nonterminal, of unmatched tags, of items
 abbrev pub IsAnswerOf : Goal → Table → PlainProgram → ℕ → Answer → Type 0
 IsAnswerOf goal table program limit Answer.Yes = EachIsGood goal table program
 IsAnswerOf goal table program limit (Answer.No derivation) = IsCounterexample goal table program derivation
 IsAnswerOf goal table program limit (Answer.Pairs count height) =
-    HasManyPairs table (IsLoosePage program) (IsReaderImage table program) goal limit count height
+    IsSearched table program × HasManyPairs table (IsLoosePage program) (IsReaderImage table program) goal limit count height
 IsAnswerOf goal table program limit (Answer.Tags count height) =
-    HasManyOpenTags table (IsLoosePage program) (IsReaderImage table program) goal count height
+    IsSearched table program × HasManyOpenTags table (IsLoosePage program) (IsReaderImage table program) goal count height
 IsAnswerOf goal table program limit (Answer.Items count) = (ITEM_LIMIT < count) × HasManyItems table program count
 
 -- the content models of the definition have over 4,096 states, at least so many

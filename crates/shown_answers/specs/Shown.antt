@@ -8,6 +8,7 @@ use Rattle.page_decision.specs.PageVerdicts.{HasManyPairs, HasManyOpenTags}
 use Rattle.script_decision.specs.refusal.TheConstants.{ITEM_LIMIT}
 use Rattle.script_decision.specs.Pages.{IsLoosePage}
 use Rattle.script_decision.specs.Answers.{EachIsGood, RunsAreGood}
+use Rattle.script_decision.specs.Searches.{IsSearched}
 use Rattle.script_decision.specs.Decision.{HasManyItems, IsReaderImage}
 use Rattle.shown_pages.specs.declared.showing.ShownPage.{ShownPage}
 use Rattle.shown_pages.specs.Shows.{Shows}
@@ -20,15 +21,15 @@ pub record IsShownCounterexample (goal : Goal) (table : Table) (program : PlainP
   pub bad : IsGood goal table page → ⊥
   pub shows : Shows page shown
 
--- yes: each loose page is good; no: what is shown of one that is not; a stated count that is passed: of sums of the sentences of a
--- nonterminal, of unmatched tags, of items
+-- yes: each loose page is good; no: what is shown of one that is not; a stated count that is passed, behind a search for a broken page: of
+-- sums of the sentences of a nonterminal, of unmatched tags, of items
 abbrev pub IsShownAnswer : Goal → Table → PlainProgram → ℕ → ShownAnswer → Type 0
 IsShownAnswer goal table program limit ShownAnswer.Yes = EachIsGood goal table program
 IsShownAnswer goal table program limit (ShownAnswer.No shown) = IsShownCounterexample goal table program shown
 IsShownAnswer goal table program limit (ShownAnswer.Pairs count height) =
-    HasManyPairs table (IsLoosePage program) (IsReaderImage table program) goal limit count height
+    IsSearched table program × HasManyPairs table (IsLoosePage program) (IsReaderImage table program) goal limit count height
 IsShownAnswer goal table program limit (ShownAnswer.Tags count height) =
-    HasManyOpenTags table (IsLoosePage program) (IsReaderImage table program) goal count height
+    IsSearched table program × HasManyOpenTags table (IsLoosePage program) (IsReaderImage table program) goal count height
 IsShownAnswer goal table program limit (ShownAnswer.Items count) = (ITEM_LIMIT < count) × HasManyItems table program count
 
 -- what it says of the program's runs: a yes, that every one, for every admitted request and every number of units, that ends prints a good

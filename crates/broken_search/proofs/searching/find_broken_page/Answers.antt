@@ -5,13 +5,14 @@ use Rattle.dtd_model.specs.Table.{Table}
 use Rattle.dtd_model.specs.TableOf.{table_of}
 use Rattle.image_meaning.specs.Outputs.{DerivesText}
 use Rattle.page_model.specs.Broken.{Broken}
-use Rattle.broken_search.specs.Found.{IsBrokenPage, IsLargeSearch}
+use Rattle.text_decision.specs.TextVerdicts.{IsDerivationOf}
+use Rattle.broken_search.specs.Found.{IsBrokenPage, IsSearchCause}
 use Rattle.broken_search.proofs.searching.find_broken_page.Goals as goal
 
 pub returns-clause-found : goal.returns-clause-found
 returns-clause-found c =
     let pages = DerivesText c.args.grammar.now.productions.items (symbols.Symbol.Nt c.args.grammar.now.start) in
-    subst (λ (table : Table). IfOk c.find_by.result (λ found. IfSome found (IsBrokenPage table pages))) (ap table_of c.in_ok-indexed.ensures) c.find_by.ensures.found
+    subst (λ (table : Table). IfOk c.find_by.result (λ found. IfSome found (IsBrokenPage table pages (IsDerivationOf c.args.grammar.now)))) (ap table_of c.in_ok-indexed.ensures) c.find_by.ensures.found
 
 pub returns-clause-none : goal.returns-clause-none
 returns-clause-none c =
@@ -20,4 +21,4 @@ returns-clause-none c =
 
 pub returns-clause-cause : goal.returns-clause-cause
 returns-clause-cause c =
-    subst (λ (table : Table). IfErr c.find_by.result (IsLargeSearch table c.args.grammar.now c.args.items)) (ap table_of c.in_ok-indexed.ensures) c.find_by.ensures.cause
+    subst (λ (table : Table). IfErr c.find_by.result (IsSearchCause table c.args.grammar.now c.args.items)) (ap table_of c.in_ok-indexed.ensures) c.find_by.ensures.cause

@@ -1,7 +1,7 @@
-use Rattle.std.proofs.lemmas.Result.{IfOk-weaker, IfErr-weaker}
+use Rattle.std.proofs.lemmas.Result.{IfOk-weaker}
 use Rattle.dtd_model.specs.TableOf.{table_of}
 use Rattle.php_program.specs.View.{program_of}
-use Rattle.program_answers.proofs.PageLemmas.{verdict_on_program, pages_cause}
+use Rattle.program_answers.proofs.PageLemmas.{verdict_on_program, cause_on_program, searched_on_program}
 use Rattle.program_answers.proofs.answering.verdict_by.Goals as goal
 
 pub returns-clause-verdict : goal.returns-clause-verdict
@@ -16,6 +16,9 @@ pub returns-clause-cause : goal.returns-clause-cause
 returns-clause-cause g c =
     let m = c.args.machine.now in
     let made = c.args.grammar.now in
-    IfErr-weaker c.decide_grammar.result _ _
-    (λ refusal is. pages_cause (program_of c.args.program.now) (g.M.Machine.first m) (g.M.Machine.steps m) made refusal c.requires.grammar is)
-    c.decide_grammar.ensures.cause
+    cause_on_program (program_of c.args.program.now) (g.M.Machine.first m) (g.M.Machine.steps m) made (table_of c.args.dtd.now) c.decide_grammar.result c.requires.grammar
+    c.decide_grammar.ensures.searched c.decide_grammar.ensures.cause
+
+pub returns-clause-searched : goal.returns-clause-searched
+returns-clause-searched g c e =
+    searched_on_program (program_of c.args.program.now) c.args.grammar.now (table_of c.args.dtd.now) c.requires.grammar (c.decide_grammar.ensures.searched e)
