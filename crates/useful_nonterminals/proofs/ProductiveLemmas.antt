@@ -1,8 +1,8 @@
 -- What derives something, and what is useful, is what follows.
-use Rattle.std.proofs.Common.{◌≡◌, ℕ, ◌<◌, ◌⊎◌, ◌↔◌, inl, inr, zero, suc, Bool, true, false, ◌&&◌, if◌then◌else◌, List, [], ◌∷◌, ◌++◌, length, get_or, Contains, refl, sym, ◌∙◌, ap, subst, arith, Option, Some, None, true≢false}
+use Rattle.std.proofs.Common.{◌≡◌, ℕ, ◌<◌, ◌⊎◌, ◌↔◌, inl, inr, zero, suc, Bool, true, false, ◌&&◌, ◌==◌, if◌then◌else◌, List, [], ◌∷◌, ◌++◌, length, get_or, Contains, refl, sym, ◌∙◌, ap, subst, arith, Option, Some, None, true≢false}
 use Rattle.std.specs.Cmp.{first_so, second_so}
 use Rattle.std.proofs.lemmas.Option.{same_Some, get_or_from_slice_get, slice_get_read}
-use Rattle.std.proofs.lemmas.Bool.{cases_lt}
+use Rattle.std.proofs.lemmas.Bool.{cases_lt, eqb-true}
 use Rattle.std.proofs.lemmas.List.{get_or_default, get_or_past}
 use Rattle.text_base.specs.declared.letter.Letter.{Letter}
 use Rattle.text_base.specs.declared.letter.Letter.TheVariants.{OfByte, OfToken}
@@ -16,7 +16,7 @@ use Rattle.cfg_grammar.specs.Derives.{Derives}
 use Rattle.useful_nonterminals.specs.declared.rule.Rule.{Rule}
 use Rattle.useful_nonterminals.specs.Follows.{Follows, IsMarked}
 use Rattle.useful_nonterminals.specs.Useful.{IsProductive, IsUseful}
-use Rattle.useful_nonterminals.specs.Rules.{number_in, numbers_in, fact_for, rule_for, facts_of, rules_of, step_for, steps_of, start_of}
+use Rattle.useful_nonterminals.specs.Rules.{number_in, numbers_in, fact_for, rule_for, facts_of, rules_of, steps_to, step_for, steps_of, start_of}
 use Rattle.useful_nonterminals.proofs.RuleLemmas.{in_flat_map, flat_map_has, IsOn, numbers_none, numbers_some, numbers_are}
 
 only : {X : Type 0} (y x : X) → Contains (y ∷ []) x → y ≡ x
@@ -117,10 +117,13 @@ module _ (ps : List Production) where
     in_start true s n c = (refl, only s n c)
     in_start false s n c = absurd (none_in n c)
 
-    in_step_if : (test : Bool) (left a b : ℕ) (rule : Rule) → Contains (if test then record { first = left; second = left; conclusion = a } ∷ record { first = left; second = left; conclusion = b } ∷ [] else []) rule → (test ≡ true) × (left ≡ rule.first) × ((a ≡ rule.conclusion) ⊎ (b ≡ rule.conclusion))
+    in_second : (same : Bool) (left b : ℕ) (rule : Rule) → Contains (if same then [] else record { first = left; second = left; conclusion = b } ∷ []) rule → (left ≡ rule.first) × (b ≡ rule.conclusion)
+    in_second true left b rule c = absurd (none_in rule c)
+    in_second false left b rule c = let e = only _ rule c in (ap (λ (r : Rule). r.first) e, ap (λ (r : Rule). r.conclusion) e)
+
+    in_step_if : (test : Bool) (left a b : ℕ) (rule : Rule) → Contains (if test then steps_to left a b else []) rule → (test ≡ true) × (left ≡ rule.first) × ((a ≡ rule.conclusion) ⊎ (b ≡ rule.conclusion))
     in_step_if true left a b rule (zero, l, e) = (refl, ap (λ (r : Rule). r.first) e, inl (ap (λ (r : Rule). r.conclusion) e))
-    in_step_if true left a b rule (suc zero, l, e) = (refl, ap (λ (r : Rule). r.first) e, inr (ap (λ (r : Rule). r.conclusion) e))
-    in_step_if true left a b rule (suc (suc n), l, e) = absurd (omega (arith, l))
+    in_step_if true left a b rule (suc n, l, e) = let h = in_second (a == b) left b rule (n, omega (arith, l), e) in (refl, h.0, inr h.1)
     in_step_if false left a b rule c = absurd (none_in rule c)
 
     in_step : (left : ℕ) (rule : Rule) (o : Option (ℕ × ℕ)) → Contains (step_for marks left o) rule → (ab : ℕ × ℕ) × (o ≡ Some ab) × ((get_or marks ab.0 false && get_or marks ab.1 false) ≡ true) × (left ≡ rule.first) × ((ab.0 ≡ rule.conclusion) ⊎ (ab.1 ≡ rule.conclusion))
@@ -174,8 +177,12 @@ module _ (ps : List Production) where
     has_start true s e = (0, omega arith, refl)
     has_start false s e = cc
 
-    has_step : (test : Bool) (left a b : ℕ) → test ≡ true → Contains {X = Rule} (if test then record { first = left; second = left; conclusion = a } ∷ record { first = left; second = left; conclusion = b } ∷ [] else []) (record { first = left; second = left; conclusion = a }) × Contains {X = Rule} (if test then record { first = left; second = left; conclusion = a } ∷ record { first = left; second = left; conclusion = b } ∷ [] else []) (record { first = left; second = left; conclusion = b })
-    has_step true left a b e = ((0, omega arith, refl), (1, omega arith, refl))
+    has_second : (same : Bool) (left a b : ℕ) → (same ≡ true → a ≡ b) → Contains {X = Rule} (record { first = left; second = left; conclusion = a } ∷ (if same then [] else record { first = left; second = left; conclusion = b } ∷ [])) (record { first = left; second = left; conclusion = b })
+    has_second true left a b e = (0, omega arith, ap (λ (n : ℕ). record { first = left; second = left; conclusion = n }) (e refl))
+    has_second false left a b e = (1, omega arith, refl)
+
+    has_step : (test : Bool) (left a b : ℕ) → test ≡ true → Contains {X = Rule} (if test then steps_to left a b else []) (record { first = left; second = left; conclusion = a }) × Contains {X = Rule} (if test then steps_to left a b else []) (record { first = left; second = left; conclusion = b })
+    has_step true left a b e = ((0, omega arith, refl), has_second (a == b) left a b (eqb-true a b))
     has_step false left a b e = cc
 
     both_true : (x y : Bool) → x ≡ true → y ≡ true → (x && y) ≡ true

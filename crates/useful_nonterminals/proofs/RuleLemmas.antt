@@ -1,5 +1,5 @@
 -- What the rules of productions say of derivations.
-use Rattle.std.proofs.Common.{◌≡◌, ℕ, ◌<◌, ◌⊎◌, inl, inr, zero, suc, Bool, true, false, ◌&&◌, if◌then◌else◌, List, [], ◌∷◌, get_or, Contains, refl, sym, ◌∙◌, ap, subst, arith, Option, Some, None}
+use Rattle.std.proofs.Common.{◌≡◌, ℕ, ◌<◌, ◌⊎◌, inl, inr, zero, suc, Bool, true, false, ◌&&◌, ◌==◌, if◌then◌else◌, List, [], ◌∷◌, get_or, Contains, refl, sym, ◌∙◌, ap, subst, arith, Option, Some, None}
 use Rattle.std.specs.List.{All, flat_map, list_all}
 use Rattle.std.specs.Cmp.{first_so, second_so}
 use Rattle.std.proofs.lemmas.List.Elements.{Contains-append_cases, Contains-append_left, Contains-append_right, All-nil, All-cons, All-append}
@@ -12,7 +12,7 @@ use Rattle.cfg_grammar.specs.declared.production.Right.TheVariants.{Empty, One, 
 use Rattle.cfg_grammar.specs.declared.production.Production.{Production}
 use Rattle.cfg_grammar.specs.Below.{symbol_below, production_below, symbols_of}
 use Rattle.useful_nonterminals.specs.Follows.{IsRuleBelow}
-use Rattle.useful_nonterminals.specs.Rules.{number_in, both, numbers_in, fact_for, rule_for, facts_of, rules_of, step_for, steps_of, start_of}
+use Rattle.useful_nonterminals.specs.Rules.{number_in, both, numbers_in, fact_for, rule_for, facts_of, rules_of, steps_to, step_for, steps_of, start_of}
 
 -- members of a list that is joined of lists
 pub in_flat_map : {X Y : Type 0} (f : X → List Y) (xs : List X) (y : Y) → Contains (flat_map f xs) y → (x : X) × Contains xs x × Contains (f x) y
@@ -110,10 +110,15 @@ module _ (count : ℕ) where
       let p = f ab refl in
       All-cons (IsRuleBelow count) (record { first = ab.0; second = ab.1; conclusion = left }) [] (record { first = p.0; second = p.1; conclusion = l }) (All-nil (IsRuleBelow count))
 
-  step_if_below : (test : Bool) (left a b : ℕ) → left < count → a < count → b < count → All (IsRuleBelow count) (if test then record { first = left; second = left; conclusion = a } ∷ record { first = left; second = left; conclusion = b } ∷ [] else [])
+  second_below : (same : Bool) (left b : ℕ) → left < count → b < count → All (IsRuleBelow count) (if same then [] else record { first = left; second = left; conclusion = b } ∷ [])
+  second_below true left b l m = All-nil (IsRuleBelow count)
+  second_below false left b l m =
+      All-cons (IsRuleBelow count) (record { first = left; second = left; conclusion = b }) [] (record { first = l; second = l; conclusion = m }) (All-nil (IsRuleBelow count))
+
+  step_if_below : (test : Bool) (left a b : ℕ) → left < count → a < count → b < count → All (IsRuleBelow count) (if test then steps_to left a b else [])
   step_if_below true left a b l k m =
-      All-cons (IsRuleBelow count) (record { first = left; second = left; conclusion = a }) (record { first = left; second = left; conclusion = b } ∷ []) (record { first = l; second = l; conclusion = k })
-      (All-cons (IsRuleBelow count) (record { first = left; second = left; conclusion = b }) [] (record { first = l; second = l; conclusion = m }) (All-nil (IsRuleBelow count)))
+      All-cons (IsRuleBelow count) (record { first = left; second = left; conclusion = a }) (if a == b then [] else record { first = left; second = left; conclusion = b } ∷ [])
+      (record { first = l; second = l; conclusion = k }) (second_below (a == b) left b l m)
   step_if_below false left a b l k m = All-nil (IsRuleBelow count)
 
   step_is_below : (marks : List Bool) (left : ℕ) (o : Option (ℕ × ℕ)) → left < count → ((ab : ℕ × ℕ) → o ≡ Some ab → (ab.0 < count) × (ab.1 < count)) → All (IsRuleBelow count) (step_for marks left o)

@@ -1,5 +1,5 @@
 -- The rules that productions stand for.
-use Rattle.std.specs.Prelude.{ℕ, Bool, false, ◌&&◌, if◌then◌else◌, List, [], ◌∷◌, get_or, Option, None, Some}
+use Rattle.std.specs.Prelude.{ℕ, Bool, false, ◌&&◌, ◌==◌, if◌then◌else◌, List, [], ◌∷◌, get_or, Option, None, Some}
 use Rattle.std.specs.List.{flat_map}
 use Rattle.cfg_grammar.specs.declared.symbol.Symbol.{Symbol}
 use Rattle.cfg_grammar.specs.declared.symbol.Symbol.TheVariants.{Range, Token, Nt}
@@ -45,14 +45,16 @@ facts_of ps = flat_map (λ p. fact_for p.left.0 (numbers_in p.right)) ps
 abbrev pub rules_of : List Production → List Rule
 rules_of ps = flat_map (λ p. rule_for p.left.0 (numbers_in p.right)) ps
 
+-- both numbers are reached from the left: one step where they are one
+abbrev pub steps_to : ℕ → ℕ → ℕ → List Rule
+steps_to left a b =
+    record { first = left; second = left; conclusion = a }
+    ∷ (if a == b then [] else record { first = left; second = left; conclusion = b } ∷ [])
+
 -- what stands on the right is reached from the left, where all nonterminals there derive something
 abbrev pub step_for : List Bool → ℕ → Option (ℕ × ℕ) → List Rule
 step_for marks left None = []
-step_for marks left (Some ab) =
-    if get_or marks ab.0 false && get_or marks ab.1 false then
-    record { first = left; second = left; conclusion = ab.0 } ∷ record { first = left; second = left; conclusion = ab.1 } ∷ []
-    else
-    []
+step_for marks left (Some ab) = if get_or marks ab.0 false && get_or marks ab.1 false then steps_to left ab.0 ab.1 else []
 
 -- from the left side of each production what stands on its right follows, where these are marked as deriving something
 abbrev pub steps_of : List Bool → List Production → List Rule

@@ -4,7 +4,7 @@ ghost use Rattle.std.specs.Prelude.{◌≡◌, ◌↔◌, ◌++◌, false, get_o
 ghost use Rattle.text_base.specs.declared.numbers.Nt as nt;
 ghost use Rattle.useful_nonterminals.specs.Follows.{IsMarked};
 ghost use Rattle.useful_nonterminals.specs.Useful.{IsUseful};
-ghost use Rattle.useful_nonterminals.specs.Rules.{numbers_in, step_for, steps_of, start_of};
+ghost use Rattle.useful_nonterminals.specs.Rules.{numbers_in, steps_to, step_for, steps_of, start_of};
 
 use crate::drawing::closure;
 use crate::producing::{premises, productive};
@@ -34,6 +34,26 @@ fn start_facts(alloc: Global, marks: &[bool], start: u64) -> Result<Vec<u64>, No
     Ok(facts)
 }
 
+/// Adds the steps to two numbers: one where they are one.
+fn add_steps_to(steps: &mut Vec<Rule>, left: u64, a: u64, b: u64) -> Result<(), NoMemory>
+    ensures { OnOk result (steps.new.items ≡ steps.old.items ++ steps_to left a b) }
+{
+    steps.push(Rule {
+        first: left,
+        second: left,
+        conclusion: a,
+    })?;
+    if a == b {
+        return Ok(());
+    }
+    steps.push(Rule {
+        first: left,
+        second: left,
+        conclusion: b,
+    })?;
+    Ok(())
+}
+
 /// Adds the steps from the left of a production to what stands on its right.
 fn add_step(marks: &[bool], steps: &mut Vec<Rule>, production: Production) -> Result<(), NoMemory>
     ensures { OnOk result
@@ -46,18 +66,7 @@ fn add_step(marks: &[bool], steps: &mut Vec<Rule>, production: Production) -> Re
     if !(is_marked(marks, a) && is_marked(marks, b)) {
         return Ok(());
     }
-    let left = production.left.0;
-    steps.push(Rule {
-        first: left,
-        second: left,
-        conclusion: a,
-    })?;
-    steps.push(Rule {
-        first: left,
-        second: left,
-        conclusion: b,
-    })?;
-    Ok(())
+    add_steps_to(steps, production.left.0, a, b)
 }
 
 /// The steps of all productions.
