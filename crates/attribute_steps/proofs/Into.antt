@@ -1,18 +1,17 @@
 -- What is read to an end behind attributes: they are attributes that may stand.
-use Rattle.std.proofs.Common.{◌≡◌, ◌≢◌, ℕ, zero, suc, ◌+◌, ◌≤◌, ◌<◌, Bool, true, false, not, ◌&&◌, List, [], ◌∷◌, ◌++◌, Option, Some, None, refl, sym, ◌∙◌, ap, subst, arith, length, append-nil, append_assoc, length-append}
+use Rattle.std.proofs.Common.{◌≡◌, ◌≢◌, ℕ, zero, suc, ◌+◌, ◌≤◌, ◌<◌, Bool, true, false, List, [], ◌∷◌, ◌++◌, refl, sym, ◌∙◌, ap, subst, arith, length, append-nil, append_assoc, length-append}
 use Rattle.std.specs.Prelude.{if◌then◌else◌, nat_eq}
 use Rattle.std.specs.List.{list_all}
-use Rattle.std.proofs.lemmas.Bool.{and_parts, and_from, eqb-true}
+use Rattle.std.proofs.lemmas.Bool.{and_from, eqb-true}
 use Rattle.xml_text.specs.Characters.{is_blank, is_character}
-use Rattle.xml_text.specs.Names.{begins_name, in_name, is_name}
+use Rattle.xml_text.specs.Names.{begins_name, in_name}
 use Rattle.page_model.specs.Parts.{Attribute, attribute_then, attributes_then, is_quote}
-use Rattle.piece_steps.specs.Insides.{Turn, closing, accepts}
-use Rattle.piece_steps.specs.Readers.{Move, go, done, fail, Reader, Outcome, whole, next, ends}
-use Rattle.piece_steps.proofs.Within.{Left, within, Closed, closer_past}
+use Rattle.piece_steps.specs.Insides.{closing}
+use Rattle.piece_steps.specs.Readers.{Move, go, fail, Reader, Outcome, whole, next, ends}
+use Rattle.piece_steps.proofs.Within.{within, closer_past}
 use Rattle.page_fronts.specs.OpenTags.{OpenAttribute, between, in_attribute_name, behind_name, behind_equals, in_value}
-use Rattle.page_fronts.specs.OpenValues.{OpenValue}
-use Rattle.page_steps.specs.AttributeSteps.{Allowing, AttributeMove, stays, ends_with, leaves, stops, equals_move, attribute_move}
-use Rattle.attribute_steps.specs.Among.{moved, IsAmong, is_free, May, AllMay, names_behind}
+use Rattle.page_steps.specs.AttributeSteps.{Allowing, AttributeMove, stays, leaves, stops, equals_move, attribute_move}
+use Rattle.attribute_steps.specs.Among.{moved, IsAmong, May, AllMay, names_behind}
 use Rattle.attribute_steps.proofs.Over.{spaced_by, value_inside}
 
 grows : (xs ys : List ℕ) → length ys ≤ length (xs ++ ys)

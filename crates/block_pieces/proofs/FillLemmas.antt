@@ -1,8 +1,8 @@
 -- Exits that are replaced, one by one.
-use Rattle.std.proofs.Common.{◌≡◌, ◌∙◌, ℕ, ◌+◌, List, [], ◌∷◌, ◌++◌, length, map, refl, sym, ap, subst, arith, append_assoc, length-append}
+use Rattle.std.proofs.Common.{◌≡◌, ◌∙◌, ℕ, ◌+◌, List, [], ◌∷◌, ◌++◌, length, map, refl, sym, ap, arith, append_assoc, length-append}
 use Rattle.std.specs.Prelude.{slice_set}
 use Rattle.std.proofs.Math.Seq.{set-append_seam}
-use Rattle.std.proofs.lemmas.List.{map-append, length-map, length-set}
+use Rattle.std.proofs.lemmas.List.{length-set}
 use Rattle.flow_code.specs.Points.{PlainPoint, jump_point, branch_point, next_point}
 use Rattle.flow_code.specs.Code.{Targets}
 use Rattle.flow_lowering.specs.Emits.{Progress}

@@ -1,9 +1,9 @@
 -- Loops, from their parts as they were put.
-use Rattle.std.proofs.Common.{◌≡◌, ◌∙◌, ℕ, ◌+◌, List, [], ◌∷◌, ◌++◌, length, map, refl, sym, ap, arith, append_assoc, length-append}
+use Rattle.std.proofs.Common.{◌≡◌, ◌∙◌, ℕ, ◌+◌, List, [], ◌∷◌, ◌++◌, length, map, refl, sym, ap, arith, append_assoc}
 use Rattle.std.specs.Prelude.{Option, Some, None}
-use Rattle.std.proofs.lemmas.List.{map-append, length-map}
+use Rattle.std.proofs.lemmas.List.{length-map}
 use Rattle.text_base.specs.declared.numbers.Slot.{Slot}
-use Rattle.flow_code.specs.Points.{PlainPoint, branch_point, jump_point, begin_point, next_point, key_point, value_point}
+use Rattle.flow_code.specs.Points.{PlainPoint, branch_point, jump_point, begin_point, next_point}
 use Rattle.flow_code.specs.Code.{Code, Targets, Block}
 use Rattle.flow_code.specs.Statements.{Test, test_of, looping, repeating, walking, pair_points, pair_size}
 use Rattle.flow_lowering.specs.declared.builder.Reserved.{Reserved}
@@ -13,7 +13,7 @@ use Rattle.flow_lowering.proofs.BranchLemmas.{replaces_between}
 use Rattle.block_pieces.specs.declared.exits.Exit.{Exit}
 use Rattle.block_pieces.specs.declared.heads.Head.{Head}
 use Rattle.block_pieces.specs.declared.heads.Head.TheVariants as head
-use Rattle.block_pieces.specs.Drafts.{Draft, unaimed, aimed, exits_from, replaced, filled, closed}
+use Rattle.block_pieces.specs.Drafts.{unaimed, replaced, filled, closed}
 use Rattle.block_pieces.specs.Blocks.{Lays, Drafts, Opens, EndsLoop, walk_head}
 use Rattle.block_pieces.proofs.ReplaceLemmas.{replaces_plain}
 use Rattle.block_pieces.proofs.FillLemmas.{filled_first, filled_slot, filled_length, closed_length, filled_draft}

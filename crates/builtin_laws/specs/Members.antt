@@ -1,6 +1,6 @@
 -- The values of an array that are texts.
-use Rattle.std.specs.Prelude.{◌≡◌, ◌⊎◌, ℕ, List, Contains}
-use Rattle.plain_values.specs.Plain.{Plain, PlainKey, Pairs, null, text, array, empty, pair}
+use Rattle.std.specs.Prelude.{◌≡◌, ◌⊎◌, ℕ, List}
+use Rattle.plain_values.specs.Plain.{Pairs, text, array, empty, pair}
 
 -- the text is the value of some member
 abbrev pub HasText : Pairs → List ℕ → Type 0

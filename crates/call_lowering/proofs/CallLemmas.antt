@@ -1,14 +1,14 @@
 -- Calls, from their parts as they were emitted.
-use Rattle.std.proofs.Common.{◌≡◌, ◌∙◌, ℕ, ℤ, zero, suc, ◌+◌, ◌≤◌, ◌<◌, Bool, true, false, List, [], ◌∷◌, ◌++◌, length, map, drop, take, get_or, Some, None, refl, sym, ap, subst, arith, append_assoc}
+use Rattle.std.proofs.Common.{◌≡◌, ◌∙◌, ℕ, zero, suc, ◌+◌, ◌≤◌, ◌<◌, List, [], ◌∷◌, ◌++◌, length, map, drop, take, get_or, Some, None, refl, sym, ap, subst, arith, append_assoc}
 use Rattle.std.proofs.lemmas.List.{map-append}
 use Rattle.text_base.specs.declared.numbers.Slot.{Slot}
 use Rattle.script_meaning.specs.Programs.{literal_value}
 use Rattle.flow_code.specs.View.{slot_number}
-use Rattle.std.specs.Prelude.{Option, nat_le, nat_abs, neg_ℤ}
+use Rattle.std.specs.Prelude.{Option}
 use Rattle.php_syntax.specs.declared.tree.Expr.{Expr}
 use Rattle.php_syntax.specs.declared.tree.Param.{Param}
-use Rattle.php_syntax.specs.Trees.{PlainExpr, PlainExprs, no_exprs, more_exprs, some_expr, neg_expr, int_expr, PlainParam, PlainFunction, plain_expr, plain_function, exprs_of, plain_param, params_of_list, maybe_of}
-use Rattle.flow_code.specs.Points.{PlainPoint, PlainSource, call_point, literal_source, number_source}
+use Rattle.php_syntax.specs.Trees.{PlainExpr, no_exprs, more_exprs, some_expr, neg_expr, int_expr, PlainFunction, plain_expr, plain_function, exprs_of, params_of_list, maybe_of}
+use Rattle.flow_code.specs.Points.{PlainSource, call_point, number_source}
 use Rattle.flow_code.specs.Code.{Code, both, computed}
 use Rattle.flow_code.specs.Expressions.{literal, default_code, default_codes, called, call_own, call_code, number_of}
 use Rattle.flow_code.specs.Builtins.{builtin_source, source_of_one}

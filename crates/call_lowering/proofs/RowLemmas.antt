@@ -1,5 +1,5 @@
 -- Rows of so many slots.
-use Rattle.std.proofs.Common.{◌≡◌, ℕ, List, [], ◌∷◌, length, map, get_or, refl, sym, ap, arith}
+use Rattle.std.proofs.Common.{◌≡◌, List, [], ◌∷◌, length, map, get_or, sym, ap, arith}
 use Rattle.text_base.specs.declared.numbers.Slot.{Slot}
 use Rattle.flow_code.specs.View.{slot_number}
 

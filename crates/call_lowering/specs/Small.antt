@@ -1,6 +1,6 @@
 -- Integer literals that machines are made for.
 use Rattle.std.specs.Prelude.{◌≡◌, ⊤, ℤ, true, false, Option, Some, None}
-use Rattle.flow_code.specs.Builtins.{literal_integer, is_small}
+use Rattle.flow_code.specs.Builtins.{is_small}
 
 -- there is none, or it is too large
 abbrev pub IsNotSmall : Option ℤ → Type 0

@@ -1,7 +1,7 @@
 -- All productions of an image together.
-use Rattle.std.proofs.Common.{◌≡◌, ℕ, ◌+◌, ◌<◌, ◌≤◌, ◌⊎◌, inl, inr, zero, suc, Bool, true, ◌&&◌, IsTrue, ltb, List, [], ◌∷◌, length, Contains, refl, sym, ◌∙◌, ap, subst, arith, Some, slice_get}
+use Rattle.std.proofs.Common.{◌≡◌, ℕ, ◌+◌, ◌<◌, inl, inr, zero, suc, Bool, true, ◌&&◌, IsTrue, ltb, List, [], ◌∷◌, length, Contains, refl, sym, ap, subst, arith, Some, slice_get}
 use Rattle.std.specs.List.{All, list_all}
-use Rattle.std.proofs.lemmas.List.Elements.{All-weaker, All-contains}
+use Rattle.std.proofs.lemmas.List.Elements.{All-weaker}
 use Rattle.std.proofs.lemmas.Option.{slice_get_within}
 use Rattle.std.proofs.lemmas.Bool.{lt-ltb}
 use Rattle.text_base.specs.declared.numbers.Nt as nt

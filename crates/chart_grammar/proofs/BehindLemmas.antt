@@ -1,5 +1,5 @@
 -- What is written behind other productions.
-use Rattle.std.proofs.Common.{◌≡◌, ℕ, ◌<◌, ◌⊎◌, inl, inr, zero, suc, List, [], ◌∷◌, ◌++◌, length, Contains, refl, sym, ap, subst, arith, Some, slice_get}
+use Rattle.std.proofs.Common.{◌≡◌, ℕ, ◌⊎◌, inl, inr, zero, suc, List, [], ◌∷◌, ◌++◌, length, Contains, refl, sym, ap, subst, Some, slice_get}
 use Rattle.std.proofs.lemmas.Option.{slice_get_within}
 use Rattle.cfg_grammar.specs.declared.production.Production.{Production}
 use Rattle.numbered_sets.specs.Numbers.{Keeps}

@@ -1,5 +1,5 @@
 -- What holds of productions stays as more are written and more fronts are numbered.
-use Rattle.std.proofs.Common.{◌≡◌, ℕ, List, Contains}
+use Rattle.std.proofs.Common.{ℕ, List, Contains}
 use Rattle.text_base.specs.declared.byte_range.ByteRange.{ByteRange}
 use Rattle.text_base.specs.declared.numbers.Nt as nt
 use Rattle.cfg_grammar.specs.declared.production.Production.{Production}

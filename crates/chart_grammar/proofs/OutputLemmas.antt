@@ -1,6 +1,5 @@
 -- The productions of outputs.
-use Rattle.std.proofs.Common.{◌≡◌, ℕ, ◌+◌, ◌<◌, ◌≤◌, ◌⊎◌, inl, inr, zero, suc, List, [], ◌∷◌, ◌++◌, length, take, get_or, Contains, refl, sym, ◌∙◌, ap, subst, arith, add-one, Option, None, Some, slice_get}
-use Rattle.std.specs.Prelude.{IfSome, IsSome}
+use Rattle.std.proofs.Common.{◌≡◌, ℕ, ◌+◌, ◌<◌, ◌≤◌, inl, inr, suc, List, [], ◌∷◌, ◌++◌, length, Contains, refl, sym, ◌∙◌, ap, subst, arith, add-one, Some, slice_get}
 use Rattle.std.proofs.lemmas.Bool.{cases_eq}
 use Rattle.text_base.specs.declared.byte_range.ByteRange.{ByteRange}
 use Rattle.text_base.specs.declared.numbers.Nt as nt
@@ -17,10 +16,10 @@ use Rattle.chart_grammar.specs.declared.fronts.Front.{Front}
 use Rattle.chart_grammar.specs.declared.lifts.Last.{Last}
 use Rattle.chart_grammar.specs.Outs.{IsOutput}
 use Rattle.chart_grammar.specs.Fronts.{StandsFor}
-use Rattle.chart_grammar.specs.Lifts.{ReadLift, EndLift, FrontLift, HasFronts, front_production, front_right, front_by, end_by}
+use Rattle.chart_grammar.specs.Lifts.{ReadLift, EndLift, FrontLift, front_production, front_right, end_by}
 use Rattle.cfg_grammar.specs.Below.{production_below}
 use Rattle.std.specs.Prelude.{IsTrue}
-use Rattle.chart_grammar.specs.Writing.{ReadMade, ReadHas, EndMade, EndHas, HasPart, HasByte, WritesSome, AddsFront}
+use Rattle.chart_grammar.specs.Writing.{ReadMade, ReadHas, HasPart, HasByte, WritesSome, AddsFront}
 use Rattle.chart_grammar.specs.Written.{WritesBehind, WritesOne}
 use Rattle.chart_grammar.proofs.BehindLemmas.{behind_none, behind_pushed, behind_both, behind_weaker, behind_keeps}
 use Rattle.chart_grammar.proofs.MonoLemmas.{read_lift_kept}

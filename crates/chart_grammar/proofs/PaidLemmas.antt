@@ -1,10 +1,9 @@
 -- Letters pay for what is written.
-use Rattle.std.proofs.Common.{◌≡◌, ℕ, zero, suc, ◌+◌, ◌<◌, ◌≤◌, ◌⊎◌, ◌↔◌, inl, inr, List, [], ◌∷◌, ◌++◌, length, length-append, map, take, get_or, Contains, refl, sym, ◌∙◌, ap, subst, arith, Some, slice_get, add-one}
+use Rattle.std.proofs.Common.{◌≡◌, ℕ, zero, suc, ◌+◌, ◌<◌, ◌≤◌, ◌⊎◌, inl, inr, List, [], ◌∷◌, ◌++◌, length, length-append, map, take, get_or, Contains, refl, sym, ◌∙◌, ap, subst, arith, Some, slice_get, add-one}
 use Rattle.std.specs.List.{All, AllZip}
-use Rattle.std.proofs.lemmas.Bool.{cases_lt}
 use Rattle.std.proofs.lemmas.List.{length-map}
 use Rattle.std.proofs.lemmas.Option.{slice_get_within}
-use Rattle.std.proofs.lemmas.List.Elements.{All-weaker, All-contains, All-append, All-cons, All-nil, Contains-append_left, Contains-push, Contains-push_cases, Contains-get_or}
+use Rattle.std.proofs.lemmas.List.Elements.{All-weaker, All-append, All-cons, All-nil, Contains-append_left, Contains-push, Contains-push_cases, Contains-get_or}
 use Rattle.text_base.specs.declared.byte_range.ByteRange.{ByteRange}
 use Rattle.text_base.specs.declared.numbers.Nt as nt
 use Rattle.text_base.specs.declared.letter.Letter.{Letter}
@@ -15,7 +14,6 @@ use Rattle.cfg_grammar.specs.declared.production.Production.{Production}
 use Rattle.fst_core.specs.declared.out.Out.{Out}
 use Rattle.fst_core.specs.Letter.{letter_of}
 use Rattle.numbered_sets.specs.Numbers.{Keeps}
-use Rattle.grammar_chart.proofs.AddingLemmas.{at_contains}
 use Rattle.grammar_chart.specs.declared.keys.Passage.{Passage}
 use Rattle.grammar_chart.specs.declared.keys.Reading.{Reading}
 use Rattle.chart_grammar.specs.declared.fronts.Front.{Front}
@@ -23,7 +21,7 @@ use Rattle.chart_grammar.specs.declared.lifts.Last.{Last}
 use Rattle.chart_grammar.specs.declared.saying.Said.{Said}
 use Rattle.chart_grammar.specs.declared.saying.Head.{Head}
 use Rattle.chart_grammar.specs.declared.saying.Outputs.{Outputs}
-use Rattle.chart_grammar.specs.Fronts.{StandsFor, IsFrontOf}
+use Rattle.chart_grammar.specs.Fronts.{IsFrontOf}
 use Rattle.chart_grammar.specs.Outs.{Puts, IsOutput}
 use Rattle.chart_grammar.specs.Saying.{Says, SaysWide, Stays, IsFiled, production_of}
 use Rattle.chart_grammar.specs.Paid.{Charge, reads, ends, letters_of, left_by, behind_by, Spells, IsCharge, IsSaid, IsWide, OfText, OfWide, IsPaid}

@@ -1,7 +1,7 @@
 -- What stands for outputs, where there is one.
 use Rattle.std.proofs.Common.{◌≡◌, ℕ, zero, suc, refl}
 use Rattle.cfg_grammar.specs.declared.symbol.Symbol.{Symbol}
-use Rattle.cfg_grammar.specs.declared.production.Right.TheVariants.{Empty, One, Two}
+use Rattle.cfg_grammar.specs.declared.production.Right.TheVariants.{One, Two}
 use Rattle.chart_grammar.specs.Lifts.{nt_of, front_right, front_by, end_by}
 
 pub front_right_some : (n : ℕ) → (n ≡ 0 → ⊥) → One (nt_of n) ≡ front_right n

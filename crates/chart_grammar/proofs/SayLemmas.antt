@@ -1,5 +1,5 @@
 -- What the productions of an image derive: each passage's nonterminal derives only what is put out on the way.
-use Rattle.std.proofs.Common.{◌≡◌, ℕ, ◌+◌, ◌<◌, ◌≤◌, ◌⊎◌, inl, inr, zero, suc, List, [], ◌∷◌, ◌++◌, length, map, Contains, refl, sym, ◌∙◌, ap, subst, arith, Option, Some, slice_get, append_assoc}
+use Rattle.std.proofs.Common.{◌≡◌, ℕ, ◌+◌, ◌<◌, ◌≤◌, zero, suc, List, [], ◌∷◌, ◌++◌, length, map, Contains, refl, sym, ◌∙◌, ap, subst, arith, Some, slice_get}
 use Rattle.std.specs.List.{AllZip}
 use Rattle.std.proofs.lemmas.List.{map-append}
 use Rattle.std.proofs.lemmas.Option.{slice_get_within}
@@ -7,7 +7,6 @@ use Rattle.text_base.specs.declared.byte_range.ByteRange.{ByteRange}
 use Rattle.text_base.specs.declared.numbers.Nt as nt
 use Rattle.text_base.specs.declared.letter.Letter.{Letter}
 use Rattle.text_base.specs.declared.letter.Letter.TheVariants.{OfByte, OfToken}
-use Rattle.text_base.specs.ByteRange.{InRange}
 use Rattle.cfg_grammar.specs.declared.symbol.Symbol.{Symbol}
 use Rattle.cfg_grammar.specs.declared.symbol.Symbol.TheVariants.{Range, Token, Nt}
 use Rattle.cfg_grammar.specs.declared.production.Right.{Right}
@@ -23,15 +22,15 @@ use Rattle.grammar_chart.specs.declared.keys.Read.TheVariants.{Nothing, First, B
 use Rattle.grammar_chart.specs.declared.keys.Begun.{Begun}
 use Rattle.grammar_chart.specs.declared.keys.Passage.{Passage}
 use Rattle.grammar_chart.specs.declared.keys.Reading.{Reading}
-use Rattle.grammar_chart.specs.Rules.{awaited_by, awaited_in, awaited_of, passage_by, last_by, ReadingStep}
+use Rattle.grammar_chart.specs.Rules.{passage_by, last_by, ReadingStep}
 use Rattle.chart_grammar.specs.declared.fronts.Front.{Front}
 use Rattle.chart_grammar.specs.declared.lifts.Last.{Last}
-use Rattle.chart_grammar.specs.Outs.{Puts, IsOutput}
+use Rattle.chart_grammar.specs.Outs.{Puts}
 use Rattle.chart_grammar.specs.Fronts.{StandsFor, nothing, longer}
 use Rattle.std.proofs.Common.{Bool, true, ◌&&◌, IsTrue, ltb}
 use Rattle.std.proofs.lemmas.Bool.{lt-ltb}
 use Rattle.cfg_grammar.specs.Below.{symbol_below, production_below}
-use Rattle.chart_grammar.specs.Lifts.{front_production, nt_of, RightLift, WholeLift, ReadLift, FrontLift, EndLift, front_right, front_by, end_by, IsLift, whole, of_reading, of_front, of_end, AreLifts}
+use Rattle.chart_grammar.specs.Lifts.{front_production, nt_of, RightLift, ReadLift, EndLift, front_right, front_by, end_by, IsLift, whole, of_reading, of_front, of_end, AreLifts}
 use Rattle.chart_grammar.proofs.OutLemmas.{zip_push, zip_pushed}
 
 pub puts_derives : (qs : List Production) (x : Symbol) (c : Letter) → Puts x c → Derives qs x (c ∷ [])

@@ -1,5 +1,5 @@
 -- Where the productions of an image come from.
-use Rattle.std.proofs.Common.{◌≡◌, ℕ, ◌+◌, ◌<◌, ◌≤◌, ◌⊎◌, inl, inr, zero, suc, List, [], ◌∷◌, ◌++◌, length, length-append, Contains, refl, sym, ◌∙◌, ap, subst, arith, Some, slice_get}
+use Rattle.std.proofs.Common.{◌≡◌, ℕ, ◌+◌, inl, inr, suc, List, [], ◌∷◌, ◌++◌, length, length-append, Contains, refl, sym, ◌∙◌, ap, subst, arith, Some, slice_get}
 use Rattle.std.proofs.lemmas.Option.{slice_get_within}
 use Rattle.text_base.specs.declared.byte_range.ByteRange.{ByteRange}
 use Rattle.text_base.specs.declared.numbers.Nt as nt
@@ -19,10 +19,10 @@ use Rattle.grammar_chart.proofs.MemberLemmas.{at_old, longer}
 use Rattle.chart_grammar.specs.declared.fronts.Front.{Front}
 use Rattle.chart_grammar.specs.declared.lifts.Last.{Last}
 use Rattle.chart_grammar.specs.declared.saying.Outputs.{Outputs}
-use Rattle.chart_grammar.specs.Lifts.{nt_of, end_by, RightLift, WholeLift, ReadLift, FrontLift, EndLift, IsLift, whole, of_reading, of_front, of_end, AreLifts}
+use Rattle.chart_grammar.specs.Lifts.{RightLift, WholeLift, FrontLift, EndLift, IsLift, whole, of_reading, of_front, of_end, AreLifts}
 use Rattle.chart_grammar.specs.Written.{WritesBehind, WritesAll}
-use Rattle.chart_grammar.specs.Writing.{WholeMade, WholeHas, ReadMade, ReadHas, EndMade, EndHas}
-use Rattle.chart_grammar.specs.Sources.{Passes, ComesOf, IsOfOutput, ComeOf, NoneIsOfToken, IsEnd, AreSources}
+use Rattle.chart_grammar.specs.Writing.{ReadMade, ReadHas, EndMade, EndHas}
+use Rattle.chart_grammar.specs.Sources.{Passes, ComesOf, IsOfOutput, AllComeOf, NoneIsOfToken, AreSources}
 use Rattle.chart_grammar.proofs.BehindLemmas.{at_behind, behind_both, behind_weaker}
 
 -- what is read of a right side leads from the one state to the other
@@ -51,7 +51,7 @@ whole_comes ps fs b q l =
     }
 
 -- nothing comes of anything yet
-pub come_none : (ps : List Production) (fs : List Passage) (sources : List ℕ) (qs : List Production) → sources ≡ [] → qs ≡ [] → ComeOf ps fs sources qs
+pub come_none : (ps : List Production) (fs : List Passage) (sources : List ℕ) (qs : List Production) → sources ≡ [] → qs ≡ [] → AllComeOf ps fs sources qs
 come_none ps fs sources qs e f =
     record {
       long = ap length e ∙ sym (ap length f);
@@ -59,7 +59,7 @@ come_none ps fs sources qs e f =
     }
 
 -- one more is pushed, with its place
-pub come_pushed : (ps : List Production) (fs : List Passage) (sources more : List ℕ) (qs new : List Production) (place : ℕ) (q : Production) → more ≡ sources ++ place ∷ [] → new ≡ qs ++ q ∷ [] → ComesOf ps fs place q → ComeOf ps fs sources qs → ComeOf ps fs more new
+pub come_pushed : (ps : List Production) (fs : List Passage) (sources more : List ℕ) (qs new : List Production) (place : ℕ) (q : Production) → more ≡ sources ++ place ∷ [] → new ≡ qs ++ q ∷ [] → ComesOf ps fs place q → AllComeOf ps fs sources qs → AllComeOf ps fs more new
 come_pushed ps fs sources more qs new place q e f one before =
     record {
       long = (let a = ap length e ∙ length-append sources (place ∷ []) in let b = ap length f ∙ length-append qs (q ∷ []) in let l = before.long in omega (arith, a, b, l));
@@ -131,7 +131,7 @@ module _ (ps : List Production) (from : nt.Nt) (bs : List Begun) (fs : List Pass
       by (of_front l) = let e = same_left (base + l.number) 0 (sym l.left ∙ left) in absurd (omega (arith, e, based))
       by (of_end l h e) = (l, h, e)
 
-  pub are_sources : (sources : List ℕ) (wholes : List Production) → ComeOf ps fs sources wholes → WritesBehind (λ (p : Production). IsOfOutput fs p) wholes qs → NoneIsOfToken fs → AreSources ps from fs sources qs
+  pub are_sources : (sources : List ℕ) (wholes : List Production) → AllComeOf ps fs sources wholes → WritesBehind (λ (p : Production). IsOfOutput fs p) wholes qs → NoneIsOfToken fs → AreSources ps from fs sources qs
   are_sources sources wholes come behind none =
       record {
         few = (let l = longer wholes qs behind.keeps in let m = come.long in omega (arith, l, m));

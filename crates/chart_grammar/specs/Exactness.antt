@@ -1,18 +1,14 @@
 -- Equality of symbols is exact.
-use Rattle.std.specs.Prelude.{◌≡◌, ℕ, Bool, true, false, ◌&&◌, nat_eq, refl}
-use Rattle.std.proofs.Common.{rules, ap, ◌∙◌, subst, ◌≤◌}
+use Rattle.std.specs.Prelude.{◌≡◌, ℕ, true, ◌&&◌, nat_eq}
+use Rattle.std.proofs.Common.{ap, ◌∙◌}
 use Rattle.grammar_chart.specs.Exactness.{exact_symbol}
 use Rattle.std.specs.Cmp.{first_so, second_so}
 use Rattle.std.proofs.lemmas.Map.Views.{exact_unsigned_eq}
-use Rattle.text_base.specs.Exactness.{IsExact}
-use Rattle.text_base.specs.declared.byte_range.ByteRange.{ByteRange}
-use Rattle.text_base.specs.declared.page_token.PageToken.{PageToken}
 use Rattle.text_base.specs.declared.numbers.Nt as nt
 use Rattle.text_base.specs.contracts.byte_range.ByteRangePartialEq.TheImpl as ranges
 use Rattle.text_base.specs.contracts.page_token.PageTokenPartialEq.TheImpl as tokens
 use Rattle.text_base.specs.contracts.numbers.NtPartialEq.TheImpl as nts
 use Rattle.cfg_grammar.specs.declared.symbol.Symbol.{Symbol}
-use Rattle.cfg_grammar.specs.declared.symbol.Symbol.TheVariants.{Range, Token, Nt}
 use Rattle.chart_grammar.specs.declared.fronts.Front.{Front}
 use Rattle.cfg_grammar.specs.contracts.symbol.SymbolPartialEq.TheImpl as symbols
 

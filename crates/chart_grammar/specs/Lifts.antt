@@ -1,6 +1,5 @@
 -- The productions of an image, by what they stand for.
-use Rattle.std.specs.Prelude.{◌≡◌, ◌≤◌, ◌+◌, ◌⊎◌, ℕ, zero, suc, List, length, map, Option, None, Some, slice_get, Contains, All, IsTrue}
-use Rattle.std.specs.List.{AllZip}
+use Rattle.std.specs.Prelude.{◌≡◌, ◌≤◌, ◌+◌, ℕ, zero, suc, List, length, None, Some, slice_get, Contains, All, IsTrue}
 use Rattle.text_base.specs.declared.byte_range.ByteRange.{ByteRange}
 use Rattle.text_base.specs.declared.numbers.Nt as nt
 use Rattle.text_base.specs.ByteRange.{InRange}

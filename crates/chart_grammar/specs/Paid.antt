@@ -1,5 +1,5 @@
 -- What pays for the productions of an image: the letters that the machine puts out.
-use Rattle.std.specs.Prelude.{◌≡◌, ◌+◌, ◌<◌, ◌⊎◌, ◌↔◌, ℕ, suc, List, map, length, take, Some, slice_get, Contains, All}
+use Rattle.std.specs.Prelude.{◌≡◌, ◌+◌, ◌<◌, ◌⊎◌, ◌↔◌, ℕ, suc, List, map, length, Some, slice_get, Contains, All}
 use Rattle.std.specs.List.{AllZip}
 use Rattle.text_base.specs.declared.numbers.Nt as nt
 use Rattle.text_base.specs.declared.letter.Letter.{Letter}

@@ -1,11 +1,10 @@
 -- What is written as outputs are said.
-use Rattle.std.specs.Prelude.{◌≡◌, ◌+◌, ◌⊎◌, ℕ, List, [], ◌∷◌, ◌++◌, length, Contains}
+use Rattle.std.specs.Prelude.{◌≡◌, ◌+◌, ◌⊎◌, ℕ, List, [], ◌∷◌, ◌++◌, Contains}
 use Rattle.text_base.specs.declared.numbers.Nt as nt
 use Rattle.cfg_grammar.specs.declared.symbol.Symbol.{Symbol}
 use Rattle.cfg_grammar.specs.declared.production.Production.{Production}
 use Rattle.numbered_sets.specs.Numbers.{Keeps, AddsOnly}
 use Rattle.chart_grammar.specs.declared.saying.Said.{Said}
-use Rattle.chart_grammar.specs.declared.saying.Head.{Head}
 use Rattle.chart_grammar.specs.declared.saying.Outputs.{Outputs}
 use Rattle.chart_grammar.specs.Fronts.{StandsFor, AddsFronts}
 use Rattle.chart_grammar.specs.Lifts.{front_right, said_right}

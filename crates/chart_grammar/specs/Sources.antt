@@ -1,5 +1,5 @@
 -- Where the productions of an image come from: which production of the grammar each one is, and between which states.
-use Rattle.std.specs.Prelude.{◌≡◌, ◌≤◌, ℕ, zero, suc, List, length, Some, slice_get, Contains}
+use Rattle.std.specs.Prelude.{◌≡◌, ◌≤◌, ℕ, zero, suc, List, [], length, Some, slice_get, Contains}
 use Rattle.text_base.specs.declared.byte_range.ByteRange.{ByteRange}
 use Rattle.text_base.specs.declared.letter.Letter.{Letter}
 use Rattle.text_base.specs.declared.numbers.Nt as nt
@@ -38,7 +38,7 @@ IsOfOutput fs q = (n : ℕ) (a : nt.Nt) (s t : ℕ) → q.left ≡ record { 0 = 
     → slice_get fs n ≡ Some (record { symbol = Nt a; from = s; to = t }) → ⊥
 
 -- each production comes of the one at its place of the grammar
-pub record ComeOf (ps : List Production) (fs : List Passage) (sources : List ℕ) (qs : List Production) : Type 0 where
+pub record AllComeOf (ps : List Production) (fs : List Passage) (sources : List ℕ) (qs : List Production) : Type 0 where
   pub long : length sources ≡ length qs
   pub comes : (k place : ℕ) (q : Production) → slice_get sources k ≡ Some place → slice_get qs k ≡ Some q → ComesOf ps fs place q
 
@@ -62,6 +62,11 @@ pub record AreSources (ps : List Production) (start : nt.Nt) (fs : List Passage)
   pub ends : (q : Production) → Contains qs q → q.left ≡ record { 0 = 0 } → IsEnd start fs q
   pub no_tokens : NoneIsOfToken fs
 
+-- what stands for an output at the end derives this: nothing, where nothing is put out
+abbrev pub DerivesEnd : List Production → ℕ → List Letter → Type 0
+DerivesEnd qs zero w = w ≡ []
+DerivesEnd qs (suc front) w = Derives qs (nt_of (suc front)) w
+
 -- what the passages of ranges derive, and what stands for the outputs at the end: what is put out as a byte of the range is read from the
 -- one state to the other (`Puts`), and what is put out at the end in a state (`Closes`)
 pub record ArePutOut (start : nt.Nt) (fs : List Passage) (qs : List Production) (Puts : ℕ → ℕ → ℕ → List Letter → Type 0)
@@ -69,5 +74,5 @@ pub record ArePutOut (start : nt.Nt) (fs : List Passage) (qs : List Production) 
   pub reads : (n s t : ℕ) (range : ByteRange) (w : List Letter) → slice_get fs n ≡ Some (record { symbol = Range range; from = s; to = t })
       → Derives qs (nt_of (suc n)) w → (byte : ℕ) × InRange range byte × Puts s byte t w
   pub closes : (q : Production) (n t front : ℕ) (w : List Letter) → Contains qs q → q.left ≡ record { 0 = 0 }
-      → slice_get fs n ≡ Some (record { symbol = Nt start; from = 0; to = t }) → q.right ≡ end_by (suc n) (suc front)
-      → Derives qs (nt_of (suc front)) w → Closes t w
+      → slice_get fs n ≡ Some (record { symbol = Nt start; from = 0; to = t }) → q.right ≡ end_by (suc n) front → DerivesEnd qs front w
+      → Closes t w

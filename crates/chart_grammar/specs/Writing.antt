@@ -1,5 +1,5 @@
 -- What the writers write.
-use Rattle.std.specs.Prelude.{◌≡◌, ◌≤◌, ◌⊎◌, ℕ, List, Option, None, Some, Contains, Bool, true, IfOk, IsTrue, map}
+use Rattle.std.specs.Prelude.{◌≡◌, ℕ, List, None, Contains, IsTrue, map}
 use Rattle.text_base.specs.declared.byte_range.ByteRange.{ByteRange}
 use Rattle.text_base.specs.declared.numbers.Nt as nt
 use Rattle.text_base.specs.ByteRange.{InRange}
@@ -14,7 +14,7 @@ use Rattle.grammar_chart.specs.declared.keys.Reading.{Reading}
 use Rattle.grammar_chart.specs.Rules.{awaited_of}
 use Rattle.chart_grammar.specs.declared.fronts.Front.{Front}
 use Rattle.chart_grammar.specs.declared.lifts.Last.{Last}
-use Rattle.chart_grammar.specs.Lifts.{WholeLift, ReadLift, FrontLift, EndLift, HasWhole, HasReading, HasFronts, HasEnd, front_production}
+use Rattle.chart_grammar.specs.Lifts.{WholeLift, ReadLift, EndLift, HasWhole, HasReading, HasEnd, front_production}
 use Rattle.cfg_grammar.specs.Below.{production_below}
 use Rattle.chart_grammar.specs.Written.{WritesBehind}
 

@@ -12,7 +12,7 @@ ghost use Rattle.grammar_chart.specs.Charts.{HasRead};
 ghost use Rattle.chart_grammar.specs.Lifts.{RightLift, WholeLift, front_right, front_by, end_by};
 ghost use Rattle.chart_grammar.specs.Written.{WritesOne, WritesAll};
 ghost use Rattle.chart_grammar.specs.Writing.{WholeMade, WholeHas};
-ghost use Rattle.chart_grammar.specs.Sources.{ComeOf};
+ghost use Rattle.chart_grammar.specs.Sources.{AllComeOf};
 
 use crate::fronts::Front;
 use cfg_grammar::{Production, Right, Symbol};
@@ -114,8 +114,8 @@ fn write_whole(
         (WholeHas productions.now passages.now.keys)
         one [] [] out.old.items out.new.items) }
     ensures sources { OnOk result
-        (ComeOf productions.now passages.now.keys sources.old.items out.old.items
-        → ComeOf productions.now passages.now.keys sources.new.items out.new.items) }
+        (AllComeOf productions.now passages.now.keys sources.old.items out.old.items
+        → AllComeOf productions.now passages.now.keys sources.new.items out.new.items) }
     ensures few { OnOk result (length out.new.items ≤ length out.old.items + 1) }
 {
     if awaited(productions, one).is_some() {
@@ -145,8 +145,8 @@ pub fn write_wholes(
         (WholeHas productions.now passages.now.keys)
         begun.now [] [] out.old.items out.new.items) }
     ensures sources { OnOk result
-        (ComeOf productions.now passages.now.keys sources.old.items out.old.items
-        → ComeOf productions.now passages.now.keys sources.new.items out.new.items) }
+        (AllComeOf productions.now passages.now.keys sources.old.items out.old.items
+        → AllComeOf productions.now passages.now.keys sources.new.items out.new.items) }
     ensures few { OnOk result
         (length out.new.items ≤ length out.old.items + length begun.now) }
 {

@@ -8,7 +8,6 @@ use Rattle.dtd_model.specs.Table.{Table}
 use Rattle.broken_pages.specs.ReadLaws.{IsLawfulTable, PageTokensRead}
 use Rattle.tag_sums.specs.Nesting.{Nest, torn, nest, join, nest_of, is_balanced}
 use Rattle.dyck_balance.specs.Laws.{WholeIsNested}
-use Rattle.sentence_writing.specs.Bytes.{bytes_in}
 use Rattle.summary_fixpoint.specs.Pairs.{tokens_in}
 use Rattle.page_goals.specs.declared.goal.Goal as goals
 use Rattle.page_goals.specs.Goals.{IsGood}

@@ -1,5 +1,5 @@
 -- The XML declaration, read by the reader of a page.
-use Rattle.std.proofs.Common.{◌≡◌, ℕ, suc, ◌<◌, Bool, true, false, not, ◌&&◌, List, [], ◌∷◌, ◌++◌, Option, Some, None, refl, sym, ◌∙◌, ap, subst, arith, length}
+use Rattle.std.proofs.Common.{◌≡◌, ℕ, suc, Bool, true, false, not, ◌&&◌, List, [], ◌∷◌, ◌++◌, Some, None, refl, sym, ◌∙◌, ap, arith, length}
 use Rattle.std.specs.Prelude.{if◌then◌else◌, nat_eq, codes}
 use Rattle.std.proofs.lemmas.Bool.{and_parts, eqb-true}
 use Rattle.text_base.specs.declared.page_token.PageToken.{PageToken}
@@ -15,9 +15,9 @@ use Rattle.page_fronts.specs.OpenValues.{OpenValue, in_text, in_reference, in_fi
 use Rattle.page_steps.specs.AttributeSteps.{AttributeMove, stays, ends_with as ends_at, leaves, stops, attribute_move}
 use Rattle.page_steps.specs.PageSteps.{OpenMove, question_move, declaration_by, PageState, put_place, page_step, page_reader}
 use Rattle.page_steps.specs.TagSteps.{word_step, of_declaration}
-use Rattle.attribute_steps.specs.Among.{moved, IsAmong, AllMay, names_behind}
+use Rattle.attribute_steps.specs.Among.{moved, IsAmong, names_behind}
 use Rattle.attribute_steps.proofs.Over.{blank_character, over_attributes}
-use Rattle.attribute_steps.proofs.Into.{Behind, into_attributes}
+use Rattle.attribute_steps.proofs.Into.{into_attributes}
 use Rattle.page_insides.specs.Laws.{settle, read, ends_with}
 use Rattle.page_insides.proofs.Settled.{at_open, kept_settled}
 use Rattle.page_insides.proofs.Stepping.{behind_move, page_more, on_is, page_on, page_back}

@@ -1,5 +1,5 @@
 -- A document type declaration is left at its end, and what is left is one.
-use Rattle.std.proofs.Common.{◌≡◌, ◌≢◌, ℕ, Bool, true, false, not, ◌&&◌, ◌||◌, List, [], ◌∷◌, ◌++◌, Option, Some, None, refl, sym, ◌∙◌, ap, subst, append-nil, append_assoc}
+use Rattle.std.proofs.Common.{◌≡◌, ◌≢◌, ℕ, Bool, true, false, not, ◌&&◌, ◌||◌, List, [], ◌∷◌, ◌++◌, Option, Some, refl, sym, ◌∙◌, ap, subst, append-nil, append_assoc}
 use Rattle.std.specs.Prelude.{if◌then◌else◌, nat_eq, codes, bytes_eq}
 use Rattle.std.specs.List.{list_all}
 use Rattle.std.proofs.lemmas.Bool.{and_parts, and_from, eqb-true}
@@ -10,12 +10,12 @@ use Rattle.dtd_model.specs.declared.dtd.DoctypeRule.{DoctypeRule}
 use Rattle.dtd_model.specs.declared.dtd.DoctypeRule.TheVariants.{Strict, Free}
 use Rattle.page_model.specs.Attributes.{doctype_fits}
 use Rattle.page_model.specs.Parts.{is_quote}
-use Rattle.page_model.specs.Prolog.{Literal, literal_then, IsLiteral, Identifier, no_identifier, system, public, identifier_then, IsSpace, IsIdentifier, Doctype, IsDoctype, is_strict}
-use Rattle.piece_steps.specs.Insides.{Turn, on, out, stop, turned, past}
+use Rattle.page_model.specs.Prolog.{Identifier, no_identifier, system, public, identifier_then, IsSpace, IsIdentifier, Doctype, is_strict}
+use Rattle.piece_steps.specs.Insides.{Turn, on, out, stop, past}
 use Rattle.page_fronts.specs.OpenDoctypes.{Word, system_word, public_word, letters, OpenDoctype, before_root, in_root, behind_root, in_word, behind_word, in_public, behind_public, in_system, behind_system, kept}
-use Rattle.page_steps.specs.DoctypeSteps.{begins, is_free, end_turn, root_turn, may_begin, word_turn, literal_turn, grown, is_wanted, public_turn, doctype_turn}
-use Rattle.doctype_steps.specs.Laws.{turn, inside_then, IsDoctypeThen, DoctypesLeft}
-use Rattle.doctype_steps.proofs.Over.{by, spaced_by, still, grown_by, wanted_is, over_doctype}
+use Rattle.page_steps.specs.DoctypeSteps.{begins, is_free, root_turn, may_begin, literal_turn, grown, is_wanted, doctype_turn}
+use Rattle.doctype_steps.specs.Laws.{turn, IsDoctypeThen, DoctypesLeft}
+use Rattle.doctype_steps.proofs.Over.{by, spaced_by, grown_by, wanted_is, over_doctype}
 
 some_same : (x y : List ℕ) → (let z : Option (List ℕ) = Some x in z ≡ Some y) → x ≡ y
 some_same x y e = cc

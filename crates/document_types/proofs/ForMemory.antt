@@ -12,7 +12,7 @@ use Rattle.dtd_table_laws.proofs.NotRefused.{for_limits}
 use Rattle.xhtml_strict.specs.Strict.{file_name, only_file, strict_bytes, IsStrict, IsRefused}
 use Rattle.document_types.specs.declared.refusal.DefinitionRefusal.{DefinitionRefusal}
 use Rattle.document_types.specs.declared.refusal.DefinitionRefusal.TheVariants as refusal
-use Rattle.document_types.specs.DocumentTypes.{NamedType, strict_type, mini_type, file_type, HasTable, NamesAreTold, NamesAreShort, IsTooLarge, IsDefinitionRefusal}
+use Rattle.document_types.specs.DocumentTypes.{NamedType, strict_type, file_type, HasTable, NamesAreTold, NamesAreShort, IsTooLarge, IsDefinitionRefusal}
 use Rattle.document_types.proofs.BuiltInText.{only_told, only_short}
 
 -- the refusal is want of memory

@@ -1,5 +1,5 @@
 -- A document type has one table, where the names that its definition asks for are told of.
-use Rattle.std.proofs.Common.{◌≡◌, ◌∙◌, ℕ, List, refl, sym, ap}
+use Rattle.std.proofs.Common.{◌≡◌, ◌∙◌, ℕ, List, sym, ap}
 use Rattle.dtd_model.specs.Table.{Table}
 use Rattle.dtd_model.specs.declared.dtd.DoctypeRule.TheVariants.{Free}
 use Rattle.dtd_texts.specs.Reading.{Content}

@@ -1,8 +1,7 @@
 -- What the stages of the code stand for.
-use Rattle.std.specs.Prelude.{◌≡◌, ℕ, List, [], ◌∷◌, map, reverse, Result, Ok, Err}
+use Rattle.std.specs.Prelude.{◌≡◌, ℕ, List, ◌∷◌, map, reverse, Result, Ok, Err}
 use Rattle.text_base.specs.declared.numbers.Elem.{Elem}
-use Rattle.dtd_model.specs.Table.{Model, Holding, model_of, holding_of, Kind, kind_of, Presence, Declared, declared_of}
-use Rattle.dtd_model.specs.declared.dtd.Particle.{Particle}
+use Rattle.dtd_model.specs.Table.{model_of, holding_of, kind_of, Declared, declared_of}
 use Rattle.dtd_texts.specs.Went.{Went, leads, refused, left_out, too_deep, undeclared}
 use Rattle.dtd_texts.specs.ContentModels as plain
 use Rattle.dtd_texts.specs.AttributeLists as lists

@@ -1,9 +1,9 @@
 -- Positions of the reading, with a stack of what is left of each open entity: the form in which the code reads.
-use Rattle.std.specs.Prelude.{◌≡◌, ℕ, ◌+◌, ◌<◌, ◌≤◌, if◌then◌else◌, List, [], ◌∷◌, take, drop, length, map, reverse, Option, Some, None}
+use Rattle.std.specs.Prelude.{◌≡◌, ℕ, ◌+◌, ◌<◌, ◌≤◌, List, take, drop, length, map, Option, Some, None}
 use Rattle.std.specs.Borrow.{Bor}
 use Rattle.std.specs.String.{string_bytes}
 use Rattle.dtd_texts.specs.Places.{Place, between, in_comment, behind_target, in_instruction, inside, in_literal, in_value, behind_value, Source, internal, external, Entity}
-use Rattle.dtd_texts.specs.Reading.{Parameter, Written, State, Content, Stands, start, Move, on, opens, omits, stuck, move, is_among, source_of, enter, leave}
+use Rattle.dtd_texts.specs.Reading.{Parameter, Written, State, Move, on, opens, omits, stuck, move}
 use Rattle.dtd_entities.specs.Entities.{entity_by}
 use Rattle.dtd_entities.specs.declared.state.Mode.{Mode}
 use Rattle.dtd_entities.specs.declared.state.Mode.TheVariants.{Between, InComment, BehindTarget, InInstruction, Inside, InLiteral, InValue, BehindValue}

@@ -1,5 +1,5 @@
 -- From the reading of a text and the table of its declarations to the definition of a file.
-use Rattle.std.proofs.Common.{◌≡◌, ℕ, true, List, [], refl, sym, subst, inl, inr}
+use Rattle.std.proofs.Common.{◌≡◌, ℕ, true, List, sym, subst, inl, inr}
 use Rattle.dtd_model.specs.Table.{Table}
 use Rattle.dtd_model.specs.Lawful.{are_names}
 use Rattle.dtd_texts.specs.Reading.{State, Content}

@@ -1,23 +1,22 @@
 -- The attributes of an element, read in turn.
-use Rattle.std.proofs.Common.{◌≡◌, ℕ, Bool, true, false, not, ◌&&◌, ◌||◌, List, [], ◌∷◌, Option, Some, None, refl, sym, ◌∙◌, ap, subst}
-use Rattle.std.specs.Prelude.{if◌then◌else◌, nat_eq, bytes_eq}
+use Rattle.std.proofs.Common.{◌≡◌, ℕ, Bool, true, false, not, ◌&&◌, ◌||◌, List, [], ◌∷◌, Option, Some, None, refl, sym, ◌∙◌, ap}
+use Rattle.std.specs.Prelude.{if◌then◌else◌, bytes_eq}
 use Rattle.std.specs.List.{list_all, list_any}
 use Rattle.std.proofs.lemmas.Bool.{and_parts, and_from}
 use Rattle.dtd_model.specs.Lawful.{is_lawful_kind}
 use Rattle.dtd_model.specs.References.{is_reference, is_known}
 use Rattle.dtd_model.specs.Table.{Declared}
-use Rattle.page_model.specs.Attributes.{has_kind, has_fixed, is_declared, stands, is_once, must_stand, all_there, attributes_fit}
-use Rattle.page_model.specs.Parts.{Attribute, IsAttribute, AreAttributes, may_be_quoted, refers_by}
+use Rattle.page_model.specs.Attributes.{has_kind, has_fixed, is_declared, stands, is_once, must_stand, all_there}
+use Rattle.page_model.specs.Parts.{Attribute, IsAttribute, AreAttributes, refers_by}
 use Rattle.piece_steps.specs.Insides.{accepts}
 use Rattle.page_fronts.specs.Fronts.{find_declared}
-use Rattle.page_steps.specs.AttributeSteps.{Allowing}
 use Rattle.page_steps.specs.TagSteps.{is_among, is_declared_once, names_with, start_of, step_of, good_of, of_element, are_all}
 use Rattle.page_steps.specs.ValueSteps.{may_stand}
 use Rattle.reference_steps.specs.Laws.{may_have}
 use Rattle.reference_steps.proofs.Values.{values_accepted}
 use Rattle.attribute_steps.specs.Among.{May, AllMay, names_behind}
 use Rattle.attribute_steps.proofs.Quotes.{to_quoted, from_quoted}
-use Rattle.element_attributes.specs.Laws.{Fit, InTurn, AttributesMay}
+use Rattle.element_attributes.specs.Laws.{AttributesMay}
 use Rattle.element_attributes.proofs.Names.{same, itself, turned, has_name, among_with, found_has}
 
 -- The declaration of an attribute.

@@ -1,12 +1,9 @@
 -- Names that stand among attributes.
-use Rattle.std.proofs.Common.{◌≡◌, ℕ, Bool, true, false, not, ◌&&◌, ◌||◌, List, [], ◌∷◌, Option, Some, None, refl, sym, ◌∙◌, ap, subst}
+use Rattle.std.proofs.Common.{◌≡◌, ℕ, Bool, true, false, ◌&&◌, ◌||◌, List, [], ◌∷◌, Some, refl, sym, ◌∙◌, ap}
 use Rattle.std.specs.Prelude.{if◌then◌else◌, bytes_eq}
-use Rattle.std.specs.List.{list_all, list_any}
-use Rattle.std.proofs.lemmas.Bool.{and_parts, and_from}
+use Rattle.std.specs.List.{list_any}
 use Rattle.std.proofs.lemmas.Slice.Eq.{bytes_eq-Decides}
 use Rattle.dtd_model.specs.Table.{Declared}
-use Rattle.page_model.specs.Attributes.{stands, is_once}
-use Rattle.page_model.specs.Parts.{Attribute}
 use Rattle.page_fronts.specs.Fronts.{find_declared}
 use Rattle.page_steps.specs.TagSteps.{is_among, names_with}
 

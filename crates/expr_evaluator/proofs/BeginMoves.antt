@@ -1,5 +1,5 @@
 -- The moves that begin an expression, form by form.
-use Rattle.std.proofs.Common.{◌≡◌, ℕ, ◌+◌, ◌<◌, List, [], refl, sym, ap, ◌∙◌, arith, Bor, Bool}
+use Rattle.std.proofs.Common.{◌≡◌, ℕ, List, [], refl, ap, arith, Bor, Bool}
 use Rattle.std.specs.Prelude.{ℤ, Option, Some, None}
 use Rattle.std.specs.declared.vec.Vec.{Vec}
 use Rattle.std.specs.declared.alloc.Global.{Global}
@@ -8,13 +8,13 @@ use Rattle.php_syntax.specs.declared.tree.CompareSign.{CompareSign}
 use Rattle.php_syntax.specs.declared.tree.UpdateSign.{UpdateSign}
 use Rattle.php_syntax.specs.declared.tree.SuperName.{SuperName}
 use Rattle.php_syntax.specs.declared.tree.Expr.{Expr}
-use Rattle.php_syntax.specs.Trees.{PlainExpr, null_expr, flag_expr, int_expr, text_expr, var_expr, super_expr, member_expr, array_expr, join_expr, neg_expr, not_expr, arith_expr, compare_expr, and_expr, or_expr, coalesce_expr, choice_expr, isset_expr, empty_expr, assign_expr, update_expr, step_expr, call_expr, no_expr, some_expr, PlainFunction, plain_expr, exprs_of, items_of, path_of}
-use Rattle.plain_values.specs.Plain.{Plain, Pairs, null, flag, int, text, array, empty}
+use Rattle.php_syntax.specs.Trees.{null_expr, flag_expr, int_expr, text_expr, var_expr, super_expr, member_expr, array_expr, join_expr, neg_expr, not_expr, arith_expr, compare_expr, and_expr, or_expr, coalesce_expr, choice_expr, isset_expr, empty_expr, assign_expr, update_expr, step_expr, call_expr, PlainFunction, plain_expr, exprs_of, items_of, path_of}
+use Rattle.plain_values.specs.Plain.{Pairs, int, text, array, empty}
 use Rattle.php_values.specs.declared.array.Value.{Value}
 use Rattle.php_values.specs.declared.array.Value.TheVariants as variant
-use Rattle.php_values.specs.View.{plain_of, plain_list}
+use Rattle.php_values.specs.View.{plain_of}
 use Rattle.script_meaning.specs.Requests.{PlainRequest, request_array}
-use Rattle.script_meaning.specs.Runs.{State, Going, ◌then_do◌, value_in}
+use Rattle.script_meaning.specs.Runs.{Going, value_in}
 use Rattle.script_meaning.specs.Expressions.{value}
 use Rattle.expr_evaluator.specs.declared.frame.Purpose.TheVariants as purpose
 use Rattle.expr_evaluator.specs.declared.frame.Writing.TheVariants as writing
@@ -22,7 +22,7 @@ use Rattle.expr_evaluator.specs.declared.frame.Frame.TheVariants as frame
 use Rattle.expr_evaluator.specs.declared.frame.Focus.{Focus}
 use Rattle.expr_evaluator.specs.declared.frame.Focus.TheVariants as focus
 use Rattle.expr_evaluator.specs.declared.evaluator.Evaluator.{Evaluator}
-use Rattle.expr_evaluator.specs.Frames.{focused, after_value, row_done, keys_done, step_in, assign_in, plain_maybes, maybe_plain}
+use Rattle.expr_evaluator.specs.Frames.{focused, after_value, row_done, keys_done, step_in, assign_in, maybe_plain}
 use Rattle.expr_evaluator.specs.Cost.{cost, frame_cost, focus_cost, writing_cost}
 use Rattle.expr_evaluator.specs.Moves.{Moves, Opens, Does, seeing}
 use Rattle.expr_evaluator.proofs.Opening.{opens, begins, does}

@@ -1,5 +1,5 @@
 -- The moves that hand a value to a frame, frame by frame.
-use Rattle.std.proofs.Common.{◌≡◌, ℕ, ◌+◌, ◌<◌, ◌≤◌, List, [], ◌∷◌, ◌++◌, refl, sym, ap, ◌∙◌, subst, arith, Bor, Bool, true, false, append_assoc}
+use Rattle.std.proofs.Common.{◌≡◌, ℕ, ◌+◌, ◌<◌, ◌≤◌, List, [], ◌∷◌, ◌++◌, refl, sym, ap, ◌∙◌, arith, Bor, Bool, true, false}
 use Rattle.std.specs.Prelude.{not, Option, Some, None, Result, Ok, Err, if◌then◌else◌}
 use Rattle.std.specs.declared.vec.Vec.{Vec}
 use Rattle.std.specs.declared.alloc.Global.{Global}
@@ -7,8 +7,8 @@ use Rattle.php_syntax.specs.declared.tree.ArithSign.{ArithSign}
 use Rattle.php_syntax.specs.declared.tree.CompareSign.{CompareSign}
 use Rattle.php_syntax.specs.declared.tree.UpdateSign.{UpdateSign}
 use Rattle.php_syntax.specs.declared.tree.Expr.{Expr}
-use Rattle.php_syntax.specs.Trees.{PlainFunction, plain_expr, exprs_of, items_of, path_of}
-use Rattle.plain_values.specs.Plain.{Plain, Pairs, null, flag, array}
+use Rattle.php_syntax.specs.Trees.{PlainFunction}
+use Rattle.plain_values.specs.Plain.{Plain, Pairs, flag}
 use Rattle.plain_values.specs.Text.{truth}
 use Rattle.plain_values.specs.Walks.{is_null}
 use Rattle.plain_values.specs.Paths as paths
@@ -19,7 +19,7 @@ use Rattle.php_values.specs.declared.array.Value.TheVariants as variant
 use Rattle.php_values.specs.declared.key.Key.{Key}
 use Rattle.php_values.specs.View.{plain_of, plain_list, plain_path}
 use Rattle.script_meaning.specs.Requests.{PlainRequest}
-use Rattle.script_meaning.specs.Runs.{State, Run, Going, Over, Faulted, ◌then_do◌, result_of}
+use Rattle.script_meaning.specs.Runs.{State, Going, ◌then_do◌, result_of}
 use Rattle.script_meaning.specs.Expressions.{Environment, value, arithmetic, comparison}
 use Rattle.expr_evaluator.specs.declared.frame.Purpose.{Purpose}
 use Rattle.expr_evaluator.specs.declared.frame.Writing.{Writing}
@@ -28,8 +28,8 @@ use Rattle.expr_evaluator.specs.declared.frame.Frame.TheVariants as frame
 use Rattle.expr_evaluator.specs.declared.frame.Focus.{Focus}
 use Rattle.expr_evaluator.specs.declared.frame.Focus.TheVariants as focus
 use Rattle.expr_evaluator.specs.declared.evaluator.Evaluator.{Evaluator}
-use Rattle.expr_evaluator.specs.Frames.{Entering, world, focused, values_then, after_value, assign_in, update_in, plain_maybe, plain_maybes}
-use Rattle.expr_evaluator.specs.Cost.{cost, frame_cost, focus_cost, items_cost, row_cost, path_cost, writing_cost}
+use Rattle.expr_evaluator.specs.Frames.{Entering, world, focused, after_value, assign_in, update_in, plain_maybe, plain_maybes}
+use Rattle.expr_evaluator.specs.Cost.{frame_cost, focus_cost}
 use Rattle.expr_evaluator.specs.Moves.{Takes, Opens, Does, Tells, TellsFlag, flagged, seeing}
 use Rattle.expr_evaluator.proofs.Opening.{opens_next, gives, does_next}
 

@@ -1,10 +1,9 @@
 -- Moves one after the other.
-use Rattle.std.proofs.Common.{◌≡◌, ℕ, ◌+◌, ◌<◌, ◌≤◌, List, [], ◌∷◌, refl, sym, ap, ◌∙◌, subst, arith, Bor}
+use Rattle.std.proofs.Common.{◌≡◌, List, [], ◌∷◌, refl, sym, ◌∙◌, subst, arith, Bor}
 use Rattle.std.specs.declared.vec.Vec.{Vec}
 use Rattle.std.specs.declared.alloc.Global.{Global}
 use Rattle.php_syntax.specs.declared.tree.FunctionDef.{FunctionDef}
 use Rattle.php_syntax.specs.Trees.{PlainFunction}
-use Rattle.plain_values.specs.Plain.{Plain}
 use Rattle.plain_values.specs.declared.fault.Fault.{Fault}
 use Rattle.php_values.specs.declared.array.Value.{Value}
 use Rattle.php_values.specs.View.{plain_of}
@@ -18,8 +17,8 @@ use Rattle.expr_evaluator.specs.declared.evaluate.Moved.TheVariants as moved
 use Rattle.expr_evaluator.specs.declared.frame.Pause.{Pause}
 use Rattle.expr_evaluator.specs.declared.frame.Pause.TheVariants as pause
 use Rattle.expr_evaluator.specs.declared.evaluator.Evaluator.{Evaluator}
-use Rattle.expr_evaluator.specs.Frames.{Entering, world, focused, paused, values_then, ahead}
-use Rattle.expr_evaluator.specs.Cost.{frame_cost, focus_cost, stack_cost}
+use Rattle.expr_evaluator.specs.Frames.{Entering, world, focused, paused, ahead}
+use Rattle.expr_evaluator.specs.Cost.{focus_cost, stack_cost}
 use Rattle.expr_evaluator.specs.Moves.{Moves, Takes, Pauses, Advances, seeing}
 
 -- a frame was taken off the stack and is given a value

@@ -1,10 +1,10 @@
 -- Moves that open an expression for a frame, and moves that only change what is next.
-use Rattle.std.proofs.Common.{◌≡◌, ℕ, ◌+◌, ◌-◌, ◌<◌, ◌≤◌, List, [], ◌∷◌, ◌++◌, refl, sym, ap, ◌∙◌, subst, arith, Bor}
+use Rattle.std.proofs.Common.{◌≡◌, ℕ, ◌+◌, ◌-◌, ◌<◌, List, sym, ap, ◌∙◌, arith, Bor}
 use Rattle.php_syntax.specs.declared.tree.Expr.{Expr}
 use Rattle.php_syntax.specs.Trees.{PlainExpr, PlainFunction, plain_expr}
 use Rattle.plain_values.specs.Plain.{Plain}
 use Rattle.script_meaning.specs.Requests.{PlainRequest}
-use Rattle.script_meaning.specs.Runs.{State, Run, Going, ◌then_do◌}
+use Rattle.script_meaning.specs.Runs.{State, Run, ◌then_do◌}
 use Rattle.script_meaning.specs.Expressions.{Environment, value}
 use Rattle.expr_evaluator.specs.declared.frame.Frame.{Frame}
 use Rattle.expr_evaluator.specs.declared.frame.Focus.{Focus}

@@ -1,5 +1,5 @@
 -- The moves of rows, items and subscripts.
-use Rattle.std.proofs.Common.{◌≡◌, ℕ, ◌+◌, ◌<◌, ◌≤◌, List, [], ◌∷◌, ◌++◌, refl, sym, ap, ◌∙◌, subst, arith, Bor, append_assoc, Bool}
+use Rattle.std.proofs.Common.{◌≡◌, ℕ, ◌+◌, List, [], ◌∷◌, ◌++◌, refl, sym, ap, ◌∙◌, subst, arith, Bor, append_assoc, Bool}
 use Rattle.std.specs.List.{list_all}
 use Rattle.std.specs.Prelude.{not, Option, Some, None, Result, Ok, Err}
 use Rattle.std.specs.declared.vec.Vec.{Vec}
@@ -19,20 +19,19 @@ use Rattle.plain_values.specs.Paths as paths
 use Rattle.plain_values.specs.declared.fault.Fault.{Fault}
 use Rattle.php_values.specs.declared.array.Value.{Value}
 use Rattle.php_values.specs.declared.array.Value.TheVariants as variant
-use Rattle.php_values.specs.View.{plain_of, plain_list}
+use Rattle.php_values.specs.View.{plain_list}
 use Rattle.script_meaning.specs.Requests.{PlainRequest}
-use Rattle.script_meaning.specs.Runs.{State, Run, Going, ◌then_do◌, result_of}
+use Rattle.script_meaning.specs.Runs.{State, Going, ◌then_do◌, result_of}
 use Rattle.script_meaning.specs.Expressions.{Environment, value, values, maybe_value, items_in, subscripts}
 use Rattle.expr_evaluator.specs.declared.frame.Purpose.{Purpose}
 use Rattle.expr_evaluator.specs.declared.frame.Purpose.TheVariants as purpose
 use Rattle.expr_evaluator.specs.declared.frame.Writing.{Writing}
-use Rattle.expr_evaluator.specs.declared.frame.Frame.{Frame}
 use Rattle.expr_evaluator.specs.declared.frame.Frame.TheVariants as frame
 use Rattle.expr_evaluator.specs.declared.frame.Focus.{Focus}
 use Rattle.expr_evaluator.specs.declared.frame.Focus.TheVariants as focus
 use Rattle.expr_evaluator.specs.declared.evaluator.Evaluator.{Evaluator}
-use Rattle.expr_evaluator.specs.Frames.{Entering, world, focused, values_then, after_value, row_done, keys_done, plain_maybe, plain_maybes}
-use Rattle.expr_evaluator.specs.Cost.{cost, frame_cost, focus_cost, stack_cost, items_cost, row_cost, path_cost, writing_cost}
+use Rattle.expr_evaluator.specs.Frames.{world, focused, values_then, after_value, row_done, keys_done, plain_maybe, plain_maybes}
+use Rattle.expr_evaluator.specs.Cost.{frame_cost, focus_cost, items_cost, row_cost, path_cost}
 use Rattle.expr_evaluator.specs.Moves.{Moves, Takes, Opens, Finishes, Reads, Tells, seeing}
 use Rattle.expr_evaluator.proofs.Runs.{assoc, same_then}
 use Rattle.expr_evaluator.proofs.Opening.{opened_same, opened_less, gives}

@@ -1,12 +1,12 @@
 -- Variables as a map holds them, and written twice.
 use Rattle.std.proofs.Common.{◌≡◌, ◌<◌, suc, arith, length, ℕ, List, [], ◌∷◌, ◌++◌, refl, sym, ap, ◌∙◌, subst, Bor, Bool, true, false}
-use Rattle.std.specs.Prelude.{if◌then◌else◌, cond, Option, Some, None, Result, Ok, Err, nat_eq, slice_index_or, slice_set}
+use Rattle.std.specs.Prelude.{if◌then◌else◌, Option, Some, None, Result, Ok, Err, nat_eq, slice_index_or, slice_set}
 use Rattle.std.specs.Option.{option_map}
 use Rattle.std.specs.Cmp.Lexicographic.{pointwise}
 use Rattle.std.specs.Map.{lookup}
 use Rattle.indexmap.specs.IndexMap.{insert_entry}
 use Rattle.std.proofs.lemmas.Slice.Eq.{bytes_eq-Decides}
-use Rattle.plain_values.specs.Plain.{Plain, null}
+use Rattle.plain_values.specs.Plain.{Plain}
 use Rattle.plain_values.specs.Paths as paths
 use Rattle.plain_values.specs.declared.fault.Fault.{Fault}
 use Rattle.php_values.specs.declared.array.Value.{Value}

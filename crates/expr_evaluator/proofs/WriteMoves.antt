@@ -1,12 +1,11 @@
 -- The moves of writes.
-use Rattle.std.proofs.Common.{◌≡◌, ℕ, ◌+◌, ◌<◌, ◌≤◌, List, [], ◌∷◌, ◌++◌, refl, sym, ap, ◌∙◌, subst, arith, Bor, Bool, true, false, append_assoc, ◌⊎◌, inl, inr, length}
-use Rattle.std.specs.Prelude.{◌==◌, Option, Some, None, Result, Ok, Err, if◌then◌else◌}
+use Rattle.std.proofs.Common.{◌≡◌, ℕ, ◌+◌, List, [], ◌∷◌, ◌++◌, refl, sym, ap, ◌∙◌, subst, arith, Bor, Bool, true, false, append_assoc, ◌⊎◌, inl, inr, length}
+use Rattle.std.specs.Prelude.{◌==◌, Option, Result, Ok, Err, if◌then◌else◌}
 use Rattle.std.specs.declared.vec.Vec.{Vec}
 use Rattle.std.specs.declared.alloc.Global.{Global}
 use Rattle.php_syntax.specs.declared.tree.UpdateSign.{UpdateSign}
 use Rattle.php_syntax.specs.declared.tree.Expr.{Expr}
-use Rattle.php_syntax.specs.Trees.{PlainFunction, plain_expr}
-use Rattle.plain_values.specs.Plain.{Plain, null}
+use Rattle.plain_values.specs.Plain.{Plain}
 use Rattle.plain_values.specs.Paths as paths
 use Rattle.plain_values.specs.declared.fault.Fault.{Fault}
 use Rattle.plain_values.specs.declared.fault.Fault.TheVariants.{Memory}
@@ -15,16 +14,16 @@ use Rattle.php_values.specs.declared.key.Key.{Key}
 use Rattle.php_values.specs.View.{plain_of, plain_path, plain_step}
 use Rattle.plain_values.specs.Outcome.{go_on}
 use Rattle.expr_evaluator.proofs.VariableLemmas.{behind_path, path_push}
-use Rattle.script_meaning.specs.Runs.{State, Run, Going, Variables, value_in, set_in, ◌then_do◌, result_of, with_variable}
-use Rattle.script_meaning.specs.Expressions.{Environment, value, assigned, stepped, updated, update_at, is_kept, store}
+use Rattle.script_meaning.specs.Runs.{State, Run, Going, value_in, set_in, ◌then_do◌, result_of, with_variable}
+use Rattle.script_meaning.specs.Expressions.{assigned, stepped, updated, update_at, is_kept, store}
 use Rattle.expr_evaluator.specs.declared.frame.Writing.{Writing}
 use Rattle.expr_evaluator.specs.declared.frame.Writing.TheVariants as writing
 use Rattle.expr_evaluator.specs.declared.frame.Frame.TheVariants as frame
 use Rattle.expr_evaluator.specs.declared.frame.Focus.{Focus}
 use Rattle.expr_evaluator.specs.declared.frame.Focus.TheVariants as focus
 use Rattle.expr_evaluator.specs.declared.evaluator.Evaluator.{Evaluator}
-use Rattle.expr_evaluator.specs.Frames.{Entering, world, focused, values_then, after_value, keys_done, step_in, assign_in, update_in, plain_maybe, plain_maybes}
-use Rattle.expr_evaluator.specs.Cost.{cost, frame_cost, focus_cost, stack_cost, writing_cost}
+use Rattle.expr_evaluator.specs.Frames.{world, focused, after_value, keys_done, step_in, assign_in, update_in, plain_maybe, plain_maybes}
+use Rattle.expr_evaluator.specs.Cost.{frame_cost, focus_cost, writing_cost}
 use Rattle.expr_evaluator.specs.Moves.{Opens, Does, Reads, written, seeing}
 use Rattle.expr_evaluator.proofs.Opening.{opened_same, opened_less}
 

@@ -1,6 +1,6 @@
 -- What a frame makes of the value that it waits for, and what a stack of frames makes of it: the rest of the expression that is being
 -- evaluated.
-use Rattle.std.specs.Prelude.{ℕ, Bool, true, false, not, if◌then◌else◌, List, [], ◌∷◌, ◌++◌, Option, Some, None, Result, Ok, Err, ◌≡◌}
+use Rattle.std.specs.Prelude.{ℕ, Bool, true, false, not, if◌then◌else◌, List, [], ◌∷◌, ◌++◌, Option, Some, None}
 use Rattle.std.specs.List.{list_all}
 use Rattle.std.specs.Borrow.{Bor}
 use Rattle.php_syntax.specs.declared.tree.Expr.{Expr}

@@ -1,5 +1,5 @@
 -- The code of a join by the number of its parts.
-use Rattle.std.proofs.Common.{◌≡◌, ℕ, List, [], ◌∷◌, ◌++◌, length, refl, sym, subst, arith, map, Result, Ok, Err, IfOk}
+use Rattle.std.proofs.Common.{◌≡◌, ℕ, List, [], ◌∷◌, ◌++◌, length, refl, sym, subst, arith, Result, Ok, Err, IfOk}
 use Rattle.text_base.specs.declared.numbers.Slot.{Slot}
 use Rattle.php_syntax.specs.declared.tree.Expr.{Expr}
 use Rattle.php_syntax.specs.Trees.{exprs_of}

@@ -1,21 +1,16 @@
 -- Runs that evaluate all parts first come to the same as those that go on between the parts, where these go on or end.
-use Rattle.std.proofs.Common.{◌≡◌, List, [], ◌∷◌, ◌++◌, Option, refl, sym, ap, ◌∙◌, subst, Bool, true, false, not, Result, Ok, Err, append-nil, nat_le, length}
+use Rattle.std.proofs.Common.{◌≡◌, List, [], ◌∷◌, refl, sym, ap, subst, Bool, true, false, not, Result, Ok, Err}
 use Rattle.std.specs.Prelude.{if◌then◌else◌}
-use Rattle.php_syntax.specs.Trees.{PlainItems, no_items, more_items}
 use Rattle.php_syntax.specs.declared.tree.UpdateSign.{UpdateSign}
 use Rattle.php_syntax.specs.declared.tree.UpdateSign.TheVariants as update
-use Rattle.plain_values.specs.Plain.{Plain, flag, text}
-use Rattle.plain_values.specs.Text.{text_of}
-use Rattle.plain_values.specs.Joins.{join_of}
+use Rattle.plain_values.specs.Plain.{Plain, flag}
 use Rattle.plain_values.specs.Walks.{is_null}
 use Rattle.plain_values.specs.Outcome.{go_on}
-use Rattle.plain_values.specs.Paths.{Step, step_of, path_of, read, write, add_item, add_items}
+use Rattle.plain_values.specs.Paths.{Step, step_of, path_of, read, write}
 use Rattle.plain_values.specs.declared.fault.Fault.{Fault}
-use Rattle.plain_values.specs.declared.fault.Fault.TheVariants.{Long}
 use Rattle.script_meaning.specs.Runs.{State, Run, Going, Over, ◌then_do◌, Ended, Faulted, Spent, Deep, result_of, with_variable, value_in}
-use Rattle.script_meaning.specs.Expressions.{Environment, value, maybe_value, items_in, assigned, updated, is_kept, store, update_at}
+use Rattle.script_meaning.specs.Expressions.{value, assigned, updated, is_kept, store, update_at}
 use Rattle.flow_code.specs.Variables.{Name}
-use Rattle.flow_code.specs.Runs.{concatenated}
 use Rattle.flow_runs.proofs.Ends.{EndsAs}
 use Rattle.flow_runs.proofs.Writes.{KeyValues, old_at}
 

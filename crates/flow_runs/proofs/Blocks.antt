@@ -10,7 +10,7 @@ use Rattle.flow_code.specs.Code.{Code, no_code, Targets, Block, no_block, ◌bef
 use Rattle.flow_code.specs.Expressions.{Scope}
 use Rattle.flow_code.specs.Statements.{either, Test, test_of}
 use Rattle.flow_code.specs.Runs.{Slots, Frame}
-use Rattle.flow_runs.proofs.Ends.{World, Post, Follows, Comes, quit_stuck, after, lighter, here, over, heavy, bind, onward, unit, jump_comes, print_comes, echo_comes, branch_comes, quit_ends, quit_text_ends}
+use Rattle.flow_runs.proofs.Ends.{World, Post, Follows, Comes, quit_stuck, after, lighter, here, over, heavy, onward, unit, jump_comes, print_comes, echo_comes, branch_comes, quit_ends, quit_text_ends}
 use Rattle.flow_runs.proofs.Has.{HasAt, has_front, has_back, two_long, mid_long, last_long}
 use Rattle.flow_runs.proofs.Frames.{free, Shows, Kept, kept_same, kept_join}
 use Rattle.flow_runs.proofs.Codes.{at_slot, Does, bind_did}

@@ -9,7 +9,7 @@ use Rattle.script_meaning.specs.Requests.{PlainRequest}
 use Rattle.script_meaning.specs.Runs.{State, Run, Going, ◌then_do◌, result_of}
 use Rattle.flow_code.specs.declared.source.Work.TheVariants as work
 use Rattle.flow_code.specs.Points.{PlainSource, copy_source, truth_source, set_point, branch_point, point_at}
-use Rattle.flow_code.specs.Code.{Code, known, left, both, computed, computed_with}
+use Rattle.flow_code.specs.Code.{Code, known, left, both, computed}
 use Rattle.flow_code.specs.Expressions.{Scope, both_true, one_true, first_there, chosen, chosen_itself}
 use Rattle.flow_code.specs.Runs.{Slots, Frame, set_slot, source_value, worked}
 use Rattle.flow_runs.proofs.Ends.{World, Post, Follows, Meets, after, here, bind, knows, onward, computes, EndsAs, follows_as, set_comes, branch_comes}

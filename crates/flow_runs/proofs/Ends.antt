@@ -1,5 +1,5 @@
 -- Runs of points by all that is printed up to their end, and what a run of a script says of them.
-use Rattle.std.proofs.Common.{◌≡◌, ℕ, zero, suc, ◌+◌, ◌≤◌, List, [], ◌++◌, Some, None, refl, sym, ap, ◌∙◌, subst, arith, append_assoc, append-nil, Bool, true, false, map, Result, Ok, Err, ◌⊎◌, inl, inr}
+use Rattle.std.proofs.Common.{◌≡◌, ℕ, zero, suc, ◌+◌, ◌≤◌, List, [], ◌++◌, Some, None, refl, sym, ap, ◌∙◌, subst, arith, append_assoc, append-nil, Bool, true, map, Result, Ok, Err, ◌⊎◌, inl, inr}
 use Rattle.std.specs.Prelude.{if◌then◌else◌}
 use Rattle.plain_values.specs.Plain.{Plain, PlainKey, Pairs, text, empty, pair}
 use Rattle.plain_values.specs.Text.{text_of, truth}
@@ -10,7 +10,7 @@ use Rattle.script_meaning.specs.Runs.{State, Run, Going, Over, ◌then_do◌, En
 use Rattle.flow_code.specs.Points.{PlainSource, set_point, call_point, print_point, echo_point, branch_point, jump_point, begin_point, next_point, key_point, value_point, return_point, quit_point, PlainFlow, PlainFlowFunction, point_at, function_at}
 use Rattle.flow_code.specs.Runs.{Frame, Walk, set_slot, set_walk, fresh, arguments_in, source_value, FlowEnd, returned, exited, RunsFrom, set, call, call_exits, print, echo, branch, jump, each_begin, each_more, each_done, key_of, value_of, return, quit, quit_with}
 pub use Rattle.flow_runs.proofs.Steps.{World, world, Run_from, ok_same}
-use Rattle.flow_runs.proofs.Steps.{credit, Onto, Walks_on, Walks_off, Comes_back, Stays_in, first, one_run, pair_none, pair_same, member_same, the_key, the_value}
+use Rattle.flow_runs.proofs.Steps.{credit, Onto, Walks_on, Walks_off, first, pair_none, pair_same, member_same}
 
 -- from this point on, where so much is printed, all that is printed up to the end is w, and the function ends so
 pub record Ends (m : World) (p : ℕ) (f : Frame) (out w : List ℕ) (end : FlowEnd) : Type 0 where

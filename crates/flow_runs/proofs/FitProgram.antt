@@ -20,7 +20,7 @@ use Rattle.flow_runs.proofs.Has.{has_all}
 use Rattle.flow_runs.proofs.Names.{HasAll, all_front, all_back}
 use Rattle.flow_runs.proofs.Calls.{CallsDo}
 use Rattle.flow_runs.proofs.Stmts.{stmts_units, block_does}
-use Rattle.flow_runs.proofs.Program.{Stands, placed, found, names_there, calls_do, no_calls, none_asked}
+use Rattle.flow_runs.proofs.Program.{placed, found, names_there, no_calls, none_asked}
 use Rattle.flow_runs.proofs.FitCodes.{all_both, Lies, own_temporary, own_variable, own_point, set_fits}
 use Rattle.flow_runs.proofs.FitWrites.{null_is}
 use Rattle.flow_runs.proofs.FitTrees.{Callees}

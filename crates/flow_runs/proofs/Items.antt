@@ -1,28 +1,27 @@
 -- Code of array literals, whose items are put in one by one, and of joins, does what they do; and paths that have a key at each place.
-use Rattle.std.proofs.Common.{◌≡◌, ℕ, zero, suc, ◌+◌, ◌<◌, ◌≤◌, List, [], ◌∷◌, ◌++◌, length, length-append, Some, None, Option, refl, sym, ap, ap₂, ◌∙◌, subst, arith, Bool, true, false, map, Result, Ok, Err, append-nil, append_assoc}
-use Rattle.std.specs.Prelude.{if◌then◌else◌, flat_map, ℤ}
+use Rattle.std.proofs.Common.{◌≡◌, ℕ, suc, ◌+◌, List, [], ◌∷◌, ◌++◌, length, length-append, Some, None, Option, refl, sym, ap, ap₂, ◌∙◌, subst, arith, map, Result, Ok, Err}
+use Rattle.std.specs.Prelude.{flat_map, ℤ}
 use Rattle.php_syntax.specs.Trees.{MaybeExpr, no_expr, some_expr, PlainExprs, no_exprs, more_exprs, PlainItems, no_items, more_items, PlainPath, no_keys, more_keys}
-use Rattle.plain_values.specs.Plain.{Plain, PlainKey, Pairs, int_key, null, flag, int, text, array, empty}
+use Rattle.plain_values.specs.Plain.{Plain, PlainKey, Pairs, null, flag, int, text, array, empty}
 use Rattle.plain_values.specs.Text.{text_of}
 use Rattle.plain_values.specs.Keys.{key_of}
-use Rattle.plain_values.specs.Members.{push_at, put, push, within_length, key_after, largest_key}
+use Rattle.plain_values.specs.Members.{push_at, put, within_length, key_after, largest_key}
 use Rattle.plain_values.specs.Joins.{join_of}
 use Rattle.plain_values.specs.Outcome.{go_on}
 use Rattle.plain_values.specs.Paths.{named_key, change_member, put_in, no_deeper, write, add_item, add_items, literal_of}
 use Rattle.plain_values.specs.declared.fault.Fault.{Fault}
-use Rattle.plain_values.specs.declared.fault.Fault.TheVariants.{BadIndex}
 use Rattle.script_meaning.specs.Requests.{PlainRequest}
 use Rattle.script_meaning.specs.Runs.{State, Run, Going, Over, ◌then_do◌, result_of}
 use Rattle.script_meaning.specs.Expressions.{Environment, value, values, maybe_value, items_in, subscripts, assigned}
-use Rattle.flow_code.specs.Points.{PlainKeyRef, PlainSource, array_source, put_source, concat_source, set_point}
-use Rattle.flow_code.specs.Code.{Code, both, computed, computed_with, left, from_source}
-use Rattle.flow_code.specs.Expressions.{Scope, literal, join_code, Begun, no_item, one_item, number_of}
+use Rattle.flow_code.specs.Points.{PlainKeyRef, PlainSource, array_source, put_source, concat_source}
+use Rattle.flow_code.specs.Code.{Code, computed, computed_with}
+use Rattle.flow_code.specs.Expressions.{Scope, join_code, Begun, no_item, one_item, number_of}
 use Rattle.flow_code.specs.Runs.{Slots, Frame, set_slot, maybe_key_value, item_value, source_value, concatenated}
 use Rattle.flow_runs.specs.Keyed.{HasKeys}
-use Rattle.flow_runs.proofs.Ends.{World, Follows, Meets, meets_same, after, here, set_comes, set_stuck, then_same}
+use Rattle.flow_runs.proofs.Ends.{World, Meets, meets_same, after, here, set_comes, set_stuck, then_same}
 use Rattle.flow_runs.proofs.Has.{has_front, has_back, last_long}
-use Rattle.flow_runs.proofs.Frames.{free, slot_same, slot_other, kept_same, kept_join, kept_temporary, shows_temporary}
-use Rattle.flow_runs.proofs.Codes.{at_slot, Does, bind_did, does_same, does_left, does_both, does_computed, does_known_computed}
+use Rattle.flow_runs.proofs.Frames.{slot_same, slot_other, kept_join, kept_temporary, shows_temporary}
+use Rattle.flow_runs.proofs.Codes.{at_slot, Does, bind_did, does_same, does_left, does_both, does_known_computed}
 use Rattle.flow_runs.proofs.Writes.{KeyValues, AllKeyed, result_then}
 use Rattle.flow_runs.proofs.Calls.{read_slots, does_source, does_literal}
 

@@ -12,7 +12,7 @@ use Rattle.flow_code.specs.Code.{Code, Targets, Block}
 use Rattle.flow_code.specs.Expressions.{Scope, variable}
 use Rattle.flow_code.specs.Statements.{Test, looping, repeating, pair_points, pair_size, walking, key_variable}
 use Rattle.flow_code.specs.Runs.{Frame, Walk, set_slot, set_walk}
-use Rattle.flow_runs.proofs.Ends.{World, Post, Follows, Comes, comes_same, comes_then, after, paying, lighter, here, heavy, bind, onward, unit, jump_comes, begin_comes, more_comes, done_comes, key_comes, value_comes, branch_comes}
+use Rattle.flow_runs.proofs.Ends.{World, Post, Follows, Comes, comes_same, comes_then, after, paying, lighter, here, heavy, onward, unit, jump_comes, begin_comes, more_comes, done_comes, key_comes, value_comes, branch_comes}
 use Rattle.flow_runs.proofs.Has.{HasAt, has_front, has_back, two_long, mid_long, last_long}
 use Rattle.flow_runs.proofs.Names.{Has, HasAll}
 use Rattle.flow_runs.proofs.Frames.{free, is_variable, slot_other, slot_walks, walk_same, walk_other, walk_slots, Shows, Kept, kept_same, kept_join, kept_less, kept_variable, shows_temporary, shows_variable}

@@ -1,5 +1,5 @@
 -- A run of points goes on as its first point says, from each place there is one run at most, and each of its points has a cost.
-use Rattle.std.proofs.Common.{◌≡◌, ℕ, zero, suc, ◌+◌, List, [], ◌++◌, Option, Some, None, refl, sym, ap, ◌∙◌, subst, map, Result, Ok, ◌⊎◌, inl, inr, Bool, true, false}
+use Rattle.std.proofs.Common.{◌≡◌, ℕ, suc, ◌+◌, List, [], ◌++◌, Option, Some, None, refl, sym, ap, ◌∙◌, subst, map, Result, Ok, ◌⊎◌, inl, inr, Bool, false}
 use Rattle.std.specs.Prelude.{if◌then◌else◌}
 use Rattle.plain_values.specs.Plain.{Plain, PlainKey, Pairs, text, empty, pair}
 use Rattle.plain_values.specs.Text.{text_of, truth}
@@ -7,7 +7,7 @@ use Rattle.plain_values.specs.Walks.{walked, value_of_key}
 use Rattle.plain_values.specs.declared.fault.Fault.{Fault}
 use Rattle.script_meaning.specs.Requests.{PlainRequest}
 use Rattle.flow_code.specs.Points.{PlainSource, PlainPoint, set_point, call_point, print_point, echo_point, branch_point, jump_point, begin_point, next_point, key_point, value_point, return_point, quit_point, PlainFlow, PlainFlowFunction, point_at, function_at}
-use Rattle.flow_code.specs.Runs.{Slots, Frame, Walk, set_slot, set_walk, fresh, arguments_in, source_value, FlowEnd, returned, exited, RunsFrom, set, call, call_exits, print, echo, branch, jump, each_begin, each_more, each_done, key_of, value_of, return, quit, quit_with}
+use Rattle.flow_code.specs.Runs.{Frame, Walk, set_slot, set_walk, fresh, arguments_in, source_value, FlowEnd, returned, exited, RunsFrom, set, call, call_exits, print, echo, branch, jump, each_begin, each_more, each_done, key_of, value_of, return, quit, quit_with}
 
 -- the points, the request, whether faults are asked for too, how much a point costs, and how many more calls may be open
 pub record World : Type 0 where

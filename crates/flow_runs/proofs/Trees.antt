@@ -1,28 +1,27 @@
 -- The points of an expression do what it does.
-use Rattle.std.proofs.Common.{◌≡◌, ℕ, ◌+◌, List, [], ◌∷◌, ◌++◌, length, Some, None, Option, refl, ◌∙◌, arith, Bool, true, not, map, Ok}
+use Rattle.std.proofs.Common.{◌≡◌, ℕ, ◌+◌, List, [], ◌∷◌, ◌++◌, length, Some, None, Option, refl, ◌∙◌, arith, Bool, true, not, Ok}
 use Rattle.std.specs.List.{list_all}
 use Rattle.php_syntax.specs.declared.tree.UpdateSign.{UpdateSign}
 use Rattle.php_syntax.specs.declared.tree.UpdateSign.TheVariants as update
 use Rattle.php_syntax.specs.declared.tree.ArithSign.{ArithSign}
 use Rattle.php_syntax.specs.declared.tree.CompareSign.{CompareSign}
 use Rattle.php_syntax.specs.Trees.{PlainExpr, null_expr, flag_expr, int_expr, text_expr, var_expr, super_expr, member_expr, array_expr, join_expr, neg_expr, not_expr, arith_expr, compare_expr, and_expr, or_expr, coalesce_expr, choice_expr, isset_expr, empty_expr, assign_expr, update_expr, step_expr, call_expr, MaybeExpr, no_expr, some_expr, PlainExprs, no_exprs, more_exprs, PlainItems, no_items, more_items, PlainPath, no_keys, more_keys}
-use Rattle.plain_values.specs.Plain.{Plain, null, flag, int, text, array, empty}
+use Rattle.plain_values.specs.Plain.{Plain, null, flag, int, text, array}
 use Rattle.plain_values.specs.Text.{truth}
 use Rattle.plain_values.specs.Arithmetic.{negation_of}
-use Rattle.plain_values.specs.Joins.{join_of}
 use Rattle.plain_values.specs.Walks.{is_null}
-use Rattle.plain_values.specs.Paths.{subscript_of, path_of, literal_of}
+use Rattle.plain_values.specs.Paths.{subscript_of, path_of}
 use Rattle.builtin_meaning.specs.Names.{builtin_named}
 use Rattle.script_meaning.specs.Requests.{request_array}
 use Rattle.script_meaning.specs.Runs.{State, Run, Going, Over, ◌then_do◌, result_of, value_in}
 use Rattle.script_meaning.specs.Expressions.{Environment, arithmetic, comparison, value, values, maybe_value, subscripts, is_kept, update_at}
 use Rattle.flow_code.specs.declared.source.Work.TheVariants as work
-use Rattle.flow_code.specs.Points.{PlainKeyRef, int_ref, text_ref, read_ref, PlainSource, copy_source, super_source, member_source, array_source, concat_source, number_source, truth_source}
+use Rattle.flow_code.specs.Points.{PlainKeyRef, int_ref, text_ref, read_ref, PlainSource, copy_source, super_source, member_source, number_source, truth_source}
 use Rattle.program_expressions.specs.Collected.{collected}
 use Rattle.flow_code.specs.Variables.{own_names, names_in, maybe_names, names_in_all, item_names, path_names}
 use Rattle.flow_code.specs.Code.{Code, both, computed}
 use Rattle.flow_code.specs.Expressions.{Begun, Scope, variable, function_in, code, codes, maybe_key, path_code, items_code, key_code, old_value, update_code, number_of, length_of_path}
-use Rattle.flow_code.specs.Runs.{Slots, key_value, maybe_key_value, item_value, source_value, worked}
+use Rattle.flow_code.specs.Runs.{Slots, key_value, maybe_key_value, source_value, worked}
 use Rattle.flow_runs.specs.Defaults.{HaveDefaults}
 use Rattle.flow_runs.proofs.Ends.{World, meets_same, then_same}
 use Rattle.flow_runs.proofs.Names.{Has, HasAll, all_front, all_back}
@@ -32,7 +31,7 @@ use Rattle.flow_runs.proofs.Calls.{read_slots, env, CallsDo, neg_value, does_sou
 use Rattle.flow_runs.proofs.Literals.{values_literals}
 use Rattle.flow_runs.proofs.Agreement.{paired_then, flagged, update_agrees, filled_agrees}
 use Rattle.flow_runs.proofs.Items.{Made, read_item, read_begun, items_made, item_first, does_one_item, does_no_item, does_array, does_join, keys_known}
-use Rattle.flow_runs.specs.Keyed.{HasKeys, ExprKeyed, MaybeKeyed, ExprsKeyed, ItemsKeyed, PathKeyed}
+use Rattle.flow_runs.specs.Keyed.{ExprKeyed, MaybeKeyed, ExprsKeyed, ItemsKeyed, PathKeyed}
 
 pub codes_count : (w : Scope) (es : PlainExprs) (t : ℕ) → length ((codes w es).gives t) ≡ number_of es
 unfolding code number_of

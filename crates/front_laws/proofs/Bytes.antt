@@ -1,5 +1,5 @@
 -- From characters to bytes: the state behind the UTF-8 of characters, and behind the first bytes of one more.
-use Rattle.std.proofs.Common.{◌≡◌, ◌≢◌, ◌⊎◌, inl, inr, ℕ, ◌≤◌, ◌<◌, Bool, true, false, ◌||◌, List, [], ◌∷◌, ◌++◌, Option, Some, None, refl, sym, ◌∙◌, ap, subst, append-nil, append_assoc}
+use Rattle.std.proofs.Common.{◌≡◌, ◌≢◌, ◌⊎◌, inl, inr, ℕ, ◌≤◌, ◌<◌, Bool, true, false, List, [], ◌∷◌, ◌++◌, Option, Some, None, refl, sym, ◌∙◌, ap, subst, append-nil, append_assoc}
 use Rattle.std.specs.Prelude.{if◌then◌else◌}
 use Rattle.std.specs.Char.{encode_utf8}
 use Rattle.std.specs.Option.{option_and_then}
@@ -8,12 +8,12 @@ use Rattle.std.proofs.lemmas.Bool.{cases_lt}
 use Rattle.std.proofs.lemmas.Str.{encode_ascii}
 use Rattle.xml_text.specs.Characters.{is_character}
 use Rattle.piece_steps.specs.Languages.{Language}
-use Rattle.piece_steps.specs.Readers.{Move, go, done, fail, Reader, Outcome, whole, stuck, next, ends}
+use Rattle.piece_steps.specs.Readers.{Move, go, done, fail, Reader, Outcome, whole, next, ends}
 use Rattle.piece_steps.specs.Reads.{Begins, Reads}
 use Rattle.character_steps.specs.Bytes.{decoded, is_begun}
-use Rattle.character_steps.specs.Encoded.{encoded_language, Held, at_state, lifted, by_character, encoded, ByCharacters}
+use Rattle.character_steps.specs.Encoded.{Held, at_state, lifted, by_character, encoded, ByCharacters}
 use Rattle.character_steps.proofs.Encoding.{encoded_reads}
-use Rattle.front_laws.proofs.Folds.{folded, Folds, From, same, here, nowhere, on, somewhere}
+use Rattle.front_laws.proofs.Folds.{folded, Folds, From, same, here, on, somewhere}
 use Rattle.front_laws.proofs.Pages.{goes}
 
 -- The bytes of one character, told by a reader for which each character is a piece.

@@ -1,13 +1,12 @@
 -- The state of the reader of a page behind characters, by what is open.
-use Rattle.std.proofs.Common.{◌≡◌, ◌≢◌, ℕ, Bool, true, false, List, [], ◌∷◌, ◌++◌, Option, Some, None, refl, sym, ◌∙◌, ap, subst}
-use Rattle.std.specs.Prelude.{if◌then◌else◌, codes, nat_lt}
-use Rattle.std.specs.Option.{option_and_then}
+use Rattle.std.proofs.Common.{◌≡◌, ℕ, Bool, true, false, List, [], ◌∷◌, ◌++◌, Option, Some, None, refl, sym, ◌∙◌, ap, subst}
+use Rattle.std.specs.Prelude.{if◌then◌else◌, codes}
 use Rattle.text_base.specs.declared.page_token.PageToken.{PageToken}
 use Rattle.xml_text.specs.Characters.{is_character}
 use Rattle.dtd_model.specs.Table.{Table}
 use Rattle.page_model.specs.Parts.{attributes_then}
 use Rattle.page_model.specs.Places.{Place, at_beginning, behind_mark, behind}
-use Rattle.piece_steps.specs.Readers.{Move, go, done, fail, Reader, Outcome, whole, next, ends}
+use Rattle.piece_steps.specs.Readers.{Move, go, done, fail, next}
 use Rattle.page_fronts.specs.Fronts.{Open, nothing, in_reference, in_opener, in_tag_name, in_tag, at_empty_end, in_end_tag, in_comment, in_section, in_target, behind_target, in_instruction, in_declaration, at_declaration_end, in_doctype, kept_place, BehindAttributes, BehindWords, InInstruction, OpenStands}
 use Rattle.page_fronts.specs.OpenDoctypes.{before_root}
 use Rattle.page_fronts.specs.OpenValues.{in_entity}
@@ -16,9 +15,9 @@ use Rattle.page_reads.specs.Laws.{IsLawfulTable}
 use Rattle.page_insides.specs.Laws.{settle}
 use Rattle.page_insides.proofs.Settled.{at_open, kept_is, kept_settled}
 use Rattle.page_step_laws.proofs.Opened.{all_open}
-use Rattle.front_laws.proofs.Folds.{Folds, folded, same, here, on, somewhere, Led, Embeds, embedded, any_symbol, all_any}
-use Rattle.front_laws.proofs.Pages.{goes, open_step, Leads, leads_onto, more, go_on, leads_here}
-use Rattle.front_laws.proofs.Remarks.{comments, sections, instructions}
+use Rattle.front_laws.proofs.Folds.{Folds, same, here, on, somewhere, Led, Embeds, embedded, any_symbol, all_any}
+use Rattle.front_laws.proofs.Pages.{goes, open_step, Leads, more, go_on}
+use Rattle.front_laws.proofs.Remarks.{comments, sections}
 use Rattle.front_laws.proofs.References.{references}
 use Rattle.front_laws.proofs.Tags.{tag_names, in_tags, empty_ends, end_tags}
 use Rattle.front_laws.proofs.Openers.{openers, first_less}

@@ -1,5 +1,5 @@
 -- The front of a page tells the state of its reader.
-use Rattle.std.proofs.Common.{◌≡◌, ◌≢◌, ◌⊎◌, inl, inr, ℕ, Bool, true, false, List, [], ◌∷◌, ◌++◌, Option, Some, None, refl, sym, ◌∙◌, ap, subst, append-nil, append_assoc}
+use Rattle.std.proofs.Common.{◌≡◌, ◌⊎◌, inl, inr, ℕ, Bool, true, false, List, [], ◌∷◌, ◌++◌, Some, None, refl, sym, ◌∙◌, ap, subst, append-nil, append_assoc}
 use Rattle.std.specs.Prelude.{if◌then◌else◌}
 use Rattle.std.specs.Option.{option_and_then}
 use Rattle.std.specs.Str.{encode_utf8_all}
@@ -7,29 +7,26 @@ use Rattle.std.proofs.lemmas.Str.{encodes-append}
 use Rattle.text_base.specs.declared.page_token.PageToken.{PageToken}
 use Rattle.text_base.specs.declared.page_token.PageToken.TheVariants as token
 use Rattle.dtd_model.specs.Table.{Table}
-use Rattle.page_model.specs.PageTokens.{IsLawful, NoPiece, piece_bytes, bytes_then}
-use Rattle.page_model.specs.Pieces.{Piece, piece_then, after, after_all}
+use Rattle.page_model.specs.PageTokens.{NoPiece, piece_bytes}
+use Rattle.page_model.specs.Pieces.{piece_then, after, after_all}
 use Rattle.page_model.specs.Places.{Place, at_beginning, behind_mark, behind}
 use Rattle.piece_steps.specs.Languages as language
 use Rattle.piece_steps.specs.Readers.{Move, go, done, fail, Reader, Outcome, whole, failed, stuck, next, ends, state_after, kept, narrowed}
-use Rattle.piece_steps.specs.Reads.{Reads}
 use Rattle.piece_steps.proofs.Outcomes.{state_by, state_of_ends}
 use Rattle.piece_steps.proofs.States.{state_behind, not_failed, dead_where_none}
-use Rattle.piece_steps.proofs.Whole.{tokens_are_read}
 use Rattle.character_steps.specs.Encoded.{Held, at_state, encoded}
-use Rattle.page_fronts.specs.Fronts.{Open, nothing, in_reference, in_opener, in_tag_name, in_tag, at_empty_end, in_end_tag, in_comment, in_section, in_target, behind_target, in_instruction, in_declaration, at_declaration_end, in_doctype, kept_place, Front, bad, front, IsBegun, CanGoOn, OpenStands, FrontStands, HasFront}
+use Rattle.page_fronts.specs.Fronts.{Open, nothing, in_reference, in_opener, in_tag_name, in_tag, at_empty_end, in_end_tag, in_comment, in_section, in_target, behind_target, in_instruction, in_declaration, at_declaration_end, in_doctype, kept_place, front, IsBegun, CanGoOn, OpenStands, FrontStands}
 use Rattle.page_laws.proofs.Once.{Further, further}
-use Rattle.page_steps.specs.PageSteps.{PageState, page_reader, page_hold, page_language}
-use Rattle.page_step_laws.specs.Laws.{beginning}
+use Rattle.page_steps.specs.PageSteps.{PageState, page_reader, page_hold}
 use Rattle.page_step_laws.proofs.Held.{read_by_characters}
-use Rattle.page_step_laws.proofs.Tokens.{pieces, place_same, bytes_same, to_lawful, from_lawful}
+use Rattle.page_step_laws.proofs.Tokens.{pieces, place_same, bytes_same, to_lawful}
 use Rattle.page_reads.specs.Laws.{IsLawfulTable}
 use Rattle.page_reads.proofs.All.{pieces_read}
 use Rattle.page_narrowing.specs.Passing.{passes, narrow_reader}
 use Rattle.page_narrowing.specs.Laws.{narrow_tokens}
 use Rattle.page_narrowing.proofs.Narrow.{by_narrow, narrow_tokens_read}
 use Rattle.front_laws.specs.Laws.{narrow_state, state_of_front, FrontsLead, SameFronts, FailedAreBad}
-use Rattle.front_laws.proofs.Folds.{Folds, folded, same, here, onto}
+use Rattle.front_laws.proofs.Folds.{Folds, folded, here}
 use Rattle.front_laws.proofs.Pages.{goes}
 use Rattle.front_laws.proofs.Bytes.{over_characters, over_begun}
 use Rattle.front_laws.proofs.Characters.{char_step, reads_so}

@@ -1,9 +1,9 @@
 -- So much of `<!--`, `<![CDATA[` or `<!DOCTYPE`.
-use Rattle.std.proofs.Common.{◌≡◌, ◌≢◌, ◌⊎◌, inl, inr, ℕ, zero, suc, ◌<◌, ◌≤◌, List, [], ◌∷◌, ◌++◌, drop, take, length, refl, sym, ◌∙◌, ap, subst, arith}
+use Rattle.std.proofs.Common.{◌≡◌, ◌≢◌, ◌⊎◌, inl, inr, ℕ, zero, suc, ◌<◌, List, [], ◌∷◌, ◌++◌, drop, take, length, refl, sym, ◌∙◌, ap, subst, arith}
 use Rattle.std.specs.Prelude.{codes}
 use Rattle.dtd_model.specs.Table.{Table}
 use Rattle.page_model.specs.Places.{Place}
-use Rattle.page_fronts.specs.Fronts.{Open, in_opener, IsFrontOf}
+use Rattle.page_fronts.specs.Fronts.{in_opener, IsFrontOf}
 use Rattle.front_laws.proofs.Pages.{Leads, leads_computed}
 
 record Front (whole cs : List ℕ) : Type 0 where

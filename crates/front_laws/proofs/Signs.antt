@@ -1,11 +1,11 @@
 -- What stands directly behind a name is none of its characters.
-use Rattle.std.proofs.Common.{◌≡◌, ◌≢◌, ◌⊎◌, inl, inr, ℕ, Bool, true, false, List, [], ◌∷◌, ◌++◌, refl, sym, ◌∙◌, ap, subst}
+use Rattle.std.proofs.Common.{◌≡◌, ◌≢◌, ◌⊎◌, inl, inr, ℕ, true, false, List, [], ◌∷◌, ◌++◌, refl, sym, subst}
 use Rattle.std.specs.List.{list_all}
 use Rattle.std.proofs.lemmas.Bool.{and_parts}
 use Rattle.xml_text.specs.Characters.{is_blank}
 use Rattle.xml_text.specs.Names.{in_name}
-use Rattle.page_model.specs.Parts.{Attribute, attribute_then, attributes_then, IsAttribute, AreAttributes}
-use Rattle.page_fronts.specs.OpenTags.{OpenAttribute, between, in_attribute_name, behind_name, behind_equals, in_value, IsGap, AttributeStands}
+use Rattle.page_model.specs.Parts.{Attribute, attributes_then, AreAttributes}
+use Rattle.page_fronts.specs.OpenTags.{OpenAttribute, between, in_attribute_name, behind_name, behind_equals, in_value, AttributeStands}
 use Rattle.page_fronts.specs.OpenValues.{OpenValue}
 use Rattle.front_laws.proofs.Attributes.{blank_not_name}
 

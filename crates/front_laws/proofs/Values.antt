@@ -1,11 +1,10 @@
 -- Values, by how their attribute is declared, and in the XML declaration.
-use Rattle.std.proofs.Common.{◌≡◌, ℕ, Bool, true, false, List, [], ◌∷◌, ◌++◌, Option, Some, None, refl, sym, ◌∙◌, ap, subst, append_assoc, append-nil}
+use Rattle.std.proofs.Common.{◌≡◌, ℕ, Bool, true, false, List, [], ◌∷◌, ◌++◌, Option, Some, None, refl, sym, ap, subst, append_assoc, append-nil}
 use Rattle.std.specs.Prelude.{if◌then◌else◌}
-use Rattle.std.specs.Option.{option_and_then}
 use Rattle.dtd_model.specs.Table.{Kind, cdata, id, idref, idrefs, nmtoken, nmtokens, one_of, Presence, implied, required, with_default, fixed, Declared}
 use Rattle.page_fronts.specs.Fronts.{find_declared, DeclaredStands, WordStands}
-use Rattle.page_fronts.specs.OpenValues.{OpenValue, in_text, in_fixed, in_choice, in_words, KindStands, ValueStands}
-use Rattle.page_steps.specs.TagSteps.{start_of, step_of, word_step, of_element, of_declaration}
+use Rattle.page_fronts.specs.OpenValues.{OpenValue, in_fixed, in_choice, in_words, KindStands, ValueStands}
+use Rattle.page_steps.specs.TagSteps.{start_of, step_of, word_step}
 use Rattle.page_steps.specs.ValueSteps.{kind_start, start_by, value_start, value_step, kept_step, may_stand}
 use Rattle.front_laws.proofs.Folds.{Folds, here, on, nowhere, somewhere, either, Led, Embeds, embedded, any_symbol, all_any}
 use Rattle.front_laws.proofs.Texts.{texts}

@@ -1,7 +1,7 @@
 -- Whatever the machine puts out over a text of a symbol, the passage's nonterminal derives.
-use Rattle.std.proofs.Common.{◌≡◌, ℕ, ◌+◌, ◌<◌, ◌≤◌, inl, inr, zero, suc, List, [], ◌∷◌, ◌++◌, length, map, Contains, refl, sym, ◌∙◌, ap, subst, arith, Option, None, Some, slice_get, append_assoc}
+use Rattle.std.proofs.Common.{◌≡◌, ℕ, ◌+◌, ◌≤◌, suc, List, [], ◌∷◌, ◌++◌, length, map, Contains, refl, sym, ◌∙◌, ap, subst, arith, Option, None, Some, slice_get, append_assoc}
 use Rattle.std.specs.Option.{MatchOption}
-use Rattle.std.specs.List.{All, AllZip}
+use Rattle.std.specs.List.{AllZip}
 use Rattle.std.proofs.lemmas.List.Elements.{All-contains}
 use Rattle.std.proofs.lemmas.Option.{slice_get_within}
 use Rattle.text_base.specs.declared.byte_range.ByteRange.{ByteRange}
@@ -10,28 +10,26 @@ use Rattle.text_base.specs.declared.letter.Letter.{Letter}
 use Rattle.text_base.specs.declared.letter.Letter.TheVariants.{OfByte, OfToken}
 use Rattle.text_base.specs.ByteRange.{InRange}
 use Rattle.cfg_grammar.specs.declared.symbol.Symbol.{Symbol}
-use Rattle.cfg_grammar.specs.declared.symbol.Symbol.TheVariants.{Range, Token, Nt}
+use Rattle.cfg_grammar.specs.declared.symbol.Symbol.TheVariants.{Range, Nt}
 use Rattle.cfg_grammar.specs.declared.production.Right.{Right}
 use Rattle.cfg_grammar.specs.declared.production.Right.TheVariants.{Empty, One, Two}
 use Rattle.cfg_grammar.specs.declared.production.Production.{Production}
 use Rattle.cfg_grammar.specs.Derives.{Derives, by_range, by_token, by_empty, by_one, by_two}
-use Rattle.fst_core.specs.Letter.{letter_of}
 use Rattle.fst_core.specs.Runs.{Runs}
 use Rattle.numbered_sets.specs.Numbers.{AreDifferent}
 use Rattle.grammar_chart.specs.declared.keys.Entry.{Entry}
-use Rattle.grammar_chart.specs.declared.keys.Read.{Read}
 use Rattle.grammar_chart.specs.declared.keys.Read.TheVariants.{Nothing, First, Both}
 use Rattle.grammar_chart.specs.declared.keys.Begun.{Begun}
 use Rattle.grammar_chart.specs.declared.keys.Passage.{Passage}
 use Rattle.grammar_chart.specs.declared.keys.Reading.{Reading}
 use Rattle.grammar_chart.specs.declared.steps.Visit.{Visit}
 use Rattle.grammar_chart.specs.Rules.{awaited_by, awaited_in, awaited_of, passage_by, passage_in, passage_of, read_on}
-use Rattle.grammar_chart.specs.Charts.{HasRead, WaitsAt, IsTakenUp, IsExit, IsChart}
+use Rattle.grammar_chart.specs.Charts.{HasRead, WaitsAt, IsTakenUp, IsChart}
 use Rattle.grammar_chart.proofs.AddingLemmas.{contains_at, at_contains}
 use Rattle.chart_grammar.specs.declared.fronts.Front.{Front}
 use Rattle.chart_grammar.specs.declared.lifts.Last.{Last}
 use Rattle.chart_grammar.specs.Outs.{Puts}
-use Rattle.chart_grammar.specs.Lifts.{nt_of, RightLift, WholeLift, ReadLift, AreLifts, front_right, HasWhole, HasReading}
+use Rattle.chart_grammar.specs.Lifts.{nt_of, RightLift, AreLifts, front_right, HasWhole, HasReading}
 use Rattle.chart_grammar.proofs.SayLemmas.{FromRight, derives_front}
 use Rattle.grammar_image.specs.Answers.{IsAnswered}
 

@@ -1,10 +1,7 @@
 -- The begun productions of a chart are as many items of the machine.
-use Rattle.std.proofs.Common.{◌≡◌, ℕ, ◌<◌, ◌≤◌, zero, suc, List, [], ◌∷◌, length, map, Contains, refl, sym, ◌∙◌, ap, subst, arith, Some, slice_get, Option}
-use Rattle.std.specs.List.{All}
-use Rattle.std.specs.Option.{option_map}
+use Rattle.std.proofs.Common.{◌≡◌, ℕ, zero, suc, List, [], ◌∷◌, length, map, refl, sym, ◌∙◌, ap, arith, Some, slice_get}
 use Rattle.std.proofs.lemmas.List.{length-map}
-use Rattle.std.proofs.lemmas.List.Elements.{All-map, All-weaker, All-contains}
-use Rattle.std.proofs.lemmas.Option.{slice_get-map}
+use Rattle.std.proofs.lemmas.List.Elements.{All-map, All-weaker}
 use Rattle.text_base.specs.declared.letter.Letter.{Letter}
 use Rattle.cfg_grammar.specs.declared.production.Production.{Production}
 use Rattle.image_meaning.specs.Items.{Item, IsItem, HasItems}

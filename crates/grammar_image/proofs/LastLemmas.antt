@@ -1,5 +1,5 @@
 -- Outputs at the ends, state by state.
-use Rattle.std.proofs.Common.{◌≡◌, ℕ, ◌+◌, ◌<◌, ◌≤◌, ◌⊎◌, ◌↔◌, inl, inr, zero, suc, List, [], ◌∷◌, ◌++◌, length, map, Contains, refl, sym, ◌∙◌, ap, subst, arith, IsTrue, Some, slice_get}
+use Rattle.std.proofs.Common.{◌≡◌, ℕ, ◌+◌, ◌⊎◌, ◌↔◌, inl, inr, List, [], ◌∷◌, ◌++◌, map, Contains, refl, sym, ◌∙◌, ap, subst, arith, IsTrue, Some, slice_get}
 use Rattle.std.specs.List.{All, list_all}
 use Rattle.std.specs.declared.vec.Vec.{Vec}
 use Rattle.std.specs.declared.alloc.Global.{Global}
@@ -11,7 +11,7 @@ use Rattle.fst_core.specs.Letter.{letter_of}
 use Rattle.fst_core.specs.Offers.{OffersLast}
 use Rattle.fst_core.specs.declared.out.Out.{Out}
 use Rattle.chart_grammar.specs.declared.lifts.Last.{Last}
-use Rattle.grammar_image.specs.Lasts.{AddsLasts, IsLast, AreLastsBelow}
+use Rattle.grammar_image.specs.Lasts.{AddsLasts, AreLastsBelow}
 
 -- all outputs but those that are left are added
 pub record AddsRest (old new : List Last) (state : ℕ) (outs rest : List (Vec Out Global)) : Type 0 where

@@ -1,5 +1,5 @@
 -- An image of a chart of which only what it is made of is left.
-use Rattle.std.proofs.Common.{◌≡◌, ◌+◌, ◌≤◌, ℕ, suc, List, length, sym, ap, subst, arith, ◌∙◌}
+use Rattle.std.proofs.Common.{◌≡◌, ◌+◌, ◌≤◌, suc, List, length, subst}
 use Rattle.text_base.specs.declared.numbers.Nt as nt
 use Rattle.cfg_grammar.specs.declared.grammar.Grammar.{Grammar}
 use Rattle.cfg_grammar.specs.declared.production.Production.{Production}

@@ -1,16 +1,15 @@
 -- The sentences of an image are exactly what the machine puts out.
-use Rattle.std.proofs.Common.{◌≡◌, ℕ, ◌+◌, ◌<◌, ◌≤◌, ◌↔◌, zero, suc, Bool, true, ◌&&◌, IsTrue, List, [], ◌∷◌, ◌++◌, length, map, Contains, refl, sym, ◌∙◌, ap, subst, arith, Some, slice_get}
-use Rattle.std.specs.List.{All, AllZip, list_all}
+use Rattle.std.proofs.Common.{◌≡◌, ℕ, ◌+◌, ◌≤◌, ◌↔◌, zero, suc, IsTrue, List, [], ◌∷◌, ◌++◌, length, map, Contains, refl, sym, ◌∙◌, ap, subst, arith, Some, slice_get}
+use Rattle.std.specs.List.{list_all}
 use Rattle.std.specs.Cmp.{first_so, second_so}
 use Rattle.std.proofs.lemmas.List.Elements.{All-contains}
 use Rattle.std.proofs.lemmas.Option.{slice_get_within}
 use Rattle.text_base.specs.declared.byte_range.ByteRange.{ByteRange}
 use Rattle.text_base.specs.declared.letter.Letter.{Letter}
 use Rattle.cfg_grammar.specs.declared.symbol.Symbol.TheVariants.{Range, Nt}
-use Rattle.cfg_grammar.specs.declared.production.Right.TheVariants.{Empty, One, Two}
 use Rattle.cfg_grammar.specs.declared.production.Production.{Production}
 use Rattle.cfg_grammar.specs.declared.grammar.Grammar.{Grammar}
-use Rattle.cfg_grammar.specs.Derives.{Derives, by_one, by_two}
+use Rattle.cfg_grammar.specs.Derives.{Derives}
 use Rattle.fst_core.specs.Letter.{letter_of}
 use Rattle.fst_core.specs.Fits.{is_fixed}
 use Rattle.fst_core.specs.declared.out.Out.{Out}
@@ -18,7 +17,6 @@ use Rattle.fst_core.specs.declared.out.Out.TheVariants.{Same, Shift, Byte, Token
 use Rattle.image_meaning.specs.Outputs.{Outputs}
 use Rattle.image_meaning.proofs.Over.{runs_over}
 use Rattle.numbered_sets.specs.Numbers.{AreDifferent}
-use Rattle.grammar_chart.specs.declared.keys.Entry.{Entry}
 use Rattle.grammar_chart.specs.declared.keys.Passage.{Passage}
 use Rattle.grammar_chart.specs.declared.keys.Reading.{Reading}
 use Rattle.grammar_chart.specs.declared.chart.Chart.{Chart}
@@ -26,13 +24,12 @@ use Rattle.grammar_chart.specs.Rules.{ReadingStep}
 use Rattle.grammar_chart.specs.Kept.{IsDone}
 use Rattle.grammar_chart.proofs.AddingLemmas.{contains_at}
 use Rattle.chart_grammar.specs.declared.lifts.Last.{Last}
-use Rattle.chart_grammar.specs.Outs.{Puts}
-use Rattle.chart_grammar.specs.Lifts.{nt_of, end_by, front_right, AreLifts, HasEnd}
+use Rattle.chart_grammar.specs.Lifts.{nt_of, end_by, front_right, HasEnd}
 use Rattle.chart_grammar.specs.Images.{IsImageOf}
 use Rattle.chart_grammar.proofs.SayLemmas.{FromRight, derives_front, start_says}
 use Rattle.grammar_image.specs.Answers.{IsReading, IsAnswered}
 use Rattle.grammar_image.specs.Work.{IsWorked}
-use Rattle.grammar_image.specs.Lasts.{IsLast, AreLastsBelow}
+use Rattle.grammar_image.specs.Lasts.{AreLastsBelow}
 use Rattle.grammar_image.proofs.WorkLemmas.{step_over}
 use Rattle.grammar_image.proofs.Complete.{complete, from_right}
 

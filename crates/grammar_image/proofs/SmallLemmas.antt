@@ -1,6 +1,6 @@
 -- The grammar of an image is small: items and letters of the machine pay for it.
-use Rattle.std.proofs.Common.{◌≡◌, ℕ, zero, suc, ◌+◌, ◌*◌, ◌<◌, ◌≤◌, ◌⊎◌, inl, inr, List, [], ◌∷◌, length, take, map, Contains, refl, sym, ◌∙◌, ap, subst, arith, Some, slice_get}
-use Rattle.std.specs.List.{All, AllZip}
+use Rattle.std.proofs.Common.{◌≡◌, ℕ, zero, suc, ◌+◌, ◌<◌, ◌≤◌, ◌⊎◌, inl, inr, List, [], ◌∷◌, length, take, map, refl, sym, ◌∙◌, ap, subst, arith, Some, slice_get}
+use Rattle.std.specs.List.{AllZip}
 use Rattle.std.proofs.lemmas.List.{length-map}
 use Rattle.std.proofs.lemmas.List.Elements.{All-map, All-contains}
 use Rattle.std.proofs.lemmas.Option.{slice_get_within}
@@ -9,19 +9,15 @@ use Rattle.text_base.specs.declared.numbers.Nt as nt
 use Rattle.text_base.specs.declared.letter.Letter.{Letter}
 use Rattle.text_base.specs.ByteRange.{InRange}
 use Rattle.cfg_grammar.specs.declared.symbol.Symbol.{Symbol}
-use Rattle.cfg_grammar.specs.declared.symbol.Symbol.TheVariants.{Range, Token, Nt}
+use Rattle.cfg_grammar.specs.declared.symbol.Symbol.TheVariants.{Range, Nt}
 use Rattle.cfg_grammar.specs.declared.production.Production.{Production}
 use Rattle.cfg_grammar.specs.declared.grammar.Grammar.{Grammar}
 use Rattle.cfg_grammar.specs.Below.{symbols_of}
-use Rattle.fst_core.specs.declared.out.Out.{Out}
-use Rattle.fst_core.specs.Letter.{letter_of}
-use Rattle.image_meaning.specs.Outputs.{Leads}
 use Rattle.image_meaning.specs.Items.{Item, IsItem, HasItems, Enters, ReadsTo}
-use Rattle.image_meaning.specs.Weight.{Unit_of_weight, item, read, last, ReadsRange, IsUnit, Weighs, IsSmall}
+use Rattle.image_meaning.specs.Weight.{Unit_of_weight, item, read, last, ReadsRange, IsUnit, IsSmall}
 use Rattle.image_meaning.proofs.Over.{enters_over, reads_over, leads_over}
 use Rattle.numbered_sets.specs.Numbers.{AreDifferent}
 use Rattle.grammar_chart.specs.declared.keys.Passage.{Passage}
-use Rattle.grammar_chart.specs.declared.keys.Reading.{Reading}
 use Rattle.grammar_chart.specs.declared.chart.Chart.{Chart}
 use Rattle.grammar_chart.specs.Rules.{ReadingStep}
 use Rattle.grammar_chart.specs.Charts.{IsPassage}
@@ -32,9 +28,9 @@ use Rattle.chart_grammar.specs.declared.saying.Said.{Said}
 use Rattle.chart_grammar.specs.declared.saying.Head.{Head}
 use Rattle.chart_grammar.specs.Fronts.{StandsFor}
 use Rattle.chart_grammar.specs.Images.{IsImageOf}
-use Rattle.chart_grammar.specs.Paid.{Charge, reads, ends, letters_of, left_by, behind_by, Spells, IsCharge, IsSaid, IsWide, OfText, OfWide, IsPaid}
+use Rattle.chart_grammar.specs.Paid.{Charge, reads, ends, letters_of, left_by, behind_by, Spells, IsCharge, IsSaid, IsWide, OfText, OfWide}
 use Rattle.grammar_image.specs.Answers.{IsReading}
-use Rattle.grammar_image.specs.Lasts.{IsLast, AreLastsBelow}
+use Rattle.grammar_image.specs.Lasts.{AreLastsBelow}
 use Rattle.grammar_image.specs.Work.{IsWorked}
 use Rattle.grammar_image.proofs.WorkLemmas.{step_over}
 use Rattle.grammar_image.proofs.CountLemmas.{Has, heavier, counted}

@@ -1,5 +1,5 @@
 -- Each turn keeps what the work on an image keeps.
-use Rattle.std.proofs.Common.{◌≡◌, ℕ, ◌+◌, ◌<◌, ◌≤◌, ◌⊎◌, ◌↔◌, inl, inr, List, [], ◌∷◌, ◌++◌, length, map, Contains, refl, sym, ◌∙◌, ap, subst, arith, Some, slice_get}
+use Rattle.std.proofs.Common.{◌≡◌, ℕ, ◌+◌, ◌<◌, ◌≤◌, inl, inr, List, length, map, Contains, refl, sym, ◌∙◌, ap, subst, arith, Some, slice_get}
 use Rattle.std.specs.List.{All}
 use Rattle.std.proofs.lemmas.List.Elements.{All-contains}
 use Rattle.std.proofs.lemmas.Option.{slice_get_within}
@@ -8,13 +8,12 @@ use Rattle.text_base.specs.declared.byte_range.ByteRange.{ByteRange}
 use Rattle.text_base.specs.declared.letter.Letter.{Letter}
 use Rattle.text_base.specs.ByteRange.{InRange}
 use Rattle.cfg_grammar.specs.declared.symbol.Symbol.{Symbol}
-use Rattle.cfg_grammar.specs.declared.symbol.Symbol.TheVariants.{Range, Nt}
+use Rattle.cfg_grammar.specs.declared.symbol.Symbol.TheVariants.{Range}
 use Rattle.cfg_grammar.specs.declared.production.Production.{Production}
 use Rattle.fst_core.specs.Letter.{letter_of}
-use Rattle.fst_core.specs.Offers.{Offers, IsWithin}
+use Rattle.fst_core.specs.Offers.{IsWithin}
 use Rattle.fst_core.specs.declared.machine.Move.{Move}
 use Rattle.fst_core.specs.declared.out.Out.{Out}
-use Rattle.image_meaning.specs.Items.{Enters}
 use Rattle.image_meaning.proofs.Over.{enters_over}
 use Rattle.numbered_sets.specs.Numbers.{Keeps}
 use Rattle.grammar_chart.specs.declared.keys.Entry.{Entry}
@@ -27,7 +26,7 @@ use Rattle.grammar_chart.specs.Kept.{IsChartOf, GoesOn, Goes, IsCounted}
 use Rattle.grammar_chart.proofs.AddingLemmas.{contains_at, contains_kept}
 use Rattle.grammar_chart.proofs.ChartLemmas.{all_by}
 use Rattle.grammar_chart.proofs.StepLemmas.{at_old}
-use Rattle.grammar_image.specs.Answers.{IsReading, IsAnsweredBy, IsAnsweredAt, IsNoted, NotesAll, Asks}
+use Rattle.grammar_image.specs.Answers.{IsReading, IsAnsweredAt, Asks}
 use Rattle.grammar_image.specs.Work.{IsWorked}
 
 same_range : (x y : ByteRange) → ◌≡◌ {A = Symbol} (Range x) (Range y) → x ≡ y

@@ -1,5 +1,5 @@
 -- What the machine answered to what a chart asked.
-use Rattle.std.specs.Prelude.{◌≡◌, ◌<◌, ◌≤◌, ◌⊎◌, ◌↔◌, ◌++◌, ◌∷◌, [], ℕ, List, map, Some, slice_get, Contains, All, take}
+use Rattle.std.specs.Prelude.{◌≡◌, ◌≤◌, ◌⊎◌, ◌↔◌, ℕ, List, map, Some, slice_get, Contains, All}
 use Rattle.text_base.specs.declared.byte_range.ByteRange.{ByteRange}
 use Rattle.text_base.specs.declared.letter.Letter.{Letter}
 use Rattle.text_base.specs.ByteRange.{InRange}
@@ -9,7 +9,6 @@ use Rattle.fst_core.specs.Letter.{letter_of}
 use Rattle.fst_core.specs.declared.machine.Move.{Move}
 use Rattle.fst_core.specs.Offers.{Offers, IsWithin}
 use Rattle.numbered_sets.specs.Numbers.{Keeps}
-use Rattle.grammar_chart.specs.declared.keys.Entry.{Entry}
 use Rattle.grammar_chart.specs.declared.keys.Passage.{Passage}
 use Rattle.grammar_chart.specs.declared.keys.Reading.{Reading}
 use Rattle.grammar_chart.specs.declared.chart.Chart.{Chart}

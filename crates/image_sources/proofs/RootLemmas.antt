@@ -120,7 +120,7 @@ module _ (ps qs : List Production) (start : nt.Nt) (fs : List Passage) (sources 
       let ends = ends_of (record { left = left; right = right.Two b c }) other.production left g zeroth in
       let own : root.parts ≡ Two q r = ap (λ (x : Node). x.parts) (sym (same_root m other is e)) ∙ h in
       let two = two_end (suc ends.number) ends.front b c ends.right in
-      let none = copies.closes (record { left = left; right = right.Two b c }) ends.number ends.to two.0 v (contained qs other.production _ g) zeroth ends.passed
+      let none = copies.closes (record { left = left; right = right.Two b c }) ends.number ends.to (suc two.0) v (contained qs other.production _ g) zeroth ends.passed
       (ends.right ∙ ap (end_by (suc ends.number)) two.1) (subst (λ (x : Symbol). Derives qs x v) two.3 (derives qs nodes r c v t)) in
       let below = subst (λ (x : Parts). parts_below (length leads) x ≡ true) own low in
       let marked = subst (λ (x : Parts). parts_marked marks x ≡ true) own kept in

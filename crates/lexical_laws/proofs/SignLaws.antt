@@ -1,13 +1,13 @@
 -- The sign that is read is the longest one that the bytes begin with.
-use Rattle.std.proofs.Common.{◌≡◌, ◌≢◌, ◌∙◌, ℕ, ◌<◌, ◌≤◌, Bool, true, false, List, [], ◌∷◌, length, refl, sym, ap, subst, arith, Option, Some, None}
-use Rattle.std.specs.Prelude.{nat_le, ◌&&◌, if◌then◌else◌}
-use Rattle.std.proofs.lemmas.Bool.{and_parts, leb-true, false≢true}
+use Rattle.std.proofs.Common.{◌≡◌, ◌≢◌, ◌∙◌, ℕ, ◌≤◌, Bool, true, false, List, [], ◌∷◌, length, refl, sym, ap, subst, arith, Option, Some, None}
+use Rattle.std.specs.Prelude.{nat_le, ◌&&◌}
+use Rattle.std.proofs.lemmas.Bool.{and_parts, leb-true}
 use Rattle.php_syntax.specs.declared.token.Sign.{Sign}
 use Rattle.php_syntax.specs.declared.token.Sign.TheVariants as s
-use Rattle.php_syntax.specs.Tokens.{PlainKind, inline, variable, name, integer, text, template, sign}
+use Rattle.php_syntax.specs.Tokens.{inline, variable, name, integer, text, template, sign}
 use Rattle.php_syntax.specs.Spelling.{spelling_of}
 use Rattle.lexical_grammar.specs.Characters.{begins}
-use Rattle.lexical_grammar.specs.Steps.{Step, goes, refuses, gives, inside}
+use Rattle.lexical_grammar.specs.Steps.{Step, goes, refuses, gives}
 use Rattle.lexical_grammar.specs.Signs.{all_signs, first_sign, sign_step}
 
 -- what a step gives, where it gives a sign

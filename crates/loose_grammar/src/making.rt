@@ -1,10 +1,16 @@
 //! From a program to the grammar of its loose pages.
 
-ghost use Rattle.std.specs.Prelude.{◌≡◌, IfOk, IfErr};
+ghost use Rattle.std.specs.Prelude.{◌≡◌, ◌↔◌, List, IfOk, IfErr};
+ghost use Rattle.text_base.specs.declared.letter.Letter.{Letter};
+ghost use Rattle.cfg_grammar.specs.Derives.{Derives};
+ghost use Rattle.cfg_grammar.specs.declared.symbol.Symbol as symbols;
 ghost use Rattle.flow_code.specs.Flat.{flat};
 ghost use Rattle.flow_code.specs.View.{plain_flow};
 ghost use Rattle.php_program.specs.View.{program_of};
 ghost use Rattle.program_points.specs.Texts.{TextsFit};
+ghost use Rattle.resolve_laws.specs.Resolved.{HasLetters};
+ghost use Rattle.resolve_laws.specs.Drafted.{IsResolved};
+ghost use Rattle.resolving.specs.Causes.{IsCause};
 ghost use Rattle.loose_grammar.specs.Pages.{DerivePages, IsPageGrammar, IsProgramSystem};
 ghost use Rattle.loose_grammar.specs.Refusals.{IsGrammarRefusal};
 
@@ -13,6 +19,7 @@ use call_lowering::LoweringError;
 use cfg_grammar::Grammar;
 use extraction::extract;
 use flow_code::FlowProgram;
+use grammar_image::ImageRefusal;
 use grammar_trimming::trim;
 use op_system::OpSystem;
 use php_program::Program;
@@ -21,27 +28,38 @@ use resolving::resolve;
 use std::alloc::Global;
 use text_base::NoMemory;
 
-// The system of a program, from its points.
-fn system_of(alloc: Global, program: &Program, flow: &FlowProgram) -> Result<OpSystem, NoMemory>
-    requires { plain_flow flow.now ≡ flat (program_of program.now) }
+// The system of a program, from its points, which are let go then.
+fn system_of(alloc: Global, program: &Program, flow: FlowProgram) -> Result<OpSystem, NoMemory>
+    requires { plain_flow flow ≡ flat (program_of program.now) }
     ensures { IfOk result (IsProgramSystem (program_of program.now)) }
 {
     let _ = program;
-    extract(alloc, flow)
+    extract(alloc, &flow)
+}
+
+// One grammar of the texts of a system, which is let go then, since it is as large as the grammar.
+fn resolved_of(alloc: Global, system: OpSystem) -> Result<Grammar, ImageRefusal>
+    ensures exact { IfOk result
+        (λ g. (w : List Letter) → Derives g.productions.items (symbols.Symbol.Nt g.start) w
+        ↔ HasLetters system (symbols.Symbol.Nt system.start) w) }
+    ensures resolved { IfOk result (IsResolved system) }
+    ensures cause { IfErr result (IsCause system ITEM_LIMIT) }
+{
+    resolve(alloc, &system, ITEM_LIMIT)
 }
 
 // The grammar of a system.
 fn grammar_of(
     alloc: Global,
     program: &Program,
-    system: &OpSystem,
+    system: OpSystem,
 ) -> Result<Grammar, GrammarRefusal>
-    requires { IsProgramSystem (program_of program.now) system.now }
+    requires { IsProgramSystem (program_of program.now) system }
     ensures grammar { IfOk result (IsPageGrammar (program_of program.now)) }
     ensures refusal { IfErr result (IsGrammarRefusal (program_of program.now)) }
 {
     let _ = program;
-    match resolve(alloc, system, ITEM_LIMIT) {
+    match resolved_of(alloc, system) {
         Ok(grammar) => Ok(trim(alloc, &grammar)?),
         Err(refusal) => Err(refusal_of(refusal)),
     }
@@ -63,8 +81,8 @@ pub fn loose_grammar(alloc: Global, program: &Program) -> Result<Grammar, Gramma
 {
     match lower(alloc, program) {
         Ok(flow) => {
-            let system = system_of(alloc, program, &flow)?;
-            grammar_of(alloc, program, &system)
+            let system = system_of(alloc, program, flow)?;
+            grammar_of(alloc, program, system)
         }
         Err(LoweringError::LongText) => Err(GrammarRefusal::LongText),
         Err(LoweringError::Memory) => Err(GrammarRefusal::Memory),

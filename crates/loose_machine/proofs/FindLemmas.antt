@@ -14,7 +14,6 @@ use Rattle.page_reads.specs.Laws.{IsLawfulTable, PageTokensRead}
 use Rattle.page_step_laws.specs.Laws.{read_tokens}
 use Rattle.tag_sums.specs.Nesting.{Nest, torn, nest, join, nest_of, is_balanced}
 use Rattle.dyck_balance.specs.Laws.{WholeIsNested}
-use Rattle.sentence_writing.specs.Bytes.{bytes_in}
 use Rattle.summary_fixpoint.specs.Pairs.{tokens_in}
 use Rattle.page_goals.specs.declared.goal.Goal as goals
 use Rattle.page_goals.specs.Goals.{IsGood}

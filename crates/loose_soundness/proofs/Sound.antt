@@ -10,8 +10,8 @@ use Rattle.plain_values.specs.Walks.{value_of_key, walked}
 use Rattle.plain_values.specs.Lawful.{IsValue}
 use Rattle.script_meaning.specs.Requests.{PlainRequest, Admitted}
 use Rattle.flow_code.specs.Points.{PlainKeyRef, int_ref, text_ref, read_ref, PlainSource, literal_source, copy_source, super_source, member_source, array_source, put_source, concat_source, repeat_source, implode_source, explode_source, apply_source, number_source, truth_source, PlainPoint, set_point, call_point, print_point, echo_point, branch_point, jump_point, begin_point, next_point, key_point, value_point, return_point, quit_point, PlainFlowFunction, PlainFlow, point_at, function_at}
-use Rattle.flow_code.specs.Lawful.{key_slots, maybe_key_slots, item_slots, source_reads, reads, sets, nexts, IsOwnSlot, IsOwnPoint, SourceFits, PartsFit, PointFits, FunctionFits, IsFlow, IsItemKey, IsMaybeKey}
-use Rattle.flow_code.specs.Runs.{Slots, Walk, no_walk, Frame, set_slot, set_walk, source_value, arguments_in, fresh, FlowEnd, returned, exited, RunsFrom, FlatRun}
+use Rattle.flow_code.specs.Lawful.{key_slots, maybe_key_slots, item_slots, source_reads, reads, sets, nexts, IsOwnSlot, IsOwnPoint, SourceFits, IsFlow, IsItemKey}
+use Rattle.flow_code.specs.Runs.{Slots, Frame, set_slot, set_walk, source_value, arguments_in, fresh, FlowEnd, returned, exited, RunsFrom, FlatRun}
 use Rattle.flow_code.specs.Runs as runs
 use Rattle.least_sets.specs.Sets.{In}
 use Rattle.loose_sets.specs.Reaching.{at_point, at_entry, Reaches}

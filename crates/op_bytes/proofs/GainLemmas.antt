@@ -1,11 +1,11 @@
 -- Sets that gain bytes.
-use Rattle.std.proofs.Common.{◌≡◌, ◌<◌, ◌≤◌, ◌+◌, ℕ, Bool, true, false, List, [], ◌∷◌, ◌++◌, length, set, get_or, Some, slice_get, Contains, inl, inr, refl, sym, ◌∙◌, ap, subst, arith, length-set}
-use Rattle.std.specs.Prelude.{◌⊎◌, ◌↔◌, nat_lt, IsTrue, slice_index_or}
-use Rattle.std.specs.List.{All, list_all}
-use Rattle.std.proofs.lemmas.Bool.{cases_eq, ltb-true}
+use Rattle.std.proofs.Common.{◌≡◌, ◌<◌, ◌≤◌, ◌+◌, ℕ, Bool, true, false, List, [], ◌∷◌, length, set, get_or, Some, slice_get, Contains, inl, inr, refl, sym, ◌∙◌, ap, subst, arith, length-set}
+use Rattle.std.specs.Prelude.{◌⊎◌, ◌↔◌}
+use Rattle.std.specs.List.{All}
+use Rattle.std.proofs.lemmas.Bool.{cases_eq}
 use Rattle.std.proofs.lemmas.List.{get_or-replicate}
 use Rattle.std.proofs.lemmas.List.Elements.{All-contains}
-use Rattle.std.proofs.lemmas.Option.{slice_get_read, slice_get_within, slice_get-get_or, same_Some}
+use Rattle.std.proofs.lemmas.Option.{slice_get_read, slice_get_within, same_Some}
 use Rattle.text_base.specs.declared.byte_range.ByteRange.{ByteRange}
 use Rattle.text_base.specs.declared.numbers.Nt as nt
 use Rattle.text_base.specs.ByteSet.{Has, no_bytes}
@@ -23,7 +23,7 @@ use Rattle.least_sets.specs.Bytes.{Adds}
 use Rattle.least_sets.specs.Sets.{Byte}
 use Rattle.set_systems.specs.Systems.{SystemRow}
 use Rattle.op_bytes.specs.Work.{HasAt, Gains, HasRange, HasLiteral, AreFirstSets}
-use Rattle.system_bytes.proofs.ListLemmas.{one_of, none_in, only_in, first_in, later_in, placed, contained}
+use Rattle.system_bytes.proofs.ListLemmas.{one_of, none_in, only_in, first_in, placed, contained}
 
 pub gains_same : (sets : List (List Bool)) (P : ℕ → ℕ → Type 0) → ((a b : ℕ) → b < 256 → P a b → HasAt sets a b) → Gains sets P sets
 gains_same sets P h = record { long = refl; more = λ a b x. x; only = λ a b x. inl x; has = h }

@@ -5,11 +5,10 @@ use Rattle.std.proofs.lemmas.Bool.{cases_eq}
 use Rattle.std.proofs.lemmas.List.Elements.{Contains-push_cases}
 use Rattle.std.proofs.lemmas.Option.{slice_get_within, same_Some, none-some}
 use Rattle.text_base.specs.ByteSet.{Has}
-use Rattle.numbered_sets.specs.Numbers.{Keeps}
 use Rattle.numbered_sets.proofs.NumberLemmas.{at_front}
 use Rattle.op_system.specs.declared.system.OpRule.{OpRule}
 use Rattle.op_bytes.specs.declared.uses.Use.{Use}
-use Rattle.op_bytes.specs.Work.{HasAt, Gains, IsBehind, IsKept, Grows, GivesUse, GivesRule, IsUseAt, IsRuleAt, IsTurned}
+use Rattle.op_bytes.specs.Work.{HasAt, Gains, Grows, GivesUse, GivesRule, IsUseAt, IsRuleAt, IsTurned}
 use Rattle.op_bytes.proofs.GainLemmas.{gains_same, gains_two, gains_at, gains_like}
 
 pub grows_same : (sets : List (List Bool)) (order : List ℕ) (P : ℕ → ℕ → Type 0) → ((a b : ℕ) → b < 256 → P a b → HasAt sets a b) → Grows sets order P sets order

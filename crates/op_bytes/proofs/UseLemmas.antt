@@ -1,7 +1,7 @@
 -- The uses of nonterminals in productions.
-use Rattle.std.proofs.Common.{◌≡◌, ◌<◌, ◌≤◌, ◌+◌, ℕ, zero, suc, Bool, true, List, [], ◌∷◌, ◌++◌, length, map, get_or, Some, slice_get, Contains, inl, inr, refl, sym, ◌∙◌, ap, subst, arith}
-use Rattle.std.specs.Prelude.{◌⊎◌, ◌↔◌, nat_lt}
-use Rattle.std.specs.List.{All, list_all, flat_map}
+use Rattle.std.proofs.Common.{◌≡◌, ◌<◌, ◌≤◌, ◌+◌, ℕ, true, List, [], ◌∷◌, length, get_or, Some, slice_get, Contains, inl, inr, sym, ◌∙◌, ap, subst, arith}
+use Rattle.std.specs.Prelude.{nat_lt}
+use Rattle.std.specs.List.{All, list_all}
 use Rattle.std.proofs.lemmas.Bool.{cases_eq, ltb-true}
 use Rattle.std.proofs.lemmas.Option.{slice_get_within, same_Some}
 use Rattle.std.proofs.lemmas.List.Elements.{Contains-append_cases, Contains-append_left, Contains-append_right, Contains-get_or}
@@ -22,7 +22,7 @@ use Rattle.cfg_grammar.specs.Bytes.{FirstHaveBytes}
 use Rattle.op_bytes.specs.Fitting.{AreFittingRules}
 use Rattle.op_bytes.specs.declared.uses.Use.{Use}
 use Rattle.op_bytes.specs.Work.{uses_in, uses_on, uses_of}
-use Rattle.system_bytes.proofs.ListLemmas.{one_of, none_in, only_in, first_in, later_in, all_at, first_so, second_so, placed, contained}
+use Rattle.system_bytes.proofs.ListLemmas.{one_of, none_in, only_in, first_in, all_at, first_so, second_so, placed}
 
 -- a use is of a production
 pub record IsUse (ps : List Production) (u : Use) : Type 0 where

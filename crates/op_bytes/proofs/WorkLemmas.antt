@@ -1,34 +1,28 @@
 -- The work on byte sets: how it begins, a turn of it, and what it comes to.
-use Rattle.std.proofs.Common.{◌≡◌, ◌<◌, ◌≤◌, ◌+◌, ℕ, Bool, List, [], ◌∷◌, ◌++◌, length, map, get_or, Some, None, slice_get, Contains, inl, inr, refl, sym, ◌∙◌, ap, subst, arith}
+use Rattle.std.proofs.Common.{◌≡◌, ◌<◌, ◌≤◌, ◌+◌, ℕ, Bool, List, [], ◌∷◌, length, map, get_or, Some, None, slice_get, Contains, inl, inr, refl, sym, ◌∙◌, ap, subst, arith}
 use Rattle.std.specs.Prelude.{◌⊎◌, ◌↔◌}
-use Rattle.std.specs.List.{All}
 use Rattle.std.proofs.lemmas.Bool.{cases_eq}
 use Rattle.std.proofs.lemmas.Option.{slice_get_within, slice_get-get_or, same_Some, none-some}
-use Rattle.text_base.specs.declared.byte_range.ByteRange.{ByteRange}
 use Rattle.text_base.specs.declared.numbers.Nt as nt
 use Rattle.text_base.specs.ByteSet.{Has}
-use Rattle.text_base.specs.ByteRange.{InRange}
 use Rattle.cfg_grammar.specs.declared.symbol.Symbol.{Symbol}
 use Rattle.cfg_grammar.specs.declared.symbol.Symbol.TheVariants.{Range, Token, Nt}
 use Rattle.cfg_grammar.specs.declared.production.Right.{Right}
 use Rattle.cfg_grammar.specs.declared.production.Right.TheVariants.{Empty, One, Two}
 use Rattle.cfg_grammar.specs.declared.production.Production.{Production}
 use Rattle.cfg_grammar.specs.Below.{symbols_of}
-use Rattle.op_system.specs.declared.op.Op.{Op}
 use Rattle.op_system.specs.declared.system.OpRule.{OpRule}
 use Rattle.op_system.specs.declared.system.OpSystem.{OpSystem}
-use Rattle.least_sets.specs.Forms.{Form, text_form, same_form, join_form, apply_form}
-use Rattle.least_sets.specs.Bytes.{Adds, Turns}
 use Rattle.least_sets.specs.Sets.{Byte}
 use Rattle.set_systems.specs.Systems.{SystemRow}
-use Rattle.op_cycles.specs.Texts.{RowOf, ByteOf}
+use Rattle.op_cycles.specs.Texts.{ByteOf}
 use Rattle.op_bytes.specs.declared.uses.Use.{Use}
 use Rattle.op_bytes.specs.Bytes.{AreByteSets}
 use Rattle.system_bytes.specs.Bytes.{HasBytes}
-use Rattle.op_bytes.specs.Work.{HasAt, Gains, IsBehind, IsKept, Grows, GivesUse, GivesRule, IsTurned, IsPassed, IsFollowed, IsWork, AreFirstSets, AreNumbersBelow, uses_of}
+use Rattle.op_bytes.specs.Work.{HasAt, IsBehind, IsKept, Grows, GivesUse, GivesRule, IsPassed, IsFollowed, IsWork, AreFirstSets, AreNumbersBelow, uses_of}
 use Rattle.system_bytes.proofs.ListLemmas.{one_of, none_in, only_in, first_in, later_in, placed, contained, of_map, to_map}
-use Rattle.op_bytes.proofs.GrowLemmas.{grows_two, grows_like}
-use Rattle.op_bytes.proofs.UseLemmas.{use_is, is_use, left_below_so, rule_below_so}
+use Rattle.op_bytes.proofs.GrowLemmas.{grows_two}
+use Rattle.op_bytes.proofs.UseLemmas.{use_is, is_use}
 use Rattle.system_bytes.proofs.BelowLemmas.{turns_below}
 use Rattle.system_bytes.proofs.LawLemmas as laws
 

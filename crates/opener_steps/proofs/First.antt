@@ -1,7 +1,7 @@
 -- Where a piece begins.
 use Rattle.std.proofs.Common.{◌≡◌, ℕ, Bool, true, false, not, ◌&&◌, ◌||◌, List, [], ◌∷◌, refl, sym, ◌∙◌, ap, subst}
 use Rattle.std.specs.Prelude.{if◌then◌else◌, nat_eq, codes}
-use Rattle.std.proofs.lemmas.Bool.{and_parts, and_from, eqb-true}
+use Rattle.std.proofs.lemmas.Bool.{and_parts, eqb-true}
 use Rattle.text_base.specs.declared.page_token.PageToken.{PageToken}
 use Rattle.xml_text.specs.Characters.{is_character}
 use Rattle.dtd_model.specs.Table.{Table}

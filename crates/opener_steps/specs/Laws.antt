@@ -1,5 +1,5 @@
 -- Laws of the beginnings of pieces, as statements.
-use Rattle.std.specs.Prelude.{◌≡◌, ℕ, Bool, true, false, List, [], ◌∷◌, ◌++◌, Some, codes}
+use Rattle.std.specs.Prelude.{◌≡◌, ℕ, true, false, List, [], ◌∷◌, ◌++◌, Some, codes}
 use Rattle.text_base.specs.declared.page_token.PageToken.{PageToken}
 use Rattle.xml_text.specs.Names.{begins_name}
 use Rattle.dtd_model.specs.Table.{Table}

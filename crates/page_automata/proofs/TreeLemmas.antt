@@ -7,7 +7,7 @@ use Rattle.std.proofs.lemmas.Option.{slice_get_within}
 use Rattle.text_base.specs.declared.page_token.PageToken.{PageToken}
 use Rattle.text_base.specs.declared.page_token.PageToken.TheVariants.{Blank, Text, Misc}
 use Rattle.dtd_model.specs.Table.{Rule, Table, Holding, nothing, anything, text_and, children}
-use Rattle.page_model.specs.Valid.{Sort, may_hold, is_between}
+use Rattle.page_model.specs.Valid.{Sort, may_hold}
 use Rattle.page_model.specs.Valid as sort
 use Rattle.page_model.specs.PageTokens.{sort_token}
 use Rattle.page_model.specs.TokenTree.{Trees, no_trees, single, tree, trees_then, roots, singles_pass, TreeFits, TreesFit}

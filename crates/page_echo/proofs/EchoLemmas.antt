@@ -5,7 +5,6 @@ use Rattle.text_base.specs.declared.page_token.PageToken.{PageToken}
 use Rattle.dtd_model.specs.Table.{Table}
 use Rattle.page_model.specs.PageTokens.{PageTokens}
 use Rattle.fst_core.specs.Runs.{Relates}
-use Rattle.sentence_writing.specs.Bytes.{bytes_in}
 use Rattle.summary_fixpoint.specs.Pairs.{tokens_in}
 use Rattle.byte_readers.specs.Reading.{tokens_over}
 use Rattle.echoing_machine.specs.Echoes.{EchoStep, EchoEnd, echo_of, IsEcho}

@@ -1,21 +1,20 @@
 -- Comments, sections, instructions and document type declarations, read by the reader of a page.
-use Rattle.std.proofs.Common.{◌≡◌, ℕ, suc, Bool, true, false, ◌&&◌, List, [], ◌∷◌, ◌++◌, Some, refl, sym, ◌∙◌, ap, min}
-use Rattle.std.specs.Prelude.{if◌then◌else◌, nat_eq, nat_le, codes}
-use Rattle.text_base.specs.declared.page_token.PageToken.{PageToken}
+use Rattle.std.proofs.Common.{◌≡◌, ℕ, suc, Bool, true, false, ◌&&◌, [], ◌∷◌, refl, sym, ◌∙◌, ap, min}
+use Rattle.std.specs.Prelude.{if◌then◌else◌, nat_eq, nat_le}
 use Rattle.text_base.specs.declared.page_token.PageToken.TheVariants as token
 use Rattle.dtd_model.specs.Table.{Table}
 use Rattle.page_model.specs.Places.{Place, behind}
 use Rattle.piece_steps.specs.Insides.{Turn, on, out, stop, past, inside, IsInside}
 use Rattle.piece_steps.specs.Readers.{go, done, fail}
-use Rattle.page_fronts.specs.Fronts.{Open, in_comment, in_section, in_instruction, in_doctype}
-use Rattle.page_fronts.specs.OpenDoctypes.{OpenDoctype, before_root}
+use Rattle.page_fronts.specs.Fronts.{in_comment, in_section, in_instruction, in_doctype}
+use Rattle.page_fronts.specs.OpenDoctypes.{before_root}
 use Rattle.page_steps.specs.DoctypeSteps.{doctype_turn}
 use Rattle.page_steps.specs.PageSteps.{OpenMove, comment_move, section_move, instruction_move, page_reader}
 use Rattle.remark_steps.specs.Turns.{comment_turn, section_turn, instruction_turn}
 use Rattle.remark_steps.proofs.Comments.{comments_left}
 use Rattle.remark_steps.proofs.Sections.{sections_left}
 use Rattle.remark_steps.proofs.Instructions.{instructions_left}
-use Rattle.doctype_steps.specs.Laws.{turn, inside_then}
+use Rattle.doctype_steps.specs.Laws.{turn}
 use Rattle.doctype_steps.proofs.Doctypes.{doctypes_left}
 use Rattle.page_insides.specs.Laws.{CommentsRead, SectionsRead, InstructionsRead, DoctypesRead}
 use Rattle.page_insides.proofs.Settled.{at_open, page_inside, Done, read_through, read_back}

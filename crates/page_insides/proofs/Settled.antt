@@ -1,16 +1,16 @@
 -- The reader of a page inside an open piece, by the small machine of its form.
-use Rattle.std.proofs.Common.{◌≡◌, ℕ, Bool, true, false, List, [], ◌∷◌, Option, Some, None, refl, sym, ◌∙◌, ap}
+use Rattle.std.proofs.Common.{◌≡◌, ℕ, Bool, true, false, List, [], Some, refl, ◌∙◌, ap}
 use Rattle.std.specs.Prelude.{if◌then◌else◌}
 use Rattle.text_base.specs.declared.page_token.PageToken.{PageToken}
 use Rattle.xml_text.specs.Characters.{is_character}
 use Rattle.dtd_model.specs.Table.{Table}
 use Rattle.page_model.specs.Places.{Place, at_beginning, behind_mark, behind}
-use Rattle.piece_steps.specs.Insides.{Turn, on, out, stop, turned, past, inside, IsInside}
-use Rattle.piece_steps.specs.Readers.{Move, go, done, fail, Outcome, whole, next, ends}
-use Rattle.piece_steps.proofs.Within.{through, Left, within}
+use Rattle.piece_steps.specs.Insides.{Turn, on, out, stop, past, inside, IsInside}
+use Rattle.piece_steps.specs.Readers.{Move, go, done, fail, Outcome, whole, ends}
+use Rattle.piece_steps.proofs.Within.{through, within}
 use Rattle.page_fronts.specs.Fronts.{Open, nothing, in_reference, in_opener, in_tag_name, in_tag, at_empty_end, in_end_tag, in_comment, in_section, in_target, behind_target, in_instruction, in_declaration, at_declaration_end, in_doctype, kept_place}
 use Rattle.page_steps.specs.PageSteps.{OpenMove, open_move, PageState, put_place, page_step, page_reader, is_inside}
-use Rattle.page_insides.specs.Laws.{settle, read, ends_with, Ended}
+use Rattle.page_insides.specs.Laws.{settle, read, ends_with}
 
 -- a place is kept so inside a piece, and stays
 pub kept_is : (o : Open) (place : Place) → is_inside o ≡ true → kept_place o [] place ≡ settle place

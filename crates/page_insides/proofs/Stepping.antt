@@ -1,5 +1,5 @@
 -- The reader of a page, one character more in an open piece.
-use Rattle.std.proofs.Common.{◌≡◌, ℕ, Bool, true, false, List, [], ◌∷◌, refl, sym, ◌∙◌, ap}
+use Rattle.std.proofs.Common.{◌≡◌, ℕ, Bool, true, false, List, ◌∷◌, refl, ◌∙◌, ap}
 use Rattle.std.specs.Prelude.{if◌then◌else◌}
 use Rattle.text_base.specs.declared.page_token.PageToken.{PageToken}
 use Rattle.xml_text.specs.Characters.{is_character}

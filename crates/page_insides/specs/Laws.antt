@@ -1,13 +1,12 @@
 -- Laws of the reader of a page behind openers, as statements.
-use Rattle.std.specs.Prelude.{◌≡◌, ℕ, Bool, true, false, List, [], ◌∷◌, ◌++◌, codes}
+use Rattle.std.specs.Prelude.{◌≡◌, ℕ, true, false, List, [], ◌∷◌, ◌++◌, codes}
 use Rattle.std.specs.List.{list_all}
 use Rattle.text_base.specs.declared.page_token.PageToken.{PageToken}
 use Rattle.text_base.specs.declared.page_token.PageToken.TheVariants as token
 use Rattle.dtd_model.specs.Table.{Table}
-use Rattle.page_model.specs.Attributes.{doctype_fits}
 use Rattle.page_model.specs.Parts.{IsComment, IsSection, reference_of}
 use Rattle.page_model.specs.Places.{Place, at_beginning, behind_mark, behind}
-use Rattle.page_model.specs.Prolog.{Doctype, IsDoctype}
+use Rattle.page_model.specs.Prolog.{Doctype}
 use Rattle.piece_steps.specs.Readers.{Outcome, whole, ends}
 use Rattle.piece_steps.proofs.Within.{is_none}
 use Rattle.page_fronts.specs.Fronts.{Open, in_reference, in_comment, in_section, in_instruction, in_doctype}
@@ -16,7 +15,7 @@ use Rattle.page_fronts.specs.OpenValues.{in_entity}
 use Rattle.page_steps.specs.PageSteps.{PageState, page_reader}
 use Rattle.reference_steps.specs.Laws.{is_right_reference}
 use Rattle.remark_steps.specs.Laws.{IsLeft, IsData}
-use Rattle.doctype_steps.specs.Laws.{inside_then, IsDoctypeThen}
+use Rattle.doctype_steps.specs.Laws.{IsDoctypeThen}
 
 -- what is kept of a place inside a piece
 abbrev pub settle : Place → Place

@@ -1,20 +1,19 @@
 -- Tokens of small pages, and pages and tokens that are refused.
-use Rattle.std.proofs.Common.{◌≡◌, ◌⊎◌, inl, inr, ℕ, Bool, true, false, List, [], ◌∷◌, ◌++◌, Option, Some, None, refl, sym, ◌∙◌, ap, subst, codes, append_assoc}
+use Rattle.std.proofs.Common.{◌≡◌, ◌⊎◌, inl, inr, ℕ, List, [], ◌∷◌, ◌++◌, Option, Some, None, refl, sym, ◌∙◌, ap, codes, append_assoc}
 use Rattle.std.specs.Str.{encode_utf8_all}
 use Rattle.std.specs.Char.{encode_utf8}
-use Rattle.text_base.specs.declared.page_token.PageToken.{PageToken}
 use Rattle.text_base.specs.declared.page_token.PageToken.TheVariants as token
 use Rattle.dtd_model.specs.Mini.{mini_table}
 use Rattle.dtd_model.specs.Table.{Table}
-use Rattle.page_model.specs.PageTokens.{IsLawful, NoPiece, PageTokens, piece_bytes}
-use Rattle.page_model.specs.Parts.{Tag, IsTag, character}
+use Rattle.page_model.specs.PageTokens.{NoPiece, PageTokens}
+use Rattle.page_model.specs.Parts.{Tag, character}
 use Rattle.page_model.specs.Pieces.{Piece, start_tag, leaf, piece_then}
 use Rattle.page_model.specs.Places.{Place, at_beginning, behind}
-use Rattle.page_model.specs.TokenTree.{Trees, no_trees, single, tree, trees_then, roots, TokenTree}
+use Rattle.page_model.specs.TokenTree.{Trees, no_trees, single, tree, trees_then, roots}
 use Rattle.page_model.specs.TokenTree as flat
 use Rattle.page_model.specs.Valid.{Valid, blank, text, remark}
 use Rattle.page_reading.specs.Cutting.{cut_at}
-use Rattle.page_reading.specs.Reading.{piece_at, markup_at, bang_at, open_at, end_at, reference_at, question_at, comment_at, section_at, all_attributes, attribute_at}
+use Rattle.page_reading.specs.Reading.{piece_at, markup_at, open_at, all_attributes, attribute_at}
 use Rattle.page_reading.proofs.CutLemmas.{cut_read}
 use Rattle.page_laws.proofs.Appended.{piece_more}
 use Rattle.page_laws.proofs.ByTokens.{valid_by_tokens}

@@ -1,24 +1,22 @@
 -- What the machine accepts is the flat list of a tree.
 use Rattle.std.proofs.Common.{◌≡◌, ℕ, ◌<◌, Bool, true, false, ◌&&◌, List, [], ◌∷◌, Option, Some, None, refl, sym, ◌∙◌, ap, subst, length, codes, slice_get, zero, suc, arith}
 use Rattle.std.specs.Prelude.{if◌then◌else◌, nat_eq, nat_lt, slice_index_or}
-use Rattle.std.proofs.lemmas.Bool.{and_parts, and_from, eqb-true, ltb-true}
-use Rattle.std.proofs.lemmas.Option.{slice_get_within, slice_get-get_or}
-use Rattle.text_base.specs.declared.numbers.Elem.{Elem}
+use Rattle.std.proofs.lemmas.Bool.{and_from, eqb-true, ltb-true}
+use Rattle.std.proofs.lemmas.Option.{slice_get_within}
 use Rattle.text_base.specs.declared.page_token.PageToken.{PageToken}
 use Rattle.text_base.specs.declared.page_token.PageToken.TheVariants as token
 use Rattle.dtd_model.specs.declared.dtd.DoctypeRule.{DoctypeRule}
 use Rattle.dtd_model.specs.declared.dtd.DoctypeRule.TheVariants.{Strict, Free}
-use Rattle.dtd_model.specs.Matches.{matches}
 use Rattle.dtd_model.specs.Table.{Rule, Table, Holding}
 use Rattle.content_automata.specs.Decides.{Decides}
 use Rattle.content_automata.specs.Shapes.{then_some}
 use Rattle.content_automata.specs.Tables.{first_at, next_at, ends_at, ends, run, AreElements}
 use Rattle.content_automata.specs.Tables as automata
 use Rattle.page_model.specs.PageTokens.{sort_token}
-use Rattle.page_model.specs.TokenTree.{Trees, no_trees, tree, trees_then, roots, singles_pass, TreeFits, TreesFit, PrologFits, TokenTree}
+use Rattle.page_model.specs.TokenTree.{Trees, no_trees, tree, trees_then, roots, singles_pass, TreeFits, TreesFit}
 use Rattle.page_model.specs.TokenTree as tokens
 use Rattle.page_model.specs.Valid.{Sort, blank, text, remark, is_between, may_hold, place_of}
-use Rattle.page_machine.specs.Machine.{Stage, before_type, behind_type, root_begun, Open, State, may_begin, holding_at, holding_of, with_child, begun, opened, popped, may_stand, typed, step, and_on, accepts}
+use Rattle.page_machine.specs.Machine.{root_begun, Open, State, may_begin, holding_at, holding_of, with_child, may_stand, step, and_on, accepts}
 
 -- each open element is closed in turn, and then the page ends
 abbrev pub Closes : Table → automata.Table → List Open → List PageToken → Type 0

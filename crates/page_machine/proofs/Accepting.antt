@@ -1,5 +1,5 @@
 -- The machine accepts the flat list of a tree.
-use Rattle.std.proofs.Common.{◌≡◌, ℕ, ◌<◌, Bool, true, false, ◌&&◌, List, [], ◌∷◌, Option, Some, None, refl, sym, ◌∙◌, ap, subst, length, codes, slice_get}
+use Rattle.std.proofs.Common.{◌≡◌, ℕ, Bool, true, ◌&&◌, List, [], ◌∷◌, Option, Some, None, refl, sym, ◌∙◌, ap, length, codes, slice_get}
 use Rattle.std.specs.Prelude.{if◌then◌else◌, nat_eq, nat_lt}
 use Rattle.std.proofs.lemmas.Bool.{and_parts, and_from, eq-eqb, lt-ltb}
 use Rattle.std.proofs.lemmas.Option.{slice_get_within}
@@ -13,10 +13,10 @@ use Rattle.content_automata.specs.Shapes.{then_some}
 use Rattle.content_automata.specs.Tables.{first_at, next_at, ends_at, ends, run}
 use Rattle.content_automata.specs.Tables as automata
 use Rattle.page_model.specs.PageTokens.{sort_token}
-use Rattle.page_model.specs.TokenTree.{Trees, no_trees, tree, trees_then, roots, singles_pass, TreeFits, TreesFit, PrologFits, TokenTree}
+use Rattle.page_model.specs.TokenTree.{Trees, no_trees, tree, trees_then, roots, singles_pass, TreesFit, PrologFits, TokenTree}
 use Rattle.page_model.specs.TokenTree as tokens
 use Rattle.page_model.specs.Valid.{Sort, blank, text, remark, is_between, may_hold, place_of}
-use Rattle.page_machine.specs.Machine.{Stage, before_type, behind_type, root_begun, Open, State, may_begin, holding_at, holding_of, with_child, may_stand, single, step, and_on, accepts}
+use Rattle.page_machine.specs.Machine.{Stage, before_type, behind_type, root_begun, Open, State, may_begin, holding_at, with_child, may_stand, single, and_on, accepts}
 use Rattle.page_machine.proofs.Accepted.{are_elements, holding_is}
 
 declared : (d : Table) (e : ℕ) (r : Rule) → slice_get d.elements e ≡ Some r → nat_lt e (length d.elements) ≡ true

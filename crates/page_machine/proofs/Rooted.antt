@@ -1,20 +1,20 @@
 -- The tokens of a whole page that the machine accepts.
-use Rattle.std.proofs.Common.{◌≡◌, ℕ, Bool, true, false, ◌&&◌, List, [], ◌∷◌, Option, Some, None, refl, sym, ◌∙◌, ap, subst, length, codes, slice_get}
+use Rattle.std.proofs.Common.{◌≡◌, ℕ, Bool, true, false, ◌&&◌, List, [], ◌∷◌, Option, Some, None, refl, sym, ◌∙◌, ap, length, codes}
 use Rattle.std.specs.Prelude.{if◌then◌else◌, nat_eq, nat_lt}
-use Rattle.std.proofs.lemmas.Bool.{and_parts, and_from, eqb-true}
+use Rattle.std.proofs.lemmas.Bool.{and_from, eqb-true}
 use Rattle.text_base.specs.declared.page_token.PageToken.{PageToken}
 use Rattle.text_base.specs.declared.page_token.PageToken.TheVariants as token
 use Rattle.dtd_model.specs.declared.dtd.DoctypeRule.{DoctypeRule}
 use Rattle.dtd_model.specs.declared.dtd.DoctypeRule.TheVariants.{Strict, Free}
-use Rattle.dtd_model.specs.Table.{Rule, Table}
+use Rattle.dtd_model.specs.Table.{Table}
 use Rattle.content_automata.specs.Decides.{Decides}
 use Rattle.content_automata.specs.Tables.{first_at}
 use Rattle.content_automata.specs.Tables as automata
 use Rattle.page_model.specs.PageTokens.{sort_token}
 use Rattle.page_model.specs.TokenTree.{Trees, no_trees, tree, trees_then, roots, singles_pass, TreesFit, PrologFits, TokenTree}
 use Rattle.page_model.specs.TokenTree as tokens
-use Rattle.page_model.specs.Valid.{Sort, blank, text, remark, is_between, place_of}
-use Rattle.page_machine.specs.Machine.{Stage, before_type, behind_type, root_begun, Open, State, may_begin, and_on, accepts}
+use Rattle.page_model.specs.Valid.{Sort, blank, remark, is_between, place_of}
+use Rattle.page_machine.specs.Machine.{Stage, before_type, behind_type, root_begun, State, may_begin, and_on, accepts}
 use Rattle.page_machine.proofs.Accepted.{within, closed_tree, accepted, no_fits}
 
 -- trees with one root, `html`

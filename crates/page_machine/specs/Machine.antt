@@ -1,6 +1,6 @@
 -- A machine that goes over the tokens of a page with a stack of its open elements, each with the state of its content
 -- model. Nobody has to believe it: a law says that it accepts exactly the tokens of a tree.
-use Rattle.std.specs.Prelude.{◌≡◌, ℕ, Bool, true, false, ◌==◌, ◌&&◌, if◌then◌else◌, List, [], ◌∷◌, length, Option, Some, None, codes, nat_lt, slice_get}
+use Rattle.std.specs.Prelude.{ℕ, Bool, true, false, ◌==◌, ◌&&◌, if◌then◌else◌, List, [], ◌∷◌, length, Option, Some, None, codes, nat_lt, slice_get}
 use Rattle.text_base.specs.declared.page_token.PageToken.{PageToken}
 use Rattle.text_base.specs.declared.page_token.PageToken.TheVariants as token
 use Rattle.dtd_model.specs.declared.dtd.DoctypeRule.{DoctypeRule}

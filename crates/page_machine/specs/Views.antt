@@ -1,5 +1,5 @@
 -- The plain form of what the code keeps.
-use Rattle.std.specs.Prelude.{◌≡◌, ℕ, Bool, true, false, ◌==◌, ◌&&◌, if◌then◌else◌, List, [], ◌∷◌, map, codes, Option, Some, None}
+use Rattle.std.specs.Prelude.{◌≡◌, ℕ, Bool, true, false, ◌==◌, ◌&&◌, if◌then◌else◌, [], ◌∷◌, map, codes, Option, Some, None}
 use Rattle.dtd_model.specs.Table.{Table}
 use Rattle.page_model.specs.Valid as valid
 use Rattle.page_machine.specs.Machine as machine

@@ -1,5 +1,5 @@
 -- All forms together.
-use Rattle.std.proofs.Common.{◌≡◌, ℕ, Bool, true, false, ◌&&◌, List, [], ◌∷◌, Option, Some, None, refl, sym, ◌∙◌, ap}
+use Rattle.std.proofs.Common.{◌≡◌, ℕ, Bool, true, false, List, [], ◌∷◌, Option, Some, refl, sym, ◌∙◌, ap}
 use Rattle.std.specs.Prelude.{if◌then◌else◌, bytes_eq}
 use Rattle.std.specs.List.{list_all}
 use Rattle.std.proofs.lemmas.Bool.{and_parts}
@@ -7,8 +7,6 @@ use Rattle.dtd_model.specs.Lawful.{is_lawful_kind, is_lawful_rule, is_lawful}
 use Rattle.dtd_model.specs.Table.{Declared, Rule, Table}
 use Rattle.page_model.specs.Attributes.{find_rule}
 use Rattle.page_laws.proofs.Appended.{piece_more}
-use Rattle.piece_steps.specs.Reads.{Reads}
-use Rattle.page_steps.specs.PageSteps.{page_reader, page_language}
 use Rattle.page_step_laws.proofs.Opened.{pieces_open}
 use Rattle.page_step_laws.proofs.Tokens.{tokens_by_reading}
 use Rattle.tag_steps.specs.Laws.{HasLawfulKinds}

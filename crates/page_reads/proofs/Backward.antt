@@ -1,15 +1,14 @@
 -- What is read to an end is a lawful piece.
-use Rattle.std.proofs.Common.{◌≡◌, ℕ, Bool, true, false, ◌&&◌, List, [], ◌∷◌, ◌++◌, Some, refl, sym, ◌∙◌, ap, subst}
+use Rattle.std.proofs.Common.{◌≡◌, ℕ, Bool, true, false, List, [], ◌∷◌, ◌++◌, refl, sym, ◌∙◌, ap}
 use Rattle.std.specs.Prelude.{codes}
-use Rattle.std.specs.List.{list_all}
 use Rattle.std.proofs.lemmas.Bool.{and_parts, and_from}
 use Rattle.text_base.specs.declared.page_token.PageToken.{PageToken}
 use Rattle.text_base.specs.declared.page_token.PageToken.TheVariants as token
-use Rattle.xml_text.specs.Names.{begins_name, is_name}
+use Rattle.xml_text.specs.Names.{begins_name}
 use Rattle.dtd_model.specs.References.{Reference, is_reference, is_known}
 use Rattle.dtd_model.specs.Table.{Table}
 use Rattle.page_model.specs.PageTokens.{IsLawful, piece_tokens}
-use Rattle.page_model.specs.Parts.{Leaf, Tag, tag_then, character, reference, section, comment, instruction, reference_of}
+use Rattle.page_model.specs.Parts.{Leaf, tag_then, character, reference, section, comment, instruction, reference_of}
 use Rattle.page_model.specs.Pieces.{Piece, mark, declaration, doctype, start_tag, empty_tag, end_tag, leaf, piece_then, may_follow, after}
 use Rattle.page_model.specs.Places.{Place, at_beginning, behind_mark, behind, is_early}
 use Rattle.page_laws.proofs.Appended.{piece_more}
@@ -19,7 +18,6 @@ use Rattle.page_steps.specs.PageSteps.{page_language}
 use Rattle.page_insides.specs.Laws.{settle, Ended, IsReferenceThen}
 use Rattle.page_insides.proofs.Leaves.{comments_read, sections_read, doctypes_read}
 use Rattle.page_insides.proofs.References.{references_read}
-use Rattle.doctype_steps.specs.Laws.{IsDoctypeThen}
 use Rattle.tag_steps.specs.Laws.{HasLawfulKinds, end_then, tag_tokens, IsTagThen, IsEndThen}
 use Rattle.tag_steps.proofs.StartTags.{start_tags_read}
 use Rattle.tag_steps.proofs.EndTags.{end_tags_read}

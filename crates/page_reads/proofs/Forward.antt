@@ -1,20 +1,19 @@
 -- Each lawful piece is read to its end, whatever stands behind it.
-use Rattle.std.proofs.Common.{◌≡◌, ℕ, Bool, true, false, ◌&&◌, List, [], ◌∷◌, ◌++◌, Some, refl, sym, ◌∙◌, ap, subst}
+use Rattle.std.proofs.Common.{◌≡◌, ℕ, Bool, true, false, List, [], ◌∷◌, ◌++◌, Some, refl, sym, ◌∙◌, ap, subst}
 use Rattle.std.specs.Prelude.{codes}
 use Rattle.std.specs.List.{list_all}
 use Rattle.std.proofs.lemmas.Bool.{and_parts, and_from}
-use Rattle.text_base.specs.declared.page_token.PageToken.{PageToken}
 use Rattle.text_base.specs.declared.page_token.PageToken.TheVariants as token
 use Rattle.xml_text.specs.Characters.{is_blank}
 use Rattle.xml_text.specs.Names.{begins_name, in_name, is_name}
-use Rattle.dtd_model.specs.References.{Reference, decimal, hexadecimal, entity, is_reference, is_known}
+use Rattle.dtd_model.specs.References.{Reference, entity, is_reference, is_known}
 use Rattle.dtd_model.specs.Table.{Table}
 use Rattle.page_model.specs.Attributes.{is_allowed, tag_fits}
 use Rattle.page_model.specs.PageTokens.{IsLawful, piece_tokens}
 use Rattle.page_model.specs.Parts.{Attribute, attributes_then, AreAttributes, reference_of, Tag, tag_then, IsTag, Leaf, character, reference, section, comment, instruction}
 use Rattle.page_model.specs.Pieces.{Piece, mark, declaration, doctype, start_tag, empty_tag, end_tag, leaf, piece_then, after}
 use Rattle.page_model.specs.Places.{Place, at_beginning, behind_mark, behind, is_early}
-use Rattle.page_model.specs.Prolog.{Declaration, IsDeclaration, is_version, is_in_order}
+use Rattle.page_model.specs.Prolog.{Declaration, IsDeclaration, is_in_order}
 use Rattle.piece_steps.specs.Readers.{whole}
 use Rattle.page_fronts.specs.Fronts.{in_opener, in_target}
 use Rattle.reference_steps.specs.Laws.{is_right_reference}

@@ -1,5 +1,5 @@
 -- A join as its first text and the others, each behind the separator.
-use Rattle.std.proofs.Common.{◌≡◌, ℕ, List, [], ◌∷◌, ◌++◌, refl, sym, ◌∙◌, ap, append-nil, append_assoc}
+use Rattle.std.proofs.Common.{◌≡◌, ℕ, List, ◌++◌, ◌∙◌, ap, append-nil, append_assoc}
 use Rattle.plain_values.specs.Plain.{Plain, PlainKey, Pairs, empty, pair}
 use Rattle.plain_values.specs.Text.{text_of}
 use Rattle.string_functions.specs.Pieces.{join_of}

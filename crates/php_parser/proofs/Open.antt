@@ -1,5 +1,5 @@
 -- How many brackets are open, along a list.
-use Rattle.std.proofs.Common.{◌≡◌, ◌≢◌, ℕ, ◌≤◌, ◌<◌, max, List, [], ◌∷◌, refl, subst}
+use Rattle.std.proofs.Common.{◌≡◌, ◌≢◌, ℕ, ◌≤◌, ◌<◌, List, [], ◌∷◌, refl, subst}
 use native.Mathlib.Omega.{arith}
 use Rattle.php_syntax.specs.declared.token.Sign.{Sign}
 use Rattle.script_grammar.specs.Terminals.{Terminal, sign_terminal}

@@ -1,7 +1,6 @@
 -- The request of five empty arrays is admitted.
 use Rattle.std.proofs.Common.{◌≡◌, refl, sym, subst, lit≤}
-use Rattle.plain_values.specs.Plain.{Plain, Pairs, array, empty}
-use Rattle.plain_values.specs.Lawful.{IsValue}
+use Rattle.plain_values.specs.Plain.{Pairs, empty}
 use Rattle.script_meaning.specs.Requests.{AreMembers, IsAdmitted, Admitted}
 
 none : IsAdmitted empty

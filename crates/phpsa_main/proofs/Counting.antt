@@ -1,5 +1,5 @@
 -- What the parts say of the counts makes what the call says of them.
-use Rattle.std.proofs.Common.{◌≡◌, ◌<◌, ◌∙◌, inl, inr, ℕ, zero, suc, List, [], ◌∷◌, Contains, refl, sym, subst, lit<, arith}
+use Rattle.std.proofs.Common.{◌≡◌, ◌<◌, inl, inr, ℕ, zero, suc, List, [], ◌∷◌, Contains, refl, sym, subst, lit<, arith}
 use Rattle.std.specs.Prelude.{◌⊎◌, Ok, Err}
 use Rattle.io_edge.specs.Counts.{one_more}
 use Rattle.program_files.specs.Source.{SourceCall}

@@ -1,5 +1,5 @@
 -- A made script, its answer, and a size that is refused, are what doing the tasks comes to.
-use Rattle.std.proofs.Common.{◌≡◌, ℕ, List, length, inr, refl, subst}
+use Rattle.std.proofs.Common.{◌≡◌, ℕ, List, length, inr, subst}
 use Rattle.std.specs.Prelude.{Ok, Err}
 use Rattle.program_files.specs.Source.{SourceCall, source_call}
 use Rattle.document_types.specs.DocumentTypes.{strict_type}

@@ -1,5 +1,5 @@
 -- What the parts of the command find makes what doing the task comes to.
-use Rattle.std.proofs.Common.{◌≡◌, ◌∙◌, ℕ, List, Some, inl, inr, refl, sym, subst}
+use Rattle.std.proofs.Common.{◌≡◌, ◌∙◌, ℕ, List, Some, inl, inr, refl, sym}
 use Rattle.std.specs.Prelude.{◌⊎◌, Result, Ok, Err}
 use Rattle.io_edge.specs.Counts.{one_more}
 use Rattle.io_edge.specs.Told.{Tells}
@@ -15,7 +15,6 @@ use Rattle.phpsa_texts.specs.declared.message.Refusal.{Refusal}
 use Rattle.phpsa_texts.specs.Statuses.{file_status, definition_status}
 use Rattle.phpsa_texts.specs.Texts.{IsTold, file_text, definition_text}
 use Rattle.phpsa_tasks.specs.Tasks.{page_check}
-use Rattle.phpsa_tasks.specs.Subjects.{PageBy}
 use Rattle.phpsa_tasks.specs.Causes.{definition_call, not_defined, many_states, not_read, page_lacks_definition}
 use Rattle.phpsa_tasks.specs.declared.reply.Reply.TheVariants as reply
 use Rattle.phpsa_tasks.specs.Results.{TaskResult, Does}

@@ -1,12 +1,12 @@
 -- What the parts of the command find makes what doing the task comes to.
-use Rattle.std.proofs.Common.{◌≡◌, ◌∙◌, ℕ, List, [], ◌∷◌, length, Contains, inl, inr, refl, sym, ap, subst, lit<}
+use Rattle.std.proofs.Common.{◌≡◌, ℕ, List, length, Contains, inl, inr, refl, sym, subst, lit<}
 use Rattle.std.specs.Prelude.{◌⊎◌, Ok, Err}
 use Rattle.script_meaning.specs.Programs.{PlainProgram}
 use Rattle.program_files.specs.Source.{SourceCall, source_call, so_many_more}
 use Rattle.program_files.specs.declared.refusal.LoadRefusal.{LoadRefusal}
 use Rattle.program_files.specs.declared.refusal.LoadRefusal.TheVariants as load
 use Rattle.phpsa_tasks.specs.LoaderCauses.{Loads, IsLoadCause}
-use Rattle.phpsa_tasks.specs.Told.{Content, IsLoaded}
+use Rattle.phpsa_tasks.specs.Told.{IsLoaded}
 use Rattle.dtd_model.specs.Table.{Table}
 use Rattle.document_types.specs.DocumentTypes.{NamedType, HasTable, IsBuiltIn, IsDefinitionRefusal}
 use Rattle.document_types.specs.declared.refusal.DefinitionRefusal.{DefinitionRefusal}
@@ -23,10 +23,10 @@ use Rattle.phpsa_tasks.specs.Tasks.{script_check}
 use Rattle.phpsa_tasks.specs.Replies.{answer_status, answer_text}
 use Rattle.phpsa_tasks.specs.Causes.{definition_call, RefusesScript, not_defined, many_states, not_loaded, lacks_definition, has_long_text}
 use Rattle.phpsa_tasks.specs.Counted.{uncounted, ReadsItsFiles}
-use Rattle.phpsa_tasks.specs.Results.{TaskResult, Does}
+use Rattle.phpsa_tasks.specs.Results.{Does}
 use Rattle.phpsa_tasks.proofs.Faults.{told_faults, wanted_faults}
 use Rattle.phpsa_tasks.proofs.Defining.{definition_faults}
-use Rattle.phpsa_main.specs.Decided.{Decision, IsRefusedBy, IsDecidedAs, Decides, IsProgramRefused, IsProgramDecided}
+use Rattle.phpsa_main.specs.Decided.{Decision, IsDecidedAs, Decides, IsProgramRefused, IsProgramDecided}
 
 pub load_uncounted : (cause : LoadRefusal) → Contains uncounted (load_status cause)
 load_uncounted (load.Missing name) = (1, lit< tt, refl)

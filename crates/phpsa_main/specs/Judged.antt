@@ -1,5 +1,5 @@
 -- What judging a page comes to. No public clause cites this.
-use Rattle.std.specs.Prelude.{◌≡◌, ℕ, Bool, List, Ok, Err, ⊤}
+use Rattle.std.specs.Prelude.{ℕ, Bool, List, Ok, Err, ⊤}
 use Rattle.dtd_model.specs.Table.{Table}
 use Rattle.phpsa_tasks.specs.Decision.{HasManyStates}
 use Rattle.phpsa_texts.specs.declared.exit.Exit.TheVariants.{Dtd}

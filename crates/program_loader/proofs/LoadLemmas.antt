@@ -1,10 +1,9 @@
 -- From files that were read to the program of a name, or to the cause of a refusal, over the laws of reading_laws and loading_laws.
-use Rattle.std.proofs.Common.{◌≡◌, ◌≤◌, ◌+◌, ℕ, true, List, [], ◌∷◌, length, Option, Result, Err, IfErr, inl, inr, refl, sym, subst, arith}
+use Rattle.std.proofs.Common.{◌≡◌, ℕ, true, List, [], ◌∷◌, length, Option, Result, Err, IfErr, inl, inr, refl, sym, subst, arith}
 use Rattle.std.specs.List.{Contains}
 use Rattle.script_meaning.specs.Programs.{PlainProgram}
-use Rattle.program_rules.specs.declared.limits.TheConstants.{PLACE_LIMIT}
 use Rattle.program_rules.specs.Files.{Held, Agrees, HasTree, HasOneTree}
-use Rattle.program_rules.specs.Includes.{Reads, LeadsTo}
+use Rattle.program_rules.specs.Includes.{Reads}
 use Rattle.program_rules.specs.Limits.{IsWithin}
 use Rattle.program_rules.specs.Programs.{ReadFile, AreRead, HasNoCycle, IsProgram}
 use Rattle.program_files.specs.declared.refusal.LoadRefusal.{LoadRefusal}
@@ -18,7 +17,7 @@ use Rattle.file_order.specs.FileOrder.{AreWhole, IsOrderCause}
 use Rattle.loading_laws.specs.Limits.{program_places}
 use Rattle.loading_laws.specs.Loaded.{AreScripts, MakeProgram, StandsForProgram}
 use Rattle.loading_laws.proofs.ProgramLemmas.{ReadsTheProgram}
-use Rattle.program_loader.specs.Causes.{HasFiles, Loads, IsNamed, IncludesItself, BreaksRule, IsTooLarge, IsLoadCause}
+use Rattle.program_loader.specs.Causes.{HasFiles, Loads, IsNamed, BreaksRule, IsLoadCause}
 use Rattle.program_loader.specs.Making.{AreReady, Make, BreakRules, PassLimit, IsMakeCause}
 
 -- the laws

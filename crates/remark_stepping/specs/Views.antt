@@ -1,5 +1,4 @@
 -- The move of the definition that a move in memory stands for.
-use Rattle.text_base.specs.declared.page_token.PageToken.{PageToken}
 use Rattle.piece_steps.specs.Readers.{go, done, fail}
 use Rattle.page_steps.specs.PageSteps.{OpenMove}
 use Rattle.byte_readers.specs.Reading.{emitted}

@@ -1,5 +1,5 @@
 -- A comment is left at its end.
-use Rattle.std.proofs.Common.{◌≡◌, ℕ, suc, Bool, true, false, ◌&&◌, ◌||◌, List, [], ◌∷◌, ◌++◌, Option, Some, None, refl, sym, ◌∙◌, ap, subst}
+use Rattle.std.proofs.Common.{◌≡◌, ℕ, Bool, true, false, List, [], ◌∷◌, ◌++◌, Option, Some, refl, sym, ◌∙◌, ap, subst}
 use Rattle.std.specs.Prelude.{if◌then◌else◌, nat_eq, codes}
 use Rattle.std.specs.List.{list_all}
 use Rattle.std.proofs.lemmas.Bool.{and_parts, and_from}
@@ -9,7 +9,7 @@ use Rattle.page_model.specs.Parts.{IsComment}
 use Rattle.piece_steps.specs.Insides.{Turn, on, out, stop, turned, past}
 use Rattle.remark_steps.specs.Turns.{comment_turn}
 use Rattle.remark_steps.specs.Laws.{IsLeft, CommentsLeft}
-use Rattle.remark_steps.proofs.Tests.{some_same, or_parts, or_none, and_none, and_second, not_it, is_it}
+use Rattle.remark_steps.proofs.Tests.{some_same, or_parts, or_none, and_none, not_it, is_it}
 
 abbrev NoEnd : List ℕ → Type 0
 NoEnd cs = holds (codes "--") cs ≡ false

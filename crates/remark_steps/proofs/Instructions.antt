@@ -1,5 +1,5 @@
 -- An instruction is left at its end.
-use Rattle.std.proofs.Common.{◌≡◌, ℕ, Bool, true, false, ◌&&◌, ◌||◌, List, [], ◌∷◌, ◌++◌, Option, Some, None, refl, sym, ◌∙◌, ap, subst}
+use Rattle.std.proofs.Common.{◌≡◌, ℕ, Bool, true, false, ◌&&◌, List, [], ◌∷◌, ◌++◌, Option, Some, refl, sym, ◌∙◌, ap, subst}
 use Rattle.std.specs.Prelude.{if◌then◌else◌, nat_eq, codes}
 use Rattle.std.specs.List.{list_all}
 use Rattle.std.proofs.lemmas.Bool.{and_parts, and_from}
@@ -8,7 +8,7 @@ use Rattle.xml_text.specs.Texts.{holds}
 use Rattle.piece_steps.specs.Insides.{Turn, on, out, stop, turned, past}
 use Rattle.remark_steps.specs.Turns.{instruction_turn}
 use Rattle.remark_steps.specs.Laws.{IsLeft, IsData, InstructionsLeft}
-use Rattle.remark_steps.proofs.Tests.{some_same, or_parts, or_none, and_none, and_second, not_it, is_it}
+use Rattle.remark_steps.proofs.Tests.{some_same, or_parts, or_none, and_none, not_it, is_it}
 
 abbrev NoEnd : List ℕ → Type 0
 NoEnd cs = holds (codes "?>") cs ≡ false

@@ -1,5 +1,5 @@
 -- Comments, sections and instructions as small machines: what `comment_move` and its like do, for characters of XML.
-use Rattle.std.specs.Prelude.{ℕ, suc, Bool, true, false, ◌==◌, ◌&&◌, if◌then◌else◌, min, nat_le}
+use Rattle.std.specs.Prelude.{ℕ, suc, Bool, ◌==◌, ◌&&◌, if◌then◌else◌, min, nat_le}
 use Rattle.xml_text.specs.Characters.{is_character}
 use Rattle.piece_steps.specs.Insides.{Turn, on, out, stop}
 

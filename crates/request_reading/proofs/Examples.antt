@@ -5,7 +5,7 @@ use Rattle.std.specs.Str.{is_utf8, chars}
 use lib.Utf8.{encode}
 use Rattle.plain_values.specs.Plain.{Pairs, empty, pair, int_key, text_key, text, array}
 use Rattle.script_meaning.specs.Requests.{PlainRequest}
-use Rattle.serde_json.specs.Data.{Data, Items, Members, number, unsigned, string, item, no_items, member, no_members}
+use Rattle.serde_json.specs.Data.{Data, Members, number, unsigned, string, item, no_items, member, no_members}
 use Rattle.serde_json.specs.Data as json
 use Rattle.request_reading.specs.RequestFile.{name_key, value_of, asked_request, is_request}
 use Rattle.request_reading.specs.Admission.{stray_path}

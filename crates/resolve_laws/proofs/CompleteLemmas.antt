@@ -1,11 +1,9 @@
 -- Each text of a set is derived, where all rules that its nonterminal depends on are done.
-use Rattle.std.proofs.Common.{◌≡◌, ◌<◌, ◌≤◌, ℕ, List, [], ◌∷◌, ◌++◌, map, Contains, inl, inr, refl, sym, ◌∙◌, ap, subst, arith}
-use Rattle.std.specs.Prelude.{◌⊎◌, ◌↔◌}
+use Rattle.std.proofs.Common.{ℕ, List, ◌++◌, map, Contains, sym, subst}
 use Rattle.text_base.specs.declared.numbers.Nt as nt
-use Rattle.text_base.specs.declared.letter.Letter.{Letter}
 use Rattle.text_base.specs.declared.letter.Letter.TheVariants.{OfByte}
 use Rattle.cfg_grammar.specs.declared.symbol.Symbol.{Symbol}
-use Rattle.cfg_grammar.specs.declared.symbol.Symbol.TheVariants.{Range, Token, Nt}
+use Rattle.cfg_grammar.specs.declared.symbol.Symbol.TheVariants.{Nt}
 use Rattle.cfg_grammar.specs.declared.production.Right.TheVariants.{Empty, One, Two}
 use Rattle.cfg_grammar.specs.declared.production.Production.{Production}
 use Rattle.cfg_grammar.specs.Derives.{Derives}
@@ -13,13 +11,12 @@ use Rattle.op_system.specs.declared.op.Op.{Op}
 use Rattle.op_system.specs.Rel.{Rel}
 use Rattle.op_system.specs.declared.system.OpRule.{OpRule}
 use Rattle.op_system.specs.declared.system.OpSystem.{OpSystem}
-use Rattle.least_sets.specs.Forms.{Form, text_form, same_form, join_form, before_form, request_form, integer_form, apply_form, where_form}
-use Rattle.least_sets.specs.Sets.{In, Byte, IsCircular, DependsOn}
+use Rattle.least_sets.specs.Forms.{text_form, same_form, join_form, before_form, integer_form, apply_form, where_form}
+use Rattle.least_sets.specs.Sets.{In, IsCircular}
 use Rattle.set_systems.specs.Systems.{SystemRow}
 use Rattle.op_cycles.specs.Texts.{RowOf, TextOf, ByteOf}
-use Rattle.resolve_laws.specs.Resolved.{HasLetters}
 use Rattle.resolve_laws.specs.Drafts.{IsDone}
-use Rattle.resolve_laws.proofs.LetterLemmas.{letters_append, first_in, later_in}
+use Rattle.resolve_laws.proofs.LetterLemmas.{letters_append}
 
 module _ (s : OpSystem) (ps : List Production) (D : Symbol → Type 0) (base : (p : Production) → Contains s.grammar.productions.items p → Contains ps p)
     (closed_one : (left : nt.Nt) (a : Symbol) → Contains s.grammar.productions.items (record { left = left; right = One a }) → D (Nt left) → D a)

@@ -1,13 +1,12 @@
 -- A draft with a link and new productions is a draft.
-use Rattle.std.proofs.Common.{◌≡◌, ◌<◌, ◌≤◌, ◌+◌, ℕ, Bool, true, List, [], ◌∷◌, ◌++◌, map, Contains, inl, inr, refl, sym, ◌∙◌, ap, subst, arith}
-use Rattle.std.specs.Prelude.{◌⊎◌, nat_lt}
+use Rattle.std.proofs.Common.{◌≡◌, ◌<◌, ◌≤◌, ◌+◌, ℕ, true, List, [], ◌∷◌, ◌++◌, map, Contains, refl, sym, ap, subst, arith}
+use Rattle.std.specs.Prelude.{nat_lt}
 use Rattle.std.specs.List.{list_all}
 use Rattle.std.proofs.lemmas.Bool.{ltb-true}
-use Rattle.text_base.specs.declared.byte_range.ByteRange.{ByteRange}
 use Rattle.text_base.specs.declared.page_token.PageToken.{PageToken}
 use Rattle.text_base.specs.declared.numbers.Nt as nt
 use Rattle.text_base.specs.declared.letter.Letter.{Letter}
-use Rattle.text_base.specs.declared.letter.Letter.TheVariants.{OfByte, OfToken}
+use Rattle.text_base.specs.declared.letter.Letter.TheVariants.{OfByte}
 use Rattle.cfg_grammar.specs.declared.symbol.Symbol.{Symbol}
 use Rattle.cfg_grammar.specs.declared.symbol.Symbol.TheVariants.{Range, Token, Nt}
 use Rattle.cfg_grammar.specs.declared.production.Right.{Right}
@@ -19,10 +18,9 @@ use Rattle.cfg_grammar.specs.Derives.{Derives}
 use Rattle.op_system.specs.declared.system.OpSystem.{OpSystem}
 use Rattle.least_sets.specs.Sets.{In}
 use Rattle.set_systems.specs.Systems.{SystemRow}
-use Rattle.op_cycles.specs.Texts.{TextOf}
 use Rattle.resolve_laws.specs.Resolved.{HasLetters}
 use Rattle.resolve_laws.specs.Drafts.{IsKind, IsDraft, IsNew}
-use Rattle.resolve_laws.proofs.LetterLemmas.{none_in, one_of, first_in, later_in, only_in, all_at, first_so, second_so, letters_append}
+use Rattle.resolve_laws.proofs.LetterLemmas.{first_in, later_in, all_at, first_so, second_so, letters_append}
 
 pub left_below : (count : ℕ) (ps : List Production) (p : Production) → AreBelow count ps → Contains ps p → p.left.0 < count
 left_below count ps p h c = ltb-true p.left.0 count (first_so (nat_lt p.left.0 count) (list_all (symbol_below count) (symbols_of p.right)) (all_at (production_below count) ps p h c))

@@ -1,9 +1,9 @@
 -- Drafts: nothing comes in but by an operation of the system, and none of these twice.
-use Rattle.std.proofs.Common.{◌≡◌, ℕ, List, [], ◌∷◌, Some, slice_get, Contains, refl, sym, subst}
+use Rattle.std.proofs.Common.{◌≡◌, ℕ, List, [], ◌∷◌, Some, slice_get, refl, subst}
 use Rattle.cfg_grammar.specs.declared.production.Production.{Production}
 use Rattle.op_system.specs.declared.system.OpRule.{OpRule}
 use Rattle.op_system.specs.declared.system.OpSystem.{OpSystem}
-use Rattle.resolve_laws.specs.Drafted.{Added, HasAdded, IsNext, Drafted, IsTooLarge}
+use Rattle.resolve_laws.specs.Drafted.{Added, IsNext, Drafted, IsTooLarge}
 use Rattle.resolve_laws.proofs.LetterLemmas.{first_in}
 
 none_at : (place : ℕ) (rule : OpRule) → slice_get [] place ≡ Some rule → ⊥

@@ -1,14 +1,13 @@
 -- What the machine of an operation puts out over a text of bytes.
-use Rattle.std.proofs.Common.{◌≡◌, ◌<◌, ◌≤◌, ◌+◌, ℕ, Bool, true, false, List, [], ◌∷◌, ◌++◌, map, Contains, inl, inr, refl, sym, ◌∙◌, ap, subst, arith}
-use Rattle.std.specs.Prelude.{◌⊎◌, ◌↔◌, ◌%◌, ◌&&◌, IsTrue}
+use Rattle.std.proofs.Common.{◌≡◌, ◌+◌, ℕ, true, List, [], ◌∷◌, ◌++◌, map, refl, sym, ◌∙◌, ap, subst}
 use Rattle.std.specs.List.{All, list_all}
 use Rattle.std.proofs.lemmas.List.Elements.{All-contains}
 use Rattle.text_base.specs.declared.page_token.PageToken.{PageToken}
 use Rattle.text_base.specs.declared.letter.Letter.{Letter}
-use Rattle.text_base.specs.declared.letter.Letter.TheVariants.{OfByte, OfToken}
+use Rattle.text_base.specs.declared.letter.Letter.TheVariants.{OfByte}
 use Rattle.fst_core.specs.Letter.{letter_of}
-use Rattle.fst_core.specs.Runs.{Runs, Relates}
-use Rattle.fst_core.specs.Tables.{TableStep, TableStop, TableRelates}
+use Rattle.fst_core.specs.Runs.{Runs}
+use Rattle.fst_core.specs.Tables.{TableStep, TableRelates}
 use Rattle.fst_core.specs.declared.out.Out.{Out}
 use Rattle.fst_core.specs.declared.out.Out.TheVariants as out
 use Rattle.fst_core.specs.declared.moves.TableMove.{TableMove}

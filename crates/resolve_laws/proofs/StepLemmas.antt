@@ -1,12 +1,11 @@
 -- The laws of drafts.
-use Rattle.std.proofs.Common.{◌≡◌, ◌<◌, ◌≤◌, ◌+◌, ℕ, Bool, true, List, [], ◌∷◌, ◌++◌, length, map, get_or, Some, slice_get, Contains, inl, inr, refl, sym, ◌∙◌, ap, subst, arith}
-use Rattle.std.specs.Prelude.{◌⊎◌, ◌↔◌, nat_lt, All}
+use Rattle.std.proofs.Common.{◌≡◌, ◌<◌, ◌≤◌, ◌+◌, ℕ, Bool, true, List, [], ◌∷◌, map, get_or, Some, slice_get, Contains, inl, inr, refl, sym, ◌∙◌, ap, subst, arith}
+use Rattle.std.specs.Prelude.{◌↔◌, nat_lt, All}
 use Rattle.std.specs.List.{list_all}
 use Rattle.std.proofs.lemmas.Bool.{ltb-true, lt-ltb}
 use Rattle.std.proofs.lemmas.List.Elements.{Contains-get_or}
-use Rattle.std.proofs.lemmas.Option.{slice_get-get_or, slice_get_within, same_Some}
+use Rattle.std.proofs.lemmas.Option.{slice_get-get_or}
 use Rattle.text_base.specs.declared.byte_range.ByteRange.{ByteRange}
-use Rattle.text_base.specs.declared.page_token.PageToken.{PageToken}
 use Rattle.text_base.specs.declared.numbers.Nt as nt
 use Rattle.text_base.specs.declared.letter.Letter.{Letter}
 use Rattle.text_base.specs.declared.letter.Letter.TheVariants.{OfByte}
@@ -17,17 +16,16 @@ use Rattle.cfg_grammar.specs.declared.production.Right.{Right}
 use Rattle.cfg_grammar.specs.declared.production.Right.TheVariants.{Empty, One, Two}
 use Rattle.cfg_grammar.specs.declared.production.Production.{Production}
 use Rattle.cfg_grammar.specs.declared.grammar.Grammar.{Grammar}
-use Rattle.cfg_grammar.specs.Below.{symbols_of, symbol_below, production_below, AreBelow}
-use Rattle.cfg_grammar.specs.Tokens.{HaveNoToken, is_no_token, production_without_token}
+use Rattle.cfg_grammar.specs.Below.{symbols_of, symbol_below, production_below}
+use Rattle.cfg_grammar.specs.Tokens.{is_no_token, production_without_token}
 use Rattle.cfg_grammar.specs.Derives.{Derives}
 use Rattle.op_system.specs.Rel.{Rel}
 use Rattle.op_system.specs.Size.{size_of}
 use Rattle.op_system.specs.declared.system.OpRule.{OpRule}
 use Rattle.op_system.specs.declared.system.OpSystem.{OpSystem}
 use Rattle.fst_core.specs.declared.table.Table.{Table}
-use Rattle.fst_core.specs.Tables.{TableRelates}
 use Rattle.string_ops.specs.Listed.{IsMachine, AreBytes}
-use Rattle.least_sets.specs.Sets.{In, DependsOn}
+use Rattle.least_sets.specs.Sets.{In}
 use Rattle.set_systems.specs.Systems.{SystemRow}
 use Rattle.op_cycles.specs.Texts.{RowOf, TextOf, ByteOf}
 use Rattle.op_cycles.specs.Steps.{IsStep}
@@ -37,7 +35,7 @@ use Rattle.op_cycles.proofs.CycleLemmas.{step_depends, is_in_cycle}
 use Rattle.system_bytes.specs.Bytes.{HasBytes}
 use Rattle.system_bytes.proofs.LawLemmas.{text_bytes, byte_below}
 use Rattle.resolve_laws.specs.Resolved.{HasLetters, AreExact}
-use Rattle.resolve_laws.specs.Drafts.{IsKind, IsDraft, IsDone, IsNew, IsByte, IsAnyProduction, IsImageProduction, AddsAny, AddsImage, IsImage, IsReady, link_of, moved_symbol, moved_right, moved}
+use Rattle.resolve_laws.specs.Drafts.{IsDraft, IsDone, IsNew, IsAnyProduction, IsImageProduction, AddsAny, AddsImage, IsImage, IsReady, moved_symbol, moved_right, moved}
 use Rattle.resolve_laws.proofs.LetterLemmas.{none_in, one_of, only_in, first_in, later_in, all_at, all_from, first_so, second_so, both_so, same_text, plain_text}
 use Rattle.resolve_laws.proofs.MovedLemmas.{unmoved, is_moved, nt_is}
 use Rattle.resolve_laws.proofs.AnyLemmas.{IsAnyRight, any_sound, any_complete}

@@ -1,12 +1,10 @@
 -- The laws of drafts.
-use Rattle.std.specs.Prelude.{◌≡◌, ◌<◌, ◌≤◌, ◌+◌, ◌↔◌, ℕ, Bool, List, Some, slice_get, Contains}
+use Rattle.std.specs.Prelude.{◌≡◌, ◌<◌, ◌+◌, ◌↔◌, ℕ, Bool, List, Some, slice_get, Contains}
 use Rattle.text_base.specs.declared.numbers.Nt as nt
-use Rattle.text_base.specs.declared.letter.Letter.{Letter}
 use Rattle.text_base.specs.ByteSet.{Has}
 use Rattle.cfg_grammar.specs.declared.symbol.Symbol.TheVariants.{Nt}
 use Rattle.cfg_grammar.specs.declared.production.Production.{Production}
 use Rattle.cfg_grammar.specs.declared.grammar.Grammar.{Grammar}
-use Rattle.cfg_grammar.specs.Derives.{Derives}
 use Rattle.op_system.specs.Rel.{Rel}
 use Rattle.op_system.specs.Size.{size_of}
 use Rattle.op_system.specs.declared.system.OpRule.{OpRule}

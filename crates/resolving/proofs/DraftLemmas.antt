@@ -11,7 +11,7 @@ use Rattle.number_chains.specs.Chains.{AreChains}
 use Rattle.grammar_chart.specs.Kept.{lefts_of, AreProductionsOf}
 use Rattle.op_system.specs.declared.system.OpSystem.{OpSystem}
 use Rattle.resolve_laws.specs.Drafts.{IsDraft, link_of}
-use Rattle.resolve_laws.proofs.LetterLemmas.{none_in, contained, all_at, all_from, both_so}
+use Rattle.resolve_laws.proofs.LetterLemmas.{contained, all_at, all_from, both_so}
 use Rattle.resolve_laws.proofs.DraftLemmas.{draft_begins, left_below}
 use Rattle.resolve_laws.proofs.StepLemmas.{higher}
 use Rattle.resolving.specs.declared.draft.Draft.{Draft}

@@ -6,7 +6,7 @@ use Rattle.php_syntax.specs.Tokens.{PlainToken}
 use Rattle.php_syntax.specs.Trees.{PlainFile}
 use Rattle.lexical_grammar.specs.declared.fault.LexicalFault.{LexicalFault}
 use Rattle.lexical_grammar.specs.Cuts.{Cuts, Breaks}
-use Rattle.script_grammar.specs.Grammar.{SpellsTree, IsTooDeep}
+use Rattle.script_grammar.specs.Grammar.{SpellsTree}
 use Rattle.php_writer.specs.Spelled.{Spells}
 use Rattle.php_lexer.specs.Refusals as lexer
 use Rattle.php_lexer.specs.declared.refusal.LexRefusal.{LexRefusal}

@@ -1,5 +1,5 @@
 -- Forms behind others, a member by the place of its key, and writes by the length of their path.
-use Rattle.std.proofs.Common.{◌≡◌, ℕ, List, [], ◌∷◌, Option, Some, None, refl, append_assoc}
+use Rattle.std.proofs.Common.{◌≡◌, ℕ, List, Option, Some, None, refl, append_assoc}
 use Rattle.std.proofs.lemmas.List.{append-nil, map-append}
 use Rattle.plain_values.specs.Plain.{PlainKey}
 use Rattle.set_names.specs.declared.name.Half.{Half}

@@ -1,5 +1,5 @@
 -- Rows of operands of `echo`, of statements and of arms: what is put for the rest is put for all.
-use Rattle.std.proofs.Common.{◌≡◌, ◌∙◌, ℕ, ◌+◌, ◌≤◌, ◌<◌, List, [], ◌∷◌, ◌++◌, length, drop, get_or, refl, sym, ap, subst, arith}
+use Rattle.std.proofs.Common.{◌≡◌, ◌∙◌, ℕ, ◌+◌, ◌≤◌, ◌<◌, List, [], ◌∷◌, ◌++◌, length, drop, get_or, sym, ap, subst}
 use Rattle.std.specs.Prelude.{Option}
 use Rattle.std.specs.declared.vec.Vec.{Vec}
 use Rattle.std.specs.declared.alloc.Global.{Global}
@@ -7,7 +7,7 @@ use Rattle.std.proofs.lemmas.List.{length-set}
 use Rattle.php_syntax.specs.declared.tree.Expr.{Expr}
 use Rattle.php_syntax.specs.declared.tree.Stmt.{Stmt}
 use Rattle.php_syntax.specs.Trees.{PlainStmt, MaybeExpr, plain_expr, plain_stmt, maybe_of, exprs_of, stmts_of, arms_of}
-use Rattle.flow_code.specs.Points.{PlainPoint, echo_point, jump_point}
+use Rattle.flow_code.specs.Points.{echo_point, jump_point}
 use Rattle.flow_code.specs.Code.{Code, Targets, Block, ◌before◌, run_code, ending}
 use Rattle.flow_code.specs.Expressions.{Scope, code, codes, variable}
 use Rattle.flow_code.specs.Statements.{either, looping, walking, test_code, key_variable, echo_block, return_block, quit_block, stmt_block, block, arms_block}

@@ -1,15 +1,15 @@
 -- Beginning a statement, form by form.
-use Rattle.std.proofs.Common.{◌≡◌, ℕ, suc, ◌+◌, ◌≤◌, List, [], ◌∷◌, ◌++◌, refl, sym, ap, ◌∙◌, subst, arith, Bor, true, false}
+use Rattle.std.proofs.Common.{◌≡◌, ℕ, suc, ◌+◌, List, ◌++◌, refl, sym, ap, ◌∙◌, arith, Bor, true, false}
 use Rattle.std.specs.Prelude.{Option, Some, None}
 use Rattle.std.specs.declared.vec.Vec.{Vec}
 use Rattle.std.specs.declared.alloc.Global.{Global}
 use Rattle.php_syntax.specs.declared.tree.Expr.{Expr}
 use Rattle.php_syntax.specs.declared.tree.Stmt.{Stmt}
-use Rattle.php_syntax.specs.Trees.{MaybeExpr, no_expr, some_expr, PlainStmt, PlainFunction, inline_stmt, echo_stmt, run_stmt, if_stmt, while_stmt, do_while_stmt, for_stmt, each_stmt, break_stmt, continue_stmt, return_stmt, include_stmt, quit_stmt, plain_stmt, plain_expr, exprs_of, stmts_of, arms_of, maybe_of}
+use Rattle.php_syntax.specs.Trees.{MaybeExpr, PlainStmt, PlainFunction, inline_stmt, echo_stmt, run_stmt, if_stmt, while_stmt, do_while_stmt, for_stmt, each_stmt, break_stmt, continue_stmt, return_stmt, include_stmt, quit_stmt, plain_stmt, plain_expr, exprs_of, stmts_of, arms_of, maybe_of}
 use Rattle.script_meaning.specs.Requests.{PlainRequest}
-use Rattle.script_meaning.specs.Runs.{State, Run, Going, ◌then_do◌, unit_at}
+use Rattle.script_meaning.specs.Runs.{State, Run, ◌then_do◌, unit_at}
 use Rattle.script_meaning.specs.Expressions.{value, values, maybe_value}
-use Rattle.script_meaning.specs.Statements.{statement, statements, echo, condition, for_condition, nothing, returned, exit_with, arms_in}
+use Rattle.script_meaning.specs.Statements.{statement, statements, echo, for_condition, nothing, returned, exit_with, arms_in}
 use Rattle.expr_evaluator.specs.Frames.{maybe_plain}
 use Rattle.expr_evaluator.proofs.Runs.{assoc}
 use Rattle.php_values.specs.declared.array.Value.TheVariants as variant

@@ -1,6 +1,6 @@
 -- A value is given to what waits for it, and how a statement was left to what waits for its end.
-use Rattle.std.proofs.Common.{◌≡◌, ℕ, ◌+◌, ◌≤◌, List, [], ◌∷◌, ◌++◌, refl, sym, ap, ◌∙◌, subst, arith, Bor, Bool, true, false}
-use Rattle.std.specs.Prelude.{Option, Some, None, if◌then◌else◌}
+use Rattle.std.proofs.Common.{◌≡◌, ℕ, ◌+◌, ◌≤◌, List, [], ◌∷◌, ◌++◌, refl, sym, ◌∙◌, subst, arith, Bor, Bool, true, false}
+use Rattle.std.specs.Prelude.{Option, if◌then◌else◌}
 use Rattle.std.specs.declared.vec.Vec.{Vec}
 use Rattle.std.specs.declared.alloc.Global.{Global}
 use Rattle.php_syntax.specs.declared.tree.Expr.{Expr}
@@ -12,7 +12,7 @@ use Rattle.plain_values.specs.declared.fault.Fault.TheVariants.{WrongType}
 use Rattle.plain_values.specs.Text.{truth, text_of}
 use Rattle.php_values.specs.declared.array.Value.{Value}
 use Rattle.php_values.specs.View.{plain_of}
-use Rattle.script_meaning.specs.Runs.{State, Run, Going, Over}
+use Rattle.script_meaning.specs.Runs.{State, Run, Over}
 use Rattle.script_meaning.specs.Expressions.{Environment}
 use Rattle.script_meaning.specs.Statements as meaning
 use Rattle.script_meaning.specs.Statements.{echo, statements, arms_in, exit_with, next_after, turn_after}
@@ -28,7 +28,7 @@ use Rattle.statement_machine.specs.declared.frames.Task.{Task}
 use Rattle.statement_machine.specs.declared.frames.Task.TheVariants as task
 use Rattle.statement_machine.specs.declared.frames.Next.{Next}
 use Rattle.statement_machine.specs.declared.frames.Next.TheVariants as next
-use Rattle.statement_machine.specs.Frames.{scope, focused, wait_after, task_after, looping, values_before, turning, walking, each_value, plain_flow, plain_end, StaysInLoop, LeavesLoop}
+use Rattle.statement_machine.specs.Frames.{scope, focused, wait_after, task_after, values_before, walking, each_value, plain_flow, StaysInLoop, LeavesLoop}
 use Rattle.statement_machine.specs.Cost.{row_weight, block_weight, arms_weight, wait_weight, task_weight, next_weight}
 use Rattle.statement_machine.specs.Moves.{Means, Gives, Quits}
 

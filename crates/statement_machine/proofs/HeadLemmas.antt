@@ -1,5 +1,5 @@
 -- What comes next at the head of some parts.
-use Rattle.std.proofs.Common.{◌≡◌, ℕ, ◌+◌, ◌≤◌, List, [], ◌∷◌, refl, sym, ap, ◌∙◌, arith, Bor}
+use Rattle.std.proofs.Common.{◌≡◌, ℕ, ◌≤◌, List, [], ◌∷◌, refl, sym, ◌∙◌, arith, Bor}
 use Rattle.std.specs.Prelude.{Option, Some, None, Result, Ok, Err, IfOk}
 use Rattle.text_base.specs.declared.memory.NoMemory.{NoMemory}
 use Rattle.std.specs.declared.vec.Vec.{Vec}
@@ -7,16 +7,15 @@ use Rattle.std.specs.declared.alloc.Global.{Global}
 use Rattle.php_syntax.specs.declared.tree.Expr.{Expr}
 use Rattle.php_syntax.specs.declared.tree.Stmt.{Stmt}
 use Rattle.php_syntax.specs.Trees.{no_expr, some_expr, plain_expr, exprs_of, stmts_of, arms_of}
-use Rattle.plain_values.specs.Plain.{Plain, Pairs, array, empty, pair}
+use Rattle.plain_values.specs.Plain.{Plain, array, empty, pair}
 use Rattle.plain_values.specs.Walks.{walked}
 use Rattle.php_values.specs.declared.array.Value.{Value}
 use Rattle.php_values.specs.declared.key.Key.{Key}
 use Rattle.php_values.specs.View.{plain_of, plain_key}
-use Rattle.script_meaning.specs.Runs.{State, Run, Going, ◌then_do◌}
+use Rattle.script_meaning.specs.Runs.{State, Run, ◌then_do◌}
 use Rattle.script_meaning.specs.Expressions.{Environment, value, values}
 use Rattle.script_meaning.specs.Statements as meaning
 use Rattle.script_meaning.specs.Statements.{echo, condition, for_condition, statements, arms_in, walk}
-use Rattle.expr_evaluator.specs.Frames.{maybe_plain}
 use Rattle.expr_evaluator.proofs.Runs.{assoc, same_then}
 use Rattle.script_meaning.proofs.Loops.{by_turns}
 use Rattle.statement_machine.specs.declared.frames.Flow.TheVariants as flow
@@ -26,7 +25,7 @@ use Rattle.statement_machine.specs.declared.frames.Wait.TheVariants as wait
 use Rattle.statement_machine.specs.declared.frames.Next.{Next}
 use Rattle.statement_machine.specs.declared.frames.Next.TheVariants as next
 use Rattle.statement_machine.specs.Frames.{scope, focused, wait_after, looping, values_before, turning, walking, each_value}
-use Rattle.statement_machine.specs.Cost.{row_weight, block_weight, arms_weight, wait_weight, next_weight}
+use Rattle.statement_machine.specs.Cost.{row_weight, arms_weight, wait_weight, next_weight}
 use Rattle.statement_machine.specs.Moves.{Means}
 
 pub echo_ends : (rest : List Expr) → rest ≡ [] → Means (next.Left flow.GoesOn) (λ w. echo w (exprs_of rest)) (row_weight rest)

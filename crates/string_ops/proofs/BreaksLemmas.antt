@@ -1,13 +1,12 @@
 -- The machine of line breaks follows `nl2br`.
-use Rattle.std.proofs.Common.{◌≡◌, ◌==◌, ◌||◌, ◌&&◌, not, ℕ, ◌+◌, ◌<◌, ◌≤◌, ◌↔◌, ◌⊎◌, Bool, true, false, List, [], ◌∷◌, ◌++◌, length, map, All, refl, sym, ◌∙◌, ap, subst, arith, cond, inl, inr, nat_lt, eqb, if◌then◌else◌}
-use Rattle.std.proofs.lemmas.Bool.{cases_Bool, cases_lt, cases_eq, cond_both, lt-ltb, ne_eqb, eq-eqb, or_from, and_right}
+use Rattle.std.proofs.Common.{◌≡◌, ◌==◌, ◌&&◌, ℕ, ◌+◌, ◌<◌, false, List, [], ◌∷◌, ◌++◌, map, refl, sym, ◌∙◌, ap, subst, arith, inl, inr, if◌then◌else◌}
+use Rattle.std.proofs.lemmas.Bool.{cases_eq, cond_both, ne_eqb, or_from, and_right}
 use Rattle.std.proofs.lemmas.List.Elements.{All-cons, All-nil}
 use Rattle.string_functions.specs.Breaks.{is_line_end, begins_pair, breaks_past, breaks_of}
 use Rattle.fst_core.specs.declared.out.Out.{Out}
-use Rattle.fst_core.specs.declared.out.Out.TheVariants.{Same, Byte}
+use Rattle.fst_core.specs.declared.out.Out.TheVariants.{Same}
 use Rattle.fst_core.specs.declared.table.Table.{Table}
-use Rattle.string_ops.specs.Listed.{Rows, Lasts, Follows, IsShort, AreSmall, AreBytes, IsListed, IsMachine, byte_of}
-use Rattle.string_ops.specs.Plans.{rows_below, lasts_below}
+use Rattle.string_ops.specs.Listed.{IsShort, AreSmall, IsListed, IsMachine, byte_of}
 use Rattle.string_ops.specs.Breaks.{is_second, breaks_next, breaks_put, breaks_row, breaks_last, breaks_rows, breaks_lasts}
 use Rattle.string_ops.proofs.ListedLemmas.{IsFunction, follows_function, listed_machine}
 use Rattle.string_ops.proofs.PlanFunctions.{below_small, below_function}

@@ -1,18 +1,17 @@
 -- The machines of one state follow what the functions write for each byte.
-use Rattle.std.proofs.Common.{◌≡◌, ◌==◌, ◌||◌, ◌&&◌, ℕ, ◌+◌, ◌-◌, ◌%◌, ◌<◌, ◌≤◌, ◌↔◌, Bool, true, false, List, [], ◌∷◌, ◌++◌, length, map, All, refl, sym, ◌∙◌, ap, subst, arith, cond, inl, inr, nat_le, nat_lt}
+use Rattle.std.proofs.Common.{◌≡◌, ◌==◌, ◌||◌, ◌&&◌, ℕ, ◌+◌, ◌-◌, ◌%◌, ◌<◌, ◌≤◌, List, [], ◌∷◌, ◌++◌, length, map, All, refl, sym, ◌∙◌, ap, arith, inl, inr, nat_le}
 use Rattle.std.specs.List.{flat_map}
 use Rattle.std.specs.Char.{to_ascii_lowercase, to_ascii_uppercase}
-use Rattle.std.proofs.lemmas.Bool.{cases_Bool, cases_lt, cond_both, lt-ltb, le-ltb, le-leb, lt-leb, eqb-true}
+use Rattle.std.proofs.lemmas.Bool.{cases_Bool, cases_lt, cond_both, lt-ltb, le-ltb, le-leb, lt-leb}
 use Rattle.std.proofs.lemmas.List.Concat.{flat_map_single}
 use Rattle.std.proofs.lemmas.List.Elements.{All-cons, All-nil}
-use Rattle.string_functions.specs.Url.{is_kept_in_url, percent_of_byte, url_of_byte, raw_url_of_byte}
+use Rattle.string_functions.specs.Url.{is_kept_in_url, url_of_byte, raw_url_of_byte}
 use Rattle.string_functions.specs.Slashes.{slashes_of_byte}
 use Rattle.fst_core.specs.declared.out.Out.{Out}
-use Rattle.fst_core.specs.declared.out.Out.TheVariants.{Same, Shift, Byte}
 use Rattle.fst_core.specs.declared.table.Table.{Table}
 use Rattle.string_ops.specs.declared.bytewise.Bytewise.{Bytewise}
 use Rattle.string_ops.specs.declared.bytewise.Bytewise.TheVariants.{Lower, Upper, Url, RawUrl, Slashes}
-use Rattle.string_ops.specs.Listed.{Follows, IsShort, AreSmall, AreBytes, IsListed, IsMachine, byte_of}
+use Rattle.string_ops.specs.Listed.{IsShort, AreSmall, IsListed, IsMachine, byte_of}
 use Rattle.string_ops.specs.Bytewise.{written_for, outs_of, bytewise_rows, bytewise_lasts, bytewise_of}
 use Rattle.string_ops.proofs.ListedLemmas.{IsFunction, follows_function, listed_machine}
 

@@ -1,13 +1,12 @@
 -- The machine of escaping relates what `htmlspecialchars` does with UTF-8.
-use Rattle.std.proofs.Common.{◌≡◌, ◌==◌, ◌&&◌, ◌||◌, ℕ, ◌+◌, ◌<◌, ◌≤◌, ◌↔◌, ◌⊎◌, Bool, true, false, List, [], ◌∷◌, ◌++◌, length, map, All, Option, None, Some, refl, sym, ◌∙◌, ap, subst, arith, cond, inl, inr, nat_lt}
+use Rattle.std.proofs.Common.{◌≡◌, ◌==◌, ℕ, ◌+◌, ◌<◌, ◌≤◌, List, [], ◌++◌, length, map, All, Option, None, Some, refl, sym, ◌∙◌, ap, subst, arith, inl, inr, nat_lt}
 use Rattle.std.specs.Prelude.{IsUtf8}
-use Rattle.std.specs.List.{Contains, flat_map}
+use Rattle.std.specs.List.{Contains}
 use Rattle.std.proofs.lemmas.Bool.{cases_Bool, cond_both, eqb-true}
 use Rattle.std.proofs.lemmas.List.Elements.{All-cons, All-nil}
 use Rattle.string_functions.specs.Html.{html_of_byte, html_of}
 use Rattle.string_functions.proofs.Members.{Contains-nil, Contains-head, Contains-cons_cases}
 use Rattle.fst_core.specs.declared.out.Out.{Out}
-use Rattle.fst_core.specs.declared.out.Out.TheVariants.{Same, Byte}
 use Rattle.fst_core.specs.declared.table.Table.{Table}
 use Rattle.string_ops.specs.Listed.{IsShort, AreSmall, IsListed, IsMachine, byte_of}
 use Rattle.string_ops.specs.Html.{is_between, to_between, after_first_byte, utf8_after, IsUtf8From, html_put, html_choice, html_row, html_last, html_rows, html_lasts}

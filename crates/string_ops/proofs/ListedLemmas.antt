@@ -1,17 +1,16 @@
 -- A table whose moves and ends are listed relates what its list does.
-use Rattle.std.proofs.Common.{◌≡◌, ◌==◌, ℕ, ◌+◌, ◌*◌, ◌<◌, ◌≤◌, ◌⊎◌, ◌↔◌, inl, inr, Bool, true, false, IsTrue, ◌&&◌, List, [], ◌∷◌, ◌++◌, length, map, take, get_or, Contains, All, count_by, ltb, leb, eqb, cond, refl, sym, ◌∙◌, ap, subst, arith, append_assoc}
+use Rattle.std.proofs.Common.{◌≡◌, ◌==◌, ℕ, ◌+◌, ◌*◌, ◌<◌, ◌≤◌, ◌⊎◌, ◌↔◌, inl, inr, Bool, true, false, IsTrue, ◌&&◌, List, [], ◌∷◌, ◌++◌, length, map, get_or, Contains, All, ltb, leb, cond, refl, sym, ◌∙◌, ap, subst, arith}
 use Rattle.std.proofs.lemmas.List.{map-append}
-use Rattle.std.proofs.lemmas.List.Elements.{Contains-get_or, Contains-append_cases, Contains-append_left, Contains-append_right, All-contains, All-cons, All-nil, All-head, All-tail}
-use Rattle.std.proofs.lemmas.Bool.{cases_Bool, eqb-true, eq-eqb, leb-true, le-leb, lt-ltb, ltb-true, cond-true, cond-false, false≢true, and_parts}
+use Rattle.std.proofs.lemmas.List.Elements.{Contains-get_or, Contains-append_cases, Contains-append_right, All-contains, All-cons, All-nil, All-head, All-tail}
+use Rattle.std.proofs.lemmas.Bool.{cases_Bool, eqb-true, eq-eqb, leb-true, le-leb, lt-ltb, cond-true, cond-false, false≢true, and_parts}
 use Rattle.std.proofs.lemmas.List.Sums.{count_by-le-length}
 use Rattle.std.specs.List.{list_all}
-use Rattle.text_base.specs.ByteRange.{InRange}
 use Rattle.text_base.specs.declared.letter.Letter.{Letter}
 use Rattle.text_base.specs.declared.letter.Letter.TheVariants.{OfByte}
 use Rattle.fst_core.specs.Letter.{letter_of}
-use Rattle.fst_core.specs.Runs.{Relates, Gives}
+use Rattle.fst_core.specs.Runs.{Gives}
 use Rattle.fst_core.specs.Choices.{choices, stops, in_range}
-use Rattle.fst_core.specs.Tables.{TableStep, TableStop, TableRelates}
+use Rattle.fst_core.specs.Tables.{TableStep, TableStop}
 use Rattle.fst_core.proofs.RunLemmas.{gives_from_relates, relates_from_gives}
 use Rattle.fst_core.specs.declared.out.Out.{Out}
 use Rattle.fst_core.specs.declared.out.Out.TheVariants.{Same, Shift, Byte, Token}

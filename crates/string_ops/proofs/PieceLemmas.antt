@@ -1,24 +1,23 @@
 -- The machine of pieces follows the pieces between the occurrences.
-use Rattle.std.proofs.Common.{◌≡◌, ◌==◌, ℕ, zero, suc, ◌+◌, ◌-◌, ◌*◌, ◌<◌, ◌≤◌, ◌↔◌, ◌⊎◌, inl, inr, Bool, true, false, ◌&&◌, IsTrue, List, [], ◌∷◌, ◌++◌, length, take, drop, map, All, Contains, cond, ltb, leb, refl, sym, ◌∙◌, ap, subst, arith, append-nil, append_assoc}
-use Rattle.std.proofs.lemmas.Bool.{cases_Bool, cases_eq, cases_lt, eq-eqb, ne_eqb, lt-ltb, le-ltb, le-leb, lt-leb, cond-true, cond-false, and_right, and_parts, leb-true, ltb-true}
-use Rattle.std.proofs.lemmas.List.{length-map, length-take, length-take-le, length-append}
-use Rattle.std.proofs.lemmas.List.Elements.{All-cons, All-nil, All-same, All-append, All-tail, Contains-append_cases, Contains-append_left, Contains-append_right}
-use Rattle.std.specs.List.{list_all}
+use Rattle.std.proofs.Common.{◌≡◌, ◌==◌, ℕ, ◌+◌, ◌-◌, ◌<◌, ◌≤◌, ◌↔◌, ◌⊎◌, inl, inr, Bool, true, false, ◌&&◌, List, [], ◌∷◌, ◌++◌, length, take, map, All, Contains, cond, ltb, leb, refl, sym, ◌∙◌, ap, subst, arith, append-nil, append_assoc}
+use Rattle.std.proofs.lemmas.Bool.{cases_eq, cases_lt, eq-eqb, ne_eqb, lt-ltb, le-ltb, le-leb, lt-leb, and_right, and_parts, leb-true, ltb-true}
+use Rattle.std.proofs.lemmas.List.{length-take, length-append}
+use Rattle.std.proofs.lemmas.List.Elements.{All-cons, All-nil, All-append}
 use Rattle.string_functions.specs.Pieces.{pieces_of}
 use Rattle.string_functions.proofs.PiecesLaws.{pieces_of-occurrence, pieces_past-cons}
 use Rattle.fst_core.specs.Choices.{choices, stops}
 use Rattle.fst_core.proofs.ChoiceLemmas.{choices-append}
 use Rattle.fst_core.specs.declared.out.Out.{Out}
-use Rattle.fst_core.specs.declared.out.Out.TheVariants.{Same, Byte}
+use Rattle.fst_core.specs.declared.out.Out.TheVariants.{Byte}
 use Rattle.fst_core.specs.declared.moves.TableMove.{TableMove}
 use Rattle.fst_core.specs.declared.moves.TableEnd.{TableEnd}
 use Rattle.fst_core.specs.declared.table.Table.{Table}
-use Rattle.string_ops.specs.Listed.{Rows, Lasts, byte_of, is_plain, Follows, IsShort, AreSmall, AreBytes, IsListed, IsMachine}
+use Rattle.string_ops.specs.Listed.{Rows, Lasts, byte_of, Follows, IsShort, AreSmall, IsListed, IsMachine}
 use Rattle.text_search.specs.Failure.{next_length}
-use Rattle.string_ops.specs.Search.{let_go, turn, turn_by, is_within, AddsTurns, AddsSearch, AddsEnds, AddsStop}
+use Rattle.string_ops.specs.Search.{let_go, is_within, AddsTurns, AddsSearch, AddsEnds, AddsStop}
 use Rattle.string_ops.specs.Piece.{behind, before_turn, inside_turn, piece_rows, piece_lasts}
 use Rattle.text_search.proofs.BorderLemmas.{IsNext, next_is}
-use Rattle.string_ops.proofs.OccurrenceLemmas.{NoneIn, before_first, pieces_front, none_short, none_gone, gone, read_splits, whole_read, put_bytes, put_gone}
+use Rattle.string_ops.proofs.OccurrenceLemmas.{before_first, pieces_front, none_short, none_gone, gone, read_splits, whole_read, put_bytes, put_gone}
 use Rattle.string_ops.proofs.ReplaceLemmas.{short_bytes, short_go}
 use Rattle.string_ops.proofs.SearchLemmas.{stops-append}
 use Rattle.string_ops.proofs.ListedLemmas.{none_in, one_in, in_one, in_cons, in_head, in_tail, listed_machine}

@@ -1,7 +1,7 @@
 -- Rows that are written down for the states below a number, with one choice for each byte.
-use Rattle.std.proofs.Common.{◌≡◌, ℕ, ◌+◌, ◌<◌, ◌≤◌, ◌↔◌, Bool, true, false, List, [], ◌∷◌, ◌++◌, length, map, All, refl, sym, ◌∙◌, ap, subst, arith, cond, nat_lt}
+use Rattle.std.proofs.Common.{◌≡◌, ℕ, ◌+◌, ◌<◌, ◌≤◌, List, [], ◌∷◌, ◌++◌, length, map, All, refl, arith, nat_lt}
 use Rattle.std.proofs.lemmas.Bool.{cond_both, lt-ltb}
-use Rattle.std.proofs.lemmas.List.Elements.{All-cons, All-nil}
+use Rattle.std.proofs.lemmas.List.Elements.{All-nil}
 use Rattle.fst_core.specs.declared.out.Out.{Out}
 use Rattle.string_ops.specs.Listed.{Rows, Lasts, IsShort, AreSmall, byte_of}
 use Rattle.string_ops.specs.Plans.{rows_below, lasts_below}

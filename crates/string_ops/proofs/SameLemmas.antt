@@ -1,11 +1,11 @@
 -- The machine of `Same` follows each text to itself.
-use Rattle.std.proofs.Common.{◌≡◌, ◌==◌, ℕ, ◌<◌, ◌≤◌, ◌↔◌, Bool, true, false, List, [], ◌∷◌, ◌++◌, length, map, All, refl, sym, ◌∙◌, ap, subst, arith, cond, inl, inr, eqb}
+use Rattle.std.proofs.Common.{◌≡◌, ◌==◌, ℕ, ◌≤◌, List, [], ◌∷◌, refl, sym, ap, arith, inl, inr}
 use Rattle.std.proofs.lemmas.Bool.{cases_Bool}
 use Rattle.std.proofs.lemmas.List.Elements.{All-cons, All-nil}
 use Rattle.fst_core.specs.declared.out.Out.{Out}
 use Rattle.fst_core.specs.declared.out.Out.TheVariants.{Same}
 use Rattle.fst_core.specs.declared.table.Table.{Table}
-use Rattle.string_ops.specs.Listed.{Follows, IsShort, AreSmall, AreBytes, IsListed, IsMachine}
+use Rattle.string_ops.specs.Listed.{IsShort, AreSmall, IsListed, IsMachine}
 use Rattle.string_ops.specs.Same.{same_rows, same_lasts}
 use Rattle.string_ops.proofs.ListedLemmas.{IsFunction, follows_function, listed_machine}
 

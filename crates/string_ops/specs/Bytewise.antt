@@ -1,5 +1,5 @@
 -- The machines that write each byte by itself, all in one state.
-use Rattle.std.specs.Prelude.{◌≡◌, ℕ, ◌==◌, ◌||◌, ◌&&◌, Bool, nat_le, List, [], ◌∷◌, map, flat_map, if◌then◌else◌}
+use Rattle.std.specs.Prelude.{ℕ, ◌==◌, ◌||◌, ◌&&◌, nat_le, List, [], ◌∷◌, map, if◌then◌else◌}
 use Rattle.std.specs.Char.{to_ascii_lowercase, to_ascii_uppercase}
 use Rattle.string_functions.specs.Case.{lower_of, upper_of}
 use Rattle.string_functions.specs.Url.{is_kept_in_url, percent_of_byte, url_of_byte, raw_url_of_byte, url_of, raw_url_of}

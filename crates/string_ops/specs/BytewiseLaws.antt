@@ -1,11 +1,11 @@
 -- What a plan keeps, for the machines of one state.
-use Rattle.std.proofs.Common.{◌≡◌, ℕ, zero, suc, ◌+◌, ◌<◌, ◌≤◌, Bool, true, false, ◌&&◌, ◌==◌, nat_lt, cond, List, [], ◌∷◌, length, refl, arith}
+use Rattle.std.proofs.Common.{◌≡◌, ℕ, ◌<◌, ◌≤◌, true, ◌==◌, nat_lt, List, [], length, refl, arith}
 use Rattle.std.specs.List.{list_all}
 use Rattle.std.proofs.lemmas.Bool.{cond_both, ne_eqb}
 use Rattle.fst_core.specs.declared.out.Out.{Out}
 use Rattle.fst_core.specs.Fits.{is_fixed}
 use Rattle.string_ops.specs.declared.bytewise.Bytewise.{Bytewise}
-use Rattle.string_ops.specs.Bytewise.{bytewise_rows, bytewise_lasts, outs_of}
+use Rattle.string_ops.specs.Bytewise.{bytewise_rows, bytewise_lasts}
 
 -- there is at least one state
 pub some_state : 0 < 1

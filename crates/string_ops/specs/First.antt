@@ -1,6 +1,5 @@
 -- The machine that puts the first byte in upper case: state 0 before it, state 1 behind it.
-use Rattle.std.specs.Prelude.{ℕ, ◌==◌, List, [], ◌∷◌, if◌then◌else◌}
-use Rattle.fst_core.specs.declared.out.Out.{Out}
+use Rattle.std.specs.Prelude.{◌==◌, [], ◌∷◌, if◌then◌else◌}
 use Rattle.fst_core.specs.declared.out.Out.TheVariants.{Same}
 use Rattle.string_ops.specs.declared.bytewise.Bytewise.TheVariants.{Upper}
 use Rattle.string_ops.specs.Listed.{Rows, Lasts}

@@ -1,13 +1,12 @@
 -- What the plans of several states keep.
-use Rattle.std.proofs.Common.{◌≡◌, ◌==◌, ◌&&◌, ℕ, ◌+◌, ◌<◌, ◌≤◌, Bool, true, false, nat_lt, cond, List, [], ◌∷◌, length, Option, None, Some, refl, arith}
+use Rattle.std.proofs.Common.{◌≡◌, ◌==◌, ◌&&◌, ℕ, ◌+◌, ◌<◌, ◌≤◌, Bool, true, nat_lt, List, [], ◌∷◌, length, Option, None, Some, refl, arith}
 use Rattle.std.specs.List.{list_all}
 use Rattle.std.proofs.lemmas.Bool.{cond_both}
 use Rattle.string_functions.specs.Trim.{is_stripped}
 use Rattle.fst_core.specs.declared.out.Out.{Out}
 use Rattle.fst_core.specs.declared.out.Out.TheVariants.{Same}
 use Rattle.fst_core.specs.Fits.{is_fixed}
-use Rattle.string_ops.specs.Plans.{rows_below, lasts_below}
-use Rattle.string_ops.specs.Breaks.{is_second, breaks_next, breaks_put, breaks_row, breaks_last, breaks_rows, breaks_lasts}
+use Rattle.string_ops.specs.Breaks.{is_second, breaks_row, breaks_last, breaks_rows, breaks_lasts}
 use Rattle.string_ops.specs.First.{first_row, first_last, first_rows, first_lasts}
 use Rattle.string_ops.specs.Trim.{kept_row, trim_row, trim_last, trim_rows, trim_lasts}
 use Rattle.string_ops.specs.Html.{is_between, to_between, after_first_byte, utf8_after, html_put, html_choice, html_row, html_last, html_rows, html_lasts}

@@ -1,6 +1,6 @@
 -- The machine that gives one piece between separators: state 0 stands at a separator or the beginning; from state 1 on those before the
 -- piece, where so many bytes of the separator are read; then those in the piece; and the last, behind it.
-use Rattle.std.specs.Prelude.{◌==◌, ℕ, ◌+◌, ◌-◌, ◌*◌, Bool, true, false, List, [], ◌∷◌, ◌++◌, length, take, map, if◌then◌else◌}
+use Rattle.std.specs.Prelude.{◌==◌, ℕ, ◌+◌, ◌-◌, true, false, List, [], ◌∷◌, ◌++◌, length, take, map, if◌then◌else◌}
 use Rattle.fst_core.specs.declared.out.Out.{Out}
 use Rattle.fst_core.specs.declared.out.Out.TheVariants.{Byte}
 use Rattle.string_ops.specs.Listed.{Rows, Lasts}

@@ -1,5 +1,5 @@
 -- How a table is written from a plan: what is added for each state, turn and byte.
-use Rattle.std.specs.Prelude.{◌≡◌, ℕ, ◌<◌, ◌≤◌, Bool, ◌&&◌, nat_lt, List, [], ◌∷◌, ◌++◌, ◌==◌, length, Option, None, Some, All, slice_get, slice_index, option_to_list, if◌then◌else◌}
+use Rattle.std.specs.Prelude.{◌≡◌, ℕ, ◌<◌, ◌≤◌, ◌&&◌, nat_lt, List, [], ◌++◌, ◌==◌, length, Option, None, Some, All, slice_get, slice_index, option_to_list, if◌then◌else◌}
 use Rattle.fst_core.specs.declared.out.Out.{Out}
 use Rattle.fst_core.specs.declared.moves.Action.{Action}
 use Rattle.fst_core.specs.declared.moves.TableMove.{TableMove}

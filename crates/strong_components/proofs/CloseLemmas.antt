@@ -1,7 +1,6 @@
 -- The last group of the path is a component.
-use Rattle.std.proofs.Common.{◌≡◌, ◌<◌, ◌≤◌, ◌+◌, ℕ, zero, suc, List, [], ◌∷◌, ◌++◌, length, length-append, take, set, Some, slice_get, get_or, inl, inr, refl, sym, ◌∙◌, ap, subst, arith, length-set, length-take}
-use Rattle.std.specs.Prelude.{◌⊎◌}
-use Rattle.std.specs.List.{Contains, sum_by}
+use Rattle.std.proofs.Common.{◌≡◌, ◌<◌, ◌≤◌, ◌+◌, ℕ, zero, suc, List, [], ◌∷◌, ◌++◌, length, length-append, take, set, Some, slice_get, inl, inr, refl, sym, ◌∙◌, ap, subst, arith, length-set, length-take}
+use Rattle.std.specs.List.{Contains}
 use Rattle.std.specs.declared.vec.Vec.{Vec}
 use Rattle.std.specs.declared.alloc.Global.{Global}
 use Rattle.std.proofs.lemmas.Option.{same_Some, slice_get_within}
@@ -13,7 +12,7 @@ use Rattle.strong_components.specs.Components.{Reaches}
 use Rattle.strong_components.specs.declared.marks.Mark.{Mark}
 use Rattle.strong_components.specs.declared.marks.Mark.TheVariants.{New, Open, Done}
 use Rattle.strong_components.specs.declared.marks.Waiting.{Waiting}
-use Rattle.strong_components.specs.Search.{weight_of, Back, IsDoneBelow, IsExplored, IsGrounded, IsSearch, IsClosedMark, Closes, FewerNew}
+use Rattle.strong_components.specs.Search.{weight_of, IsDoneBelow, IsExplored, IsGrounded, IsSearch, IsClosedMark, Closes, FewerNew}
 use Rattle.strong_components.specs.Opening.{AreBefore}
 use Rattle.strong_components.proofs.ListLemmas.{one_of, first_in, later_in, new_done, open_done, same_open, same_done, one_mark, in_take, from_take, at_end}
 

@@ -1,15 +1,14 @@
 -- An edge that leads to a node that is done, or to the path.
-use Rattle.std.proofs.Common.{◌≡◌, ◌<◌, ◌≤◌, ℕ, List, [], ◌∷◌, length, Some, slice_get, inl, inr, refl, sym, ◌∙◌, ap, subst, arith}
+use Rattle.std.proofs.Common.{◌≡◌, ◌<◌, ℕ, List, ◌∷◌, length, Some, slice_get, inl, inr, refl, ◌∙◌, ap, subst, arith}
 use Rattle.std.specs.Prelude.{◌⊎◌}
-use Rattle.std.specs.List.{Contains}
 use Rattle.std.specs.declared.vec.Vec.{Vec}
 use Rattle.std.specs.declared.alloc.Global.{Global}
-use Rattle.std.proofs.lemmas.Option.{same_Some, slice_get_within}
+use Rattle.std.proofs.lemmas.Option.{slice_get_within}
 use Rattle.std.proofs.lemmas.Bool.{cases_lt}
 use Rattle.include_order.specs.Edges.{HasEdge}
 use Rattle.strong_components.specs.Components.{Reaches}
 use Rattle.strong_components.specs.declared.marks.Mark.{Mark}
-use Rattle.strong_components.specs.declared.marks.Mark.TheVariants.{New, Open, Done}
+use Rattle.strong_components.specs.declared.marks.Mark.TheVariants.{Done}
 use Rattle.strong_components.specs.declared.marks.Waiting.{Waiting}
 use Rattle.strong_components.specs.Search.{kept, Back, IsExplored, IsGrounded, IsSearch}
 use Rattle.strong_components.specs.Opening.{IsLast}

@@ -1,6 +1,6 @@
 -- The automaton of the smallest document type, and sums by it and by nesting: pages, and near misses. The states are 0
 -- and 1 in `html`, before and behind `body`, 2 in `body`, 3 in `p`; 4 to 6 are those of the page.
-use Rattle.std.proofs.Common.{◌≡◌, ℕ, Bool, true, false, List, [], ◌∷◌, Option, Some, None, refl}
+use Rattle.std.proofs.Common.{◌≡◌, Bool, true, false, List, [], ◌∷◌, Some, None, refl}
 use Rattle.text_base.specs.declared.page_token.PageToken.{PageToken}
 use Rattle.text_base.specs.declared.page_token.PageToken.TheVariants.{Doctype, Blank, Text, Misc}
 use Rattle.dtd_model.specs.Mini.{mini_table}

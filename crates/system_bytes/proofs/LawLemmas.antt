@@ -1,6 +1,5 @@
 -- The bytes of texts.
-use Rattle.std.proofs.Common.{◌≡◌, ◌<◌, ◌≤◌, ℕ, List, [], ◌∷◌, ◌++◌, Contains, inl, inr, refl, sym, ◌∙◌, subst, arith}
-use Rattle.std.specs.Prelude.{All}
+use Rattle.std.proofs.Common.{◌≡◌, ◌<◌, ℕ, List, [], ◌∷◌, Contains, inl, inr, refl, sym, ◌∙◌, subst, arith}
 use Rattle.std.proofs.lemmas.List.Elements.{Contains-append_cases, All-contains}
 use Rattle.text_base.specs.declared.byte_range.ByteRange.{ByteRange}
 use Rattle.text_base.specs.declared.page_token.PageToken.{PageToken}
@@ -12,10 +11,9 @@ use Rattle.cfg_grammar.specs.declared.production.Right.TheVariants.{One, Two}
 use Rattle.cfg_grammar.specs.declared.production.Production.{Production}
 use Rattle.cfg_grammar.specs.Below.{symbols_of}
 use Rattle.op_system.specs.declared.op.Op.{Op}
-use Rattle.op_system.specs.Rel.{Rel}
 use Rattle.op_system.specs.declared.system.OpSystem.{OpSystem}
-use Rattle.least_sets.specs.Forms.{Form, text_form, same_form, join_form, before_form, request_form, integer_form, apply_form, where_form}
-use Rattle.least_sets.specs.Bytes.{Adds, Turns}
+use Rattle.least_sets.specs.Forms.{text_form, same_form, join_form, before_form, request_form, integer_form, apply_form, where_form}
+use Rattle.least_sets.specs.Bytes.{Adds}
 use Rattle.least_sets.specs.Sets.{In, Byte}
 use Rattle.least_sets.proofs.OutputBytes.{output_byte}
 use Rattle.set_systems.specs.Systems.{SystemRow}

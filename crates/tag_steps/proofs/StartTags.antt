@@ -1,29 +1,26 @@
 -- Start tags and the tags of empty elements, read by the reader of a page.
-use Rattle.std.proofs.Common.{◌≡◌, ℕ, suc, ◌<◌, Bool, true, false, not, ◌&&◌, List, [], ◌∷◌, ◌++◌, Option, Some, None, refl, sym, ◌∙◌, ap, subst, arith, length, append-nil, append_assoc}
+use Rattle.std.proofs.Common.{◌≡◌, ℕ, suc, Bool, true, false, not, ◌&&◌, List, [], ◌∷◌, ◌++◌, Option, Some, None, refl, sym, ◌∙◌, ap, arith, length, append-nil, append_assoc}
 use Rattle.std.specs.Prelude.{if◌then◌else◌, nat_eq}
 use Rattle.std.specs.List.{list_all}
 use Rattle.std.proofs.lemmas.Bool.{and_parts, and_from, eqb-true}
 use Rattle.text_base.specs.declared.page_token.PageToken.{PageToken}
 use Rattle.xml_text.specs.Characters.{is_blank, is_character}
 use Rattle.xml_text.specs.Names.{begins_name, in_name, is_name}
-use Rattle.dtd_model.specs.Lawful.{is_lawful_kind}
 use Rattle.dtd_model.specs.Table.{Declared, Rule, Table}
 use Rattle.page_model.specs.Attributes.{find_rule, attributes_fit, fits_rule, tag_fits}
-use Rattle.page_model.specs.PageTokens.{element_of}
-use Rattle.page_model.specs.Parts.{Attribute, attribute_then, attributes_then, Tag, tag_then, IsTag}
+use Rattle.page_model.specs.Parts.{Attribute, attributes_then, Tag, tag_then, IsTag}
 use Rattle.page_model.specs.Places.{Place, behind}
 use Rattle.piece_steps.specs.Readers.{Move, go, done, fail, Outcome, whole, next, ends}
 use Rattle.page_fronts.specs.Fronts.{find_declared, in_tag_name, in_tag, at_empty_end}
 use Rattle.page_fronts.specs.OpenTags.{OpenAttribute, between}
 use Rattle.page_fronts.specs.OpenValues.{OpenValue}
 use Rattle.page_steps.specs.AttributeSteps.{AttributeMove, stays, ends_with as ends_at, leaves, stops, attribute_move}
-use Rattle.page_steps.specs.PageSteps.{OpenMove, end_move, tag_by, tag_move, tag_name_move, empty_move, open_move, PageState, put_place, page_step, page_reader}
+use Rattle.page_steps.specs.PageSteps.{OpenMove, end_move, tag_by, tag_move, empty_move, PageState, put_place, page_step, page_reader}
 use Rattle.page_steps.specs.TagSteps.{step_of, of_element, are_all}
-use Rattle.page_steps.specs.ValueSteps.{may_stand, kept_step}
+use Rattle.page_steps.specs.ValueSteps.{kept_step}
 use Rattle.attribute_steps.specs.Among.{moved, IsAmong, AllMay, names_behind}
-use Rattle.attribute_steps.proofs.Over.{blank_character, name_character, begins_in, blank_not_name, over_attributes}
-use Rattle.attribute_steps.proofs.Into.{Behind, into_attributes}
-use Rattle.element_attributes.specs.Laws.{Fit, InTurn}
+use Rattle.attribute_steps.proofs.Over.{blank_character, name_character, blank_not_name, over_attributes}
+use Rattle.attribute_steps.proofs.Into.{into_attributes}
 use Rattle.element_attributes.proofs.Fits.{attributes_may}
 use Rattle.page_insides.specs.Laws.{settle, read, ends_with}
 use Rattle.page_insides.proofs.Settled.{at_open, kept_settled}

@@ -1,6 +1,6 @@
 -- From what a machine puts out over the texts of a grammar, and an answer on that, to an answer on the texts.
-use Rattle.std.proofs.Common.{◌≡◌, ◌<◌, ◌↔◌, ℕ, Bool, List, [], ◌∷◌, ◌++◌, map, length, refl, sym, ◌∙◌, ap, subst, append-nil}
-use Rattle.std.specs.Prelude.{All, Result, Ok, Err, IfOk}
+use Rattle.std.proofs.Common.{◌≡◌, ◌<◌, ◌↔◌, ℕ, Bool, List, [], ◌∷◌, ◌++◌, refl, sym, ◌∙◌, ap, subst, append-nil}
+use Rattle.std.specs.Prelude.{All}
 use Rattle.text_base.specs.declared.letter.Letter.{Letter}
 use Rattle.text_base.specs.declared.letter.Letter.TheVariants.{OfByte, OfToken}
 use Rattle.text_base.specs.declared.page_token.PageToken.{PageToken}
@@ -10,17 +10,14 @@ use Rattle.cfg_grammar.specs.declared.production.Production.{Production}
 use Rattle.cfg_grammar.specs.declared.grammar.Grammar.{Grammar}
 use Rattle.cfg_grammar.specs.Derives.{Derives}
 use Rattle.derivations.specs.Lawful.{DerivationsDerive}
-use Rattle.derivations.specs.declared.derivation.Derivation.{Derivation}
-use Rattle.derivations.specs.Stands.{IsDerivation}
 use Rattle.fst_core.specs.Runs.{Runs, Relates}
 use Rattle.image_meaning.specs.Outputs.{DerivesText, Outputs}
-use Rattle.image_meaning.specs.Weight.{IsSmall}
 use Rattle.sentence_writing.specs.Bytes.{bytes_in}
 use Rattle.summary_fixpoint.specs.declared.verdict.Verdict.{Verdict}
 use Rattle.summary_fixpoint.specs.declared.verdict.Verdict.TheVariants.{Yes, No, Pairs, Tags}
 use Rattle.summary_fixpoint.specs.Pairs.{tokens_in}
 use Rattle.summary_fixpoint.specs.Verdicts.{IsVerdict}
-use Rattle.text_decision.specs.Echoes.{IsEchoing, PutsTokens, EchoTexts, IsMachineImage}
+use Rattle.text_decision.specs.Echoes.{IsEchoing, PutsTokens, EchoTexts}
 use Rattle.chart_grammar.specs.Sources.{AreSources, ArePutOut}
 use Rattle.grammar_chart.specs.declared.keys.Passage.{Passage}
 use Rattle.grammar_image.specs.Numbered.{NumberedSteps, NumberedEnds}

@@ -9,7 +9,7 @@ use Rattle.program_rules.specs.Includes.{Reads, itself, LeadsTo}
 use Rattle.program_rules.specs.Expansion.{StandsFor, FunctionStandsFor}
 use Rattle.program_rules.specs.Limits.{HasPlaces, HavePlaces}
 use Rattle.program_rules.specs.Limits as limits
-use Rattle.program_rules.specs.Programs.{ReadFile, AreRead, functions_in, TableStandsFor, IsProgram}
+use Rattle.program_rules.specs.Programs.{ReadFile, AreRead, functions_in, TableStandsFor}
 use Rattle.program_rules.specs.Programs as programs
 use Rattle.program_files.specs.Order.{Reached}
 use Rattle.told_programs.specs.Told.{Content, IsProgramInOrder, IsLoaded, TellsAll, HoldsProgram}

@@ -1,5 +1,5 @@
 -- A program whose text comes from an included file: `t.php` is `<?php include 'a.php';`, and `a.php` inline text.
-use Rattle.std.proofs.Common.{◌≡◌, ◌≤◌, ◌∙◌, ◌++◌, ◌+◌, ℕ, zero, suc, List, [], ◌∷◌, length, Option, Some, None, inl, inr, refl, sym, ap, subst, codes, arith, lit≤}
+use Rattle.std.proofs.Common.{◌≡◌, ◌≤◌, ◌∙◌, ℕ, zero, suc, List, [], ◌∷◌, length, Option, Some, None, inl, inr, refl, sym, ap, subst, codes, arith, lit≤}
 use Rattle.std.specs.Prelude.{◌⊎◌, if◌then◌else◌, bytes_eq}
 use Rattle.std.specs.List.{Contains}
 use Rattle.std.specs.Str.{is_utf8, chars}
@@ -25,15 +25,14 @@ use Rattle.program_rules.specs.Includes.{Reads, itself, included, LeadsTo, direc
 use Rattle.program_rules.specs.Expansion.{with_bodies, StandsFor, stands}
 use Rattle.program_rules.specs.Limits.{one_each, HasPlaces, counted}
 use Rattle.program_rules.specs.Limits as limits
-use Rattle.program_rules.specs.Calls.{PlainCall, calls_of_program}
+use Rattle.program_rules.specs.Calls.{calls_of_program}
 use Rattle.program_rules.specs.Rules.{DefinesTwice, KeepsRules}
 use Rattle.program_rules.specs.Programs.{ReadFile, functions_in, HasNoCycle, IsProgram}
 use Rattle.program_rules.specs.Programs as programs
 use Rattle.program_files.specs.Order.{Reached, begun, next}
 use Rattle.expansion_keeps.specs.FileCalls.{calls_in_files}
-use Rattle.program_loader.specs.FileRules.{KeepFunctionRules}
 use Rattle.reading_laws.proofs.ReadLemmas.{are_read}
-use Rattle.told_programs.specs.Told.{Content, IsProgramInOrder, TellsAll, AreShort, HoldsProgram}
+use Rattle.told_programs.specs.Told.{Content, TellsAll, AreShort, HoldsProgram}
 
 -- what the two files hold
 abbrev outer : List ℕ

@@ -1,15 +1,13 @@
 -- The table by versions does what the table does.
-use Rattle.std.proofs.Common.{◌≡◌, ◌↔◌, ℕ, Bool, true, false, List, refl, sym, subst, ◌∙◌}
-use Rattle.std.specs.Prelude.{⊤}
-use Rattle.op_system.specs.declared.op.Op.{Op}
+use Rattle.std.proofs.Common.{◌≡◌, ℕ, false, refl, sym, subst, ◌∙◌}
 use Rattle.slot_versions.specs.Points.{PlainFlow}
 use Rattle.least_sets.specs.Forms.{Form, text_form, same_form, join_form, before_form, request_form, integer_form, apply_form, yes_form, where_form, renamed}
-use Rattle.slot_versions.specs.Reaching.{Definition, Reaches}
-use Rattle.slot_versions.specs.Names.{Half, Aspect, Name, set_of, use_of, all_of, shown_at, result_of, input_of, output_of, joined_from, piece_of, further_piece_of, further_pieces_of, out_of}
+use Rattle.slot_versions.specs.Reaching.{Definition}
+use Rattle.slot_versions.specs.Names.{Aspect, Name, set_of, use_of, all_of, shown_at, result_of, input_of, output_of, joined_from, piece_of, further_piece_of, further_pieces_of, out_of}
 use Rattle.slot_versions.specs.Table.{Row}
 use Rattle.slot_versions.specs.Versions.{PlainVersion, of_definition, join_at, Linked, Behind}
 use Rattle.set_simulations.specs.Simulations.{TakesOver, Holds, Alike, is_same, HasRow, Simulates}
-use Rattle.version_rows.specs.Names.{VersionName, value_of, Versioned, by_version, is_use, ReadsSlot, IsRead}
+use Rattle.version_rows.specs.Names.{VersionName, value_of, Versioned, by_version, is_use, IsRead}
 use Rattle.version_rows.specs.Rows.{VersionRow, AreExact}
 use Rattle.version_rows.proofs.Reading.{AllNamed, rows_read}
 

@@ -1,6 +1,5 @@
 -- And the table by versions does nothing else.
-use Rattle.std.proofs.Common.{◌≡◌, ◌↔◌, ℕ, Bool, true, false, List, Option, refl, sym, subst, ◌∙◌, codes}
-use Rattle.std.specs.Prelude.{⊤}
+use Rattle.std.proofs.Common.{◌≡◌, ◌↔◌, ℕ, false, List, Option, refl, subst, codes}
 use Rattle.op_system.specs.declared.op.Op.{Op}
 use Rattle.slot_versions.specs.Points.{PlainKeyRef, PlainSource, PlainFlow}
 use Rattle.least_sets.specs.Forms.{Form, text_form, same_form, join_form, before_form, request_form, integer_form, apply_form, yes_form, where_form, renamed}

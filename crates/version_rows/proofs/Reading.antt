@@ -1,5 +1,5 @@
 -- What the rows of the table speak of is read.
-use Rattle.std.proofs.Common.{◌≡◌, ◌⊎◌, inl, inr, ℕ, zero, suc, Bool, true, false, if◌then◌else◌, List, [], ◌∷◌, ◌++◌, Option, Some, None, refl, sym, subst, length}
+use Rattle.std.proofs.Common.{◌≡◌, ℕ, zero, suc, Bool, true, false, if◌then◌else◌, List, [], ◌∷◌, ◌++◌, Option, Some, refl, subst}
 use Rattle.std.specs.Prelude.{⊤, Contains, flat_map, slice_get}
 use Rattle.std.proofs.lemmas.List.Elements.{Contains-append_left, Contains-append_right}
 use Rattle.string_functions.proofs.Members.{Contains-head, Contains-later}
@@ -9,11 +9,11 @@ use Rattle.plain_values.specs.Keys.{canonical_integer, canonical_key}
 use Rattle.builtin_meaning.specs.declared.builtin.Builtin.{Builtin}
 use Rattle.op_system.specs.declared.op.Op.{Op}
 use Rattle.op_system.specs.declared.op.Op.TheVariants as op
-use Rattle.slot_versions.specs.Points.{PlainKeyRef, int_ref, text_ref, read_ref, PlainSource, copy_source, member_source, array_source, put_source, concat_source, repeat_source, implode_source, explode_source, apply_source, PlainPoint, set_point, call_point, echo_point, begin_point, key_point, value_point, return_point, quit_point, PlainFlow, point_at}
+use Rattle.slot_versions.specs.Points.{PlainKeyRef, int_ref, text_ref, read_ref, PlainSource, array_source, put_source, concat_source, apply_source, PlainPoint, set_point, call_point, echo_point, begin_point, key_point, value_point, return_point, quit_point, PlainFlow, point_at}
 use Rattle.slot_versions.specs.Lawful.{reads, source_reads, item_slots, maybe_key_slots, key_slots}
 use Rattle.least_sets.specs.Forms.{Form, text_form, same_form, join_form, before_form, request_form, integer_form, apply_form, yes_form, where_form}
 use Rattle.slot_versions.specs.Keys.{literal_key, told_keys, is_among}
-use Rattle.slot_versions.specs.Names.{Half, text_half, array_half, Aspect, own, member, others, Name, set_of, use_of, all_of, shown_at, result_of, input_of, output_of, joined_from, piece_of, further_piece_of, further_pieces_of, out_of}
+use Rattle.slot_versions.specs.Names.{Half, text_half, array_half, Aspect, member, others, Name, use_of}
 use Rattle.slot_versions.specs.Table.{SetsTo, KeyText, Reads, SourceRow, Row, member_at, request_member}
 use Rattle.version_rows.specs.Names.{ReadsSlot, IsRead}
 

@@ -2,7 +2,7 @@
 use Rattle.std.specs.Prelude.{◌≡◌, ⊤, ℕ, Bool, true, false, Some, Contains}
 use Rattle.slot_versions.specs.Points.{PlainPoint, PlainFlow, point_at}
 use Rattle.slot_versions.specs.Lawful.{reads}
-use Rattle.slot_versions.specs.Names.{Half, Aspect, Leaving, Name, set_of, use_of, all_of, shown_at, result_of, input_of, output_of, joined_from, piece_of, further_piece_of, further_pieces_of, out_of}
+use Rattle.slot_versions.specs.Names.{Half, Aspect, Name, set_of, use_of, all_of, shown_at}
 use Rattle.slot_versions.specs.Versions.{PlainVersion, of_definition}
 
 -- a set of the analysis by versions

@@ -1,4 +1,4 @@
-use Rattle.std.proofs.Common.{◌≡◌, ◌+◌, ◌<◌, ◌≤◌, ℕ, suc, length, arith, add-one, ap, ◌∙◌, sym, refl, subst, List}
+use Rattle.std.proofs.Common.{◌≡◌, ◌+◌, ℕ, suc, length, arith, add-one, ap, ◌∙◌, sym, refl, subst, List}
 use Rattle.std.proofs.lemmas.Bool.{false≢true}
 use Rattle.numbered_sets.specs.Numbers.{AreDifferent}
 use Rattle.cfg_grammar.specs.declared.production.Production.{Production}

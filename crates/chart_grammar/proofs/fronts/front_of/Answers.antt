@@ -1,4 +1,4 @@
-use Rattle.chart_grammar.proofs.FrontLemmas.{front_none, front_more, front_all}
+use Rattle.chart_grammar.proofs.FrontLemmas.{front_none, front_more}
 use Rattle.chart_grammar.proofs.fronts.front_of.Goals as goal
 
 pub loop-symbol-init : goal.loop-symbol-init

@@ -1,6 +1,5 @@
-use Rattle.std.proofs.Common.{[], List, ◌≡◌, ◌+◌, ◌≤◌, length, arith}
+use Rattle.std.proofs.Common.{[], ◌≤◌, length, arith}
 use Rattle.chart_grammar.specs.declared.fronts.Front.{Front}
-use Rattle.grammar_chart.specs.declared.keys.Begun.{Begun}
 use Rattle.chart_grammar.specs.Writing.{WholeMade, WholeHas}
 use Rattle.chart_grammar.proofs.WriteLemmas.{writes_none, writes_more, writes_all}
 use Rattle.chart_grammar.proofs.MonoLemmas.{whole_made, whole_has}

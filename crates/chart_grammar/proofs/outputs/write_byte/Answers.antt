@@ -1,4 +1,4 @@
-use Rattle.std.proofs.Common.{◌≡◌, ◌≤◌, Bool, true, refl, arith}
+use Rattle.std.proofs.Common.{◌≡◌, ◌≤◌, true, refl, arith}
 use Rattle.chart_grammar.proofs.OutputLemmas.{byte_of_part}
 use Rattle.chart_grammar.proofs.outputs.write_byte.Goals as goal
 

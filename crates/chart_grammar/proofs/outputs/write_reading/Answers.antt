@@ -1,4 +1,4 @@
-use Rattle.std.proofs.Common.{◌≡◌, ◌<◌, ◌≤◌, ℕ, arith}
+use Rattle.std.proofs.Common.{◌<◌, arith}
 use Rattle.chart_grammar.proofs.OutputLemmas.{one_of_some, some_both}
 use Rattle.chart_grammar.proofs.outputs.write_reading.Goals as goal
 

@@ -1,4 +1,4 @@
-use Rattle.std.proofs.Common.{◌≡◌, ◌<◌, List, length, subst}
+use Rattle.std.proofs.Common.{◌<◌, List, length, subst}
 use Rattle.fst_core.specs.declared.out.Out.{Out}
 use Rattle.chart_grammar.specs.Outs.{AreFixed}
 use Rattle.chart_grammar.proofs.outputs.write_whole_range.Goals as goal

@@ -1,10 +1,10 @@
-use Rattle.std.proofs.Common.{◌≡◌, ◌++◌, ◌∷◌, [], ℕ, Bool, true, false, List, refl, sym, ap, ◌∙◌, inr}
+use Rattle.std.proofs.Common.{◌≡◌, ◌++◌, ◌∷◌, [], Bool, true, false, List, refl, ap, ◌∙◌, inr}
 use Rattle.std.specs.Prelude.{if◌then◌else◌}
 use Rattle.cfg_grammar.specs.declared.production.Right.{Right}
 use Rattle.cfg_grammar.specs.declared.production.Production.{Production}
 use Rattle.grammar_chart.proofs.AddingLemmas.{contains_at}
 use Rattle.chart_grammar.specs.declared.saying.Said.{Said}
-use Rattle.chart_grammar.specs.Saying.{Says, production_of}
+use Rattle.chart_grammar.specs.Saying.{production_of}
 use Rattle.chart_grammar.proofs.saying.say.Goals as goal
 
 pub returns : goal.returns

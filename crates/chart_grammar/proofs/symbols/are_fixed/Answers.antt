@@ -1,4 +1,4 @@
-use Rattle.std.proofs.Common.{◌≡◌, sym, ◌∙◌, refl, true, false}
+use Rattle.std.proofs.Common.{sym, ◌∙◌, refl, true, false}
 use Rattle.std.proofs.lemmas.Bool.{not-false}
 use Rattle.chart_grammar.proofs.OutLemmas.{fixed_upto, fixed_all}
 use Rattle.chart_grammar.proofs.symbols.are_fixed.Goals as goal

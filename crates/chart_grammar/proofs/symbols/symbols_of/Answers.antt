@@ -1,6 +1,6 @@
-use Rattle.std.proofs.Common.{◌≡◌, ◌≤◌, ◌⊎◌, inl, inr, true, false, not, arith, ◌∙◌, sym, ap, refl}
-use Rattle.std.proofs.lemmas.Bool.{not-true, not-false, true≢false}
-use Rattle.chart_grammar.proofs.OutLemmas.{symbols_none, symbols_more, symbols_all}
+use Rattle.std.proofs.Common.{inl, inr, true, false, ◌∙◌, sym, refl}
+use Rattle.std.proofs.lemmas.Bool.{not-false, true≢false}
+use Rattle.chart_grammar.proofs.OutLemmas.{symbols_more, symbols_all}
 use Rattle.chart_grammar.proofs.symbols.symbols_of.Goals as goal
 use Rattle.chart_grammar.proofs.symbols.symbols_of.Goals.{then-is_dependent+else-depends, else-depends-via-then-depends+else-range, else-depends-via-else-depends, else-is_dependent}
 

@@ -1,4 +1,4 @@
-use Rattle.std.proofs.Common.{◌≡◌, ◌∙◌, ◌+◌, [], sym, drop, get_or}
+use Rattle.std.proofs.Common.{◌+◌, [], drop, get_or}
 use Rattle.dtd_tokens.specs.Views.{token_of, tokens_of}
 use Rattle.dtd_tokens.specs.declared.token.Token.TheVariants.{Gap}
 use Rattle.dtd_texts.specs.Went.{all_steps}

@@ -1,4 +1,4 @@
-use Rattle.std.proofs.Common.{◌≡◌, drop, []}
+use Rattle.std.proofs.Common.{◌≡◌, drop}
 use Rattle.dtd_tokens.specs.Views.{tokens_of}
 use Rattle.dtd_texts.specs.Went.{all_steps}
 use Rattle.dtd_texts.specs.ContentModels.{stage_step, behind_name}

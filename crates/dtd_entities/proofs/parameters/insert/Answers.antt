@@ -1,4 +1,3 @@
-use Rattle.std.proofs.Common.{◌≡◌}
 use Rattle.dtd_entities.proofs.Sources.{declared_new}
 use Rattle.dtd_entities.proofs.parameters.insert.Goals as goal
 

@@ -1,4 +1,3 @@
-use Rattle.std.proofs.Common.{◌≡◌}
 use Rattle.dtd_entities.proofs.Sources.{found_is}
 use Rattle.dtd_entities.proofs.parameters.source_of.Goals as goal
 

@@ -1,5 +1,5 @@
-use Rattle.std.proofs.Common.{◌≡◌, ap, ◌∙◌, sym, refl, rules}
-use Rattle.php_syntax.specs.Trees.{plain_expr, member_expr, array_expr, join_expr, neg_expr, not_expr, arith_expr, compare_expr, and_expr, or_expr, coalesce_expr, choice_expr, isset_expr, empty_expr, assign_expr, update_expr, call_expr, items_of}
+use Rattle.std.proofs.Common.{ap, ◌∙◌, sym}
+use Rattle.php_syntax.specs.Trees.{plain_expr, member_expr, array_expr, join_expr, neg_expr, not_expr, arith_expr, compare_expr, and_expr, or_expr, coalesce_expr, isset_expr, empty_expr, assign_expr, update_expr, call_expr, items_of}
 use Rattle.php_syntax.proofs.Views.{plain_expr-Null, plain_expr-Flag, plain_expr-Int, plain_expr-Text, plain_expr-Var, plain_expr-Super, plain_expr-Member, plain_expr-ArrayOf, plain_expr-Join, plain_expr-Neg, plain_expr-Not, plain_expr-Arith, plain_expr-Compare, plain_expr-And, plain_expr-Or, plain_expr-Coalesce, plain_expr-Choice, plain_expr-Isset, plain_expr-Empty, plain_expr-Assign, plain_expr-Update, plain_expr-Step, plain_expr-Call}
 use Rattle.expr_evaluator.proofs.TreeLemmas.{one, two, listed, chosen, targeted}
 use Rattle.expr_evaluator.proofs.BeginMoves.{begin_null, begin_flag, begin_int, begin_text, begin_var, begin_super, begin_step, begin_member, begin_arith, begin_compare, begin_and, begin_or, begin_coalesce, begin_choice, begin_neg, begin_not, begin_empty, begin_join, begin_isset, begin_call, begin_array, begin_assign, begin_update}

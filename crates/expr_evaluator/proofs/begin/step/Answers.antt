@@ -1,6 +1,5 @@
 use Rattle.std.proofs.Common.{ap, sym, ◌∙◌, refl}
 use Rattle.script_meaning.specs.Expressions.{stepped}
-use Rattle.expr_evaluator.specs.Frames.{step_in}
 use Rattle.expr_evaluator.proofs.WriteMoves.{stepped_does, step_faults, does_fault}
 use Rattle.expr_evaluator.proofs.begin.step.Goals as goal
 

@@ -1,5 +1,4 @@
-use Rattle.std.proofs.Common.{subst, sym, refl}
-use Rattle.php_syntax.specs.Trees.{functions_of_list}
+use Rattle.std.proofs.Common.{refl}
 use Rattle.expr_evaluator.proofs.LoopMoves.{popped, stops_value, stops_call, stops_fault, moves_as, pauses_as}
 use Rattle.expr_evaluator.proofs.evaluate.advance.Goals as goal
 

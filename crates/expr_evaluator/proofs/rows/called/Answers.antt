@@ -1,6 +1,4 @@
-use Rattle.std.proofs.Common.{ap, sym, subst, ◌∙◌}
-use Rattle.plain_values.specs.Plain.{Plain}
-use Rattle.std.specs.Prelude.{List}
+use Rattle.std.proofs.Common.{ap, sym, ◌∙◌}
 use Rattle.builtin_meaning.specs.Names.{builtin_named}
 use Rattle.php_syntax.specs.Trees.{functions_of_list}
 use Rattle.script_meaning.specs.Programs.{function_named}

@@ -1,5 +1,5 @@
-use Rattle.std.proofs.Common.{ap, sym, ◌∙◌, refl, List, ℕ}
-use Rattle.plain_values.specs.Plain.{Plain, null}
+use Rattle.std.proofs.Common.{ap, sym, ◌∙◌, refl}
+use Rattle.plain_values.specs.Plain.{null}
 use Rattle.php_values.specs.declared.array.Value.{Value}
 use Rattle.php_values.specs.View.{plain_of}
 use Rattle.script_meaning.specs.Runs.{Variables, set_in, value_in}

@@ -1,4 +1,4 @@
-use Rattle.std.proofs.Common.{ap, sym, ◌∙◌, refl, List, ℕ}
+use Rattle.std.proofs.Common.{ap, sym, ◌∙◌, refl}
 use Rattle.plain_values.specs.Plain.{null}
 use Rattle.php_values.specs.View.{plain_of, plain_path}
 use Rattle.script_meaning.specs.Runs.{Variables, set_in}

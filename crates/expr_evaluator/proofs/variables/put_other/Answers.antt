@@ -1,5 +1,5 @@
 use Rattle.std.proofs.Common.{ap, sym, ◌∙◌}
-use Rattle.php_values.specs.View.{plain_of, found_plain}
+use Rattle.php_values.specs.View.{found_plain}
 use Rattle.expr_evaluator.specs.VariablesView.{plain_variables}
 use Rattle.expr_evaluator.proofs.VariableLemmas.{value_found, set_inserted}
 use Rattle.expr_evaluator.proofs.variables.put_other.Goals as goal

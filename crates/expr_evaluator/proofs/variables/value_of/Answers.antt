@@ -1,7 +1,7 @@
-use Rattle.std.proofs.Common.{ap, sym, subst, ◌∙◌}
+use Rattle.std.proofs.Common.{ap, sym, ◌∙◌}
 use Rattle.php_values.specs.View.{plain_of}
 use Rattle.expr_evaluator.specs.VariablesView.{plain_variables}
-use Rattle.expr_evaluator.proofs.VariableLemmas.{Placed, at_place}
+use Rattle.expr_evaluator.proofs.VariableLemmas.{at_place}
 use Rattle.expr_evaluator.proofs.variables.value_of.Goals as goal
 
 pub returns-in_ok-value-in-Some : goal.returns-in_ok-value-in-Some

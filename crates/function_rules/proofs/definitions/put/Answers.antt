@@ -1,6 +1,6 @@
 use Rattle.std.proofs.Common.{◌≡◌, ◌∙◌, ℕ, List, None, true, false, refl, sym, ap, subst}
 use Rattle.php_syntax.specs.declared.tree.Param.{Param}
-use Rattle.php_syntax.specs.Trees.{PlainFunction, plain_function, params_of_list}
+use Rattle.php_syntax.specs.Trees.{plain_function, params_of_list}
 use Rattle.builtin_meaning.specs.Names.{builtin_named}
 use Rattle.script_meaning.specs.Programs.{function_named}
 use Rattle.program_rules.specs.Rules.{is_there, DefinesTwice}

@@ -1,6 +1,4 @@
-use Rattle.std.proofs.Common.{◌≡◌, ℕ, List, Some, slice_get, ap, sym, ◌∙◌, subst, ◌↔◌}
-use Rattle.text_base.specs.ByteRange.{InRange}
-use Rattle.text_base.specs.declared.letter.Letter.{Letter}
+use Rattle.std.proofs.Common.{sym, subst, ◌↔◌}
 use Rattle.fst_core.specs.Offers.{Offers}
 use Rattle.grammar_image.proofs.ask.ask.Goals as goal
 

@@ -1,5 +1,4 @@
-use Rattle.std.proofs.Common.{◌≡◌, List, Contains, subst, sym, refl}
-use Rattle.grammar_chart.specs.declared.keys.Reading.{Reading}
+use Rattle.std.proofs.Common.{refl}
 use Rattle.grammar_image.proofs.NoteLemmas.{note_one}
 use Rattle.grammar_image.proofs.ask.note_move.Goals as goal
 

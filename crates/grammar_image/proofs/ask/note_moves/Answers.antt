@@ -1,8 +1,4 @@
-use Rattle.std.proofs.Common.{◌≡◌, arith}
-use Rattle.std.specs.List.{All}
-use Rattle.std.proofs.lemmas.List.Elements.{All-append, All-pop, All-push}
-use Rattle.fst_core.specs.Offers.{IsWithin}
-use Rattle.grammar_image.proofs.NoteLemmas.{notes_none, notes_more, notes_done, within_last, within_front}
+use Rattle.grammar_image.proofs.NoteLemmas.{notes_none, notes_more, within_last, within_front}
 use Rattle.grammar_image.proofs.ask.note_moves.Goals as goal
 
 pub loop-step-init : goal.loop-step-init

@@ -1,4 +1,4 @@
-use Rattle.std.proofs.Common.{◌≡◌, [], arith}
+use Rattle.std.proofs.Common.{arith}
 use Rattle.std.proofs.lemmas.List.{nil_from_length}
 use Rattle.grammar_image.proofs.LastLemmas.{adds_none, adds_more, adds_done}
 use Rattle.grammar_image.proofs.ends.add_lasts.Goals as goal

@@ -1,4 +1,4 @@
-use Rattle.std.proofs.Common.{◌≡◌, subst, sym}
+use Rattle.std.proofs.Common.{subst}
 use Rattle.grammar_chart.specs.declared.turns.Turn.{Turn}
 use Rattle.grammar_chart.specs.Kept.{IsTurn}
 use Rattle.grammar_image.proofs.WorkLemmas.{worked_goes}

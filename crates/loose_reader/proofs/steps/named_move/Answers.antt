@@ -1,4 +1,4 @@
-use Rattle.std.proofs.Common.{◌∙◌, ap, Bool, ℕ}
+use Rattle.std.proofs.Common.{◌∙◌, ap, Bool}
 use Rattle.std.specs.Prelude.{if◌then◌else◌, false}
 use Rattle.dtd_model.specs.TableOf.{table_of}
 use Rattle.page_model.specs.Attributes.{find_rule}

@@ -1,4 +1,4 @@
-use Rattle.std.proofs.Common.{◌≡◌, length, refl}
+use Rattle.std.proofs.Common.{length, refl}
 use Rattle.std.proofs.lemmas.Option.{slice_get_read}
 use Rattle.op_bytes.proofs.GainLemmas.{literals_none, literals_more, literals_all}
 use Rattle.op_bytes.proofs.beginning.add_literals.Goals as goal

@@ -1,4 +1,4 @@
-use Rattle.std.proofs.Common.{◌≡◌, length, refl}
+use Rattle.std.proofs.Common.{length, refl}
 use Rattle.std.proofs.lemmas.Option.{slice_get_read}
 use Rattle.op_bytes.proofs.GainLemmas.{ranges_none, ranges_more, ranges_all}
 use Rattle.op_bytes.proofs.beginning.add_ranges.Goals as goal

@@ -1,4 +1,3 @@
-use Rattle.std.proofs.Common.{◌<◌, length, arith}
 use Rattle.text_base.specs.ByteRange.{InRange}
 use Rattle.op_bytes.proofs.GainLemmas.{range_gains, gains_at}
 use Rattle.op_bytes.proofs.beginning.add_symbol.Goals as goal

@@ -1,4 +1,4 @@
-use Rattle.std.proofs.Common.{◌≡◌, List, length, subst}
+use Rattle.std.proofs.Common.{List, length, subst}
 use Rattle.cfg_grammar.specs.declared.production.Production.{Production}
 use Rattle.op_system.specs.declared.system.OpRule.{OpRule}
 use Rattle.cfg_grammar.specs.Bytes.{FirstHaveBytes}

@@ -1,4 +1,4 @@
-use Rattle.std.proofs.Common.{◌≡◌, length, refl}
+use Rattle.std.proofs.Common.{length, refl}
 use Rattle.std.proofs.lemmas.Option.{slice_get_read}
 use Rattle.op_bytes.proofs.UseLemmas.{fitting_more_rules, fitting_all_rules}
 use Rattle.op_bytes.proofs.fitting.rules_fit.Goals as goal

@@ -1,4 +1,4 @@
-use Rattle.op_bytes.proofs.GrowLemmas.{grow_nothing, grow_more}
+use Rattle.op_bytes.proofs.GrowLemmas.{grow_more}
 use Rattle.op_bytes.proofs.passing.grow.Goals as goal
 
 pub returns : goal.returns

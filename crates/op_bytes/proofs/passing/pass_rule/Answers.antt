@@ -1,4 +1,4 @@
-use Rattle.std.proofs.Common.{◌<◌, length, sym}
+use Rattle.std.proofs.Common.{length, sym}
 use Rattle.std.proofs.lemmas.Result.{on_ok_weaker}
 use Rattle.system_bytes.proofs.ListLemmas.{contained}
 use Rattle.op_bytes.proofs.UseLemmas.{rule_below_so}

@@ -1,4 +1,3 @@
-use Rattle.std.proofs.Common.{◌≡◌}
 use Rattle.op_bytes.specs.Work.{AreNumbersBelow}
 use Rattle.op_bytes.proofs.sets.all_numbers.Given as goal
 

@@ -1,5 +1,4 @@
-use Rattle.std.proofs.Common.{◌≡◌, ℕ, subst, sym}
-use Rattle.std.specs.Prelude.{◌⊎◌}
+use Rattle.std.proofs.Common.{◌≡◌, ℕ, subst}
 use Rattle.least_sets.specs.Bytes.{Turns}
 use Rattle.op_bytes.proofs.OpLemmas.{IsMore, more_turned, more_two}
 use Rattle.op_bytes.proofs.turning.add_turned.Goals as goal

@@ -1,4 +1,4 @@
-use Rattle.std.proofs.Common.{◌<◌, ℕ, Bool, List, sym, subst, arith}
+use Rattle.std.proofs.Common.{◌<◌, ℕ, Bool, List, sym, subst}
 use Rattle.std.specs.Prelude.{◌↔◌}
 use Rattle.text_base.specs.ByteSet.{Has}
 use Rattle.op_bytes.proofs.OpLemmas.{IsTurnedBelow, turned_none, turned_step, turned_end}

@@ -1,5 +1,5 @@
 use Rattle.std.proofs.Common.{◌<◌, ℕ}
-use Rattle.std.specs.Prelude.{◌↔◌, ◌⊎◌}
+use Rattle.std.specs.Prelude.{◌↔◌}
 use Rattle.text_base.specs.ByteSet.{Has}
 use Rattle.least_sets.specs.Bytes.{Turns}
 use Rattle.op_bytes.proofs.turning.turned.Given as goal

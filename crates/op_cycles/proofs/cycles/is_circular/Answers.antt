@@ -1,4 +1,4 @@
-use Rattle.std.proofs.Common.{◌≡◌, ◌<◌, ℕ, length, get_or, refl, arith, eq-eqb}
+use Rattle.std.proofs.Common.{refl, arith, eq-eqb}
 use Rattle.std.proofs.lemmas.Option.{slice_get-get_or}
 use Rattle.op_cycles.proofs.EdgeLemmas.{rule_left_below, operand_below}
 use Rattle.op_cycles.proofs.CycleLemmas.{is_in_cycle, any_in_cycle, in_cycle_is, same_number}

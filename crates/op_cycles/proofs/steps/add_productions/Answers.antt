@@ -1,4 +1,4 @@
-use Rattle.std.proofs.Common.{◌∙◌, length, refl, arith}
+use Rattle.std.proofs.Common.{◌∙◌, length, refl}
 use Rattle.std.proofs.lemmas.Option.{slice_get_read}
 use Rattle.op_cycles.proofs.EdgeLemmas.{first_none, productions_more, first_all}
 use Rattle.op_cycles.proofs.steps.add_productions.Goals as goal

@@ -1,6 +1,6 @@
-use Rattle.std.proofs.Common.{◌∙◌, length, refl, arith}
+use Rattle.std.proofs.Common.{◌∙◌, length, refl}
 use Rattle.std.proofs.lemmas.Option.{slice_get_read}
-use Rattle.op_cycles.proofs.EdgeLemmas.{first_no_rule, rules_more, first_all_rules, contained, rule_left_below}
+use Rattle.op_cycles.proofs.EdgeLemmas.{first_no_rule, rules_more, first_all_rules}
 use Rattle.op_cycles.proofs.steps.add_rules.Goals as goal
 
 pub loop-rule-init : goal.loop-rule-init

@@ -1,8 +1,7 @@
-use Rattle.std.proofs.Common.{◌≡◌, ◌↔◌, ◌∙◌, ℕ, List, length, sym, subst, arith}
+use Rattle.std.proofs.Common.{List, length, subst, arith}
 use Rattle.cfg_grammar.specs.declared.production.Production.{Production}
 use Rattle.op_system.specs.declared.system.OpRule.{OpRule}
-use Rattle.include_order.specs.Edges.{HasEdge}
-use Rattle.op_cycles.specs.Steps.{AddsEdges, IsFirstStep, IsFirstRule, IsStep}
+use Rattle.op_cycles.specs.Steps.{AddsEdges, IsFirstStep, IsFirstRule}
 use Rattle.op_cycles.proofs.EdgeLemmas.{all_steps, steps_within}
 use Rattle.op_cycles.proofs.steps.steps.Goals as goal
 

@@ -1,4 +1,4 @@
-use Rattle.std.proofs.Common.{◌≡◌, ◌≤◌, ◌+◌, ◌++◌, false, length}
+use Rattle.std.proofs.Common.{◌≡◌, length}
 use Rattle.string_functions.specs.Trim.{left_trim_of}
 use Rattle.php_builtins.proofs.cases.left_trimmed.Given as goal
 

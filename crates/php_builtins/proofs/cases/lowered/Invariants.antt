@@ -1,4 +1,4 @@
-use Rattle.std.proofs.Common.{◌≡◌, ◌≤◌, ◌+◌, ◌++◌, false, length}
+use Rattle.std.proofs.Common.{◌≡◌, ◌+◌, ◌++◌, length}
 use Rattle.string_functions.specs.Case.{lower_of}
 use Rattle.php_builtins.proofs.cases.lowered.Given as goal
 

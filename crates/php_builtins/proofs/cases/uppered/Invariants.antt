@@ -1,4 +1,4 @@
-use Rattle.std.proofs.Common.{◌≡◌, ◌≤◌, ◌+◌, ◌++◌, false, length}
+use Rattle.std.proofs.Common.{◌≡◌, ◌+◌, ◌++◌, length}
 use Rattle.string_functions.specs.Case.{upper_of}
 use Rattle.php_builtins.proofs.cases.uppered.Given as goal
 

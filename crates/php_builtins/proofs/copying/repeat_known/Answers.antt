@@ -1,5 +1,5 @@
-use Rattle.std.proofs.Common.{◌≡◌, ◌<◌, ◌*◌, List, ℕ, inr, true, Ok, length, sym, ◌∙◌, ap, subst, arith}
-use Rattle.std.specs.Prelude.{IfOk, nat_lt}
+use Rattle.std.proofs.Common.{◌≡◌, ◌<◌, ◌*◌, List, ℕ, inr, true, Ok, length, sym, ◌∙◌, subst, arith}
+use Rattle.std.specs.Prelude.{IfOk}
 use Rattle.std.proofs.lemmas.Bool.{ltb-true}
 use Rattle.plain_values.specs.Plain.{text}
 use Rattle.plain_values.specs.Members.{within_length}

@@ -1,4 +1,4 @@
-use Rattle.std.proofs.Common.{◌≡◌, ◌≤◌, ◌+◌, ◌++◌, false, length}
+use Rattle.std.proofs.Common.{◌≡◌, ◌+◌, ◌++◌, length}
 use Rattle.php_builtins.specs.Encodings.{encoded}
 use Rattle.php_builtins.proofs.encodings.written.Given as goal
 

@@ -1,4 +1,4 @@
-use Rattle.std.proofs.Common.{◌≡◌, ◌+◌, ℕ, nat_lt, ◌∙◌, ap, List}
+use Rattle.std.proofs.Common.{◌+◌, ℕ, nat_lt, ◌∙◌, ap}
 use Rattle.std.specs.Char.{is_ascii_digit}
 use Rattle.std.specs.List.{prefix_len}
 use Rattle.plain_values.specs.Intval.{behind_dot, behind_digits}

@@ -1,4 +1,4 @@
-use Rattle.std.proofs.Common.{◌≡◌, ◌≤◌, ◌+◌, ◌++◌, false, length}
+use Rattle.std.proofs.Common.{◌≡◌, ◌≤◌, ◌+◌, false, length}
 use Rattle.string_functions.specs.Breaks.{breaks_past}
 use Rattle.php_builtins.proofs.line_ends.is_too_long.Given as goal
 

@@ -1,4 +1,4 @@
-use Rattle.std.proofs.Common.{◌≡◌, ◌≤◌, ◌+◌, ◌∷◌, ◌++◌, [], List, ℕ, length, take, drop, sym, ◌∙◌, ap, append_assoc, length-drop, arith}
+use Rattle.std.proofs.Common.{◌+◌, ◌∷◌, ◌++◌, [], List, ℕ, length, drop, sym, ◌∙◌, ap, append_assoc, length-drop, arith}
 use Rattle.string_functions.specs.Pieces.{pieces_of}
 use Rattle.php_builtins.proofs.PieceLemmas.{pieces_at, pieces_nowhere}
 use Rattle.php_builtins.proofs.pieces.cut.Goals as goal

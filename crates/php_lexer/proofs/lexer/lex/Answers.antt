@@ -1,4 +1,4 @@
-use Rattle.std.proofs.Common.{◌∙◌, ◌+◌, option_map, inl}
+use Rattle.std.proofs.Common.{◌+◌, option_map, inl}
 use Rattle.php_syntax.specs.Tokens.{plain_kind, plain_tokens}
 use Rattle.lexical_grammar.proofs.CutLemmas.{cut_once, never_both}
 use Rattle.php_lexer.specs.View.{mode_of}

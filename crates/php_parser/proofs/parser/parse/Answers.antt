@@ -1,4 +1,3 @@
-use Rattle.std.proofs.Common.{rules}
 use mathlib.Core.Logic.{inl}
 use Rattle.stmt_parser.specs.Heads.{terminals_of}
 use Rattle.php_syntax.specs.Tokens.{plain_tokens}

@@ -1,4 +1,4 @@
-use Rattle.std.proofs.Common.{◌≡◌, ◌+◌, ◌++◌, ◌≤◌, ◌∙◌, ℕ, List, sym, subst, arith, length}
+use Rattle.std.proofs.Common.{◌+◌, ◌≤◌, ◌∙◌, ℕ, List, sym, subst, arith, length}
 use Rattle.xml_text.specs.Texts.{IsText}
 use Rattle.cfg_grammar.specs.declared.symbol.Symbol.TheVariants.{Nt}
 use Rattle.cfg_grammar.specs.declared.production.Production.{Production}
@@ -7,7 +7,6 @@ use Rattle.cfg_grammar.specs.Tokens.{HaveNoToken}
 use Rattle.set_systems.specs.Parts.{Closed}
 use Rattle.set_systems.specs.Closed.{HasText, IsClosed}
 use Rattle.set_tables.specs.Given.{closed_of}
-use Rattle.request_texts.specs.Kept.{kept}
 use Rattle.request_texts.proofs.Kept.{added}
 use Rattle.request_texts.proofs.Closed.{is_closed}
 use Rattle.request_texts.proofs.Sizes.{both_below, both_plain, both_few}

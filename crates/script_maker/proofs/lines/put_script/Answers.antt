@@ -1,5 +1,5 @@
-use Rattle.std.proofs.Common.{List, ℕ, ◌≡◌, ◌+◌, ◌++◌, ◌∙◌, ◌-◌, ap, subst, sym, codes, arith}
-use Rattle.script_maker.specs.Made.{first_line, lines_from, page_of, made}
+use Rattle.std.proofs.Common.{ℕ, ◌≡◌, ◌+◌, ◌++◌, ◌∙◌, ◌-◌, ap, sym, codes, arith}
+use Rattle.script_maker.specs.Made.{first_line, lines_from, page_of}
 use Rattle.script_maker.proofs.Pieces.{behind}
 use Rattle.script_maker.proofs.lines.put_script.Goals as goal
 

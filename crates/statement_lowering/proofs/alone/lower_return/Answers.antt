@@ -1,12 +1,7 @@
-use Rattle.std.proofs.Common.{refl, sym, subst, ap}
-use Rattle.std.specs.Prelude.{Option}
-use Rattle.php_syntax.specs.declared.tree.Expr.{Expr}
-use Rattle.php_syntax.specs.Trees.{maybe_of, MaybeExpr}
+use Rattle.std.proofs.Common.{refl}
 use Rattle.flow_code.specs.Points.{return_point}
 use Rattle.flow_code.specs.Statements.{return_block}
-use Rattle.flow_lowering.specs.View.{progress}
 use Rattle.function_scopes.specs.View.{scope_in}
-use Rattle.block_pieces.specs.Blocks.{Lays}
 use Rattle.block_pieces.proofs.BlockLemmas.{lays_ending}
 use Rattle.statement_lowering.proofs.RowBlocks.{by_return}
 use Rattle.statement_lowering.proofs.alone.lower_return.Goals as goal

@@ -1,4 +1,3 @@
-use Rattle.std.proofs.Common.{◌≡◌, ◌++◌, ap, ◌∙◌, sym, refl}
 use Rattle.statement_machine.proofs.GiveLemmas.{rest_on, task_as}
 use Rattle.statement_machine.proofs.flows.hand_on.Goals as goal
 

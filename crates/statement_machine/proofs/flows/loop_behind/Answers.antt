@@ -1,4 +1,4 @@
-use Rattle.std.proofs.Common.{◌≡◌, ◌++◌, ap, ◌∙◌, sym, refl}
+use Rattle.std.proofs.Common.{refl}
 use Rattle.statement_machine.proofs.GiveLemmas.{loop_on, loop_left}
 use Rattle.statement_machine.proofs.flows.loop_behind.Goals as goal
 

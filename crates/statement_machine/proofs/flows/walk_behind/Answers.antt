@@ -1,4 +1,4 @@
-use Rattle.std.proofs.Common.{◌≡◌, ◌++◌, ap, ◌∙◌, sym, refl}
+use Rattle.std.proofs.Common.{refl}
 use Rattle.statement_machine.proofs.GiveLemmas.{walk_on, walk_left}
 use Rattle.statement_machine.proofs.flows.walk_behind.Goals as goal
 

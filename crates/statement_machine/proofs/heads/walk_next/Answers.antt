@@ -1,4 +1,4 @@
-use Rattle.std.proofs.Common.{◌≡◌, ◌++◌, ap, ◌∙◌, sym, refl}
+use Rattle.std.proofs.Common.{refl}
 use Rattle.statement_machine.proofs.HeadLemmas.{walk_ends, walk_goes}
 use Rattle.statement_machine.proofs.heads.walk_next.Goals as goal
 

@@ -1,4 +1,4 @@
-use Rattle.std.proofs.Common.{◌≡◌, ◌++◌, ap, ◌∙◌, sym, refl}
+use Rattle.std.proofs.Common.{ap, ◌∙◌, sym}
 use Rattle.plain_values.specs.Plain.{array}
 use Rattle.statement_machine.proofs.HeadLemmas.{over_none, over_ok}
 use Rattle.statement_machine.proofs.heads.walk_over.Goals as goal

@@ -1,4 +1,4 @@
-use Rattle.std.proofs.Common.{◌≡◌, ◌++◌, ap, ◌∙◌, sym, refl}
+use Rattle.std.proofs.Common.{◌++◌, ap, ◌∙◌, refl}
 use Rattle.php_syntax.specs.Trees.{plain_stmt}
 use Rattle.php_syntax.proofs.Views.{plain_stmt-Inline, plain_stmt-Echo, plain_stmt-Run, plain_stmt-If, plain_stmt-While, plain_stmt-DoWhile, plain_stmt-For, plain_stmt-Each, plain_stmt-Break, plain_stmt-Continue, plain_stmt-Return, plain_stmt-Include, plain_stmt-Quit}
 use Rattle.statement_machine.proofs.BeginLemmas.{begin_inline, begin_echo, begin_run, begin_if, begin_while, begin_do_while, begin_for, begin_each, begin_break, begin_continue, begin_return, begin_quit, begin_include}

@@ -1,4 +1,4 @@
-use Rattle.std.proofs.Common.{◌≡◌, ◌++◌, ap, ◌∙◌, sym, refl}
+use Rattle.std.proofs.Common.{◌++◌, ap, ◌∙◌, refl}
 use Rattle.statement_machine.proofs.GiveLemmas.{waits_as, give_echo, give_run, give_arm, give_arms, give_turn, give_test, give_before, give_each, give_return, give_quit}
 use Rattle.statement_machine.proofs.values.give.Goals as goal
 

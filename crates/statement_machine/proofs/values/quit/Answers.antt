@@ -1,4 +1,4 @@
-use Rattle.std.proofs.Common.{◌≡◌, ◌++◌, ap, ◌∙◌, sym, refl}
+use Rattle.std.proofs.Common.{◌++◌, ap, ◌∙◌}
 use Rattle.statement_machine.proofs.GiveLemmas.{quits_text, quits_other}
 use Rattle.statement_machine.proofs.values.quit.Goals as goal
 

@@ -1,8 +1,4 @@
-use Rattle.std.proofs.Common.{◌≡◌, ℕ, ◌<◌, ◌++◌, List, [], cond, sym, ◌∙◌, ap}
-use Rattle.fst_core.specs.Choices.{stops}
-use Rattle.fst_core.specs.declared.moves.TableEnd.{TableEnd}
-use Rattle.fst_core.specs.declared.moves.TableMove.{TableMove}
-use Rattle.string_ops.specs.Plans.{AddsTurn}
+use Rattle.std.proofs.Common.{◌∙◌}
 use Rattle.string_ops.proofs.PlanStates.{turns, moved_ends, moved_moves}
 use Rattle.string_ops.proofs.plan.add_state.Goals as goal
 

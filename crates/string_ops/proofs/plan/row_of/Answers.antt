@@ -1,6 +1,6 @@
-use Rattle.std.proofs.Common.{◌≡◌, ℕ, ◌<◌, ◌≤◌, List, Option, subst, arith}
+use Rattle.std.proofs.Common.{ℕ, List, Option, subst, arith}
 use Rattle.fst_core.specs.declared.out.Out.{Out}
-use Rattle.string_ops.specs.Plans.{Names, choice_in}
+use Rattle.string_ops.specs.Plans.{Names}
 use Rattle.string_ops.proofs.PlanRows.{row_more, row_all, choice_below}
 use Rattle.string_ops.proofs.plan.row_of.Goals as goal
 

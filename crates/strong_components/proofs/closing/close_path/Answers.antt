@@ -1,4 +1,4 @@
-use Rattle.std.proofs.Common.{◌≡◌, ◌<◌, ◌+◌, ◌≤◌, ◌++◌, ◌∷◌, [], ℕ, List, length, take, Some, slice_get, sym, subst, arith, length-append}
+use Rattle.std.proofs.Common.{◌<◌, length, arith}
 use Rattle.strong_components.proofs.CloseLemmas.{popped, closes_more}
 use Rattle.strong_components.proofs.closing.close_path.Goals as goal
 

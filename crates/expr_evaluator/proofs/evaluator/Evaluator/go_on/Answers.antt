@@ -1,5 +1,3 @@
-use Rattle.std.proofs.Common.{subst}
-use Rattle.expr_evaluator.specs.Moves.{Advances}
 use Rattle.expr_evaluator.proofs.LoopMoves.{comes_first, comes_on, comes_to, moved_on, moved_at}
 use Rattle.expr_evaluator.proofs.evaluator.Evaluator.go_on.Goals as goal
 
