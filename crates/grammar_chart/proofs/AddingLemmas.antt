@@ -1,18 +1,16 @@
 -- Adding begun productions.
-use Rattle.std.proofs.Common.{◌≡◌, ℕ, ◌+◌, ◌<◌, ◌≤◌, ◌⊎◌, ◌↔◌, inl, inr, zero, suc, List, [], ◌∷◌, ◌++◌, length, map, take, take_all, get_or, Contains, refl, sym, ◌∙◌, ap, subst, arith, Option, None, Some, slice_get}
+use Rattle.std.proofs.Common.{◌≡◌, ℕ, ◌+◌, ◌<◌, ◌≤◌, ◌⊎◌, ◌↔◌, inl, inr, zero, suc, List, [], ◌∷◌, ◌++◌, length, map, take, take_all, get_or, Contains, refl, sym, ◌∙◌, ap, subst, None, Some, slice_get}
 use Rattle.std.specs.List.{All}
 use Rattle.std.proofs.lemmas.List.{append_assoc, append-nil, map-append, take_more}
 use Rattle.std.proofs.lemmas.List.Elements.{Contains-append_left, Contains-append_right, Contains-append_cases, Contains-push_cases, Contains-push}
-use Rattle.std.proofs.lemmas.Option.{slice_get_within, get_or_from_slice_get}
+use Rattle.std.proofs.lemmas.Option.{get_or_from_slice_get}
 use Rattle.text_base.specs.declared.numbers.Nt as nt
 use Rattle.cfg_grammar.specs.declared.production.Production.{Production}
 use Rattle.numbered_sets.specs.Numbers.{Keeps}
-use Rattle.number_chains.specs.Chains.{AreChains}
-use Rattle.number_chains.proofs.ChainLemmas.{walk_next, walk_met, walk_end}
 use Rattle.grammar_chart.specs.declared.keys.Begun.{Begun}
 use Rattle.grammar_chart.specs.Rules.{begun_at}
 use Rattle.grammar_chart.specs.Kept.{lefts_of}
-use Rattle.grammar_chart.specs.Adding.{AddsPlaces, AddsTo}
+use Rattle.grammar_chart.specs.Adding.{AddsAsked}
 use Rattle.grammar_chart.proofs.MemberLemmas.{all_by, at_below, at_old, none_in, mapped_at, contains_map, keeps_more, different_none, different_push}
 pub use Rattle.grammar_chart.proofs.MemberLemmas.{contains_at, at_contains, contains_kept}
 
@@ -38,66 +36,42 @@ adds_all {A} {K} old new xs f e =
 pub map_push : {A K : Type 0} (f : A → K) (old : List K) (xs : List A) (a : A) → (old ++ map f xs) ++ f a ∷ [] ≡ old ++ map f (xs ++ a ∷ [])
 map_push {A} {K} f old xs a = append_assoc old (map f xs) (f a ∷ []) ∙ ap (λ (ys : List K). old ++ ys) (sym (map-append f xs (a ∷ [])))
 
--- those of a number, along its chain: of the places before that of the walk nothing is added yet
-pub adding_chain_none : {K : Type 0} (old : List K) (keys last before : List ℕ) (number place : ℕ) (f : ℕ → K) → AreChains keys last before → slice_get last number ≡ Some place → AddsTo old old keys number place f
-adding_chain_none {K} old keys last before number place f chains at =
+-- those of no places
+pub adds_none : {K : Type 0} (old : List K) (f : ℕ → K) (P : ℕ → Type 0) → ((k : ℕ) → P k → ⊥) → AddsAsked old old f P
+adds_none {K} old f P none =
     record {
-      so_many = length keys;
-      within = omega arith;
-      last = chains.ends number place at;
       places = [];
       different = different_none;
-      exactly = λ k. (
-        λ h. absurd (none_in [] k refl h),
-        λ h. absurd (let w = slice_get_within keys k number h.0 in omega (arith, w, h.1)),
-      );
+      exactly = λ k. (λ h. absurd (none_in [] k refl h), λ h. absurd (none k h));
       added = sym (append-nil old);
     }
 
-pub adding_chain_more : {K : Type 0} (old mid new : List K) (keys last before : List ℕ) (number place next : ℕ) (f : ℕ → K) → AreChains keys last before → slice_get before place ≡ Some next → AddsTo old mid keys number place f → new ≡ mid ++ f place ∷ [] → AddsTo old new keys number next f
-adding_chain_more {K} old mid new keys last before number place next f chains at was e =
-    let w = walk_next keys before was.so_many number place next chains.links was.last at in
+-- those of one place more
+pub adds_more : {K : Type 0} (old mid new : List K) (f : ℕ → K) (place : ℕ) (P R : ℕ → Type 0) → ((k : ℕ) → R k ↔ (P k ⊎ (k ≡ place))) → (P place → ⊥) → new ≡ mid ++ f place ∷ [] → AddsAsked old mid f P → AddsAsked old new f R
+adds_more {K} old mid new f place P R splits met e was =
     record {
-      so_many = place;
-      within = (let l = slice_get_within keys place number w.0 in omega (arith, l));
-      last = w.1;
       places = was.places ++ place ∷ [];
-      different = different_push was.places place was.different (λ c. below place ((was.exactly place).0 c).1 refl);
+      different = different_push was.places place was.different (λ c. met ((was.exactly place).0 c));
       exactly = λ k. (
-        λ h. elim (Contains-push_cases was.places place k h) [
-          | inl met ↦ let m = (was.exactly k).0 met in (m.0, later k m.1)
-          | inr here ↦ (subst (λ (n : ℕ). slice_get keys n ≡ Some number) here w.0, omega (arith, here))
-        ],
-        λ h. elim (walk_met keys was.so_many number place k was.last h.0 h.1) [
-          | inl met ↦ Contains-append_left was.places (place ∷ []) k ((was.exactly k).1 (h.0, met))
+        λ h. (splits k).1 (elim (Contains-push_cases was.places place k h) [
+          | inl c ↦ inl ((was.exactly k).0 c)
+          | inr here ↦ inr (sym here)
+        ]),
+        λ h. elim ((splits k).0 h) [
+          | inl p ↦ Contains-append_left was.places (place ∷ []) k ((was.exactly k).1 p)
           | inr here ↦ subst (λ (n : ℕ). Contains (was.places ++ place ∷ []) n) (sym here) (Contains-push was.places place)
         ],
       );
       added = e ∙ (ap (λ (ys : List K). ys ++ f place ∷ []) was.added ∙ map_push f old was.places place);
     }
-  where
-    -- the place of the walk stands before what was met
-    stands_before : place < was.so_many
-    stands_before = elim was.last.stands [
-      | inl none ↦ absurd (let l = slice_get_within before place next at in omega (arith, l, none, chains.links.long, chains.links.few))
-      | inr h ↦ h.0
-    ]
 
-    later : (k : ℕ) → was.so_many ≤ k → place ≤ k
-    later k met = omega (arith, met, stands_before)
-
-    below : (k : ℕ) → was.so_many ≤ k → k ≡ place → ⊥
-    below k met same = omega (arith, met, same, stands_before)
-
-pub adding_chain_all : {K : Type 0} (old new : List K) (keys last before : List ℕ) (number place : ℕ) (f : ℕ → K) → AreChains keys last before → slice_get before place ≡ None → AddsTo old new keys number place f → AddsPlaces old new keys number f
-adding_chain_all old new keys last before number place f chains none was =
+-- those of the same places
+pub adds_same : {K : Type 0} (old new : List K) (f : ℕ → K) (P R : ℕ → Type 0) → ((k : ℕ) → P k ↔ R k) → AddsAsked old new f P → AddsAsked old new f R
+adds_same old new f P R same was =
     record {
       places = was.places;
       different = was.different;
-      exactly = λ k. (
-        λ h. ((was.exactly k).0 h).0,
-        λ stands. (was.exactly k).1 (stands, walk_end keys before was.so_many number place k chains.links was.within was.last none stands),
-      );
+      exactly = λ k. (λ h. (same k).0 ((was.exactly k).0 h), λ h. (was.exactly k).1 ((same k).1 h));
       added = was.added;
     }
 

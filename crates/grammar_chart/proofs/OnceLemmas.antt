@@ -1,5 +1,5 @@
 -- No begun production arises twice.
-use Rattle.std.proofs.Common.{◌≡◌, ℕ, ◌+◌, ◌<◌, ◌≤◌, ◌⊎◌, inl, inr, List, ◌++◌, length, map, Contains, refl, sym, ◌∙◌, ap, subst, arith, Option, None, Some, slice_get}
+use Rattle.std.proofs.Common.{◌≡◌, ℕ, ◌+◌, ◌≤◌, ◌⊎◌, inl, inr, List, ◌++◌, length, map, Contains, refl, sym, ◌∙◌, ap, subst, arith, Option, None, Some, slice_get}
 use Rattle.smallvec.specs.SmallVec.{SmallVec}
 use Rattle.std.proofs.lemmas.Option.{slice_get_within}
 use Rattle.text_base.specs.declared.numbers.Nt as nt
@@ -21,7 +21,7 @@ use Rattle.grammar_chart.specs.Visits.{VisitsGrow, AddsWaiting, AddsExit}
 use Rattle.grammar_chart.specs.Adding.{AddsPlaces}
 use Rattle.grammar_chart.specs.Kept.{lefts_of}
 use Rattle.grammar_chart.specs.Charts.{IsOfEntry, IsOfExit, AriseOnce, IsChart}
-use Rattle.grammar_chart.proofs.MemberLemmas.{contains_at, none_in, at_below, different_none, different_more}
+use Rattle.grammar_chart.proofs.MemberLemmas.{none_in, at_below, different_none, different_more}
 use Rattle.grammar_chart.proofs.AddingLemmas.{adds_all, at_lefts, begun_is}
 use Rattle.grammar_chart.proofs.VisitLemmas.{VisitsKept, visits_waiting, visits_exits, visits_same, visits_grown, grow_none, waiting_members, exit_members, put_different, old_entry}
 use Rattle.grammar_chart.proofs.ChartLemmas.{some_same}

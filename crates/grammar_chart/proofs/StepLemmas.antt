@@ -1,9 +1,9 @@
 -- Each step on a chart keeps what a chart keeps.
-use Rattle.std.proofs.Common.{◌≡◌, ℕ, ◌+◌, ◌<◌, ◌≤◌, ◌⊎◌, ◌↔◌, inl, inr, zero, suc, List, [], ◌∷◌, length, Contains, refl, sym, ◌∙◌, ap, subst, arith, Option, None, Some, slice_get}
+use Rattle.std.proofs.Common.{◌≡◌, ℕ, ◌+◌, ◌<◌, ◌≤◌, ◌⊎◌, ◌↔◌, inl, inr, List, length, Contains, refl, sym, ◌∙◌, ap, subst, arith, Option, None, Some, slice_get}
 use Rattle.std.specs.Option.{MatchOption}
 use Rattle.smallvec.specs.SmallVec.{SmallVec}
 use Rattle.std.proofs.lemmas.List.Elements.{All-contains}
-use Rattle.std.proofs.lemmas.Option.{slice_get_within, get_or_from_slice_get}
+use Rattle.std.proofs.lemmas.Option.{slice_get_within}
 use Rattle.std.proofs.lemmas.Bool.{cases_eq}
 use Rattle.text_base.specs.declared.numbers.Nt as nt
 use Rattle.cfg_grammar.specs.declared.symbol.Symbol.{Symbol}
@@ -17,7 +17,7 @@ use Rattle.grammar_chart.specs.declared.keys.Passage.{Passage}
 use Rattle.grammar_chart.specs.declared.keys.Reading.{Reading}
 use Rattle.grammar_chart.specs.declared.steps.Visit.{Visit}
 use Rattle.grammar_chart.specs.Rules.{awaited_of, passage_of, read_on, begun_at, ReadingStep}
-use Rattle.grammar_chart.specs.Visits.{VisitsGrow, AddsWaiting, AddsExit, AreWithin}
+use Rattle.grammar_chart.specs.Visits.{AreWithin}
 use Rattle.grammar_chart.specs.Adding.{AddsPlaces}
 use Rattle.grammar_chart.specs.Kept.{lefts_of}
 use Rattle.grammar_chart.specs.Charts.{IsBegun, IsEntered, IsPassage, IsSound, IsVisited, WaitsAt, IsTakenUp, IsExit, IsOpened, OfFirst, Awaits, Leaves, IsChart, Finishes}

@@ -1,9 +1,9 @@
--- Chains as they grow, and a walk along one.
-use Rattle.std.proofs.Common.{◌≡◌, ◌∙◌, ◌<◌, ◌≤◌, ◌+◌, ◌⊎◌, ℕ, inl, inr, zero, suc, List, [], ◌∷◌, ◌++◌, length, length-append, set, get_or, refl, sym, ap, subst, arith, Some, None, slice_get}
+-- Chains as they grow.
+use Rattle.std.proofs.Common.{◌≡◌, ◌∙◌, ◌<◌, ◌≤◌, ◌+◌, ◌⊎◌, ℕ, inl, inr, zero, suc, List, [], ◌∷◌, ◌++◌, length, length-append, set, get_or, refl, sym, ap, subst, arith, Some, slice_get}
 use Rattle.std.specs.List.{All}
 use Rattle.std.proofs.lemmas.Bool.{cases_eq, cases_lt}
 use Rattle.std.proofs.lemmas.List.Elements.{All-contains}
-use Rattle.std.proofs.lemmas.Option.{slice_get_within, slice_get-get_or, get_or_from_slice_get, same_Some, none-some}
+use Rattle.std.proofs.lemmas.Option.{slice_get_within, slice_get-get_or, get_or_from_slice_get, same_Some}
 use Rattle.numbered_sets.proofs.NumberLemmas.{at_front}
 use Rattle.numbered_sets.proofs.PlaceLemmas.{slice_get-set_other, slice_get-set_same}
 use Rattle.number_chains.specs.Chains.{no_place, IsLast, AreBefore, AreLast, AreChains, Falls}
@@ -127,48 +127,13 @@ chains_wider keys last before below was =
 pub all_below : (keys : List ℕ) (n m : ℕ) → n ≤ m → All (λ k. k < n) keys → All (λ k. k < m) keys
 all_below keys n m within all k d l = let h = all k d l in omega (arith, h, within)
 
--- A walk along the chain of a number, from its last place on: the places that were met are those from one on.
-module _ (keys : List ℕ) where
-  -- the number stands where the walk is, and the one before it comes next
-  pub walk_next : (before : List ℕ) (so_many number place next : ℕ) → AreBefore keys before → IsLast keys so_many number place → slice_get before place ≡ Some next → (slice_get keys place ≡ Some number) × IsLast keys place number next
-  walk_next before so_many number place next links is at =
-      let w = slice_get_within before place next at in
-      let stands : slice_get keys place ≡ Some number = elim is.stands [ inl none ↦ absurd (omega (arith, none, w, links.long, links.few)) | inr h ↦ h.1 ] in
-      (stands, links.each place number next stands at)
-
-  -- each place of the number from there on was met, or is that place
-  pub walk_met : (so_many number place k : ℕ) → IsLast keys so_many number place → slice_get keys k ≡ Some number → place ≤ k → (so_many ≤ k) ⊎ (k ≡ place)
-  walk_met so_many number place k is stands from =
-      elim (cases_lt k so_many) [
-        | inl below ↦ let l = is.last k below stands in inr (omega (arith, l.0, from))
-        | inr above ↦ inl above
-      ]
-
-  -- where the walk is at no place of the list, all were met
-  pub walk_end : (before : List ℕ) (so_many number place k : ℕ) → AreBefore keys before → so_many ≤ length keys → IsLast keys so_many number place → slice_get before place ≡ None → slice_get keys k ≡ Some number → so_many ≤ k
-  walk_end before so_many number place k links within is none stands =
-      elim (cases_lt k so_many) [
-        | inl below ↦
-            let l = is.last k below stands in
-            absurd (elim is.stands [
-              | inl at ↦ l.1 at
-              | inr h ↦
-                  let e : None ≡ Some (get_or before place 0) = sym none ∙ slice_get-get_or before place 0 (omega (arith, h.0, within, links.long)) in
-                  none-some (get_or before place 0) e
-            ])
-        | inr above ↦ above
-      ]
-
-  -- the walk comes to an end, since places fall
-  walk_falls : (before : List ℕ) (place next : ℕ) → AreBefore keys before → slice_get before place ≡ Some next → next < length before → next < place
-  walk_falls before place next links at below =
-      let w = slice_get_within before place next at in
-      let stands = slice_get-get_or keys place 0 (omega (arith, w, links.long)) in
-      elim (links.each place (get_or keys place 0) next stands at).stands [
-        | inl none ↦ absurd (omega (arith, none, below, links.long, links.few))
-        | inr h ↦ h.0
-      ]
-
--- the places of chains fall
+-- the places of chains fall, so a walk comes to an end
 pub chains_fall : (keys last before : List ℕ) → AreChains keys last before → Falls before
-chains_fall keys last before chains place next at below = walk_falls keys before place next chains.links at below
+chains_fall keys last before chains place next at below =
+    let links = chains.links in
+    let w = slice_get_within before place next at in
+    let stands = slice_get-get_or keys place 0 (omega (arith, w, links.long)) in
+    elim (links.each place (get_or keys place 0) next stands at).stands [
+      | inl none ↦ absurd (omega (arith, none, below, links.long, links.few))
+      | inr h ↦ h.0
+    ]

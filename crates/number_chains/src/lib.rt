@@ -56,6 +56,7 @@ impl Chains {
             → AreChains keys self.old.last.items self.old.before.items
             → AreChains keys self.new.last.items self.new.before.items) }
     {
+        self.last.reserve(count as usize)?;
         for _ in 0..count {
             self.add()?;
         }
@@ -103,6 +104,7 @@ pub fn chains_of(alloc: Global, count: u64, keys: &[u64]) -> Result<Chains, NoMe
 {
     let mut chains = Chains::new(alloc);
     chains.widen(count)?;
+    chains.before.reserve(keys.len())?;
     for key in keys {
         chains.push(*key)?;
     }

@@ -20,7 +20,6 @@ use Rattle.derivations.specs.declared.node.Part.TheVariants as part
 use Rattle.numbered_sets.specs.Numbers.{Keeps}
 use Rattle.number_chains.specs.Chains.{AreChains}
 use Rattle.number_chains.specs.declared.Chains.{Chains}
-use Rattle.number_chains.proofs.ChainLemmas.{walk_next, walk_met, walk_end}
 use Rattle.useful_nonterminals.specs.Rules.{number_in}
 use Rattle.summary_fixpoint.specs.declared.joint.Side.{Side}
 use Rattle.summary_fixpoint.specs.declared.joint.Side.TheVariants.{First, Second}
@@ -37,7 +36,7 @@ use Rattle.summary_fixpoint.proofs.TakenLemmas.{first_kept, first_more}
 use Rattle.summary_fixpoint.proofs.AddLemmas.{passes_at}
 use Rattle.summary_fixpoint.proofs.MadeLemmas.{derives_of}
 use Rattle.summary_fixpoint.proofs.JointLemmas.{goes_none, goes_both}
-use Rattle.summary_decision.specs.Taking.{GivesTo, AreUp, Takes}
+use Rattle.summary_decision.specs.Taking.{AreUp, Takes}
 
 -- nonterminals that derive something are below the count
 left_below : (ps : List Production) (count : ℕ) → AreBelow count ps → (left : nt.Nt) (r : Right) → Contains ps (record { left = left; right = r }) → (a : ℕ) → number_in (Nt left) ≡ Some a → a < count
@@ -184,7 +183,7 @@ module _ {S : Type 0} (sum_of : List PageToken → S) (composed : S → S → S)
         by_side First left f = f
         by_side Second left f = f
 
-    gives_more : (P Q R : ℕ → Type 0) (old mid new : Table S) (side : Side) (s : S) (n : ℕ) → ((k : ℕ) → R k → P k ⊎ Q k) → Gives sum_of composed whole ps start count old mid side s n P → Gives sum_of composed whole ps start count mid new side s n Q → Gives sum_of composed whole ps start count old new side s n R
+    pub gives_more : (P Q R : ℕ → Type 0) (old mid new : Table S) (side : Side) (s : S) (n : ℕ) → ((k : ℕ) → R k → P k ⊎ Q k) → Gives sum_of composed whole ps start count old mid side s n P → Gives sum_of composed whole ps start count mid new side s n Q → Gives sum_of composed whole ps start count old new side s n R
     gives_more P Q R old mid new side s n splits p q =
         record {
           goes = goes_both sum_of composed whole ps start count old mid new p.goes q.goes;
@@ -194,55 +193,27 @@ module _ {S : Type 0} (sum_of : List PageToken → S) (composed : S → S → S)
           ];
         }
 
-    -- a walk along the chain of the nonterminal
-    module _ (side : Side) (s : S) (n a : ℕ) (uses : Chains) (are : AreUses side ps start count uses) where
-      pub walk_begun : (t : Table S) (place : ℕ) → IsTable sum_of composed whole ps start count t → slice_get uses.last.items a ≡ Some place → GivesTo sum_of composed whole ps start count t t side s n are.keys a place
-      walk_begun t place table at =
-          record {
-            so_many = length are.keys;
-            within = omega arith;
-            last = are.chains.ends a place at;
-            gives = record {
-              goes = goes_none sum_of composed whole ps start count t table;
-              given = λ k p asked here. absurd (let w = slice_get_within are.keys k a asked.0 in omega (arith, w, asked.1));
-            };
-          }
+    -- of a walk along the chain of the nonterminal, nothing is given at first
+    pub gives_none : (t : Table S) (side : Side) (s : S) (n : ℕ) (P : ℕ → Type 0) → IsTable sum_of composed whole ps start count t → ((k : ℕ) → P k → ⊥) → Gives sum_of composed whole ps start count t t side s n P
+    gives_none t side s n P table none = record { goes = goes_none sum_of composed whole ps start count t table; given = λ k p asked at. absurd (none k asked) }
 
-      pub walk_further : (old mid new : Table S) (place next : ℕ) → slice_get uses.before.items place ≡ Some next → GivesTo sum_of composed whole ps start count old mid side s n are.keys a place → Gives sum_of composed whole ps start count mid new side s n (λ (k : ℕ). k ≡ place) → GivesTo sum_of composed whole ps start count old new side s n are.keys a next
-      walk_further old mid new place next at done one =
-          let w = walk_next are.keys uses.before.items done.so_many a place next are.chains.links done.last at in
-          record {
-            so_many = place;
-            within = (let l = slice_get_within are.keys place a w.0 in omega (arith, l));
-            last = w.1;
-            gives = gives_more (λ (k : ℕ). (slice_get are.keys k ≡ Some a) × (done.so_many ≤ k)) (λ (k : ℕ). k ≡ place) (λ (k : ℕ). (slice_get are.keys k ≡ Some a) × (place ≤ k)) old mid new side s n
-                (λ k asked. elim (walk_met are.keys done.so_many a place k done.last asked.0 asked.1) [ inl h ↦ inl (asked.0, h) | inr h ↦ inr h ]) done.gives one;
-          }
+    -- what is given at places is given at fewer
+    pub gives_fewer : (old new : Table S) (side : Side) (s : S) (n : ℕ) (P R : ℕ → Type 0) → ((k : ℕ) → R k → P k) → Gives sum_of composed whole ps start count old new side s n P → Gives sum_of composed whole ps start count old new side s n R
+    gives_fewer old new side s n P R weaker gives = record { goes = gives.goes; given = λ k p asked at. gives.given k p (weaker k asked) at }
 
-      -- where the walk is at an end, all is given at the productions in which the nonterminal stands
-      pub walk_ended : (old new : Table S) (place : ℕ) → a < count → slice_get uses.before.items place ≡ None → GivesTo sum_of composed whole ps start count old new side s n are.keys a place → Gives sum_of composed whole ps start count old new side s n (λ (k : ℕ). StandsOn side ps start a k)
-      walk_ended old new place below none done =
-          record {
-            goes = done.gives.goes;
-            given = λ k p asked at.
-                let stands : slice_get are.keys k ≡ Some a = (are.exact a k below).1 asked in
-                done.gives.given k p (stands, walk_end are.keys uses.before.items done.so_many a place k are.chains.links done.within done.last none stands) at;
-          }
-
-      -- at a place that the walk comes to, the pair stands on the side
-      pub walk_at : (old mid : Table S) (pair place next : ℕ) → a < count → slice_get (known old) pair ≡ Some (a, s) → pair < old.bound → slice_get uses.before.items place ≡ Some next → GivesTo sum_of composed whole ps start count old mid side s n are.keys a place → IsAt sum_of composed whole ps start mid (record { place = place; side = side; pair = pair }) s
-      walk_at old mid pair place next below here within at done =
-          let w = walk_next are.keys uses.before.items done.so_many a place next are.chains.links done.last at in
-          let h = (are.exact a place below).0 w.0 in
-          record {
-            production = h.0;
-            at = h.1;
-            useful = h.2;
-            nonterminal = record { 0 = a };
-            number = h.3;
-            pair = done.gives.goes.keeps pair (a, s) here;
-            within = omega (arith, within, done.gives.goes.bound);
-          }
+    -- at a place of its chain, the pair stands on the side
+    pub stands_at : (side : Side) (s : S) (a : ℕ) (uses : Chains) (are : AreUses side ps start count uses) (old mid : Table S) (pair place : ℕ) → a < count → slice_get (known old) pair ≡ Some (a, s) → pair < old.bound → slice_get are.keys place ≡ Some a → GoesOn sum_of composed whole ps start count old mid → IsAt sum_of composed whole ps start mid (record { place = place; side = side; pair = pair }) s
+    stands_at side s a uses are old mid pair place below here within stands goes =
+        let h = (are.exact a place below).0 stands in
+        record {
+          production = h.0;
+          at = h.1;
+          useful = h.2;
+          nonterminal = record { 0 = a };
+          number = h.3;
+          pair = goes.keeps pair (a, s) here;
+          within = omega (arith, within, goes.bound);
+        }
 
     pub taken_on : (old new : Table S) (taken : Taken) → taken_count taken ≤ length (known old) → GoesOn sum_of composed whole ps start count old new → AreTaken (known old) taken → AreTaken (known new) taken
     taken_on old new taken l goes h =

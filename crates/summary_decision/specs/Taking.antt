@@ -1,25 +1,16 @@
 -- Taking up a pair.
-use Rattle.std.specs.Prelude.{◌≡◌, ◌+◌, ◌≤◌, ℕ, Bool, List, length, Some, slice_get}
+use Rattle.std.specs.Prelude.{◌≡◌, ◌+◌, ◌≤◌, ℕ, Bool, List, length}
 use Rattle.text_base.specs.declared.page_token.PageToken.{PageToken}
 use Rattle.text_base.specs.declared.numbers.Nt as nt
 use Rattle.cfg_grammar.specs.declared.production.Production.{Production}
-use Rattle.number_chains.specs.Chains.{IsLast}
-use Rattle.summary_fixpoint.specs.declared.joint.Side.{Side}
 use Rattle.summary_fixpoint.specs.declared.table.Table.{Table}
 use Rattle.summary_fixpoint.specs.declared.table.Taken.{Taken}
 use Rattle.summary_fixpoint.specs.Closed.{IsClosed}
 use Rattle.summary_fixpoint.specs.Tables.{known, IsTable, GoesOn}
-use Rattle.summary_fixpoint.specs.Joints.{taken_count, AreTaken, Gives}
+use Rattle.summary_fixpoint.specs.Joints.{taken_count, AreTaken}
 
 module _ {S : Type 0} (sum_of : List PageToken → S) (composed : S → S → S) (whole : S → Bool) (productions : List Production)
     (start : nt.Nt) where
-  -- a walk along the chain of a nonterminal has come to a place: what the pair gives at its productions from so many on is there
-  pub record GivesTo (count : ℕ) (old new : Table S) (side : Side) (s : S) (n : ℕ) (keys : List ℕ) (a place : ℕ) : Type 0 where
-    pub so_many : ℕ
-    pub within : so_many ≤ length keys
-    pub last : IsLast keys so_many a place
-    pub gives : Gives sum_of composed whole productions start count old new side s n (λ k. (slice_get keys k ≡ Some a) × (so_many ≤ k))
-
   -- the first pairs are taken up
   pub record AreUp (count : ℕ) (t : Table S) (taken : Taken) : Type 0 where
     pub table : IsTable sum_of composed whole productions start count t

@@ -1,10 +1,10 @@
 -- A pair that meets others.
-use Rattle.std.proofs.Common.{◌≡◌, ℕ, ◌<◌, ◌≤◌, ◌⊎◌, inl, inr, Bool, true, List, [], ◌∷◌, length, Contains, refl, sym, ◌∙◌, ap, subst, arith, None, Some, slice_get, Result, Ok, Err, OnOk}
+use Rattle.std.proofs.Common.{◌≡◌, ℕ, ◌<◌, ◌≤◌, ◌⊎◌, inl, inr, Bool, true, List, [], ◌∷◌, Contains, refl, sym, ◌∙◌, ap, subst, arith, Some, slice_get, Result, Ok, Err, OnOk}
 use Rattle.std.specs.Prelude.{nat_lt}
 use Rattle.std.specs.List.{list_all}
 use Rattle.std.specs.Cmp.{first_so, second_so}
 use Rattle.std.proofs.lemmas.Bool.{ltb-true}
-use Rattle.std.proofs.lemmas.Option.{same_Some, slice_get_within}
+use Rattle.std.proofs.lemmas.Option.{same_Some}
 use Rattle.text_base.specs.declared.letter.Letter.TheVariants.{OfByte, OfToken}
 use Rattle.text_base.specs.declared.page_token.PageToken.{PageToken}
 use Rattle.text_base.specs.declared.numbers.Nt as nt
@@ -19,18 +19,15 @@ use Rattle.derivations.specs.declared.node.Part.{Part}
 use Rattle.derivations.specs.declared.node.Part.TheVariants as part
 use Rattle.derivations.specs.declared.node.Node.{Node}
 use Rattle.derivations.specs.Stands.{Stands}
-use Rattle.number_chains.specs.Chains.{AreChains}
-use Rattle.number_chains.proofs.ChainLemmas.{walk_next, walk_met, walk_end}
 use Rattle.summary_fixpoint.specs.declared.joint.Side.{Side}
 use Rattle.summary_fixpoint.specs.declared.joint.Side.TheVariants.{First, Second}
 use Rattle.summary_fixpoint.specs.declared.joint.Joint.{Joint}
 use Rattle.summary_fixpoint.specs.declared.letters.Piece.{Piece}
 use Rattle.summary_fixpoint.specs.declared.table.Table.{Table}
 use Rattle.summary_fixpoint.specs.declared.table.Join.{Join}
-use Rattle.summary_fixpoint.specs.declared.table.Taken.{Taken}
 use Rattle.summary_fixpoint.specs.Closed.{Pair, HasSum}
 use Rattle.summary_fixpoint.specs.Tables.{known, Supports, Makes, MakesAt, IsTable, GoesOn, Adds}
-use Rattle.summary_fixpoint.specs.Joints.{right_by, parts_by, composed_by, join_by, IsLetterOf, AreTaken, first_nonterminals, taken_count, IsBeside, IsPartner, MeetsPairs, MeetsTo, MeetsSymbol}
+use Rattle.summary_fixpoint.specs.Joints.{right_by, parts_by, composed_by, join_by, IsLetterOf, first_nonterminals, IsBeside, IsPartner, MeetsPairs, MeetsSymbol}
 use Rattle.summary_fixpoint.proofs.KnownLemmas.{keeps_member}
 use Rattle.summary_fixpoint.proofs.TakenLemmas.{key_told, told_key}
 use Rattle.summary_fixpoint.proofs.AddLemmas.{passes_at}
@@ -132,7 +129,7 @@ module _ {S : Type 0} (sum_of : List PageToken → S) (composed : S → S → S)
               subst (λ (x : Pair S). Contains (known new) (p.left.0, composed_by composed joint.side s x.1)) one (adds.has p here);
         }
 
-    meets_more : (P Q R : ℕ → Type 0) (old mid new : Table S) (joint : Joint) (s : S) (c : ℕ) → ((j : ℕ) → R j → P j ⊎ Q j) → MeetsPairs sum_of composed whole ps start count old mid joint s c P → MeetsPairs sum_of composed whole ps start count mid new joint s c Q → MeetsPairs sum_of composed whole ps start count old new joint s c R
+    pub meets_more : (P Q R : ℕ → Type 0) (old mid new : Table S) (joint : Joint) (s : S) (c : ℕ) → ((j : ℕ) → R j → P j ⊎ Q j) → MeetsPairs sum_of composed whole ps start count old mid joint s c P → MeetsPairs sum_of composed whole ps start count mid new joint s c Q → MeetsPairs sum_of composed whole ps start count old new joint s c R
     meets_more P Q R old mid new joint s c splits p q =
         record {
           goes = goes_both old mid new p.goes q.goes;
@@ -142,46 +139,18 @@ module _ {S : Type 0} (sum_of : List PageToken → S) (composed : S → S → S)
           ];
         }
 
-    -- a walk along the chain of the nonterminal
-    module _ (keys last before : List ℕ) (c : ℕ) (chains : AreChains keys last before) where
-      pub walk_begun : (t : Table S) (joint : Joint) (s : S) (place : ℕ) → IsTable sum_of composed whole ps start count t → slice_get last c ≡ Some place → MeetsTo sum_of composed whole ps start count t t joint s keys c place
-      walk_begun t joint s place table at =
-          record {
-            so_many = length keys;
-            within = omega arith;
-            last = chains.ends c place at;
-            meets = record { goes = goes_none t table; met = λ j u p asked found here. absurd (let w = slice_get_within keys j c asked.0 in omega (arith, w, asked.1)) };
-          }
+    -- of a walk along the chain of the nonterminal, no pair is met at first
+    pub meets_none : (t : Table S) (joint : Joint) (s : S) (c : ℕ) (P : ℕ → Type 0) → IsTable sum_of composed whole ps start count t → ((j : ℕ) → P j → ⊥) → MeetsPairs sum_of composed whole ps start count t t joint s c P
+    meets_none t joint s c P table none = record { goes = goes_none t table; met = λ j u p asked found here. absurd (none j asked) }
 
-      pub walk_further : (old mid new : Table S) (joint : Joint) (s : S) (place next : ℕ) → slice_get before place ≡ Some next → MeetsTo sum_of composed whole ps start count old mid joint s keys c place → MeetsPairs sum_of composed whole ps start count mid new joint s c (λ (j : ℕ). j ≡ place) → MeetsTo sum_of composed whole ps start count old new joint s keys c next
-      walk_further old mid new joint s place next at done one =
-          let w = walk_next keys before done.so_many c place next chains.links done.last at in
-          record {
-            so_many = place;
-            within = (let l = slice_get_within keys place c w.0 in omega (arith, l));
-            last = w.1;
-            meets = meets_more (λ (j : ℕ). (slice_get keys j ≡ Some c) × (done.so_many ≤ j)) (λ (j : ℕ). j ≡ place) (λ (j : ℕ). (slice_get keys j ≡ Some c) × (place ≤ j)) old mid new joint s c
-                (λ j asked. elim (walk_met keys done.so_many c place j done.last asked.0 asked.1) [ inl h ↦ inl (asked.0, h) | inr h ↦ inr h ]) done.meets one;
-          }
+    -- where all pairs of the nonterminal that are taken up are met, the symbol is
+    pub meets_all : (old new : Table S) (joint : Joint) (s : S) (c : nt.Nt) (n : ℕ) (P : ℕ → Type 0) → ((j : ℕ) → slice_get (first_nonterminals (known old) n) j ≡ Some c.0 → P j) → MeetsPairs sum_of composed whole ps start count old new joint s c.0 P → MeetsSymbol sum_of composed whole ps start count old new joint s n (Nt c)
+    meets_all old new joint s c n P all meets =
+        record { goes = meets.goes; met = λ u p has here. meets.met has.0 u p (all has.0 (told_key (known old) n has.0 c.0 u has.1 has.2)) has.2 here }
 
-    -- where the walk is at an end, all pairs of the nonterminal that are taken up are met
-    pub walk_ended : (old new : Table S) (joint : Joint) (s : S) (c : nt.Nt) (taken : Taken) (place : ℕ) → AreTaken (known old) taken → slice_get taken.chains.before.items place ≡ None → MeetsTo sum_of composed whole ps start count old new joint s (first_nonterminals (known old) (taken_count taken)) c.0 place → MeetsSymbol sum_of composed whole ps start count old new joint s (taken_count taken) (Nt c)
-    walk_ended old new joint s c taken place chains none done =
-        let keys = first_nonterminals (known old) (taken_count taken) in
-        record {
-          goes = done.meets.goes;
-          met = λ u p has here.
-              let stands : slice_get keys has.0 ≡ Some c.0 = told_key (known old) (taken_count taken) has.0 c.0 u has.1 has.2 in
-              done.meets.met has.0 u p (stands, walk_end keys taken.chains.before.items done.so_many c.0 place has.0 chains.links done.within done.last none stands) has.2 here;
-        }
-
-    -- a place that the walk comes to has a pair of the nonterminal
-    pub walk_partner : (old mid : Table S) (joint : Joint) (s : S) (c : ℕ) (taken : Taken) (place next : ℕ) → AreTaken (known old) taken → taken_count taken ≤ old.bound → slice_get taken.chains.before.items place ≡ Some next → MeetsTo sum_of composed whole ps start count old mid joint s (first_nonterminals (known old) (taken_count taken)) c place → IsPartner sum_of composed whole ps start mid c place
-    walk_partner old mid joint s c taken place next chains within at done =
-        let keys = first_nonterminals (known old) (taken_count taken) in
-        let w = walk_next keys taken.chains.before.items done.so_many c place next chains.links done.last at in
-        let k = key_told (known old) (taken_count taken) place c w.0 in
-        partner_on old mid c place done.meets.goes (omega (arith, k.0, within), k.1)
+    -- a place at which the nonterminal stands among those of the pairs that are taken up has a pair of it
+    pub stands_partner : (old mid : Table S) (c n place : ℕ) → n ≤ old.bound → slice_get (first_nonterminals (known old) n) place ≡ Some c → GoesOn sum_of composed whole ps start count old mid → IsPartner sum_of composed whole ps start mid c place
+    stands_partner old mid c n place within stands goes = let k = key_told (known old) n place c stands in partner_on old mid c place goes (omega (arith, k.0, within), k.1)
 
     -- the letter
     pub meets_letter : {E : Type 0} (r : Result (Unit {0}) E) (old new : Table S) (joint : Joint) (s : S) (b : Symbol) (piece : Piece S) → IsLetterOf sum_of b (Some piece) → OnOk r (Adds sum_of composed whole ps start count old new joint.place (composed_by composed joint.side s piece.sum)) → OnOk r ((n : ℕ) → MeetsSymbol sum_of composed whole ps start count old new joint s n b)

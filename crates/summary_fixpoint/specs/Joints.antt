@@ -7,7 +7,7 @@ use Rattle.cfg_grammar.specs.declared.symbol.Symbol.TheVariants.{Range, Token, N
 use Rattle.cfg_grammar.specs.declared.production.Right.{Right}
 use Rattle.cfg_grammar.specs.declared.production.Right.TheVariants.{Empty, One, Two}
 use Rattle.cfg_grammar.specs.declared.production.Production.{Production}
-use Rattle.number_chains.specs.Chains.{IsLast, AreChains}
+use Rattle.number_chains.specs.Chains.{AreChains}
 use Rattle.number_chains.specs.declared.Chains.{Chains}
 use Rattle.derivations.specs.declared.node.Part.{Part}
 use Rattle.derivations.specs.declared.node.Part.TheVariants as part
@@ -123,13 +123,6 @@ module _ {S : Type 0} (sum_of : List PageToken → S) (composed : S → S → S)
     pub goes : GoesOn sum_of composed whole productions start count old new
     pub met : (j : ℕ) (u : S) (p : Production) → Asked j → slice_get (known old) j ≡ Some (c, u)
         → slice_get productions joint.place ≡ Some p → Contains (known new) (p.left.0, composed_by composed joint.side s u)
-
-  -- a walk along the chain of a nonterminal has come to a place: the compositions with its pairs from so many on are there
-  pub record MeetsTo (count : ℕ) (old new : Table S) (joint : Joint) (s : S) (keys : List ℕ) (c place : ℕ) : Type 0 where
-    pub so_many : ℕ
-    pub within : so_many ≤ length keys
-    pub last : IsLast keys so_many c place
-    pub meets : MeetsPairs count old new joint s c (λ j. (slice_get keys j ≡ Some c) × (so_many ≤ j))
 
   -- the compositions with each sum of the symbol are there, as far as its pairs are among the first so many
   pub record MeetsSymbol (count : ℕ) (old new : Table S) (joint : Joint) (s : S) (n : ℕ) (b : Symbol) : Type 0 where

@@ -6,13 +6,11 @@ use Rattle.std.proofs.lemmas.List.Elements.{Contains-push_cases, Contains-append
 use Rattle.std.proofs.lemmas.Option.{slice_get-get_or, slice_get_within, get_or_from_slice_get, slice_get-map, same_Some, slice_get_read, none-some}
 use Rattle.std.proofs.lemmas.Bool.{cases_eq, cases_lt}
 use Rattle.numbered_sets.specs.Numbers.{Keeps, AddsOnly}
-use Rattle.number_chains.specs.Chains.{AreChains}
-use Rattle.number_chains.proofs.ChainLemmas.{walk_next, walk_met, walk_end}
 use Rattle.numbered_sets.proofs.NumberLemmas.{at_front}
 use Rattle.numbered_sets.proofs.PlaceLemmas.{slice_get-set_other, slice_get-set_same}
 use Rattle.useful_nonterminals.specs.declared.rule.Rule.{Rule}
 use Rattle.useful_nonterminals.specs.Follows.{Follows, IsRuleBelow, IsMarked}
-use Rattle.useful_nonterminals.specs.Work.{IsNoted, Concludes, IsAmong, IsWork, AreDrawnTo}
+use Rattle.useful_nonterminals.specs.Work.{IsNoted, Concludes, IsAmong, IsWork}
 
 -- a member has a place, and the reverse
 pub placed : {X : Type 0} (xs : List X) (x : X) → Contains xs x → (n : ℕ) × (slice_get xs n ≡ Some x)
@@ -111,34 +109,6 @@ module _ (rules : List Rule) where
   pub concludes_fewer : (P R : ℕ → Type 0) (marks after : List Bool) (order more : List ℕ) → ((k : ℕ) → R k → P k) → Concludes rules P marks order after more → Concludes rules R marks order after more
   concludes_fewer P R marks after order more weaker p =
       record { long = p.long; noted = p.noted; keeps = p.keeps; sound = p.sound; drawn = λ place rule asked at a b. p.drawn place rule (weaker place asked) at a b }
-
--- a walk along the chain of a number
-module _ (rules : List Rule) (keys : List ℕ) where
-  pub drawn_none : (last before : List ℕ) (n place : ℕ) (marks : List Bool) (order : List ℕ) → IsNoted marks order → AreChains keys last before → slice_get last n ≡ Some place → AreDrawnTo rules keys n place marks order marks order
-  drawn_none last before n place marks order noted chains at = record {
-    so_many = length keys;
-    within = omega arith;
-    last = chains.ends n place at;
-    concludes = concludes_same rules (λ (k : ℕ). (slice_get keys k ≡ Some n) × (length keys ≤ k)) marks order noted
-        (λ k rule asked found a b. let w = slice_get_within keys k n asked.0 in absurd (omega (arith, w, asked.1)));
-  }
-
-  pub drawn_more : (last before : List ℕ) (n place next : ℕ) (marks mid after : List Bool) (order some more : List ℕ) → AreChains keys last before → slice_get before place ≡ Some next → AreDrawnTo rules keys n place marks order mid some → Concludes rules (λ (k : ℕ). k ≡ place) mid some after more → AreDrawnTo rules keys n next marks order after more
-  drawn_more last before n place next marks mid after order some more chains at done one =
-      let w = walk_next keys before done.so_many n place next chains.links done.last at in
-      record {
-        so_many = place;
-        within = (let l = slice_get_within keys place n w.0 in omega (arith, l));
-        last = w.1;
-        concludes = concludes_more rules (λ (k : ℕ). (slice_get keys k ≡ Some n) × (done.so_many ≤ k)) (λ (k : ℕ). k ≡ place) (λ (k : ℕ). (slice_get keys k ≡ Some n) × (place ≤ k))
-            marks mid after order some more
-            (λ k asked. elim (walk_met keys done.so_many n place k done.last asked.0 asked.1) [ inl h ↦ inl (asked.0, h) | inr h ↦ inr h ]) done.concludes one;
-      }
-
-  pub drawn_all : (last before : List ℕ) (n place : ℕ) (marks after : List Bool) (order more : List ℕ) → AreChains keys last before → slice_get before place ≡ None → AreDrawnTo rules keys n place marks order after more → Concludes rules (λ (k : ℕ). slice_get keys k ≡ Some n) marks order after more
-  drawn_all last before n place marks after order more chains none done =
-      concludes_fewer rules (λ (k : ℕ). (slice_get keys k ≡ Some n) × (done.so_many ≤ k)) (λ (k : ℕ). slice_get keys k ≡ Some n) marks after order more
-      (λ k stands. (stands, walk_end keys before done.so_many n place k chains.links done.within done.last none stands)) done.concludes
 
 -- places among the first of a list
 pub among_none : (places : List ℕ) (k : ℕ) → IsAmong places 0 k → ⊥

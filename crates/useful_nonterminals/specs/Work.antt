@@ -1,8 +1,7 @@
 -- What the work on rules keeps.
-use Rattle.std.specs.Prelude.{◌≡◌, ◌<◌, ◌≤◌, ◌↔◌, ℕ, Bool, List, length, Some, slice_get, Contains}
+use Rattle.std.specs.Prelude.{◌≡◌, ◌<◌, ◌↔◌, ℕ, Bool, List, length, Some, slice_get, Contains}
 use Rattle.std.specs.List.{All}
 use Rattle.numbered_sets.specs.Numbers.{Keeps}
-use Rattle.number_chains.specs.Chains.{IsLast}
 use Rattle.useful_nonterminals.specs.declared.rule.Rule.{Rule}
 use Rattle.useful_nonterminals.specs.Follows.{Follows, IsMarked}
 
@@ -36,11 +35,3 @@ pub record IsWork (facts : List ℕ) (rules : List Rule) (count : ℕ) (marks : 
   pub begun : (n : ℕ) → Contains facts n → Contains order n
   pub sound : All (Follows facts rules) order
   pub drawn : AreDrawn rules order taken
-
--- of the rules whose premise is a number, the conclusions are drawn of those that stand on its chain before a place of it
-pub record AreDrawnTo (rules : List Rule) (keys : List ℕ) (n place : ℕ) (marks : List Bool) (order : List ℕ) (after : List Bool) (more : List ℕ)
-    : Type 0 where
-  pub so_many : ℕ
-  pub within : so_many ≤ length keys
-  pub last : IsLast keys so_many n place
-  pub concludes : Concludes rules (λ k. (slice_get keys k ≡ Some n) × (so_many ≤ k)) marks order after more

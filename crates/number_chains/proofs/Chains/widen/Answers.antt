@@ -1,6 +1,15 @@
-use Rattle.std.proofs.Common.{arith}
+use Rattle.std.proofs.Common.{List, ℕ, ap, length, subst, sym, arith}
+use Rattle.number_chains.specs.Chains.{AreChains}
 use Rattle.number_chains.proofs.ChainLemmas.{all_below}
 use Rattle.number_chains.proofs.Chains.widen.Goals as goal
+
+pub loop-init : goal.loop-init
+loop-init c =
+    let same = c.in_ok-reserve.ensures.items in
+    record {
+      len = (let l = ap (λ (xs : List ℕ). length xs) same in omega (arith, l));
+      chains = λ keys below chains. subst (λ (xs : List ℕ). AreChains keys xs c.args.self.now.before.items) (sym same) chains;
+    }
 
 pub loop-preserved : goal.loop-preserved
 loop-preserved c =

@@ -4,7 +4,7 @@ use Rattle.number_chains.proofs.Chains.widen.Given as goal
 
 abbrev pub invariant-loop : goal.invariant-loop
 invariant-loop l = record {
-  len : length l.self.last.items ≡ length l.initial.self.last.items + l.counter;
-  chains : (keys : List ℕ) → All (λ k. k < length l.initial.self.last.items) keys → AreChains keys l.initial.self.last.items l.initial.self.before.items
+  len : length l.self.last.items ≡ length l.fn.self.last.items + l.counter;
+  chains : (keys : List ℕ) → All (λ k. k < length l.fn.self.last.items) keys → AreChains keys l.fn.self.last.items l.fn.self.before.items
       → AreChains keys l.self.last.items l.self.before.items;
 }

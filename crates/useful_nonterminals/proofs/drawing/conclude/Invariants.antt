@@ -1,6 +1,7 @@
 use Rattle.std.proofs.Common.{◌≡◌, ◌+◌, ℕ, List, length, if◌then◌else◌, nat_lt}
 use Rattle.number_chains.specs.Chains.{AreChains}
-use Rattle.useful_nonterminals.specs.Work.{IsNoted, AreDrawnTo}
+use Rattle.number_chains.proofs.WalkLemmas.{HasWalked}
+use Rattle.useful_nonterminals.specs.Work.{IsNoted, Concludes}
 use Rattle.useful_nonterminals.proofs.drawing.conclude.Given as goal
 
 abbrev pub invariant-loop-next : goal.invariant-loop-next
@@ -8,7 +9,7 @@ invariant-loop-next l = record {
   long : length l.marks.items ≡ length l.initial.marks.items;
   noted : IsNoted l.marks.items l.order.items;
   walk : (keys : List ℕ) → AreChains keys l.chains.last.items l.chains.before.items
-      → AreDrawnTo l.rules keys l.n l.place l.initial.marks.items l.initial.order.items l.marks.items l.order.items;
+      → HasWalked keys l.n l.place (λ asked. Concludes l.rules asked l.initial.marks.items l.initial.order.items l.marks.items l.order.items);
 }
 
 abbrev pub decreases-loop-next : goal.decreases-loop-next
