@@ -49,11 +49,7 @@ fn resolved_of(alloc: Global, system: OpSystem) -> Result<Grammar, ImageRefusal>
 }
 
 // The grammar of a system.
-fn grammar_of(
-    alloc: Global,
-    program: &Program,
-    system: OpSystem,
-) -> Result<Grammar, GrammarRefusal>
+fn grammar_of(alloc: Global, program: &Program, system: OpSystem) -> Result<Grammar, GrammarRefusal>
     requires { IsProgramSystem (program_of program.now) system }
     ensures grammar { IfOk result (IsPageGrammar (program_of program.now)) }
     ensures refusal { IfErr result (IsGrammarRefusal (program_of program.now)) }
