@@ -27,6 +27,7 @@ use Rattle.chart_grammar.specs.declared.fronts.Front.{Front}
 use Rattle.chart_grammar.specs.declared.lifts.Last.{Last}
 use Rattle.chart_grammar.specs.Outs.{Puts}
 use Rattle.chart_grammar.specs.Fronts.{StandsFor, nothing, longer}
+use Rattle.chart_grammar.specs.Sources.{FromRight}
 use Rattle.std.proofs.Common.{Bool, true, ◌&&◌, IsTrue, ltb}
 use Rattle.std.proofs.lemmas.Bool.{lt-ltb}
 use Rattle.cfg_grammar.specs.Below.{symbol_below, production_below}
@@ -47,12 +48,6 @@ terminal_puts qs x w c h (by_token token) = (OfToken token, refl, refl)
 terminal_puts qs x w c h (by_empty a has) = absurd h
 terminal_puts qs x w c h (by_one a y v has d) = absurd h
 terminal_puts qs x w c h (by_two a y z u v has d e) = absurd h
-
--- the right side derives the letters
-abbrev pub FromRight : List Production → Right → List Letter → Type 0
-FromRight qs Empty w = w ≡ []
-FromRight qs (One x) w = Derives qs x w
-FromRight qs (Two x y) w = (u : List Letter) × (v : List Letter) × Derives qs x u × Derives qs y v × (w ≡ u ++ v)
 
 same_symbol : (a b : nt.Nt) → ◌≡◌ {A = Symbol} (Nt a) (Nt b) → a ≡ b
 same_symbol a b h = cc

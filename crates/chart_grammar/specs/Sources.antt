@@ -1,5 +1,5 @@
 -- Where the productions of an image come from: which production of the grammar each one is, and between which states.
-use Rattle.std.specs.Prelude.{◌≡◌, ◌≤◌, ℕ, zero, suc, List, [], length, Some, slice_get, Contains}
+use Rattle.std.specs.Prelude.{◌≡◌, ◌≤◌, ◌++◌, ℕ, suc, List, [], length, Some, slice_get, Contains}
 use Rattle.text_base.specs.declared.byte_range.ByteRange.{ByteRange}
 use Rattle.text_base.specs.declared.letter.Letter.{Letter}
 use Rattle.text_base.specs.declared.numbers.Nt as nt
@@ -11,7 +11,7 @@ use Rattle.cfg_grammar.specs.declared.production.Right.TheVariants.{Empty, One, 
 use Rattle.cfg_grammar.specs.declared.production.Production.{Production}
 use Rattle.cfg_grammar.specs.Derives.{Derives}
 use Rattle.grammar_chart.specs.declared.keys.Passage.{Passage}
-use Rattle.chart_grammar.specs.Lifts.{nt_of, end_by}
+use Rattle.chart_grammar.specs.Lifts.{nt_of, end_by, front_right}
 
 -- each symbol is replaced by its passage, one behind another from the one state to the other; the passage k has the nonterminal k + 1
 abbrev pub Passes : List Passage → Right → ℕ → ℕ → Right → Type 0
@@ -46,7 +46,7 @@ pub record AllComeOf (ps : List Production) (fs : List Passage) (sources : List 
 abbrev pub NoneIsOfToken : List Passage → Type 0
 NoneIsOfToken fs = (n s t : ℕ) (token : PageToken) → slice_get fs n ≡ Some (record { symbol = Token token; from = s; to = t }) → ⊥
 
--- the production of the start: a passage of the grammar's start from the first state, and then what stands for an output at the end
+-- the production of the start: a passage of the grammar's start from the first state, and then what stands for an output at the end, where something is put out
 pub record IsEnd (start : nt.Nt) (fs : List Passage) (q : Production) : Type 0 where
   pub to : ℕ
   pub number : ℕ
@@ -62,10 +62,11 @@ pub record AreSources (ps : List Production) (start : nt.Nt) (fs : List Passage)
   pub ends : (q : Production) → Contains qs q → q.left ≡ record { 0 = 0 } → IsEnd start fs q
   pub no_tokens : NoneIsOfToken fs
 
--- what stands for an output at the end derives this: nothing, where nothing is put out
-abbrev pub DerivesEnd : List Production → ℕ → List Letter → Type 0
-DerivesEnd qs zero w = w ≡ []
-DerivesEnd qs (suc front) w = Derives qs (nt_of (suc front)) w
+-- the right side derives the letters
+abbrev pub FromRight : List Production → Right → List Letter → Type 0
+FromRight qs Empty w = w ≡ []
+FromRight qs (One x) w = Derives qs x w
+FromRight qs (Two x y) w = (u : List Letter) × (v : List Letter) × Derives qs x u × Derives qs y v × (w ≡ u ++ v)
 
 -- what the passages of ranges derive, and what stands for the outputs at the end: what is put out as a byte of the range is read from the
 -- one state to the other (`Puts`), and what is put out at the end in a state (`Closes`)
@@ -74,5 +75,5 @@ pub record ArePutOut (start : nt.Nt) (fs : List Passage) (qs : List Production) 
   pub reads : (n s t : ℕ) (range : ByteRange) (w : List Letter) → slice_get fs n ≡ Some (record { symbol = Range range; from = s; to = t })
       → Derives qs (nt_of (suc n)) w → (byte : ℕ) × InRange range byte × Puts s byte t w
   pub closes : (q : Production) (n t front : ℕ) (w : List Letter) → Contains qs q → q.left ≡ record { 0 = 0 }
-      → slice_get fs n ≡ Some (record { symbol = Nt start; from = 0; to = t }) → q.right ≡ end_by (suc n) front → DerivesEnd qs front w
+      → slice_get fs n ≡ Some (record { symbol = Nt start; from = 0; to = t }) → q.right ≡ end_by (suc n) front → FromRight qs (front_right front) w
       → Closes t w

@@ -3,8 +3,7 @@ use Rattle.std.proofs.Common.{◌≡◌, ◌∙◌, ◌<◌, ◌≤◌, ◌+◌,
 use Rattle.std.proofs.lemmas.List.{append-nil, drop_more, drop_all}
 use Rattle.std.specs.Prelude.{◌⊎◌}
 use Rattle.std.specs.List.{Contains}
-use Rattle.std.specs.declared.vec.Vec.{Vec}
-use Rattle.std.specs.declared.alloc.Global.{Global}
+use Rattle.smallvec.specs.SmallVec.{SmallVec}
 use Rattle.std.proofs.lemmas.List.Elements.{Contains-append_right}
 use Rattle.std.proofs.lemmas.Option.{same_Some}
 use Rattle.include_order.proofs.ListLemmas.{push_cases}
@@ -61,28 +60,28 @@ pub found_all : (files : List ReadFile) (paths : List (List ℕ)) (found : List 
 found_all files paths found i le inv = sym (append-nil found) ∙ sym (ap (λ (ps : List (List ℕ)). found ++ places_of files ps) (drop_all i paths le)) ∙ inv
 
 -- the edges of the first files
-pub record AreFirstEdges (files : List ReadFile) (edges : List (Vec ℕ Global)) (n : ℕ) : Type 0 where
-  pub each : (place : ℕ) (file : ReadFile) (targets : Vec ℕ Global) → slice_get files place ≡ Some file → slice_get edges place ≡ Some targets → targets.items ≡ places_of files (includes_of_file file.tree)
+pub record AreFirstEdges (files : List ReadFile) (edges : List (SmallVec ℕ)) (n : ℕ) : Type 0 where
+  pub each : (place : ℕ) (file : ReadFile) (targets : SmallVec ℕ) → slice_get files place ≡ Some file → slice_get edges place ≡ Some targets → targets.items ≡ places_of files (includes_of_file file.tree)
   pub size : length edges ≡ n
 
-pub no_edges : (files : List ReadFile) (edges : List (Vec ℕ Global)) → edges ≡ [] → AreFirstEdges files edges 0
+pub no_edges : (files : List ReadFile) (edges : List (SmallVec ℕ)) → edges ≡ [] → AreFirstEdges files edges 0
 no_edges files edges none = record {
-  each = λ place file targets at is. absurd (let h : slice_get [] place ≡ Some targets = subst (λ (es : List (Vec ℕ Global)). slice_get es place ≡ Some targets) none is in cc);
-  size = ap (λ (es : List (Vec ℕ Global)). length es) none;
+  each = λ place file targets at is. absurd (let h : slice_get [] place ≡ Some targets = subst (λ (es : List (SmallVec ℕ)). slice_get es place ≡ Some targets) none is in cc);
+  size = ap (λ (es : List (SmallVec ℕ)). length es) none;
 }
 
-pub one_edge : (files : List ReadFile) (edges more : List (Vec ℕ Global)) (n : ℕ) (file : ReadFile) (targets : Vec ℕ Global) → AreFirstEdges files edges n → more ≡ edges ++ targets ∷ [] → slice_get files n ≡ Some file
+pub one_edge : (files : List ReadFile) (edges more : List (SmallVec ℕ)) (n : ℕ) (file : ReadFile) (targets : SmallVec ℕ) → AreFirstEdges files edges n → more ≡ edges ++ targets ∷ [] → slice_get files n ≡ Some file
     → targets.items ≡ places_of files (includes_of_file file.tree) → AreFirstEdges files more (n + 1)
 one_edge files edges more n file targets so push at own = record {
-  each = λ place other these here is. elim (push_cases edges targets place these (subst (λ (es : List (Vec ℕ Global)). slice_get es place ≡ Some these) push is)) [
+  each = λ place other these here is. elim (push_cases edges targets place these (subst (λ (es : List (SmallVec ℕ)). slice_get es place ≡ Some these) push is)) [
     | inl p ↦ so.each place other these here p.1
     | inr p ↦ (
         let same : file ≡ other = same_Some file other (sym at ∙ ap (λ (k : ℕ). slice_get files k) (sym so.size ∙ sym p.0) ∙ here) in
-        sym (ap (λ (v : Vec ℕ Global). v.items) p.1) ∙ own ∙ ap (λ (f : ReadFile). places_of files (includes_of_file f.tree)) same
+        sym (ap (λ (v : SmallVec ℕ). v.items) p.1) ∙ own ∙ ap (λ (f : ReadFile). places_of files (includes_of_file f.tree)) same
         )
   ];
-  size = ap (λ (es : List (Vec ℕ Global)). length es) push ∙ length-append edges (targets ∷ []) ∙ ap (λ (k : ℕ). k + 1) so.size;
+  size = ap (λ (es : List (SmallVec ℕ)). length es) push ∙ length-append edges (targets ∷ []) ∙ ap (λ (k : ℕ). k + 1) so.size;
 }
 
-pub all_edges : (files : List ReadFile) (edges : List (Vec ℕ Global)) (n : ℕ) → AreFirstEdges files edges n → n ≡ length files → AreEdges files edges
+pub all_edges : (files : List ReadFile) (edges : List (SmallVec ℕ)) (n : ℕ) → AreFirstEdges files edges n → n ≡ length files → AreEdges files edges
 all_edges files edges n so e = record { each = so.each; size = so.size ∙ e }

@@ -2,8 +2,7 @@
 use Rattle.std.proofs.Common.{◌≡◌, ◌∙◌, ◌<◌, ℕ, zero, suc, true, List, [], ◌∷◌, length, take, Some, slice_get, inl, inr, refl, sym, ap, subst, arith}
 use Rattle.std.specs.Prelude.{◌⊎◌}
 use Rattle.std.specs.List.{Contains}
-use Rattle.std.specs.declared.vec.Vec.{Vec}
-use Rattle.std.specs.declared.alloc.Global.{Global}
+use Rattle.smallvec.specs.SmallVec.{SmallVec}
 use Rattle.std.proofs.lemmas.List.{take-map}
 use Rattle.std.proofs.lemmas.Option.{same_Some, slice_get_within}
 use Rattle.include_order.specs.Edges.{HasEdge, AreWithin, Leads, by_edge, onward, IsOrder}
@@ -60,7 +59,7 @@ own_place files place file whole at =
 own_tree : (files : List ReadFile) (place : ℕ) (file : ReadFile) → AreWhole files → slice_get files place ≡ Some file → tree_named files file.name ≡ file.tree
 own_tree files place file whole at = tree_there files file.name place file (own_place files place file whole at) at
 
-edge_to : (files : List ReadFile) (edges : List (Vec ℕ Global)) (from : ℕ) (file : ReadFile) (path : List ℕ) (to : ℕ) → AreEdges files edges → slice_get files from ≡ Some file → Contains (includes_of_file file.tree) path → place_of files path ≡ Some to → HasEdge edges from to
+edge_to : (files : List ReadFile) (edges : List (SmallVec ℕ)) (from : ℕ) (file : ReadFile) (path : List ℕ) (to : ℕ) → AreEdges files edges → slice_get files from ≡ Some file → Contains (includes_of_file file.tree) path → place_of files path ≡ Some to → HasEdge edges from to
 edge_to files edges from file path to is at own e =
     let less : from < length edges = (let h = slice_get_within files from file at in let s = is.size in omega arith) in
     let v = there edges from less in
@@ -74,21 +73,21 @@ record Includes (files : List ReadFile) (from to : ℕ) : Type 0 where
   pub own : Contains (includes_of_file file.tree) path
   pub place : place_of files path ≡ Some to
 
-edge_says : (files : List ReadFile) (edges : List (Vec ℕ Global)) (from to : ℕ) → AreEdges files edges → HasEdge edges from to → Includes files from to
+edge_says : (files : List ReadFile) (edges : List (SmallVec ℕ)) (from to : ℕ) → AreEdges files edges → HasEdge edges from to → Includes files from to
 edge_says files edges from to is edge =
     let less : from < length files = (let h = slice_get_within edges from edge.targets edge.are in let s = is.size in omega arith) in
     let f = there files from less in
     let p = named files (includes_of_file f.0.tree) to (subst (λ (xs : List ℕ). Contains xs to) (is.each from f.0 edge.targets f.1 edge.are) edge.among) in
     record { file = f.0; at = f.1; path = p.0; own = p.1; place = p.2 }
 
-pub edges_within : (files : List ReadFile) (edges : List (Vec ℕ Global)) → AreEdges files edges → AreWithin edges
+pub edges_within : (files : List ReadFile) (edges : List (SmallVec ℕ)) → AreEdges files edges → AreWithin edges
 edges_within files edges is from to edge =
     let i = edge_says files edges from to is edge in
     let h = place_within files i.path to i.place in
     let s = is.size in
     omega arith
 
-pub order_is : (files : List ReadFile) (edges : List (Vec ℕ Global)) (places : List ℕ) → AreWhole files → AreEdges files edges → IsOrder edges places → IsFileOrder files places
+pub order_is : (files : List ReadFile) (edges : List (SmallVec ℕ)) (places : List ℕ) → AreWhole files → AreEdges files edges → IsOrder edges places → IsFileOrder files places
 order_is files edges places whole is sorted =
     let within : (place : ℕ) → Contains places place → place < length files = λ place c. (let h = sorted.within place c in let s = is.size in omega arith) in
     record {
@@ -122,7 +121,7 @@ order_is files edges places whole is sorted =
     }
 
 -- edges that lead from one file to another: the first includes the other, whatever held the files
-leads : (files : List ReadFile) (edges : List (Vec ℕ Global)) → AreWhole files → AreEdges files edges → (held : Held) → AreHeld held files → (from to : ℕ) (one other : ReadFile) → Leads edges from to → slice_get files from ≡ Some one → slice_get files to ≡ Some other → LeadsTo held one.name other.name
+leads : (files : List ReadFile) (edges : List (SmallVec ℕ)) → AreWhole files → AreEdges files edges → (held : Held) → AreHeld held files → (from to : ℕ) (one other : ReadFile) → Leads edges from to → slice_get files from ≡ Some one → slice_get files to ≡ Some other → LeadsTo held one.name other.name
 leads files edges whole is held has from to one other (by_edge _ _ edge) at goal =
     let i = edge_says files edges from to is edge in
     let f = file_there files i.path to i.place in
@@ -140,18 +139,18 @@ leads files edges whole is held has from to one other (onward _ next _ edge rest
     let onward_from : LeadsTo held f.0.name other.name = leads files edges whole is held has next to f.0 other rest f.1 goal in
     through one.name i.path other.name one.tree tree own (subst (λ (x : List ℕ). LeadsTo held x other.name) (sym f.2) onward_from)
 
-first_edge : (edges : List (Vec ℕ Global)) (from to : ℕ) → Leads edges from to → from < length edges
+first_edge : (edges : List (SmallVec ℕ)) (from to : ℕ) → Leads edges from to → from < length edges
 first_edge edges from to (by_edge _ _ edge) = slice_get_within edges from edge.targets edge.are
 first_edge edges from to (onward _ next _ edge rest) = slice_get_within edges from edge.targets edge.are
 
-pub circle_within : (files : List ReadFile) (edges : List (Vec ℕ Global)) (place : ℕ) → AreEdges files edges → Leads edges place place → place < length files
+pub circle_within : (files : List ReadFile) (edges : List (SmallVec ℕ)) (place : ℕ) → AreEdges files edges → Leads edges place place → place < length files
 circle_within files edges place is circle = let h = first_edge edges place place circle in let s = is.size in omega arith
 
-pub circle : (files : List ReadFile) (edges : List (Vec ℕ Global)) (place : ℕ) (file : ReadFile) → AreWhole files → AreEdges files edges → Leads edges place place → slice_get files place ≡ Some file
+pub circle : (files : List ReadFile) (edges : List (SmallVec ℕ)) (place : ℕ) (file : ReadFile) → AreWhole files → AreEdges files edges → Leads edges place place → slice_get files place ≡ Some file
     → (is_read files file.name ≡ true) × ((held : Held) → AreHeld held files → LeadsTo held file.name file.name)
 circle files edges place file whole is around at = (read_here files place file at, λ held has. leads files edges whole is held has place place file file around at at)
 
-pub cause_is : (files : List ReadFile) (edges : List (Vec ℕ Global)) (place : ℕ) (refusal : LoadRefusal) → AreWhole files → AreEdges files edges → Leads edges place place
+pub cause_is : (files : List ReadFile) (edges : List (SmallVec ℕ)) (place : ℕ) (refusal : LoadRefusal) → AreWhole files → AreEdges files edges → Leads edges place place
     → (refusal ≡ Memory) ⊎ ((file : ReadFile) × (slice_get files place ≡ Some file) × (refusal ≡ IncludeCycle file.name)) → IsOrderCause files refusal
 cause_is files edges place refusal whole is around (inl e) = let P : LoadRefusal → Type 0 = λ r. IsOrderCause files r in subst P (sym e) tt
 cause_is files edges place refusal whole is around (inr (file, at, e)) = let P : LoadRefusal → Type 0 = λ r. IsOrderCause files r in subst P (sym e) (circle files edges place file whole is around at)

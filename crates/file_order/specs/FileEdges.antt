@@ -1,7 +1,6 @@
 -- Which files a file includes, by their places. No public clause cites this.
 use Rattle.std.specs.Prelude.{◌≡◌, ℕ, List, [], ◌∷◌, length, Option, Some, None, slice_get}
-use Rattle.std.specs.declared.vec.Vec.{Vec}
-use Rattle.std.specs.declared.alloc.Global.{Global}
+use Rattle.smallvec.specs.SmallVec.{SmallVec}
 use Rattle.program_rules.specs.Includes.{includes_of_file}
 use Rattle.program_rules.specs.Programs.{ReadFile}
 use Rattle.expansion_laws.specs.Order.{place_of}
@@ -17,7 +16,7 @@ places_of files [] = []
 places_of files (path ∷ paths) = with_place (place_of files path) (places_of files paths)
 
 -- an edge leads from each of the files to each that it includes
-pub record AreEdges (files : List ReadFile) (edges : List (Vec ℕ Global)) : Type 0 where
-  pub each : (place : ℕ) (file : ReadFile) (targets : Vec ℕ Global) → slice_get files place ≡ Some file
+pub record AreEdges (files : List ReadFile) (edges : List (SmallVec ℕ)) : Type 0 where
+  pub each : (place : ℕ) (file : ReadFile) (targets : SmallVec ℕ) → slice_get files place ≡ Some file
       → slice_get edges place ≡ Some targets → targets.items ≡ places_of files (includes_of_file file.tree)
   pub size : length edges ≡ length files

@@ -7,12 +7,13 @@ ghost use Rattle.expansion_laws.specs.View.{files_of};
 ghost use Rattle.file_order.specs.FileEdges.{places_of, AreEdges};
 
 use expansion_laws::{ScriptFiles, find_includes};
+use include_order::Targets;
 use php_syntax::tree::FileTree;
 use std::alloc::Global;
 use text_base::{Bytes, NoMemory};
 
 /// For each file, by its place, the places of those that it includes.
-pub(crate) fn edges_of(alloc: Global, files: &ScriptFiles) -> Result<Vec<Vec<usize>>, NoMemory>
+pub(crate) fn edges_of(alloc: Global, files: &ScriptFiles) -> Result<Vec<Targets>, NoMemory>
     ensures { IfOk result (λ edges. AreEdges (files_of files.now) edges.items) }
 {
     let mut edges = Vec::new(alloc);
@@ -29,7 +30,7 @@ pub(crate) fn edges_of(alloc: Global, files: &ScriptFiles) -> Result<Vec<Vec<usi
 }
 
 // The places of the files that a tree includes.
-fn targets_of(alloc: Global, files: &ScriptFiles, tree: &FileTree) -> Result<Vec<usize>, NoMemory>
+fn targets_of(alloc: Global, files: &ScriptFiles, tree: &FileTree) -> Result<Targets, NoMemory>
     ensures { IfOk result
         (λ targets. targets.items
         ≡ places_of (files_of files.now) (includes_of_file (plain_file tree.now))) }
@@ -40,10 +41,10 @@ fn targets_of(alloc: Global, files: &ScriptFiles, tree: &FileTree) -> Result<Vec
 }
 
 // The places of the files of these paths.
-fn places(alloc: Global, files: &ScriptFiles, paths: &[Bytes]) -> Result<Vec<usize>, NoMemory>
+fn places(alloc: Global, files: &ScriptFiles, paths: &[Bytes]) -> Result<Targets, NoMemory>
     ensures { IfOk result (λ places. places.items ≡ places_of (files_of files.now) paths.now) }
 {
-    let mut found = Vec::new(alloc);
+    let mut found = Targets::new(alloc);
     for path in paths {
         match files.place_of(path) {
             Some(place) => found.push(place)?,

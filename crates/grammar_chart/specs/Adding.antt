@@ -2,7 +2,7 @@
 use Rattle.std.specs.Prelude.{◌≡◌, ◌↔◌, ◌++◌, ℕ, List, Some, map, slice_get, Contains}
 use Rattle.numbered_sets.specs.Numbers.{AreDifferent}
 
--- behind the old ones stand those of the places that are asked for, each once
+-- behind the old ones stand those of each place that is asked for, once
 pub record AddsAsked {K : Type 0} (old new : List K) (f : ℕ → K) (Asked : ℕ → Type 0) : Type 0 where
   pub places : List ℕ
   pub different : AreDifferent places

@@ -30,7 +30,8 @@ use Rattle.chart_grammar.specs.declared.fronts.Front.{Front}
 use Rattle.chart_grammar.specs.declared.lifts.Last.{Last}
 use Rattle.chart_grammar.specs.Outs.{Puts}
 use Rattle.chart_grammar.specs.Lifts.{nt_of, RightLift, AreLifts, front_right, HasWhole, HasReading}
-use Rattle.chart_grammar.proofs.SayLemmas.{FromRight, derives_front}
+use Rattle.chart_grammar.specs.Sources.{FromRight}
+use Rattle.chart_grammar.proofs.SayLemmas.{derives_front}
 use Rattle.grammar_image.specs.Answers.{IsAnswered}
 
 -- a run over two texts is two runs

@@ -26,8 +26,8 @@ use Rattle.chart_grammar.specs.declared.lifts.Last.{Last}
 use Rattle.chart_grammar.specs.Outs.{Puts}
 use Rattle.chart_grammar.specs.Lifts.{nt_of, end_by, front_right, EndLift}
 use Rattle.chart_grammar.specs.Images.{IsImageOf}
-use Rattle.chart_grammar.specs.Sources.{DerivesEnd, NoneIsOfToken, ArePutOut}
-use Rattle.chart_grammar.proofs.SayLemmas.{FromRight, says, says_front}
+use Rattle.chart_grammar.specs.Sources.{FromRight, NoneIsOfToken, ArePutOut}
+use Rattle.chart_grammar.proofs.SayLemmas.{says, says_front}
 use Rattle.chart_grammar.proofs.SourceLemmas.{end_only}
 use Rattle.grammar_image.specs.Answers.{IsReading}
 use Rattle.grammar_image.specs.Work.{IsWorked}
@@ -104,11 +104,13 @@ one_step {S} steps s t byte w run =
     let whole : w ≡ run.1 = run.5 ∙ (ap (λ (z : List Letter). run.1 ++ z) run.4.1 ∙ append_none run.1) in
     subst (λ (x : S). steps s byte x w) (sym run.4.0) (subst (λ (z : List Letter). steps s byte run.0 z) (sym whole) run.3)
 
-left_of : (i j : ℕ) → nt_of i ≡ nt_of j → i ≡ j
-left_of i j h = let same : ◌≡◌ {A = nt.Nt} (record { 0 = i }) (record { 0 = j }) = cc in ap (λ (a : nt.Nt). a.0) same
+-- nonterminals of numbers are one only where the numbers are
+same_number : (i j : ℕ) → nt_of i ≡ nt_of j → i ≡ j
+same_number i j h = let same : ◌≡◌ {A = nt.Nt} (record { 0 = i }) (record { 0 = j }) = cc in ap (λ (a : nt.Nt). a.0) same
 
+-- so are the numbers before them
 number_of : (i j : ℕ) → nt_of i ≡ nt_of j → (k l : ℕ) → i ≡ suc k → j ≡ suc l → k ≡ l
-number_of i j h k l e f = let same = left_of i j h in omega (arith, same, e, f)
+number_of i j h k l e f = let same = same_number i j h in omega (arith, same, e, f)
 
 -- what stands at the end is told by the right side
 same_end : (n front m other : ℕ) → end_by (suc n) front ≡ end_by (suc m) other → (n ≡ m) × (other ≡ front)
@@ -120,11 +122,7 @@ same_end n (suc front) m zero e = cc
 same_end n (suc front) m (suc other) e =
     let a : nt_of (suc n) ≡ nt_of (suc m) = cc in
     let b : nt_of (suc front) ≡ nt_of (suc other) = cc in
-    (number_of (suc n) (suc m) a n m refl refl, sym (left_of (suc front) (suc other) b))
-
-ended : (qs : List Production) (front : ℕ) (w : List Letter) → DerivesEnd qs front w → FromRight qs (front_right front) w
-ended qs zero w d = d
-ended qs (suc front) w d = d
+    (number_of (suc n) (suc m) a n m refl refl, sym (same_number (suc front) (suc other) b))
 
 some_same : {X : Type 0} (x y : X) → Some x ≡ Some y → x ≡ y
 some_same x y h = cc
@@ -154,18 +152,18 @@ module _ {S : Type 0} (steps : S → ℕ → S → List Letter → Type 0) (ends
       (b.0, b.1, numbered_step s b.0 t w (one_step (ReadingStep c.readings.items) s t b.0 w run))
 
   -- what stands for an output at the end derives only what the machine puts out there
-  closes_end : (l : Last) (q : Production) (t front : ℕ) (w : List Letter) → Contains ls l → (e : EndLift c.from c.passages.keys (image.outputs).fronts.keys (suc (length c.passages.keys)) l q) → e.front ≡ front → l.state ≡ t → DerivesEnd g.productions.items front w → NumberedEnds ends states t w
+  closes_end : (l : Last) (q : Production) (t front : ℕ) (w : List Letter) → Contains ls l → (e : EndLift c.from c.passages.keys (image.outputs).fronts.keys (suc (length c.passages.keys)) l q) → e.front ≡ front → l.state ≡ t → FromRight g.productions.items (front_right front) w → NumberedEnds ends states t w
   closes_end l q t front w has e is state d =
       let lo = e.range.lo in
       let some : AllZip Puts e.symbols (map (letter_of lo) l.out.items) = (e.outs (map (letter_of lo) l.out.items)).1 (lo, (omega arith, (e.range).ordered), refl) in
-      let derived : FromRight g.productions.items (front_right e.front) w = subst (λ (n : ℕ). FromRight g.productions.items (front_right n) w) (sym is) (ended g.productions.items front w d) in
+      let derived : FromRight g.productions.items (front_right e.front) w = subst (λ (n : ℕ). FromRight g.productions.items (front_right n) w) (sym is) d in
       let z = says_front ps c.from c.begun.items c.passages.keys c.readings.items (image.outputs).fronts.keys (suc (length c.passages.keys)) ls g.productions.items image.lifts refl e.front e.symbols (map (letter_of lo) l.out.items) w e.stands some derived in
       let b = (e.outs w).0 z in
       let k = lasts.only l has in
       let letters : map (letter_of 0) l.out.items ≡ w = fixed_all l.out.items 0 b.0 k.fixed ∙ b.2 in
       (k.source, ap (slice_get states) (sym state) ∙ k.is_source, subst (λ (u : List Letter). ends k.source u) letters k.ends_so)
 
-  closes : (q : Production) (n t front : ℕ) (w : List Letter) → Contains g.productions.items q → q.left ≡ record { 0 = 0 } → slice_get c.passages.keys n ≡ Some (record { symbol = Nt c.from; from = 0; to = t }) → q.right ≡ end_by (suc n) front → DerivesEnd g.productions.items front w → NumberedEnds ends states t w
+  closes : (q : Production) (n t front : ℕ) (w : List Letter) → Contains g.productions.items q → q.left ≡ record { 0 = 0 } → slice_get c.passages.keys n ≡ Some (record { symbol = Nt c.from; from = 0; to = t }) → q.right ≡ end_by (suc n) front → FromRight g.productions.items (front_right front) w → NumberedEnds ends states t w
   closes q n t front w has left at right d =
       let e = end_only ps c.from c.begun.items c.passages.keys c.readings.items (image.outputs).fronts.keys (suc (length c.passages.keys)) ls g.productions.items image.lifts refl q has left in
       let l = e.0 in

@@ -26,7 +26,8 @@ use Rattle.grammar_chart.proofs.AddingLemmas.{contains_at}
 use Rattle.chart_grammar.specs.declared.lifts.Last.{Last}
 use Rattle.chart_grammar.specs.Lifts.{nt_of, end_by, front_right, HasEnd}
 use Rattle.chart_grammar.specs.Images.{IsImageOf}
-use Rattle.chart_grammar.proofs.SayLemmas.{FromRight, derives_front, start_says}
+use Rattle.chart_grammar.specs.Sources.{FromRight}
+use Rattle.chart_grammar.proofs.SayLemmas.{derives_front, start_says}
 use Rattle.grammar_image.specs.Answers.{IsReading, IsAnswered}
 use Rattle.grammar_image.specs.Work.{IsWorked}
 use Rattle.grammar_image.specs.Lasts.{AreLastsBelow}

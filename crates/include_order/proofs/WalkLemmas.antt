@@ -7,8 +7,7 @@ use Rattle.std.proofs.lemmas.Grind.{common_steps}
 use Rattle.std.proofs.lemmas.List.Sums.{sum_by-set}
 use Rattle.std.proofs.lemmas.List.Elements.{Contains-push, Contains-push_cases, Contains-append_left, Contains-get_or}
 use Rattle.std.proofs.lemmas.Option.{same_Some, slice_get_within, get_or_from_slice_get}
-use Rattle.std.specs.declared.vec.Vec.{Vec}
-use Rattle.std.specs.declared.alloc.Global.{Global}
+use Rattle.smallvec.specs.SmallVec.{SmallVec}
 use Rattle.include_order.specs.declared.order.Mark.{Mark}
 use Rattle.include_order.specs.declared.order.Mark.TheVariants.{New, Open, Done}
 use Rattle.include_order.specs.Edges.{HasEdge, Leads, by_edge, onward, IsSorted}
@@ -16,24 +15,24 @@ use Rattle.include_order.specs.Walk.{weight_of, IsWalk, GoesOn, LeadHere}
 use Rattle.include_order.proofs.ListLemmas.{push_cases, set_cases, kept_cases, set_at}
 
 -- within a visit of a node: the node is open beside those that were, and the first of its targets are done
-pub record IsVisiting (edges : List (Vec ℕ Global)) (before marks : List Mark) (order : List ℕ) (node : ℕ) (first : List ℕ) : Type 0 where
+pub record IsVisiting (edges : List (SmallVec ℕ)) (before marks : List Mark) (order : List ℕ) (node : ℕ) (first : List ℕ) : Type 0 where
   pub walk : IsWalk edges marks order
   pub opened : (k : ℕ) → slice_get marks k ≡ Some Open → (k ≡ node) ⊎ (slice_get before k ≡ Some Open)
   pub done : (k : ℕ) → slice_get before k ≡ Some Done → slice_get marks k ≡ Some Done
   pub targets : (target : ℕ) → Contains first target → slice_get marks target ≡ Some Done
   pub fewer : sum_by weight_of marks < sum_by weight_of before
 
-pub leads_on : (edges : List (Vec ℕ Global)) (from node to : ℕ) → Leads edges from node → HasEdge edges node to → Leads edges from to
+pub leads_on : (edges : List (SmallVec ℕ)) (from node to : ℕ) → Leads edges from node → HasEdge edges node to → Leads edges from to
 leads_on edges from node to (by_edge _ _ e) edge = onward from node to e (by_edge node to edge)
 leads_on edges from node to (onward _ next _ e more) edge = onward from next to e (leads_on edges next node to more edge)
 
 -- the target at a place of a node's list
-pub edge_at : (edges : List (Vec ℕ Global)) (node : ℕ) (v : Vec ℕ Global) (targets : List ℕ) (i : ℕ) → slice_get edges node ≡ Some v → targets ≡ v.items → i < length targets → HasEdge edges node (get_or targets i 0)
+pub edge_at : (edges : List (SmallVec ℕ)) (node : ℕ) (v : SmallVec ℕ) (targets : List ℕ) (i : ℕ) → slice_get edges node ≡ Some v → targets ≡ v.items → i < length targets → HasEdge edges node (get_or targets i 0)
 edge_at edges node v targets i at same h =
     record { targets = v; are = at; among = subst (λ (ts : List ℕ). Contains ts (get_or targets i 0)) same (Contains-get_or targets i 0 h) }
 
 -- from each open node edges lead to a target of the node that is visited
-pub lead_to_target : (edges : List (Vec ℕ Global)) (before marks : List Mark) (order : List ℕ) (node : ℕ) (first : List ℕ) (target : ℕ)
+pub lead_to_target : (edges : List (SmallVec ℕ)) (before marks : List Mark) (order : List ℕ) (node : ℕ) (first : List ℕ) (target : ℕ)
     → LeadHere edges before node → IsVisiting edges before marks order node first → HasEdge edges node target → LeadHere edges marks target
 lead_to_target edges before marks order node first target here visiting edge k is_open = elim (visiting.opened k is_open) [
   | inl same ↦ by_edge k target (subst (λ n. HasEdge edges n target) (sym same) edge)
@@ -56,7 +55,7 @@ mark_differs : Open ≡ Done → ⊥
 mark_differs e = cc
 
 -- the node is opened
-pub begins : (edges : List (Vec ℕ Global)) (before : List Mark) (order : List ℕ) (node : ℕ) → IsWalk edges before order → slice_get before node ≡ Some New
+pub begins : (edges : List (SmallVec ℕ)) (before : List Mark) (order : List ℕ) (node : ℕ) → IsWalk edges before order → slice_get before node ≡ Some New
     → IsVisiting edges before (set before node Open) order node []
 begins edges before order node walk new = record {
   walk = record {
@@ -80,7 +79,7 @@ begins edges before order node walk new = record {
 }
 
 -- one target more is done
-pub next_done : (edges : List (Vec ℕ Global)) (before marks : List Mark) (order : List ℕ) (node : ℕ) (targets : List ℕ) (i : ℕ)
+pub next_done : (edges : List (SmallVec ℕ)) (before marks : List Mark) (order : List ℕ) (node : ℕ) (targets : List ℕ) (i : ℕ)
     → i < length targets → IsVisiting edges before marks order node (take i targets) → slice_get marks (get_or targets i 0) ≡ Some Done
     → IsVisiting edges before marks order node (take (i + 1) targets)
 next_done edges before marks order node targets i lt v done = record {
@@ -95,7 +94,7 @@ next_done edges before marks order node targets i lt v done = record {
 }
 
 -- a target was visited
-pub visited : (edges : List (Vec ℕ Global)) (before marks after : List Mark) (order order' : List ℕ) (node : ℕ) (first : List ℕ)
+pub visited : (edges : List (SmallVec ℕ)) (before marks after : List Mark) (order order' : List ℕ) (node : ℕ) (first : List ℕ)
     → IsVisiting edges before marks order node first → IsWalk edges after order' → GoesOn marks after → sum_by weight_of after ≤ sum_by weight_of marks
     → IsVisiting edges before after order' node first
 visited edges before marks after order order' node first v walk on fewer = record {
@@ -107,7 +106,7 @@ visited edges before marks after order order' node first v walk on fewer = recor
 }
 
 -- all targets are done, and the node is put at the end of the order
-sorted_push : (edges : List (Vec ℕ Global)) (order : List ℕ) (node : ℕ) → IsSorted edges order → ((to : ℕ) → HasEdge edges node to → Contains order to) → IsSorted edges (order ++ node ∷ [])
+sorted_push : (edges : List (SmallVec ℕ)) (order : List ℕ) (node : ℕ) → IsSorted edges order → ((to : ℕ) → HasEdge edges node to → Contains order to) → IsSorted edges (order ++ node ∷ [])
 sorted_push edges order node sorted all k from to at edge = elim (push_cases order node k from at) [
   | inl p ↦ let le : k ≤ length order = let h = p.0 in omega arith in subst (λ (xs : List ℕ). Contains xs to) (sym (take-append-le k order (node ∷ []) le)) (sorted k from to p.1 edge)
   | inr p ↦
@@ -119,7 +118,7 @@ sorted_push edges order node sorted all k from to at edge = elim (push_cases ord
     take_all : (k : ℕ) (xs : List ℕ) → k ≡ length xs → take k xs ≡ xs
     take_all k xs e = grind (arith, common_steps)
 
-pub ends : (edges : List (Vec ℕ Global)) (marks : List Mark) (order : List ℕ) (node : ℕ) → IsWalk edges marks order → node < length edges
+pub ends : (edges : List (SmallVec ℕ)) (marks : List Mark) (order : List ℕ) (node : ℕ) → IsWalk edges marks order → node < length edges
     → ((to : ℕ) → HasEdge edges node to → slice_get marks to ≡ Some Done) → IsWalk edges (set marks node Done) (order ++ node ∷ [])
 ends edges marks order node walk lt all = record {
   size = length-set marks node Done ∙ walk.size;
@@ -131,15 +130,15 @@ ends edges marks order node walk lt all = record {
   sorted = sorted_push edges order node walk.sorted (λ to edge. walk.listed to (all to edge));
 }
 
-pub all_targets : (edges : List (Vec ℕ Global)) (before marks : List Mark) (order : List ℕ) (node : ℕ) (v : Vec ℕ Global) (targets first : List ℕ)
+pub all_targets : (edges : List (SmallVec ℕ)) (before marks : List Mark) (order : List ℕ) (node : ℕ) (v : SmallVec ℕ) (targets first : List ℕ)
     → IsVisiting edges before marks order node first → slice_get edges node ≡ Some v → targets ≡ v.items → first ≡ targets
     → (to : ℕ) → HasEdge edges node to → slice_get marks to ≡ Some Done
 all_targets edges before marks order node v targets first visiting at same all to edge =
     let own : edge.targets ≡ v = same_Some edge.targets v (sym edge.are ∙ at) in
-    let items : edge.targets.items ≡ first = ap (λ (w : Vec ℕ Global). w.items) own ∙ sym same ∙ sym all in
+    let items : edge.targets.items ≡ first = ap (λ (w : SmallVec ℕ). w.items) own ∙ sym same ∙ sym all in
     visiting.targets to (subst (λ (ts : List ℕ). Contains ts to) items edge.among)
 
-pub went_on : (edges : List (Vec ℕ Global)) (before marks : List Mark) (order : List ℕ) (node : ℕ) (first : List ℕ)
+pub went_on : (edges : List (SmallVec ℕ)) (before marks : List Mark) (order : List ℕ) (node : ℕ) (first : List ℕ)
     → IsVisiting edges before marks order node first → GoesOn before (set marks node Done)
 went_on edges before marks order node first v = record {
   opened = λ k e. elim (set_cases marks node Done k Open e) [
@@ -162,7 +161,7 @@ pub less : (marks before : List Mark) (node : ℕ) → node < length marks → s
 less marks before node lt fewer = let sums = sum_by-set weight_of marks node Done Done lt in omega (arith, sums)
 
 -- before the walk each node is new
-pub fresh : (edges : List (Vec ℕ Global)) (marks : List Mark) → length marks ≡ length edges → ((k : ℕ) → k < length marks → slice_get marks k ≡ Some New)
+pub fresh : (edges : List (SmallVec ℕ)) (marks : List Mark) → length marks ≡ length edges → ((k : ℕ) → k < length marks → slice_get marks k ≡ Some New)
     → IsWalk edges marks [] × ((k : ℕ) → slice_get marks k ≡ Some Open → ⊥)
 fresh edges marks size new = (
   record {

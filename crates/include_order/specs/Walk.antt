@@ -1,8 +1,7 @@
 -- What a walk over the nodes keeps. No public clause cites this.
 use Rattle.std.specs.Prelude.{◌≡◌, ◌<◌, ℕ, List, length, Some, slice_get}
 use Rattle.std.specs.List.{Contains}
-use Rattle.std.specs.declared.vec.Vec.{Vec}
-use Rattle.std.specs.declared.alloc.Global.{Global}
+use Rattle.smallvec.specs.SmallVec.{SmallVec}
 use Rattle.include_order.specs.declared.order.Mark.{Mark}
 use Rattle.include_order.specs.declared.order.Mark.TheVariants.{New, Open, Done}
 use Rattle.include_order.specs.Edges.{Leads, IsSorted}
@@ -14,7 +13,7 @@ weight_of Open = 0
 weight_of Done = 0
 
 -- the nodes that are done stand in the order, which is sorted
-pub record IsWalk (edges : List (Vec ℕ Global)) (marks : List Mark) (order : List ℕ) : Type 0 where
+pub record IsWalk (edges : List (SmallVec ℕ)) (marks : List Mark) (order : List ℕ) : Type 0 where
   pub size : length marks ≡ length edges
   pub listed : (node : ℕ) → slice_get marks node ≡ Some Done → Contains order node
   pub within : (node : ℕ) → Contains order node → node < length edges
@@ -26,5 +25,5 @@ pub record GoesOn (before after : List Mark) : Type 0 where
   pub done : (node : ℕ) → slice_get before node ≡ Some Done → slice_get after node ≡ Some Done
 
 -- from each open node edges lead to this one
-abbrev pub LeadHere : List (Vec ℕ Global) → List Mark → ℕ → Type 0
+abbrev pub LeadHere : List (SmallVec ℕ) → List Mark → ℕ → Type 0
 LeadHere edges marks node = (open_node : ℕ) → slice_get marks open_node ≡ Some Open → Leads edges open_node node

@@ -4,4 +4,4 @@
 
 mod order;
 
-pub use order::{OrderRefusal, order_of};
+pub use order::{OrderRefusal, Targets, order_of};

@@ -6,9 +6,13 @@ ghost use Rattle.include_order.specs.Edges.{AreWithin, IsOrder, IsCause};
 ghost use Rattle.include_order.specs.Walk.{weight_of, IsWalk, GoesOn, LeadHere};
 ghost use Rattle.include_order.specs.declared.order.Mark.TheVariants.{New, Done};
 
+use smallvec::SmallVec;
 use std::alloc::Global;
 use text_base::NoMemory;
 use thiserror::Error;
+
+/// The nodes that the edges from one node lead to. Up to two take no memory of their own.
+pub type Targets = SmallVec<usize, 2>;
 
 /// Why there is no order.
 #[derive(Clone, Copy, Debug, PartialEq, Eq, Error)]
@@ -48,7 +52,7 @@ enum Mark {
 /// # Errors
 ///
 /// `Cycle` with a node from which edges lead back to it, and `Memory`.
-pub fn order_of(alloc: Global, edges: &[Vec<usize>]) -> Result<Vec<usize>, OrderRefusal>
+pub fn order_of(alloc: Global, edges: &[Targets]) -> Result<Vec<usize>, OrderRefusal>
     requires { AreWithin edges.now }
     ensures order { IfOk result (λ order. IsOrder edges.now order.items) }
     ensures cycle { IfErr result (IsCause edges.now) }
@@ -66,7 +70,7 @@ pub fn order_of(alloc: Global, edges: &[Vec<usize>]) -> Result<Vec<usize>, Order
 }
 
 // Each node is new.
-fn new_marks(alloc: Global, edges: &[Vec<usize>]) -> Result<Vec<Mark>, NoMemory>
+fn new_marks(alloc: Global, edges: &[Targets]) -> Result<Vec<Mark>, NoMemory>
     ensures size { IfOk result (λ marks. length marks.items ≡ length edges.now) }
     ensures all { IfOk result
         (λ marks. (node : ℕ) → node < length marks.items → slice_get marks.items node ≡ Some New) }
@@ -80,7 +84,7 @@ fn new_marks(alloc: Global, edges: &[Vec<usize>]) -> Result<Vec<Mark>, NoMemory>
 
 // Does this new node, and first each that its edges lead to.
 fn visit(
-    edges: &[Vec<usize>],
+    edges: &[Targets],
     marks: &mut Vec<Mark>,
     order: &mut Vec<usize>,
     node: usize,

@@ -37,7 +37,8 @@ fn system_of(alloc: Global, program: &Program, flow: FlowProgram) -> Result<OpSy
     extract(alloc, &flow)
 }
 
-// One grammar of the texts of a system, which is let go then, since it is as large as the grammar.
+// One grammar of the texts of a system. The system is let go then: the grammar has all its
+// productions again.
 fn resolved_of(alloc: Global, system: OpSystem) -> Result<Grammar, ImageRefusal>
     ensures exact { IfOk result
         (λ g. (w : List Letter) → Derives g.productions.items (symbols.Symbol.Nt g.start) w

@@ -1,10 +1,11 @@
 -- A walk along the chain of a number, from its last place on.
-use Rattle.std.proofs.Common.{◌≡◌, ◌∙◌, ◌<◌, ◌≤◌, ◌⊎◌, ◌↔◌, ℕ, inl, inr, List, length, get_or, sym, subst, arith, Some, None, slice_get}
-use Rattle.std.proofs.lemmas.Bool.{cases_lt}
+use Rattle.std.proofs.Common.{◌≡◌, ◌∙◌, ◌+◌, ◌<◌, ◌≤◌, ◌⊎◌, ◌↔◌, ℕ, Bool, true, false, if◌then◌else◌, nat_lt, inl, inr, List, length, get_or, refl, sym, subst, arith, Some, None, slice_get}
+use Rattle.std.proofs.lemmas.Bool.{cases_lt, ltb-true, lt-ltb}
 use Rattle.std.proofs.lemmas.Option.{slice_get_within, slice_get-get_or, none-some}
 use Rattle.number_chains.specs.Chains.{IsLast, AreChains}
+use Rattle.number_chains.proofs.ChainLemmas.{chains_fall}
 
--- a walk along the chain of a number has come to a place: so much is done for the places of the number from one on
+-- a walk along the chain of a number has come to a place: so much is done for the places of the number from `so_many` on
 pub record HasWalked (keys : List ℕ) (number place : ℕ) (Done : (ℕ → Type 0) → Type 0) : Type 0 where
   pub so_many : ℕ
   pub within : so_many ≤ length keys
@@ -24,7 +25,7 @@ module _ (keys last before : List ℕ) (chains : AreChains keys last before) (nu
       }
 
   module _ {Done : (ℕ → Type 0) → Type 0} (walked : HasWalked keys number place Done) where
-    -- a place of the list that the walk comes to is before the others, and the number stands there
+    -- a place of the list that the walk comes to is before those for which it is done, and the number stands there
     is_here : (next : ℕ) → slice_get before place ≡ Some next → (place < walked.so_many) × (slice_get keys place ≡ Some number)
     is_here next at = elim walked.last.stands [
       | inl none ↦ absurd (let w = slice_get_within before place next at in omega (arith, none, w, chains.links.long, chains.links.few))
@@ -74,3 +75,12 @@ module _ (keys last before : List ℕ) (chains : AreChains keys last before) (nu
                   ])
               | inr above ↦ above
             ]
+
+-- the next place of a walk is smaller, as far as it is one
+pub walk_smaller : (keys last before : List ℕ) (place next : ℕ) → AreChains keys last before → slice_get before place ≡ Some next → (if nat_lt next (length before) then next + 1 else 0) < (if nat_lt place (length before) then place + 1 else 0)
+walk_smaller keys last before place next chains at =
+    subst (λ (b : Bool). (if nat_lt next (length before) then next + 1 else 0) < (if b then place + 1 else 0)) (sym (lt-ltb place (length before) (slice_get_within before place next at))) (by_test (nat_lt next (length before)) refl)
+  where
+    by_test : (b : Bool) → nat_lt next (length before) ≡ b → (if b then next + 1 else 0) < place + 1
+    by_test true e = let l = chains_fall keys last before chains place next at (ltb-true next (length before) e) in omega (arith, l)
+    by_test false e = omega arith

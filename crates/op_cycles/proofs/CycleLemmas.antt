@@ -1,8 +1,7 @@
 -- What depends on what, by the graph.
 use Rattle.std.proofs.Common.{◌≡◌, ◌<◌, ◌≤◌, ◌+◌, ◌↔◌, ℕ, List, [], ◌∷◌, ◌++◌, length, Some, slice_get, get_or, Contains, inl, inr, refl, sym, ◌∙◌, ap, subst, arith, zero, suc, Bool, true}
 use Rattle.std.specs.Prelude.{◌⊎◌, IsTrue, nat_eq}
-use Rattle.std.specs.declared.vec.Vec.{Vec}
-use Rattle.std.specs.declared.alloc.Global.{Global}
+use Rattle.smallvec.specs.SmallVec.{SmallVec}
 use Rattle.std.proofs.lemmas.Option.{same_Some, slice_get_within, slice_get-get_or}
 use Rattle.text_base.specs.declared.byte_range.ByteRange.{ByteRange}
 use Rattle.text_base.specs.declared.page_token.PageToken.{PageToken}
@@ -103,7 +102,7 @@ module _ (ps : List Production) (rs : List OpRule) where
   depends_depends _ _ c (DependsOn.itself a) more = more
   depends_depends _ _ c (DependsOn.over a m b f row has rest) more = DependsOn.over a m c f row has (depends_depends m b c rest more)
 
-  module _ (edges : List (Vec ℕ Global)) (is : (a b : ℕ) → HasEdge edges a b ↔ IsStep ps rs a b) where
+  module _ (edges : List (SmallVec ℕ)) (is : (a b : ℕ) → HasEdge edges a b ↔ IsStep ps rs a b) where
     leads_depends : (a b : ℕ) → Leads edges a b → DependsOn R (Nt (record { 0 = a })) (Nt (record { 0 = b }))
     leads_depends a b (by_edge _ _ e) = step_depends (record { 0 = a }) (record { 0 = b }) ((is a b).0 e)
     leads_depends a b (onward _ next _ e more) =
@@ -151,7 +150,7 @@ module _ (ps : List Production) (rs : List OpRule) where
       | inr way ↦ leads_falls ns c within a b n m way x y
     ]
 
-pub are_numbers : (s : OpSystem) (edges : List (Vec ℕ Global)) (ns : List ℕ) → length edges ≡ s.grammar.count → ((a b : ℕ) → HasEdge edges a b ↔ IsStep s.grammar.productions.items s.ops.items a b) → AreWithin edges → AreComponents edges ns → AreNumbers s ns
+pub are_numbers : (s : OpSystem) (edges : List (SmallVec ℕ)) (ns : List ℕ) → length edges ≡ s.grammar.count → ((a b : ℕ) → HasEdge edges a b ↔ IsStep s.grammar.productions.items s.ops.items a b) → AreWithin edges → AreComponents edges ns → AreNumbers s ns
 are_numbers s edges ns len is within c = record {
   size = c.size ∙ len;
   falls = λ a b n m d x y. reach_falls s.grammar.productions.items s.ops.items edges is ns c within a.0 b.0 n m (depends_reach s.grammar.productions.items s.ops.items edges is (Nt a) (Nt b) d a b refl refl) x y;

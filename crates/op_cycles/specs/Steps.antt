@@ -1,7 +1,6 @@
 -- Which nonterminals a nonterminal of a system names.
 use Rattle.std.specs.Prelude.{◌≡◌, ◌<◌, ◌⊎◌, ◌↔◌, ℕ, List, Some, slice_get, Contains}
-use Rattle.std.specs.declared.vec.Vec.{Vec}
-use Rattle.std.specs.declared.alloc.Global.{Global}
+use Rattle.smallvec.specs.SmallVec.{SmallVec}
 use Rattle.include_order.specs.Edges.{HasEdge}
 use Rattle.cfg_grammar.specs.declared.symbol.Symbol.TheVariants.{Nt}
 use Rattle.cfg_grammar.specs.declared.production.Production.{Production}
@@ -15,7 +14,7 @@ pub data IsStep (productions : List Production) (rules : List OpRule) (from to :
   by_rule : (r : OpRule) → Contains rules r → r.left.0 ≡ from → r.operand.0 ≡ to → IsStep productions rules from to
 
 -- to the edges that were there some are added, and nothing else
-abbrev pub AddsEdges : List (Vec ℕ Global) → List (Vec ℕ Global) → (ℕ → ℕ → Type 0) → Type 0
+abbrev pub AddsEdges : List (SmallVec ℕ) → List (SmallVec ℕ) → (ℕ → ℕ → Type 0) → Type 0
 AddsEdges old new P = (a b : ℕ) → HasEdge new a b ↔ (HasEdge old a b ⊎ P a b)
 
 -- the edge is one of the first productions

@@ -8,24 +8,25 @@ ghost use Rattle.op_system.specs.Rules.{RulesAreBelow};
 ghost use Rattle.op_cycles.specs.Steps.{AddsEdges, IsFirstStep, IsFirstRule, IsStep};
 
 use cfg_grammar::{Production, Right, Symbol};
+use include_order::Targets;
 use op_system::{OpRule, OpSystem};
 use std::alloc::Global;
 use text_base::{NoMemory, Nt};
 
 /// No edges, for so many nodes.
-fn no_edges(alloc: Global, count: u64) -> Result<Vec<Vec<usize>>, NoMemory>
+fn no_edges(alloc: Global, count: u64) -> Result<Vec<Targets>, NoMemory>
     ensures len { IfOk result (λ edges. vec_len edges ≡ count) }
     ensures none { IfOk result (λ edges. All (λ targets. targets.items ≡ []) edges.items) }
 {
     let mut edges = Vec::new(alloc);
     for _ in 0..count {
-        edges.push(Vec::new(alloc))?;
+        edges.push(Targets::new(alloc))?;
     }
     Ok(edges)
 }
 
 /// Adds one edge.
-fn add_edge(edges: &mut Vec<Vec<usize>>, from: Nt, to: Nt) -> Result<(), NoMemory>
+fn add_edge(edges: &mut Vec<Targets>, from: Nt, to: Nt) -> Result<(), NoMemory>
     requires { from.0 < vec_len edges.old }
     ensures len { vec_len edges.new ≡ vec_len edges.old }
     ensures adds { OnOk result
@@ -36,7 +37,7 @@ fn add_edge(edges: &mut Vec<Vec<usize>>, from: Nt, to: Nt) -> Result<(), NoMemor
 }
 
 /// Adds the edge to a symbol, where that is a nonterminal.
-fn add_symbol(edges: &mut Vec<Vec<usize>>, from: Nt, symbol: Symbol) -> Result<(), NoMemory>
+fn add_symbol(edges: &mut Vec<Targets>, from: Nt, symbol: Symbol) -> Result<(), NoMemory>
     requires { from.0 < vec_len edges.old }
     ensures len { vec_len edges.new ≡ vec_len edges.old }
     ensures adds { OnOk result
@@ -51,7 +52,7 @@ fn add_symbol(edges: &mut Vec<Vec<usize>>, from: Nt, symbol: Symbol) -> Result<(
 }
 
 /// Adds the edges of a production.
-fn add_production(edges: &mut Vec<Vec<usize>>, p: Production) -> Result<(), NoMemory>
+fn add_production(edges: &mut Vec<Targets>, p: Production) -> Result<(), NoMemory>
     requires { p.left.0 < vec_len edges.old }
     ensures len { vec_len edges.new ≡ vec_len edges.old }
     ensures adds { OnOk result (AddsEdges edges.old.items edges.new.items
@@ -69,7 +70,7 @@ fn add_production(edges: &mut Vec<Vec<usize>>, p: Production) -> Result<(), NoMe
 }
 
 /// Adds the edges of all productions.
-fn add_productions(edges: &mut Vec<Vec<usize>>, productions: &[Production]) -> Result<(), NoMemory>
+fn add_productions(edges: &mut Vec<Targets>, productions: &[Production]) -> Result<(), NoMemory>
     requires { AreBelow (vec_len edges.old) productions.now }
     ensures len { vec_len edges.new ≡ vec_len edges.old }
     ensures adds { OnOk result
@@ -83,7 +84,7 @@ fn add_productions(edges: &mut Vec<Vec<usize>>, productions: &[Production]) -> R
 }
 
 /// Adds the edges of all rules.
-fn add_rules(edges: &mut Vec<Vec<usize>>, rules: &[OpRule]) -> Result<(), NoMemory>
+fn add_rules(edges: &mut Vec<Targets>, rules: &[OpRule]) -> Result<(), NoMemory>
     requires { RulesAreBelow (vec_len edges.old) rules.now }
     ensures len { vec_len edges.new ≡ vec_len edges.old }
     ensures adds { OnOk result
@@ -96,7 +97,7 @@ fn add_rules(edges: &mut Vec<Vec<usize>>, rules: &[OpRule]) -> Result<(), NoMemo
 }
 
 /// For each nonterminal, those that it names.
-pub fn steps(alloc: Global, s: &OpSystem) -> Result<Vec<Vec<usize>>, NoMemory>
+pub fn steps(alloc: Global, s: &OpSystem) -> Result<Vec<Targets>, NoMemory>
     ensures len { IfOk result (λ edges. vec_len edges ≡ s.now.grammar.count) }
     ensures exact { IfOk result
         (λ edges. (a b : ℕ)

@@ -1,8 +1,7 @@
 -- The last group of the path is a component.
 use Rattle.std.proofs.Common.{◌≡◌, ◌<◌, ◌≤◌, ◌+◌, ℕ, zero, suc, List, [], ◌∷◌, ◌++◌, length, length-append, take, set, Some, slice_get, inl, inr, refl, sym, ◌∙◌, ap, subst, arith, length-set, length-take}
 use Rattle.std.specs.List.{Contains}
-use Rattle.std.specs.declared.vec.Vec.{Vec}
-use Rattle.std.specs.declared.alloc.Global.{Global}
+use Rattle.smallvec.specs.SmallVec.{SmallVec}
 use Rattle.std.proofs.lemmas.Option.{same_Some, slice_get_within}
 use Rattle.std.proofs.lemmas.Bool.{cases_lt, cases_eq}
 use Rattle.std.proofs.lemmas.List.Sums.{sum_by-set}
@@ -90,7 +89,7 @@ closes_more marks path k n number after node next c at lt = record {
     before u m other (IsClosedMark.now_done p le there is) = IsClosedMark.now_done p (omega arith) there is
     before u m other (IsClosedMark.as_before e none) = IsClosedMark.as_before e (none_at u none (λ x. other (sym x)))
 
-module _ (edges : List (Vec ℕ Global)) (marks : List Mark) (path : List ℕ) (start : ℕ) (starts : List ℕ) (ws : List Waiting) (found : ℕ) (s : IsSearch edges marks path (start ∷ starts) ws found)
+module _ (edges : List (SmallVec ℕ)) (marks : List Mark) (path : List ℕ) (start : ℕ) (starts : List ℕ) (ws : List Waiting) (found : ℕ) (s : IsSearch edges marks path (start ∷ starts) ws found)
     (first : AreBefore ws start) (after : List Mark) (c : Closes marks path start found after) where
   abbrev P : List ℕ
   P = take start path

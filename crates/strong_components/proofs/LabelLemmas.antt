@@ -3,8 +3,7 @@ use Rattle.std.proofs.Common.{◌≡◌, ◌<◌, ◌≤◌, ◌+◌, ℕ, zero,
 use Rattle.std.proofs.lemmas.List.{length-map}
 use Rattle.std.specs.Prelude.{◌⊎◌}
 use Rattle.std.specs.List.{Contains}
-use Rattle.std.specs.declared.vec.Vec.{Vec}
-use Rattle.std.specs.declared.alloc.Global.{Global}
+use Rattle.smallvec.specs.SmallVec.{SmallVec}
 use Rattle.std.proofs.lemmas.Option.{same_Some, slice_get_within, slice_get-get_or, slice_get-map}
 use Rattle.include_order.specs.Edges.{HasEdge}
 use Rattle.include_order.proofs.ListLemmas.{set_at}
@@ -22,7 +21,7 @@ use Rattle.strong_components.proofs.OpenLemmas as opening
 use Rattle.strong_components.proofs.CloseLemmas as closing
 
 -- the same state by other names
-moved : (edges : List (Vec ℕ Global)) (m n : List Mark) (p q s t : List ℕ) (w x : List Waiting) (f g : ℕ) → n ≡ m → q ≡ p → t ≡ s → x ≡ w → g ≡ f → IsSearch edges m p s w f → IsSearch edges n q t x g
+moved : (edges : List (SmallVec ℕ)) (m n : List Mark) (p q s t : List ℕ) (w x : List Waiting) (f g : ℕ) → n ≡ m → q ≡ p → t ≡ s → x ≡ w → g ≡ f → IsSearch edges m p s w f → IsSearch edges n q t x g
 moved edges m n p q s t w x f g em ep es ew ef h =
     subst (λ (z : ℕ). IsSearch edges n q t x z) (sym ef)
     (subst (λ (z : List Waiting). IsSearch edges n q t z f) (sym ew)
@@ -37,7 +36,7 @@ fewer_same : (m n k : List Mark) → n ≡ k → FewerNew m k → FewerNew m n
 fewer_same m n k e h = subst (FewerNew m) (sym e) h
 
 -- a node that is opened, whatever leads to it
-opened_so : (edges : List (Vec ℕ Global)) (old new : Search) (before : List Waiting) (node degree : ℕ) → Opens edges node old new
+opened_so : (edges : List (SmallVec ℕ)) (old new : Search) (before : List Waiting) (node degree : ℕ) → Opens edges node old new
     → IsSearch edges old.marks.items old.path.items old.starts before (length old.roots.items) → slice_get old.marks.items node ≡ Some (New degree)
     → ((p u : ℕ) → slice_get old.path.items p ≡ Some u → Reaches edges u node)
     → ((x : Waiting) → Contains old.waiting x → Contains before x) → IsSorted old.waiting
@@ -61,7 +60,7 @@ opened_so edges old new before node degree o s is lead some in_order left = (
         omega arith
 
 -- the first node of a path
-pub first_opened : (edges : List (Vec ℕ Global)) (old new : Search) (node degree : ℕ) → Opens edges node old new → Keeps edges old → slice_get old.marks.items node ≡ Some (New degree) → old.starts ≡ []
+pub first_opened : (edges : List (SmallVec ℕ)) (old new : Search) (node degree : ℕ) → Opens edges node old new → Keeps edges old → slice_get old.marks.items node ≡ Some (New degree) → old.starts ≡ []
     → GoesOn edges old new
 first_opened edges old new node degree o s is none =
     (opened_so edges old new old.waiting node degree o s is (λ p u at. absurd (no_path p u at)) (λ x h. h) s.sorted (λ p u t at edge. absurd (no_path p u at))).0
@@ -70,7 +69,7 @@ first_opened edges old new node degree o s is none =
     no_path p u at = let g = s.grounded p (slice_get_within old.path.items p u at) in none_in g.start (subst (λ (xs : List ℕ). Contains xs g.start) none g.has)
 
 -- an edge leads to a new node
-pub next_opened : (edges : List (Vec ℕ Global)) (old new : Search) (edge : Waiting) (degree : ℕ) → Opens edges edge.to old new → KeepsBut edges old edge → IsLast old.starts edge.from → slice_get old.marks.items edge.to ≡ Some (New degree)
+pub next_opened : (edges : List (SmallVec ℕ)) (old new : Search) (edge : Waiting) (degree : ℕ) → Opens edges edge.to old new → KeepsBut edges old edge → IsLast old.starts edge.from → slice_get old.marks.items edge.to ≡ Some (New degree)
     → GoesOn edges old new
 next_opened edges old new edge degree o s last is =
     (opened_so edges old new (edge ∷ old.waiting) edge.to degree o s is lead (λ x h. later_in edge old.waiting x h) s.sorted.1 left).0
@@ -82,7 +81,7 @@ next_opened edges old new edge degree o s last is =
     left p u t at has = elim (pass.but_one edges old.marks.items old.path.items old.starts edge old.waiting (length old.roots.items) s p t (s.explored p u t at has)) [ inl this ↦ inl (sym this.1) | inr other ↦ inr other ]
 
 -- an edge leads to a node that is done
-pub passed : (edges : List (Vec ℕ Global)) (old : Search) (edge : Waiting) (n : ℕ) → KeepsBut edges old edge → slice_get old.marks.items edge.to ≡ Some (Done n) → GoesOn edges old old
+pub passed : (edges : List (SmallVec ℕ)) (old : Search) (edge : Waiting) (n : ℕ) → KeepsBut edges old edge → slice_get old.marks.items edge.to ≡ Some (Done n) → GoesOn edges old old
 passed edges old edge n s is = record {
   keeps = pass.passes edges old.marks.items old.path.items old.starts edge old.waiting (length old.roots.items) s n is;
   fewer = λ u d e. e;
@@ -90,7 +89,7 @@ passed edges old edge n s is = record {
 }
 
 -- an edge leads to the path
-pub merged : (edges : List (Vec ℕ Global)) (old new : Search) (edge : Waiting) (q : ℕ) → KeepsBut edges old edge → IsLast old.starts edge.from → slice_get old.marks.items edge.to ≡ Some (Open q)
+pub merged : (edges : List (SmallVec ℕ)) (old new : Search) (edge : Waiting) (q : ℕ) → KeepsBut edges old edge → IsLast old.starts edge.from → slice_get old.marks.items edge.to ≡ Some (Open q)
     → new.marks.items ≡ old.marks.items → new.path.items ≡ old.path.items → new.starts ≡ kept q old.starts → new.waiting ≡ old.waiting → new.roots.items ≡ old.roots.items → GoesOn edges old new
 merged edges old new edge q s last is marks path starts waiting roots = record {
   keeps = moved edges _ new.marks.items _ new.path.items _ new.starts _ new.waiting _ (length new.roots.items) marks path starts waiting (ap length roots)
@@ -100,7 +99,7 @@ merged edges old new edge q s last is marks path starts waiting roots = record {
 }
 
 -- the last group is closed
-pub shut : (edges : List (Vec ℕ Global)) (old new : Search) (start : ℕ) → Keeps edges old → AreBefore old.waiting start → Shuts start old new → GoesOn edges old new × (work_of new < work_of old)
+pub shut : (edges : List (SmallVec ℕ)) (old new : Search) (start : ℕ) → Keeps edges old → AreBefore old.waiting start → Shuts start old new → GoesOn edges old new × (work_of new < work_of old)
 shut edges old new start s first x = (
   record {
     keeps = moved edges _ new.marks.items _ new.path.items _ new.starts _ new.waiting _ (length new.roots.items) refl x.path refl x.waiting x.roots
@@ -117,20 +116,20 @@ shut edges old new start s first x = (
     less : work_of new < work_of old
     less = let w = x.marks.weight in let e = ap length x.starts in let f = ap length x.waiting in omega arith
 
-pub opened_met : (edges : List (Vec ℕ Global)) (old new : Search) (node : ℕ) → Opens edges node old new → node < length old.marks.items → IsMet new.marks.items node
+pub opened_met : (edges : List (SmallVec ℕ)) (old new : Search) (node : ℕ) → Opens edges node old new → node < length old.marks.items → IsMet new.marks.items node
 opened_met edges old new node o lt degree e = new_open degree (length old.path.items) (same_Some (New degree) (Open (length old.path.items)) (sym e ∙ (ap (λ (ms : List Mark). slice_get ms node) o.marks ∙ set_at old.marks.items node (Open (length old.path.items)) lt)))
 
 -- two steps
-pub goes_further : (edges : List (Vec ℕ Global)) (a b c : Search) → GoesOn edges a b → GoesOn edges b c → GoesOn edges a c
+pub goes_further : (edges : List (SmallVec ℕ)) (a b c : Search) → GoesOn edges a b → GoesOn edges b c → GoesOn edges a c
 goes_further edges a b c x y = record { keeps = y.keeps; fewer = λ u d e. x.fewer u d (y.fewer u d e); work = (let p = x.work in let q = y.work in omega arith) }
 
-at : (xs : List (Vec ℕ Global)) (u : ℕ) → u < length xs → (v : Vec ℕ Global) × (slice_get xs u ≡ Some v)
+at : (xs : List (SmallVec ℕ)) (u : ℕ) → u < length xs → (v : SmallVec ℕ) × (slice_get xs u ≡ Some v)
 at [] u lt = absurd (omega arith)
 at (x ∷ xs) zero lt = (x, refl)
 at (x ∷ xs) (suc u) lt = at xs u (omega arith)
 
 -- before the search
-pub searches : (edges : List (Vec ℕ Global)) (marks : List Mark) → AreNew edges marks → IsSearch edges marks [] [] [] 0
+pub searches : (edges : List (SmallVec ℕ)) (marks : List Mark) → AreNew edges marks → IsSearch edges marks [] [] [] 0
 searches edges marks new = record {
   size = new.size;
   degrees = λ u d ts e is. degree d (length ts.items) (same_Some (New d) (New (length ts.items)) (sym e ∙ new.each u ts is));
@@ -160,7 +159,7 @@ searches edges marks new = record {
         let p = at edges u lt in other (length p.0.items) (same_Some m (New (length p.0.items)) (sym e ∙ new.each u p.0 p.1))
 
 -- behind the search
-pub found_components : (edges : List (Vec ℕ Global)) (s : Search) → Keeps edges s → s.starts ≡ [] → ((u : ℕ) → u < length edges → IsMet s.marks.items u) → AreComponents edges (map number_in s.marks.items)
+pub found_components : (edges : List (SmallVec ℕ)) (s : Search) → Keeps edges s → s.starts ≡ [] → ((u : ℕ) → u < length edges → IsMet s.marks.items u) → AreComponents edges (map number_in s.marks.items)
 found_components edges s k none met = record {
   size = let e = length-map {A = Mark} {B = ℕ} s.marks.items number_in in let f = k.size in omega arith;
   falls = λ u v n m edge a b.

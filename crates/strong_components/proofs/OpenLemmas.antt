@@ -2,8 +2,7 @@
 use Rattle.std.proofs.Common.{◌≡◌, ◌<◌, ◌≤◌, ◌+◌, ℕ, List, [], ◌∷◌, ◌++◌, length, set, Some, slice_get, get_or, inl, inr, refl, sym, ◌∙◌, ap, subst, arith, length-set, length-append}
 use Rattle.std.specs.Prelude.{◌⊎◌}
 use Rattle.std.specs.List.{Contains, sum_by}
-use Rattle.std.specs.declared.vec.Vec.{Vec}
-use Rattle.std.specs.declared.alloc.Global.{Global}
+use Rattle.smallvec.specs.SmallVec.{SmallVec}
 use Rattle.std.proofs.lemmas.Option.{same_Some, slice_get_within, get_or_from_slice_get}
 use Rattle.std.proofs.lemmas.List.Sums.{sum_by-set}
 use Rattle.include_order.specs.Edges.{HasEdge}
@@ -15,8 +14,8 @@ use Rattle.strong_components.specs.declared.marks.Waiting.{Waiting}
 use Rattle.strong_components.specs.Search.{weight_of, waits, Back, IsDoneBelow, IsExplored, IsSorted, IsGrounded, IsSearch, FewerNew, work_left}
 use Rattle.strong_components.proofs.ListLemmas.{one_of, first_in, later_in, new_open, new_done, open_done, same_open, one_mark, in_front, at_end, waits_cases, waits_old, waits_new, waits_sorted, waits_length}
 
-module _ (edges : List (Vec ℕ Global)) (marks : List Mark) (path starts : List ℕ) (before ws : List Waiting) (found : ℕ) (s : IsSearch edges marks path starts before found)
-    (v degree : ℕ) (is_new : slice_get marks v ≡ Some (New degree)) (targets : Vec ℕ Global) (are : slice_get edges v ≡ Some targets)
+module _ (edges : List (SmallVec ℕ)) (marks : List Mark) (path starts : List ℕ) (before ws : List Waiting) (found : ℕ) (s : IsSearch edges marks path starts before found)
+    (v degree : ℕ) (is_new : slice_get marks v ≡ Some (New degree)) (targets : SmallVec ℕ) (are : slice_get edges v ≡ Some targets)
     (lead : (p u : ℕ) → slice_get path p ≡ Some u → Reaches edges u v)
     (some : (x : Waiting) → Contains ws x → Contains before x) (in_order : IsSorted ws)
     (left : (p u t : ℕ) → slice_get path p ≡ Some u → HasEdge edges u t → (t ≡ v) ⊎ IsExplored marks path starts ws p t) where
@@ -92,7 +91,7 @@ module _ (edges : List (Vec ℕ Global)) (marks : List Mark) (path starts : List
     ]
     | inr x ↦
         let own : edge.targets ≡ targets = same_Some edge.targets targets (sym edge.are ∙ ap (slice_get edges) (sym x.1) ∙ are) in
-        let among : Contains targets.items t = subst (λ (y : Vec ℕ Global). Contains y.items t) own edge.among in
+        let among : Contains targets.items t = subst (λ (y : SmallVec ℕ). Contains y.items t) own edge.among in
         IsExplored.is_waiting (subst (λ (y : ℕ). Contains W (record { from = y; to = t })) (sym x.0) (waits_new n targets.items ws t among))
   ]
 

@@ -1,8 +1,7 @@
 -- An edge that leads to a node that is done, or to the path.
 use Rattle.std.proofs.Common.{◌≡◌, ◌<◌, ℕ, List, ◌∷◌, length, Some, slice_get, inl, inr, refl, ◌∙◌, ap, subst, arith}
 use Rattle.std.specs.Prelude.{◌⊎◌}
-use Rattle.std.specs.declared.vec.Vec.{Vec}
-use Rattle.std.specs.declared.alloc.Global.{Global}
+use Rattle.smallvec.specs.SmallVec.{SmallVec}
 use Rattle.std.proofs.lemmas.Option.{slice_get_within}
 use Rattle.std.proofs.lemmas.Bool.{cases_lt}
 use Rattle.include_order.specs.Edges.{HasEdge}
@@ -15,7 +14,7 @@ use Rattle.strong_components.specs.Opening.{IsLast}
 use Rattle.strong_components.proofs.ListLemmas.{one_of, later_in, kept_from, kept_below, kept_has, kept_rises}
 use Rattle.strong_components.proofs.ReachLemmas.{reach_reach, reach_edge}
 
-module _ (edges : List (Vec ℕ Global)) (marks : List Mark) (path starts : List ℕ) (w : Waiting) (ws : List Waiting) (found : ℕ) (s : IsSearch edges marks path starts (w ∷ ws) found) where
+module _ (edges : List (SmallVec ℕ)) (marks : List Mark) (path starts : List ℕ) (w : Waiting) (ws : List Waiting) (found : ℕ) (s : IsSearch edges marks path starts (w ∷ ws) found) where
   -- an edge is the one that has been taken off the stack, or it is explored without it
   pub but_one : (p v : ℕ) → IsExplored marks path starts (w ∷ ws) p v → ((w.from ≡ p) × (w.to ≡ v)) ⊎ IsExplored marks path starts ws p v
   but_one p v (IsExplored.is_done n e) = inr (IsExplored.is_done n e)

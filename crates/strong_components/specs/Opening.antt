@@ -1,8 +1,7 @@
 -- How a search goes on. No public clause cites this.
 use Rattle.std.specs.Prelude.{◌≡◌, ◌≤◌, ◌<◌, ℕ, List, [], ◌∷◌, ◌++◌, length, Some, slice_get, slice_set, take, ◌+◌}
 use Rattle.std.specs.List.{Contains}
-use Rattle.std.specs.declared.vec.Vec.{Vec}
-use Rattle.std.specs.declared.alloc.Global.{Global}
+use Rattle.smallvec.specs.SmallVec.{SmallVec}
 use Rattle.strong_components.specs.declared.marks.Mark.{Mark}
 use Rattle.strong_components.specs.declared.marks.Mark.TheVariants.{New, Open}
 use Rattle.strong_components.specs.declared.marks.Waiting.{Waiting}
@@ -10,8 +9,8 @@ use Rattle.strong_components.specs.declared.search.Search.{Search}
 use Rattle.strong_components.specs.Search.{waits, Closes, IsSearch, FewerNew, work_left}
 
 -- a node is put at the end of the path, as a group of its own, and its edges are to be followed
-pub record Opens (edges : List (Vec ℕ Global)) (node : ℕ) (old new : Search) : Type 0 where
-  pub targets : Vec ℕ Global
+pub record Opens (edges : List (SmallVec ℕ)) (node : ℕ) (old new : Search) : Type 0 where
+  pub targets : SmallVec ℕ
   pub are : slice_get edges node ≡ Some targets
   pub marks : new.marks.items ≡ slice_set old.marks.items node (Open (length old.path.items))
   pub path : new.path.items ≡ old.path.items ++ node ∷ []
@@ -28,11 +27,11 @@ pub record Shuts (start : ℕ) (old new : Search) : Type 0 where
   pub roots : length new.roots.items ≡ length old.roots.items + 1
 
 -- the search keeps what it keeps
-abbrev pub Keeps : List (Vec ℕ Global) → Search → Type 0
+abbrev pub Keeps : List (SmallVec ℕ) → Search → Type 0
 Keeps edges s = IsSearch edges s.marks.items s.path.items s.starts s.waiting (length s.roots.items)
 
 -- the same where one edge has been taken off the stack and is still to be followed
-abbrev pub KeepsBut : List (Vec ℕ Global) → Search → Waiting → Type 0
+abbrev pub KeepsBut : List (SmallVec ℕ) → Search → Waiting → Type 0
 KeepsBut edges s edge = IsSearch edges s.marks.items s.path.items s.starts (edge ∷ s.waiting) (length s.roots.items)
 
 -- no group of the path begins behind the place
@@ -48,7 +47,7 @@ abbrev pub work_of : Search → ℕ
 work_of s = work_left s.marks.items s.starts s.waiting
 
 -- what a step comes to
-pub record GoesOn (edges : List (Vec ℕ Global)) (old new : Search) : Type 0 where
+pub record GoesOn (edges : List (SmallVec ℕ)) (old new : Search) : Type 0 where
   pub keeps : Keeps edges new
   pub fewer : FewerNew old.marks.items new.marks.items
   pub work : work_of new ≤ work_of old

@@ -1,8 +1,7 @@
 -- What the search for components keeps. No public clause cites this.
 use Rattle.std.specs.Prelude.{◌≡◌, ◌<◌, ◌≤◌, ◌+◌, ℕ, List, [], ◌∷◌, length, Some, slice_get, nat_le, if◌then◌else◌}
 use Rattle.std.specs.List.{Contains, sum_by}
-use Rattle.std.specs.declared.vec.Vec.{Vec}
-use Rattle.std.specs.declared.alloc.Global.{Global}
+use Rattle.smallvec.specs.SmallVec.{SmallVec}
 use Rattle.include_order.specs.Edges.{HasEdge}
 use Rattle.strong_components.specs.Components.{Reaches}
 use Rattle.strong_components.specs.declared.marks.Mark.{Mark}
@@ -59,10 +58,10 @@ pub record IsGrounded (starts : List ℕ) (p : ℕ) : Type 0 where
 
 -- the path goes through groups of nodes that reach one another (Gabow, Path-based depth-first search for strong and biconnected components,
 -- 2000)
-pub record IsSearch (edges : List (Vec ℕ Global)) (marks : List Mark) (path starts : List ℕ) (waiting : List Waiting) (found : ℕ) :
+pub record IsSearch (edges : List (SmallVec ℕ)) (marks : List Mark) (path starts : List ℕ) (waiting : List Waiting) (found : ℕ) :
     Type 0 where
   pub size : length marks ≡ length edges
-  pub degrees : (u degree : ℕ) (targets : Vec ℕ Global) → slice_get marks u ≡ Some (New degree) → slice_get edges u ≡ Some targets
+  pub degrees : (u degree : ℕ) (targets : SmallVec ℕ) → slice_get marks u ≡ Some (New degree) → slice_get edges u ≡ Some targets
       → degree ≡ length targets.items
   pub placed : (u p : ℕ) → slice_get marks u ≡ Some (Open p) → slice_get path p ≡ Some u
   pub opened : (p u : ℕ) → slice_get path p ≡ Some u → slice_get marks u ≡ Some (Open p)
@@ -100,9 +99,9 @@ abbrev pub work_left : List Mark → List ℕ → List Waiting → ℕ
 work_left marks starts waiting = sum_by weight_of marks + length waiting + length starts
 
 -- before the search each node is new
-pub record AreNew (edges : List (Vec ℕ Global)) (marks : List Mark) : Type 0 where
+pub record AreNew (edges : List (SmallVec ℕ)) (marks : List Mark) : Type 0 where
   pub size : length marks ≡ length edges
-  pub each : (u : ℕ) (targets : Vec ℕ Global) → slice_get edges u ≡ Some targets → slice_get marks u ≡ Some (New (length targets.items))
+  pub each : (u : ℕ) (targets : SmallVec ℕ) → slice_get edges u ≡ Some targets → slice_get marks u ≡ Some (New (length targets.items))
 
 -- the number of a node's component, where it is done
 abbrev pub number_in : Mark → ℕ

@@ -10,12 +10,13 @@ use crate::closing::close;
 use crate::marks::Mark;
 use crate::opening::{follow, next_edge, open_node, top};
 use crate::search::Search;
+use include_order::Targets;
 use std::alloc::Global;
 use text_base::NoMemory;
 
 /// Follows the next edge from the last group of the path, which begins at the place, or closes that
 /// group.
-fn step(search: &mut Search, edges: &[Vec<usize>], start: usize) -> Result<(), NoMemory>
+fn step(search: &mut Search, edges: &[Targets], start: usize) -> Result<(), NoMemory>
     requires within { AreWithin edges.now }
     requires keeps { Keeps edges.now search.old }
     requires last { slice_get search.old.starts 0 ≡ Some start }
@@ -29,7 +30,7 @@ fn step(search: &mut Search, edges: &[Vec<usize>], start: usize) -> Result<(), N
 }
 
 /// Goes through all that is reached from a node, where it is new.
-fn explore(search: &mut Search, edges: &[Vec<usize>], node: usize) -> Result<(), NoMemory>
+fn explore(search: &mut Search, edges: &[Targets], node: usize) -> Result<(), NoMemory>
     requires within { AreWithin edges.now }
     requires keeps { Keeps edges.now search.old }
     requires none { search.old.starts ≡ [] }
@@ -73,7 +74,7 @@ fn numbers_of(alloc: Global, marks: &[Mark]) -> Result<Vec<usize>, NoMemory>
 /// from 0, which nodes its edges lead to.
 ///
 /// Takes time and memory linear in the number of nodes and edges.
-pub fn components(alloc: Global, edges: &[Vec<usize>]) -> Result<Vec<usize>, NoMemory>
+pub fn components(alloc: Global, edges: &[Targets]) -> Result<Vec<usize>, NoMemory>
     requires { AreWithin edges.now }
     ensures { IfOk result (λ numbers. AreComponents edges.now numbers.items) }
 {

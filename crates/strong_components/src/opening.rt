@@ -8,6 +8,7 @@ ghost use Rattle.strong_components.specs.declared.marks.Waiting as waiting_edge;
 
 use crate::marks::{Mark, Waiting};
 use crate::search::Search;
+use include_order::Targets;
 use stacks::Stack;
 use text_base::NoMemory;
 
@@ -60,7 +61,7 @@ fn push_edges(waiting: &mut Stack<Waiting>, from: usize, targets: &[usize]) -> R
 }
 
 /// Puts a node at the end of the path, as a group of its own.
-pub fn open_node(search: &mut Search, edges: &[Vec<usize>], node: usize) -> Result<(), NoMemory>
+pub fn open_node(search: &mut Search, edges: &[Targets], node: usize) -> Result<(), NoMemory>
     requires size { length search.old.marks.items ≡ length edges.now }
     requires node { node < length edges.now }
     ensures { OnOk result (Opens edges.now node search.old search.new) }
@@ -74,7 +75,7 @@ pub fn open_node(search: &mut Search, edges: &[Vec<usize>], node: usize) -> Resu
 }
 
 /// Follows an edge from the last group of the path.
-pub fn follow(search: &mut Search, edges: &[Vec<usize>], edge: Waiting) -> Result<(), NoMemory>
+pub fn follow(search: &mut Search, edges: &[Targets], edge: Waiting) -> Result<(), NoMemory>
     requires within { AreWithin edges.now }
     requires keeps { KeepsBut edges.now search.old edge }
     requires last { IsLast search.old.starts edge.from }

@@ -4,6 +4,7 @@ ghost use Rattle.std.specs.Prelude.{◌≡◌, [], IfOk};
 ghost use Rattle.strong_components.specs.Search.{AreNew};
 
 use crate::marks::{Mark, Waiting};
+use include_order::Targets;
 use stacks::Stack;
 use std::alloc::Global;
 use text_base::NoMemory;
@@ -20,7 +21,7 @@ pub struct Search {
 }
 
 /// Each node is new.
-fn new_marks(alloc: Global, edges: &[Vec<usize>]) -> Result<Vec<Mark>, NoMemory>
+fn new_marks(alloc: Global, edges: &[Targets]) -> Result<Vec<Mark>, NoMemory>
     ensures { IfOk result (λ marks. AreNew edges.now marks.items) }
 {
     let mut marks = Vec::new(alloc);
@@ -32,7 +33,7 @@ fn new_marks(alloc: Global, edges: &[Vec<usize>]) -> Result<Vec<Mark>, NoMemory>
 
 impl Search {
     /// A search that has met no node.
-    pub fn new(alloc: Global, edges: &[Vec<usize>]) -> Result<Search, NoMemory>
+    pub fn new(alloc: Global, edges: &[Targets]) -> Result<Search, NoMemory>
         ensures { IfOk result
             (λ s. AreNew edges.now s.marks.items × (s.path.items ≡ []) × (s.starts ≡ [])
             × (s.waiting ≡ []) × (s.roots.items ≡ [])) }

@@ -1,9 +1,6 @@
 -- The nonterminals of the pairs that are taken up.
-use Rattle.std.proofs.Common.{◌≡◌, ℕ, zero, suc, ◌+◌, ◌<◌, ◌≤◌, Bool, true, false, if◌then◌else◌, nat_lt, List, [], ◌∷◌, ◌++◌, length, sym, ◌∙◌, refl, ap, subst, arith, Some, slice_get}
-use Rattle.std.proofs.lemmas.Option.{same_Some, slice_get_within}
-use Rattle.std.proofs.lemmas.Bool.{ltb-true, lt-ltb}
-use Rattle.number_chains.specs.Chains.{AreChains}
-use Rattle.number_chains.proofs.ChainLemmas.{chains_fall}
+use Rattle.std.proofs.Common.{◌≡◌, ℕ, zero, suc, ◌+◌, ◌<◌, ◌≤◌, List, [], ◌∷◌, ◌++◌, length, ◌∙◌, refl, ap, arith, Some, slice_get}
+use Rattle.std.proofs.lemmas.Option.{same_Some}
 use Rattle.numbered_sets.specs.Numbers.{Keeps}
 use Rattle.summary_fixpoint.specs.Closed.{Pair}
 use Rattle.summary_fixpoint.specs.Joints.{first_nonterminals}
@@ -40,12 +37,3 @@ module _ {S : Type 0} where
   -- and one pair more
   pub first_more : (pairs : List (Pair S)) (n a : ℕ) (s : S) → slice_get pairs n ≡ Some (a, s) → first_nonterminals pairs (n + 1) ≡ first_nonterminals pairs n ++ a ∷ []
   first_more pairs n a s e = let next : n + 1 ≡ suc n = omega arith in ap (first_nonterminals pairs) next ∙ one_more pairs n a s e
-
--- the next place of a walk is smaller, as far as it is one
-pub walk_smaller : (keys last before : List ℕ) (place next : ℕ) → AreChains keys last before → slice_get before place ≡ Some next → (if nat_lt next (length before) then next + 1 else 0) < (if nat_lt place (length before) then place + 1 else 0)
-walk_smaller keys last before place next chains at =
-    subst (λ (b : Bool). (if nat_lt next (length before) then next + 1 else 0) < (if b then place + 1 else 0)) (sym (lt-ltb place (length before) (slice_get_within before place next at))) (by_test (nat_lt next (length before)) refl)
-  where
-    by_test : (b : Bool) → nat_lt next (length before) ≡ b → (if b then next + 1 else 0) < place + 1
-    by_test true e = let l = chains_fall keys last before chains place next at (ltb-true next (length before) e) in omega (arith, l)
-    by_test false e = omega arith

@@ -34,7 +34,7 @@ fn start_facts(alloc: Global, marks: &[bool], start: u64) -> Result<Vec<u64>, No
     Ok(facts)
 }
 
-/// Adds the steps to two numbers: one where they are one.
+/// Adds the steps from a left side to two numbers: one step where these are one.
 fn add_steps_to(steps: &mut Vec<Rule>, left: u64, a: u64, b: u64) -> Result<(), NoMemory>
     ensures { OnOk result (steps.new.items ≡ steps.old.items ++ steps_to left a b) }
 {

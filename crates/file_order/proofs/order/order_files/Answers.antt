@@ -1,24 +1,23 @@
 use Rattle.std.proofs.Common.{List, ℕ, sym, subst}
-use Rattle.std.specs.declared.vec.Vec.{Vec}
-use Rattle.std.specs.declared.alloc.Global.{Global}
+use Rattle.smallvec.specs.SmallVec.{SmallVec}
 use Rattle.expansion_laws.specs.View.{files_of}
 use Rattle.file_order.specs.FileEdges.{AreEdges}
 use Rattle.file_order.proofs.OrderLemmas.{edges_within, order_is, circle_within, cause_is}
 use Rattle.file_order.proofs.order.order_files.Goals as goal
 
 pub order_of-requires : goal.order_of-requires
-order_of-requires c = edges_within (files_of c.args.files.now) c.as_slice.result.now (subst (λ (es : List (Vec ℕ Global)). AreEdges (files_of c.args.files.now) es) (sym c.as_slice.ensures.value) c.in_ok-edges.ensures)
+order_of-requires c = edges_within (files_of c.args.files.now) c.as_slice.result.now (subst (λ (es : List (SmallVec ℕ)). AreEdges (files_of c.args.files.now) es) (sym c.as_slice.ensures.value) c.in_ok-edges.ensures)
 
 pub returns-in-Ok-clause-order : goal.returns-in-Ok-clause-order
 returns-in-Ok-clause-order c =
-    order_is (files_of c.args.files.now) c.as_slice.result.now c.in-Ok.places.items c.requires (subst (λ (es : List (Vec ℕ Global)). AreEdges (files_of c.args.files.now) es) (sym c.as_slice.ensures.value) c.in_ok-edges.ensures) c.in-Ok.ensures.order
+    order_is (files_of c.args.files.now) c.as_slice.result.now c.in-Ok.places.items c.requires (subst (λ (es : List (SmallVec ℕ)). AreEdges (files_of c.args.files.now) es) (sym c.as_slice.ensures.value) c.in_ok-edges.ensures) c.in-Ok.ensures.order
 
 pub cycle_at-requires : goal.cycle_at-requires
 cycle_at-requires c =
-    circle_within (files_of c.args.files.now) c.as_slice.result.now c.in-Err-Cycle.place (subst (λ (es : List (Vec ℕ Global)). AreEdges (files_of c.args.files.now) es) (sym c.as_slice.ensures.value) c.in_ok-edges.ensures)
+    circle_within (files_of c.args.files.now) c.as_slice.result.now c.in-Err-Cycle.place (subst (λ (es : List (SmallVec ℕ)). AreEdges (files_of c.args.files.now) es) (sym c.as_slice.ensures.value) c.in_ok-edges.ensures)
     (rw c.in-Err-Cycle.field-0-is at c.in-Err-Cycle.ensures.cycle)
 
 pub returns-in-Err-Cycle-clause-err : goal.returns-in-Err-Cycle-clause-err
 returns-in-Err-Cycle-clause-err c =
-    cause_is (files_of c.args.files.now) c.as_slice.result.now c.in-Err-Cycle.place c.cycle_at.result c.requires (subst (λ (es : List (Vec ℕ Global)). AreEdges (files_of c.args.files.now) es) (sym c.as_slice.ensures.value) c.in_ok-edges.ensures)
+    cause_is (files_of c.args.files.now) c.as_slice.result.now c.in-Err-Cycle.place c.cycle_at.result c.requires (subst (λ (es : List (SmallVec ℕ)). AreEdges (files_of c.args.files.now) es) (sym c.as_slice.ensures.value) c.in_ok-edges.ensures)
     (rw c.in-Err-Cycle.field-0-is at c.in-Err-Cycle.ensures.cycle) c.cycle_at.ensures

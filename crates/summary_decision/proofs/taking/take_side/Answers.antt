@@ -1,6 +1,5 @@
 use Rattle.std.proofs.Common.{length, sym, arith}
-use Rattle.number_chains.proofs.WalkLemmas.{walk_begun, walk_stands, walk_further, walk_ended}
-use Rattle.summary_fixpoint.proofs.TakenLemmas.{walk_smaller}
+use Rattle.number_chains.proofs.WalkLemmas.{walk_begun, walk_stands, walk_further, walk_ended, walk_smaller}
 use Rattle.summary_decision.proofs.TakeLemmas.{gives_none, gives_more, gives_fewer, stands_at, taken_on}
 use Rattle.summary_decision.proofs.taking.take_side.Goals as goal
 

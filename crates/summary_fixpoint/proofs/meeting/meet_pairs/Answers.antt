@@ -1,8 +1,7 @@
 use Rattle.std.proofs.Common.{sym}
-use Rattle.number_chains.proofs.WalkLemmas.{walk_begun, walk_stands, walk_further, walk_ended}
+use Rattle.number_chains.proofs.WalkLemmas.{walk_begun, walk_stands, walk_further, walk_ended, walk_smaller}
 use Rattle.summary_fixpoint.specs.Joints.{taken_count}
 use Rattle.summary_fixpoint.proofs.JointLemmas.{beside_on, meets_none, meets_more, meets_all, stands_partner}
-use Rattle.summary_fixpoint.proofs.TakenLemmas.{walk_smaller}
 use Rattle.summary_fixpoint.proofs.meeting.meet_pairs.Goals as goal
 
 pub loop-before-init : goal.loop-before-init
