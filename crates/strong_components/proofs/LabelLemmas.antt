@@ -129,7 +129,7 @@ at (x ∷ xs) zero lt = (x, refl)
 at (x ∷ xs) (suc u) lt = at xs u (omega arith)
 
 -- before the search
-pub searches : (edges : List (SmallVec ℕ)) (marks : List Mark) → AreNew edges marks → IsSearch edges marks [] [] [] 0
+searches : (edges : List (SmallVec ℕ)) (marks : List Mark) → AreNew edges marks → IsSearch edges marks [] [] [] 0
 searches edges marks new = record {
   size = new.size;
   degrees = λ u d ts e is. degree d (length ts.items) (same_Some (New d) (New (length ts.items)) (sym e ∙ new.each u ts is));
@@ -157,6 +157,11 @@ searches edges marks new = record {
     all_new u m e other =
         let lt : u < length edges = let h = slice_get_within marks u m e in let l = new.size in omega arith in
         let p = at edges u lt in other (length p.0.items) (same_Some m (New (length p.0.items)) (sym e ∙ new.each u p.0 p.1))
+
+-- a search that has met no node
+pub first_search : (edges : List (SmallVec ℕ)) (s : Search) → AreNew edges s.marks.items → s.path.items ≡ [] → s.starts ≡ [] → s.waiting ≡ [] → s.roots.items ≡ [] → Keeps edges s
+first_search edges s new path starts waiting roots =
+    moved edges s.marks.items s.marks.items [] s.path.items [] s.starts [] s.waiting 0 (length s.roots.items) refl path starts waiting (ap (λ (rs : List ℕ). length rs) roots) (searches edges s.marks.items new)
 
 -- behind the search
 pub found_components : (edges : List (SmallVec ℕ)) (s : Search) → Keeps edges s → s.starts ≡ [] → ((u : ℕ) → u < length edges → IsMet s.marks.items u) → AreComponents edges (map number_in s.marks.items)

@@ -13,7 +13,7 @@ pub index-requires : goal.index-requires
 index-requires t c =
     let node_in : c.args.node < length c.args.edges.now = let h = slice_get_within c.args.marks.now.items c.args.node New c.requires.new in let s = c.requires.walk.size in omega arith in
     let at = slice_get_read c.args.edges.now _ c.args.node c.index-edges-node.result refl node_in c.index-edges-node.is in
-    let edge = edge_at c.args.edges.now c.args.node c.index-edges-node.result c.as_slice-targets.result.now c.loop-target.target-index at c.as_slice-targets.ensures.value c.loop-target-test.true in
+    let edge = edge_at c.args.edges.now c.args.node c.index-edges-node.result c.as_slice-targets.result.now c.loop-target.target-index at c.as_slice-targets.ensures c.loop-target-test.true in
     let inside = c.requires.inside _ _ edge in
     let s = c.loop-target.invariant.walk.size in
     omega arith
@@ -22,7 +22,7 @@ pub returns-in-Open-clause-cycle : goal.returns-in-Open-clause-cycle
 returns-in-Open-clause-cycle t c =
     let node_in : c.args.node < length c.args.edges.now = let h = slice_get_within c.args.marks.now.items c.args.node New c.requires.new in let s = c.requires.walk.size in omega arith in
     let at = slice_get_read c.args.edges.now _ c.args.node c.index-edges-node.result refl node_in c.index-edges-node.is in
-    let edge = edge_at c.args.edges.now c.args.node c.index-edges-node.result c.as_slice-targets.result.now c.loop-target.target-index at c.as_slice-targets.ensures.value c.loop-target-test.true in
+    let edge = edge_at c.args.edges.now c.args.node c.index-edges-node.result c.as_slice-targets.result.now c.loop-target.target-index at c.as_slice-targets.ensures c.loop-target-test.true in
     let inside = c.requires.inside _ _ edge in
     let here = lead_to_target _ _ _ _ _ _ _ c.requires.here c.loop-target.invariant edge in
     let s = c.loop-target.invariant.walk.size in
@@ -33,7 +33,7 @@ pub visit-requires : goal.visit-requires
 visit-requires t c =
     let node_in : c.args.node < length c.args.edges.now = let h = slice_get_within c.args.marks.now.items c.args.node New c.requires.new in let s = c.requires.walk.size in omega arith in
     let at = slice_get_read c.args.edges.now _ c.args.node c.index-edges-node.result refl node_in c.index-edges-node.is in
-    let edge = edge_at c.args.edges.now c.args.node c.index-edges-node.result c.as_slice-targets.result.now c.loop-target.target-index at c.as_slice-targets.ensures.value c.loop-target-test.true in
+    let edge = edge_at c.args.edges.now c.args.node c.index-edges-node.result c.as_slice-targets.result.now c.loop-target.target-index at c.as_slice-targets.ensures c.loop-target-test.true in
     let inside = c.requires.inside _ _ edge in
     let s = c.loop-target.invariant.walk.size in
     let target_in : get_or c.as_slice-targets.result.now c.loop-target.target-index 0 < length c.loop-target.marks.items = omega arith in
@@ -57,7 +57,7 @@ returns-clause-walk t c =
     let whole : take c.loop-target.target-index c.as_slice-targets.result.now ≡ c.as_slice-targets.result.now = grind (arith, common_steps) in
     subst (λ (o : List ℕ). IsWalk c.args.edges.now (set c.loop-target.marks.items c.args.node Done) o) (sym c.in_ok-put.ensures)
     (ends c.args.edges.now c.loop-target.marks.items c.loop-target.order.items c.args.node c.loop-target.invariant.walk node_in
-    (all_targets _ _ _ _ _ _ _ _ c.loop-target.invariant at c.as_slice-targets.ensures.value whole))
+    (all_targets _ _ _ _ _ _ _ _ c.loop-target.invariant at c.as_slice-targets.ensures whole))
 
 pub returns-clause-goes_on : goal.returns-clause-goes_on
 returns-clause-goes_on t c = went_on _ _ _ _ _ _ c.loop-target.invariant
@@ -89,7 +89,7 @@ pub loop-target-preserved-in-Done : goal.loop-target-preserved-in-Done
 loop-target-preserved-in-Done t c =
     let node_in : c.args.node < length c.args.edges.now = let h = slice_get_within c.args.marks.now.items c.args.node New c.requires.new in let s = c.requires.walk.size in omega arith in
     let at = slice_get_read c.args.edges.now _ c.args.node c.index-edges-node.result refl node_in c.index-edges-node.is in
-    let edge = edge_at c.args.edges.now c.args.node c.index-edges-node.result c.as_slice-targets.result.now c.loop-target.target-index at c.as_slice-targets.ensures.value c.loop-target-test.true in
+    let edge = edge_at c.args.edges.now c.args.node c.index-edges-node.result c.as_slice-targets.result.now c.loop-target.target-index at c.as_slice-targets.ensures c.loop-target-test.true in
     let inside = c.requires.inside _ _ edge in
     let s = c.loop-target.invariant.walk.size in
     let target_in : get_or c.as_slice-targets.result.now c.loop-target.target-index 0 < length c.loop-target.marks.items = omega arith in

@@ -13,6 +13,6 @@ returns c =
       marks = ap (λ (p : ℕ). set c.args.search.now.marks.items c.args.node (Open p)) at;
       path = c.in_ok-push.ensures.items;
       starts = c.in_ok-push-2.ensures.ok ∙ ap (λ (p : ℕ). p ∷ c.args.search.now.starts) at;
-      waiting = c.in_ok-push_edges.ensures ∙ (ap (λ (p : ℕ). waits p c.as_slice.result.now c.args.search.now.waiting) at ∙ ap (λ (ts : List ℕ). waits (length c.args.search.now.path.items) ts c.args.search.now.waiting) c.as_slice.ensures.value);
+      waiting = c.in_ok-push_edges.ensures ∙ (ap (λ (p : ℕ). waits p c.as_slice.result.now c.args.search.now.waiting) at ∙ ap (λ (ts : List ℕ). waits (length c.args.search.now.path.items) ts c.args.search.now.waiting) c.as_slice.ensures);
       roots = refl;
     }
