@@ -1,8 +1,9 @@
 //! How long the ways to go over a page take.
 
-use crate::reading::{Met, tokens_of};
+use crate::reading::tokens_of;
 use anyhow::Result;
 use merged_reader::MergedReader;
+use page_lexer::PageLexer;
 use std::alloc::Global;
 use std::rt::Clock;
 use std::time::Instant;
@@ -18,9 +19,9 @@ enum Way {
     Sum,
     /// A step of the reader at each byte.
     Steps,
-    /// By a table that is made on the way.
-    Table,
-    /// By a table that has all that the page asks for.
+    /// By a lexer that is made on the way.
+    Lexer,
+    /// By a lexer that has asked all that the page asks for.
     Full,
 }
 
@@ -29,8 +30,8 @@ impl Way {
         match self {
             Way::Sum => "a sum of the bytes",
             Way::Steps => "a step at each byte",
-            Way::Table => "a table that asks each pair once",
-            Way::Full => "the table when all is asked",
+            Way::Lexer => "a lexer, which asks each pair once",
+            Way::Full => "the lexer when all is asked",
         }
     }
 }
@@ -49,17 +50,17 @@ fn turn(
     alloc: Global,
     way: Way,
     reader: MergedReader<'_>,
-    full: &mut Met<'_>,
+    full: &mut PageLexer<'_>,
     page: &[u8],
 ) -> Result<u64, NoMemory> {
     match way {
         Way::Sum => Ok(sum_of(page)),
         Way::Steps => Ok(tokens_of(alloc, reader, page)? as u64),
-        Way::Table => {
-            let mut met = Met::new(alloc, reader)?;
-            Ok(met.tokens_of(alloc, page)? as u64)
+        Way::Lexer => {
+            let mut lexer = PageLexer::new(alloc, reader.indexed)?;
+            Ok(lexer.tokens(alloc, page)?.len() as u64)
         }
-        Way::Full => Ok(full.tokens_of(alloc, page)? as u64),
+        Way::Full => Ok(full.tokens(alloc, page)?.len() as u64),
     }
 }
 
@@ -76,7 +77,7 @@ fn timed(
     rt: &(impl Clock + AllocGlobal),
     way: Way,
     reader: MergedReader<'_>,
-    full: &mut Met<'_>,
+    full: &mut PageLexer<'_>,
     page: &[u8],
 ) -> Result<(u64, u64)> {
     let turns = (BYTES / page.len().max(1)).saturating_add(1);
@@ -99,10 +100,10 @@ pub fn measure(
     reader: MergedReader<'_>,
     page: &[u8],
 ) -> Result<()> {
-    let mut full = Met::new(rt.alloc(), reader)?;
-    full.tokens_of(rt.alloc(), page)?;
+    let mut full = PageLexer::new(rt.alloc(), reader.indexed)?;
+    let _tokens = full.tokens(rt.alloc(), page)?;
     let (plain, _) = timed(rt, Way::Sum, reader, &mut full, page)?;
-    for way in [Way::Sum, Way::Steps, Way::Table, Way::Full] {
+    for way in [Way::Sum, Way::Steps, Way::Lexer, Way::Full] {
         let (taken, kept) = timed(rt, way, reader, &mut full, page)?;
         let (name, ratio) = (way.name(), taken / plain.max(1));
         let (whole, thousandths) = (taken / 1000, taken % 1000);

@@ -1,5 +1,5 @@
 //! How many states of the reader of pages a page meets, and how many pairs of a state and a byte; with
-//! the word `figures` also how long a step takes, anew at each byte and by a table.
+//! the word `figures` also how long a step takes, of the reader and of the lexer.
 #![tactic(auto)]
 
 mod figures;
@@ -11,8 +11,9 @@ use dtd_index::IndexedDtd;
 use dtd_model::{Dtd, mini};
 use figures::measure;
 use merged_reader::MergedReader;
+use page_lexer::PageLexer;
 use pages::{MINI, Parts, STRICT, page_of};
-use reading::Met;
+use reading::pairs_of;
 use std::env;
 use std::rt::{Clock, Env};
 use xhtml_strict::strict;
@@ -27,9 +28,9 @@ fn report(
     page: &[u8],
     timed: bool,
 ) -> Result<()> {
-    let mut met = Met::new(rt.alloc(), reader)?;
-    let (bytes, tokens) = (page.len(), met.tokens_of(rt.alloc(), page)?);
-    let (states, pairs) = (met.states(), met.pairs());
+    let mut lexer = PageLexer::new(rt.alloc(), reader.indexed)?;
+    let (bytes, tokens) = (page.len(), lexer.tokens(rt.alloc(), page)?.len());
+    let (states, pairs) = (lexer.numbered.states.len(), pairs_of(&lexer));
     println!(rt; "{name}: {bytes} bytes, {tokens} tokens, {states} states, {pairs} pairs")?;
     if timed {
         measure(rt, reader, page)?;

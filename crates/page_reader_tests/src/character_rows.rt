@@ -1,6 +1,6 @@
 //! Pages with their tokens, and texts with the states that they share.
 
-use crate::reading::{both_say, definition, sameness};
+use crate::reading::{all_say, definition, sameness};
 use std::test::Fail;
 
 const DEFINITION: &[u8] = b"<!ELEMENT html (body)>
@@ -45,7 +45,7 @@ fn characters(rt: HostRuntime) -> Result<(), Fail> {
             b"text text text text text ".as_slice(),
         ),
     ] {
-        assert!(rt; both_say(rt.alloc(), &dtd, page, words)?);
+        assert!(rt; all_say(rt.alloc(), &dtd, page, words)?);
     }
     Ok(())
 }
@@ -83,7 +83,7 @@ fn compared(rt: HostRuntime) -> Result<(), Fail> {
             b"bad ".as_slice(),
         ),
     ] {
-        assert!(rt; both_say(rt.alloc(), &dtd, page, words)?);
+        assert!(rt; all_say(rt.alloc(), &dtd, page, words)?);
     }
     Ok(())
 }
@@ -113,7 +113,7 @@ fn faults(rt: HostRuntime) -> Result<(), Fail> {
         (b"<!--\xEF\xBF\xBE-->".as_slice(), b"bad ".as_slice()),
         (b"<p class='\xEF\xBF\xBF'>".as_slice(), b"bad ".as_slice()),
     ] {
-        assert!(rt; both_say(rt.alloc(), &dtd, page, words)?);
+        assert!(rt; all_say(rt.alloc(), &dtd, page, words)?);
     }
     Ok(())
 }
@@ -128,7 +128,7 @@ fn the_mark(rt: HostRuntime) -> Result<(), Fail> {
         (b"\xEF\xBF\xBE".as_slice(), b"bad ".as_slice()),
         (b"\xEF\xBB".as_slice(), b"bad ".as_slice()),
     ] {
-        assert!(rt; both_say(rt.alloc(), &dtd, page, words)?);
+        assert!(rt; all_say(rt.alloc(), &dtd, page, words)?);
     }
     Ok(())
 }

@@ -1,8 +1,8 @@
 //! Generated pages: whole pieces and their fragments in any order, by a row of numbers that looks
-//! drawn. Both readers put out over each of them what a plain reading piece by piece gives.
+//! drawn. Both readers and the lexer put out over each of them what a plain reading piece by piece gives.
 
 use crate::by_pieces::words_by_pieces;
-use crate::reading::{both_say, definition};
+use crate::reading::{all_say, definition};
 use rand_core::utils::NextWord;
 use rand_pcg::Pcg32;
 use std::alloc::Global;
@@ -114,7 +114,7 @@ fn readers_agree_with_pieces(rt: HostRuntime) -> Result<(), Fail> {
         let page = generated(alloc, &mut numbers)?;
         let characters: Vec<char> = page.chars().collect(alloc)?;
         let words = words_by_pieces(alloc, &dtd, characters.as_slice())?;
-        assert!(rt; both_say(alloc, &dtd, page.as_bytes(), words.as_slice())?);
+        assert!(rt; all_say(alloc, &dtd, page.as_bytes(), words.as_slice())?);
         lawful = lawful.saturating_add(if words.as_slice().ends_with(b"bad ") {
             0
         } else {

@@ -1,4 +1,4 @@
-//! Tests of page_reader, merged_reader and page_runs: both readers on pages with their tokens, on
+//! Tests of page_reader, merged_reader, page_runs and page_lexer: readers and lexer on pages with their tokens, on
 //! generated pages beside a plain reading piece by piece, where two texts share a state, and how
 //! many bytes do the same.
 #![tactic(auto)]

@@ -1,6 +1,6 @@
 //! References by number with their tokens, and numbers that share states.
 
-use crate::reading::{both_say, definition, sameness};
+use crate::reading::{all_say, definition, sameness};
 use std::test::Fail;
 
 const DEFINITION: &[u8] = b"<!ELEMENT p (#PCDATA)>
@@ -30,7 +30,7 @@ fn characters_by_number(rt: HostRuntime) -> Result<(), Fail> {
         b"&#x10000;".as_slice(),
         b"&#x10FFFF;".as_slice(),
     ] {
-        assert!(rt; both_say(rt.alloc(), &dtd, page, b"text ")?);
+        assert!(rt; all_say(rt.alloc(), &dtd, page, b"text ")?);
     }
     Ok(())
 }
@@ -56,7 +56,7 @@ fn other_numbers(rt: HostRuntime) -> Result<(), Fail> {
         b"&#xFFFE;".as_slice(),
         b"&#x110000;".as_slice(),
     ] {
-        assert!(rt; both_say(rt.alloc(), &dtd, page, b"bad ")?);
+        assert!(rt; all_say(rt.alloc(), &dtd, page, b"bad ")?);
     }
     Ok(())
 }

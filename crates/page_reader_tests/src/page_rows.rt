@@ -1,6 +1,6 @@
 //! Pages with their tokens.
 
-use crate::reading::{both_say, both_say_in_pieces, definition};
+use crate::reading::{all_say, both_say_in_pieces, definition};
 use std::test::Fail;
 use xhtml_strict::strict;
 
@@ -47,7 +47,7 @@ fn content(rt: HostRuntime) -> Result<(), Fail> {
             b"misc <p text _ text /p ".as_slice(),
         ),
     ] {
-        assert!(rt; both_say(rt.alloc(), &dtd, page, words)?);
+        assert!(rt; all_say(rt.alloc(), &dtd, page, words)?);
     }
     Ok(())
 }
@@ -78,7 +78,7 @@ fn prologs(rt: HostRuntime) -> Result<(), Fail> {
         (b"<!doctype html>".as_slice(), b"bad ".as_slice()),
         (b"<!DOCTYPE p>".as_slice(), b"bad ".as_slice()),
     ] {
-        assert!(rt; both_say(rt.alloc(), &dtd, page, words)?);
+        assert!(rt; all_say(rt.alloc(), &dtd, page, words)?);
     }
     Ok(())
 }
@@ -106,7 +106,7 @@ fn attributes(rt: HostRuntime) -> Result<(), Fail> {
         (b"<br id='a'/>".as_slice(), b"bad ".as_slice()),
         (b"<p / >".as_slice(), b"bad ".as_slice()),
     ] {
-        assert!(rt; both_say(rt.alloc(), &dtd, page, words)?);
+        assert!(rt; all_say(rt.alloc(), &dtd, page, words)?);
     }
     Ok(())
 }
@@ -131,7 +131,7 @@ fn faults(rt: HostRuntime) -> Result<(), Fail> {
         (b"&#x110000;".as_slice(), b"bad ".as_slice()),
         (b"&".as_slice(), b"bad ".as_slice()),
     ] {
-        assert!(rt; both_say(rt.alloc(), &dtd, page, words)?);
+        assert!(rt; all_say(rt.alloc(), &dtd, page, words)?);
     }
     Ok(())
 }

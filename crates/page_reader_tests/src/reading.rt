@@ -1,6 +1,6 @@
 //! What the readers put out over a page, in words.
 
-use crate::token_words::push_words;
+use crate::token_words::{push_word, push_words};
 use byte_readers::ByteReader;
 use dtd_index::IndexedDtd;
 use dtd_model::Dtd;
@@ -9,6 +9,7 @@ use echoing_machine::{Echoing, RunReader};
 use fst_core::Machine;
 use io_edge::MemFiles;
 use merged_reader::{MergedReader, PageReader};
+use page_lexer::PageLexer;
 use page_runs::PageRunReader;
 use std::alloc::Global;
 use std::test::Fail;
@@ -25,12 +26,38 @@ pub fn definition(alloc: Global, text: &[u8]) -> Result<Dtd, Fail> {
     Ok(read_dtd(alloc, &mut files, "d")?)
 }
 
-/// Whether both readers put out these tokens over a page, each as a word and a space.
-pub fn both_say(alloc: Global, dtd: &Dtd, page: &[u8], words: &[u8]) -> Result<bool, NoMemory> {
+/// Whether both readers and the lexer put out these tokens over a page, each as a word and a space.
+pub fn all_say(alloc: Global, dtd: &Dtd, page: &[u8], words: &[u8]) -> Result<bool, NoMemory> {
     let indexed = IndexedDtd::new(alloc, dtd)?;
     let plain = read_words(alloc, &PageReader { indexed: &indexed }, page)?;
     let merged = read_words(alloc, &MergedReader { indexed: &indexed }, page)?;
-    Ok(plain.as_slice() == words && merged.as_slice() == words)
+    let mut lexer = PageLexer::new(alloc, &indexed)?;
+    let stepped = stepped_words(alloc, &mut lexer, page)?;
+    let lexed = lexed_words(alloc, &mut lexer, page)?;
+    let readers_say = plain.as_slice() == words && merged.as_slice() == words;
+    Ok(readers_say && stepped.as_slice() == words && lexed.as_slice() == words)
+}
+
+// The tokens of a page by steps of the lexer, each as a word and a space.
+fn stepped_words(alloc: Global, lexer: &mut PageLexer<'_>, page: &[u8]) -> Result<Bytes, NoMemory> {
+    let mut words = Bytes::new(alloc);
+    let mut state = lexer.first();
+    for byte in page {
+        let step = lexer.step(alloc, state, *byte)?;
+        push_words(&mut words, step.emit)?;
+        state = step.to;
+    }
+    push_words(&mut words, lexer.end(state))?;
+    Ok(words)
+}
+
+// The tokens of a page by the lexer, each as a word and a space.
+fn lexed_words(alloc: Global, lexer: &mut PageLexer<'_>, page: &[u8]) -> Result<Bytes, NoMemory> {
+    let mut words = Bytes::new(alloc);
+    for token in &lexer.tokens(alloc, page)? {
+        push_word(&mut words, *token)?;
+    }
+    Ok(words)
 }
 
 // The tokens of a page, each as a word and a space; each step goes from a copy of the state before
