@@ -1,6 +1,6 @@
 -- Parts of the definition that the code has as calls.
 use Rattle.std.specs.Prelude.{ℕ, List, if◌then◌else◌}
-use Rattle.page_fronts.specs.OpenValues.{OpenValue}
+use Rattle.page_model.specs.OpenValues.{OpenValue}
 use Rattle.page_steps.specs.AttributeSteps.{Allowing, AttributeMove, ends_with, stops}
 
 -- at the quote that ends a value

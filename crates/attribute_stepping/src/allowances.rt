@@ -10,8 +10,8 @@ use crate::declarations::{may_be_word, word_good, word_step};
 use crate::elements::{good_of, is_declared_once, start_of, step_of};
 use crate::names::{names_then, names_with};
 use open_pieces::{Characters, NameList, OpenValue};
+use page_rules::find_declared;
 use std::alloc::Global;
-use tag_rules::find_declared;
 use text_base::NoMemory;
 
 impl Allowing<'_, '_> {

@@ -6,9 +6,9 @@ ghost use Rattle.open_pieces.specs.Views.{plain_value};
 ghost use Rattle.value_stepping.specs.Views.{plain_next};
 
 use open_pieces::{NameList, OpenValue};
+use page_rules::{is_word, is_word_in_any_case};
 use std::alloc::Global;
 use text_base::NoMemory;
-use value_rules::{is_word, is_word_in_any_case};
 use value_stepping::may_stand;
 
 /// Whether this may stand behind attributes of these names: the version, maybe the encoding and

@@ -5,7 +5,7 @@ ghost use Rattle.dtd_model.specs.TableOf.{table_of};
 ghost use Rattle.page_steps.specs.TagSteps as steps;
 ghost use Rattle.open_pieces.specs.Views.{plain_value};
 ghost use Rattle.value_stepping.specs.Views.{plain_next};
-ghost use Rattle.tag_rules.specs.Found.{plain_declared};
+ghost use Rattle.page_rules.specs.Found.{plain_declared};
 
 use crate::names::is_among;
 use dtd_index::IndexedDtd;

@@ -1,7 +1,8 @@
-//! One character more among attributes of a page, in a tag or in the XML declaration, in memory:
-//! `attribute_move` is the function of page_steps of that name, by what may stand (`Allowing`).
-//! Below stand dtd_model, dtd_index, page_cutting, value_rules, tag_rules, page_steps, open_pieces,
-//! value_stepping and value_ending.
+//! One character more among the attributes of a page, in a tag or in the XML declaration, in
+//! memory. Promise: `attribute_move` is, through `plain_move` and `plain_allowing` of specs/Views,
+//! the function of that name in page_steps (specs/AttributeSteps there), by what may stand
+//! (`Allowing`).
+//! Used by: tag_stepping, state_testing.
 #![tactic(auto)]
 
 mod allowances;

@@ -10,7 +10,7 @@ ghost use Rattle.attribute_stepping.specs.Views.{plain_allowing, plain_move};
 use crate::allowed::Allowing;
 use crate::outcome::AttributeMove;
 use open_pieces::{Characters, NameList, OpenAttribute, OpenValue};
-use page_cutting::{begins_name, in_name, is_blank, is_quote};
+use page_rules::{begins_name, in_name, is_blank, is_quote};
 use std::alloc::Global;
 use text_base::NoMemory;
 

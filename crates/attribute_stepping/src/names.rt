@@ -6,9 +6,9 @@ ghost use Rattle.page_steps.specs.TagSteps as steps;
 
 use dtd_model::AttrRule;
 use open_pieces::{Characters, NameList};
+use page_rules::{is_named, is_word};
 use std::alloc::Global;
 use text_base::{Bytes, NoMemory};
-use value_rules::{is_named, is_word};
 
 /// Whether the name is among these.
 pub fn is_among(names: &NameList, name: &[char]) -> bool

@@ -9,7 +9,7 @@ use Rattle.page_model.specs.Parts.{Attribute, attribute_then, attributes_then, i
 use Rattle.piece_steps.specs.Insides.{closing}
 use Rattle.piece_steps.specs.Readers.{Move, go, fail, Reader, Outcome, whole, next, ends}
 use Rattle.piece_steps.proofs.Within.{within, closer_past}
-use Rattle.page_fronts.specs.OpenTags.{OpenAttribute, between, in_attribute_name, behind_name, behind_equals, in_value}
+use Rattle.page_model.specs.OpenTags.{OpenAttribute, between, in_attribute_name, behind_name, behind_equals, in_value}
 use Rattle.page_steps.specs.AttributeSteps.{Allowing, AttributeMove, stays, leaves, stops, equals_move, attribute_move}
 use Rattle.attribute_steps.specs.Among.{moved, IsAmong, May, AllMay, names_behind}
 use Rattle.attribute_steps.proofs.Over.{spaced_by, value_inside}

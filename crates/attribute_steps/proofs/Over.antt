@@ -10,8 +10,8 @@ use Rattle.page_model.specs.Parts.{Attribute, attribute_then, attributes_then, i
 use Rattle.piece_steps.specs.Insides.{Turn, on, out, stop, stepped, closing, inside, IsInside, accepts}
 use Rattle.piece_steps.specs.Readers.{Move, go, done, fail, Reader, Outcome, next, ends}
 use Rattle.piece_steps.proofs.Within.{through, past_closer}
-use Rattle.page_fronts.specs.OpenTags.{OpenAttribute, between, in_attribute_name, behind_name, behind_equals, in_value}
-use Rattle.page_fronts.specs.OpenValues.{OpenValue}
+use Rattle.page_model.specs.OpenTags.{OpenAttribute, between, in_attribute_name, behind_name, behind_equals, in_value}
+use Rattle.page_model.specs.OpenValues.{OpenValue}
 use Rattle.page_steps.specs.AttributeSteps.{Allowing, AttributeMove, stays, ends_with, leaves, stops, between_move, equals_move, quote_move, valued, attribute_move}
 use Rattle.attribute_steps.specs.Among.{moved, IsAmong, is_free, May, AllMay, names_behind}
 

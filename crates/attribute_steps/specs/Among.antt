@@ -6,8 +6,8 @@ use Rattle.xml_text.specs.Names.{is_name}
 use Rattle.page_model.specs.Parts.{Attribute, is_quote}
 use Rattle.piece_steps.specs.Insides.{accepts}
 use Rattle.piece_steps.specs.Readers.{Move, go, fail, Reader}
-use Rattle.page_fronts.specs.OpenTags.{OpenAttribute, between}
-use Rattle.page_fronts.specs.OpenValues.{OpenValue}
+use Rattle.page_model.specs.OpenTags.{OpenAttribute, between}
+use Rattle.page_model.specs.OpenValues.{OpenValue}
 use Rattle.page_steps.specs.AttributeSteps.{Allowing, AttributeMove, stays, ends_with, leaves, stops, attribute_move}
 
 -- the move of the reader by that among attributes, with the one that it makes where the character is none of an attribute

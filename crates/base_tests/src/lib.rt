@@ -1,6 +1,11 @@
-//! Tests of the base crates, each call once, in a crate of their own so that those are proved once.
+//! Tests of text_base, cfg_grammar, op_system, fst_core and script_maker, each call once with ample
+//! memory and with values written down by hand.
+//! And of command_words: a table of words and what they ask for.
+//! Used by: none; it stands at the top.
 #![tactic(auto)]
 
+#[cfg(test)]
+mod asked;
 #[cfg(test)]
 mod bytes;
 #[cfg(test)]

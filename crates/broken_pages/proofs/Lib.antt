@@ -3,3 +3,9 @@ mod Opens
 mod Bytes
 mod Texts
 mod Examples
+mod Characters
+mod Passing
+mod Loose
+mod Tags
+mod Pieces
+mod Found

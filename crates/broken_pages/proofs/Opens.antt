@@ -15,17 +15,15 @@ use Rattle.page_model.specs.Parts.{is_quote}
 use Rattle.page_model.specs.Places.{Place, behind, is_early}
 use Rattle.piece_steps.specs.Insides.{Turn, on, out, stop, inside}
 use Rattle.piece_steps.specs.Readers.{go, done, fail}
-use Rattle.page_fronts.specs.Fronts.{Open, nothing, in_reference, in_opener, in_tag_name, in_tag, at_empty_end, in_end_tag, in_comment, in_section, in_target, behind_target, in_instruction, in_declaration, at_declaration_end, in_doctype}
-use Rattle.page_fronts.specs.OpenDoctypes.{Word, system_word, public_word, OpenDoctype, before_root, in_root, behind_root, in_word, behind_word, in_public, behind_public, in_system, behind_system}
-use Rattle.page_fronts.specs.OpenTags.{OpenAttribute, between}
+use Rattle.page_model.specs.Fronts.{Open, nothing, in_reference, in_opener, in_tag_name, in_tag, at_empty_end, in_end_tag, in_comment, in_section, in_target, behind_target, in_instruction, in_declaration, at_declaration_end, in_doctype}
+use Rattle.page_model.specs.OpenDoctypes.{Word, system_word, public_word, OpenDoctype, before_root, in_root, behind_root, in_word, behind_word, in_public, behind_public, in_system, behind_system}
+use Rattle.page_model.specs.OpenTags.{OpenAttribute, between}
 use Rattle.page_steps.specs.AttributeSteps.{AttributeMove, stays, ends_with, leaves, stops, attribute_move}
 use Rattle.page_steps.specs.DoctypeSteps.{begins, is_free, root_turn, may_begin, end_turn, literal_turn, grown, is_wanted, doctype_turn}
 use Rattle.page_steps.specs.TagSteps.{of_element, are_all, of_declaration}
-use Rattle.page_steps.specs.PageSteps.{OpenMove, tag_by, tag_move, empty_move, closed_move, more_target, may_be_target, is_reserved, is_xml, is_started, question_move, declaration_by, open_move}
-use Rattle.broken_pages.specs.Coarse.{Coarse, content, opener, tag, quotes, end_tag, comment, section, target, instruction, words, word_quotes, closing, doctype, doctype_quotes, coarse_step}
+use Rattle.page_steps.specs.PageSteps.{OpenMove, tag_by, tag_move, empty_move, closed_move, more_target, may_be_target, is_reserved, is_xml, is_started, question_move, declaration_by, open_move, bang_move, less_move}
+use Rattle.broken_pages.specs.Coarse.{Coarse, content, opener, tag, quotes, end_tag, comment, section, target, instruction, words, word_quotes, closing, doctype, doctype_quotes, coarse_step, from_less, from_opener}
 use Rattle.broken_pages.specs.Seen.{tag_seen, words_seen, doctype_seen, seen_open}
-use Rattle.page_steps.specs.PageSteps.{bang_move, less_move}
-use Rattle.broken_pages.specs.Coarse.{from_less, from_opener}
 use Rattle.broken_pages.proofs.Steps.{Sees, sees_if, if_then, if_else, first_or, second_or, begin_in, name_not, blank_not, end_stays, doctype_stays, contents, references, tag_name, tag_slash, tag_ends, in_tags, in_declarations, looks, SeesMove, element_less, declaration_less, tag_looks, words_look, leaves_outside, attributes_seen}
 
 -- Tags.

@@ -13,9 +13,9 @@ use Rattle.page_model.specs.Pieces.{may_follow}
 use Rattle.page_model.specs.Places.{Place, at_beginning, behind_mark, behind}
 use Rattle.piece_steps.specs.Insides.{Turn, out, stop, inside, stepped}
 use Rattle.piece_steps.specs.Readers.{go, done, fail}
-use Rattle.page_fronts.specs.Fronts.{nothing, in_reference, in_opener, find_declared}
-use Rattle.page_fronts.specs.OpenTags.{OpenAttribute, between, in_attribute_name, behind_name, behind_equals, in_value}
-use Rattle.page_fronts.specs.OpenValues.{OpenReference, in_entity, at_number, in_decimal, in_hexadecimal, capped, OpenValue, in_text, in_reference as in_value_reference, in_fixed, in_choice, in_words}
+use Rattle.page_model.specs.Fronts.{nothing, in_reference, in_opener, find_declared}
+use Rattle.page_model.specs.OpenTags.{OpenAttribute, between, in_attribute_name, behind_name, behind_equals, in_value}
+use Rattle.page_model.specs.OpenValues.{OpenReference, in_entity, at_number, in_decimal, in_hexadecimal, capped, OpenValue, in_text, in_reference as in_value_reference, in_fixed, in_choice, in_words}
 use Rattle.page_steps.specs.AttributeSteps.{Allowing, AttributeMove, stays, ends_with, leaves, stops, equals_move, valued, attribute_move}
 use Rattle.page_steps.specs.ReferenceSteps.{reference_step, reference_good}
 use Rattle.page_steps.specs.TagSteps.{step_of, of_element, of_declaration}

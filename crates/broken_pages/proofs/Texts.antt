@@ -10,10 +10,10 @@ use Rattle.page_model.specs.PageTokens.{sort_token}
 use Rattle.page_model.specs.Places.{Place}
 use Rattle.page_model.specs.TokenTree.{Trees, no_trees, single, tree, trees_then, prolog_then}
 use Rattle.page_model.specs.Valid.{Sort, blank, text, remark}
-use Rattle.page_laws.proofs.ByTokens.{valid_by_tokens}
+use Rattle.page_model.proofs.ByTokens.{valid_by_tokens}
 use Rattle.piece_steps.specs.Readers.{Move, go, done, fail, Reader, to_state, put_out, last_tokens, all_tokens}
 use Rattle.character_steps.specs.Encoded.{Held, at_state, is_some_byte, encoded}
-use Rattle.page_fronts.specs.Fronts.{Open, nothing, in_reference, in_opener, in_tag_name, in_tag, at_empty_end, in_end_tag, in_comment, in_section, in_target, behind_target, in_instruction, in_declaration, at_declaration_end, in_doctype}
+use Rattle.page_model.specs.Fronts.{Open, nothing, in_reference, in_opener, in_tag_name, in_tag, at_empty_end, in_end_tag, in_comment, in_section, in_target, behind_target, in_instruction, in_declaration, at_declaration_end, in_doctype}
 use Rattle.page_steps.specs.PageSteps.{PageState, page_reader, is_inside, page_hold}
 use Rattle.page_step_laws.specs.Laws.{beginning, read_tokens}
 use Rattle.page_reads.proofs.All.{page_tokens_read}

@@ -3,9 +3,9 @@ use Rattle.std.specs.Prelude.{◌≡◌, Bool, true, if◌then◌else◌, Option
 use Rattle.text_base.specs.declared.page_token.PageToken.{PageToken}
 use Rattle.piece_steps.specs.Readers.{Move, go, done, fail}
 use Rattle.character_steps.specs.Encoded.{Held, is_some_byte}
-use Rattle.page_fronts.specs.Fronts.{Open, nothing, in_reference, in_opener, in_tag_name, in_tag, at_empty_end, in_end_tag, in_comment, in_section, in_target, behind_target, in_instruction, in_declaration, at_declaration_end, in_doctype}
-use Rattle.page_fronts.specs.OpenDoctypes.{OpenDoctype, in_public, in_system}
-use Rattle.page_fronts.specs.OpenTags.{OpenAttribute, in_value}
+use Rattle.page_model.specs.Fronts.{Open, nothing, in_reference, in_opener, in_tag_name, in_tag, at_empty_end, in_end_tag, in_comment, in_section, in_target, behind_target, in_instruction, in_declaration, at_declaration_end, in_doctype}
+use Rattle.page_model.specs.OpenDoctypes.{OpenDoctype, in_public, in_system}
+use Rattle.page_model.specs.OpenTags.{OpenAttribute, in_value}
 use Rattle.page_model.specs.Parts.{is_quote}
 use Rattle.page_model.specs.Places.{Place}
 use Rattle.page_steps.specs.PageSteps.{PageState}

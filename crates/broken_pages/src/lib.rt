@@ -1,8 +1,9 @@
-//! Pages that are broken under every document type definition: a coarse reader with few states,
-//! with no look at names, numbers and values (`is_broken`, specs/Coarse.antt), and the laws that
-//! the tokens of such a page hold one that is bad, so that it is not valid (specs/Laws.antt). No
-//! code stands here. Below stand text_base, xml_text, dtd_model, piece_steps, character_steps,
-//! page_model, page_fronts, page_steps, page_step_laws, page_laws and page_reads.
+//! Pages that are broken whatever the definition, by a coarse reader (`is_broken` of specs/Coarse).
+//! Promise: such a page is valid under no lawful definition (`BrokenNotValid` of specs/Laws) and is
+//! `Broken` (page_model) by each (`FoundAreBroken` of specs/BrokenLaws); the tokens of a `Broken`
+//! page hold a bad one (`BrokenHaveBad`). No code stands here.
+//! Used by: script_decision, coarse_reader, loose_machine.
 #![tactic(auto)]
 
+pub mod broken_laws;
 pub mod laws;

@@ -7,7 +7,7 @@ use Rattle.dtd_model.specs.Lawful.{is_lawful}
 use Rattle.dtd_model.specs.Table.{Table}
 use Rattle.page_model.specs.Broken.{Broken}
 use Rattle.tag_sums.specs.Nesting.{nest_of, is_balanced, nest_count}
-use Rattle.text_decision.specs.TextVerdicts.{IsNotWhole, NoneFound}
+use Rattle.page_decision.specs.TextVerdicts.{IsNotWhole, NoneFound}
 use Rattle.page_decision.specs.Machines.{PutsNoTags}
 use Rattle.page_decision.proofs.FoundLemmas.{all_nested}
 use Rattle.loose_machine.specs.Laws.{LoosePuts, LooseMissesNone}

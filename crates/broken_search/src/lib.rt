@@ -1,6 +1,7 @@
-//! A page that is broken by a definition (`Broken` of page_model), among those that a grammar
-//! derives: one is found exactly where there is one, limits aside. Below stand text_decision, which
-//! looks for a text that is not whole, and loose_machine with the laws of the reader of loose pieces.
+//! Searches among the pages that a grammar derives one that is broken by a definition.
+//! Promise: `find_broken_page` gives a derivation of such a page (`IsBrokenPage` of specs/Found),
+//! and None only where the grammar derives none; `Large` has its cause (`IsSearchCause`).
+//! Used by: script_decision.
 #![tactic(auto)]
 
 mod searching;

@@ -3,22 +3,22 @@
 ghost use Rattle.std.specs.Prelude.{ℕ, List, IfOk, IfErr, IfSome, IfNone};
 ghost use Rattle.cfg_grammar.specs.declared.symbol.Symbol as symbols;
 ghost use Rattle.dtd_model.specs.TableOf.{table_of};
-ghost use Rattle.image_meaning.specs.Outputs.{DerivesText};
+ghost use Rattle.fst_core.specs.Outputs.{DerivesText};
 ghost use Rattle.page_model.specs.Broken.{Broken};
-ghost use Rattle.text_decision.specs.TextVerdicts.{IsDerivationOf};
+ghost use Rattle.page_decision.specs.TextVerdicts.{IsDerivationOf};
 ghost use Rattle.broken_search.specs.Found.{IsBrokenPage, IsSearchCause};
 
 use cfg_grammar::Grammar;
 use derivations::Derivation;
 use dtd_index::IndexedDtd;
 use dtd_model::Dtd;
-use dyck_balance::Nesting;
 use echoing_machine::Echoing;
 use grammar_image::ImageRefusal;
 use loose_machine::laws::{loose_finds_broken, loose_misses_none, loose_tells_broken};
 use merged_loose::MergedLooseReader;
+use page_decision::{find_wrong, texts_fit};
 use std::alloc::Global;
-use text_decision::{find_wrong, texts_fit};
+use tag_sums::Nesting;
 
 /// The most different sums of the sentences of a nonterminal by the tokens of the reader of loose
 /// pieces: a sentence has a bad token or none.

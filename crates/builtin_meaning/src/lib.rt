@@ -1,6 +1,8 @@
-//! PHP's functions that a script may call: their names, how many arguments each takes, and, in
-//! specs/, what each gives for plain values. Below stand plain_values and string_functions;
-//! php_builtins computes what is defined here.
+//! PHP's functions that a script may call, as definitions: what each gives for plain values, and
+//! with which fault (`builtin_value` of specs/Values).
+//! Promise: `Builtin::of` is the table of names (`builtin_named` of specs/Names), `arity` that of
+//! the numbers of arguments (`arity_of` of specs/Arity).
+//! Used by 13 crates, script_meaning, program_rules, program_sizes, function_rules and others.
 #![tactic(auto)]
 
 mod builtin;

@@ -1,6 +1,8 @@
-//! Readers that go over a text byte by byte and put out page tokens: what such a reader is
-//! (`ByteReader`), and how its tokens over a text follow from its steps (`tokens_over` of specs/).
-//! Below stand text_base and piece_steps.
+//! Readers that go over a text byte by byte and put out page tokens (`ByteReader`).
+//! Promise: the calls of a reader are its pure functions `first`, `next`, `puts` and `lasts`, from
+//! which its tokens over a text follow (`tokens_over` of specs/Reading); where its states stand for
+//! those of a reader of pieces, both put out the same (`Mirrors` of specs/Mirrors).
+//! Used by 17 crates, page_lexer, loose_reader, remark_stepping, tag_stepping and others.
 #![tactic(auto)]
 
 mod emit;

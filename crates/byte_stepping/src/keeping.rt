@@ -2,7 +2,7 @@
 
 ghost use Rattle.std.specs.Prelude.{◌≡◌, IfOk};
 ghost use Rattle.character_steps.specs.Encoded as encoded;
-ghost use Rattle.page_fronts.specs.Fronts as fronts;
+ghost use Rattle.page_model.specs.Fronts as fronts;
 ghost use Rattle.page_model.specs.Places.{behind};
 ghost use Rattle.page_steps.specs.PageSteps as steps;
 ghost use Rattle.open_pieces.specs.Views.{plain_held, plain_open, plain_place, plain_state};

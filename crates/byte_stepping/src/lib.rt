@@ -1,8 +1,8 @@
 //! One byte more in a page, in memory, as far as no form of a piece is asked: the character that
-//! bytes are the UTF-8 of, what is kept of a state, and where a byte leads (`StateMove`). Each call
-//! is the function of character_steps, page_fronts or page_steps that it is named after. Below
-//! stand text_base, xml_text, byte_readers, character_steps, page_steps, open_pieces and
-//! remark_stepping.
+//! bytes are the UTF-8 of, what is kept of a state, and where a byte leads (`StateMove`). Promise:
+//! each call is, through the views of open_pieces and specs/Views, the function of its name in
+//! character_steps, page_model or page_steps.
+//! Used by: loose_reader, page_stepping, page_reader, merged_reader.
 #![tactic(auto)]
 
 mod bytes;

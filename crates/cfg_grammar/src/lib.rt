@@ -1,6 +1,8 @@
-//! Context-free grammars over bytes and page tokens, with at most two symbols on the right of a
-//! production. A grammar's type keeps that each of its nonterminals is below its count. What a
-//! grammar derives is `Derives` of specs/. Below stands text_base alone.
+//! Context-free grammars over bytes and page tokens, with at most two symbols on the right. What a
+//! grammar derives is `Derives` of specs/Derives.
+//! Promise: `Grammar::new` answers None exactly where a nonterminal is not below the count, which
+//! the type keeps (clause `variant`, over `AreBelow` of specs/Below).
+//! Used by 25 crates, useful_nonterminals, op_system, derivations, script_decision and others.
 #![tactic(auto)]
 
 mod bytes;
@@ -12,4 +14,3 @@ pub use bytes::productions_fit;
 pub use grammar::Grammar;
 pub use production::{Production, Right};
 pub use symbol::Symbol;
-pub use text_base::{ByteRange, Bytes, NoMemory, Nt, PageToken};

@@ -1,5 +1,5 @@
 -- The first bytes of a character are told from whole characters and from other bytes.
-use Rattle.std.proofs.Common.{◌≡◌, ◌⊎◌, inl, inr, ℕ, ◌+◌, ◌/◌, ◌%◌, ◌≤◌, ◌<◌, Bool, true, false, ◌&&◌, nat_lt, nat_le, nat_eq, List, [], ◌∷◌, ◌++◌, Option, Some, None, refl, sym, ◌∙◌, ap, subst, arith}
+use Rattle.std.proofs.Common.{◌≡◌, ◌⊎◌, inl, inr, ℕ, ◌+◌, ◌/◌, ◌%◌, ◌≤◌, ◌<◌, Bool, true, false, ◌&&◌, nat_lt, nat_le, nat_eq, List, [], ◌∷◌, ◌++◌, Option, Some, None, refl, sym, ◌∙◌, ap, subst, arith, append-nil}
 use Rattle.std.specs.Prelude.{if◌then◌else◌, bytes_eq}
 use Rattle.std.specs.Char.{encode_utf8, IsScalar}
 use Rattle.std.specs.Int.{is_in_range}
@@ -10,7 +10,6 @@ use Rattle.std.proofs.lemmas.Str.{IsUtf8-encode, chars_from_encodes, encode_same
 use Rattle.std.proofs.Math.Utf8.{scalar_cases}
 use Rattle.xml_text.specs.Characters.{is_character}
 use Rattle.character_steps.specs.Bytes.{only, decoded, is_second, is_begun}
-use Rattle.std.proofs.Common.{append-nil}
 
 -- a character of XML is no surrogate and not beyond the last
 pub is_scalar : (c : ℕ) → is_character c ≡ true → IsScalar c

@@ -24,8 +24,7 @@ use Rattle.chart_grammar.specs.declared.saying.Outputs.{Outputs}
 use Rattle.chart_grammar.specs.Fronts.{IsFrontOf}
 use Rattle.chart_grammar.specs.Outs.{Puts, IsOutput}
 use Rattle.chart_grammar.specs.Saying.{Says, SaysWide, Stays, IsFiled, production_of}
-use Rattle.chart_grammar.specs.Paid.{Charge, reads, ends, letters_of, left_by, behind_by, Spells, IsCharge, IsSaid, IsWide, OfText, OfWide, IsPaid}
-use Rattle.chart_grammar.specs.Paid.{ReadingPays, EndPays}
+use Rattle.chart_grammar.specs.Paid.{Charge, reads, ends, letters_of, left_by, behind_by, Spells, IsCharge, IsSaid, IsWide, OfText, OfWide, IsPaid, ReadingPays, EndPays}
 use Rattle.chart_grammar.specs.Lifts.{ReadLift, EndLift, front_right, said_right, end_by}
 use Rattle.chart_grammar.specs.Written.{WritesBehind, WritesOne}
 use Rattle.chart_grammar.specs.Writing.{ReadMade, EndMade, EndHas, HasPart, WritesSome, GivesOne}

@@ -1,5 +1,5 @@
 -- What the productions of an image derive: each passage's nonterminal derives only what is put out on the way.
-use Rattle.std.proofs.Common.{◌≡◌, ℕ, ◌+◌, ◌<◌, ◌≤◌, zero, suc, List, [], ◌∷◌, ◌++◌, length, map, Contains, refl, sym, ◌∙◌, ap, subst, arith, Some, slice_get}
+use Rattle.std.proofs.Common.{◌≡◌, ℕ, ◌+◌, ◌<◌, ◌≤◌, zero, suc, List, [], ◌∷◌, ◌++◌, length, map, Contains, refl, sym, ◌∙◌, ap, subst, arith, Some, slice_get, Bool, true, ◌&&◌, IsTrue, ltb}
 use Rattle.std.specs.List.{AllZip}
 use Rattle.std.proofs.lemmas.List.{map-append}
 use Rattle.std.proofs.lemmas.Option.{slice_get_within}
@@ -15,8 +15,8 @@ use Rattle.cfg_grammar.specs.declared.production.Production.{Production}
 use Rattle.cfg_grammar.specs.Derives.{Derives, by_range, by_token, by_empty, by_one, by_two}
 use Rattle.fst_core.specs.Letter.{letter_of}
 use Rattle.fst_core.specs.Runs.{Runs}
-use Rattle.image_meaning.specs.Outputs.{DerivesText}
-use Rattle.image_meaning.proofs.Reading.{runs_append, contains_at}
+use Rattle.fst_core.specs.Outputs.{DerivesText}
+use Rattle.fst_core.proofs.Reading.{runs_append, contains_at}
 use Rattle.grammar_chart.specs.declared.keys.Read.{Read}
 use Rattle.grammar_chart.specs.declared.keys.Read.TheVariants.{Nothing, First, Both}
 use Rattle.grammar_chart.specs.declared.keys.Begun.{Begun}
@@ -28,7 +28,6 @@ use Rattle.chart_grammar.specs.declared.lifts.Last.{Last}
 use Rattle.chart_grammar.specs.Outs.{Puts}
 use Rattle.chart_grammar.specs.Fronts.{StandsFor, nothing, longer}
 use Rattle.chart_grammar.specs.Sources.{FromRight}
-use Rattle.std.proofs.Common.{Bool, true, ◌&&◌, IsTrue, ltb}
 use Rattle.std.proofs.lemmas.Bool.{lt-ltb}
 use Rattle.cfg_grammar.specs.Below.{symbol_below, production_below}
 use Rattle.chart_grammar.specs.Lifts.{front_production, nt_of, RightLift, ReadLift, EndLift, front_right, front_by, end_by, IsLift, whole, of_reading, of_front, of_end, AreLifts}

@@ -1,7 +1,8 @@
-//! The productions of an image, out of its chart: one for each production that is read whole, by
-//! the passages of its symbols, and those that spell what is put out. The fronts of outputs are
-//! shared, so that many outputs with one beginning cost their ends alone. Below stand cfg_grammar,
-//! fst_core, numbered_sets, image_meaning and grammar_chart.
+//! The grammar of an image, out of its chart, and where its productions come from. Promise:
+//! `grammar_of` gives a grammar that has exactly the productions of the image (`image`: `IsImageOf`
+//! of specs/Images), and the places of those that its first ones come of, where no passage is one
+//! of a page token (`sources`: `AreSources` of specs/Sources).
+//! Used by: page_decision, grammar_image.
 #![tactic(auto)]
 
 mod assembly;

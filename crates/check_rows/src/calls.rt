@@ -1,7 +1,8 @@
 // A call of the program on files and outputs in memory.
 use anyhow::Result;
 use io_edge::{MemFiles, MemSink};
-use phpsa_main::{Exit, phpsa};
+use phpsa_main::phpsa;
+use phpsa_texts::Exit;
 use std::alloc::Global;
 use text_base::Bytes;
 

@@ -1,7 +1,8 @@
-//! Rows of calls of the program, from files: each with its words and the files that it finds, and
-//! with the status and the outputs that were worked out for it by hand. A row that ends otherwise is
-//! printed, and last how many are as they should be. The words are the names of the files with rows;
-//! README.md tells how a row is written.
+//! Rows of calls of `phpsa_main::phpsa` on files and outputs in memory, each with the status and
+//! the outputs that were worked out for it by hand, from PHP 8.2 or from XML 1.0.
+//! It tests the whole program: a row that ends otherwise is printed, and last how many rows passed
+//! and failed. README.md tells how a row is written. It has no clause.
+//! Used by: none; it stands at the top.
 #![tactic(auto)]
 
 mod calls;
@@ -13,10 +14,10 @@ mod texts;
 mod tries;
 mod wishes;
 
+use crate::table::Table;
 use anyhow::{Context, Result};
 use io_edge::{DiskFiles, Files};
 use std::{env, rt};
-use table::Table;
 
 // Adds a line of its own to the text of the line before it.
 fn add_line(open: &mut String, line: &str) -> Result<()> {

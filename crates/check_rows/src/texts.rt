@@ -1,8 +1,8 @@
 // Texts with escapes, and names for them.
 use anyhow::{Context, Result, anyhow};
+use document_types::strict_text;
 use std::alloc::Global;
 use text_base::Bytes;
-use xhtml_strict::strict_text;
 
 /// A piece of a text: a byte, where the number of a repetition stands, or one more than that, or
 /// where what a line says stands.

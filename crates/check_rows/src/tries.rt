@@ -3,7 +3,7 @@ use crate::calls::{Ending, Outside, call};
 use crate::rows::{Cuts, Row};
 use crate::wishes::are_met;
 use anyhow::Result;
-use phpsa_main::Exit;
+use phpsa_texts::Exit;
 use std::alloc::Global;
 
 const WRITE_FAULT: &[u8] = b"phpsa: WriteFault\n";

@@ -5,12 +5,12 @@ use Rattle.std.proofs.Common.{ap, sym, subst, ◌∙◌}
 use Rattle.text_base.specs.declared.page_token.PageToken.{PageToken}
 use Rattle.text_base.specs.declared.page_token.PageToken.TheVariants.{Doctype, Start, End, Blank, Text, Misc, Bad}
 use Rattle.dtd_model.specs.Table.{Table}
-use Rattle.broken_pages.specs.ReadLaws.{IsLawfulTable, PageTokensRead}
+use Rattle.page_reads.specs.Laws.{IsLawfulTable, PageTokensRead}
 use Rattle.tag_sums.specs.Nesting.{Nest, torn, nest, join, nest_of, is_balanced}
-use Rattle.dyck_balance.specs.Laws.{WholeIsNested}
-use Rattle.summary_fixpoint.specs.Pairs.{tokens_in}
-use Rattle.page_goals.specs.declared.goal.Goal as goals
-use Rattle.page_goals.specs.Goals.{IsGood}
+use Rattle.tag_sums.specs.NestingLaws.{WholeIsNested}
+use Rattle.summary_decision.specs.Pairs.{tokens_in}
+use Rattle.page_decision.specs.declared.goal.Goal as goals
+use Rattle.page_decision.specs.Goals.{IsGood}
 use Rattle.page_decision.specs.Echoes.{PutsTokens}
 use Rattle.page_decision.specs.Machines.{IsBrokenMachine, is_no_tag, PutsNoTags}
 use Rattle.page_decision.specs.PageVerdicts.{AreAllNested}

@@ -2,7 +2,7 @@
 use Rattle.std.specs.Prelude.{◌≡◌, ℕ, if◌then◌else◌, List, [], ◌∷◌}
 use Rattle.text_base.specs.declared.page_token.PageToken.TheVariants as token
 use Rattle.dtd_model.specs.Table.{Table}
-use Rattle.broken_pages.specs.ReadLaws.{IsLawfulTable}
+use Rattle.page_reads.specs.Laws.{IsLawfulTable}
 use Rattle.page_decision.specs.Machines.{IsBrokenMachine}
 use Rattle.byte_readers.specs.Reading.{tokens_over}
 use Rattle.echoing_machine.specs.Echoes.{EchoStep, EchoEnd}

@@ -1,8 +1,8 @@
-//! The coarse reader of pages, as code: it keeps no names, numbers and attribute lists, and puts
-//! out one bad token where a page is broken whatever its definition is (`is_broken` of
-//! broken_pages). Each function equals the definition that it mirrors. Below stand text_base,
-//! xml_text, broken_pages and byte_readers, and for the laws page_reads, dyck_balance,
-//! echoing_machine and page_decision.
+//! The coarse reader of pages, as code (`CoarseReader`): it keeps no names, numbers and attribute
+//! lists, and puts out one bad token where a page is broken whatever its definition is.
+//! Promise: the laws `tells_broken` and `finds_broken` of `laws` (`TellsBroken` and `FindsBroken`
+//! of specs/Laws); its steps are those of broken_pages, state by state (specs/States).
+//! Used by: script_decision.
 #![tactic(auto)]
 
 pub mod laws;

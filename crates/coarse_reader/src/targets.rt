@@ -2,7 +2,7 @@
 
 ghost use Rattle.std.specs.Prelude.{◌≡◌, ◌++◌, ◌∷◌, [], codes, length, take, IfOk};
 ghost use Rattle.std.specs.Str.{str_eq_ignore_ascii_case};
-ghost use Rattle.page_fronts.specs.Fronts.{reserved};
+ghost use Rattle.page_model.specs.Fronts.{reserved};
 ghost use Rattle.page_steps.specs.PageSteps.{more_target, may_be_target, is_reserved, is_xml, is_started};
 ghost use Rattle.broken_pages.specs.Coarse.{from_target};
 ghost use Rattle.coarse_reader.specs.States.{coded};

@@ -1,7 +1,14 @@
-//! The words of the command line, read with `clap`: `read_words` says what they ask for. Its
-//! contract cites `Asks` of specs/Asked.antt; that words in the forms of the documents are taken,
-//! whatever their order, are the laws of `laws`. It stands on `clap` alone.
+//! The words of the command line, read with `clap`.
+//! Promise: `read_words` gives only what the words ask for (`Asks` of specs/Asked, clause `ok`),
+//! and `Usage` only where they ask for nothing (`AsksNothing`, clause `usage`).
+//! Laws of `laws`: words in the forms of the documents (specs/Canonical) are taken, in any order.
+//! Used by: phpsa_tasks, phpsa_main, base_tests.
 #![tactic(auto)]
+
+ghost use Rattle.std.specs.Prelude.{◌≡◌, IfOk, IfErr, map, string_bytes};
+ghost use Rattle.command_words.specs.Asked.{Asks, AsksNothing};
+ghost use Rattle.command_words.specs.Views.{asked_as};
+ghost use Rattle.command_words.specs.declared.refusal.WordsRefusal.TheVariants.{Usage};
 
 mod builder;
 mod command_line;
@@ -10,17 +17,12 @@ mod numbers;
 mod refusal;
 mod values;
 
-ghost use Rattle.std.specs.Prelude.{◌≡◌, IfOk, IfErr, map, string_bytes};
-ghost use Rattle.command_words.specs.Asked.{Asks, AsksNothing};
-ghost use Rattle.command_words.specs.Views.{asked_as};
-ghost use Rattle.command_words.specs.declared.refusal.WordsRefusal.TheVariants.{Usage};
-
-use builder::matches_of;
+use crate::builder::matches_of;
+use crate::values::line_by;
 pub use command_line::CommandLine;
 pub use refusal::WordsRefusal;
 use std::alloc::Global;
 pub use values::PAIR_LIMIT;
-use values::line_by;
 
 /// What the words after the program's name ask for.
 ///

@@ -1,19 +1,17 @@
 -- What is built decides.
 use Rattle.std.proofs.Common.{◌≡◌, ℕ, zero, suc, ◌+◌, ◌<◌, ◌≤◌, inl, inr, Bool, true, false, ◌&&◌, List, [], ◌∷◌, ◌++◌, take, length, refl, sym, ◌∙◌, ap, subst, arith, Option, Some, None, slice_get, map}
 use Rattle.std.specs.Prelude.{slice_index_or, nat_le}
-use Rattle.std.specs.List.{IsDistinct}
-use Rattle.dtd_model.specs.Table.{Rule, rule_of, holding_of}
+use Rattle.std.specs.List.{IsDistinct, list_all}
+use Rattle.dtd_model.specs.Table.{Rule, rule_of, holding_of, Table as Definition}
 use Rattle.dtd_model.specs.declared.dtd.ElementRule.{ElementRule}
 use Rattle.content_automata.specs.declared.refusal.ContentRefusal.{ContentRefusal}
 use Rattle.content_automata.specs.declared.refusal.ContentRefusal.TheVariants.{Limit, Memory}
 use Rattle.content_automata.specs.Shapes.{Shape, shape, first_state, state_behind, states_walk, then_some, IsSized}
 use Rattle.content_automata.specs.Tables.{Table, IsTable, Row, Key, key_eq, Keeps, CellFits, RowsFit, FirstsFit, AreElements, AllReached, AreSized, run, ends, first_at, next_at, row_at, owner_at}
 use Rattle.content_automata.specs.Refusals.{IsOver, IsCause}
-use Rattle.dtd_model.specs.Table.{Table as Definition}
 use Rattle.dtd_model.specs.Matches.{matches}
 use Rattle.dtd_model.specs.Lawful.{is_lawful, is_lawful_rule, is_lawful_holding, are_lawful_attributes, are_names, element_limit}
 use Rattle.std.specs.Cmp.{first_so, second_so}
-use Rattle.std.specs.List.{list_all}
 use Rattle.std.proofs.lemmas.Bool.{cases_lt}
 use Rattle.std.proofs.lemmas.Option.{slice_get_within, get_or_from_slice_get}
 use Rattle.std.proofs.lemmas.List.{take_more, map-append}

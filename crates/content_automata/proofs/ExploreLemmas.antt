@@ -8,7 +8,7 @@ use Rattle.content_automata.specs.Tables.{Key, Keeps, Adds, AllReached, AreSized
 use Rattle.content_automata.specs.Views.{shape_of, shapes_of, row_of, BeginsAt, HasRow}
 use Rattle.content_automata.specs.declared.model.Model.{Model}
 use Rattle.content_automata.specs.declared.explore.State.{State}
-use Rattle.content_positions.specs.Sets.{has_end}
+use Rattle.content_automata.specs.Sets.{has_end}
 use Rattle.std.proofs.lemmas.List.Elements.{Contains-append_right}
 use Rattle.content_automata.proofs.ReachLemmas.{led_sized, all_reached}
 use Rattle.content_automata.proofs.TableLemmas.{cell_kept}

@@ -10,12 +10,12 @@ use Rattle.std.proofs.lemmas.Map.Views.{list_any-from_Contains}
 use Rattle.dtd_model.specs.Table.{Holding, nothing, anything, text_and, children, Model}
 use Rattle.dtd_model.specs.Matches.{matches}
 use Rattle.dtd_model.specs.Lawful.{is_lawful_holding, is_within, has_matches, height, height_limit}
-use Rattle.content_positions.specs.Positions.{Next, Position, places_of, at_end}
-use Rattle.content_positions.specs.Walks.{place_at, leads, joined}
-use Rattle.content_positions.specs.Sets.{raised_from, members, names, set_of, set_step, set_walk, has_end, first_set, is_whole}
-use Rattle.content_positions.proofs.Below.{AllBelow, more, AllPlaces, all_below, place_below}
-use Rattle.content_positions.proofs.Walking.{as_many, leads_matches, are_places}
-use Rattle.position_sets.proofs.RangeLemmas.{set_is_range}
+use Rattle.content_automata.specs.Positions.{Next, Position, places_of, at_end}
+use Rattle.content_automata.specs.Walks.{place_at, leads, joined}
+use Rattle.content_automata.specs.Sets.{raised_from, members, names, set_of, set_step, set_walk, has_end, first_set, is_whole}
+use Rattle.content_automata.proofs.Below.{AllBelow, more, AllPlaces, all_below, place_below}
+use Rattle.content_automata.proofs.Walking.{as_many, leads_matches, are_places}
+use Rattle.content_automata.proofs.RangeLemmas.{set_is_range}
 use Rattle.content_automata.specs.Shapes.{Shape, model, shape, first_state, state_behind, states_walk, then_some, IsSized}
 use Rattle.content_automata.proofs.PassLemmas.{Passes}
 use Rattle.content_automata.proofs.LiveLemmas.{AllLive, first_lives, places_live, place_lives}

@@ -5,7 +5,7 @@ use Rattle.std.specs.Bool.{beq}
 use Rattle.std.specs.Cmp.Lexicographic.{pointwise}
 use Rattle.std.proofs.lemmas.List.Elements.{Contains-push_cases}
 use Rattle.text_base.specs.Exactness.{exact_pair}
-use Rattle.position_sets.specs.Flags.{exact_flags}
+use Rattle.content_automata.specs.Flags.{exact_flags}
 use Rattle.content_automata.specs.Tables.{Key, key_eq, Keeps, AddsFound}
 
 pub exact_key : (p q : Key) → key_eq p q ≡ true → p ≡ q

@@ -9,3 +9,13 @@ pub mod ReachLemmas
 pub mod RunLemmas
 pub mod ShapeLemmas
 pub mod TableLemmas
+mod Examples
+pub mod Bools
+pub mod Passing
+pub mod Below
+pub mod Deciding
+pub mod Walking
+pub mod AscendingLemmas
+pub mod PartLemmas
+pub mod RangeLemmas
+pub mod SetLemmas

@@ -4,10 +4,10 @@ use Rattle.std.specs.Cmp.{first_so, second_so}
 use Rattle.dtd_model.specs.Table.{Model, one, sequence, choice, optional, any_number, at_least_one, Models, no_models, more_models}
 use Rattle.dtd_model.specs.Matches.{may_be_empty, after}
 use Rattle.dtd_model.specs.Lawful.{is_within, are_within, has_matches, all_have_matches, is_nonempty}
-use Rattle.content_positions.specs.Positions.{Next, Position, positions, firsts, before, before_all, again, places, places_in_turn, places_of_each, at_end, first_of, places_of}
-use Rattle.content_positions.specs.Walks.{place_at, leads}
-use Rattle.content_positions.proofs.Passing.{then_passes}
-use Rattle.content_positions.proofs.Walking.{Are, are_front, are_back, are_places, as_many, begins, before_leads, again_leads}
+use Rattle.content_automata.specs.Positions.{Next, Position, positions, firsts, before, before_all, again, places, places_in_turn, places_of_each, at_end, first_of, places_of}
+use Rattle.content_automata.specs.Walks.{place_at, leads}
+use Rattle.content_automata.proofs.Passing.{then_passes}
+use Rattle.content_automata.proofs.Walking.{Are, are_front, are_back, are_places, as_many, begins, before_leads, again_leads}
 use Rattle.content_automata.proofs.PassLemmas.{Passes, passes_model}
 
 -- some elements that are declared lead from here to the end

@@ -1,7 +1,6 @@
 -- The state behind each child, where it stays.
 use Rattle.std.proofs.Common.{◌≡◌, ℕ, ◌≤◌, Bool, true, false, List, ◌∷◌, length, map, ap, sym, ◌∙◌, subst, arith, Option}
-use Rattle.std.specs.Prelude.{nat_eq, replicate}
-use Rattle.std.specs.Prelude.{IfOk}
+use Rattle.std.specs.Prelude.{nat_eq, replicate, IfOk}
 use Rattle.std.specs.declared.result.Result.{Result}
 use Rattle.std.specs.declared.vec.Vec.{Vec}
 use Rattle.std.specs.declared.alloc.Global.{Global}
@@ -9,8 +8,8 @@ use Rattle.text_base.specs.declared.memory.NoMemory.{NoMemory}
 use Rattle.std.specs.List.{list_any, range_with_len}
 use Rattle.std.proofs.lemmas.Bool.{lt-ltb}
 use Rattle.std.proofs.lemmas.List.{set_past}
-use Rattle.content_positions.specs.Sets.{raised}
-use Rattle.position_sets.proofs.RangeLemmas.{same_range, map_range, replicate_range, listed_range}
+use Rattle.content_automata.specs.Sets.{raised}
+use Rattle.content_automata.proofs.RangeLemmas.{same_range, map_range, replicate_range, listed_range}
 use Rattle.content_automata.specs.Shapes.{kept, empty, any, text, state_behind}
 
 pub none_kept : (count : ℕ) (flags : List Bool) → map (kept flags) (replicate count false) ≡ map (state_behind count empty flags) (range_with_len 0 count)

@@ -7,7 +7,7 @@ use Rattle.std.proofs.lemmas.List.Elements.{Contains-append_cases}
 use Rattle.dtd_model.specs.Table.{Model, one, sequence, choice, optional, any_number, at_least_one, Models, no_models, more_models}
 use Rattle.dtd_model.specs.Matches.{may_be_empty, after}
 use Rattle.dtd_model.specs.Lawful.{is_within, are_within, has_matches, all_have_matches, is_nonempty}
-use Rattle.content_positions.proofs.Passing.{then_passes, nothing_passes, sequence_passes, choice_passes, at_least_one_passes}
+use Rattle.content_automata.proofs.Passing.{then_passes, nothing_passes, sequence_passes, choice_passes, at_least_one_passes}
 use Rattle.content_automata.specs.Tables.{AreElements}
 
 -- some elements that are declared pass the test

@@ -2,13 +2,13 @@
 use Rattle.std.proofs.Common.{◌≡◌, ℕ, ◌+◌, ◌<◌, ◌⊎◌, inl, inr, Bool, true, false, List, [], ◌∷◌, ◌++◌, length, Contains, refl, sym, ◌∙◌, ap, subst, arith, Option, Some, None, slice_get}
 use Rattle.std.specs.Prelude.{if◌then◌else◌}
 use Rattle.dtd_model.specs.Table.{Holding, nothing, anything, text_and, children}
-use Rattle.content_positions.specs.Positions.{places_of, first_of}
-use Rattle.content_positions.specs.Walks.{place_at, joined}
-use Rattle.content_positions.specs.Sets.{names, set_step, members}
+use Rattle.content_automata.specs.Positions.{places_of, first_of}
+use Rattle.content_automata.specs.Walks.{place_at, joined}
+use Rattle.content_automata.specs.Sets.{names, set_step, members}
 use Rattle.content_automata.specs.Shapes.{Shape, empty, any, text, model, shape, first_state, state_behind, states_walk, then_some, IsSized}
 use Rattle.content_automata.specs.Tables.{Key, Adds, IsReached, IsLedTo, AllReached, AreSized}
 use Rattle.content_automata.proofs.PassLemmas.{one_more, both_below}
-use Rattle.position_sets.proofs.RangeLemmas.{set_sized}
+use Rattle.content_automata.proofs.RangeLemmas.{set_sized}
 use Rattle.content_automata.proofs.ShapeLemmas.{walk_more}
 
 pub first_sized : (h : Holding) → IsSized (shape h) (first_state (shape h))

@@ -9,7 +9,7 @@ use Rattle.std.proofs.lemmas.Map.Keys.{apart_from_distinct}
 use Rattle.std.proofs.lemmas.Option.{slice_get_within}
 use Rattle.dtd_model.specs.Table.{Holding}
 use Rattle.dtd_model.specs.Matches.{matches}
-use Rattle.content_positions.specs.Sets.{is_whole}
+use Rattle.content_automata.specs.Sets.{is_whole}
 use Rattle.content_automata.specs.Shapes.{Shape, shape, first_state, state_behind, states_walk, then_some}
 use Rattle.content_automata.specs.Tables.{Table, IsTable, Key, key_eq, CellFits, AreElements, run, ends, next_at, first_at}
 use Rattle.content_automata.proofs.ShapeLemmas.{states_decide}

@@ -4,9 +4,9 @@ use Rattle.std.specs.Prelude.{if◌then◌else◌, nat_lt, nat_eq}
 use Rattle.std.specs.List.{list_all, list_any}
 use Rattle.dtd_model.specs.Table.{Holding, nothing, anything, text_and, children}
 use Rattle.dtd_model.specs.Matches.{matches}
-use Rattle.content_positions.specs.Positions.{Position, places_of}
-use Rattle.content_positions.specs.Sets.{names, set_step, set_walk, first_set, is_whole}
-use Rattle.content_positions.proofs.Deciding.{sets_decide}
+use Rattle.content_automata.specs.Positions.{Position, places_of}
+use Rattle.content_automata.specs.Sets.{names, set_step, set_walk, first_set, is_whole}
+use Rattle.content_automata.proofs.Deciding.{sets_decide}
 use Rattle.content_automata.specs.Shapes.{Shape, any, text, model, shape, one_state, first_state, state_behind, states_walk, then_some}
 
 chosen : (x : Bool) (flags : List Bool) (f g : List Bool → Option (List Bool)) → f flags ≡ g flags → then_some (if x then Some flags else None) f ≡ (if x then g flags else None)

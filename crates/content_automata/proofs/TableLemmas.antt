@@ -3,7 +3,7 @@ use Rattle.std.proofs.Common.{◌≡◌, ℕ, ◌+◌, ◌<◌, ◌≤◌, inl, 
 use Rattle.std.specs.Prelude.{slice_index_or}
 use Rattle.std.proofs.lemmas.Bool.{cases_eq}
 use Rattle.std.specs.List.{range_with_len}
-use Rattle.position_sets.proofs.RangeLemmas.{at_range, length_range}
+use Rattle.content_automata.proofs.RangeLemmas.{at_range, length_range}
 use Rattle.content_automata.specs.Tables.{Key, Keeps, CellFits, CellsFit, Adds, AddsFound}
 
 pub keeps_both : (a b c : List Key) → Keeps a b → Keeps b c → Keeps a c

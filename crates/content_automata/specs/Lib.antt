@@ -3,3 +3,9 @@ pub mod Shapes
 pub mod Refusals
 pub mod Tables
 pub mod Views
+pub mod Positions
+pub mod Walks
+pub mod Sets
+pub mod Ascending
+pub mod Flags
+pub mod PlaceViews

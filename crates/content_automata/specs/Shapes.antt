@@ -3,9 +3,9 @@
 use Rattle.std.specs.Prelude.{ℕ, Bool, true, List, [], ◌∷◌, nat_eq, nat_lt, Option, Some, None, if◌then◌else◌, ◌≡◌, ◌+◌, length}
 use Rattle.std.specs.List.{list_any}
 use Rattle.dtd_model.specs.Table.{Holding, nothing, anything, text_and, children}
-use Rattle.content_positions.specs.Positions.{Position, places_of}
-use Rattle.content_positions.specs.Sets.{first_set}
-use Rattle.position_sets.specs.Views.{step_of}
+use Rattle.content_automata.specs.Positions.{Position, places_of}
+use Rattle.content_automata.specs.Sets.{first_set}
+use Rattle.content_automata.specs.PlaceViews.{step_of}
 
 -- what the automaton of an element is made from
 pub data Shape : Type 0 where

@@ -3,7 +3,7 @@ use Rattle.std.specs.Prelude.{◌≡◌, ℕ, ◌<◌, ◌⊎◌, Bool, false, �
 use Rattle.std.specs.Bool.{beq}
 use Rattle.std.specs.Cmp.Lexicographic.{pointwise}
 use Rattle.std.specs.List.{IsDistinct}
-use Rattle.content_positions.specs.Sets.{has_end}
+use Rattle.content_automata.specs.Sets.{has_end}
 use Rattle.content_automata.specs.Shapes.{Shape, first_state, state_behind, states_walk, then_some, IsSized}
 
 -- whether a match may end in the state, and the state behind each element

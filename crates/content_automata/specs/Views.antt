@@ -1,6 +1,6 @@
 -- The plain form of what the code keeps.
 use Rattle.std.specs.Prelude.{◌≡◌, ℕ, List, map, Some, slice_get}
-use Rattle.position_sets.specs.Views.{positions_of}
+use Rattle.content_automata.specs.PlaceViews.{positions_of}
 use Rattle.content_automata.specs.declared.model.Model.{Model}
 use Rattle.content_automata.specs.declared.model.Model.TheVariants.{Nothing, Anything, Text, Children}
 use Rattle.content_automata.specs.Shapes.{Shape, empty, any, text, model, first_state}

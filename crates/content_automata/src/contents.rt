@@ -12,12 +12,12 @@ ghost use Rattle.content_automata.specs.Refusals.{IsCause};
 ghost use Rattle.content_automata.specs.Decides.{shapes_in, Decides, TellsApart, HasOwners, GoesOn, ReachesAll};
 ghost use Rattle.content_automata.specs.Views.{shapes_of};
 
+use crate::Flags;
 use crate::explore::{State, begin, explore};
 use crate::model::{Model as Allowed, model_of_content};
 use crate::refusal::ContentRefusal;
 use dtd_model::{Dtd, ElementRule};
 use indexmap::IndexSet;
-use position_sets::Flags;
 use std::alloc::Global;
 use std::marker::Model;
 use text_base::{Elem, NoMemory};

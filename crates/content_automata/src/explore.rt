@@ -7,11 +7,11 @@ ghost use Rattle.content_automata.specs.declared.table.TheConstants.{STATE_LIMIT
 ghost use Rattle.content_automata.specs.Refusals.{IsOver};
 ghost use Rattle.content_automata.specs.Views.{shape_of, shapes_of, row_of, BeginsAt, HasRow};
 
+use crate::Flags;
 use crate::model::{Model, first_state};
 use crate::refusal::ContentRefusal;
 use crate::table::{cells, number};
 use indexmap::IndexSet;
-use position_sets::Flags;
 use std::alloc::Global;
 use text_base::NoMemory;
 

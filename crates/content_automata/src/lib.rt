@@ -1,14 +1,24 @@
-//! The content models of a document type definition as finite automata: `build` makes the table
-//! of their states, and a page checker steps over it. Its contract cites `matches` of dtd_model
-//! (specs/Decides.antt). Below stand text_base, dtd_model, content_positions and position_sets.
+//! The content models of a definition as finite automata, over sets of positions (Glushkov 1961).
+//! Promise: by `build`, children lead from the state of an element to an accepting one exactly
+//! where dtd_model's `matches` says so, and to a state exactly where a list that begins so matches
+//! (`Decides`, `GoesOn` of specs/Decides).
+//! Used by 8 crates, page_machine, page_validator, segment_summary, script_decision and others.
 #![tactic(auto)]
 
 mod contents;
 mod explore;
+mod flags;
+mod laws;
 mod model;
+mod places;
 mod refusal;
+mod sets;
 mod table;
 
 pub use contents::{Contents, build};
+pub use flags::Flags;
+pub use laws::{positions_decide, sets_decide};
+pub use places::{Behind, Place, first_of, places_of};
 pub use refusal::ContentRefusal;
+pub use sets::{set_of, steps};
 pub use table::STATE_LIMIT;

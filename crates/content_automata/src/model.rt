@@ -2,13 +2,13 @@
 
 ghost use Rattle.std.specs.Prelude.{◌≡◌, map, replicate, false, IfOk};
 ghost use Rattle.std.specs.List.{range_with_len};
-ghost use Rattle.content_positions.specs.Sets.{raised};
+ghost use Rattle.content_automata.specs.Sets.{raised};
 ghost use Rattle.dtd_model.specs.Table as table;
 ghost use Rattle.content_automata.specs.Shapes as spec;
 ghost use Rattle.content_automata.specs.Views.{shape_of};
 
+use crate::{Flags, Place, first_of, places_of, set_of, steps};
 use dtd_model::{Content, Particle};
-use position_sets::{Flags, Place, first_of, places_of, set_of, steps};
 use std::alloc::Global;
 use text_base::{Elem, NoMemory};
 

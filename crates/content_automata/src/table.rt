@@ -7,10 +7,10 @@ ghost use Rattle.content_automata.specs.Tables.{Key, Keeps, CellFits, CellsFit, 
 ghost use Rattle.content_automata.specs.Refusals.{IsOver};
 ghost use Rattle.content_automata.specs.Views.{shape_of};
 
+use crate::Flags;
 use crate::model::{Model, states_behind};
 use crate::refusal::ContentRefusal;
 use indexmap::IndexSet;
-use position_sets::Flags;
 use std::alloc::Global;
 use text_base::NoMemory;
 

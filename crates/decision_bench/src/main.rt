@@ -1,21 +1,22 @@
-//! How long the decision takes over grammars of four kinds: with a number as the first word, for
-//! the sizes that it stands for and for twice as many; without one, small grammars and no times.
+//! Measures `decide` of summary_decision over grammars of page tokens of four kinds.
+//! Without a word it decides small ones and prints the answers; with a number it prints the times
+//! for the sizes that the number stands for, and how many times that twice as many take. No clause.
+//! Used by: none; it stands at the top.
 #![tactic(auto)]
 
 mod grammars;
 
+use crate::grammars::{Work, grammar_of};
 use anyhow::{Context, Result};
 use content_automata::build;
 use dtd_model::{Dtd, mini};
-use dyck_balance::Nesting;
-use grammar_decision::decide;
-use grammars::{Work, grammar_of};
 use segment_summary::Segments;
 use std::alloc::Global;
 use std::env;
 use std::rt::{Clock, Env};
 use std::time::Instant;
-use summary_fixpoint::Verdict;
+use summary_decision::{Verdict, decide};
+use tag_sums::Nesting;
 
 /// The number that is meant without a word.
 const FEW: u32 = 10;

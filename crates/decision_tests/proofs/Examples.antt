@@ -11,7 +11,7 @@ use Rattle.derivations.specs.declared.node.Parts.TheVariants.{Empty, One, Two}
 use Rattle.derivations.specs.declared.node.Node.{Node}
 use Rattle.derivations.specs.Nodes.{most, part_length, parts_length, parts_below}
 use Rattle.derivations.specs.Stands.{Stands, IsDerivation}
-use Rattle.sentence_writing.specs.Bytes.{bytes_in}
+use Rattle.derivations.specs.Bytes.{bytes_in}
 
 abbrev letter : ByteRange
 letter = record { lo = 97; hi = 97; ordered = omega arith }

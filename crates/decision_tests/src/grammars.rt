@@ -2,7 +2,7 @@
 
 use cfg_grammar::{Grammar, Production, Right, Symbol};
 use std::alloc::Global;
-use summary_fixpoint::Verdict;
+use summary_decision::Verdict;
 use text_base::{Elem, NoMemory, Nt, PageToken};
 
 /// A digit is a nonterminal, as the signs behind `9` are; `h b p` start `html`, `body` and `p`, `H

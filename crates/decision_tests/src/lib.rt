@@ -1,11 +1,15 @@
-//! Tests of the decision, over grammars of page tokens that are made by hand and against a plain
-//! listing of sentences, and of writing what it answers and of trimming and writing grammars.
+//! Tests of the decision: of summary_decision, page_decision, tag_sums and segment_summary.
+//! Answers over grammars that are made by hand and over drawn ones beside a plain listing, the
+//! derivation of a no node by node, which token lists are whole, and what is trimmed and written.
+//! Used by: none; it stands at the top.
 #![tactic(auto)]
 
 #[cfg(test)]
 mod against_listing;
 #[cfg(test)]
 mod by_hand;
+#[cfg(test)]
+mod derivations_of;
 #[cfg(test)]
 mod generated;
 #[cfg(test)]
@@ -14,7 +18,12 @@ mod grammars;
 mod listing;
 #[cfg(test)]
 mod shown;
+mod sums;
 #[cfg(test)]
 mod texts;
+#[cfg(test)]
+mod there_and_back;
+#[cfg(test)]
+mod two_pages;
 #[cfg(test)]
 mod written;

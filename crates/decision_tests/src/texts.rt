@@ -1,12 +1,12 @@
 //! Grammars of bytes, trimmed and written.
 
 use cfg_grammar::{Grammar, Production, Right, Symbol};
-use grammar_trimming::trim;
-use grammar_writing::write_grammar;
+use derivations::write_grammar;
 use io_edge::{MemSink, SinkFault};
 use std::alloc::Global;
 use std::test::Fail;
 use text_base::{ByteRange, NoMemory, Nt};
+use useful_nonterminals::trim;
 
 // 2 is a small letter and then 0, or 3; 0 is nothing, 1 is `b`; the start is 2.
 fn letters(alloc: Global) -> Result<Option<Grammar>, NoMemory> {

@@ -1,14 +1,12 @@
 //! Sentences of derivations that the decision gives, written.
 
 use cfg_grammar::{Grammar, Production, Right, Symbol};
-use derivations::{Derivation, length};
-use dyck_balance::Nesting;
-use grammar_decision::decide;
+use derivations::{Derivation, length, prepare, yield_into};
 use io_edge::{MemSink, SinkFault};
-use sentence_writing::{prepare, yield_into};
 use std::alloc::Global;
 use std::test::Fail;
-use summary_fixpoint::Verdict;
+use summary_decision::{Verdict, decide};
+use tag_sums::Nesting;
 use text_base::{ByteRange, Elem, NoMemory, Nt, PageToken};
 
 // What 1 derives and then a start tag, where each nonterminal from 1 on is the next one twice, but

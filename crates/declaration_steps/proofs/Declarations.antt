@@ -9,9 +9,9 @@ use Rattle.page_model.specs.Parts.{Attribute, attributes_then}
 use Rattle.page_model.specs.Places.{Place, behind}
 use Rattle.page_model.specs.Prolog.{Declaration, IsDeclaration, is_version, is_in_order}
 use Rattle.piece_steps.specs.Readers.{Move, go, done, fail, Outcome, whole, next, ends}
-use Rattle.page_fronts.specs.Fronts.{in_declaration, at_declaration_end}
-use Rattle.page_fronts.specs.OpenTags.{OpenAttribute, between}
-use Rattle.page_fronts.specs.OpenValues.{OpenValue, in_text, in_reference, in_fixed, in_choice, in_words}
+use Rattle.page_model.specs.Fronts.{in_declaration, at_declaration_end}
+use Rattle.page_model.specs.OpenTags.{OpenAttribute, between}
+use Rattle.page_model.specs.OpenValues.{OpenValue, in_text, in_reference, in_fixed, in_choice, in_words}
 use Rattle.page_steps.specs.AttributeSteps.{AttributeMove, stays, ends_with as ends_at, leaves, stops, attribute_move}
 use Rattle.page_steps.specs.PageSteps.{OpenMove, question_move, declaration_by, PageState, put_place, page_step, page_reader}
 use Rattle.page_steps.specs.TagSteps.{word_step, of_declaration}

@@ -12,7 +12,7 @@ use Rattle.dtd_model.specs.References.{is_reference}
 use Rattle.page_model.specs.Parts.{Attribute, IsAttribute, AreAttributes, may_be_quoted, refers_by}
 use Rattle.page_model.specs.Prolog.{is_version, is_encoding, is_standalone, may_follow_version, is_in_order}
 use Rattle.piece_steps.specs.Insides.{accepted, accepts}
-use Rattle.page_fronts.specs.OpenValues.{in_fixed}
+use Rattle.page_model.specs.OpenValues.{in_fixed}
 use Rattle.page_steps.specs.TagSteps.{may_be_word, is_word_value, word_step, word_good, of_declaration}
 use Rattle.page_steps.specs.ValueSteps.{may_stand}
 use Rattle.attribute_steps.specs.Among.{May, AllMay}

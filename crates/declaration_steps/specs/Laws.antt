@@ -7,8 +7,8 @@ use Rattle.page_model.specs.Parts.{attributes_then}
 use Rattle.page_model.specs.Places.{Place, behind}
 use Rattle.page_model.specs.Prolog.{Declaration, IsDeclaration}
 use Rattle.piece_steps.specs.Readers.{whole}
-use Rattle.page_fronts.specs.Fronts.{in_declaration}
-use Rattle.page_fronts.specs.OpenTags.{between}
+use Rattle.page_model.specs.Fronts.{in_declaration}
+use Rattle.page_model.specs.OpenTags.{between}
 use Rattle.page_insides.specs.Laws.{read, ends_with}
 
 -- what stands behind `<?xml`

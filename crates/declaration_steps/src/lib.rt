@@ -1,6 +1,7 @@
-//! A law of the reader of a page in the XML declaration: from behind `<?xml` and white space it
-//! comes to an end exactly behind a declaration. Below stand piece_steps, page_model, page_fronts,
-//! page_steps, attribute_steps and page_insides.
+//! The law of the reader of a page (page_steps) in the XML declaration. Promise: behind `<?xml` and
+//! white space it comes to an end exactly behind a declaration (`DeclarationsRead` of specs/Laws,
+//! over `IsDeclaration` of page_model). No code stands here.
+//! Used by: page_reads.
 #![tactic(auto)]
 
 pub mod laws;

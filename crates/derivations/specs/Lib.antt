@@ -1,3 +1,9 @@
 pub mod Nodes
 pub mod Stands
 pub mod Lawful
+pub mod Bytes
+pub mod Forks
+pub mod Pieces
+pub mod Stacked
+pub mod Walks
+pub mod Text

@@ -3,7 +3,7 @@ use Rattle.std.specs.Prelude.{ℕ, Bool, true, false, ◌==◌, ◌&&◌, if◌t
 use Rattle.xml_text.specs.Characters.{is_blank}
 use Rattle.page_model.specs.Parts.{is_quote}
 use Rattle.piece_steps.specs.Insides.{Turn, on, out, stop}
-use Rattle.page_fronts.specs.OpenDoctypes as doctype
+use Rattle.page_model.specs.OpenDoctypes as doctype
 use Rattle.page_steps.specs.DoctypeSteps.{is_wanted, end_turn}
 use Rattle.open_pieces.specs.Views.{plain_doctype}
 use Rattle.doctype_stepping.specs.declared.turn.DoctypeTurn.{DoctypeTurn}

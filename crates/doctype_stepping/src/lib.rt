@@ -1,6 +1,8 @@
-//! One character more in a document type declaration of a page, in memory: `doctype_turn` is the
-//! function of page_steps of that name. Below stand xml_text, dtd_model, page_cutting, value_rules,
-//! page_steps and open_pieces.
+//! One character more in a document type declaration of a page, in memory. Promise: `doctype_turn`
+//! is, through the views of open_pieces and `plain_turn` of specs/Views, the function of that name
+//! in page_steps (specs/DoctypeSteps there), by what a definition asks of such a declaration
+//! (`DoctypeRule`).
+//! Used by: opener_stepping.
 #![tactic(auto)]
 
 mod literals;

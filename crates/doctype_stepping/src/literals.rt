@@ -8,10 +8,9 @@ ghost use Rattle.doctype_stepping.specs.Views.{plain_turn, wanted_turn};
 use crate::turn::DoctypeTurn;
 use dtd_model::DoctypeRule;
 use open_pieces::{Characters, DoctypeWord, OpenDoctype};
-use page_cutting::in_public_identifier;
+use page_rules::{in_public_identifier, is_word};
 use std::alloc::Global;
 use text_base::NoMemory;
-use value_rules::is_word;
 
 /// The quote of the literal behind the word. Takes no memory.
 pub fn literal_turn(alloc: Global, rule: DoctypeRule, word: DoctypeWord, quote: char) -> DoctypeTurn

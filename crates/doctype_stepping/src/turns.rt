@@ -2,7 +2,7 @@
 
 ghost use Rattle.std.specs.Prelude.{◌≡◌, IfOk};
 ghost use Rattle.page_steps.specs.DoctypeSteps as steps;
-ghost use Rattle.page_fronts.specs.OpenDoctypes as doctype;
+ghost use Rattle.page_model.specs.OpenDoctypes as doctype;
 ghost use Rattle.open_pieces.specs.Views.{plain_doctype, plain_word};
 ghost use Rattle.doctype_stepping.specs.Views.{plain_turn, before_next, behind_public_next, system_next, behind_system_next};
 
@@ -11,10 +11,9 @@ use crate::turn::DoctypeTurn;
 use crate::words::{begins_root, is_free, may_begin};
 use dtd_model::DoctypeRule;
 use open_pieces::{Characters, DoctypeWord, OpenDoctype};
-use page_cutting::{is_blank, is_quote};
+use page_rules::{is_blank, is_quote, is_word};
 use std::alloc::Global;
 use text_base::NoMemory;
-use value_rules::is_word;
 
 /// One character more in a document type declaration, behind `<!DOCTYPE` (XML 1.0, 2.8; XHTML 1.0,
 /// 3.1.1).

@@ -12,7 +12,7 @@ use Rattle.page_model.specs.Attributes.{doctype_fits}
 use Rattle.page_model.specs.Parts.{is_quote}
 use Rattle.page_model.specs.Prolog.{Identifier, no_identifier, system, public, identifier_then, IsSpace, IsIdentifier, Doctype, is_strict}
 use Rattle.piece_steps.specs.Insides.{Turn, on, out, stop, past}
-use Rattle.page_fronts.specs.OpenDoctypes.{Word, system_word, public_word, letters, OpenDoctype, before_root, in_root, behind_root, in_word, behind_word, in_public, behind_public, in_system, behind_system, kept}
+use Rattle.page_model.specs.OpenDoctypes.{Word, system_word, public_word, letters, OpenDoctype, before_root, in_root, behind_root, in_word, behind_word, in_public, behind_public, in_system, behind_system, kept}
 use Rattle.page_steps.specs.DoctypeSteps.{begins, is_free, root_turn, may_begin, literal_turn, grown, is_wanted, doctype_turn}
 use Rattle.doctype_steps.specs.Laws.{turn, IsDoctypeThen, DoctypesLeft}
 use Rattle.doctype_steps.proofs.Over.{by, spaced_by, grown_by, wanted_is, over_doctype}

@@ -12,7 +12,7 @@ use Rattle.page_model.specs.Attributes.{doctype_fits}
 use Rattle.page_model.specs.Parts.{is_quote}
 use Rattle.page_model.specs.Prolog.{Literal, literal_then, IsLiteral, Identifier, no_identifier, system, public, identifier_then, IsSpace, IsIdentifier, Doctype, IsDoctype, is_strict}
 use Rattle.piece_steps.specs.Insides.{Turn, on, out, stop, turned, past}
-use Rattle.page_fronts.specs.OpenDoctypes.{Word, system_word, public_word, letters, OpenDoctype, before_root, in_root, behind_root, in_word, behind_word, in_public, behind_public, in_system, behind_system, kept}
+use Rattle.page_model.specs.OpenDoctypes.{Word, system_word, public_word, letters, OpenDoctype, before_root, in_root, behind_root, in_word, behind_word, in_public, behind_public, in_system, behind_system, kept}
 use Rattle.page_steps.specs.DoctypeSteps.{begins, is_free, end_turn, root_turn, may_begin, word_turn, literal_turn, grown, is_wanted, public_turn, doctype_turn}
 use Rattle.doctype_steps.specs.Laws.{turn, inside_then}
 

@@ -5,7 +5,7 @@ use Rattle.dtd_model.specs.declared.dtd.DoctypeRule.{DoctypeRule}
 use Rattle.page_model.specs.Attributes.{doctype_fits}
 use Rattle.page_model.specs.Prolog.{identifier_then, Doctype, IsDoctype}
 use Rattle.piece_steps.specs.Insides.{Turn, stop, past}
-use Rattle.page_fronts.specs.OpenDoctypes.{OpenDoctype, before_root}
+use Rattle.page_model.specs.OpenDoctypes.{OpenDoctype, before_root}
 use Rattle.page_steps.specs.DoctypeSteps.{doctype_turn}
 
 -- what `doctype_turn` does, for characters of XML

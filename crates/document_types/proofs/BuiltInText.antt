@@ -2,9 +2,9 @@
 use Rattle.std.proofs.Common.{◌≡◌, ◌≤◌, ℕ, List, true, false, Bool, Option, Some, None, length, refl, subst}
 use Rattle.std.specs.Prelude.{if◌then◌else◌, bytes_eq}
 use Rattle.text_base.specs.declared.limits.TheConstants.{FILE_LIMIT}
-use Rattle.dtd_table_laws.specs.Certain.{AreTold, AreShort}
-use Rattle.xhtml_strict.specs.Strict.{file_name, only_file, strict_bytes}
-use Rattle.xhtml_strict.proofs.Length.{is_short}
+use Rattle.dtd_reader.specs.Certain.{AreTold, AreShort}
+use Rattle.document_types.specs.Strict.{file_name, only_file, strict_bytes}
+use Rattle.document_types.proofs.Length.{is_short}
 
 pub only_told : (text : List ℕ) → AreTold (only_file text) file_name
 only_told text path asked = (_, refl)

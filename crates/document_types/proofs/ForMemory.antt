@@ -7,9 +7,9 @@ use Rattle.dtd_reader.specs.Source.{SourceCall, source_call}
 use Rattle.dtd_reader.specs.Refusals.{IsCause}
 use Rattle.dtd_reader.specs.declared.refusal.DtdRefusal.{DtdRefusal}
 use Rattle.dtd_reader.specs.declared.refusal.DtdRefusal.TheVariants as dtd
-use Rattle.dtd_table_laws.specs.Certain.{PassesLimit, IsForLimit}
-use Rattle.dtd_table_laws.proofs.NotRefused.{for_limits}
-use Rattle.xhtml_strict.specs.Strict.{file_name, only_file, strict_bytes, IsStrict, IsRefused}
+use Rattle.dtd_reader.specs.Certain.{PassesLimit, IsForLimit}
+use Rattle.dtd_reader.proofs.NotRefused.{for_limits}
+use Rattle.document_types.specs.Strict.{file_name, only_file, strict_bytes, IsStrict, IsRefused}
 use Rattle.document_types.specs.declared.refusal.DefinitionRefusal.{DefinitionRefusal}
 use Rattle.document_types.specs.declared.refusal.DefinitionRefusal.TheVariants as refusal
 use Rattle.document_types.specs.DocumentTypes.{NamedType, strict_type, file_type, HasTable, NamesAreTold, NamesAreShort, IsTooLarge, IsDefinitionRefusal}

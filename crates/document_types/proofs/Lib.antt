@@ -1,3 +1,4 @@
 pub mod BuiltInText
 pub mod OneTable
 pub mod ForMemory
+pub mod Length

@@ -7,8 +7,8 @@ use Rattle.dtd_texts.specs.Spells.{DtdSpells}
 use Rattle.dtd_reader.specs.Source.{SourceCall, IsCalm}
 use Rattle.dtd_reader.specs.Refusals.{IsCause}
 use Rattle.dtd_reader.specs.declared.refusal.DtdRefusal.{DtdRefusal}
-use Rattle.dtd_table_laws.specs.Certain.{AreTold, AreShort, PassesLimit}
-use Rattle.xhtml_strict.specs.Strict.{file_name, only_file, strict_bytes, IsStrict, IsRefused}
+use Rattle.dtd_reader.specs.Certain.{AreTold, AreShort, PassesLimit}
+use Rattle.document_types.specs.Strict.{file_name, only_file, strict_bytes, IsStrict, IsRefused}
 use Rattle.document_types.specs.declared.document_type.DocumentType.{DocumentType}
 use Rattle.document_types.specs.declared.document_type.DocumentType.TheVariants.{Strict, Mini, File}
 use Rattle.document_types.specs.declared.refusal.DefinitionRefusal.{DefinitionRefusal}

@@ -1,2 +1,3 @@
 pub mod DocumentTypes
-pub use Rattle.xhtml_strict.specs.OneFile
+pub mod OneFile
+pub mod Strict

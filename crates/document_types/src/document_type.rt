@@ -6,11 +6,11 @@ ghost use Rattle.dtd_reader.specs.Source.{source_call, IsCalm};
 ghost use Rattle.document_types.specs.DocumentTypes.{HasTable, IsBuiltIn, IsDefinitionRefusal, named_type, type_of};
 
 use crate::refusal::DefinitionRefusal;
+use crate::strict;
 use dtd_model::{Dtd, mini};
 use dtd_reader::read_dtd;
 use io_edge::Files;
 use std::alloc::Global;
-use xhtml_strict::strict;
 
 /// A document type that a word names.
 #[derive(Clone, Copy, Debug)]

@@ -1,14 +1,20 @@
-//! The document types that a word of the command line may name, and the definition of each:
-//! `strict`, `mini`, or that of a file.
-//!
-//! `specs/DocumentTypes.antt` says what words name, which table each document type has, and why
-//! there is none. `DocumentType::definition` gives a definition with this table. Below stand
-//! `dtd_reader`, which reads the files of a definition, and `xhtml_strict` with the built-in text.
+//! The document types that a word of the command line may name (`strict`, `mini`, or that of a
+//! file), and their definitions. Promise: `DocumentType::definition` answers Ok only with a
+//! definition that has the table of the type (`ok`: `HasTable` of specs/DocumentTypes), and each
+//! refusal with its cause (`err`: `IsDefinitionRefusal`).
+//! Used by 7 crates, phpsa_texts, phpsa_tasks, phpsa_main, check_rows and others.
 #![tactic(auto)]
 
+mod built_in;
+mod declarations;
 mod document_type;
+mod entities;
+mod one_file;
 mod refusal;
+mod text;
 
+pub use built_in::{read_strict, strict};
 pub use document_type::DocumentType;
+pub use one_file::OneFile;
 pub use refusal::DefinitionRefusal;
-pub use xhtml_strict::OneFile;
+pub use text::strict_text;

@@ -1,2 +1,5 @@
 pub mod Passing
 pub mod Models
+pub mod Letters
+pub mod Numbers
+pub mod TokenRows

@@ -1,7 +1,7 @@
 -- Where a step goes wrong, so does what follows it.
 use Rattle.std.proofs.Common.{◌≡◌, ◌∙◌, ℕ, zero, suc, ◌+◌, ◌<◌, ◌≤◌, List, [], ◌∷◌, length, drop, get_or, refl, sym, ap, subst, arith, add-one}
-use Rattle.dtd_tokens.specs.declared.token.Token.{Token as CodeToken}
-use Rattle.dtd_tokens.specs.Views.{token_of, tokens_of}
+use Rattle.dtd_declarations.specs.declared.token.Token.{Token as CodeToken}
+use Rattle.dtd_declarations.specs.TokenViews.{token_of, tokens_of}
 use Rattle.std.specs.Prelude.{Result}
 use Rattle.dtd_texts.specs.Tokens.{Token}
 use Rattle.dtd_texts.specs.Went.{Went, leads, then_go, all_steps}

@@ -1,7 +1,7 @@
 //! The steps through an attribute list (XML 1.0, 3.3).
 
 ghost use Rattle.std.specs.Prelude.{◌≡◌, ◌++◌, ◌∷◌, [], map, IfOk, List, if◌then◌else◌};
-ghost use Rattle.dtd_tokens.specs.Views.{token_of, tokens_of};
+ghost use Rattle.dtd_declarations.specs.TokenViews.{token_of, tokens_of};
 ghost use Rattle.dtd_model.specs.Table.{kind_of, presence_of, declared_of, Declared};
 ghost use Rattle.dtd_texts.specs.Tokens.{is_gap};
 ghost use Rattle.dtd_texts.specs.Went.{Went, leads, refused};
@@ -10,8 +10,8 @@ ghost use Rattle.dtd_declarations.specs.Views.{Gives, at_place, reading_of};
 
 use crate::attribute_stage::{Place, Reading};
 use crate::fault::Fault;
+use crate::{Token, is_attribute_value};
 use dtd_model::{AttrKind, AttrRule, Need};
-use dtd_tokens::{Token, is_attribute_value};
 use std::alloc::Global;
 use text_base::{Bytes, NoMemory};
 use xml_text::is_name;

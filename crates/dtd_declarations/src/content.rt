@@ -1,18 +1,18 @@
 //! What an element may hold (XML 1.0, 3.2).
 
 ghost use Rattle.std.specs.Prelude.{◌≡◌};
-ghost use Rattle.dtd_tokens.specs.Views.{token_of, tokens_of};
+ghost use Rattle.dtd_declarations.specs.TokenViews.{token_of, tokens_of};
 ghost use Rattle.dtd_model.specs.Table.{holding_of};
 ghost use Rattle.dtd_texts.specs.ContentModels as spec;
 ghost use Rattle.dtd_declarations.specs.Views.{Gives, stage_of};
 
+use crate::Token;
 use crate::fault::Fault;
 use crate::groups::{behind_step, first_group, group_step, on_step, particle_step};
 use crate::mixed::{behind_text_step, element_step, mixed_step, text_step};
 use crate::names::Names;
 use crate::stage::Stage;
 use dtd_model::Content;
-use dtd_tokens::Token;
 use std::alloc::Global;
 
 fn name_step(token: &Token<'_>) -> Result<Stage, Fault>

@@ -1,7 +1,7 @@
 //! What a declaration says.
 
 ghost use Rattle.std.specs.Prelude.{◌≡◌, List, ℕ, IfOk, map};
-ghost use Rattle.dtd_tokens.specs.Views.{tokens_of};
+ghost use Rattle.dtd_declarations.specs.TokenViews.{tokens_of};
 ghost use Rattle.dtd_texts.specs.Tables as spec;
 ghost use Rattle.dtd_texts.specs.Tokens.{next_word};
 ghost use Rattle.dtd_texts.specs.Went.{leads, then_go};
@@ -13,8 +13,8 @@ use crate::attribute_steps::attributes_of;
 use crate::content::content_of;
 use crate::fault::Fault;
 use crate::names::Names;
+use crate::{Token, first_word, next_word, tokens_of};
 use dtd_model::{AttrRule, Content};
-use dtd_tokens::{Token, first_word, next_word, tokens_of};
 use std::alloc::Global;
 use text_base::{Bytes, NoMemory};
 use xml_text::is_name;

@@ -1,18 +1,18 @@
 //! Groups of particles (XML 1.0, 3.2.1).
 
 ghost use Rattle.std.specs.Prelude.{◌≡◌, ◌++◌, ◌∷◌, [], map, IfOk};
-ghost use Rattle.dtd_tokens.specs.Views.{token_of};
+ghost use Rattle.dtd_declarations.specs.TokenViews.{token_of};
 ghost use Rattle.dtd_model.specs.Table.{model_of, optional, any_number, at_least_one, children, one};
 ghost use Rattle.dtd_texts.specs.ContentModels as spec;
 ghost use Rattle.dtd_texts.specs.Tokens.{opening, closing, bar, comma};
 ghost use Rattle.dtd_texts.specs.Went.{leads};
 ghost use Rattle.dtd_declarations.specs.Views.{Gives, stage_of, groups_of, group_of, separator_of};
 
+use crate::Token;
 use crate::fault::Fault;
 use crate::names::Names;
 use crate::stage::{Group, Groups, Separator, Stage};
 use dtd_model::{Content, Particle};
-use dtd_tokens::Token;
 use std::alloc::Global;
 use text_base::{Elem, NoMemory};
 

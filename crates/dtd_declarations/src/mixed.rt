@@ -1,15 +1,15 @@
 //! Text and elements (XML 1.0, 3.2.2, Mixed).
 
 ghost use Rattle.std.specs.Prelude.{◌≡◌, ◌++◌, ◌∷◌, [], IfOk};
-ghost use Rattle.dtd_tokens.specs.Views.{token_of};
+ghost use Rattle.dtd_declarations.specs.TokenViews.{token_of};
 ghost use Rattle.dtd_texts.specs.ContentModels as spec;
 ghost use Rattle.dtd_declarations.specs.Views.{Gives, stage_of, numbers_of};
 
+use crate::Token;
 use crate::fault::Fault;
 use crate::names::Names;
 use crate::stage::Stage;
 use dtd_model::Content;
-use dtd_tokens::Token;
 use std::alloc::Global;
 use text_base::{Elem, NoMemory};
 

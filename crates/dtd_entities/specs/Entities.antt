@@ -1,6 +1,6 @@
 -- What the code finds in the declaration of an entity.
 use Rattle.std.specs.Prelude.{ℕ, Bool, true, false, List, Option, Some, None}
-use Rattle.dtd_tokens.specs.Views.{tokens_of}
+use Rattle.dtd_declarations.specs.TokenViews.{tokens_of}
 use Rattle.dtd_texts.specs.Tokens.{Token}
 use Rattle.dtd_texts.specs.Places.{Entity, parameter, general, external, Step, declares_parameter, leaves_out, refuses}
 use Rattle.dtd_entities.specs.declared.entity.Named.{Named}

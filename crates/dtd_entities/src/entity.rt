@@ -4,12 +4,12 @@ ghost use Rattle.std.specs.Prelude.{◌≡◌, IfOk, MatchOption, true, false};
 ghost use Rattle.std.specs.Str.{is_utf8};
 ghost use Rattle.std.specs.List.{list_all};
 ghost use Rattle.xml_text.specs.Names as names;
-ghost use Rattle.dtd_tokens.specs.Views.{tokens_of, found};
+ghost use Rattle.dtd_declarations.specs.TokenViews.{tokens_of, found};
 ghost use Rattle.dtd_texts.specs.Places as spec;
 ghost use Rattle.dtd_texts.specs.Tokens as rows;
 ghost use Rattle.dtd_entities.specs.Entities.{entity_by, named_of, entity_in, ending_of};
 
-use dtd_tokens::{
+use dtd_declarations::{
     Found, Token, are_none, behind_gap, first_word, is_end, is_percent_sign, next_literal,
     next_word,
 };

@@ -1,6 +1,8 @@
-//! Document type definition texts with their parameter entities replaced: from a file to its
-//! declarations, in one pass with a stack of open entities. The contracts cite the definitions of
-//! dtd_texts; below stand io_edge and dtd_tokens.
+//! The places of a document type definition text as code: what stands at the head of the bytes, and
+//! what is known behind them, with parameter entities replaced. Promise: `Reading::step` is the
+//! move of dtd_texts at the head of the bytes (its clause `value`, over `state_of` of
+//! specs/Positions), `enter` and `leave` those at the beginning and the end of an entity.
+//! Used by: dtd_tables, dtd_reader.
 #![tactic(auto)]
 
 mod ended;

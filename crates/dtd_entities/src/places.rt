@@ -14,7 +14,7 @@ use crate::ended::Ended;
 use crate::entity::{Ending, external, is_entity, valued};
 use crate::parameters::declare;
 use crate::state::{Mode, Move, Reading, Source, Written};
-use dtd_tokens::{
+use dtd_declarations::{
     begins, behind, character, entity_length, front, head_is_blank, is_plain_value, is_quote,
     name_length, reference_length, same_letters, tokens_of,
 };

@@ -1,6 +1,8 @@
-//! The names of a document type definition, found by their characters without going through the
-//! list. Contracts cite the table of the definition (`table_of` of dtd_model). Below stand
-//! text_base, dtd_model and indexmap.
+//! A document type definition whose elements and entities are found by name through a hash index,
+//! made once for a page.
+//! Promise: `element` and `has_entity` of `IndexedDtd` say exactly what the table of the definition
+//! says (`table_of` of dtd_model, `names_of_rules` of specs/Keys).
+//! Used by 21 crates, page_lexer, loose_reader, page_rules, reference_stepping and others.
 #![tactic(auto)]
 
 mod indexed;

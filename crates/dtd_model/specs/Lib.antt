@@ -4,8 +4,3 @@ pub mod Mini
 pub mod References
 pub mod Table
 pub mod TableOf
-pub use Rattle.text_base.specs.declared.numbers
-pub use Rattle.text_base.specs.declared.page_token
-pub use Rattle.xml_text.specs.Characters
-pub use Rattle.xml_text.specs.Names
-pub use Rattle.xml_text.specs.Texts

@@ -1,7 +1,8 @@
-//! Document type definitions: the types say what elements and attributes are declared, and the
-//! files of specs/ which children an element may have, which references are known, and what a
-//! [`Dtd`] keeps (specs/Lawful.antt). When a page is valid by one stands in page_model. Below
-//! stand text_base and xml_text.
+//! Document type definitions, as the type `Dtd` and as plain tables (specs/Table); which children
+//! an element may have is `matches` of specs/Matches.
+//! Promise: a `Dtd` keeps `is_lawful` of specs/Lawful, and `mini` has the table of the smallest
+//! document type (`mini_table` of specs/Mini).
+//! Used by 59 crates, number_kinds, dtd_index, content_automata, page_lexer and others.
 #![tactic(auto)]
 
 mod definition;

@@ -4,7 +4,7 @@ use Rattle.dtd_model.specs.Table.{Table}
 use Rattle.dtd_model.specs.Lawful.{are_names}
 use Rattle.dtd_texts.specs.Reading.{State, Content}
 use Rattle.dtd_texts.specs.Spells.{DtdSpells}
-use Rattle.dtd_laws.proofs.Entities.{entities_named}
+use Rattle.dtd_texts.proofs.Entities.{entities_named}
 use Rattle.dtd_tables.specs.Spelled.{IsTable}
 use Rattle.dtd_tables.specs.Causes.{IsTableCause}
 use Rattle.dtd_tables.specs.declared.refusal.TableRefusal.{TableRefusal}

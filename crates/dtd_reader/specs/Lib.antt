@@ -4,3 +4,4 @@ pub mod Views
 pub mod Causes
 pub mod Answers
 pub mod Refusals
+pub mod Certain

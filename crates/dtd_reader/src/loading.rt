@@ -6,7 +6,7 @@ ghost use Rattle.dtd_reader.specs.Source.{source_call, Counted};
 ghost use Rattle.dtd_reader.specs.Views.{IsLoaded, FoundCounts};
 
 use crate::outcome::Found;
-use dtd_tokens::behind_declaration;
+use dtd_declarations::behind_declaration;
 use io_edge::{FileFault, Files};
 use std::alloc::Global;
 use text_base::{Bytes, NoMemory};

@@ -10,10 +10,10 @@ use Rattle.dtd_texts.specs.Heads.{same}
 use Rattle.dtd_texts.specs.Reading.{Written, is_among}
 use Rattle.dtd_texts.specs.Went.{leads}
 use Rattle.dtd_texts.specs.Tables.{Said, element, attributes, said, element_names, attributes_for, is_declared, with_others, rules_of}
-use Rattle.dtd_laws.specs.Lawful.{are_lawful, IsLawfulSaid}
-use Rattle.dtd_laws.proofs.Declarations.{said_lawful}
-use Rattle.dtd_laws.proofs.Entities.{distinct_more}
-use Rattle.dtd_laws.proofs.Holdings.{both, first_of_both, second_of_both}
+use Rattle.dtd_texts.specs.Lawful.{are_lawful, IsLawfulSaid}
+use Rattle.dtd_texts.proofs.Declarations.{said_lawful}
+use Rattle.dtd_texts.proofs.Entities.{distinct_more}
+use Rattle.dtd_texts.proofs.Holdings.{both, first_of_both, second_of_both}
 use Rattle.dtd_tables.specs.declared.parts.List.{List as CodeList}
 use Rattle.dtd_tables.specs.Updates.{with_one, lists_in, rule_names, HaveFew}
 use Rattle.dtd_tables.specs.Views.{list_said, AreNamed}

@@ -3,7 +3,7 @@ use Rattle.std.proofs.Common.{◌≡◌, ◌∙◌, ℕ, ◌+◌, ◌<◌, true,
 use Rattle.dtd_model.specs.Lawful.{is_distinct}
 use Rattle.dtd_texts.specs.Reading.{Written}
 use Rattle.dtd_texts.specs.Tables.{declared, element_names}
-use Rattle.dtd_laws.proofs.Entities.{distinct_more}
+use Rattle.dtd_texts.proofs.Entities.{distinct_more}
 use Rattle.dtd_tables.specs.Views.{IsNameCause, AddsName}
 use Rattle.std.specs.Prelude.{Ok, Err}
 use Rattle.dtd_tables.specs.declared.refusal.TableRefusal.{TableRefusal}

@@ -1,6 +1,8 @@
-//! The table of document type definitions: from the declarations of a text to the definition that
-//! they make. The contracts cite the definitions of dtd_texts; below stand dtd_declarations and
-//! dtd_entities.
+//! From the declarations of a definition text to the document type definition that they make.
+//! Promise: `table_of` answers Ok only with a table of them (`table`: `IsTable` of specs/Spelled),
+//! and each refusal with its cause (`refused`: `IsTableCause` of specs/Causes); `first_refused`
+//! gives the place of the first declaration that is none.
+//! Used by: dtd_reader.
 #![tactic(auto)]
 
 mod attributes;

@@ -1,10 +1,10 @@
 //! The built-in text, cut behind each of its bytes.
 
 use crate::outcome::files_of;
+use document_types::strict_text;
 use dtd_reader::{DtdRefusal, read_dtd};
 use std::alloc::Global;
 use std::test::Fail;
-use xhtml_strict::strict_text;
 
 // Whether the front of the built-in text is a definition, or none for what it holds.
 fn front_is_judged(alloc: Global, front: &[u8]) -> Result<bool, Fail> {

@@ -2,11 +2,11 @@
 
 use crate::outcome::{files_of, table_line};
 use crate::w3c::W3C_STRICT;
+use document_types::{strict, strict_text};
 use dtd_model::{DoctypeRule, Dtd};
 use dtd_reader::{DtdRefusal, read_dtd};
 use std::alloc::Global;
 use std::test::Fail;
-use xhtml_strict::{strict, strict_text};
 
 // The definition that the W3C's declarations spell.
 fn by_the_w3c(alloc: Global) -> Result<Dtd, DtdRefusal> {

@@ -1,5 +1,5 @@
 //! The declarations of elements and attributes of XHTML 1.0 Strict as the W3C writes them (XHTML
-//! 1.0, appendix A.1), without remarks, in the order of xhtml_strict.
+//! 1.0, appendix A.1), without remarks, in the order of document_types.
 
 pub const W3C_STRICT: &str = r#"<!ENTITY % ContentType "CDATA">
 <!ENTITY % ContentTypes "CDATA">

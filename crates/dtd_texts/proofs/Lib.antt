@@ -3,3 +3,7 @@ pub mod Grows
 pub mod Never
 pub mod Run
 pub mod Examples
+pub mod Entities
+pub mod Holdings
+pub mod Attributes
+pub mod Declarations

@@ -8,3 +8,4 @@ pub mod ContentModels
 pub mod AttributeLists
 pub mod Tables
 pub mod Spells
+pub mod Lawful

@@ -4,8 +4,8 @@ use Rattle.text_base.specs.declared.letter.Letter.{Letter}
 use Rattle.text_base.specs.declared.letter.Letter.TheVariants.{OfToken}
 use Rattle.text_base.specs.declared.page_token.PageToken.{PageToken}
 use Rattle.fst_core.specs.Runs.{Relates}
-use Rattle.sentence_writing.specs.Bytes.{bytes_in}
-use Rattle.summary_fixpoint.specs.Pairs.{tokens_in}
+use Rattle.derivations.specs.Bytes.{bytes_in}
+use Rattle.summary_decision.specs.Pairs.{tokens_in}
 use Rattle.byte_readers.specs.Reading.{tokens_over}
 use Rattle.echoing_machine.specs.Groups.{echo_letters}
 

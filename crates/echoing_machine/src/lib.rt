@@ -1,8 +1,8 @@
-//! A machine of any reader that goes from byte to byte and tells which neighbouring bytes do the
-//! same (`RunReader`): it puts out the text itself with the reader's tokens between its bytes, so
-//! that what a grammar derives under it holds each text of the grammar with its tokens. Contracts
-//! cite `tokens_over` of byte_readers. Below stand text_base, fst_core, sentence_writing,
-//! summary_fixpoint and byte_readers.
+//! A machine of any reader that goes from byte to byte and tells runs of bytes that do the same
+//! (`RunReader`): it puts out the text itself with the reader's tokens between its bytes
+//! (`Echoing`). Promise: over each text there is exactly this output (`echo_of`), its bytes are the
+//! text and its tokens those of the reader (`machine_echoes`: `IsEcho` of specs/Echoes).
+//! Used by 9 crates, script_decision, page_decision, coarse_reader, page_runs and others.
 #![tactic(auto)]
 
 mod groups;

@@ -9,7 +9,7 @@ use Rattle.dtd_model.specs.Table.{Declared}
 use Rattle.page_model.specs.Attributes.{has_kind, has_fixed, is_declared, stands, is_once, must_stand, all_there}
 use Rattle.page_model.specs.Parts.{Attribute, IsAttribute, AreAttributes, refers_by}
 use Rattle.piece_steps.specs.Insides.{accepts}
-use Rattle.page_fronts.specs.Fronts.{find_declared}
+use Rattle.page_model.specs.Fronts.{find_declared}
 use Rattle.page_steps.specs.TagSteps.{is_among, is_declared_once, names_with, start_of, step_of, good_of, of_element, are_all}
 use Rattle.page_steps.specs.ValueSteps.{may_stand}
 use Rattle.reference_steps.specs.Laws.{may_have}

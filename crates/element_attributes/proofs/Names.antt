@@ -4,7 +4,7 @@ use Rattle.std.specs.Prelude.{if◌then◌else◌, bytes_eq}
 use Rattle.std.specs.List.{list_any}
 use Rattle.std.proofs.lemmas.Slice.Eq.{bytes_eq-Decides}
 use Rattle.dtd_model.specs.Table.{Declared}
-use Rattle.page_fronts.specs.Fronts.{find_declared}
+use Rattle.page_model.specs.Fronts.{find_declared}
 use Rattle.page_steps.specs.TagSteps.{is_among, names_with}
 
 pub same : (a b : List ℕ) → bytes_eq a b ≡ true → a ≡ b

@@ -14,7 +14,7 @@ use Rattle.piece_steps.proofs.States.{state_behind}
 use Rattle.character_steps.specs.Bytes.{is_begun}
 use Rattle.character_steps.specs.Encoded.{Held, at_state, encoded}
 use Rattle.character_steps.proofs.Encoding.{encoded_reads}
-use Rattle.page_fronts.specs.Fronts.{Front, bad, front, CanGoOn, HasFront}
+use Rattle.page_model.specs.Fronts.{Front, bad, front, CanGoOn, HasFront}
 use Rattle.page_steps.specs.PageSteps.{PageState, page_reader, page_hold, page_language}
 use Rattle.page_step_laws.specs.Laws.{beginning}
 use Rattle.page_step_laws.proofs.Held.{read_by_characters}

@@ -2,7 +2,7 @@
 use Rattle.std.specs.Prelude.{◌≡◌, ℕ, List, Option, Some, None}
 use Rattle.dtd_model.specs.Table.{Table}
 use Rattle.character_steps.specs.Encoded.{Held}
-use Rattle.page_fronts.specs.Fronts.{Front, bad, front, HasFront}
+use Rattle.page_model.specs.Fronts.{Front, bad, front, HasFront}
 use Rattle.page_steps.specs.PageSteps.{PageState}
 use Rattle.page_reads.specs.Laws.{IsLawfulTable}
 use Rattle.front_laws.specs.Laws.{narrow_state, state_of_front}

@@ -1,7 +1,8 @@
-//! The laws that the state of the reader of pages that fails exactly where no piece can come
-//! (page_narrowing) is the front of the page, bad fronts being no state (specs/Laws.antt). No code
-//! stands here. Below stand text_base, piece_steps, character_steps, dtd_model, page_model, page_fronts, page_steps,
-//! page_step_laws, page_reads, page_narrowing, front_laws and page_endings.
+//! Laws: the front of a page (page_model) is the state of the reader that fails as soon as no piece
+//! can come (page_narrowing). Promise (specs/Laws): a front that a text has is the state behind it,
+//! a bad one being no state (`FrontsAreStates`), so two texts with equal fronts lead to equal
+//! states, bad ones too (`EqualFronts`). No code stands here.
+//! Used by: reader_fronts.
 #![tactic(auto)]
 
 pub mod laws;

@@ -1,8 +1,7 @@
 -- Variables written as pairs of a name and a value, and a value as its kind: by it a proof tells them apart.
-use Rattle.std.specs.Prelude.{◌≡◌, ℕ, ℤ, Bool, List, ◌⊎◌, refl}
+use Rattle.std.specs.Prelude.{◌≡◌, ℕ, ℤ, Bool, List, ◌⊎◌, refl, Option, Some, None}
 use Rattle.std.proofs.Common.{inl, inr}
 use Rattle.std.specs.Coded.{Coded, code_by, coded×, coded⊎, coded_ℕ, coded_ℤ, coded_bool, coded_list, coded_option}
-use Rattle.std.specs.Prelude.{Option, Some, None}
 use Rattle.plain_values.specs.Plain.{Plain, Pairs, null, flag, int, text, array}
 use Rattle.php_values.specs.PlainCode.{pairs_code}
 use Rattle.script_meaning.specs.Runs.{Variables}

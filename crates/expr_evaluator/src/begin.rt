@@ -11,9 +11,9 @@ ghost use Rattle.expr_evaluator.specs.Moves.{Moves, Does};
 use crate::evaluator::Evaluator;
 use crate::frame::{Focus, Frame, Purpose, Writing};
 use crate::operations::{failed, stepped};
-use php_requests::Request;
 use php_syntax::tree::{Expr, SuperName};
 use php_values::{Array, Text, Value};
+use request_reading::Request;
 use std::alloc::Global;
 use text_base::{Bytes, NoMemory};
 

@@ -12,9 +12,9 @@ use crate::give::give;
 use crate::items::items;
 use crate::rows::row;
 use crate::targets::keys;
-use php_requests::Request;
 use php_syntax::tree::Expr;
 use php_values::Value;
+use request_reading::Request;
 use std::alloc::Global;
 use text_base::NoMemory;
 

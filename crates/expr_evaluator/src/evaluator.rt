@@ -6,9 +6,8 @@ ghost use Rattle.expr_evaluator.specs.Moves.{Opens};
 use crate::frame::{Focus, Frame};
 use crate::variables::Variables;
 use php_syntax::tree::Expr;
-use stacks::Stack;
 use std::alloc::Global;
-use text_base::NoMemory;
+use text_base::{NoMemory, Stack};
 
 /// What an evaluation has still to do, the last first, and the variables that it sees.
 #[derive(Drop)]

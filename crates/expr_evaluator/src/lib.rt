@@ -1,8 +1,8 @@
-//! Evaluates expressions of a script (PHP manual, "Expressions") by a stack of its own, up to the
-//! next call of a function of the script, which the caller runs and whose value it hands back. The
-//! contracts cite `value` of script_meaning: what an expression gives and what was evaluated so far
-//! are together what its meaning says. Below stand the values with their operations and functions,
-//! the trees, and script_meaning.
+//! Evaluates expressions of a script by a stack of its own, up to the next call of a function of
+//! the script, which the caller runs and whose value it hands back.
+//! Promise: where `evaluate` and `resume` stop, what is to come is what `value` of script_meaning
+//! says, for whatever the functions of the script do (`Pauses` of specs/Moves).
+//! Used by: statement_runs, script_runs.
 #![tactic(auto)]
 
 mod begin;

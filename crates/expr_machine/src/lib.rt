@@ -1,10 +1,8 @@
-//! A machine with a stack of its own that reads expressions.
-//!
-//! `specs/Machine.antt` says how it moves over the terminals of a script, `specs/Actions.antt`
-//! which values it makes in postfix order, `specs/Values.antt` what those are, and
-//! `specs/Reading.antt` what a whole run reads. The functions of `laws` tie it to the grammar of
-//! `script_grammar`: what it reads is an expression with these actions, each expression is read,
-//! and the actions of an expression make its tree. Below stands `script_grammar`.
+//! How expressions are read: a machine with a stack of its own over the terminals of a script,
+//! whose actions make values in postfix order (specs/Machine, specs/Values).
+//! Promise: each move makes the weight less (`moves_get_lighter`, over `weight` of specs/Reading);
+//! that it reads the grammar are laws of expr_laws.
+//! Used by 7 crates, expr_laws, expr_builder, expr_parser, stmt_machine and others.
 #![tactic(auto)]
 
 pub mod frame;

@@ -2,7 +2,7 @@
 use Rattle.std.specs.Prelude.{◌≡◌, List, Result, Ok, Err}
 use Rattle.expr_machine.specs.declared.frame.Frame.{Frame}
 use Rattle.expr_machine.specs.Machine.{Move, moves, finished, stuck}
-use Rattle.expr_values.specs.Outcomes.{plain_actions}
+use Rattle.expr_builder.specs.Outcomes.{plain_actions}
 use Rattle.expr_parser.specs.declared.step.Step.{Step}
 use Rattle.expr_parser.specs.declared.step.Step.TheVariants as step
 use Rattle.expr_parser.specs.Heads.{terminals_of}

@@ -4,15 +4,15 @@ ghost use Rattle.std.specs.Prelude.{◌≡◌, ◌∷◌, IfOk};
 ghost use Rattle.script_grammar.specs.Operators as operator;
 ghost use Rattle.script_grammar.specs.Expressions as form;
 ghost use Rattle.expr_machine.specs.Machine as machine;
-ghost use Rattle.expr_values.specs.Views.{tree_shown};
+ghost use Rattle.expr_builder.specs.Views.{tree_shown};
 ghost use Rattle.expr_parser.specs.Heads.{terminals_of, terminal_at};
 ghost use Rattle.expr_parser.specs.Outcomes.{Moves};
 
 use crate::head::{Head, behind_sign, head_at, variable_at};
 use crate::reader::Reader;
 use crate::step::Step;
+use expr_builder::action::{Action, Actions};
 use expr_machine::frame::{Brackets, Focus, Frame};
-use expr_values::action::{Action, Actions};
 use php_syntax::token::{Sign, Token};
 use php_syntax::tree::Expr;
 use script_grammar::keyword::Keyword;

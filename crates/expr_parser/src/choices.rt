@@ -7,8 +7,8 @@ ghost use Rattle.expr_parser.specs.Outcomes.{Moves};
 use crate::head::behind_sign;
 use crate::reader::{Reader, Waiting};
 use crate::step::Step;
+use expr_builder::action::{Action, Actions};
 use expr_machine::frame::{Focus, Frame};
-use expr_values::action::{Action, Actions};
 use php_syntax::token::{Sign, Token};
 use text_base::NoMemory;
 

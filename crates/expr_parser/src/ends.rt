@@ -9,8 +9,8 @@ use crate::head::behind_sign;
 use crate::quotes::behind_escape;
 use crate::reader::Reader;
 use crate::step::{Step, one_more};
+use expr_builder::action::{Action, Actions};
 use expr_machine::frame::{Focus, Frame};
-use expr_values::action::{Action, Actions};
 use php_syntax::token::{Sign, Token};
 use text_base::{Bytes, NoMemory};
 

@@ -12,8 +12,8 @@ ghost use Rattle.expr_parser.specs.Outcomes.{Moves};
 use crate::head::{behind_first, behind_sign, sign_at};
 use crate::reader::Reader;
 use crate::step::{Step, one_more};
+use expr_builder::action::{Action, Actions};
 use expr_machine::frame::{Brackets, Focus, Frame};
-use expr_values::action::{Action, Actions};
 use php_syntax::token::{Sign, Token};
 use text_base::NoMemory;
 

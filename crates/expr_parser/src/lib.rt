@@ -1,7 +1,8 @@
-//! Reads expressions from tokens to trees.
-//!
-//! `parser::read_expr` runs the machine of `expr_machine` over the tokens of a script and makes its
-//! values; its contract says that these are what `reads_expr` says.
+//! Reads expressions from tokens to trees, by expr_machine with the values of expr_builder.
+//! Promise: what `parser::read_expr` leaves to read, and the values, are those of `reads_expr` of
+//! expr_machine, and nothing where that gives nothing; each move of the code is one of the machine
+//! (`Moves` of specs/Outcomes).
+//! Used by: stmt_parser, php_parser.
 #![tactic(auto)]
 
 mod begin;

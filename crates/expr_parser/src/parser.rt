@@ -3,16 +3,16 @@
 ghost use Rattle.std.specs.Prelude.{◌≡◌, Some, None, IfOk, MatchOption};
 ghost use Rattle.expr_machine.specs.Machine as machine;
 ghost use Rattle.expr_machine.specs.Reading.{reads_expr};
-ghost use Rattle.expr_values.specs.Views.{plain_values};
+ghost use Rattle.expr_builder.specs.Views.{plain_values};
 ghost use Rattle.expr_parser.specs.Heads.{terminals_of};
 ghost use Rattle.expr_parser.specs.Outcomes.{Moves};
 
 use crate::places::Place;
 use crate::reader::Reader;
 use crate::step::Step;
+use expr_builder::values::Values;
 use expr_machine::frame::Focus;
 use expr_machine::laws::{moves_get_lighter, runs_go_on};
-use expr_values::values::Values;
 use php_syntax::token::Token;
 use std::alloc::Global;
 use text_base::NoMemory;

@@ -12,8 +12,8 @@ ghost use Rattle.expr_parser.specs.Places.{operand_from, key_from, updated_from,
 use crate::head::{behind_sign, sign_at};
 use crate::reader::Reader;
 use crate::step::{Step, is_zero, one_more};
+use expr_builder::action::{Action, Actions};
 use expr_machine::frame::{Focus, Frame};
-use expr_values::action::{Action, Actions};
 use php_syntax::token::{Sign, Token};
 use php_syntax::tree::UpdateSign;
 use script_grammar::operator::{step_of, update_of};

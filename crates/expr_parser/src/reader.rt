@@ -9,14 +9,13 @@ ghost use Rattle.expr_parser.specs.Heads.{terminals_of};
 ghost use Rattle.expr_parser.specs.Outcomes.{Moves};
 
 use crate::step::Step;
+use expr_builder::action::Actions;
 use expr_machine::frame::{Focus, Frame};
-use expr_values::action::Actions;
 use php_syntax::token::Token;
 use script_grammar::operator::{Level, Operator, Prefix, level_rank};
-use stacks::Stack;
 use std::alloc::Global;
 use std::marker::Model;
-use text_base::NoMemory;
+use text_base::{NoMemory, Stack};
 
 /// What the last thing begun waits for, where it waits for less than an expression.
 #[derive(Clone, Copy, Debug, PartialEq, Eq)]

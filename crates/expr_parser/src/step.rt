@@ -2,8 +2,8 @@
 
 ghost use Rattle.std.specs.Prelude.{◌≡◌, ◌+◌, ◌==◌, IfOk};
 
+use expr_builder::action::Actions;
 use expr_machine::frame::Focus;
-use expr_values::action::Actions;
 use php_syntax::token::Token;
 use text_base::NoMemory;
 

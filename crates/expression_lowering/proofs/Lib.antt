@@ -1,1 +1,4 @@
 pub mod RowEmits
+pub mod CallLemmas
+pub mod RowLemmas
+pub mod SmallLemmas

@@ -12,9 +12,9 @@ use Rattle.flow_code.specs.Code.{Code, known, left, both}
 use Rattle.flow_code.specs.Expressions.{Scope, code, codes, maybe_key, path_code, Begun, the_items, no_item, one_item, items_code, length_of_path, key_code}
 use Rattle.flow_lowering.specs.Emits.{Progress, Emits, Sets, place}
 use Rattle.flow_lowering.proofs.EmitLemmas.{emits_known, emits_both, emits_left, emits_with}
-use Rattle.literal_trees.specs.Literals.{IsNoNumber, IsNoText}
-use Rattle.expression_pieces.proofs.FormLemmas.{read_key}
-use Rattle.expression_pieces.proofs.RowLemmas.{drop_here, drop_past}
+use Rattle.script_meaning.specs.Literals.{IsNoNumber, IsNoText}
+use Rattle.flow_lowering.proofs.FormLemmas.{read_key}
+use Rattle.flow_lowering.proofs.RowLemmas.{drop_here, drop_past}
 
 -- one more behind a row
 pub pushed : {X Y : Type 0} (f : X → Y) (old new : List X) (x : X) (ys : List Y) → new ≡ old ++ x ∷ [] → map f new ++ ys ≡ map f old ++ f x ∷ ys

@@ -2,9 +2,9 @@
 use Rattle.std.proofs.Common.{◌≡◌, ◌↔◌, ℕ, List, subst}
 use Rattle.op_system.specs.declared.system.OpSystem.{OpSystem}
 use Rattle.flow_code.specs.Points.{PlainFlow}
-use Rattle.set_systems.specs.Parts.{Closed}
-use Rattle.set_systems.specs.Closed.{IsClosed}
-use Rattle.flow_listing.specs.Made.{IsMadeWith}
+use Rattle.least_sets.specs.Parts.{Closed}
+use Rattle.least_sets.specs.Closed.{IsClosed}
+use Rattle.extraction.specs.ListedMade.{IsMadeWith}
 
 -- texts that are the same are given too
 pub closed_by : (closed : Closed) (request others : List ℕ → Type 0) → ((w : List ℕ) → request w ↔ others w) → IsClosed closed others → IsClosed closed request

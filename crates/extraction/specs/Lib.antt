@@ -1,0 +1,9 @@
+pub mod Ends
+pub mod Rules
+pub mod Made
+pub mod Params
+pub mod Tables
+pub mod Asked
+pub mod ListedMade
+pub mod Sizes
+pub mod Bounds

@@ -4,15 +4,15 @@ ghost use Rattle.std.specs.Prelude.{◌↔◌, ℕ, List, IfOk};
 ghost use Rattle.cfg_grammar.specs.declared.symbol.Symbol as symbols;
 ghost use Rattle.flow_code.specs.View.{plain_flow};
 ghost use Rattle.loose_sets.specs.Loose.{Loose};
-ghost use Rattle.op_cycles.specs.Texts.{TextOf};
-ghost use Rattle.flow_listing.specs.Rules.{AreLooseRules};
-ghost use Rattle.flow_listing.specs.Made.{IsMade};
-ghost use Rattle.extraction_bounds.specs.Bounds.{IsBounded};
+ghost use Rattle.op_bytes.specs.Texts.{TextOf};
+ghost use Rattle.extraction.specs.Rules.{AreLooseRules};
+ghost use Rattle.extraction.specs.ListedMade.{IsMade};
+ghost use Rattle.extraction.specs.Bounds.{IsBounded};
 
+use crate::{FlowLister, extract_by};
 use flow_code::FlowProgram;
-use flow_listing::{FlowLister, Plain, extract_by};
-use given_texts::given_texts;
 use op_system::OpSystem;
+use set_tables::{Plain, given_texts};
 use std::alloc::Global;
 use text_base::NoMemory;
 

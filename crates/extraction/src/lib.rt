@@ -1,11 +1,22 @@
 //! From a program of points to a system of productions and operations whose start has exactly the
-//! loose pages of the program: `extract` as texts are, `extract_over` by any reading. Below stand
-//! flow_code, loose_sets, given_texts, request_texts, page_extraction and flow_listing.
+//! loose pages of the program (`Loose` of loose_sets).
+//! Promise: the clauses of `extract`: `pages`, `rules` (specs/Rules), `made` (specs/ListedMade) and
+//! `bounded` (specs/Bounds); `extract_over` says the same by any `Reading` of set_tables.
+//! Used by: loose_grammar, extraction_tests, extraction_bench.
 #![tactic(auto)]
 
+mod entries;
 mod extracting;
+mod lister;
+mod naming;
+mod page_extracting;
+mod params;
 mod reading;
+mod tables;
 
 pub use extracting::extract;
-pub use flow_listing::{Plain, Reading};
+pub use lister::FlowLister;
+pub use naming::forms_by;
+pub use page_extracting::extract_by;
 pub use reading::extract_over;
+pub use tables::{FlowTables, tables_of};

@@ -3,19 +3,19 @@
 ghost use Rattle.std.specs.Prelude.{◌↔◌, ℕ, List, length, IfOk};
 ghost use Rattle.cfg_grammar.specs.Tokens.{HaveNoToken};
 ghost use Rattle.cfg_grammar.specs.declared.symbol.Symbol as symbols;
-ghost use Rattle.set_systems.specs.Closed.{HasText};
+ghost use Rattle.least_sets.specs.Closed.{HasText};
 ghost use Rattle.flow_code.specs.View.{plain_flow};
 ghost use Rattle.loose_sets.specs.Loose.{LooseBy};
-ghost use Rattle.table_systems.specs.Sets.{SystemText};
-ghost use Rattle.flow_listing.specs.Rules.{AreLooseRulesBy};
-ghost use Rattle.flow_listing.specs.Made.{IsMadeOver};
-ghost use Rattle.extraction_bounds.specs.Bounds.{IsBoundedWith};
+ghost use Rattle.set_tables.specs.Sets.{SystemText};
+ghost use Rattle.extraction.specs.Rules.{AreLooseRulesBy};
+ghost use Rattle.extraction.specs.ListedMade.{IsMadeOver};
+ghost use Rattle.extraction.specs.Bounds.{IsBoundedWith};
 
+use crate::{FlowLister, extract_by};
 use cfg_grammar::Grammar;
 use flow_code::FlowProgram;
-use flow_listing::{FlowLister, Reading, extract_by};
 use op_system::OpSystem;
-use request_texts::request_texts;
+use set_tables::{Reading, request_texts};
 use std::alloc::Global;
 use text_base::NoMemory;
 

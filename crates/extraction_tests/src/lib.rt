@@ -1,4 +1,8 @@
-//! Tests of extraction, in a crate of their own so that it is proved once.
+//! Tests of extraction, from the text of a script to the texts of its grammar.
+//! Small scripts with texts that are among their loose pages and texts that are not, worked out by
+//! hand; the same by a reading whose request brings `a` alone; and scripts whose systems stay
+//! small.
+//! Used by: none; it stands at the top.
 #![tactic(auto)]
 
 #[cfg(test)]

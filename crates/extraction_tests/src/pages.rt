@@ -2,7 +2,7 @@
 
 use crate::scripts::pages_of;
 use cfg_grammar::Grammar;
-use resolving_tests::derives;
+use image_tests::derives;
 use std::alloc::Global;
 use std::test::Fail;
 use text_base::NoMemory;
@@ -69,6 +69,11 @@ fn flow(rt: HostRuntime) -> Result<(), Fail> {
             "ac|bc",
             "c|abc|a|b",
         ),
+        (
+            "<?php $x = 'a'; while ($_GET) { $x .= 'b'; } echo $x;",
+            "a|abb",
+            "ba|b|abba",
+        ),
     ] {
         assert!(rt; has_pages(rt.alloc(), script, pages, others)?, "{script}");
     }
@@ -124,6 +129,37 @@ fn members(rt: HostRuntime) -> Result<(), Fail> {
             "|t|tt",
             "c|ct",
         ),
+        (
+            "<?php $x['k'] = 'a'; $x['k'] = 'b'; echo $x['k'];",
+            "b|",
+            "a|Array|ab",
+        ),
+        (
+            "<?php $x['k'] = 'a'; $x[$y] = 'b'; echo $x['m'];",
+            "b|",
+            "a|Array|ab",
+        ),
+        (
+            "<?php $x['k'] = 'a'; $x[$y] = 'b'; echo $x['k'], $x['m'];",
+            "ab|bb|a|b|",
+            "aa|ba",
+        ),
+        (
+            "<?php $x['k']['m'] = 'a'; echo $x['k']['m'], '.', $x['k'];",
+            "a.Array|.Array",
+            "a.a|.a|Array.a",
+        ),
+        (
+            "<?php $x = ['k' => ['a'], 'm' => 'c']; echo $x['k'][0], '.';",
+            "a.|.",
+            "c.|Array.|k.",
+        ),
+        (
+            "<?php $x['k'] = 'a'; echo $x[-1], '.';",
+            "a.|.",
+            "k.|aa.|-1.",
+        ),
+        ("<?php $x['k'] = 'a'; echo $x[1], '.';", ".", "a.|k.|1."),
     ] {
         assert!(rt; has_pages(rt.alloc(), script, pages, others)?, "{script}");
     }
@@ -170,6 +206,27 @@ fn functions(rt: HostRuntime) -> Result<(), Fail> {
             "|ab|aabb|aaabbb",
             "a|aab|abb|ba|abab",
         ),
+        (
+            "<?php function f() { ?>a<?php exit; } f(); ?>b",
+            "a",
+            "ab||b",
+        ),
+        ("<?php function f($p) { echo $p; echo $q; } ?>a", "a", "|aa"),
+        (
+            "<?php function f($a, $b = -1, $c = 'd') { echo $a, '.', $b, '.', $c; } f('x');",
+            "x.-1.d|x.8.d",
+            "x..d|x.-1.|.-1.d",
+        ),
+        (
+            "<?php function f($a, $b = -1, $c = 'd') { echo $a, '.', $b, '.', $c; } f(1, 'x', 'y');",
+            "1.x.y",
+            "1.-1.y|1.x.d|x.x.y",
+        ),
+        (
+            "<?php function f($a) { if ($a) { return $a; } return; } echo f('x'), '.';",
+            "x.|.",
+            "1.|xx.|x",
+        ),
     ] {
         assert!(rt; has_pages(rt.alloc(), script, pages, others)?, "{script}");
     }
@@ -210,6 +267,187 @@ fn operations(rt: HostRuntime) -> Result<(), Fail> {
             "<?php echo str_repeat('ab', 3), implode('-', ['c', 'd']);",
             "ababc-d|c|abd-c-c|",
             "a|ac|cd|c-",
+        ),
+    ] {
+        assert!(rt; has_pages(rt.alloc(), script, pages, others)?, "{script}");
+    }
+    Ok(())
+}
+
+/// Where one of two sides is evaluated, both are tried, and what is set on one is not set on the
+/// other.
+#[test]
+fn choices(rt: HostRuntime) -> Result<(), Fail> {
+    for (script, pages, others) in [
+        (
+            "<?php $z = 'n'; echo $x && ($z = 'y'), $z;",
+            "1y|y|1n|n",
+            "|1|yn|0n",
+        ),
+        (
+            "<?php $z = 'n'; echo $x || ($z = 'y'), $z;",
+            "1y|y|1n|n",
+            "|1|yn|0n",
+        ),
+        ("<?php $y = 'b'; echo $x ? 'a' : $y;", "a|b", "|ab|ba"),
+        ("<?php $x = 'a'; $y = 'b'; echo $x ?: $y;", "a|b", "|ab|ba"),
+        (
+            "<?php $x['k'] = 'b'; echo $x['k'] ?? 'a';",
+            "b|a|",
+            "ba|ab|k",
+        ),
+        (
+            "<?php $x['k'] = 'b'; $x['k'] ??= 'a'; echo $x['k'], '.';",
+            "b.|a.|.",
+            "ba.|k.|a",
+        ),
+    ] {
+        assert!(rt; has_pages(rt.alloc(), script, pages, others)?, "{script}");
+    }
+    Ok(())
+}
+
+/// Parts are evaluated from the left to the right, and then the write is done; what an assignment
+/// gives is what it has written.
+#[test]
+fn writes(rt: HostRuntime) -> Result<(), Fail> {
+    for (script, pages, others) in [
+        ("<?php $x = 'b'; $x .= 'a'; echo $x;", "ba", "a|b|ab|"),
+        (
+            "<?php $x['k'][$y] += 2; echo $x['k'][$y], '.';",
+            "2.|-7.|.",
+            "k.|a.|2",
+        ),
+        (
+            "<?php $y = 'k'; $x[$y][] = $y = 'm'; foreach ($x as $i => $v) { echo $i, '.'; }",
+            "|k.|5.|k.5.",
+            "m.|k|k.m.",
+        ),
+        ("<?php $x = $y = 'a'; echo $x, $y;", "aa", "|a|aaa"),
+        ("<?php $x = 'b'; echo 'a' . $x;", "ab", "a|b|ba"),
+        (
+            "<?php $x = 'b'; echo ($x = 'a') === ($y = $x), $y;",
+            "1a|a",
+            "b|1b|1",
+        ),
+        ("<?php echo !($x === $y * 2), '.';", "1.|.", "0.|11.|1"),
+        (
+            "<?php echo isset($x, $y['k']), '.', empty($x), '.';",
+            "1.1.|1..|.1.|..",
+            "11.|.|0.0.",
+        ),
+        (
+            "<?php $x = 'a'; echo --$x, '.', $x;",
+            "-1.-1|5.7",
+            "a.a|.|a.5",
+        ),
+        ("<?php $x = 3; echo $x--, '.', $x;", "3.2|3.-9", "2.2|.|3."),
+    ] {
+        assert!(rt; has_pages(rt.alloc(), script, pages, others)?, "{script}");
+    }
+    Ok(())
+}
+
+/// What PHP's functions give of literals, and of what is no literal.
+#[test]
+fn calls(rt: HostRuntime) -> Result<(), Fail> {
+    for (script, pages, others) in [
+        ("<?php echo ltrim(' a '), '.';", "a .", "a.| a .|."),
+        (
+            "<?php $x = 'aca'; echo str_replace('a', 'b', $x);",
+            "bcb",
+            "aca|bca|",
+        ),
+        ("<?php echo str_replace('', 'b', 'ac');", "ac", "bac|bc|"),
+        (
+            "<?php $x = 'b'; echo str_replace('a', $x, 'ac');",
+            "bc|ac||cab",
+            "d|bd",
+        ),
+        ("<?php echo substr('abc', -2);", "bc", "abc|ab|c|"),
+        ("<?php echo substr('abc', 0, 1024);", "abc", "|ab|b"),
+        (
+            "<?php echo substr('abc', 0, 1025);",
+            "abc|ab|b|",
+            "ac|ca|abca",
+        ),
+        (
+            "<?php foreach (explode(',', 'a,b') as $p) { echo $p, '.'; }",
+            "|a.|b.|a.b.",
+            "a,b.|,.|ab.",
+        ),
+        (
+            "<?php $x = ','; foreach (explode($x, 'a,b') as $p) { echo $p, '.'; }",
+            "|a.|a,b.|,.|.",
+            "ba.|aa.|b",
+        ),
+        (
+            "<?php echo strval(['a']), strval('b');",
+            "Arrayb",
+            "ab|b|Array",
+        ),
+        (
+            "<?php echo count(['a']), '.', intdiv(4, 2);",
+            "1.2|0.-7",
+            "a.2|.2|1.",
+        ),
+        ("<?php echo is_array('a'), '.';", "1.|.", "a.|0."),
+    ] {
+        assert!(rt; has_pages(rt.alloc(), script, pages, others)?, "{script}");
+    }
+    Ok(())
+}
+
+/// Each statement goes on where it says, and nowhere else.
+#[test]
+fn statements(rt: HostRuntime) -> Result<(), Fail> {
+    for (script, pages, others) in [
+        (
+            "<?php if ($x) { echo 'a'; } elseif ($y) { echo 'b'; } else { echo 'c'; } echo '.';",
+            "a.|b.|c.",
+            ".|ab.|ac.|bc.",
+        ),
+        ("<?php if ($x) { echo 'a'; } echo '.';", "a.|.", "aa.|a|"),
+        ("<?php do { echo 'a'; } while ($x);", "a|aa|aaa", "|b"),
+        (
+            "<?php do { if ($x) { continue; } echo 'a'; break; } while ($y); echo '.';",
+            ".|a.",
+            "aa.|a|",
+        ),
+        (
+            "<?php while ($x) { while ($y) { if ($z) { break; } echo 'b'; continue; } echo 'd'; break; } echo '.';",
+            ".|d.|bd.|bbd.",
+            "b.|dd.|bdd.|dbd.",
+        ),
+        (
+            "<p><?php $x = 'a'; echo $x; ?></p>",
+            "<p>a</p>",
+            "a|<p>a|<p></p>",
+        ),
+        (
+            "<?php function a() { echo 'a'; } function b() { echo 'b'; return 1; } function c() { echo 'c'; } for (a(); b(); c()) { echo 'd'; }",
+            "ab|abdcb|abdcbdcb",
+            "a|b|abd|abdc|abcdb",
+        ),
+        (
+            "<?php function c() { echo 'c'; } for (;; c()) { if ($x) { exit; } echo 'a'; continue; }",
+            "|ac|acac",
+            "a|c|aca|aa",
+        ),
+        (
+            "<?php $x = ['k' => 'a']; foreach ($x as $y => $z) { echo $y, $z, '.'; $x[$y] = 'b'; }",
+            "|ka.|ka.ka.",
+            "kb.|ka.kb.|k.",
+        ),
+        (
+            "<?php foreach (['a', 'b'] as $y) { while ($z) { echo 'c'; continue; } echo $y; continue; } echo '.';",
+            ".|a.|ca.|ccab.",
+            "c.|cc.|ac.",
+        ),
+        (
+            "<?php echo 'c'; if ($x) { exit('a'); } echo 'b'; exit;",
+            "ca|cb",
+            "c|cab|a",
         ),
     ] {
         assert!(rt; has_pages(rt.alloc(), script, pages, others)?, "{script}");

@@ -3,20 +3,21 @@
 ghost use Rattle.std.specs.Prelude.{◌≡◌, ◌↔◌, ◌∷◌, [], ℕ, List, All, IfOk};
 ghost use Rattle.cfg_grammar.specs.Tokens.{HaveNoToken};
 ghost use Rattle.cfg_grammar.specs.declared.symbol.Symbol as symbols;
-ghost use Rattle.set_systems.specs.Closed.{HasText};
+ghost use Rattle.least_sets.specs.Closed.{HasText};
 ghost use Rattle.op_system.specs.declared.op.Op.{Op};
 ghost use Rattle.op_system.specs.Rel.{Rel};
-ghost use Rattle.set_simulations.specs.Simulations.{IsMonotone};
+ghost use Rattle.least_sets.specs.Simulations.{IsMonotone};
 
 use crate::pages::all_are;
 use crate::scripts::{points_of, script};
-use cfg_grammar::{ByteRange, Grammar, Nt, Production, Right, Symbol};
-use extraction::{Reading, extract_over};
+use cfg_grammar::{Grammar, Production, Right, Symbol};
+use extraction::extract_over;
 use flow_code::FlowProgram;
 use resolving::resolve;
+use set_tables::Reading;
 use std::alloc::Global;
 use std::test::Fail;
-use text_base::NoMemory;
+use text_base::{ByteRange, NoMemory, Nt};
 
 /// The request brings `a` and nothing else; all else is as texts are.
 struct Letter;

@@ -2,8 +2,8 @@
 -- number or as a truth value.
 use Rattle.std.specs.Prelude.{ℕ, ℤ, neg_ℤ, nat_abs, nat_le, Bool, true, false, ◌&&◌, if◌then◌else◌, List, [], ◌∷◌, Option, Some, None}
 use Rattle.php_syntax.specs.Trees.{PlainExpr, int_expr, text_expr, neg_expr, PlainExprs, no_exprs, more_exprs}
-use Rattle.script_meaning.specs.builtin.Builtin.{Builtin}
-use Rattle.script_meaning.specs.builtin.Builtin.TheVariants as builtin
+use Rattle.builtin_meaning.specs.declared.builtin.Builtin.{Builtin}
+use Rattle.builtin_meaning.specs.declared.builtin.Builtin.TheVariants as builtin
 use Rattle.op_system.specs.declared.op.Op.{Op}
 use Rattle.op_system.specs.declared.op.Op.TheVariants as op
 use Rattle.flow_code.specs.declared.source.Work.TheVariants as work

@@ -5,8 +5,8 @@ use Rattle.php_syntax.specs.declared.tree.UpdateSign.TheVariants as update
 use Rattle.php_syntax.specs.declared.tree.ArithSign.TheVariants.{Add, Sub, Mul, Rem}
 use Rattle.php_syntax.specs.Trees.{PlainExpr, null_expr, flag_expr, int_expr, text_expr, var_expr, super_expr, member_expr, array_expr, join_expr, neg_expr, not_expr, arith_expr, compare_expr, and_expr, or_expr, coalesce_expr, choice_expr, isset_expr, empty_expr, assign_expr, update_expr, step_expr, call_expr, MaybeExpr, no_expr, some_expr, PlainExprs, no_exprs, more_exprs, PlainItems, no_items, more_items, PlainPath, no_keys, more_keys, PlainParam, PlainFunction}
 use Rattle.plain_values.specs.Plain.{Plain, null, flag, int, text}
-use Rattle.script_meaning.specs.builtin.Builtin.{Builtin}
-use Rattle.script_meaning.specs.Names.{builtin_named}
+use Rattle.builtin_meaning.specs.declared.builtin.Builtin.{Builtin}
+use Rattle.builtin_meaning.specs.Names.{builtin_named}
 use Rattle.script_meaning.specs.Programs.{literal_value}
 use Rattle.flow_code.specs.declared.source.Work.{Work}
 use Rattle.flow_code.specs.declared.source.Work.TheVariants as work

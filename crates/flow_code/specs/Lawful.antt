@@ -6,8 +6,8 @@ use Rattle.php_syntax.specs.declared.tree.ArithSign.{ArithSign}
 use Rattle.php_syntax.specs.declared.tree.CompareSign.{CompareSign}
 use Rattle.plain_values.specs.Numeric.{is_in_range}
 use Rattle.plain_values.specs.Lawful.{IsValue}
-use Rattle.script_meaning.specs.builtin.Builtin.{Builtin}
-use Rattle.script_meaning.specs.builtin.Builtin.TheVariants as builtin
+use Rattle.builtin_meaning.specs.declared.builtin.Builtin.{Builtin}
+use Rattle.builtin_meaning.specs.declared.builtin.Builtin.TheVariants as builtin
 use Rattle.op_system.specs.declared.op.Op.{Op}
 use Rattle.op_system.specs.declared.op.Op.TheVariants as op
 use Rattle.flow_code.specs.declared.source.Work.{Work}

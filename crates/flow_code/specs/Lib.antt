@@ -8,4 +8,3 @@ pub mod Statements
 pub mod Flat
 pub mod Runs
 pub mod Lawful
-pub use Rattle.script_meaning.specs.builtin

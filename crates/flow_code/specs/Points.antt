@@ -2,7 +2,7 @@
 use Rattle.std.specs.Prelude.{ℕ, ℤ, List, [], ◌∷◌, ◌++◌, Option, slice_get}
 use Rattle.php_syntax.specs.declared.tree.SuperName.{SuperName}
 use Rattle.plain_values.specs.Plain.{Plain}
-use Rattle.script_meaning.specs.builtin.Builtin.{Builtin}
+use Rattle.builtin_meaning.specs.declared.builtin.Builtin.{Builtin}
 use Rattle.op_system.specs.declared.op.Op.{Op}
 use Rattle.flow_code.specs.declared.source.Work.{Work}
 

@@ -11,7 +11,7 @@ use Rattle.plain_values.specs.Paths.{subscript_of, literal_of}
 use Rattle.plain_values.specs.Walks.{is_null, walked, value_of_key}
 use Rattle.plain_values.specs.declared.fault.Fault.{Fault}
 use Rattle.plain_values.specs.declared.fault.Fault.TheVariants.{WrongType}
-use Rattle.script_meaning.specs.Values.{builtin_value}
+use Rattle.builtin_meaning.specs.Values.{builtin_value}
 use Rattle.op_system.specs.declared.op.Op.{Op}
 use Rattle.op_system.specs.declared.op.Op.TheVariants as op
 use Rattle.script_meaning.specs.Requests.{PlainRequest, request_array}

@@ -1,8 +1,8 @@
 //! Programs as points: a function is a list of numbered points, each of which sets a slot, prints,
-//! branches, calls or ends. What each statement and expression becomes is `flat` of
-//! specs/Flat.antt; what a run of the points does is `FlatRun` of specs/Runs.antt, over the plain
-//! values and operations that the meaning of scripts has too. Below stand php_syntax, php_values,
-//! builtin_meaning, script_meaning and op_system.
+//! branches, calls or ends. States: which points a program becomes (`flat` of specs/Flat), what a
+//! run of points that ends prints (`FlatRun` of specs/Runs), and what a program of points keeps
+//! (`IsFlow` of specs/Lawful). Types and definitions alone; no call stands here.
+//! Used by 16 crates, flow_graph, loose_sets, flow_runs, loose_soundness and others.
 #![tactic(auto)]
 
 pub mod point;

@@ -1,9 +1,9 @@
 //! What a slot is set to.
 
+use builtin_meaning::Builtin;
 use op_system::Op;
 use php_syntax::tree::{ArithSign, CompareSign, SuperName};
 use php_values::Value;
-use script_meaning::Builtin;
 use text_base::{Bytes, Slot};
 
 /// A key of a member: an integer or a text that stands in the script, or the value of a slot.

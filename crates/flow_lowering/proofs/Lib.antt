@@ -1,2 +1,12 @@
 pub mod EmitLemmas
 pub mod BranchLemmas
+pub mod RowLemmas
+pub mod FormLemmas
+pub mod ChoiceLemmas
+pub mod WriteLemmas
+pub mod JoinLemmas
+pub mod Places
+pub mod ReplaceLemmas
+pub mod FillLemmas
+pub mod BlockLemmas
+pub mod LoopLemmas

@@ -1,10 +1,22 @@
-//! What the lowering of a program to points stands on: a list of points that grows, and what it
-//! means that code was emitted into it.
-//!
-//! `specs/Emits.antt` says what it means that code stands behind the points that were there; each
-//! helper of the lowering has that as its clause. Below stand text_base and flow_code.
+//! What the lowering of programs to points stands on: a list of points that grows, what names stand
+//! for in a function, and pieces of expressions and statements that evaluate nothing themselves.
+//! Promise: what puts points says which ones stand behind the others (`Puts`, `Sets` and `Emits` of
+//! specs/Emits, `Drafts` and `EndsLoop` of specs/Blocks).
+//! Used by: program_lowering, expression_lowering.
 #![tactic(auto)]
 
 mod builder;
+pub mod builtins;
+pub mod choices;
+mod exits;
+mod functions;
+mod heads;
+pub mod rows;
+mod scope;
+pub mod values;
+pub mod writes;
 
 pub use builder::{PointBuilder, Reserved};
+pub use exits::{Exit, fill_exits, put_break, put_continue};
+pub use heads::{Head, begin_test, begin_walk, end_loop};
+pub use scope::FunctionScope;

@@ -21,3 +21,6 @@ pub mod FitWrites
 pub mod FitTrees
 pub mod FitBlocks
 pub mod FitProgram
+mod Fitting
+mod Bounds
+pub mod Keys

@@ -1,3 +1,5 @@
 pub mod Defaults
 pub mod Fits
 pub mod Keyed
+pub mod Texts
+pub mod LeftOut

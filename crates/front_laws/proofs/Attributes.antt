@@ -11,9 +11,9 @@ use Rattle.dtd_model.specs.Table.{Table}
 use Rattle.page_model.specs.Parts.{Attribute, attribute_then, attributes_then, IsAttribute, AreAttributes, is_quote, may_be_quoted}
 use Rattle.page_model.specs.Places.{Place}
 use Rattle.piece_steps.specs.Readers.{Move, go, done, fail}
-use Rattle.page_fronts.specs.Fronts.{Open}
-use Rattle.page_fronts.specs.OpenTags.{OpenAttribute, between, in_attribute_name, behind_name, behind_equals, in_value, IsGap, IsFrontOfName, is_some_space, InValue, AttributeStands}
-use Rattle.page_fronts.specs.OpenValues.{OpenValue}
+use Rattle.page_model.specs.Fronts.{Open}
+use Rattle.page_model.specs.OpenTags.{OpenAttribute, between, in_attribute_name, behind_name, behind_equals, in_value, IsGap, IsFrontOfName, is_some_space, InValue, AttributeStands}
+use Rattle.page_model.specs.OpenValues.{OpenValue}
 use Rattle.page_steps.specs.AttributeSteps.{Allowing, AttributeMove, stays, ends_with, leaves, stops, equals_move, valued, attribute_move}
 use Rattle.page_steps.specs.PageSteps.{OpenMove, open_move}
 use Rattle.attribute_steps.specs.Among.{moved, is_free, names_behind}

@@ -7,9 +7,9 @@ use Rattle.dtd_model.specs.Table.{Table}
 use Rattle.page_model.specs.Parts.{attributes_then}
 use Rattle.page_model.specs.Places.{Place, at_beginning, behind_mark, behind}
 use Rattle.piece_steps.specs.Readers.{Move, go, done, fail, next}
-use Rattle.page_fronts.specs.Fronts.{Open, nothing, in_reference, in_opener, in_tag_name, in_tag, at_empty_end, in_end_tag, in_comment, in_section, in_target, behind_target, in_instruction, in_declaration, at_declaration_end, in_doctype, kept_place, BehindAttributes, BehindWords, InInstruction, OpenStands}
-use Rattle.page_fronts.specs.OpenDoctypes.{before_root}
-use Rattle.page_fronts.specs.OpenValues.{in_entity}
+use Rattle.page_model.specs.Fronts.{Open, nothing, in_reference, in_opener, in_tag_name, in_tag, at_empty_end, in_end_tag, in_comment, in_section, in_target, behind_target, in_instruction, in_declaration, at_declaration_end, in_doctype, kept_place, BehindAttributes, BehindWords, InInstruction, OpenStands}
+use Rattle.page_model.specs.OpenDoctypes.{before_root}
+use Rattle.page_model.specs.OpenValues.{in_entity}
 use Rattle.page_steps.specs.PageSteps.{OpenMove, open_move, PageState, put_place, page_step, page_reader, is_inside}
 use Rattle.page_reads.specs.Laws.{IsLawfulTable}
 use Rattle.page_insides.specs.Laws.{settle}

@@ -13,9 +13,9 @@ use Rattle.dtd_model.specs.Table.{Table}
 use Rattle.page_model.specs.Parts.{is_quote}
 use Rattle.page_model.specs.Places.{Place, behind}
 use Rattle.piece_steps.specs.Insides.{Turn, on as turn_on, out, stop}
-use Rattle.page_fronts.specs.Fronts.{Open, in_doctype}
-use Rattle.page_fronts.specs.OpenDoctypes.{Word, system_word, public_word, letters, OpenDoctype, before_root, in_root, behind_root, in_word, behind_word, in_public, behind_public, in_system, behind_system, BehindRoot, BehindWord, InLiteral, IsLiteralThen, BehindPublic, BehindFirst, kept, DoctypeStands}
-use Rattle.page_fronts.specs.OpenTags.{IsGap, is_some_space}
+use Rattle.page_model.specs.Fronts.{Open, in_doctype}
+use Rattle.page_model.specs.OpenDoctypes.{Word, system_word, public_word, letters, OpenDoctype, before_root, in_root, behind_root, in_word, behind_word, in_public, behind_public, in_system, behind_system, BehindRoot, BehindWord, InLiteral, IsLiteralThen, BehindPublic, BehindFirst, kept, DoctypeStands}
+use Rattle.page_model.specs.OpenTags.{IsGap, is_some_space}
 use Rattle.page_steps.specs.DoctypeSteps.{begins, is_free, end_turn, root_turn, may_begin, word_turn, literal_turn, grown, is_wanted, public_turn, doctype_turn}
 use Rattle.doctype_steps.proofs.Over.{quote_not_blank, not_p, not_s, spaced_by, still}
 use Rattle.front_laws.proofs.Folds.{Folds, From, here, nowhere, on, somewhere, embedded, any_symbol, all_any}

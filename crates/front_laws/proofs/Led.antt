@@ -15,8 +15,8 @@ use Rattle.piece_steps.specs.Readers.{Move, go, done, fail, Reader, Outcome, who
 use Rattle.piece_steps.proofs.Outcomes.{state_by, state_of_ends}
 use Rattle.piece_steps.proofs.States.{state_behind, not_failed, dead_where_none}
 use Rattle.character_steps.specs.Encoded.{Held, at_state, encoded}
-use Rattle.page_fronts.specs.Fronts.{Open, nothing, in_reference, in_opener, in_tag_name, in_tag, at_empty_end, in_end_tag, in_comment, in_section, in_target, behind_target, in_instruction, in_declaration, at_declaration_end, in_doctype, kept_place, front, IsBegun, CanGoOn, OpenStands, FrontStands}
-use Rattle.page_laws.proofs.Once.{Further, further}
+use Rattle.page_model.specs.Fronts.{Open, nothing, in_reference, in_opener, in_tag_name, in_tag, at_empty_end, in_end_tag, in_comment, in_section, in_target, behind_target, in_instruction, in_declaration, at_declaration_end, in_doctype, kept_place, front, IsBegun, CanGoOn, OpenStands, FrontStands}
+use Rattle.page_model.proofs.Once.{Further, further}
 use Rattle.page_steps.specs.PageSteps.{PageState, page_reader, page_hold}
 use Rattle.page_step_laws.proofs.Held.{read_by_characters}
 use Rattle.page_step_laws.proofs.Tokens.{pieces, place_same, bytes_same, to_lawful}

@@ -3,7 +3,7 @@ use Rattle.std.proofs.Common.{◌≡◌, ◌≢◌, ◌⊎◌, inl, inr, ℕ, ze
 use Rattle.std.specs.Prelude.{codes}
 use Rattle.dtd_model.specs.Table.{Table}
 use Rattle.page_model.specs.Places.{Place}
-use Rattle.page_fronts.specs.Fronts.{in_opener, IsFrontOf}
+use Rattle.page_model.specs.Fronts.{in_opener, IsFrontOf}
 use Rattle.front_laws.proofs.Pages.{Leads, leads_computed}
 
 record Front (whole cs : List ℕ) : Type 0 where

@@ -8,7 +8,7 @@ use Rattle.dtd_model.specs.Table.{Table}
 use Rattle.page_model.specs.Places.{Place}
 use Rattle.piece_steps.specs.Insides.{Turn, on as turn_on, out, stop, inside}
 use Rattle.piece_steps.specs.Readers.{Move, go, done, fail}
-use Rattle.page_fronts.specs.Fronts.{Open}
+use Rattle.page_model.specs.Fronts.{Open}
 use Rattle.page_steps.specs.PageSteps.{OpenMove, open_move}
 use Rattle.front_laws.proofs.Folds.{Folds, From, folded, here, onto, nowhere, on, somewhere, either, behind_step, computed, Led, Embeds, any_symbol, same}
 

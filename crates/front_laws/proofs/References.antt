@@ -11,8 +11,8 @@ use Rattle.dtd_model.specs.References.{number_written}
 use Rattle.dtd_model.specs.Table.{Table}
 use Rattle.page_model.specs.Places.{Place, behind}
 use Rattle.piece_steps.specs.Insides.{Turn, on as turn_on, out, stop, stepped, closing}
-use Rattle.page_fronts.specs.Fronts.{Open, in_reference}
-use Rattle.page_fronts.specs.OpenValues.{OpenReference, in_entity, at_number, in_decimal, in_hexadecimal, capped, HexadecimalStands, ReferenceStands}
+use Rattle.page_model.specs.Fronts.{Open, in_reference}
+use Rattle.page_model.specs.OpenValues.{OpenReference, in_entity, at_number, in_decimal, in_hexadecimal, capped, HexadecimalStands, ReferenceStands}
 use Rattle.page_steps.specs.ReferenceSteps.{reference_step, reference_good}
 use Rattle.front_laws.proofs.Folds.{Folds, here, on, nowhere, somewhere, either, Led, Embeds, embedded, any_symbol, all_any}
 use Rattle.front_laws.proofs.Pages.{Leads, not_both, turn_goes, turn_embeds}

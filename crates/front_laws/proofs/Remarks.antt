@@ -4,7 +4,7 @@ use Rattle.std.specs.Prelude.{if◌then◌else◌, nat_eq, nat_le, nat_lt}
 use Rattle.dtd_model.specs.Table.{Table}
 use Rattle.page_model.specs.Places.{Place}
 use Rattle.piece_steps.specs.Readers.{go}
-use Rattle.page_fronts.specs.Fronts.{Open, in_comment, in_section, in_instruction, last_from}
+use Rattle.page_model.specs.Fronts.{Open, in_comment, in_section, in_instruction, last_from}
 use Rattle.page_steps.specs.PageSteps.{OpenMove}
 use Rattle.front_laws.proofs.Pages.{Leads, Next, leads_here, more, go_on, ended, dead, by_test}
 

@@ -5,8 +5,8 @@ use Rattle.std.proofs.lemmas.Bool.{and_parts}
 use Rattle.xml_text.specs.Characters.{is_blank}
 use Rattle.xml_text.specs.Names.{in_name}
 use Rattle.page_model.specs.Parts.{Attribute, attributes_then, AreAttributes}
-use Rattle.page_fronts.specs.OpenTags.{OpenAttribute, between, in_attribute_name, behind_name, behind_equals, in_value, AttributeStands}
-use Rattle.page_fronts.specs.OpenValues.{OpenValue}
+use Rattle.page_model.specs.OpenTags.{OpenAttribute, between, in_attribute_name, behind_name, behind_equals, in_value, AttributeStands}
+use Rattle.page_model.specs.OpenValues.{OpenValue}
 use Rattle.front_laws.proofs.Attributes.{blank_not_name}
 
 pub record Sign (text : List ℕ) : Type 0 where

@@ -6,7 +6,7 @@ use Rattle.std.proofs.lemmas.Bool.{and_parts, and_from}
 use Rattle.dtd_model.specs.Table.{Declared}
 use Rattle.page_model.specs.Attributes.{stands}
 use Rattle.page_model.specs.Parts.{Attribute}
-use Rattle.page_fronts.specs.Fronts.{standing}
+use Rattle.page_model.specs.Fronts.{standing}
 use Rattle.page_steps.specs.TagSteps.{is_among, names_with, of_element}
 use Rattle.attribute_steps.specs.Among.{names_behind}
 use Rattle.element_attributes.proofs.Names.{itself, has_name, among_with}

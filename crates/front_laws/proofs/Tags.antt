@@ -14,8 +14,8 @@ use Rattle.page_model.specs.PageTokens.{element_of}
 use Rattle.page_model.specs.Parts.{attributes_then}
 use Rattle.page_model.specs.Places.{Place, behind}
 use Rattle.piece_steps.specs.Readers.{go, done, fail}
-use Rattle.page_fronts.specs.Fronts.{Open, in_opener, in_tag_name, in_tag, at_empty_end, in_end_tag, standing, DeclaredStands, BehindAttributes}
-use Rattle.page_fronts.specs.OpenTags.{OpenAttribute, between, IsFrontOfName, is_some_space, AttributeStands}
+use Rattle.page_model.specs.Fronts.{Open, in_opener, in_tag_name, in_tag, at_empty_end, in_end_tag, standing, DeclaredStands, BehindAttributes}
+use Rattle.page_model.specs.OpenTags.{OpenAttribute, between, IsFrontOfName, is_some_space, AttributeStands}
 use Rattle.page_steps.specs.AttributeSteps.{AttributeMove, stays, ends_with, leaves, stops, attribute_move}
 use Rattle.page_steps.specs.PageSteps.{OpenMove, end_move, tag_by, tag_move, tag_name_move, end_name_move}
 use Rattle.page_steps.specs.TagSteps.{of_element, are_all}

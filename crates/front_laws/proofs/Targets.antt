@@ -10,8 +10,8 @@ use Rattle.dtd_model.specs.Table.{Table}
 use Rattle.page_model.specs.Parts.{Attribute, attributes_then, AreAttributes}
 use Rattle.page_model.specs.Places.{Place, is_early}
 use Rattle.piece_steps.specs.Readers.{go, done, fail}
-use Rattle.page_fronts.specs.Fronts.{Open, in_opener, in_target, behind_target, in_instruction, in_declaration, at_declaration_end, reserved, last_from, WordStands, BehindWords, InInstruction}
-use Rattle.page_fronts.specs.OpenTags.{OpenAttribute, between, IsFrontOfName, AttributeStands}
+use Rattle.page_model.specs.Fronts.{Open, in_opener, in_target, behind_target, in_instruction, in_declaration, at_declaration_end, reserved, last_from, WordStands, BehindWords, InInstruction}
+use Rattle.page_model.specs.OpenTags.{OpenAttribute, between, IsFrontOfName, AttributeStands}
 use Rattle.page_steps.specs.AttributeSteps.{AttributeMove, stays, ends_with, leaves, stops, attribute_move}
 use Rattle.page_steps.specs.PageSteps.{OpenMove, more_target, may_be_target, is_reserved, is_xml, is_started, behind_move, question_move, declaration_by}
 use Rattle.page_steps.specs.TagSteps.{of_declaration}

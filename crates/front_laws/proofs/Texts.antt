@@ -8,7 +8,7 @@ use Rattle.std.specs.List.{list_all}
 use Rattle.xml_text.specs.Names.{begins_name, in_name}
 use Rattle.dtd_model.specs.Table.{Kind}
 use Rattle.page_model.specs.Parts.{has_semicolon}
-use Rattle.page_fronts.specs.OpenValues.{OpenReference, in_entity, at_number, in_decimal, in_hexadecimal, ReferenceStands, OpenValue, in_text, in_reference, in_fixed, in_choice, in_words, TextStands}
+use Rattle.page_model.specs.OpenValues.{OpenReference, in_entity, at_number, in_decimal, in_hexadecimal, ReferenceStands, OpenValue, in_text, in_reference, in_fixed, in_choice, in_words, TextStands}
 use Rattle.page_steps.specs.ReferenceSteps.{reference_step, reference_good}
 use Rattle.page_steps.specs.ValueSteps.{in_reference_of, kept_step}
 use Rattle.front_laws.proofs.Folds.{Folds, From, here, on, nowhere, somewhere, either, Led, embedded, same}

@@ -2,8 +2,8 @@
 use Rattle.std.proofs.Common.{◌≡◌, ℕ, Bool, true, false, List, [], ◌∷◌, ◌++◌, Option, Some, None, refl, sym, ap, subst, append_assoc, append-nil}
 use Rattle.std.specs.Prelude.{if◌then◌else◌}
 use Rattle.dtd_model.specs.Table.{Kind, cdata, id, idref, idrefs, nmtoken, nmtokens, one_of, Presence, implied, required, with_default, fixed, Declared}
-use Rattle.page_fronts.specs.Fronts.{find_declared, DeclaredStands, WordStands}
-use Rattle.page_fronts.specs.OpenValues.{OpenValue, in_fixed, in_choice, in_words, KindStands, ValueStands}
+use Rattle.page_model.specs.Fronts.{find_declared, DeclaredStands, WordStands}
+use Rattle.page_model.specs.OpenValues.{OpenValue, in_fixed, in_choice, in_words, KindStands, ValueStands}
 use Rattle.page_steps.specs.TagSteps.{start_of, step_of, word_step}
 use Rattle.page_steps.specs.ValueSteps.{kind_start, start_by, value_start, value_step, kept_step, may_stand}
 use Rattle.front_laws.proofs.Folds.{Folds, here, on, nowhere, somewhere, either, Led, Embeds, embedded, any_symbol, all_any}

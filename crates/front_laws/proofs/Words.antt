@@ -7,7 +7,7 @@ use Rattle.dtd_model.specs.References.{is_some}
 use Rattle.dtd_model.specs.Table.{Kind}
 use Rattle.page_model.specs.Attributes.{words_of}
 use Rattle.page_model.specs.Parts.{begins_blank}
-use Rattle.page_fronts.specs.OpenValues.{OpenValue, in_choice, in_words, ends_blank, first_word, words_behind}
+use Rattle.page_model.specs.OpenValues.{OpenValue, in_choice, in_words, ends_blank, first_word, words_behind}
 use Rattle.page_steps.specs.ValueSteps.{has_many, begins_word, words_step, choice_step, kept_step}
 use Rattle.reference_steps.proofs.Words.{head_word, other_words, words_blank, words_other, head_blank, others_blank, head_other, others_other}
 use Rattle.front_laws.proofs.Folds.{Folds, From, here, on, nowhere, somewhere, either}

@@ -4,7 +4,7 @@ use Rattle.dtd_model.specs.Table.{Table}
 use Rattle.page_model.specs.Places.{Place}
 use Rattle.piece_steps.specs.Readers.{state_after}
 use Rattle.character_steps.specs.Encoded.{Held, at_state}
-use Rattle.page_fronts.specs.Fronts.{Open, bad, front, HasFront}
+use Rattle.page_model.specs.Fronts.{Open, bad, front, HasFront}
 use Rattle.page_steps.specs.PageSteps.{PageState}
 use Rattle.page_step_laws.specs.Laws.{beginning}
 use Rattle.page_reads.specs.Laws.{IsLawfulTable}

@@ -1,7 +1,5 @@
 -- The moves of a state by a byte, as moves are added.
-use Rattle.std.proofs.Common.{◌≡◌, ◌==◌, ℕ, ◌+◌, ◌<◌, ◌≤◌, Bool, true, false, ◌&&◌, List, [], ◌∷◌, ◌++◌, Some, None, Option, slice_get, slice_index, nat_le, refl, sym, ◌∙◌, ap, arith, cond, append-nil}
-use Rattle.std.proofs.Common.{ltb, leb, inl, inr, Bor, length}
-use Rattle.std.proofs.Common.{IsTrue}
+use Rattle.std.proofs.Common.{◌≡◌, ◌==◌, ℕ, ◌+◌, ◌<◌, ◌≤◌, Bool, true, false, ◌&&◌, List, [], ◌∷◌, ◌++◌, Some, None, Option, slice_get, slice_index, nat_le, refl, sym, ◌∙◌, ap, arith, cond, append-nil, ltb, leb, inl, inr, Bor, length, IsTrue}
 use Rattle.std.proofs.lemmas.List.Elements.{All-contains}
 use Rattle.std.proofs.lemmas.List.Folds.{list_all-append}
 use Rattle.fst_core.specs.Fits.{moves_fit}

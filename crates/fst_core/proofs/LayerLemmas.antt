@@ -1,9 +1,8 @@
 -- The layers of a table over an input.
-use Rattle.std.proofs.Common.{◌≡◌, ◌≢◌, ℕ, ◌+◌, ◌<◌, ◌≤◌, ◌⊎◌, ◌↔◌, inl, inr, Bool, true, ◌&&◌, List, [], ◌∷◌, ◌++◌, length, map, take, drop, get_or, slice_get, Option, Some, None, Contains, refl, sym, ◌∙◌, ap, subst, arith, cond, nat_eq, append_assoc, append-nil}
+use Rattle.std.proofs.Common.{◌≡◌, ◌≢◌, ℕ, ◌+◌, ◌<◌, ◌≤◌, ◌⊎◌, ◌↔◌, inl, inr, Bool, true, ◌&&◌, List, [], ◌∷◌, ◌++◌, length, map, take, drop, get_or, slice_get, Option, Some, None, Contains, refl, sym, ◌∙◌, ap, subst, arith, cond, nat_eq, append_assoc, append-nil, zero, suc, ◌-◌, IsTrue, ltb, length-append}
 use Rattle.std.proofs.lemmas.List.{append_cancel_left, map-append, take_more, drop_more, drop_all, take_all, take-append-drop, length-map, length-drop, nil_from_length}
 use Rattle.std.proofs.lemmas.List.Elements.{Contains-push_cases, Contains-append_left, Contains-append_right, Contains-append_cases, Contains-get_or, Contains-push, All-contains, All-cons, All-nil}
 use Rattle.std.proofs.lemmas.Bool.{cases_Bool, cond-true, cond-false, ltb-true}
-use Rattle.std.proofs.Common.{zero, suc, ◌-◌, IsTrue, ltb, length-append}
 use Rattle.std.specs.List.{list_any, All}
 use Rattle.fst_core.specs.Fits.{moves_fit}
 use Rattle.fst_core.specs.declared.moves.TableEnd.{TableEnd}

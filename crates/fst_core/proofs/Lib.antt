@@ -4,3 +4,6 @@ pub mod RunLemmas
 pub mod OfferLemmas
 pub mod IndexLemmas
 mod Examples
+mod ItemExamples
+pub mod Reading
+pub mod Over

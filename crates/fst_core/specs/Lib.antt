@@ -5,3 +5,6 @@ pub mod Offers
 pub mod Runs
 pub mod Tables
 pub mod Layers
+pub mod Outputs
+pub mod Items
+pub mod Weight

@@ -1,11 +1,13 @@
-//! Machines that read bytes and put out bytes and page tokens (finite-state transducers): what a
-//! machine is, the machine that is listed as a table, and the test whether a table relates two
-//! texts. The contracts cite `Runs` and `Relates` of specs/Runs.antt. Below stand text_base,
-//! numbered_sets and indexmap.
+//! Machines that read bytes and put out bytes and page tokens (finite-state transducers), and what
+//! the image of a grammar under one is. Promise: `applies` is true exactly where a table may put
+//! out the output over the input (`TableRelates` of specs/Tables); a `Machine` hands out, for each
+//! byte of a range, exactly its steps (`exact`: `Offers` of specs/Offers).
+//! Used by 13 crates, script_decision, page_decision, grammar_chart, chart_grammar and others.
 #![tactic(auto)]
 
 mod indexed;
 mod indexed_machine;
+pub mod laws;
 mod layers;
 mod machine;
 mod moves;

@@ -6,12 +6,12 @@ use Rattle.std.proofs.lemmas.List.{drop_more}
 use Rattle.program_rules.specs.Calls.{PlainCall}
 use Rattle.program_rules.specs.Programs.{ReadFile, functions_in}
 use Rattle.program_rules.specs.Rules.{is_known, serves_call}
-use Rattle.program_calls.specs.declared.call.Call.{Call}
-use Rattle.program_calls.specs.Seen.{plain_call, calls_seen}
+use Rattle.tree_walks.specs.declared.call.Call.{Call}
+use Rattle.tree_walks.specs.Seen.{plain_call, calls_seen}
 use Rattle.program_files.specs.declared.refusal.LoadRefusal.{LoadRefusal}
 use Rattle.program_files.specs.declared.refusal.LoadRefusal.TheVariants.{Missing, ReadFault, TooLong, Script, IncludeCycle, DoubleFunction, UnknownFunction, Arity, TooMany, Memory}
-use Rattle.function_calls.specs.FileCalls.{calls_in_files}
-use Rattle.loading_laws.specs.FileRules.{AreOnce, AreKnown, AreServed}
+use Rattle.include_expansion.specs.FileCalls.{calls_in_files}
+use Rattle.program_sizes.specs.FileRules.{AreOnce, AreKnown, AreServed}
 use Rattle.function_rules.specs.Causes.{NoneIs, IsFirst, is_unknown, is_misused, IsUnknownCause, IsArityCause, IsFunctionCause}
 
 seen_step : (calls : List Call) (i : ℕ) (call : Call) → i < length calls → call ≡ get_or calls i call → calls_seen (drop i calls) ≡ plain_call call ∷ calls_seen (drop (i + 1) calls)

@@ -12,9 +12,9 @@ use Rattle.builtin_meaning.specs.Names.{builtin_named}
 use Rattle.script_meaning.specs.Programs.{function_named}
 use Rattle.program_rules.specs.Programs.{ReadFile, functions_in}
 use Rattle.program_rules.specs.Rules.{is_there, DefinesTwice}
-use Rattle.function_calls.specs.declared.arity.Numbers.{Numbers}
-use Rattle.function_calls.specs.Arguments.{AreNumbersOf}
-use Rattle.function_calls.proofs.CallLemmas.{tree_of, drop_file}
+use Rattle.function_rules.specs.declared.arity.Numbers.{Numbers}
+use Rattle.function_rules.specs.Arguments.{AreNumbersOf}
+use Rattle.function_rules.proofs.ArgumentLemmas.{tree_of, drop_file}
 use Rattle.function_rules.specs.Table.{IsTable, Takes, HasPut}
 use Rattle.function_rules.proofs.NameLemmas.{push_new, push_other, once_push, builtin_twice, again_twice}
 

@@ -7,8 +7,8 @@ use Rattle.program_rules.specs.Programs.{ReadFile, functions_in}
 use Rattle.program_rules.specs.Rules.{DefinesTwice, is_known, serves_call}
 use Rattle.program_files.specs.declared.refusal.LoadRefusal.{LoadRefusal}
 use Rattle.program_files.specs.declared.refusal.LoadRefusal.TheVariants.{Missing, ReadFault, TooLong, Script, IncludeCycle, DoubleFunction, UnknownFunction, Arity, TooMany, Memory}
-use Rattle.function_calls.specs.FileCalls.{calls_in_files}
-use Rattle.loading_laws.specs.FileRules.{AreOnce, AreKnown}
+use Rattle.include_expansion.specs.FileCalls.{calls_in_files}
+use Rattle.program_sizes.specs.FileRules.{AreOnce, AreKnown}
 
 -- a call of no function that there is
 abbrev pub is_unknown : List PlainFunction → PlainCall → Bool

@@ -4,8 +4,8 @@ use Rattle.indexmap.specs.IndexMap.{IndexMap, get}
 use Rattle.php_syntax.specs.Trees.{PlainFunction}
 use Rattle.script_meaning.specs.Programs.{function_named}
 use Rattle.program_rules.specs.Rules.{DefinesTwice}
-use Rattle.function_calls.specs.declared.arity.Numbers.{Numbers}
-use Rattle.function_calls.specs.Arguments.{AreNumbersOf}
+use Rattle.function_rules.specs.declared.arity.Numbers.{Numbers}
+use Rattle.function_rules.specs.Arguments.{AreNumbersOf}
 use Rattle.program_files.specs.declared.refusal.LoadRefusal.{LoadRefusal}
 use Rattle.function_rules.specs.Causes.{IsDoubleCause}
 

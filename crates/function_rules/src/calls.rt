@@ -1,18 +1,18 @@
 //! The rules on calls.
 
 ghost use Rattle.std.specs.Prelude.{◌≡◌, OnOk, IfErr};
-ghost use Rattle.program_calls.specs.Seen.{plain_call, calls_seen};
+ghost use Rattle.tree_walks.specs.Seen.{plain_call, calls_seen};
 ghost use Rattle.program_rules.specs.Rules.{is_known, serves_call, serves_builtin};
 ghost use Rattle.builtin_meaning.specs.declared.builtin.Builtin.{Builtin};
 ghost use Rattle.function_rules.specs.Causes.{NoneIs, is_unknown, is_misused, IsUnknownCause, IsArityCause};
 ghost use Rattle.function_rules.specs.Table.{OfTable};
 
+use crate::Numbers;
 use crate::table::FunctionTable;
 use builtin_meaning::Builtin;
-use function_calls::Numbers;
-use program_calls::Call;
 use program_files::LoadRefusal;
 use std::alloc::Global;
+use tree_walks::Call;
 
 // Whether a call is of a function that there is.
 fn knows(table: &FunctionTable, call: &Call) -> bool

@@ -7,9 +7,9 @@ ghost use Rattle.program_files.specs.View.{files_of};
 ghost use Rattle.function_rules.specs.Causes.{IsDoubleCause};
 ghost use Rattle.function_rules.specs.Table.{HasPut, Puts, PutsNone};
 
+use crate::numbers_of;
 use crate::table::FunctionTable;
 use builtin_meaning::Builtin;
-use function_calls::numbers_of;
 use php_syntax::tree::FunctionDef;
 use program_files::{LoadRefusal, ScriptFiles};
 use std::alloc::Global;

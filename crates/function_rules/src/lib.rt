@@ -1,15 +1,17 @@
-//! The rules on the functions of a program, tested on its files before includes are replaced: no
-//! function is defined twice or as one of PHP's, each call is of a function that there is, and
-//! hands in as many arguments as that function takes.
-//!
-//! `check_functions` cites `KeepFunctionRules` of `loading_laws`, and `specs/Causes.antt` for its
-//! refusals. Functions are looked up in an index by their names. Below stand `function_calls` with
-//! the calls and `program_files` with the files.
+//! The rules on the functions of a program, tested on its files before includes are replaced.
+//! Promise: `check_functions` is Ok only where the files keep them (`KeepFunctionRules` of
+//! program_sizes), and else tells of the first rule that is broken, with the name of a function
+//! (`IsFunctionCause` of specs/Causes).
+//! Used by: program_loader.
 #![tactic(auto)]
 
+mod arity;
 mod calls;
 mod definitions;
+mod found_calls;
 mod rules;
 mod table;
 
+pub use arity::{Numbers, numbers_of};
+pub use found_calls::calls_of;
 pub use rules::check_functions;

@@ -2,12 +2,12 @@
 
 ghost use Rattle.std.specs.Prelude.{OnOk, IfErr};
 ghost use Rattle.program_files.specs.View.{files_of};
-ghost use Rattle.loading_laws.specs.FileRules.{KeepFunctionRules};
+ghost use Rattle.program_sizes.specs.FileRules.{KeepFunctionRules};
 ghost use Rattle.function_rules.specs.Causes.{IsFunctionCause};
 
 use crate::calls::{check_arguments, check_known};
+use crate::calls_of;
 use crate::definitions::table_of;
-use function_calls::calls_of;
 use program_files::{LoadRefusal, ScriptFiles};
 use std::alloc::Global;
 

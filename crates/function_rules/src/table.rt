@@ -3,10 +3,10 @@
 ghost use Rattle.std.specs.Prelude.{◌≡◌, ◌++◌, ◌∷◌, [], List, None, MatchOption, OnOk};
 ghost use Rattle.php_syntax.specs.Trees.{PlainFunction};
 ghost use Rattle.script_meaning.specs.Programs.{function_named};
-ghost use Rattle.function_calls.specs.Arguments.{AreNumbersOf};
+ghost use Rattle.function_rules.specs.Arguments.{AreNumbersOf};
 ghost use Rattle.function_rules.specs.Table.{IsTable, OfTable, Takes};
 
-use function_calls::Numbers;
+use crate::Numbers;
 use indexmap::IndexMap;
 use std::alloc::Global;
 use text_base::{Bytes, NoMemory};

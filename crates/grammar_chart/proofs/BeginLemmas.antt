@@ -5,7 +5,7 @@ use Rattle.std.proofs.lemmas.Option.{slice_get_within}
 use Rattle.text_base.specs.declared.numbers.Nt as nt
 use Rattle.cfg_grammar.specs.declared.symbol.Symbol.TheVariants.{Nt}
 use Rattle.cfg_grammar.specs.declared.production.Production.{Production}
-use Rattle.image_meaning.specs.Items.{at_start}
+use Rattle.fst_core.specs.Items.{at_start}
 use Rattle.numbered_sets.specs.Numbers.{AddsOnly, AreDifferent}
 use Rattle.grammar_chart.specs.declared.keys.Entry.{Entry}
 use Rattle.grammar_chart.specs.declared.steps.Visit.{Visit}

@@ -10,7 +10,7 @@ use Rattle.cfg_grammar.specs.declared.symbol.Symbol.{Symbol}
 use Rattle.cfg_grammar.specs.declared.symbol.Symbol.TheVariants.{Nt}
 use Rattle.cfg_grammar.specs.declared.production.Production.{Production}
 use Rattle.cfg_grammar.specs.Below.{symbols_of, symbol_below, production_below, AreBelow}
-use Rattle.image_meaning.specs.Items.{Enters, at_start, by_item}
+use Rattle.fst_core.specs.Items.{Enters, at_start, by_item}
 
 pub all_at : {X : Type 0} (p : X → Bool) (xs : List X) (n : ℕ) (x : X) → IsTrue (list_all p xs) → slice_get xs n ≡ Some x → IsTrue (p x)
 all_at p [] n x h at = cc

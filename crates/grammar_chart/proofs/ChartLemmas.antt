@@ -9,9 +9,9 @@ use Rattle.cfg_grammar.specs.declared.production.Right.{Right}
 use Rattle.cfg_grammar.specs.declared.production.Right.TheVariants.{Empty, One, Two}
 use Rattle.cfg_grammar.specs.declared.production.Production.{Production}
 use Rattle.cfg_grammar.specs.Below.{symbols_of}
-use Rattle.image_meaning.specs.Outputs.{Leads}
-use Rattle.image_meaning.specs.Items.{IsItem, ReadsTo, Enters, by_item}
-use Rattle.image_meaning.proofs.Reading.{leads_empty, leads_one, leads_two}
+use Rattle.fst_core.specs.Outputs.{Leads}
+use Rattle.fst_core.specs.Items.{IsItem, ReadsTo, Enters, by_item}
+use Rattle.fst_core.proofs.Reading.{leads_empty, leads_one, leads_two}
 use Rattle.numbered_sets.specs.Numbers.{Keeps}
 use Rattle.grammar_chart.specs.declared.keys.Entry.{Entry}
 use Rattle.grammar_chart.specs.declared.keys.Read.{Read}

@@ -8,9 +8,9 @@ use Rattle.cfg_grammar.specs.declared.symbol.Symbol.TheVariants.{Range, Nt}
 use Rattle.cfg_grammar.specs.declared.production.Production.{Production}
 use Rattle.cfg_grammar.specs.Derives.{by_range}
 use Rattle.fst_core.specs.Letter.{letter_of}
-use Rattle.image_meaning.specs.Outputs.{Leads}
-use Rattle.image_meaning.specs.Items.{Enters}
-use Rattle.image_meaning.proofs.Over.{enters_over, leads_over}
+use Rattle.fst_core.specs.Outputs.{Leads}
+use Rattle.fst_core.specs.Items.{Enters}
+use Rattle.fst_core.proofs.Over.{enters_over, leads_over}
 use Rattle.numbered_sets.specs.Numbers.{Keeps, AddsOnly}
 use Rattle.grammar_chart.specs.declared.keys.Entry.{Entry}
 use Rattle.grammar_chart.specs.declared.keys.Begun.{Begun}

@@ -26,7 +26,7 @@ use Rattle.grammar_chart.proofs.AddingLemmas.{AddsAll, adds_all, at_lefts, begun
 use Rattle.grammar_chart.proofs.VisitLemmas.{VisitsKept, visits_waiting, visits_exits, visits_same, waiting_members, exit_members, old_entry}
 use Rattle.grammar_chart.proofs.OnceLemmas.{chart_waits, waits_grown, once_grown, once_more, once_awaits, once_leaves, once_opens}
 pub use Rattle.grammar_chart.proofs.MemberLemmas.{at_below, at_old}
-use Rattle.image_meaning.specs.Items.{Enters}
+use Rattle.fst_core.specs.Items.{Enters}
 use Rattle.grammar_chart.proofs.ChartLemmas.{all_by, some_same, begun_kept, begun_more, entered_begun, passage_begun}
 
 pub first_kept : {X : Type 0} (P Q : X → Type 0) (xs ys : List X) (n : ℕ) → Keeps xs ys → n ≤ length xs → ((x : X) → P x → Q x) → OfFirst P xs n → OfFirst Q ys n

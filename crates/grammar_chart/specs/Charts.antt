@@ -5,8 +5,8 @@ use Rattle.cfg_grammar.specs.declared.symbol.Symbol.TheVariants.{Nt}
 use Rattle.cfg_grammar.specs.declared.production.Right.{Right}
 use Rattle.cfg_grammar.specs.declared.production.Right.TheVariants.{Empty, One, Two}
 use Rattle.cfg_grammar.specs.declared.production.Production.{Production}
-use Rattle.image_meaning.specs.Outputs.{Leads}
-use Rattle.image_meaning.specs.Items.{Enters}
+use Rattle.fst_core.specs.Outputs.{Leads}
+use Rattle.fst_core.specs.Items.{Enters}
 use Rattle.numbered_sets.specs.Numbers.{Keeps, AddsOnly, AreDifferent}
 use Rattle.grammar_chart.specs.declared.keys.Entry.{Entry}
 use Rattle.grammar_chart.specs.declared.keys.Read.{Read}

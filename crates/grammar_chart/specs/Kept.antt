@@ -1,7 +1,7 @@
 -- What a chart keeps, and how it goes on.
 use Rattle.std.specs.Prelude.{◌≡◌, ◌+◌, ◌<◌, ◌≤◌, ℕ, List, map, length, Some, slice_get}
-use Rattle.number_chains.specs.declared.Chains.{Chains}
-use Rattle.number_chains.specs.Chains.{AreChains}
+use Rattle.numbered_sets.specs.declared.chains.Chains.{Chains}
+use Rattle.numbered_sets.specs.Chains.{AreChains}
 use Rattle.cfg_grammar.specs.declared.production.Production.{Production}
 use Rattle.numbered_sets.specs.Numbers.{Keeps}
 use Rattle.cfg_grammar.specs.declared.symbol.Symbol.TheVariants.{Range}

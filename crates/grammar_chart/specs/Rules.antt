@@ -7,7 +7,7 @@ use Rattle.cfg_grammar.specs.declared.symbol.Symbol.TheVariants.{Nt}
 use Rattle.cfg_grammar.specs.declared.production.Right.{Right}
 use Rattle.cfg_grammar.specs.declared.production.Right.TheVariants.{Empty, One, Two}
 use Rattle.cfg_grammar.specs.declared.production.Production.{Production}
-use Rattle.image_meaning.specs.Items.{Item}
+use Rattle.fst_core.specs.Items.{Item}
 use Rattle.grammar_chart.specs.declared.keys.Entry.{Entry}
 use Rattle.grammar_chart.specs.declared.keys.Read.{Read}
 use Rattle.grammar_chart.specs.declared.keys.Read.TheVariants.{Nothing, First, Both}

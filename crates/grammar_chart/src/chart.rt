@@ -18,8 +18,7 @@ use crate::turns::Turn;
 use cfg_grammar::{Production, Symbol};
 use fst_core::Out;
 use indexmap::IndexSet;
-use number_chains::Chains;
-use numbered_sets::{count, number};
+use numbered_sets::{Chains, count, number};
 use std::alloc::Global;
 use text_base::{ByteRange, NoMemory, Nt};
 

@@ -1,8 +1,8 @@
-//! The chart of an image: the productions of a grammar that a machine has begun to read, in which
-//! states, and where each symbol leads (Earley's method, with states of the machine in place of
-//! places of a text). The chart is over the numbers of states alone; what the machine does is
-//! handed in by the crate above. Below stand cfg_grammar, fst_core, numbered_sets and
-//! image_meaning.
+//! The chart of an image: which productions a machine has begun to read, in which states, and where
+//! each symbol leads, over numbers of states alone (Earley's method). Promise: `turn` takes one
+//! step of a chart that stays one, or says what the machine is to be asked, or that all is done
+//! (`IsTurn` of specs/Kept, over `IsChart` of specs/Charts).
+//! Used by: page_decision, chart_grammar, grammar_image, resolving, image_tests.
 #![tactic(auto)]
 
 mod chart;

@@ -3,7 +3,7 @@
 ghost use Rattle.std.specs.Prelude.{◌≡◌, ◌⊎◌, ◌<◌, ◌++◌, ℕ, List, All, Contains, OnOk, IfOk, Some, map, slice_get, length, vec_len};
 ghost use Rattle.numbered_sets.specs.Numbers.{Keeps};
 ghost use Rattle.grammar_chart.specs.Rules.{read_on, begun_at};
-ghost use Rattle.number_chains.specs.Chains.{AreChains, Falls};
+ghost use Rattle.numbered_sets.specs.Chains.{AreChains, Falls};
 ghost use Rattle.grammar_chart.specs.Adding.{AddsPlaces};
 ghost use Rattle.grammar_chart.specs.Visits.{VisitsGrow, AddsWaiting, AddsExit};
 ghost use Rattle.grammar_chart.specs.declared.keys.Read.TheVariants.{Nothing};
@@ -11,8 +11,7 @@ ghost use Rattle.grammar_chart.specs.declared.keys.Read.TheVariants.{Nothing};
 use crate::keys::{Begun, Entry, Read};
 use crate::rules::advanced;
 use indexmap::IndexSet;
-use number_chains::Chains;
-use numbered_sets::number;
+use numbered_sets::{Chains, number};
 use smallvec::SmallVec;
 use std::alloc::Global;
 use text_base::NoMemory;

@@ -4,8 +4,8 @@ use Rattle.std.proofs.lemmas.List.{length-map}
 use Rattle.std.proofs.lemmas.List.Elements.{All-map, All-weaker}
 use Rattle.text_base.specs.declared.letter.Letter.{Letter}
 use Rattle.cfg_grammar.specs.declared.production.Production.{Production}
-use Rattle.image_meaning.specs.Items.{Item, IsItem, HasItems}
-use Rattle.image_meaning.proofs.Over.{has_items_over}
+use Rattle.fst_core.specs.Items.{Item, IsItem, HasItems}
+use Rattle.fst_core.proofs.Over.{has_items_over}
 use Rattle.numbered_sets.specs.Numbers.{AreDifferent}
 use Rattle.grammar_chart.specs.declared.keys.Read.{Read}
 use Rattle.grammar_chart.specs.declared.keys.Read.TheVariants.{Nothing, First, Both}

@@ -11,3 +11,11 @@ pub mod SpellLemmas
 pub mod SmallLemmas
 pub mod RestLemmas
 pub mod PutLemmas
+pub mod EchoLemmas
+mod Examples
+pub mod FirstLemmas
+pub mod LeadLemmas
+pub mod MarkLemmas
+pub mod NodeLemmas
+pub mod RootLemmas
+pub mod TraceLemmas

@@ -10,8 +10,8 @@ use Rattle.cfg_grammar.specs.declared.production.Production.{Production}
 use Rattle.cfg_grammar.specs.Below.{symbols_of}
 use Rattle.cfg_grammar.specs.Derives.{Derives, by_range, by_token, by_empty, by_one, by_two}
 use Rattle.fst_core.specs.Runs.{Runs}
-use Rattle.image_meaning.specs.Outputs.{Leads}
-use Rattle.image_meaning.specs.Items.{Item, IsItem, ReadsTo, Enters, at_start, by_item}
+use Rattle.fst_core.specs.Outputs.{Leads}
+use Rattle.fst_core.specs.Items.{Item, IsItem, ReadsTo, Enters, at_start, by_item}
 use Rattle.grammar_chart.specs.declared.keys.Passage.{Passage}
 use Rattle.grammar_chart.proofs.AddingLemmas.{at_contains}
 use Rattle.grammar_image.proofs.Complete.{runs_split, text_split}

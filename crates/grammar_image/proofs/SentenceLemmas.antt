@@ -14,8 +14,8 @@ use Rattle.fst_core.specs.Letter.{letter_of}
 use Rattle.fst_core.specs.Fits.{is_fixed}
 use Rattle.fst_core.specs.declared.out.Out.{Out}
 use Rattle.fst_core.specs.declared.out.Out.TheVariants.{Same, Shift, Byte, Token}
-use Rattle.image_meaning.specs.Outputs.{Outputs}
-use Rattle.image_meaning.proofs.Over.{runs_over}
+use Rattle.fst_core.specs.Outputs.{Outputs}
+use Rattle.fst_core.proofs.Over.{runs_over}
 use Rattle.numbered_sets.specs.Numbers.{AreDifferent}
 use Rattle.grammar_chart.specs.declared.keys.Passage.{Passage}
 use Rattle.grammar_chart.specs.declared.keys.Reading.{Reading}

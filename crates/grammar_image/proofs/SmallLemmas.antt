@@ -13,9 +13,9 @@ use Rattle.cfg_grammar.specs.declared.symbol.Symbol.TheVariants.{Range, Nt}
 use Rattle.cfg_grammar.specs.declared.production.Production.{Production}
 use Rattle.cfg_grammar.specs.declared.grammar.Grammar.{Grammar}
 use Rattle.cfg_grammar.specs.Below.{symbols_of}
-use Rattle.image_meaning.specs.Items.{Item, IsItem, HasItems, Enters, ReadsTo}
-use Rattle.image_meaning.specs.Weight.{Unit_of_weight, item, read, last, ReadsRange, IsUnit, IsSmall}
-use Rattle.image_meaning.proofs.Over.{enters_over, reads_over, leads_over}
+use Rattle.fst_core.specs.Items.{Item, IsItem, HasItems, Enters, ReadsTo}
+use Rattle.fst_core.specs.Weight.{Unit_of_weight, item, read, last, ReadsRange, IsUnit, IsSmall}
+use Rattle.fst_core.proofs.Over.{enters_over, reads_over, leads_over}
 use Rattle.numbered_sets.specs.Numbers.{AreDifferent}
 use Rattle.grammar_chart.specs.declared.keys.Passage.{Passage}
 use Rattle.grammar_chart.specs.declared.chart.Chart.{Chart}

@@ -14,7 +14,7 @@ use Rattle.fst_core.specs.Letter.{letter_of}
 use Rattle.fst_core.specs.Offers.{IsWithin}
 use Rattle.fst_core.specs.declared.machine.Move.{Move}
 use Rattle.fst_core.specs.declared.out.Out.{Out}
-use Rattle.image_meaning.proofs.Over.{enters_over}
+use Rattle.fst_core.proofs.Over.{enters_over}
 use Rattle.numbered_sets.specs.Numbers.{Keeps}
 use Rattle.grammar_chart.specs.declared.keys.Entry.{Entry}
 use Rattle.grammar_chart.specs.declared.keys.Passage.{Passage}

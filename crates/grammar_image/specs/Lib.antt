@@ -3,3 +3,8 @@ pub mod Work
 pub mod Refusals
 pub mod Lasts
 pub mod Numbered
+pub mod Echoes
+pub mod Firsts
+pub mod Leads
+pub mod Marks
+pub mod Traces

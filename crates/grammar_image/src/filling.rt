@@ -12,8 +12,7 @@ use cfg_grammar::Production;
 use fst_core::Machine;
 use grammar_chart::Chart;
 use indexmap::IndexSet;
-use number_chains::Chains;
-use numbered_sets::count;
+use numbered_sets::{Chains, count};
 use std::alloc::Global;
 
 /// The refusal where there are more items than the limit allows.

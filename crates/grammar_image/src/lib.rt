@@ -1,18 +1,23 @@
-//! Images of grammars under machines: a grammar whose sentences are exactly what a machine puts out
-//! over the sentences of another. The chart asks the machine only for the states and ranges that it
-//! comes to, and a range stays whole until the machine splits it. Below stand cfg_grammar,
-//! fst_core, image_meaning, grammar_chart and chart_grammar.
+//! Images of grammars under machines, and the way back. Promise: the sentences of `image` are
+//! exactly what the machine puts out over the texts of the grammar (`sentences`: `Outputs` of
+//! fst_core), and it is small (`small`: `IsSmall`); `source_of` leads a derivation in an image that
+//! copies texts back to one of the text in the grammar (`text_of` of specs/Echoes).
+//! Used by 7 crates, script_decision, page_decision, resolving, loose_grammar and others.
 #![tactic(auto)]
 
 mod ask;
 mod ends;
 mod filling;
+mod firsts;
 mod imaged;
 mod imaging;
+mod leading;
+mod marking;
 mod refusal;
+mod tracing;
 mod work;
 
-pub use chart_grammar::SourcedGrammar;
 pub use imaged::Imaged;
 pub use imaging::{image, image_over};
 pub use refusal::ImageRefusal;
+pub use tracing::source_of;

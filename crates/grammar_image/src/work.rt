@@ -11,7 +11,7 @@ use cfg_grammar::{Production, Symbol};
 use fst_core::Machine;
 use grammar_chart::{Chart, Entry, Turn, pass, turn};
 use indexmap::IndexSet;
-use number_chains::Chains;
+use numbered_sets::Chains;
 use std::alloc::Global;
 use text_base::{ByteRange, NoMemory};
 

@@ -1,7 +1,7 @@
 -- Arms that are copied, before those that are left.
 use Rattle.std.proofs.Common.{◌≡◌, ◌∙◌, ℕ, drop, ◌≤◌, ◌+◌, ◌<◌, List, [], ◌∷◌, ◌++◌, length, get_or, refl, sym, ap}
 use Rattle.std.proofs.lemmas.List.{drop_all}
-use Rattle.tree_copies.proofs.CopyLemmas.{drop_here}
+use Rattle.tree_walks.proofs.CopyLemmas.{drop_here}
 use Rattle.std.specs.declared.vec.Vec.{Vec}
 use Rattle.std.specs.declared.alloc.Global.{Global}
 use Rattle.php_syntax.specs.declared.tree.Expr.{Expr}

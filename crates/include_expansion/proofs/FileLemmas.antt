@@ -1,7 +1,7 @@
 -- Loops over statements, functions and files.
 use Rattle.std.proofs.Common.{◌≡◌, ◌∙◌, ℕ, zero, suc, ◌+◌, ◌<◌, ◌≤◌, Bool, true, false, if◌then◌else◌, List, [], ◌∷◌, ◌++◌, length, drop, get_or, map, Option, Some, None, option_map, slice_get, append_assoc, refl, sym, ap, subst, arith}
 use Rattle.std.proofs.lemmas.List.{drop_all}
-use Rattle.tree_copies.proofs.CopyLemmas.{drop_here}
+use Rattle.tree_walks.proofs.CopyLemmas.{drop_here}
 use Rattle.std.specs.Prelude.{◌||◌, bytes_eq}
 use Rattle.std.proofs.lemmas.Option.{same_Some}
 use Rattle.php_syntax.specs.declared.tree.Stmt.{Stmt}
@@ -11,8 +11,8 @@ use Rattle.php_syntax.specs.Trees.{PlainStmts, no_stmts, PlainFunction, PlainFil
 use Rattle.program_rules.specs.Expansion.{followed_by, with_bodies, with_bodies_in}
 use Rattle.program_rules.specs.Programs.{ReadFile, functions_in}
 use Rattle.program_files.specs.Order.{is_read, place_of}
-use Rattle.file_order.specs.Within.{tree_named, bodies_within}
-use Rattle.file_order.proofs.PlaceLemmas.{file_there, tree_there}
+use Rattle.include_expansion.specs.Within.{tree_named, bodies_within}
+use Rattle.include_expansion.proofs.PlaceLemmas.{file_there, tree_there}
 use Rattle.include_expansion.proofs.Followed.{followed-none, followed-assoc}
 use Rattle.include_expansion.proofs.Measures.{tallest, below_tallest}
 

@@ -2,3 +2,15 @@ pub mod Followed
 pub mod Measures
 pub mod ArmLemmas
 pub mod FileLemmas
+pub mod NameLemmas
+pub mod HeldLemmas
+pub mod ReadLemmas
+pub mod OrderLemmas
+pub mod WholeLemmas
+pub mod CallLemmas
+pub mod Tests
+pub mod RuleLemmas
+pub mod FormLemmas
+pub mod PlaceLemmas
+pub mod EdgeLemmas
+pub mod FileOrderLemmas

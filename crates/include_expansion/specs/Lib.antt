@@ -1,0 +1,4 @@
+pub mod Within
+pub mod FileCalls
+pub mod FileOrder
+pub mod FileEdges

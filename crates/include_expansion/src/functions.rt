@@ -4,14 +4,14 @@ ghost use Rattle.std.specs.Prelude.{◌≡◌, ◌++◌, IfOk, OnOk, map};
 ghost use Rattle.php_syntax.specs.Trees.{plain_function, functions_of_list};
 ghost use Rattle.program_rules.specs.Programs.{functions_in};
 ghost use Rattle.program_files.specs.View.{files_of};
-ghost use Rattle.file_order.specs.Within.{bodies_within, with_body};
+ghost use Rattle.include_expansion.specs.Within.{bodies_within, with_body};
 
 use crate::statements::expand_statements;
 use php_syntax::tree::FunctionDef;
 use program_files::ScriptFiles;
 use std::alloc::Global;
 use text_base::NoMemory;
-use tree_copies::copy_params;
+use tree_walks::copy_params;
 
 /// The functions of all files, in the order of the files, each with the includes of its body
 /// replaced so many times over.

@@ -1,14 +1,24 @@
-//! The statements and functions of files with each include replaced by the statements of its file.
-//!
-//! What they are is computed by `bodies_within` and `with_body` of `expansion_laws`, which are what
-//! files stand for where there is an order of their includes. Trees are copied by `tree_copies`, so
-//! the time is linear in what comes out and in the places of includes. A call calls itself as deep
-//! as what comes out is high, and as files include one another.
+//! Files with each include replaced by the statements of its file, their order, and laws of both.
+//! Promise: `expand_statements` and `expand_functions` give what `bodies_within` of specs/Within
+//! computes, which files stand for (`statements_stand_for`); `order_files` gives an order of
+//! includes, or a file that includes itself (`IsFileOrder` of specs/FileOrder).
+//! Used by: program_sizes, function_rules, program_loader.
 #![tactic(auto)]
 
+mod edges;
+mod expansion_keeps;
+mod expansion_laws;
 mod functions;
+mod order;
 mod parts;
+mod reading_laws;
 mod statements;
 
+pub use expansion_keeps::{calls_are_in_files, forms_are_kept, rules_are_kept};
+pub use expansion_laws::{
+    no_include_is_left, none_includes_itself, statements_have_places, statements_stand_for,
+};
 pub use functions::expand_functions;
+pub use order::order_files;
+pub use reading_laws::{files_of_the_program, names_looked_at, what_was_held};
 pub use statements::expand_statements;

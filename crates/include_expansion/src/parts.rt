@@ -7,7 +7,7 @@ ghost use Rattle.program_rules.specs.Expansion.{followed_by};
 use php_syntax::tree::{Expr, Stmt};
 use std::alloc::Global;
 use text_base::{Bytes, NoMemory};
-use tree_copies::{copy_expr, copy_exprs, copy_maybe};
+use tree_walks::{copy_expr, copy_exprs, copy_maybe};
 
 /// One more statement.
 #[tactic(auto, using(crate::proofs::Followed::ends))]

@@ -4,14 +4,14 @@ ghost use Rattle.std.specs.Prelude.{◌≡◌, IfOk, OnOk};
 ghost use Rattle.php_syntax.specs.Trees.{plain_expr, plain_stmt, stmts_of, arms_of, exprs_of, maybe_of, if_stmt, while_stmt, do_while_stmt, for_stmt, each_stmt};
 ghost use Rattle.program_rules.specs.Expansion.{followed_by, with_bodies, with_bodies_in, with_bodies_in_arms};
 ghost use Rattle.program_files.specs.View.{files_of};
-ghost use Rattle.file_order.specs.Within.{bodies_within};
+ghost use Rattle.include_expansion.specs.Within.{bodies_within};
 
 use crate::parts::{copy_echo, copy_inline, copy_quit, copy_return, copy_run, put};
 use php_syntax::tree::{Expr, Stmt};
 use program_files::ScriptFiles;
 use std::alloc::Global;
 use text_base::{Bytes, NoMemory};
-use tree_copies::{copy_expr, copy_exprs, copy_maybe, copy_variable};
+use tree_walks::{copy_expr, copy_exprs, copy_maybe, copy_variable};
 
 /// Statements with each include replaced by the statements of its file, so many times over.
 pub fn expand_statements(

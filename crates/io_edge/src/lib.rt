@@ -1,12 +1,8 @@
-//! The edge to the outside: files that are read by name, and sinks that take bytes.
-//!
-//! `Files` and `Sink` say what a source tells of its files, what a sink has taken, how often each
-//! of them failed, and how often a source was asked. Their contracts cite the definitions of
-//! `specs/`: what is told of a name (`Told`), when a count rises (`Counts`), why a file was not
-//! read (`Reasons`) and what a sink took (`Taken`). `DiskFiles` and `StdSink` are the real files
-//! and streams, over std, and tell no content. `MemFiles` and `MemSink` are held in memory, and say
-//! exactly what each call answers. Below stands `text_base`, with byte strings, limits and the want
-//! of memory.
+//! The edge to the outside: files read by name, and sinks of bytes, of the system or in memory.
+//! Promise: `Files::read` gives what is told of the name, or has a reason (`Tells` of specs/Told,
+//! `HasReason` of specs/Reasons); `Sink::put` appends the bytes, or a prefix of them where it fails
+//! (`AppendsPrefix` of specs/Taken).
+//! Used by 21 crates, program_rules, program_files, include_expansion, program_loader and others.
 #![tactic(auto)]
 
 mod disk_files;

@@ -2,4 +2,8 @@ pub mod Forms
 pub mod Bytes
 pub mod Integers
 pub mod Sets
-pub use Rattle.op_system.specs.declared.op
+pub mod Simulations
+pub mod Systems
+pub mod Parts
+pub mod Written
+pub mod Closed

@@ -1,7 +1,8 @@
-//! Sets of texts that are the least ones to meet a table: for each set, by its name, the ways in
-//! which its texts are made of others. The definitions are generic in the names and in how
-//! operations and the request are read. Below stand xml_text, string_functions and
-//! op_system.
+//! Sets of texts that are the least ones to meet a table, which says for each set, by its name, how
+//! its texts are made of others, and when two tables have the same sets: definitions and laws.
+//! States `In`, `Byte` and `IsCircular` (specs/Sets), `Simulates` (specs/Simulations) and
+//! `IsWritten` (specs/Written); the laws stand in src/laws.rt, proofs/Simulated and proofs/Same.
+//! Used by 10 crates, op_bytes, set_tables, loose_sets, loose_soundness and others.
 #![tactic(auto)]
 
 pub mod laws;

@@ -1,6 +1,7 @@
-//! The lexer over large files of one kind each. Without a word on the command line it prints how
-//! many tokens each file has, and with the word `time` also how fast it is cut, beside a plain
-//! pass over the same bytes.
+//! Measures php_lexer over files of 1,048,576 bytes of one kind each.
+//! Without a word it prints how many tokens each file has; with the word `time` also how fast it is
+//! cut, and how many times a plain pass over the same bytes that is. It has no clause.
+//! Used by: none; it stands at the top.
 #![tactic(auto)]
 
 use anyhow::Result;

@@ -1,9 +1,8 @@
 -- The classes of bytes of the lexical grammar, and words on what stands at the head of a list of bytes.
 -- A name is a letter or an underscore and then letters, digits and underscores (PHP manual, "Variables: Basics"); here letters are those of
 -- ASCII.
-use Rattle.std.specs.Prelude.{ℕ, suc, ◌+◌, Bool, false, ◌&&◌, ◌||◌, ◌==◌, nat_eq, nat_le, if◌then◌else◌, List, [], ◌∷◌, fold}
+use Rattle.std.specs.Prelude.{ℕ, suc, ◌+◌, Bool, false, ◌&&◌, ◌||◌, ◌==◌, nat_eq, nat_le, if◌then◌else◌, List, [], ◌∷◌, fold, codes, ◌*◌, ◌-◌}
 use Rattle.std.specs.List.{starts_with, prefix_len}
-use Rattle.std.specs.Prelude.{codes, ◌*◌, ◌-◌}
 
 -- one of `0`..`9`
 abbrev pub is_digit : ℕ → Bool

@@ -6,3 +6,6 @@ pub mod Signs
 pub mod Steps
 pub mod Texts
 pub mod Words
+pub mod Spelled
+pub mod Pieces
+pub mod Quoting

@@ -8,9 +8,9 @@ use Rattle.cfg_grammar.specs.declared.grammar.Grammar.{Grammar}
 use Rattle.cfg_grammar.specs.Derives.{Derives}
 use Rattle.script_meaning.specs.Programs.{PlainProgram}
 use Rattle.op_system.specs.declared.system.OpSystem.{OpSystem}
-use Rattle.resolve_laws.specs.Resolved.{HasLetters}
-use Rattle.resolve_laws.specs.Drafted.{IsResolved}
-use Rattle.grammar_trimming.specs.Trimmed.{IsTrimmed}
+use Rattle.resolving.specs.Resolved.{HasLetters}
+use Rattle.resolving.specs.Drafted.{IsResolved}
+use Rattle.useful_nonterminals.specs.Trimmed.{IsTrimmed}
 use Rattle.resolving.specs.Causes.{IsCause}
 use Rattle.grammar_image.specs.declared.refusal.ImageRefusal.{ImageRefusal}
 use Rattle.grammar_image.specs.declared.refusal.ImageRefusal.TheVariants.{Large, Memory}

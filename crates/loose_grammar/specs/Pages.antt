@@ -11,11 +11,11 @@ use Rattle.script_meaning.specs.Programs.{PlainProgram}
 use Rattle.flow_code.specs.Flat.{flat}
 use Rattle.loose_sets.specs.Loose.{Loose}
 use Rattle.op_system.specs.declared.system.OpSystem.{OpSystem}
-use Rattle.op_cycles.specs.Texts.{TextOf}
-use Rattle.resolve_laws.specs.Drafted.{IsResolved}
-use Rattle.grammar_trimming.specs.Trimmed.{IsTrimmed}
-use Rattle.flow_listing.specs.Rules.{AreLooseRules}
-use Rattle.flow_listing.specs.Made.{IsMade}
+use Rattle.op_bytes.specs.Texts.{TextOf}
+use Rattle.resolving.specs.Drafted.{IsResolved}
+use Rattle.useful_nonterminals.specs.Trimmed.{IsTrimmed}
+use Rattle.extraction.specs.Rules.{AreLooseRules}
+use Rattle.extraction.specs.ListedMade.{IsMade}
 
 -- the bytes are a loose page of the program
 abbrev pub IsLoosePage : PlainProgram → List ℕ → Type 0

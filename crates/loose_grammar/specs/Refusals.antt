@@ -4,8 +4,8 @@ use Rattle.script_meaning.specs.Programs.{PlainProgram}
 use Rattle.op_system.specs.declared.system.OpSystem.{OpSystem}
 use Rattle.grammar_image.specs.declared.refusal.ImageRefusal.{ImageRefusal}
 use Rattle.grammar_image.specs.declared.refusal.ImageRefusal.TheVariants as image
-use Rattle.resolve_laws.specs.Drafted.{IsTooLarge}
-use Rattle.program_literals.specs.Short.{HasLongText}
+use Rattle.resolving.specs.Drafted.{IsTooLarge}
+use Rattle.program_lowering.specs.Short.{HasLongText}
 use Rattle.loose_grammar.specs.declared.refusal.GrammarRefusal.{GrammarRefusal}
 use Rattle.loose_grammar.specs.declared.refusal.GrammarRefusal.TheVariants as refusal
 use Rattle.loose_grammar.specs.declared.refusal.TheConstants.{ITEM_LIMIT}

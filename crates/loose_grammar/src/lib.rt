@@ -1,6 +1,8 @@
-//! The grammar of the loose pages of a program: its points (program_lowering), the system of
-//! productions and operations that has exactly its loose pages (extraction), one grammar of the
-//! same texts (resolving), without what stands in no derivation (grammar_trimming).
+//! The grammar of the loose pages of a program: its points, the system of its sets, and one grammar
+//! of the same texts, without what stands in no derivation.
+//! Promise: `loose_grammar` derives exactly the loose pages (`DerivePages` of specs/Pages, clause
+//! `pages`), and refuses only by a cause (`IsGrammarRefusal` of specs/Refusals).
+//! Used by: script_decision, phpsa_tasks, phpsa_main.
 #![tactic(auto)]
 
 mod making;

@@ -6,27 +6,27 @@ ghost use Rattle.cfg_grammar.specs.Derives.{Derives};
 ghost use Rattle.cfg_grammar.specs.declared.symbol.Symbol as symbols;
 ghost use Rattle.flow_code.specs.Flat.{flat};
 ghost use Rattle.flow_code.specs.View.{plain_flow};
-ghost use Rattle.php_program.specs.View.{program_of};
-ghost use Rattle.program_points.specs.Texts.{TextsFit};
-ghost use Rattle.resolve_laws.specs.Resolved.{HasLetters};
-ghost use Rattle.resolve_laws.specs.Drafted.{IsResolved};
+ghost use Rattle.program_rules.specs.View.{program_of};
+ghost use Rattle.flow_runs.specs.Texts.{TextsFit};
+ghost use Rattle.resolving.specs.Resolved.{HasLetters};
+ghost use Rattle.resolving.specs.Drafted.{IsResolved};
 ghost use Rattle.resolving.specs.Causes.{IsCause};
 ghost use Rattle.loose_grammar.specs.Pages.{DerivePages, IsPageGrammar, IsProgramSystem};
 ghost use Rattle.loose_grammar.specs.Refusals.{IsGrammarRefusal};
 
 use crate::refusal::{GrammarRefusal, ITEM_LIMIT, refusal_of};
-use call_lowering::LoweringError;
 use cfg_grammar::Grammar;
+use expression_lowering::LoweringError;
 use extraction::extract;
 use flow_code::FlowProgram;
 use grammar_image::ImageRefusal;
-use grammar_trimming::trim;
 use op_system::OpSystem;
-use php_program::Program;
 use program_lowering::lower;
+use program_rules::Program;
 use resolving::resolve;
 use std::alloc::Global;
 use text_base::NoMemory;
+use useful_nonterminals::trim;
 
 // The system of a program, from its points, which are let go then.
 fn system_of(alloc: Global, program: &Program, flow: FlowProgram) -> Result<OpSystem, NoMemory>

@@ -9,14 +9,14 @@ use Rattle.page_model.specs.Broken.{Broken}
 use Rattle.page_model.specs.PageTokens.{sort_token}
 use Rattle.page_model.specs.TokenTree.{Trees, no_trees, single, tree, TokenTree, prolog_then, trees_then}
 use Rattle.page_model.specs.Valid.{Sort, blank, text, remark}
-use Rattle.page_laws.specs.Laws.{ValidByTokens}
+use Rattle.page_model.specs.Laws.{ValidByTokens}
 use Rattle.page_reads.specs.Laws.{IsLawfulTable, PageTokensRead}
 use Rattle.page_step_laws.specs.Laws.{read_tokens}
 use Rattle.tag_sums.specs.Nesting.{Nest, torn, nest, join, nest_of, is_balanced}
-use Rattle.dyck_balance.specs.Laws.{WholeIsNested}
-use Rattle.summary_fixpoint.specs.Pairs.{tokens_in}
-use Rattle.page_goals.specs.declared.goal.Goal as goals
-use Rattle.page_goals.specs.Goals.{IsGood}
+use Rattle.tag_sums.specs.NestingLaws.{WholeIsNested}
+use Rattle.summary_decision.specs.Pairs.{tokens_in}
+use Rattle.page_decision.specs.declared.goal.Goal as goals
+use Rattle.page_decision.specs.Goals.{IsGood}
 use Rattle.page_decision.specs.Machines.{IsBrokenMachine, is_no_tag, PutsNoTags}
 use Rattle.byte_readers.specs.Mirrors.{Mirrors, state_behind}
 use Rattle.byte_readers.proofs.Same.{same_tokens}
@@ -26,12 +26,12 @@ use Rattle.state_codes.proofs.OneToOne.{plain_coded_held}
 use Rattle.character_steps.specs.Encoded.{Held}
 use Rattle.page_steps.specs.PageSteps.{PageState}
 use Rattle.broken_pages.specs.Laws.{is_bad}
-use Rattle.broken_laws.specs.Laws.{BrokenHaveBad}
+use Rattle.broken_pages.specs.BrokenLaws.{BrokenHaveBad}
 use Rattle.loose_steps.specs.LooseReading.{LooseState as Steps, exact, in_loose_tag, in_loose_number, is_read}
 use Rattle.loose_steps.specs.NumberTurns.{LooseNumber}
 use Rattle.loose_steps.specs.TagTurns.{LooseTag}
-use Rattle.loose_narrowing.specs.Laws.{told, NarrowTellsBroken}
-use Rattle.loose_narrowing.specs.LoosePassing.{narrow_loose_reader}
+use Rattle.loose_reads.specs.NarrowingLaws.{told, NarrowTellsBroken}
+use Rattle.loose_reads.specs.LoosePassing.{narrow_loose_reader}
 use Rattle.loose_stepping.proofs.PartCodes.{plain_coded_tag, plain_coded_number}
 use Rattle.loose_reader.specs.States.{seen, coded, first_state, next_state, tokens_at, tokens_behind}
 use Rattle.loose_reader.specs.Views.{plain_loose, coded_loose}

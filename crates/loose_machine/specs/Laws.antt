@@ -5,14 +5,14 @@ use Rattle.dtd_model.specs.Table.{Table}
 use Rattle.page_model.specs.Broken.{Broken}
 use Rattle.page_reads.specs.Laws.{IsLawfulTable}
 use Rattle.tag_sums.specs.Nesting.{nest_of, is_balanced}
-use Rattle.page_goals.specs.declared.goal.Goal.{Goal}
-use Rattle.page_goals.specs.Goals.{IsGood}
+use Rattle.page_decision.specs.declared.goal.Goal.{Goal}
+use Rattle.page_decision.specs.Goals.{IsGood}
 use Rattle.page_decision.specs.Echoes.{PutsTokens}
 use Rattle.page_decision.specs.Machines.{IsBrokenMachine}
 use Rattle.byte_readers.specs.Reading.{tokens_over}
 use Rattle.echoing_machine.specs.Echoes.{EchoStep, EchoEnd}
 use Rattle.loose_steps.specs.LooseReading.{is_read}
-use Rattle.loose_narrowing.specs.Laws.{told}
+use Rattle.loose_reads.specs.NarrowingLaws.{told}
 use Rattle.loose_reader.specs.States.{first_state, tokens_at, tokens_behind}
 use Rattle.merged_loose.specs.States.{merged_loose_next}
 

@@ -7,7 +7,7 @@ ghost use Rattle.loose_machine.specs.Laws.{BrokenIsNotGood, LooseFindsBroken, Lo
 pub fn loose_tells_broken()
     ensures { LooseTellsBroken }
 {
-    loose_narrowing::laws::narrow_tells_broken();
+    loose_reads::narrowing_laws::narrow_tells_broken();
     merged_loose::laws::same_loose_tokens();
 }
 
@@ -31,8 +31,8 @@ pub fn loose_finds_broken()
 pub fn broken_is_not_good()
     ensures { BrokenIsNotGood }
 {
-    broken_laws::laws::broken_have_bad();
-    page_laws::valid_by_tokens();
+    broken_pages::broken_laws::broken_have_bad();
+    page_model::valid_by_tokens();
     page_reads::laws::page_tokens_read();
-    dyck_balance::whole_is_nested();
+    tag_sums::whole_is_nested();
 }

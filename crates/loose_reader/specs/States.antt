@@ -1,13 +1,13 @@
--- What the reader does from byte to byte: as the narrowed reader of loose_narrowing, but that it goes on where it has failed.
+-- What the reader does from byte to byte: as the narrowed reader of loose_reads, but that it goes on where it has failed.
 use Rattle.std.specs.Prelude.{ℕ, List, Option, Some, None}
 use Rattle.text_base.specs.declared.page_token.PageToken.{PageToken}
 use Rattle.dtd_model.specs.Table.{Table}
 use Rattle.page_model.specs.Places.{Place, at_beginning}
 use Rattle.character_steps.specs.Encoded.{at_state}
-use Rattle.page_fronts.specs.Fronts.{nothing}
+use Rattle.page_model.specs.Fronts.{nothing}
 use Rattle.byte_readers.specs.Mirrors.{state_behind, put_at, put_last}
 use Rattle.loose_steps.specs.LooseReading as steps
-use Rattle.loose_narrowing.specs.LoosePassing.{narrow_loose_reader}
+use Rattle.loose_reads.specs.LoosePassing.{narrow_loose_reader}
 use Rattle.loose_reader.specs.declared.state.LooseState.{LooseState}
 use Rattle.loose_reader.specs.declared.state.LooseState.TheVariants.{Failed, Reading}
 use Rattle.loose_reader.specs.Views.{plain_loose, coded_loose}

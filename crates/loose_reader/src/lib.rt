@@ -1,9 +1,8 @@
-//! The reader of loose pieces, as code (`LooseReader`, a `ByteReader`): by a document type
-//! definition, byte by byte, it puts out nothing over a page, or one bad token where the page is
-//! broken. What it does is the narrowed reader of loose_narrowing (`specs/States.antt`). Below
-//! stand text_base, xml_text, dtd_model, dtd_index, tag_rules, piece_steps, character_steps,
-//! byte_readers, page_model, page_fronts, page_endings, open_pieces, state_codes, byte_stepping,
-//! state_testing, page_stepping, loose_steps, loose_narrowing and loose_stepping.
+//! The reader of loose pieces, as code (`LooseReader`, a `ByteReader`), by a document type
+//! definition. Promise: it starts, steps and ends as `first_state`, `next_state`, `tokens_at` and
+//! `tokens_behind` of specs/States say, which follow `narrow_loose_reader` of loose_reads; so its
+//! tokens are nothing, or one bad token where a page is broken, as laws above it say.
+//! Used by: merged_loose, loose_machine, broken_search.
 #![tactic(auto)]
 
 mod passing;

@@ -7,7 +7,7 @@ ghost use Rattle.page_endings.specs.Ending as ending;
 ghost use Rattle.piece_steps.specs.Readers as readers;
 ghost use Rattle.open_pieces.specs.Views.{plain_held, plain_open};
 ghost use Rattle.byte_stepping.specs.Views.{plain_move_by};
-ghost use Rattle.loose_narrowing.specs.LoosePassing as passing;
+ghost use Rattle.loose_reads.specs.LoosePassing as passing;
 ghost use Rattle.loose_reader.specs.Views.{plain_loose};
 
 use crate::state::LooseOpen;

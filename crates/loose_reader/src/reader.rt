@@ -7,7 +7,7 @@ ghost use Rattle.piece_steps.specs.Readers.{to_state, put_out, last_tokens};
 ghost use Rattle.byte_readers.specs.Reading.{emitted};
 ghost use Rattle.open_pieces.specs.Views.{plain_place};
 ghost use Rattle.byte_stepping.specs.Views.{plain_move_by};
-ghost use Rattle.loose_narrowing.specs.LoosePassing.{narrow_loose_reader};
+ghost use Rattle.loose_reads.specs.LoosePassing.{narrow_loose_reader};
 ghost use Rattle.loose_reader.specs.Views.{plain_loose};
 ghost use Rattle.loose_reader.specs.States.{coded, state_at, first_state, next_state, tokens_at, tokens_behind};
 ghost use Rattle.loose_steps.specs.LooseReading.{is_loose_open};

@@ -3,8 +3,8 @@
 ghost use Rattle.std.specs.Prelude.{◌≡◌, IfOk, false, if◌then◌else◌};
 ghost use Rattle.dtd_model.specs.TableOf.{table_of};
 ghost use Rattle.page_model.specs.Attributes as attributes;
-ghost use Rattle.page_fronts.specs.Fronts.{in_reference, in_tag_name};
-ghost use Rattle.page_fronts.specs.OpenValues.{in_entity};
+ghost use Rattle.page_model.specs.Fronts.{in_reference, in_tag_name};
+ghost use Rattle.page_model.specs.OpenValues.{in_entity};
 ghost use Rattle.piece_steps.specs.Insides.{inside};
 ghost use Rattle.piece_steps.specs.Readers.{fail};
 ghost use Rattle.open_pieces.specs.Views.{plain_held, plain_open, plain_reference};
@@ -20,9 +20,9 @@ use byte_stepping::StateMove;
 use dtd_index::IndexedDtd;
 use loose_stepping::{LooseTurn, NumberPart, TagPart, number_turn, tag_turn};
 use open_pieces::{HeldState, OpenPiece, OpenReference, PagePlace};
+use page_rules::element;
 use page_stepping::byte_step;
 use std::alloc::Global;
-use tag_rules::element;
 use text_base::NoMemory;
 use xml_text::in_name;
 

@@ -8,3 +8,4 @@ mod Beginnings
 mod Leads
 pub mod Pieces
 pub mod Whole
+pub mod Narrowing

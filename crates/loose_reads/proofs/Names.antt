@@ -18,8 +18,8 @@ use Rattle.piece_steps.proofs.Within.{through, within}
 use Rattle.character_steps.specs.Bytes.{decoded}
 use Rattle.character_steps.specs.Encoded.{Held, at_state, lifted, by_character}
 use Rattle.character_steps.proofs.Begun.{decoded_whole}
-use Rattle.page_fronts.specs.Fronts.{nothing, in_reference, in_opener, in_tag_name, kept_place}
-use Rattle.page_fronts.specs.OpenValues.{in_entity}
+use Rattle.page_model.specs.Fronts.{nothing, in_reference, in_opener, in_tag_name, kept_place}
+use Rattle.page_model.specs.OpenValues.{in_entity}
 use Rattle.page_steps.specs.PageSteps.{OpenMove, open_move, PageState, put_place, page_step, page_reader, page_hold}
 use Rattle.loose_steps.specs.LooseReading.{exact_reader, LooseState, exact, in_loose_tag, in_loose_number, LooseMove, closed, as_loose, exact_move, named_move, loose_reader}
 use Rattle.loose_steps.specs.NumberTurns.{behind_hash}

@@ -12,15 +12,15 @@ use Rattle.page_model.specs.PageTokens.{IsLawful, piece_bytes, piece_tokens}
 use Rattle.page_model.specs.Parts.{Tag, tag_then, reference}
 use Rattle.page_model.specs.Pieces.{Piece, mark, declaration, doctype, start_tag, empty_tag, end_tag, leaf, after}
 use Rattle.page_model.specs.Places.{Place, behind}
-use Rattle.page_laws.proofs.Appended.{piece_more}
+use Rattle.page_model.proofs.Appended.{piece_more}
 use Rattle.piece_steps.specs.Insides.{Turn, on, out, stop, inside}
 use Rattle.piece_steps.specs.Readers.{Move, go, done, fail, Outcome, whole, failed, stuck, ends}
 use Rattle.piece_steps.specs.Reads.{Begins, Reads}
 use Rattle.piece_steps.proofs.Within.{through, within}
 use Rattle.character_steps.specs.Encoded.{encoded_language, Held}
 use Rattle.character_steps.proofs.Encoding.{encoded_reads}
-use Rattle.page_fronts.specs.Fronts.{Open, in_reference, in_tag_name}
-use Rattle.page_fronts.specs.OpenValues.{in_entity}
+use Rattle.page_model.specs.Fronts.{Open, in_reference, in_tag_name}
+use Rattle.page_model.specs.OpenValues.{in_entity}
 use Rattle.page_steps.specs.PageSteps.{PageState, page_reader, page_hold, page_language}
 use Rattle.page_step_laws.proofs.Held.{read_by_characters}
 use Rattle.loose_steps.specs.LooseReading.{loose_language, exact_reader, LooseState, exact, in_loose_tag, in_loose_number, LooseMove, closed, as_loose, exact_move, named_move, open_step, exact_step, loose_step, is_loose_open, loose_reader}

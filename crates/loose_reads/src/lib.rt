@@ -1,8 +1,9 @@
-//! Laws of the reader of loose pieces (loose_steps): for every lawful definition it reads exactly
-//! the loose pieces of page_model, so a page is broken exactly where the reader fails or ends
-//! inside a piece. No code stands here. Below stand text_base, xml_text, dtd_model, piece_steps,
-//! character_steps, page_model, page_fronts, page_laws, page_steps, page_step_laws, page_reads and
-//! loose_steps.
+//! Laws of the reader of loose pieces (loose_steps), and of the one that fails as soon as none can
+//! come (`narrow_loose_reader` of specs/LoosePassing). Promise: by each lawful definition both read
+//! the loose pieces of page_model and nothing else (`LoosePiecesRead`, `NarrowLooseRead`), and the
+//! second tells exactly the broken pages (`NarrowTellsBroken` of specs/NarrowingLaws).
+//! Used by: loose_reader, merged_loose, loose_machine.
 #![tactic(auto)]
 
 pub mod laws;
+pub mod narrowing_laws;

@@ -3,5 +3,6 @@ pub mod Keys
 pub mod Names
 pub mod Table
 pub mod Loose
-pub use Rattle.flow_code.specs.Lawful
-pub use Rattle.flow_code.specs.Points
+pub mod Versions
+pub mod RowNames
+pub mod Rows

@@ -5,7 +5,7 @@ use Rattle.std.specs.Prelude.{◌≡◌, ⊤, ℕ, ℤ, suc, true, false, if◌t
 use Rattle.std.specs.Fmt.{signed_decimal}
 use Rattle.plain_values.specs.Plain.{Plain, PlainKey}
 use Rattle.plain_values.specs.Text.{text_of}
-use Rattle.flow_code.specs.builtin.Builtin.{Builtin}
+use Rattle.builtin_meaning.specs.declared.builtin.Builtin.{Builtin}
 use Rattle.op_system.specs.declared.op.Op.{Op}
 use Rattle.op_system.specs.declared.op.Op.TheVariants as op
 use Rattle.php_syntax.specs.declared.tree.SuperName.{SuperName}

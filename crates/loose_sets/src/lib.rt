@@ -1,8 +1,11 @@
-//! The pages that a program of points may print when its branches are free, each use of a variable
-//! is taken apart from its other uses, and an operation in a cycle gives any text over its bytes:
-//! its loose pages, as definitions. Below stand flow_code, which has the points, and least_sets,
-//! which says what the least sets of a table are.
+//! The loose pages of a program of points: what it may print when branches are free, each use of a
+//! variable is taken apart, and an operation in a cycle gives any text over its bytes. No code.
+//! States `Loose` (specs/Loose) over the rows of specs/Table, and the table by versions of slots
+//! (specs/Rows); law `versions_are_exact`, and `same_sets` of proofs/OfVersions.
+//! Used by 7 crates, loose_soundness, ssa_form, set_listing, point_listing and others.
 #![tactic(auto)]
+
+pub mod laws;
 
 /// How many keys are told apart at most.
 pub const TOLD_KEYS: usize = 64;

@@ -18,9 +18,9 @@ use Rattle.loose_sets.specs.Reaching.{at_point}
 use Rattle.loose_sets.specs.Keys.{told_keys}
 use Rattle.loose_sets.specs.Names.{text_half, array_half, own, member, others, keys_of, use_of, all_of}
 use Rattle.loose_sets.specs.Table.{SourceRow, SetsTo}
-use Rattle.value_laws.specs.Parts.{IsItem}
-use Rattle.value_laws.proofs.Arrays.{next_key, item_value_is}
-use Rattle.value_laws.proofs.Texts.{text_value, number_value}
+use Rattle.function_laws.specs.Parts.{IsItem}
+use Rattle.function_laws.proofs.Arrays.{next_key, item_value_is}
+use Rattle.function_laws.proofs.Texts.{text_value, number_value}
 use Rattle.loose_soundness.proofs.Covers.{KeysInAll, MembersIn, place, own_wider, inside_wider, keys_wider, covers_own, covers_keys, members_put, but_for, keys_put}
 use Rattle.loose_soundness.proofs.Lying.{HasIn, SaysIn, Def, DefYes, Use, UseYes, Lies, UseLies, by_place_told, all_inside, of_source}
 use Rattle.loose_soundness.proofs.Simple.{yes_in, from_in, from_yes}

@@ -42,7 +42,7 @@ use Rattle.loose_sets.specs.Reaching.{at_point}
 use Rattle.loose_sets.specs.Keys.{told_keys}
 use Rattle.loose_sets.specs.Names.{text_half, array_half, own, member, others, keys_of, Name, set_of, use_of, input_of, output_of}
 use Rattle.loose_sets.specs.Table.{Row, SourceRow, SetsTo, Reads}
-use Rattle.value_laws.proofs.Texts.{within, within_value}
+use Rattle.function_laws.proofs.Texts.{within, within_value}
 use Rattle.loose_soundness.proofs.Covers.{MembersIn, KeysInAll, place}
 use Rattle.loose_soundness.proofs.Decimals.{integer_is}
 use Rattle.loose_soundness.proofs.Lying.{HasIn, Def, DefYes, Use, Lies, UseLies, same_in, by_place, of_source}

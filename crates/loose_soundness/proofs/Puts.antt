@@ -22,8 +22,8 @@ use Rattle.loose_sets.specs.Reaching.{at_point}
 use Rattle.loose_sets.specs.Keys.{told_keys}
 use Rattle.loose_sets.specs.Names.{text_half, array_half, own, member, others, keys_of, use_of, all_of}
 use Rattle.loose_sets.specs.Table.{SourceRow, SetsTo}
-use Rattle.value_laws.specs.Parts.{IsMaybeValue}
-use Rattle.value_laws.proofs.Arrays.{next_key, path_steps, write_value, member_has}
+use Rattle.function_laws.specs.Parts.{IsMaybeValue}
+use Rattle.function_laws.proofs.Arrays.{next_key, path_steps, write_value, member_has}
 use Rattle.loose_soundness.proofs.Covers.{Texts, OwnIn, InsideIn, AllIn, KeysIn, KeysInAll, MembersIn, Covers, place, own_wider, inside_wider, keys_wider, all_keys_wider, covers_own, covers_keys, members_put, but_for, keys_put, all_put, member_inside, member_inside_all, member_keys}
 use Rattle.loose_soundness.proofs.Lying.{HasIn, SaysIn, Def, DefYes, Use, UseYes, Lies, UseLies, by_place, by_place_told, all_inside, of_source}
 use Rattle.loose_soundness.proofs.Simple.{yes_in, from_in, from_yes}

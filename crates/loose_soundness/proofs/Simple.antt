@@ -22,8 +22,8 @@ use Rattle.loose_sets.specs.Reaching.{at_point}
 use Rattle.loose_sets.specs.Keys.{literal_key, told_keys, is_among}
 use Rattle.loose_sets.specs.Names.{Half, text_half, array_half, Aspect, own, member, others, keys_of, Name, set_of, use_of, all_of}
 use Rattle.loose_sets.specs.Table.{Row, SourceRow, SetsTo, member_at, deeper, request_member}
-use Rattle.value_laws.proofs.Arrays.{subscript_value}
-use Rattle.value_laws.proofs.Texts.{null_value}
+use Rattle.function_laws.proofs.Arrays.{subscript_value}
+use Rattle.function_laws.proofs.Texts.{null_value}
 use Rattle.loose_soundness.proofs.Decimals.{integer_text}
 use Rattle.loose_soundness.proofs.Covers.{OwnIn, InsideIn, AllIn, KeysIn, KeysInAll, place, covers_wider, covers_deep, keys_wider, all_members, member_own, member_inside, member_keys}
 use Rattle.loose_soundness.proofs.Lying.{HasIn, SaysIn, Def, DefYes, Use, UseYes, Lies, UseLies, same_in, same_yes, by_place, of_source}

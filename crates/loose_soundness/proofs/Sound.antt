@@ -10,8 +10,8 @@ use Rattle.plain_values.specs.Walks.{value_of_key, walked}
 use Rattle.plain_values.specs.Lawful.{IsValue}
 use Rattle.script_meaning.specs.Requests.{PlainRequest, Admitted}
 use Rattle.flow_code.specs.Points.{PlainKeyRef, int_ref, text_ref, read_ref, PlainSource, literal_source, copy_source, super_source, member_source, array_source, put_source, concat_source, repeat_source, implode_source, explode_source, apply_source, number_source, truth_source, PlainPoint, set_point, call_point, print_point, echo_point, branch_point, jump_point, begin_point, next_point, key_point, value_point, return_point, quit_point, PlainFlowFunction, PlainFlow, point_at, function_at}
-use Rattle.flow_code.specs.Lawful.{key_slots, maybe_key_slots, item_slots, source_reads, reads, sets, nexts, IsOwnSlot, IsOwnPoint, SourceFits, IsFlow, IsItemKey}
-use Rattle.flow_code.specs.Runs.{Slots, Frame, set_slot, set_walk, source_value, arguments_in, fresh, FlowEnd, returned, exited, RunsFrom, FlatRun}
+use Rattle.flow_code.specs.Lawful.{key_slots, maybe_key_slots, item_slots, source_reads, reads, sets, nexts, IsOwnSlot, IsOwnPoint, SourceFits, IsFlow, IsItemKey, IsSplittingOf}
+use Rattle.flow_code.specs.Runs.{Slots, Frame, set_slot, set_walk, source_value, arguments_in, fresh, FlowEnd, returned, exited, RunsFrom, FlatRun, given}
 use Rattle.flow_code.specs.Runs as runs
 use Rattle.least_sets.specs.Sets.{In}
 use Rattle.loose_sets.specs.Reaching.{at_point, at_entry, Reaches}
@@ -19,15 +19,13 @@ use Rattle.loose_sets.specs.Keys.{told_keys}
 use Rattle.loose_sets.specs.Names.{text_half, own, Leaving, by_return, by_exit, set_of, use_of, result_of, shown_at, out_of}
 use Rattle.loose_sets.specs.Table.{Row, SetsTo, IsArgument, PrintsNothing}
 use Rattle.loose_sets.specs.Loose.{Loose}
-use Rattle.value_laws.proofs.Functions.{exploded_value}
+use Rattle.function_laws.proofs.Functions.{exploded_value}
 use Rattle.builtin_meaning.specs.declared.builtin.Builtin.{Builtin}
 use Rattle.builtin_meaning.specs.declared.builtin.Builtin.TheVariants as builtin
 use Rattle.builtin_meaning.specs.Values.{builtin_value}
 use Rattle.op_system.specs.declared.op.Op.{Op}
-use Rattle.flow_code.specs.Lawful.{IsSplittingOf}
 use Rattle.flow_code.specs.Lawful as lawful
-use Rattle.flow_code.specs.Runs.{given}
-use Rattle.value_laws.proofs.Texts.{null_value}
+use Rattle.function_laws.proofs.Texts.{null_value}
 use Rattle.loose_soundness.proofs.Covers.{Covers, covers_wider}
 use Rattle.loose_soundness.proofs.Lying.{HasIn, SaysIn, Lies, UseLies, same_in, same_yes}
 use Rattle.loose_soundness.proofs.Simple.{literal_lies, copy_lies, super_lies, member_lies}

@@ -16,7 +16,7 @@ use Rattle.loose_sets.specs.Names.{text_half, array_half, Aspect, own, member, o
 use Rattle.loose_sets.specs.Table.{Row, deeper}
 use Rattle.loose_soundness.proofs.Covers.{OwnIn, InsideIn, KeysIn, KeysInAll, MembersIn, Covers, place, own_wider, keys_wider, covers_wider, covers_deep, inside_wider}
 use Rattle.loose_soundness.proofs.Lying.{HasIn, SaysIn, Def, DefYes, Use, UseYes, Lies, UseLies, use_lies, same_in, same_yes, by_place}
-use Rattle.value_laws.proofs.Arrays.{key_value}
+use Rattle.function_laws.proofs.Arrays.{key_value}
 
 -- pairs that are left of a walk
 pub record RestLies (flow : PlainFlow) (d : Definition) (ps : Pairs) : Type 0 where

@@ -1,7 +1,7 @@
 -- Texts that are joined, numbers, and truth values.
 use Rattle.std.proofs.Common.{◌≡◌, ℕ, zero, suc, ◌+◌, ℤ, pos, negsuc, Bool, true, false, not, List, [], ◌∷◌, ◌++◌, length, Result, Ok, Err, refl, sym, ap, subst, ◌∙◌, arith, append_assoc}
 use Rattle.std.proofs.lemmas.List.{append-nil}
-use Rattle.std.specs.Prelude.{All, map, flat_map, codes, slice_get}
+use Rattle.std.specs.Prelude.{All, map, flat_map, codes, slice_get, int_div, int_rem, neg_ℤ, ◌+ℤ◌, ◌-ℤ◌, ◌*ℤ◌}
 use Rattle.std.specs.List.{list_all}
 use Rattle.std.specs.Fmt.{signed_decimal}
 use Rattle.std.proofs.lemmas.List.Elements.{All-head, All-tail, All-nil, All-cons}
@@ -12,7 +12,6 @@ use Rattle.plain_values.specs.Members.{within_length}
 use Rattle.plain_values.specs.Outcome.{go_on}
 use Rattle.plain_values.specs.Text.{text_of, truth}
 use Rattle.plain_values.specs.Walks.{is_null, is_array, is_text, count_of}
-use Rattle.std.specs.Prelude.{int_div, int_rem, neg_ℤ, ◌+ℤ◌, ◌-ℤ◌, ◌*ℤ◌}
 use Rattle.php_syntax.specs.declared.tree.ArithSign.{ArithSign}
 use Rattle.php_syntax.specs.declared.tree.ArithSign.TheVariants as sign
 use Rattle.plain_values.specs.Arithmetic.{number_of, in_64_bits, integer, of_numbers, unless_zero, negation_of}
@@ -36,9 +35,9 @@ use Rattle.loose_sets.specs.Reaching.{at_point}
 use Rattle.loose_sets.specs.Keys.{told_keys}
 use Rattle.loose_sets.specs.Names.{text_half, array_half, own, set_of, use_of, all_of, shown_at, joined_from, piece_of, further_piece_of, further_pieces_of}
 use Rattle.loose_sets.specs.Table.{Row, SourceRow, SetsTo}
-use Rattle.value_laws.proofs.Texts.{text_value, flag_value, text_short, within, within_value}
-use Rattle.value_laws.proofs.Functions.{function_value}
-use Rattle.value_laws.proofs.Numbers.{sum_value, difference_value, product_value, remainder_value, negation_value, increment_value, decrement_value}
+use Rattle.function_laws.proofs.Texts.{text_value, flag_value, text_short, within, within_value}
+use Rattle.function_laws.proofs.Functions.{function_value}
+use Rattle.function_laws.proofs.Numbers.{sum_value, difference_value, product_value, remainder_value, negation_value, increment_value, decrement_value}
 use Rattle.loose_soundness.proofs.Covers.{OwnIn, AllIn, Covers}
 use Rattle.loose_soundness.proofs.Decimals.{integer_is}
 use Rattle.loose_soundness.proofs.Lying.{HasIn, SaysIn, Def, DefYes, Use, Lies, UseLies, same_in, all_lies, of_source}

@@ -1,6 +1,9 @@
-//! Whatever a run of points prints that ends without a fault is a loose page of the program: a law
-//! on a function with an empty body. Below stand flow_code and loose_sets, whose definitions it
-//! ties, and the laws on values and on PHP's functions.
+//! What an ended run prints, for every admitted request, is a loose page: laws alone.
+//! States `ended_runs_print_loose_pages` twice: of runs of points (`IsFlow` and `FlatRun` of
+//! flow_code, `Loose` of loose_sets), and of lawful programs whose text literals are texts of a
+//! run, within any number of units (`EndedRunsPrintLoosePages` of specs/Laws).
+//! Used by: script_decision.
 #![tactic(auto)]
 
 pub mod laws;
+pub mod run_laws;

@@ -1,6 +1,7 @@
-//! One byte more in a tag or in a number of a loose piece, in memory: each call is the function of
-//! loose_steps that it is named after. Below stand text_base, xml_text, piece_steps,
-//! page_model and loose_steps.
+//! One byte more in a tag of a declared element, behind its name, and in a reference by number, in
+//! memory, for loose pieces. Promise: `tag_turn` and `number_turn` are, through `plain_tag`,
+//! `plain_number` and `plain_turn` of specs/Views, the functions of these names in loose_steps.
+//! Used by: loose_reader, merged_loose, loose_machine.
 #![tactic(auto)]
 
 mod numbers;

@@ -6,7 +6,7 @@ use Rattle.dtd_model.specs.Mini.{mini_table}
 use Rattle.page_model.specs.Places.{at_beginning, behind}
 use Rattle.piece_steps.specs.Readers.{state_after}
 use Rattle.character_steps.specs.Bytes.{decoded, is_begun}
-use Rattle.page_fronts.specs.Fronts.{in_tag_name}
+use Rattle.page_model.specs.Fronts.{in_tag_name}
 use Rattle.page_steps.specs.PageSteps.{page_step}
 use Rattle.loose_steps.specs.LooseReading.{LooseState, exact, in_loose_tag, in_loose_number, loose_reader, is_read}
 use Rattle.loose_steps.specs.NumberTurns.{in_decimal_digits, in_hexadecimal_digits}

@@ -12,8 +12,8 @@ use Rattle.piece_steps.specs.Insides.{inside}
 use Rattle.piece_steps.specs.Languages.{Language}
 use Rattle.piece_steps.specs.Readers.{Move, go, done, fail, Reader, state_after}
 use Rattle.character_steps.specs.Encoded.{Held, encoded}
-use Rattle.page_fronts.specs.Fronts.{Open, in_reference, in_tag_name}
-use Rattle.page_fronts.specs.OpenValues.{in_entity}
+use Rattle.page_model.specs.Fronts.{Open, in_reference, in_tag_name}
+use Rattle.page_model.specs.OpenValues.{in_entity}
 use Rattle.page_steps.specs.PageSteps.{PageState, page_reader, page_hold}
 use Rattle.loose_steps.specs.NumberTurns.{LooseNumber, behind_hash, number_turn}
 use Rattle.loose_steps.specs.TagTurns.{LooseTag, between_attributes, tag_turn}

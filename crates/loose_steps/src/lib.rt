@@ -1,6 +1,6 @@
-//! Reading loose pieces byte by byte, as a pure function: what one byte does where less is asked of
-//! tags and of numbers (`loose_reader`, specs/LooseReading.antt). All other pieces are read by the
-//! exact reader of page_steps. Proof vocabulary: laws above say that it reads exactly the loose
-//! pieces of page_model. No code stands here. Below stand text_base, xml_text, dtd_model,
-//! piece_steps, character_steps, page_model, page_fronts and page_steps.
+//! Reading loose pieces byte by byte, as a pure function (`loose_reader` of specs/LooseReading):
+//! those by which page_model says which pages are `Broken`, where less is asked of tags and of
+//! numbers. Definitions alone: that the reader reads exactly the loose pieces of page_model is said
+//! in loose_reads. No code stands here.
+//! Used by: loose_reads, loose_stepping, loose_reader, merged_loose, loose_machine.
 #![tactic(auto)]

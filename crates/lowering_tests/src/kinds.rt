@@ -3,9 +3,9 @@
 use crate::points::put_functions;
 use flow_code::FlowProgram;
 use io_edge::MemFiles;
-use php_program::Program;
 use program_loader::load;
 use program_lowering::lower;
+use program_rules::Program;
 use std::alloc::{AllocError, Global};
 use std::test::Fail;
 use text_base::{Bytes, NoMemory};

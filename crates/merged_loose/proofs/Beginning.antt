@@ -13,7 +13,7 @@ use Rattle.piece_steps.specs.Readers.{Move, go, done, fail, kept, to_state, put_
 use Rattle.character_steps.specs.Bytes.{decoded, is_begun}
 use Rattle.character_steps.specs.Encoded.{Held, lifted, by_character, is_some_byte}
 use Rattle.character_steps.proofs.Begun.{decoded_is}
-use Rattle.page_fronts.specs.Fronts.{nothing}
+use Rattle.page_model.specs.Fronts.{nothing}
 use Rattle.page_steps.specs.PageSteps.{OpenMove, PageState, put_place, page_reader, page_step, page_hold, first_move}
 use Rattle.open_pieces.specs.declared.open.OpenPiece.{OpenPiece}
 use Rattle.open_pieces.specs.declared.open.OpenPiece.TheVariants as piece
@@ -24,7 +24,7 @@ use Rattle.merged_reader.specs.Alike.{first_alike, second_alike, alike, represen
 use Rattle.merged_reader.proofs.Whole.{is_whole, none_decoded, is_several}
 use Rattle.merged_reader.proofs.Behind.{same_behind}
 use Rattle.loose_steps.specs.LooseReading.{LooseMove, exact, as_loose}
-use Rattle.loose_narrowing.specs.LoosePassing.{loose_passes, narrow_loose_reader}
+use Rattle.loose_reads.specs.LoosePassing.{loose_passes, narrow_loose_reader}
 use Rattle.loose_reader.specs.States.{coded, tokens_at, tokens_behind}
 use Rattle.loose_reader.specs.declared.state.LooseOpen.TheVariants.{Exact}
 use Rattle.loose_reader.specs.declared.state.LooseState.{LooseState}

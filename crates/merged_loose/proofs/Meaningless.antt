@@ -16,15 +16,15 @@ use Rattle.piece_steps.specs.Readers.{Move, go, done, fail, kept}
 use Rattle.character_steps.specs.Bytes.{decoded, is_begun}
 use Rattle.character_steps.specs.Encoded.{Held, lifted, by_character}
 use Rattle.character_steps.proofs.Begun.{decoded_is}
-use Rattle.page_fronts.specs.Fronts.{Open, in_reference, in_tag_name, in_end_tag}
-use Rattle.page_fronts.specs.OpenValues.{OpenReference, in_entity, at_number}
+use Rattle.page_model.specs.Fronts.{Open, in_reference, in_tag_name, in_end_tag}
+use Rattle.page_model.specs.OpenValues.{OpenReference, in_entity, at_number}
 use Rattle.page_steps.specs.ReferenceSteps.{entity_step, reference_step, reference_good}
 use Rattle.page_steps.specs.PageSteps.{OpenMove, PageState, put_place, page_step, page_reader, page_hold, open_move, closed_move, end_name_move}
 use Rattle.page_endings.specs.Ending.{open_can_end}
 use Rattle.loose_steps.specs.LooseReading.{LooseMove, exact, in_loose_tag, in_loose_number, closed, as_loose, exact_move, named_move}
 use Rattle.loose_steps.specs.NumberTurns.{LooseNumber, behind_hash, in_decimal_digits, in_hexadecimal_digits, number_turn}
 use Rattle.loose_steps.specs.TagTurns.{LooseTag, between_attributes, in_attribute, behind_attribute, behind_equals_sign, in_quotes, behind_slash, tag_turn}
-use Rattle.loose_narrowing.specs.LoosePassing.{exact_passes, loose_passes, narrow_loose_reader}
+use Rattle.loose_reads.specs.LoosePassing.{exact_passes, loose_passes, narrow_loose_reader}
 use Rattle.echoing_machine.proofs.RunLemmas.{IsRun, AreRuns}
 use Rattle.merged_loose.specs.Meaning.{means_nothing, is_in_name}
 use Rattle.merged_loose.specs.declared.tables.TheConstants.{NOTHING}

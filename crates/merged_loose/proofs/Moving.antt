@@ -7,8 +7,8 @@ use Rattle.dtd_model.specs.Table.{Table}
 use Rattle.page_model.specs.Places.{Place}
 use Rattle.piece_steps.specs.Readers.{Move, go, done, fail, kept, to_state, put_out}
 use Rattle.character_steps.specs.Encoded.{Held}
-use Rattle.page_fronts.specs.Fronts.{Open, in_reference, in_tag_name}
-use Rattle.page_fronts.specs.OpenValues.{in_entity}
+use Rattle.page_model.specs.Fronts.{Open, in_reference, in_tag_name}
+use Rattle.page_model.specs.OpenValues.{in_entity}
 use Rattle.page_steps.specs.PageSteps.{PageState}
 use Rattle.page_endings.specs.Ending.{can_end}
 use Rattle.page_narrowing.specs.Passing.{narrow_reader}
@@ -18,7 +18,7 @@ use Rattle.page_reader.specs.States as pages
 use Rattle.page_reader.specs.declared.state.ReaderState.{ReaderState}
 use Rattle.page_reader.specs.declared.state.ReaderState.TheVariants as page
 use Rattle.loose_steps.specs.LooseReading.{exact, as_loose, exact_reader, exact_move, open_step, exact_step, LooseMove}
-use Rattle.loose_narrowing.specs.LoosePassing.{exact_passes, loose_passes, narrow_loose_reader}
+use Rattle.loose_reads.specs.LoosePassing.{exact_passes, loose_passes, narrow_loose_reader}
 use Rattle.loose_reader.specs.States as loose
 use Rattle.loose_reader.specs.declared.state.LooseOpen.TheVariants.{Exact}
 use Rattle.loose_reader.specs.declared.state.LooseState.TheVariants.{Reading}

@@ -15,9 +15,9 @@ use Rattle.piece_steps.specs.Insides.{Turn, on, out, stop, inside, closing}
 use Rattle.piece_steps.specs.Readers.{Move, go, done, fail}
 use Rattle.character_steps.specs.Bytes.{decoded, is_begun}
 use Rattle.character_steps.specs.Encoded.{Held, lifted, by_character}
-use Rattle.page_fronts.specs.Fronts.{Open, nothing, in_reference, in_opener, in_tag_name, in_tag, at_empty_end, in_end_tag, in_comment, in_section, in_target, behind_target, in_instruction, in_declaration, at_declaration_end, in_doctype}
-use Rattle.page_fronts.specs.OpenTags.{OpenAttribute}
-use Rattle.page_fronts.specs.OpenValues.{OpenReference, in_entity}
+use Rattle.page_model.specs.Fronts.{Open, nothing, in_reference, in_opener, in_tag_name, in_tag, at_empty_end, in_end_tag, in_comment, in_section, in_target, behind_target, in_instruction, in_declaration, at_declaration_end, in_doctype}
+use Rattle.page_model.specs.OpenTags.{OpenAttribute}
+use Rattle.page_model.specs.OpenValues.{OpenReference, in_entity}
 use Rattle.page_steps.specs.AttributeSteps.{AttributeMove, stays, ends_with, leaves, stops, attribute_move}
 use Rattle.page_steps.specs.DoctypeSteps.{doctype_turn}
 use Rattle.page_steps.specs.ReferenceSteps.{reference_step, reference_good}

@@ -16,7 +16,7 @@ use Rattle.merged_reader.specs.States.{merged_next}
 use Rattle.loose_steps.specs.LooseReading.{LooseMove, exact, in_loose_tag, in_loose_number, closed}
 use Rattle.loose_steps.specs.NumberTurns.{LooseNumber}
 use Rattle.loose_steps.specs.TagTurns.{LooseTag, between_attributes, in_quotes, value_turn, tag_turn}
-use Rattle.loose_narrowing.specs.LoosePassing.{loose_passes, narrow_loose_reader}
+use Rattle.loose_reads.specs.LoosePassing.{loose_passes, narrow_loose_reader}
 use Rattle.loose_stepping.specs.Views.{plain_tag, plain_number}
 use Rattle.loose_stepping.specs.declared.numbers.NumberPart.{NumberPart}
 use Rattle.loose_stepping.specs.declared.tags.TagPart.{TagPart}

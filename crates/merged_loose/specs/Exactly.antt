@@ -1,7 +1,7 @@
 -- Where the reader of loose pieces does what the exact reader does, and no name of a tag begins or goes on.
 use Rattle.std.specs.Prelude.{Bool, true, false}
-use Rattle.page_fronts.specs.Fronts.{Open, nothing, in_reference, in_tag, in_comment, in_section, in_instruction, in_doctype}
-use Rattle.page_fronts.specs.OpenValues.{OpenReference, in_decimal, in_hexadecimal}
+use Rattle.page_model.specs.Fronts.{Open, nothing, in_reference, in_tag, in_comment, in_section, in_instruction, in_doctype}
+use Rattle.page_model.specs.OpenValues.{OpenReference, in_decimal, in_hexadecimal}
 
 -- behind `&#`, where the exact reader has a number
 abbrev pub is_number : OpenReference → Bool

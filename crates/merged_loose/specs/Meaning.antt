@@ -3,8 +3,8 @@ use Rattle.std.specs.Prelude.{ℕ, Bool, true, false, not, ◌==◌, ◌||◌}
 use Rattle.xml_text.specs.Characters.{is_blank}
 use Rattle.xml_text.specs.Names.{in_name}
 use Rattle.page_model.specs.Parts.{is_quote}
-use Rattle.page_fronts.specs.Fronts.{Open, in_reference, in_tag_name, in_end_tag}
-use Rattle.page_fronts.specs.OpenValues.{OpenReference, in_entity}
+use Rattle.page_model.specs.Fronts.{Open, in_reference, in_tag_name, in_end_tag}
+use Rattle.page_model.specs.OpenValues.{OpenReference, in_entity}
 
 -- no byte of a name, no white space, no quote, and none of `#`, `/`, `;`, `=` and `>`
 abbrev pub means_nothing : ℕ → Bool

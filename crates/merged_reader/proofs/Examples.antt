@@ -2,10 +2,10 @@
 use Rattle.std.proofs.Common.{◌≡◌, Bool, true, false, [], ◌∷◌, None, codes, refl}
 use Rattle.character_steps.specs.Bytes.{is_begun}
 use Rattle.page_model.specs.Places.{Place, at_beginning, behind_mark, behind}
-use Rattle.page_fronts.specs.Fronts.{Open, nothing, in_tag_name, in_tag, in_comment, in_section, in_instruction, in_declaration, in_doctype}
-use Rattle.page_fronts.specs.OpenDoctypes.{in_public, in_system}
-use Rattle.page_fronts.specs.OpenTags.{in_value}
-use Rattle.page_fronts.specs.OpenValues.{OpenValue, in_text, in_fixed}
+use Rattle.page_model.specs.Fronts.{Open, nothing, in_tag_name, in_tag, in_comment, in_section, in_instruction, in_declaration, in_doctype}
+use Rattle.page_model.specs.OpenDoctypes.{in_public, in_system}
+use Rattle.page_model.specs.OpenTags.{in_value}
+use Rattle.page_model.specs.OpenValues.{OpenValue, in_text, in_fixed}
 use Rattle.merged_reader.specs.Alike.{representative}
 use Rattle.merged_reader.specs.Merging.{takes_all_alike, merged_begun}
 

@@ -5,7 +5,7 @@ use Rattle.dtd_model.specs.Table.{Table}
 use Rattle.piece_steps.specs.Readers.{to_state, put_out, last_tokens}
 use Rattle.character_steps.specs.Encoded.{Held}
 use Rattle.page_steps.specs.PageSteps.{PageState}
-use Rattle.page_reader.specs.Passing.{narrow_reader}
+use Rattle.page_narrowing.specs.Passing.{narrow_reader}
 use Rattle.merged_reader.specs.Alike.{representative}
 use Rattle.merged_reader.specs.Merging.{merged_held}
 use Rattle.merged_reader.specs.Numbers.{merged_numbers}

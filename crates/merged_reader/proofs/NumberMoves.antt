@@ -15,16 +15,16 @@ use Rattle.piece_steps.specs.Insides.{Turn, out, stop, inside, stepped}
 use Rattle.piece_steps.specs.Readers.{Move, go, done, fail, kept, to_state, put_out, last_tokens}
 use Rattle.character_steps.specs.Bytes.{decoded, is_begun}
 use Rattle.character_steps.specs.Encoded.{Held, lifted, by_character, is_some_byte}
-use Rattle.page_fronts.specs.Fronts.{Open, nothing, in_reference, in_opener, in_tag_name, in_tag, at_empty_end, in_end_tag, in_comment, in_section, in_target, behind_target, in_instruction, in_declaration, at_declaration_end, in_doctype, find_declared, kept_place}
-use Rattle.page_fronts.specs.OpenTags.{OpenAttribute, between, in_attribute_name, behind_name, behind_equals, in_value}
-use Rattle.page_fronts.specs.OpenValues.{OpenReference, in_entity, at_number, in_decimal, in_hexadecimal, capped, OpenValue, in_text, in_reference as in_value_reference, in_fixed, in_choice, in_words}
+use Rattle.page_model.specs.Fronts.{Open, nothing, in_reference, in_opener, in_tag_name, in_tag, at_empty_end, in_end_tag, in_comment, in_section, in_target, behind_target, in_instruction, in_declaration, at_declaration_end, in_doctype, find_declared, kept_place}
+use Rattle.page_model.specs.OpenTags.{OpenAttribute, between, in_attribute_name, behind_name, behind_equals, in_value}
+use Rattle.page_model.specs.OpenValues.{OpenReference, in_entity, at_number, in_decimal, in_hexadecimal, capped, OpenValue, in_text, in_reference as in_value_reference, in_fixed, in_choice, in_words}
 use Rattle.page_steps.specs.AttributeSteps.{ends_with, stops, valued}
 use Rattle.page_steps.specs.PageSteps.{OpenMove, PageState, page_step, page_reader, page_hold, put_place, open_move, reference_move, tag_by, tag_move, is_inside}
 use Rattle.page_steps.specs.ReferenceSteps.{reference_step, reference_good, decimal_step, hexadecimal_step}
 use Rattle.page_steps.specs.TagSteps.{step_of, good_of, names_with}
 use Rattle.page_steps.specs.ValueSteps.{in_reference_of, semicolon_step, may_stand}
 use Rattle.page_endings.specs.Ending.{reference_can_end, value_can_end, declared_so, may_be_all, tag_can_end, open_can_end, value_takes, attribute_takes, takes_several, value_goes_on, tag_goes_on, goes_on_with}
-use Rattle.page_reader.specs.Passing.{passes, narrow_reader}
+use Rattle.page_narrowing.specs.Passing.{passes, narrow_reader}
 use Rattle.merged_reader.specs.Merging.{value_alike, attribute_alike, open_alike}
 use Rattle.merged_reader.specs.Numbers.{merged_reference, merged_value, merged_attribute, merged_open, merged_numbers}
 

@@ -6,13 +6,13 @@ use Rattle.piece_steps.specs.Readers.{to_state, put_out, last_tokens}
 use Rattle.character_steps.specs.Encoded.{Held}
 use Rattle.page_model.specs.PageTokens.{PageTokens}
 use Rattle.page_steps.specs.PageSteps.{PageState}
-use Rattle.page_reader.specs.Passing.{narrow_reader}
+use Rattle.page_narrowing.specs.Passing.{narrow_reader}
 use Rattle.byte_readers.specs.Reading.{tokens_over}
 use Rattle.open_pieces.specs.Views.{plain_place, plain_state, plain_held}
 use Rattle.open_pieces.specs.declared.open.OpenPiece.{OpenPiece}
 use Rattle.open_pieces.specs.declared.state.HeldState.{HeldState}
 use Rattle.open_pieces.specs.declared.state.PagePlace.{PagePlace}
-use Rattle.page_fronts.specs.Fronts.{Open}
+use Rattle.page_model.specs.Fronts.{Open}
 use Rattle.page_model.specs.Places.{Place}
 use Rattle.state_codes.specs.Codes.{coded_open, coded_place}
 use Rattle.state_codes.proofs.OneToOne.{plain_coded_held}

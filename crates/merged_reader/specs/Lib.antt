@@ -4,4 +4,3 @@ pub mod NumbersInMemory
 pub mod Merging
 pub mod States
 pub mod Laws
-pub use Rattle.page_reader.specs.States as ReaderStates

@@ -3,10 +3,10 @@ use Rattle.std.specs.Prelude.{ℕ, List, Bool, true, false, ◌&&◌, if◌then�
 use Rattle.character_steps.specs.Encoded.{Held}
 use Rattle.page_model.specs.Parts.{is_quote}
 use Rattle.page_model.specs.Places.{Place, at_beginning, behind_mark, behind}
-use Rattle.page_fronts.specs.Fronts.{Open, nothing, in_tag, in_comment, in_section, in_instruction, in_doctype}
-use Rattle.page_fronts.specs.OpenDoctypes.{OpenDoctype, in_system}
-use Rattle.page_fronts.specs.OpenTags.{OpenAttribute, in_value}
-use Rattle.page_fronts.specs.OpenValues.{OpenValue, in_text}
+use Rattle.page_model.specs.Fronts.{Open, nothing, in_tag, in_comment, in_section, in_instruction, in_doctype}
+use Rattle.page_model.specs.OpenDoctypes.{OpenDoctype, in_system}
+use Rattle.page_model.specs.OpenTags.{OpenAttribute, in_value}
+use Rattle.page_model.specs.OpenValues.{OpenValue, in_text}
 use Rattle.page_steps.specs.PageSteps.{PageState}
 use Rattle.merged_reader.specs.Alike.{representative}
 use Rattle.merged_reader.specs.Numbers.{merged_numbers}

@@ -5,7 +5,7 @@ ghost use Rattle.open_pieces.specs.Views.{plain_attribute, plain_doctype, plain_
 ghost use Rattle.merged_reader.specs.Merging as merging;
 
 use open_pieces::{OpenAttribute, OpenDoctype, OpenPiece, OpenValue, PagePlace, PageState};
-use page_cutting::is_quote;
+use page_rules::is_quote;
 
 fn place_alike(place: PagePlace) -> bool
     ensures { result ≡ merging.place_alike (plain_place place) }

@@ -1,9 +1,8 @@
 //! The reader of pages with fewer states, as code (`MergedReader`, a `ByteReader`): as `PageReader`
-//! of page_reader, but where all characters of several bytes lead on alike, the first bytes of an
-//! open one are replaced by those that stand for them, and an open number by the least of its kind.
-//! Below stand text_base, dtd_model, dtd_index,
-//! byte_readers, character_steps, page_cutting, page_narrowing, open_pieces, state_codes,
-//! byte_stepping, number_kinds and page_reader.
+//! of page_reader, but that it keeps of an open character and of an open number only what makes a
+//! difference (`merged` of specs/States). Promise: over each page of bytes it puts out exactly the
+//! tokens of the page (`reads_pages`: `IsMergedReaderOf` of specs/Laws).
+//! Used by 8 crates, page_lexer, reader_fronts, script_decision, page_runs and others.
 #![tactic(auto)]
 
 mod alike;
@@ -15,5 +14,4 @@ mod reader;
 
 pub use first_bytes::representative;
 pub use merging::merged;
-pub use page_reader::PageReader;
 pub use reader::MergedReader;

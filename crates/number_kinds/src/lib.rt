@@ -1,7 +1,8 @@
-//! Kinds of the numbers of character references (XML 1.0, 4.1): numbers of one base that, with the
-//! same digits behind them or none, both write characters of XML or both do not, are of one kind.
-//! There are 32 kinds of decimal numbers and 16 of hexadecimal ones, all numbers over 0x10FFFF
-//! aside. Below stand xml_text and dtd_model.
+//! Kinds of the numbers of character references (XML 1.0, 4.1).
+//! Promise: two numbers of one base are of one kind exactly where the same digits behind them, or
+//! none, make both characters of XML or neither, and the kind leads on by digits (`kinds_lead_on`,
+//! over `DecimalKinds` and `HexadecimalKinds` of specs/Laws).
+//! Used by: merged_reader.
 #![tactic(auto)]
 
 mod kinds;

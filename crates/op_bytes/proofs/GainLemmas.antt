@@ -21,9 +21,9 @@ use Rattle.op_system.specs.declared.system.OpRule.{OpRule}
 use Rattle.op_system.specs.declared.system.OpSystem.{OpSystem}
 use Rattle.least_sets.specs.Bytes.{Adds}
 use Rattle.least_sets.specs.Sets.{Byte}
-use Rattle.set_systems.specs.Systems.{SystemRow}
+use Rattle.least_sets.specs.Systems.{SystemRow}
 use Rattle.op_bytes.specs.Work.{HasAt, Gains, HasRange, HasLiteral, AreFirstSets}
-use Rattle.system_bytes.proofs.ListLemmas.{one_of, none_in, only_in, first_in, placed, contained}
+use Rattle.op_bytes.proofs.ListLemmas.{one_of, none_in, only_in, first_in, placed, contained}
 
 pub gains_same : (sets : List (List Bool)) (P : ℕ → ℕ → Type 0) → ((a b : ℕ) → b < 256 → P a b → HasAt sets a b) → Gains sets P sets
 gains_same sets P h = record { long = refl; more = λ a b x. x; only = λ a b x. inl x; has = h }

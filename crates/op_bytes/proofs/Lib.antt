@@ -3,3 +3,8 @@ pub mod GrowLemmas
 pub mod UseLemmas
 pub mod WorkLemmas
 pub mod OpLemmas
+pub mod EdgeLemmas
+pub mod CycleLemmas
+pub mod ListLemmas
+pub mod BelowLemmas
+pub mod LawLemmas

@@ -17,12 +17,12 @@ use Rattle.op_system.specs.declared.system.OpRule.{OpRule}
 use Rattle.op_system.specs.declared.system.OpSystem.{OpSystem}
 use Rattle.op_system.specs.Rules.{rule_below}
 use Rattle.least_sets.specs.Bytes.{Adds}
-use Rattle.system_bytes.specs.Bytes.{HasBytes}
+use Rattle.op_bytes.specs.SystemBytes.{HasBytes}
 use Rattle.cfg_grammar.specs.Bytes.{FirstHaveBytes}
 use Rattle.op_bytes.specs.Fitting.{AreFittingRules}
 use Rattle.op_bytes.specs.declared.uses.Use.{Use}
 use Rattle.op_bytes.specs.Work.{uses_in, uses_on, uses_of}
-use Rattle.system_bytes.proofs.ListLemmas.{one_of, none_in, only_in, first_in, all_at, first_so, second_so, placed}
+use Rattle.op_bytes.proofs.ListLemmas.{one_of, none_in, only_in, first_in, all_at, first_so, second_so, placed}
 
 -- a use is of a production
 pub record IsUse (ps : List Production) (u : Use) : Type 0 where

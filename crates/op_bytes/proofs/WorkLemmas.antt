@@ -14,17 +14,17 @@ use Rattle.cfg_grammar.specs.Below.{symbols_of}
 use Rattle.op_system.specs.declared.system.OpRule.{OpRule}
 use Rattle.op_system.specs.declared.system.OpSystem.{OpSystem}
 use Rattle.least_sets.specs.Sets.{Byte}
-use Rattle.set_systems.specs.Systems.{SystemRow}
-use Rattle.op_cycles.specs.Texts.{ByteOf}
+use Rattle.least_sets.specs.Systems.{SystemRow}
+use Rattle.op_bytes.specs.Texts.{ByteOf}
 use Rattle.op_bytes.specs.declared.uses.Use.{Use}
 use Rattle.op_bytes.specs.Bytes.{AreByteSets}
-use Rattle.system_bytes.specs.Bytes.{HasBytes}
+use Rattle.op_bytes.specs.SystemBytes.{HasBytes}
 use Rattle.op_bytes.specs.Work.{HasAt, IsBehind, IsKept, Grows, GivesUse, GivesRule, IsPassed, IsFollowed, IsWork, AreFirstSets, AreNumbersBelow, uses_of}
-use Rattle.system_bytes.proofs.ListLemmas.{one_of, none_in, only_in, first_in, later_in, placed, contained, of_map, to_map}
+use Rattle.op_bytes.proofs.ListLemmas.{one_of, none_in, only_in, first_in, later_in, placed, contained, of_map, to_map}
 use Rattle.op_bytes.proofs.GrowLemmas.{grows_two}
 use Rattle.op_bytes.proofs.UseLemmas.{use_is, is_use}
-use Rattle.system_bytes.proofs.BelowLemmas.{turns_below}
-use Rattle.system_bytes.proofs.LawLemmas as laws
+use Rattle.op_bytes.proofs.BelowLemmas.{turns_below}
+use Rattle.op_bytes.proofs.LawLemmas as laws
 
 pub work_begins : (s : OpSystem) (sets : List (List Bool)) (order : List ℕ) → AreFirstSets s sets → AreNumbersBelow s.grammar.count order → IsWork s sets order 0
 work_begins s sets order f n = record {

@@ -4,7 +4,7 @@ use Rattle.text_base.specs.declared.numbers.Nt as nt
 use Rattle.text_base.specs.ByteSet.{Has}
 use Rattle.cfg_grammar.specs.declared.symbol.Symbol.TheVariants.{Nt}
 use Rattle.op_system.specs.declared.system.OpSystem.{OpSystem}
-use Rattle.op_cycles.specs.Texts.{ByteOf}
+use Rattle.op_bytes.specs.Texts.{ByteOf}
 
 -- each nonterminal has its least set of bytes
 pub record AreByteSets (s : OpSystem) (sets : List (List Bool)) : Type 0 where

@@ -16,7 +16,7 @@ use Rattle.op_system.specs.declared.op.Op.{Op}
 use Rattle.op_system.specs.declared.system.OpRule.{OpRule}
 use Rattle.op_system.specs.declared.system.OpSystem.{OpSystem}
 use Rattle.least_sets.specs.Bytes.{Adds, Turns}
-use Rattle.op_cycles.specs.Texts.{ByteOf}
+use Rattle.op_bytes.specs.Texts.{ByteOf}
 use Rattle.op_bytes.specs.declared.uses.Use.{Use}
 
 -- the set of the number has the byte

@@ -2,7 +2,7 @@
 
 ghost use Rattle.std.specs.Prelude.{◌<◌, ℕ, Contains, length};
 ghost use Rattle.least_sets.specs.Bytes.{Adds};
-ghost use Rattle.system_bytes.specs.Bytes.{HasBytes};
+ghost use Rattle.op_bytes.specs.SystemBytes.{HasBytes};
 ghost use Rattle.op_bytes.specs.Fitting.{AreFittingRules};
 
 use crate::literals::literal_of;

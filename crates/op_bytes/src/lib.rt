@@ -1,16 +1,21 @@
-//! The byte sets of a system of productions and operations: for each nonterminal the least set of
-//! bytes, where the bytes of an operation's outputs are said by those of its inputs alone
-//! (`AreByteSets` of specs/). Below stand text_base, string_functions, numbered_sets, cfg_grammar,
-//! op_system, least_sets and op_cycles.
+//! The byte sets of a system of productions and operations, and which of its operations are in a
+//! cycle: their operands depend on what they make.
+//! Promise: `byte_sets` gives each nonterminal its least set of bytes (`AreByteSets`, specs/Bytes);
+//! `circular` says of each rule whether it is in a cycle (`AreCircular` of specs/Cycles).
+//! Used by: extraction, resolving, loose_grammar, image_tests.
 #![tactic(auto)]
 
 mod beginning;
+mod cycles;
 mod fitting;
+pub mod laws;
 mod literals;
 mod passing;
 mod sets;
+mod steps;
 mod turning;
 mod uses;
 
+pub use cycles::{circular, is_circular, numbers};
 pub use fitting::fits;
 pub use sets::byte_sets;

@@ -1,7 +1,8 @@
-//! Operations on texts, and systems of productions and operations: what the analysis of a program
-//! knows of the texts that its variables may have. What an operation relates is `Rel` of specs/,
-//! over the definitions of string_functions; which bytes its outputs may have is `OutputByte`.
-//! Below stand text_base, string_functions and cfg_grammar.
+//! Operations on texts, and systems of productions and operations. What an operation relates is
+//! `Rel` of specs/Rel.
+//! Promise: `bytes_of_outputs` says which bytes outputs may have (`OutputByte` of specs/OpBytes);
+//! `OpSystem::new` answers None exactly where its type would not hold (clause `variant`).
+//! Used by 22 crates, function_laws, flow_code, least_sets, op_bytes and others.
 #![tactic(auto)]
 
 pub mod laws;

@@ -2,8 +2,8 @@
 
 ghost use Rattle.std.specs.Prelude.{◌≡◌, IfOk};
 
-use cfg_grammar::{Bytes, NoMemory};
 use std::alloc::Global;
+use text_base::{Bytes, NoMemory};
 
 /// An operation on texts, each named for the function of PHP that it stands for.
 #[derive(Debug, PartialEq, Eq, Drop)]

@@ -6,7 +6,8 @@ ghost use Rattle.cfg_grammar.specs.Tokens.{HaveNoToken};
 ghost use Rattle.op_system.specs.Rules.{RulesAreBelow, rule_below};
 
 use crate::op::Op;
-use cfg_grammar::{Grammar, Nt};
+use cfg_grammar::Grammar;
+use text_base::Nt;
 
 /// The nonterminal on the left has the outputs of the operation on the texts of the operand.
 #[derive(Debug, Drop)]

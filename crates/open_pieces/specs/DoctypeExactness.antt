@@ -1,10 +1,9 @@
 -- Equality of open document type declarations is exact.
 use Rattle.std.specs.Prelude.{◌≡◌, ℕ, Bool, true, List, refl}
-use Rattle.std.proofs.Common.{ap}
+use Rattle.std.proofs.Common.{ap, rules}
 use Rattle.std.proofs.lemmas.Map.Views.{exact_unsigned_eq}
 use Rattle.text_base.specs.Exactness.{IsExact, exact_bytes}
 use Rattle.open_pieces.specs.Lists.{exact_bool, both}
-use Rattle.std.proofs.Common.{rules}
 use Rattle.open_pieces.specs.declared.doctype.DoctypeWord.{DoctypeWord}
 use Rattle.open_pieces.specs.contracts.doctype.DoctypeWordPartialEq.TheImpl as words
 use Rattle.open_pieces.specs.declared.doctype.OpenDoctype.{OpenDoctype}

@@ -1,7 +1,6 @@
 -- Equality of states is exact.
 use Rattle.std.specs.Prelude.{◌≡◌, ℕ, true, List}
-use Rattle.std.proofs.Common.{ap}
-use Rattle.std.proofs.Common.{rules}
+use Rattle.std.proofs.Common.{ap, rules}
 use Rattle.text_base.specs.Exactness.{IsExact, exact_bytes}
 use Rattle.open_pieces.specs.Lists.{both}
 use Rattle.open_pieces.specs.declared.open.OpenPiece.{OpenPiece}

@@ -1,6 +1,8 @@
-//! What a page that is cut at any byte has open, in memory: each value of these types stands for
-//! one value of the definition in page_fronts and page_steps (`specs/Views.antt`), and two that
-//! `==` finds equal are one. Below stand text_base, page_fronts, page_steps and character_steps.
+//! What a page that is cut at any byte has open, as values in memory that can be copied, compared
+//! and hashed. Promise: each value stands for one of page_model and page_steps (`plain_open`,
+//! `plain_state` and `plain_held` of specs/Views), and two that `==` finds equal are one
+//! (`exact_piece`, `exact_state` and `exact_held` of specs/OpenExactness and specs/StateExactness).
+//! Used by 18 crates, state_codes, loose_reader, reference_stepping, value_stepping and others.
 #![tactic(auto)]
 
 mod attribute;

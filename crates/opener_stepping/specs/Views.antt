@@ -4,9 +4,9 @@ use Rattle.text_base.specs.declared.page_token.PageToken.TheVariants as token
 use Rattle.piece_steps.specs.Insides.{inside}
 use Rattle.piece_steps.specs.Readers.{done, fail}
 use Rattle.dtd_model.specs.declared.dtd.DoctypeRule.{DoctypeRule}
-use Rattle.page_fronts.specs.Fronts.{in_doctype}
-use Rattle.page_fronts.specs.OpenDoctypes.{OpenDoctype}
-use Rattle.page_fronts.specs.OpenValues.{OpenReference}
+use Rattle.page_model.specs.Fronts.{in_doctype}
+use Rattle.page_model.specs.OpenDoctypes.{OpenDoctype}
+use Rattle.page_model.specs.OpenValues.{OpenReference}
 use Rattle.page_model.specs.Places.{behind}
 use Rattle.page_steps.specs.DoctypeSteps.{begins, doctype_turn}
 use Rattle.page_steps.specs.PageSteps.{OpenMove}

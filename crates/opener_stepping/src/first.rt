@@ -12,7 +12,7 @@ ghost use Rattle.remark_stepping.specs.Views.{plain_move};
 
 use byte_readers::Emit;
 use open_pieces::{Characters, OpenPiece, OpenReference, PagePlace};
-use page_cutting::is_blank;
+use page_rules::is_blank;
 use remark_stepping::PageMove;
 use std::alloc::Global;
 use text_base::{NoMemory, PageToken};

@@ -1,7 +1,8 @@
 //! One character more where a piece of a page begins, behind `<` and `<!`, in a reference and in a
-//! document type declaration, in memory: each call is the function of page_steps that it is named
-//! after. Below stand text_base, dtd_model, dtd_index, page_cutting, value_rules, byte_readers,
-//! page_steps, open_pieces, reference_stepping, remark_stepping and doctype_stepping.
+//! document type declaration, in memory. Promise: `first_move`, `opener_move` and `reference_move`
+//! are the functions of these names in page_steps (specs/PageSteps there), through the views;
+//! `doctype_move` is the line of its `open_move` on such declarations (specs/Views).
+//! Used by: page_stepping.
 #![tactic(auto)]
 
 mod doctypes;

@@ -7,11 +7,10 @@ ghost use Rattle.opener_stepping.specs.Views as views;
 ghost use Rattle.remark_stepping.specs.Views.{plain_move};
 
 use open_pieces::{Characters, OpenDoctype, OpenPiece};
-use page_cutting::begins_name;
+use page_rules::{begins_name, is_word};
 use remark_stepping::PageMove;
 use std::alloc::Global;
 use text_base::NoMemory;
-use value_rules::is_word;
 
 /// Behind `<` and maybe more of `<!--`, `<![CDATA[` or `<!DOCTYPE` (XML 1.0, 2.5, 2.7, 2.8 and
 /// 3.1).

@@ -11,8 +11,8 @@ use Rattle.page_model.specs.Pieces.{may_follow, behind_leaf}
 use Rattle.page_model.specs.Places.{Place, at_beginning, behind_mark, behind}
 use Rattle.page_model.specs.Valid.{sort_of}
 use Rattle.piece_steps.specs.Readers.{Move, go, done, fail, Outcome, whole, next, ends}
-use Rattle.page_fronts.specs.Fronts.{Open, in_reference, in_opener}
-use Rattle.page_fronts.specs.OpenValues.{in_entity}
+use Rattle.page_model.specs.Fronts.{Open, in_reference, in_opener}
+use Rattle.page_model.specs.OpenValues.{in_entity}
 use Rattle.page_steps.specs.PageSteps.{OpenMove, text_move, single_move, first_move, PageState, put_place, page_step, page_reader, is_inside}
 use Rattle.page_insides.specs.Laws.{read}
 use Rattle.page_insides.proofs.Settled.{kept_is}

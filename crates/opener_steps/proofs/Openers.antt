@@ -10,8 +10,8 @@ use Rattle.xml_text.specs.Names.{begins_name}
 use Rattle.dtd_model.specs.Table.{Table}
 use Rattle.page_model.specs.Places.{Place, at_beginning, behind_mark, behind}
 use Rattle.piece_steps.specs.Readers.{go, fail, Outcome, whole}
-use Rattle.page_fronts.specs.Fronts.{Open, in_opener, in_tag_name, in_end_tag, in_comment, in_section, in_target, in_doctype}
-use Rattle.page_fronts.specs.OpenDoctypes.{before_root}
+use Rattle.page_model.specs.Fronts.{Open, in_opener, in_tag_name, in_end_tag, in_comment, in_section, in_target, in_doctype}
+use Rattle.page_model.specs.OpenDoctypes.{before_root}
 use Rattle.page_steps.specs.DoctypeSteps.{begins}
 use Rattle.page_steps.specs.PageSteps.{OpenMove, less_move, bang_move, PageState, page_step}
 use Rattle.page_insides.specs.Laws.{read}

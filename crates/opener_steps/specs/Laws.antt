@@ -9,9 +9,9 @@ use Rattle.page_model.specs.Pieces.{may_follow, behind_leaf}
 use Rattle.page_model.specs.Places.{Place, at_beginning, behind_mark}
 use Rattle.page_model.specs.Valid.{sort_of}
 use Rattle.piece_steps.specs.Readers.{Outcome, whole, ends}
-use Rattle.page_fronts.specs.Fronts.{Open, nothing, in_reference, in_opener, in_tag_name, in_end_tag, in_comment, in_section, in_target, in_doctype}
-use Rattle.page_fronts.specs.OpenDoctypes.{before_root}
-use Rattle.page_fronts.specs.OpenValues.{in_entity}
+use Rattle.page_model.specs.Fronts.{Open, nothing, in_reference, in_opener, in_tag_name, in_end_tag, in_comment, in_section, in_target, in_doctype}
+use Rattle.page_model.specs.OpenDoctypes.{before_root}
+use Rattle.page_model.specs.OpenValues.{in_entity}
 use Rattle.page_steps.specs.PageSteps.{PageState, page_reader}
 use Rattle.page_insides.specs.Laws.{read}
 

@@ -1,7 +1,8 @@
-//! Laws of the reader of a page where a piece begins: a character that stands for itself and the
-//! byte order mark are read, and `<` and what stands behind it, or `&`, lead into one kind of open
-//! piece. Below stand piece_steps, page_model, page_fronts, page_steps, attribute_steps and
-//! page_insides.
+//! Laws of the reader of a page (page_steps) where a piece begins. Promise (specs/Laws): a
+//! character that stands for itself and the byte order mark are read to their end, `<` and `&` lead
+//! into an open piece (`FirstRead`), what stands behind `<` leads into its kind of open piece
+//! (`OpenersRead`), and nothing else is read to an end. No code stands here.
+//! Used by: page_reads.
 #![tactic(auto)]
 
 pub mod laws;

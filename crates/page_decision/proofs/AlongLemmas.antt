@@ -5,10 +5,10 @@ use Rattle.cfg_grammar.specs.declared.grammar.Grammar.{Grammar}
 use Rattle.derivations.specs.declared.derivation.Derivation.{Derivation}
 use Rattle.dtd_model.specs.Table.{Table}
 use Rattle.page_model.specs.PageTokens.{PageTokens}
-use Rattle.summary_fixpoint.specs.declared.verdict.Verdict.{Verdict}
-use Rattle.summary_fixpoint.specs.declared.verdict.Verdict.TheVariants.{Yes, No, Pairs, Tags}
-use Rattle.page_goals.specs.declared.goal.Goal.{Goal}
-use Rattle.text_decision.proofs.AlongLemmas.{sums_along, tags_along}
+use Rattle.summary_decision.specs.declared.verdict.Verdict.{Verdict}
+use Rattle.summary_decision.specs.declared.verdict.Verdict.TheVariants.{Yes, No, Pairs, Tags}
+use Rattle.page_decision.specs.declared.goal.Goal.{Goal}
+use Rattle.page_decision.proofs.TextAlongLemmas.{sums_along, tags_along}
 use Rattle.page_decision.specs.PageVerdicts.{HasManyPairs, HasManyOpenTags, IsPageVerdict}
 
 module _ (table : Table) (IsPage Other : List ℕ → Type 0) (same : (page : List ℕ) → IsPage page ↔ Other page)

@@ -13,11 +13,11 @@ use Rattle.cfg_grammar.specs.declared.grammar.Grammar.{Grammar}
 use Rattle.cfg_grammar.specs.Derives.{Derives, by_one, by_two}
 use Rattle.useful_nonterminals.specs.Useful.{IsUseful, at_start, alone, as_first, as_second}
 use Rattle.tag_sums.specs.Nesting.{Nest, torn, nest, join, nest_of, is_balanced, nest_count}
-use Rattle.summary_fixpoint.specs.Pairs.{tokens_in, IsPair}
-use Rattle.summary_fixpoint.proofs.ClosedLemmas.{tokens_append}
-use Rattle.summary_fixpoint.proofs.MadeLemmas.{derives_of}
-use Rattle.text_decision.specs.Echoes.{EchoTexts}
-use Rattle.text_decision.specs.TextVerdicts.{HasManySums, HasManyTags, NoneFound, are_whole, many_sums, many_tags}
+use Rattle.summary_decision.specs.Pairs.{tokens_in, IsPair}
+use Rattle.summary_decision.proofs.ClosedLemmas.{tokens_append}
+use Rattle.summary_decision.proofs.MadeLemmas.{derives_of}
+use Rattle.page_decision.specs.Echoes.{EchoTexts}
+use Rattle.page_decision.specs.TextVerdicts.{HasManySums, HasManyTags, NoneFound, are_whole, many_sums, many_tags}
 use Rattle.page_decision.specs.Machines.{is_no_tag, PutsNoTags}
 use Rattle.page_decision.specs.PageVerdicts.{AreAllNested}
 

@@ -1,3 +1,9 @@
 pub mod AlongLemmas
 pub mod FoundLemmas
 pub mod VerdictLemmas
+pub mod TellingLemmas
+pub mod EchoLemmas
+pub mod ByteLemmas
+pub mod TextAlongLemmas
+pub mod TextFoundLemmas
+pub mod ReaderEchoLemmas

@@ -7,21 +7,21 @@ use Rattle.cfg_grammar.specs.declared.grammar.Grammar.{Grammar}
 use Rattle.dtd_model.specs.Table.{Table}
 use Rattle.derivations.specs.declared.derivation.Derivation.{Derivation}
 use Rattle.page_model.specs.PageTokens.{PageTokens}
-use Rattle.page_automata.specs.PageAutomaton.{Parts, parts_of, page_automaton}
-use Rattle.page_automata.specs.Whole.{is_whole}
-use Rattle.dyck_balance.specs.declared.summary.Nesting.{Nesting}
+use Rattle.segment_summary.specs.PageAutomaton.{Parts, parts_of, page_automaton}
+use Rattle.segment_summary.specs.Whole.{is_whole}
+use Rattle.tag_sums.specs.declared.nesting.Nesting.{Nesting}
 use Rattle.tag_sums.specs.Nesting.{nest_of, is_balanced, nest_count}
 use Rattle.tag_sums.specs.Sum.{sum_of, tag_count}
 use Rattle.segment_summary.specs.declared.segments.Segments.{Segments}
 use Rattle.segment_summary.specs.Parts.{parts_in}
-use Rattle.summary_fixpoint.specs.declared.verdict.Verdict.{Verdict}
-use Rattle.summary_fixpoint.specs.declared.verdict.Verdict.TheVariants.{Yes, No, Pairs, Tags}
-use Rattle.page_goals.specs.declared.goal.Goal.{Goal}
-use Rattle.page_goals.specs.Goals.{IsGood}
-use Rattle.page_goals.specs.Telling.{AreStatesOf, TellsGood, SumsTellValid, NestsTellNested}
-use Rattle.text_decision.specs.Echoes.{PutsTokens}
-use Rattle.text_decision.specs.TextVerdicts.{HasSum, IsNotWhole, IsTextVerdict}
-use Rattle.text_decision.proofs.AlongLemmas.{verdict_along}
+use Rattle.summary_decision.specs.declared.verdict.Verdict.{Verdict}
+use Rattle.summary_decision.specs.declared.verdict.Verdict.TheVariants.{Yes, No, Pairs, Tags}
+use Rattle.page_decision.specs.declared.goal.Goal.{Goal}
+use Rattle.page_decision.specs.Goals.{IsGood}
+use Rattle.page_decision.specs.Telling.{AreStatesOf, TellsGood, SumsTellValid, NestsTellNested}
+use Rattle.page_decision.specs.Echoes.{PutsTokens}
+use Rattle.page_decision.specs.TextVerdicts.{HasSum, IsNotWhole, IsTextVerdict}
+use Rattle.page_decision.proofs.TextAlongLemmas.{verdict_along}
 use Rattle.page_decision.specs.Machines.{IsPageMachine, IsBrokenMachine}
 use Rattle.page_decision.specs.declared.sums.PageSums.{PageSums}
 use Rattle.page_decision.specs.PageSums.{AreSegmentsOf, AreSumsOf}

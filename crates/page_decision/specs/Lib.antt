@@ -1,5 +1,9 @@
 pub mod Machines
 pub mod PageSums
 pub mod PageVerdicts
-pub use Rattle.text_decision.specs.Echoes
-pub use Rattle.text_decision.specs.TextVerdicts
+pub mod Goals
+pub mod Telling
+pub mod Echoes
+pub mod LedBack
+pub mod TextVerdicts
+pub mod Readers

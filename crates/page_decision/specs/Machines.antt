@@ -7,9 +7,9 @@ use Rattle.text_base.specs.declared.page_token.PageToken.TheVariants as token
 use Rattle.dtd_model.specs.Table.{Table}
 use Rattle.page_model.specs.PageTokens.{PageTokens}
 use Rattle.tag_sums.specs.Nesting.{nest_of, is_balanced}
-use Rattle.page_goals.specs.declared.goal.Goal.{Goal}
-use Rattle.page_goals.specs.Goals.{IsGood}
-use Rattle.text_decision.specs.Echoes.{IsEchoing, PutsTokens}
+use Rattle.page_decision.specs.declared.goal.Goal.{Goal}
+use Rattle.page_decision.specs.Goals.{IsGood}
+use Rattle.page_decision.specs.Echoes.{IsEchoing, PutsTokens}
 
 module _ {S : Type 0} (table : Table) (first : S) (steps : S → ℕ → S → List Letter → Type 0) (ends : S → List Letter → Type 0) where
   -- the machine copies each page of bytes and puts its tokens between its bytes

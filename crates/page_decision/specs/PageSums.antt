@@ -1,11 +1,11 @@
 -- Which summary goes with a goal.
 use Rattle.std.specs.Prelude.{◌≡◌, ⊤}
 use Rattle.dtd_model.specs.Table.{Table}
-use Rattle.page_automata.specs.PageAutomaton.{parts_of}
+use Rattle.segment_summary.specs.PageAutomaton.{parts_of}
 use Rattle.segment_summary.specs.declared.segments.Segments.{Segments}
 use Rattle.segment_summary.specs.Parts.{parts_in}
-use Rattle.page_goals.specs.declared.goal.Goal.{Goal}
-use Rattle.page_goals.specs.Telling.{AreStatesOf}
+use Rattle.page_decision.specs.declared.goal.Goal.{Goal}
+use Rattle.page_decision.specs.Telling.{AreStatesOf}
 use Rattle.page_decision.specs.declared.sums.PageSums.{PageSums}
 
 -- the segments are those of the definition, over states that decide it

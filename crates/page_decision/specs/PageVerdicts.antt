@@ -6,15 +6,15 @@ use Rattle.dtd_model.specs.Table.{Table}
 use Rattle.content_automata.specs.Tables.{Table as States}
 use Rattle.derivations.specs.declared.derivation.Derivation.{Derivation}
 use Rattle.page_model.specs.PageTokens.{PageTokens}
-use Rattle.page_automata.specs.Whole.{is_whole}
+use Rattle.segment_summary.specs.Whole.{is_whole}
 use Rattle.tag_sums.specs.Nesting.{nest_of, is_balanced, nest_count}
 use Rattle.tag_sums.specs.Sum.{sum_of, tag_count}
-use Rattle.summary_fixpoint.specs.declared.verdict.Verdict.{Verdict}
-use Rattle.summary_fixpoint.specs.declared.verdict.Verdict.TheVariants.{Yes, No, Pairs, Tags}
-use Rattle.page_goals.specs.declared.goal.Goal.{Goal}
-use Rattle.page_goals.specs.Goals.{IsGood}
-use Rattle.page_goals.specs.Telling.{AreStatesOf, automaton_over}
-use Rattle.text_decision.specs.TextVerdicts.{HasSum, HasManySums, HasManyTags}
+use Rattle.summary_decision.specs.declared.verdict.Verdict.{Verdict}
+use Rattle.summary_decision.specs.declared.verdict.Verdict.TheVariants.{Yes, No, Pairs, Tags}
+use Rattle.page_decision.specs.declared.goal.Goal.{Goal}
+use Rattle.page_decision.specs.Goals.{IsGood}
+use Rattle.page_decision.specs.Telling.{AreStatesOf, automaton_over}
+use Rattle.page_decision.specs.TextVerdicts.{HasSum, HasManySums, HasManyTags}
 
 module _ (table : Table) (IsPage : List ℕ → Type 0) where
   -- it is a derivation of one of the pages, which is not good

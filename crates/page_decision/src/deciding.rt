@@ -3,26 +3,25 @@
 ghost use Rattle.std.specs.Prelude.{◌≤◌, IfOk, IfErr, IfSome, IfNone};
 ghost use Rattle.cfg_grammar.specs.declared.symbol.Symbol as symbols;
 ghost use Rattle.dtd_model.specs.TableOf.{table_of};
-ghost use Rattle.image_meaning.specs.Outputs.{DerivesText};
+ghost use Rattle.fst_core.specs.Outputs.{DerivesText};
 ghost use Rattle.grammar_image.specs.Refusals.{IsCause};
 ghost use Rattle.page_decision.specs.Machines.{IsBrokenMachine, IsPageMachine, PutsNoTags};
 ghost use Rattle.page_decision.specs.PageSums.{AreSumsOf};
 ghost use Rattle.page_decision.specs.PageVerdicts.{AreAllNested, IsBadPage, IsPageVerdict};
-ghost use Rattle.text_decision.specs.Echoes.{IsMachineImage, PutsTokens};
-ghost use Rattle.text_decision.specs.TextVerdicts.{IsDerivationOf};
+ghost use Rattle.page_decision.specs.Echoes.{IsMachineImage, PutsTokens};
+ghost use Rattle.page_decision.specs.TextVerdicts.{IsDerivationOf};
 
+use crate::goal_laws::{nests_tell_nested, sums_tell_valid};
 use crate::sums::PageSums;
+use crate::{Goal, decide_texts, find_wrong, texts_fit};
 use cfg_grammar::Grammar;
 use derivations::Derivation;
 use dtd_model::Dtd;
-use dyck_balance::Nesting;
 use fst_core::Machine;
 use grammar_image::ImageRefusal;
-use page_goals::Goal;
-use page_goals::laws::{nests_tell_nested, sums_tell_valid};
 use std::alloc::Global;
-use summary_fixpoint::Verdict;
-use text_decision::{decide_texts, find_wrong, texts_fit};
+use summary_decision::Verdict;
+use tag_sums::Nesting;
 
 /// Whether each page that the grammar derives is good by the goal and the definition, with at most
 /// `items` items of the image, at most `pairs` different sums of sentences a nonterminal, and

@@ -1,10 +1,20 @@
-//! The decision over the pages that a grammar derives, by a goal, for any machine that reads the
-//! tokens of pages. Below stand page_goals with when a page is good, text_decision, which decides
-//! the texts of a grammar by any summary, and segment_summary and dyck_balance with the summaries.
+//! Whether each page that a grammar derives is good by a goal (valid by a definition, or nested),
+//! for any machine that reads the tokens of pages. Promise: `decide_pages` says yes only where each
+//! page is good, no only with a derivation of one that is not, and a limit only where it is passed
+//! (`verdict`: `IsPageVerdict` of specs/PageVerdicts).
+//! Used by 7 crates, script_decision, coarse_reader, loose_machine, broken_search and others.
 #![tactic(auto)]
 
+mod bytes;
 mod deciding;
+pub mod echo_laws;
+mod goal;
+pub mod goal_laws;
 mod sums;
+mod text_deciding;
 
+pub use bytes::texts_fit;
 pub use deciding::{decide_pages, find_broken};
+pub use goal::Goal;
 pub use sums::{PageSums, sums_of};
+pub use text_deciding::{decide_texts, find_wrong};

@@ -6,12 +6,12 @@ ghost use Rattle.content_automata.specs.Decides.{shapes_in};
 ghost use Rattle.content_automata.specs.Refusals.{IsCause};
 ghost use Rattle.page_decision.specs.PageSums.{AreSumsOf};
 
+use crate::Goal;
 use content_automata::{ContentRefusal, build};
 use dtd_model::Dtd;
-use dyck_balance::Nesting;
-use page_goals::Goal;
 use segment_summary::Segments;
 use std::alloc::Global;
+use tag_sums::Nesting;
 
 /// The summary of page tokens that tells which pages are good.
 #[derive(Debug, Drop)]

@@ -9,9 +9,9 @@ use Rattle.xml_text.specs.Names.{begins_name, in_name, is_name}
 use Rattle.dtd_model.specs.Table.{Table}
 use Rattle.page_model.specs.Parts.{is_quote, may_be_quoted}
 use Rattle.piece_steps.specs.Insides.{accepted, accepts}
-use Rattle.page_fronts.specs.Fronts.{Open}
-use Rattle.page_fronts.specs.OpenTags.{OpenAttribute, between, in_attribute_name, behind_name, behind_equals, in_value}
-use Rattle.page_fronts.specs.OpenValues.{OpenValue}
+use Rattle.page_model.specs.Fronts.{Open}
+use Rattle.page_model.specs.OpenTags.{OpenAttribute, between, in_attribute_name, behind_name, behind_equals, in_value}
+use Rattle.page_model.specs.OpenValues.{OpenValue}
 use Rattle.page_steps.specs.AttributeSteps.{Allowing, stays, ends_with, stops, valued, attribute_move}
 use Rattle.page_endings.specs.Laws.{Ends}
 use Rattle.page_endings.proofs.Going.{if_true, if_false}

@@ -12,9 +12,9 @@ use Rattle.dtd_model.specs.Table.{Table}
 use Rattle.page_model.specs.Parts.{is_quote, may_be_quoted}
 use Rattle.page_model.specs.Places.{behind}
 use Rattle.piece_steps.specs.Insides.{accepted, accepts}
-use Rattle.page_fronts.specs.Fronts.{in_declaration, at_declaration_end}
-use Rattle.page_fronts.specs.OpenTags.{OpenAttribute, between, in_attribute_name, behind_name, behind_equals, in_value}
-use Rattle.page_fronts.specs.OpenValues.{in_text, in_reference, in_fixed, in_choice, in_words}
+use Rattle.page_model.specs.Fronts.{in_declaration, at_declaration_end}
+use Rattle.page_model.specs.OpenTags.{OpenAttribute, between, in_attribute_name, behind_name, behind_equals, in_value}
+use Rattle.page_model.specs.OpenValues.{in_text, in_reference, in_fixed, in_choice, in_words}
 use Rattle.page_steps.specs.DoctypeSteps.{begins}
 use Rattle.page_steps.specs.PageSteps.{declaration_by}
 use Rattle.page_steps.specs.TagSteps.{may_be_word, is_word_value, word_step, word_good, of_declaration}

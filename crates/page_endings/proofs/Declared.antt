@@ -8,7 +8,7 @@ use Rattle.xml_text.specs.Names.{is_name}
 use Rattle.dtd_model.specs.Lawful.{is_distinct, are_names, is_lawful_kind, are_lawful_attributes, is_lawful_holding, is_lawful_rule, is_lawful, element_limit, attribute_limit}
 use Rattle.dtd_model.specs.Table.{Declared, Rule, Table}
 use Rattle.page_model.specs.Attributes.{find_rule}
-use Rattle.page_fronts.specs.Fronts.{find_declared}
+use Rattle.page_model.specs.Fronts.{find_declared}
 use Rattle.page_steps.specs.DoctypeSteps.{begins}
 
 pub same : (a b : List ℕ) → bytes_eq a b ≡ true → a ≡ b

@@ -14,8 +14,8 @@ use Rattle.page_model.specs.Parts.{is_quote}
 use Rattle.page_model.specs.Places.{Place, behind}
 use Rattle.piece_steps.specs.Insides.{Turn, on, out, stop, inside}
 use Rattle.piece_steps.specs.Readers.{go, done, fail}
-use Rattle.page_fronts.specs.Fronts.{Open, in_opener, in_doctype, IsFrontOf}
-use Rattle.page_fronts.specs.OpenDoctypes.{Word, system_word, public_word, letters, OpenDoctype, before_root, in_root, behind_root, in_word, behind_word, in_public, behind_public, in_system, behind_system, kept}
+use Rattle.page_model.specs.Fronts.{Open, in_opener, in_doctype, IsFrontOf}
+use Rattle.page_model.specs.OpenDoctypes.{Word, system_word, public_word, letters, OpenDoctype, before_root, in_root, behind_root, in_word, behind_word, in_public, behind_public, in_system, behind_system, kept}
 use Rattle.page_steps.specs.DoctypeSteps.{begins, is_free, may_begin, root_turn, is_wanted, doctype_turn}
 use Rattle.page_steps.specs.PageSteps.{OpenMove, open_move, bang_move}
 use Rattle.page_endings.specs.Ending.{public_can_end, doctype_can_end}

@@ -10,8 +10,8 @@ use Rattle.dtd_model.specs.Table.{Table}
 use Rattle.page_model.specs.Places.{behind}
 use Rattle.piece_steps.specs.Insides.{Turn, out, stop, stepped, inside, accepted, accepts}
 use Rattle.piece_steps.specs.Readers.{done}
-use Rattle.page_fronts.specs.Fronts.{Open, nothing, in_reference, in_opener, in_tag_name, in_tag, at_empty_end, in_end_tag, in_comment, in_section, in_target, behind_target, in_instruction, in_declaration, at_declaration_end, in_doctype}
-use Rattle.page_fronts.specs.OpenValues.{OpenReference}
+use Rattle.page_model.specs.Fronts.{Open, nothing, in_reference, in_opener, in_tag_name, in_tag, at_empty_end, in_end_tag, in_comment, in_section, in_target, behind_target, in_instruction, in_declaration, at_declaration_end, in_doctype}
+use Rattle.page_model.specs.OpenValues.{OpenReference}
 use Rattle.page_steps.specs.PageSteps.{OpenMove}
 use Rattle.page_steps.specs.ReferenceSteps.{reference_step, reference_good}
 use Rattle.page_endings.specs.Laws.{Ends, CharactersEnd}

@@ -6,7 +6,7 @@ use Rattle.xml_text.specs.Characters.{is_character}
 use Rattle.dtd_model.specs.Table.{Table}
 use Rattle.page_model.specs.Places.{Place}
 use Rattle.piece_steps.specs.Readers.{Move, go, done, fail, whole, next as by_move, ends}
-use Rattle.page_fronts.specs.Fronts.{Open, kept_place}
+use Rattle.page_model.specs.Fronts.{Open, kept_place}
 use Rattle.page_steps.specs.PageSteps.{OpenMove, open_move, PageState, put_place, page_step, page_reader}
 use Rattle.page_endings.specs.Laws.{at_open, Ends}
 

@@ -16,10 +16,10 @@ use Rattle.page_model.specs.Places.{Place, at_beginning, behind_mark, behind, is
 use Rattle.page_model.specs.Valid.{sort_of}
 use Rattle.piece_steps.specs.Insides.{Turn, on, out, stop, inside, closing}
 use Rattle.piece_steps.specs.Readers.{Move, go, done, fail}
-use Rattle.page_fronts.specs.Fronts.{Open, nothing, in_reference, in_opener, in_tag_name, in_tag, at_empty_end, in_end_tag, in_comment, in_section, in_target, behind_target, in_instruction, in_declaration, at_declaration_end, in_doctype, find_declared, IsFrontOf}
-use Rattle.page_fronts.specs.OpenDoctypes.{Word, system_word, public_word, letters, OpenDoctype, before_root, in_root, behind_root, in_word, behind_word, in_public, behind_public, in_system, behind_system}
-use Rattle.page_fronts.specs.OpenTags.{OpenAttribute, between, in_attribute_name, behind_name, behind_equals, in_value}
-use Rattle.page_fronts.specs.OpenValues.{OpenReference, in_entity, OpenValue, in_text, in_reference as in_value_reference, in_fixed, in_choice, in_words}
+use Rattle.page_model.specs.Fronts.{Open, nothing, in_reference, in_opener, in_tag_name, in_tag, at_empty_end, in_end_tag, in_comment, in_section, in_target, behind_target, in_instruction, in_declaration, at_declaration_end, in_doctype, find_declared, IsFrontOf}
+use Rattle.page_model.specs.OpenDoctypes.{Word, system_word, public_word, letters, OpenDoctype, before_root, in_root, behind_root, in_word, behind_word, in_public, behind_public, in_system, behind_system}
+use Rattle.page_model.specs.OpenTags.{OpenAttribute, between, in_attribute_name, behind_name, behind_equals, in_value}
+use Rattle.page_model.specs.OpenValues.{OpenReference, in_entity, OpenValue, in_text, in_reference as in_value_reference, in_fixed, in_choice, in_words}
 use Rattle.page_steps.specs.AttributeSteps.{Allowing, AttributeMove, stays, ends_with, leaves, stops, equals_move, valued, attribute_move}
 use Rattle.page_steps.specs.DoctypeSteps.{begins, is_free, may_begin, root_turn, literal_turn, grown, is_wanted, end_turn, doctype_turn}
 use Rattle.page_steps.specs.ReferenceSteps.{reference_step, reference_good}

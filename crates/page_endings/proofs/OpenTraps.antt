@@ -14,10 +14,10 @@ use Rattle.page_model.specs.PageTokens.{element_of}
 use Rattle.page_model.specs.Places.{Place, behind}
 use Rattle.piece_steps.specs.Insides.{Turn, on, out, stop, inside, stepped, closing}
 use Rattle.piece_steps.specs.Readers.{Move, go, done, fail}
-use Rattle.page_fronts.specs.Fronts.{Open, nothing, in_reference, in_opener, in_tag_name, in_tag, at_empty_end, in_end_tag, in_comment, in_section, in_target, behind_target, in_instruction, in_declaration, at_declaration_end, in_doctype}
-use Rattle.page_fronts.specs.OpenDoctypes.{OpenDoctype, before_root, in_root, behind_root, in_word, behind_word, in_public, behind_public, in_system, behind_system}
-use Rattle.page_fronts.specs.OpenTags.{OpenAttribute, between}
-use Rattle.page_fronts.specs.OpenValues.{OpenReference}
+use Rattle.page_model.specs.Fronts.{Open, nothing, in_reference, in_opener, in_tag_name, in_tag, at_empty_end, in_end_tag, in_comment, in_section, in_target, behind_target, in_instruction, in_declaration, at_declaration_end, in_doctype}
+use Rattle.page_model.specs.OpenDoctypes.{OpenDoctype, before_root, in_root, behind_root, in_word, behind_word, in_public, behind_public, in_system, behind_system}
+use Rattle.page_model.specs.OpenTags.{OpenAttribute, between}
+use Rattle.page_model.specs.OpenValues.{OpenReference}
 use Rattle.page_steps.specs.AttributeSteps.{AttributeMove, stays, ends_with, leaves, stops, attribute_move}
 use Rattle.page_steps.specs.DoctypeSteps.{begins, is_wanted, doctype_turn}
 use Rattle.page_steps.specs.ReferenceSteps.{reference_step, reference_good}

@@ -8,7 +8,7 @@ use Rattle.std.proofs.lemmas.List.Folds.{list_any-append}
 use Rattle.xml_text.specs.Characters.{is_character}
 use Rattle.xml_text.specs.Names.{in_name, is_name}
 use Rattle.dtd_model.specs.References.{known_entities}
-use Rattle.page_fronts.specs.OpenValues.{OpenReference, in_entity, at_number, in_decimal, in_hexadecimal, capped}
+use Rattle.page_model.specs.OpenValues.{OpenReference, in_entity, at_number, in_decimal, in_hexadecimal, capped}
 use Rattle.page_steps.specs.ReferenceSteps.{reference_step, reference_good}
 use Rattle.page_endings.specs.Ending.{reference_can_end}
 use Rattle.page_endings.proofs.Begins.{some_less, none_among}

@@ -9,7 +9,7 @@ use Rattle.xml_text.specs.Characters.{is_character}
 use Rattle.xml_text.specs.Names.{begins_name, in_name, is_name}
 use Rattle.dtd_model.specs.References.{entity, is_known, known_entities}
 use Rattle.piece_steps.specs.Insides.{accepted, accepts}
-use Rattle.page_fronts.specs.OpenValues.{OpenReference, in_entity, at_number, in_decimal, in_hexadecimal, capped}
+use Rattle.page_model.specs.OpenValues.{OpenReference, in_entity, at_number, in_decimal, in_hexadecimal, capped}
 use Rattle.page_steps.specs.DoctypeSteps.{begins}
 use Rattle.page_steps.specs.ReferenceSteps.{reference_step, reference_good}
 use Rattle.page_endings.specs.Ending.{reference_can_end}

@@ -12,10 +12,10 @@ use Rattle.page_model.specs.Parts.{is_quote}
 use Rattle.page_model.specs.Places.{Place, behind, is_early}
 use Rattle.piece_steps.specs.Insides.{Turn, out, stop, inside, stepped}
 use Rattle.piece_steps.specs.Readers.{go, done, fail}
-use Rattle.page_fronts.specs.Fronts.{Open, nothing, in_reference as open_reference, in_opener, in_tag_name, in_tag, at_empty_end, in_end_tag, in_comment, in_section, in_target, behind_target, in_instruction, in_declaration, at_declaration_end, in_doctype, find_declared}
-use Rattle.page_fronts.specs.OpenDoctypes.{OpenDoctype, before_root, in_root, behind_root, in_word, behind_word, in_public, behind_public, in_system, behind_system}
-use Rattle.page_fronts.specs.OpenTags.{OpenAttribute, between, in_attribute_name, behind_name, behind_equals, in_value}
-use Rattle.page_fronts.specs.OpenValues.{OpenReference, in_entity, at_number, in_decimal, in_hexadecimal, OpenValue, in_text, in_reference, in_fixed, in_choice, in_words}
+use Rattle.page_model.specs.Fronts.{Open, nothing, in_reference as open_reference, in_opener, in_tag_name, in_tag, at_empty_end, in_end_tag, in_comment, in_section, in_target, behind_target, in_instruction, in_declaration, at_declaration_end, in_doctype, find_declared}
+use Rattle.page_model.specs.OpenDoctypes.{OpenDoctype, before_root, in_root, behind_root, in_word, behind_word, in_public, behind_public, in_system, behind_system}
+use Rattle.page_model.specs.OpenTags.{OpenAttribute, between, in_attribute_name, behind_name, behind_equals, in_value}
+use Rattle.page_model.specs.OpenValues.{OpenReference, in_entity, at_number, in_decimal, in_hexadecimal, OpenValue, in_text, in_reference, in_fixed, in_choice, in_words}
 use Rattle.page_steps.specs.AttributeSteps.{Allowing, AttributeMove, stays, ends_with, leaves, stops, equals_move, valued, attribute_move}
 use Rattle.page_steps.specs.DoctypeSteps.{begins, is_free, root_turn, may_begin, doctype_turn}
 use Rattle.page_steps.specs.ReferenceSteps.{reference_step, reference_good}

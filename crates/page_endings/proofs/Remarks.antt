@@ -7,7 +7,7 @@ use Rattle.text_base.specs.declared.page_token.PageToken.TheVariants as token
 use Rattle.dtd_model.specs.Table.{Table}
 use Rattle.page_model.specs.Places.{Place, at_beginning, behind_mark, behind}
 use Rattle.piece_steps.specs.Readers.{go, done}
-use Rattle.page_fronts.specs.Fronts.{nothing, in_comment, in_section, in_target, behind_target, in_instruction, reserved}
+use Rattle.page_model.specs.Fronts.{nothing, in_comment, in_section, in_target, behind_target, in_instruction, reserved}
 use Rattle.page_steps.specs.PageSteps.{OpenMove, open_move}
 use Rattle.page_endings.specs.Laws.{Ends}
 use Rattle.page_endings.proofs.Going.{if_true, if_false, goes, ended}

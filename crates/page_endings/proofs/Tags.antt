@@ -11,9 +11,9 @@ use Rattle.page_model.specs.PageTokens.{element_of}
 use Rattle.page_model.specs.Parts.{is_quote}
 use Rattle.page_model.specs.Places.{behind}
 use Rattle.piece_steps.specs.Readers.{done, fail}
-use Rattle.page_fronts.specs.Fronts.{in_tag_name, in_tag, at_empty_end, in_end_tag, find_declared}
-use Rattle.page_fronts.specs.OpenTags.{OpenAttribute, between, in_attribute_name, behind_name, behind_equals, in_value}
-use Rattle.page_fronts.specs.OpenValues.{OpenValue}
+use Rattle.page_model.specs.Fronts.{in_tag_name, in_tag, at_empty_end, in_end_tag, find_declared}
+use Rattle.page_model.specs.OpenTags.{OpenAttribute, between, in_attribute_name, behind_name, behind_equals, in_value}
+use Rattle.page_model.specs.OpenValues.{OpenValue}
 use Rattle.page_steps.specs.AttributeSteps.{Allowing, AttributeMove, stays, ends_with, leaves, attribute_move}
 use Rattle.page_steps.specs.DoctypeSteps.{begins}
 use Rattle.page_steps.specs.PageSteps.{tag_by, tag_move, empty_move, closed_move}

@@ -13,7 +13,7 @@ use Rattle.xml_text.specs.Characters.{is_blank, is_character}
 use Rattle.xml_text.specs.Names.{in_name}
 use Rattle.dtd_model.specs.References.{is_reference, is_known, is_some}
 use Rattle.dtd_model.specs.Table.{Kind, cdata, id, idref, idrefs, nmtoken, nmtokens, one_of, Presence, implied, required, with_default, fixed, Declared}
-use Rattle.page_fronts.specs.OpenValues.{OpenReference, OpenValue, in_text, in_reference, in_fixed, in_choice, in_words}
+use Rattle.page_model.specs.OpenValues.{OpenReference, OpenValue, in_text, in_reference, in_fixed, in_choice, in_words}
 use Rattle.page_model.specs.Attributes.{has_kind, has_fixed}
 use Rattle.page_model.specs.Parts.{refers_by, may_be_quoted}
 use Rattle.page_steps.specs.ReferenceSteps.{reference_step, reference_good}

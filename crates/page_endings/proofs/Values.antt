@@ -12,7 +12,7 @@ use Rattle.dtd_model.specs.References.{is_some}
 use Rattle.dtd_model.specs.Table.{Kind, cdata, id, idref, idrefs, nmtoken, nmtokens, one_of, Presence, implied, required, with_default, fixed, Declared}
 use Rattle.page_model.specs.Parts.{is_quote, may_be_quoted}
 use Rattle.piece_steps.specs.Insides.{accepted, accepts}
-use Rattle.page_fronts.specs.OpenValues.{OpenReference, OpenValue, in_text, in_reference, in_fixed, in_choice, in_words}
+use Rattle.page_model.specs.OpenValues.{OpenReference, OpenValue, in_text, in_reference, in_fixed, in_choice, in_words}
 use Rattle.page_steps.specs.DoctypeSteps.{begins}
 use Rattle.page_steps.specs.ReferenceSteps.{reference_step, reference_good}
 use Rattle.page_steps.specs.ValueSteps.{value_start, value_step, value_good, may_stand, kept_step, in_reference_of, begins_word, is_chosen, kind_start, start_by}

@@ -9,9 +9,9 @@ use Rattle.std.proofs.lemmas.Slice.Eq.{bytes_eq-Decides}
 use Rattle.xml_text.specs.Characters.{is_blank}
 use Rattle.xml_text.specs.Names.{begins_name, in_name}
 use Rattle.dtd_model.specs.Table.{Declared}
-use Rattle.page_fronts.specs.Fronts.{find_declared}
-use Rattle.page_fronts.specs.OpenTags.{OpenAttribute, between, in_attribute_name, behind_name, behind_equals, in_value}
-use Rattle.page_fronts.specs.OpenValues.{OpenValue, in_text, in_reference, in_fixed, in_choice, in_words}
+use Rattle.page_model.specs.Fronts.{find_declared}
+use Rattle.page_model.specs.OpenTags.{OpenAttribute, between, in_attribute_name, behind_name, behind_equals, in_value}
+use Rattle.page_model.specs.OpenValues.{OpenValue, in_text, in_reference, in_fixed, in_choice, in_words}
 use Rattle.page_model.specs.Attributes.{must_stand}
 use Rattle.page_model.specs.Parts.{is_quote}
 use Rattle.page_steps.specs.AttributeSteps.{AttributeMove, stays, ends_with, leaves, stops, equals_move, valued, attribute_move}

@@ -7,10 +7,10 @@ use Rattle.dtd_model.specs.Table.{Kind, one_of, Presence, fixed, Declared, Rule,
 use Rattle.page_model.specs.Attributes.{find_rule, is_some_rule, must_stand}
 use Rattle.page_model.specs.Parts.{is_quote, may_be_quoted}
 use Rattle.character_steps.specs.Encoded.{Held, is_some_byte}
-use Rattle.page_fronts.specs.Fronts.{Open, nothing, in_reference, in_tag_name, in_tag, at_empty_end, in_end_tag, in_comment, in_section, in_instruction, in_declaration, in_doctype, find_declared}
-use Rattle.page_fronts.specs.OpenDoctypes.{OpenDoctype, in_public, in_system}
-use Rattle.page_fronts.specs.OpenTags.{OpenAttribute, between, in_attribute_name, behind_name, behind_equals, in_value}
-use Rattle.page_fronts.specs.OpenValues.{OpenReference, in_entity, at_number, in_decimal, in_hexadecimal, OpenValue, in_text, in_reference as in_value_reference, in_fixed, in_choice, in_words}
+use Rattle.page_model.specs.Fronts.{Open, nothing, in_reference, in_tag_name, in_tag, at_empty_end, in_end_tag, in_comment, in_section, in_instruction, in_declaration, in_doctype, find_declared}
+use Rattle.page_model.specs.OpenDoctypes.{OpenDoctype, in_public, in_system}
+use Rattle.page_model.specs.OpenTags.{OpenAttribute, between, in_attribute_name, behind_name, behind_equals, in_value}
+use Rattle.page_model.specs.OpenValues.{OpenReference, in_entity, at_number, in_decimal, in_hexadecimal, OpenValue, in_text, in_reference as in_value_reference, in_fixed, in_choice, in_words}
 use Rattle.page_steps.specs.DoctypeSteps.{begins}
 use Rattle.page_steps.specs.PageSteps.{PageState}
 use Rattle.page_steps.specs.TagSteps.{is_among, are_all, may_be_word}

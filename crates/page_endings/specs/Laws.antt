@@ -7,7 +7,7 @@ use Rattle.page_model.specs.Places.{Place}
 use Rattle.piece_steps.specs.Readers.{go, whole, ends}
 use Rattle.character_steps.specs.Bytes.{is_begun}
 use Rattle.character_steps.specs.Encoded.{Held, encoded}
-use Rattle.page_fronts.specs.Fronts.{Open}
+use Rattle.page_model.specs.Fronts.{Open}
 use Rattle.page_steps.specs.PageSteps.{PageState, page_step, page_reader, page_hold}
 use Rattle.page_endings.specs.Ending.{open_can_end, can_end}
 use Rattle.page_endings.specs.Shapes.{IsShaped}

@@ -4,10 +4,10 @@ use Rattle.dtd_model.specs.declared.dtd.DoctypeRule.{DoctypeRule}
 use Rattle.dtd_model.specs.Table.{Presence, implied, required, with_default, fixed, Declared, Rule, Table}
 use Rattle.page_model.specs.Attributes.{find_rule}
 use Rattle.page_model.specs.Parts.{is_quote}
-use Rattle.page_fronts.specs.Fronts.{Open, in_opener, in_tag, in_declaration, in_doctype, find_declared, IsFrontOf}
-use Rattle.page_fronts.specs.OpenDoctypes.{OpenDoctype, in_root, in_word, in_public, in_system}
-use Rattle.page_fronts.specs.OpenTags.{OpenAttribute, in_value}
-use Rattle.page_fronts.specs.OpenValues.{OpenValue, in_fixed}
+use Rattle.page_model.specs.Fronts.{Open, in_opener, in_tag, in_declaration, in_doctype, find_declared, IsFrontOf}
+use Rattle.page_model.specs.OpenDoctypes.{OpenDoctype, in_root, in_word, in_public, in_system}
+use Rattle.page_model.specs.OpenTags.{OpenAttribute, in_value}
+use Rattle.page_model.specs.OpenValues.{OpenValue, in_fixed}
 use Rattle.page_steps.specs.DoctypeSteps.{begins, may_begin}
 
 -- whether the attribute has a fixed value

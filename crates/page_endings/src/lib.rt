@@ -1,6 +1,8 @@
-//! Behind each open piece of a page that passes a test some text ends a piece: the test
-//! (specs/Ending.antt), what the steps of the reader keep of each open piece (specs/Shapes.antt),
-//! and the laws (specs/Laws.antt). No code stands here.
+//! Of which states of the reader of pages (page_steps) a piece can come: a test by kinds of open
+//! pieces (`can_end` of specs/Ending). Promise (specs/Laws): by a lawful definition some bytes end
+//! the piece of each state that passes and has the shape that the steps keep (`BytesEnd`), and each
+//! state from which some bytes end a piece passes (`EndsCan`). No code stands here.
+//! Used by 8 crates, page_narrowing, exact_fronts, loose_reads, loose_reader and others.
 #![tactic(auto)]
 
 pub mod laws;

@@ -6,8 +6,8 @@ use Rattle.dtd_model.specs.Table.{Table}
 use Rattle.page_model.specs.Places.{Place, behind}
 use Rattle.piece_steps.specs.Insides.{Turn, on, out, stop, past, inside, IsInside}
 use Rattle.piece_steps.specs.Readers.{go, done, fail}
-use Rattle.page_fronts.specs.Fronts.{in_comment, in_section, in_instruction, in_doctype}
-use Rattle.page_fronts.specs.OpenDoctypes.{before_root}
+use Rattle.page_model.specs.Fronts.{in_comment, in_section, in_instruction, in_doctype}
+use Rattle.page_model.specs.OpenDoctypes.{before_root}
 use Rattle.page_steps.specs.DoctypeSteps.{doctype_turn}
 use Rattle.page_steps.specs.PageSteps.{OpenMove, comment_move, section_move, instruction_move, page_reader}
 use Rattle.remark_steps.specs.Turns.{comment_turn, section_turn, instruction_turn}

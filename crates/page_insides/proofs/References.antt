@@ -12,8 +12,8 @@ use Rattle.page_model.specs.Places.{Place, behind}
 use Rattle.page_model.specs.Parts.{reference_of}
 use Rattle.piece_steps.specs.Insides.{Turn, on, out, stop, turned, past, inside, IsInside, accepts, stepped, closing}
 use Rattle.piece_steps.proofs.Within.{is_none, past_closer, Closed, closer_past}
-use Rattle.page_fronts.specs.Fronts.{Open, in_reference}
-use Rattle.page_fronts.specs.OpenValues.{OpenReference, in_entity, at_number, in_decimal, in_hexadecimal}
+use Rattle.page_model.specs.Fronts.{Open, in_reference}
+use Rattle.page_model.specs.OpenValues.{OpenReference, in_entity, at_number, in_decimal, in_hexadecimal}
 use Rattle.page_steps.specs.ReferenceSteps.{decimal_step, hexadecimal_step, reference_step, reference_good}
 use Rattle.page_steps.specs.PageSteps.{page_reader}
 use Rattle.reference_steps.specs.Laws.{is_right_reference}

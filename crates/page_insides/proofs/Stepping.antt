@@ -6,7 +6,7 @@ use Rattle.xml_text.specs.Characters.{is_character}
 use Rattle.dtd_model.specs.Table.{Table}
 use Rattle.page_model.specs.Places.{Place}
 use Rattle.piece_steps.specs.Readers.{Move, go, fail, Outcome, whole, next, ends}
-use Rattle.page_fronts.specs.Fronts.{Open}
+use Rattle.page_model.specs.Fronts.{Open}
 use Rattle.page_steps.specs.PageSteps.{OpenMove, open_move, PageState, put_place, page_step, page_reader, is_inside}
 use Rattle.page_insides.specs.Laws.{settle, read}
 use Rattle.page_insides.proofs.Settled.{kept_settled}

@@ -9,9 +9,9 @@ use Rattle.page_model.specs.Places.{Place, at_beginning, behind_mark, behind}
 use Rattle.page_model.specs.Prolog.{Doctype}
 use Rattle.piece_steps.specs.Readers.{Outcome, whole, ends}
 use Rattle.piece_steps.proofs.Within.{is_none}
-use Rattle.page_fronts.specs.Fronts.{Open, in_reference, in_comment, in_section, in_instruction, in_doctype}
-use Rattle.page_fronts.specs.OpenDoctypes.{before_root}
-use Rattle.page_fronts.specs.OpenValues.{in_entity}
+use Rattle.page_model.specs.Fronts.{Open, in_reference, in_comment, in_section, in_instruction, in_doctype}
+use Rattle.page_model.specs.OpenDoctypes.{before_root}
+use Rattle.page_model.specs.OpenValues.{in_entity}
 use Rattle.page_steps.specs.PageSteps.{PageState, page_reader}
 use Rattle.reference_steps.specs.Laws.{is_right_reference}
 use Rattle.remark_steps.specs.Laws.{IsLeft, IsData}

@@ -1,1 +1,3 @@
 mod Behind
+mod Known
+mod Over

@@ -2,8 +2,8 @@
 use Rattle.std.specs.Prelude.{◌≡◌, ℕ, List, Some, slice_get}
 use Rattle.dtd_model.specs.Table.{Table}
 use Rattle.dtd_model.specs.TableOf.{table_of}
-use Rattle.numbered_reader.specs.declared.rows.Row.{Row}
-use Rattle.page_fronts.specs.Fronts.{Front, HasFront}
+use Rattle.page_lexer.specs.declared.rows.Row.{Row}
+use Rattle.page_model.specs.Fronts.{Front, HasFront}
 use Rattle.page_reader.specs.States.{first_state}
 use Rattle.page_reader.specs.declared.state.ReaderState.{ReaderState}
 use Rattle.merged_reader.specs.States.{merged_next}

@@ -2,18 +2,18 @@
 
 ghost use Rattle.std.specs.Prelude.{◌≡◌, ◌<◌, ◌++◌, ◌∷◌, [], ℕ, List, Ok, IfOk, length};
 ghost use Rattle.numbered_sets.specs.Numbers.{Keeps, AddsOnly};
-ghost use Rattle.numbered_reader.specs.Numbered.{IsKnown, KeepsKnown};
-ghost use Rattle.numbered_reader.specs.declared.rows.NumberedStep as steps;
+ghost use Rattle.page_lexer.specs.Numbered.{IsKnown, KeepsKnown};
+ghost use Rattle.page_lexer.specs.declared.rows.NumberedStep as steps;
 ghost use Rattle.byte_readers.specs.Reading.{emitted};
 ghost use Rattle.dtd_model.specs.TableOf.{table_of};
 ghost use Rattle.page_model.specs.PageTokens.{PageTokens};
 ghost use Rattle.page_reader.specs.States.{first_state, tokens_at, tokens_behind};
 ghost use Rattle.page_lexer.specs.Lexing.{lexer_table, lexer_states, lexer_rows, lexer_state_behind, IsBehind};
 
+use crate::{NumberedReader, NumberedStep, StateNumber};
 use byte_readers::Emit;
 use dtd_index::IndexedDtd;
 use merged_reader::MergedReader;
-use numbered_reader::{NumberedReader, NumberedStep, StateNumber};
 use std::alloc::Global;
 use text_base::{NoMemory, PageToken};
 

@@ -1,12 +1,15 @@
-//! The lexer of the pages of a document type definition (`PageLexer`): byte by byte to page tokens,
-//! by states that are numbers. Behind equal fronts of a page it is in one state, and over each page
-//! it puts out exactly the tokens of the page. Below stand text_base, dtd_model, dtd_index,
-//! page_model, page_fronts, byte_readers, numbered_reader, merged_reader and reader_fronts.
+//! The lexer of the pages of a document type definition, by states that are numbers.
+//! Promise: `PageLexer::tokens` gives exactly the tokens of a page (`PageTokens` of page_model),
+//! and behind equal fronts of pages a lexer is in one state (`fronts_have_one_state`, over
+//! `IsBehind` of specs/Lexing).
+//! Used by: page_reader_tests, page_bench.
 #![tactic(auto)]
 
 pub mod laws;
 mod lexer;
+mod numbered;
+mod rows;
 
-pub use byte_readers::Emit;
 pub use lexer::PageLexer;
-pub use numbered_reader::{NumberedStep, StateNumber};
+pub use numbered::NumberedReader;
+pub use rows::{NumberedStep, Row, StateNumber};

@@ -1,6 +1,8 @@
-//! The machine that goes over the tokens of a page with a stack of its open elements, and the law
-//! that it accepts exactly the tokens of a tree. Below stand text_base, stacks, dtd_model,
-//! content_automata and page_model.
+//! A machine that goes over the tokens of a page with a stack of its open elements, each with the
+//! state of its content model (specs/Machine). Promise: it accepts exactly the tokens of a tree
+//! (`accepts_trees`: `AcceptsTrees` of specs/Laws, over `TokenTree` of page_model), and the calls
+//! of `Progress` are its steps (`Goes` of specs/Views).
+//! Used by: page_validator.
 #![tactic(auto)]
 
 mod laws;

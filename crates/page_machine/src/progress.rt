@@ -10,9 +10,8 @@ ghost use Rattle.page_machine.specs.Views.{Goes, progress_of, root_at, sort_of, 
 use crate::stage::{Open, Sort, Stage};
 use content_automata::Contents;
 use dtd_model::{Content, DoctypeRule, Dtd};
-use stacks::Stack;
 use std::alloc::Global;
-use text_base::{Elem, NoMemory};
+use text_base::{Elem, NoMemory, Stack};
 
 /// How far a page is: the stage, and the open elements with the states of their content models.
 #[derive(Debug, Drop)]

@@ -6,10 +6,10 @@ use Rattle.std.specs.Str.{str_eq_ignore_ascii_case}
 use Rattle.std.specs.Char.{encode_utf8}
 use Rattle.std.proofs.lemmas.Bool.{and_parts}
 use Rattle.std.proofs.lemmas.Str.{encode_same}
-use Rattle.dtd_model.specs.page_token.PageToken.{PageToken}
-use Rattle.dtd_model.specs.page_token.PageToken.TheVariants as token
-use Rattle.dtd_model.specs.Names.{begins_name, in_name, is_name}
-use Rattle.dtd_model.specs.Texts.{holds}
+use Rattle.text_base.specs.declared.page_token.PageToken.{PageToken}
+use Rattle.text_base.specs.declared.page_token.PageToken.TheVariants as token
+use Rattle.xml_text.specs.Names.{begins_name, in_name, is_name}
+use Rattle.xml_text.specs.Texts.{holds}
 use Rattle.dtd_model.specs.declared.dtd.DoctypeRule.TheVariants.{Strict}
 use Rattle.dtd_model.specs.Matches.{may_be_empty, after}
 use Rattle.dtd_model.specs.Mini.{mini_table, plain_rule}

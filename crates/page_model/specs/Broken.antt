@@ -3,8 +3,8 @@
 use Rattle.std.specs.Prelude.{◌≡◌, ℕ, Bool, true, not, ◌==◌, ◌&&◌, ◌||◌, List, [], ◌∷◌, ◌++◌}
 use Rattle.std.specs.Char.{is_ascii_digit, is_ascii_hexdigit}
 use Rattle.std.specs.List.{list_all}
-use Rattle.dtd_model.specs.Characters.{is_blank}
-use Rattle.dtd_model.specs.Names.{is_name}
+use Rattle.xml_text.specs.Characters.{is_blank}
+use Rattle.xml_text.specs.Names.{is_name}
 use Rattle.dtd_model.specs.References.{Reference, decimal, hexadecimal, entity, is_known, is_some}
 use Rattle.dtd_model.specs.Table.{Table}
 use Rattle.page_model.specs.Attributes.{find_rule, is_some_rule}

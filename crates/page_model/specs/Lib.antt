@@ -8,7 +8,13 @@ pub mod Places
 pub mod Prolog
 pub mod TokenTree
 pub mod Valid
-pub use Rattle.dtd_model.specs.Mini
-pub use Rattle.dtd_model.specs.References
-pub use Rattle.dtd_model.specs.Table
-pub use Rattle.dtd_model.specs.declared.dtd
+pub mod OpenValues
+pub mod OpenTags
+pub mod OpenDoctypes
+pub mod Fronts
+pub mod Cutting
+pub mod ReadingLaws
+pub mod Reading
+pub mod Right
+pub mod Scan
+pub mod Laws

@@ -1,9 +1,9 @@
 -- The tokens of a page: its lawful pieces in turn as far as they go, and one `Bad` for what is left.
 use Rattle.std.specs.Prelude.{◌≡◌, ℕ, true, List, [], ◌∷◌, ◌++◌}
 use Rattle.std.specs.Str.{encode_utf8_all}
-use Rattle.dtd_model.specs.numbers.Elem.{Elem}
-use Rattle.dtd_model.specs.page_token.PageToken.{PageToken}
-use Rattle.dtd_model.specs.page_token.PageToken.TheVariants as token
+use Rattle.text_base.specs.declared.numbers.Elem.{Elem}
+use Rattle.text_base.specs.declared.page_token.PageToken.{PageToken}
+use Rattle.text_base.specs.declared.page_token.PageToken.TheVariants as token
 use Rattle.dtd_model.specs.Table.{Table}
 use Rattle.page_model.specs.Attributes.{is_allowed}
 use Rattle.page_model.specs.Pieces.{Piece, mark, declaration, doctype, start_tag, empty_tag, end_tag, leaf, piece_then, IsPiece, after, after_all}

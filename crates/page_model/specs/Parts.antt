@@ -4,9 +4,9 @@
 use Rattle.std.specs.Prelude.{◌≡◌, ◌≢◌, ℕ, Bool, true, false, not, ◌==◌, ◌&&◌, ◌||◌, if◌then◌else◌, List, [], ◌∷◌, ◌++◌, codes}
 use Rattle.std.specs.List.{list_all}
 use Rattle.std.specs.Str.{str_eq_ignore_ascii_case}
-use Rattle.dtd_model.specs.Characters.{is_blank, is_character}
-use Rattle.dtd_model.specs.Names.{is_name}
-use Rattle.dtd_model.specs.Texts.{holds}
+use Rattle.xml_text.specs.Characters.{is_blank, is_character}
+use Rattle.xml_text.specs.Names.{is_name}
+use Rattle.xml_text.specs.Texts.{holds}
 use Rattle.dtd_model.specs.References.{Reference, decimal, hexadecimal, entity, reference_then, is_reference}
 
 -- an attribute in a tag: white space, its name, `=` with white space round it, and its value in quotes

@@ -2,8 +2,8 @@
 -- stand where. A page is a list of pieces; that an end tag answers a start tag is a matter of trees (specs/Nodes.antt).
 use Rattle.std.specs.Prelude.{◌≡◌, ℕ, suc, Bool, true, not, ◌==◌, ◌&&◌, if◌then◌else◌, List, [], ◌∷◌, ◌++◌, min}
 use Rattle.std.specs.List.{list_all}
-use Rattle.dtd_model.specs.Characters.{is_blank}
-use Rattle.dtd_model.specs.Names.{is_name}
+use Rattle.xml_text.specs.Characters.{is_blank}
+use Rattle.xml_text.specs.Names.{is_name}
 use Rattle.page_model.specs.Parts.{Tag, tag_then, IsTag, Leaf, character, reference, section, comment, instruction, leaf_then, IsLeaf}
 use Rattle.page_model.specs.Prolog.{Declaration, declaration_then, IsDeclaration, Doctype, doctype_then, IsDoctype}
 use Rattle.page_model.specs.Places.{Place, at_beginning, behind_mark, behind, is_early, brackets}

@@ -3,8 +3,8 @@
 use Rattle.std.specs.Prelude.{◌≡◌, ◌≢◌, ℕ, Bool, true, false, not, ◌==◌, ◌&&◌, ◌||◌, List, [], ◌∷◌, ◌++◌, codes, bytes_eq}
 use Rattle.std.specs.List.{list_all}
 use Rattle.std.specs.Str.{str_eq_ignore_ascii_case}
-use Rattle.dtd_model.specs.Characters.{is_blank, is_character}
-use Rattle.dtd_model.specs.Names.{in_public_identifier}
+use Rattle.xml_text.specs.Characters.{is_blank, is_character}
+use Rattle.xml_text.specs.Names.{in_public_identifier}
 use Rattle.page_model.specs.Parts.{Attribute, attributes_then, AreAttributes, is_quote}
 
 -- The XML declaration: `<?xml`, the version, maybe the encoding and whether it stands alone, as attributes in this order.

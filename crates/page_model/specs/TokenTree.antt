@@ -1,7 +1,7 @@
 -- When tokens are those of a valid page, without a word on bytes: they are the flat list of a tree (XML 1.0, 2.8 and 3).
 use Rattle.std.specs.Prelude.{◌≡◌, ℕ, Bool, true, ◌&&◌, List, [], ◌∷◌, length, Option, Some, None, codes, slice_get}
-use Rattle.dtd_model.specs.page_token.PageToken.{PageToken}
-use Rattle.dtd_model.specs.page_token.PageToken.TheVariants as token
+use Rattle.text_base.specs.declared.page_token.PageToken.{PageToken}
+use Rattle.text_base.specs.declared.page_token.PageToken.TheVariants as token
 use Rattle.dtd_model.specs.declared.dtd.DoctypeRule.{DoctypeRule}
 use Rattle.dtd_model.specs.declared.dtd.DoctypeRule.TheVariants.{Strict, Free}
 use Rattle.dtd_model.specs.Table.{Rule, Table}

@@ -1,7 +1,7 @@
 -- When a page is valid (XML 1.0, 2.8 and 3; XHTML 1.0, 3.1.1).
 use Rattle.std.specs.Prelude.{◌≡◌, ℕ, suc, Bool, true, false, ◌&&◌, if◌then◌else◌, List, [], ◌∷◌, map, length, codes, bytes_eq, Some}
 use Rattle.std.specs.List.{list_all}
-use Rattle.dtd_model.specs.Characters.{is_blank}
+use Rattle.xml_text.specs.Characters.{is_blank}
 use Rattle.dtd_model.specs.declared.dtd.DoctypeRule.{DoctypeRule}
 use Rattle.dtd_model.specs.declared.dtd.DoctypeRule.TheVariants.{Strict, Free}
 use Rattle.dtd_model.specs.Table.{Rule, Table, Holding, nothing, anything, text_and, children}

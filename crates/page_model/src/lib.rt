@@ -1,5 +1,12 @@
-//! Pages of XHTML as definitions: the pieces that a page is cut into, what each spells and where
-//! it may stand, pages as trees, when a page is valid by a document type definition, and the same
-//! said of its tokens. The files of specs/ say it; no code stands here. Below stand text_base,
-//! xml_text and dtd_model.
+//! Pages of XHTML as definitions: their pieces, trees, tokens and fronts, and which are valid.
+//! Promise: bytes have at most one cutting and one list of tokens (`one_cutting`,
+//! `one_token_list`), and a page is `Valid` (specs/Valid) exactly where its tokens are those of a
+//! tree (`valid_by_tokens`, over `TokenTree` of specs/TokenTree).
+//! Used by 52 crates, page_lexer, page_steps, reference_steps, remark_steps and others.
 #![tactic(auto)]
+
+mod laws;
+mod reading_laws;
+
+pub use laws::{one_cutting, one_page, one_token_list, valid_by_pieces, valid_by_tokens};
+pub use reading_laws::{each_is_read, nothing_else};

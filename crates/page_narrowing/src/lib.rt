@@ -1,9 +1,8 @@
-//! A reader of pages that fails exactly where no piece can come: the test of states (`passes`,
-//! specs/Passing.antt, which is the exact test of page_endings), and the laws that the reader of
-//! page_steps which fails at each state that does not pass puts out exactly the tokens of a page
-//! (specs/Laws.antt). No code stands here. Below stand text_base, xml_text, dtd_model, piece_steps,
-//! character_steps, page_model, page_fronts, page_steps, page_step_laws, page_reads and
-//! page_endings.
+//! The reader of pages that fails as soon as no piece can come (`narrow_reader` of specs/Passing,
+//! by the test `can_end` of page_endings), and its laws. Promise: by each lawful definition it puts
+//! out, for all bytes, exactly the tokens of page_model (`NarrowTokensRead` of specs/Laws), and
+//! each state that it meets passes the test (`MetKept`). No code stands here.
+//! Used by 9 crates, front_laws, exact_fronts, state_testing, page_stepping and others.
 #![tactic(auto)]
 
 pub mod laws;

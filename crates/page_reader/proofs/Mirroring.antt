@@ -3,9 +3,9 @@ use Rattle.std.proofs.Common.{◌≡◌, Option, Some, None, refl, ap}
 use Rattle.dtd_model.specs.Table.{Table}
 use Rattle.character_steps.specs.Encoded.{Held}
 use Rattle.page_steps.specs.PageSteps.{PageState}
-use Rattle.page_stepping.specs.ReadLaws.{IsLawfulTable}
-use Rattle.page_stepping.specs.Passing.{narrow_reader}
-use Rattle.page_stepping.specs.NarrowingLaws.{NarrowTokensRead}
+use Rattle.page_reads.specs.Laws.{IsLawfulTable}
+use Rattle.page_narrowing.specs.Passing.{narrow_reader}
+use Rattle.page_narrowing.specs.Laws.{NarrowTokensRead}
 use Rattle.byte_readers.specs.Mirrors.{Mirrors, state_behind}
 use Rattle.byte_readers.specs.Reading.{tokens_over}
 use Rattle.byte_readers.proofs.Same.{same_tokens}

@@ -1,4 +1,3 @@
 pub mod Exactness
 pub mod States
 pub mod Laws
-pub use Rattle.page_stepping.specs.Passing

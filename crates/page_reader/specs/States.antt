@@ -4,9 +4,9 @@ use Rattle.text_base.specs.declared.page_token.PageToken.{PageToken}
 use Rattle.dtd_model.specs.Table.{Table}
 use Rattle.character_steps.specs.Encoded.{Held, at_state}
 use Rattle.page_steps.specs.PageSteps.{PageState}
-use Rattle.page_fronts.specs.Fronts.{nothing}
+use Rattle.page_model.specs.Fronts.{nothing}
 use Rattle.page_model.specs.Places.{Place, at_beginning}
-use Rattle.page_stepping.specs.Passing.{narrow_reader}
+use Rattle.page_narrowing.specs.Passing.{narrow_reader}
 use Rattle.byte_readers.specs.Mirrors.{state_behind, put_at, put_last}
 use Rattle.open_pieces.specs.Views.{plain_held}
 use Rattle.state_codes.specs.Codes.{coded_held}

@@ -10,5 +10,5 @@ pub fn reads_pages(dtd: &Dtd)
     ensures { IsReaderOf (table_of dtd.now) }
 {
     let _ = dtd;
-    page_stepping::laws::narrow_tokens_read();
+    page_narrowing::laws::narrow_tokens_read();
 }

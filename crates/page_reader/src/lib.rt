@@ -1,7 +1,8 @@
 //! The reader of pages, as code (`PageReader`, a `ByteReader`): by a document type definition, byte
-//! by byte, with exactly the tokens of each page. What it does is the narrowed reader of
-//! page_narrowing (`specs/States.antt`). Below stand text_base, dtd_model, dtd_index, byte_readers,
-//! page_narrowing, open_pieces, state_codes, byte_stepping and page_stepping.
+//! by byte, as the narrowed reader of page_narrowing (specs/States). Promise: over each page of
+//! bytes it puts out exactly the tokens of the page (`reads_pages`: `IsReaderOf` of specs/Laws,
+//! over `PageTokens` of page_model).
+//! Used by 7 crates, page_lexer, merged_reader, reader_fronts, script_decision and others.
 #![tactic(auto)]
 
 pub mod laws;

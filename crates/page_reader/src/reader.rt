@@ -4,7 +4,7 @@ ghost use Rattle.std.specs.Prelude.{◌≡◌};
 ghost use Rattle.dtd_model.specs.Table.{Table};
 ghost use Rattle.dtd_model.specs.TableOf.{table_of};
 ghost use Rattle.piece_steps.specs.Readers.{to_state, put_out, last_tokens};
-ghost use Rattle.page_stepping.specs.Passing.{narrow_reader};
+ghost use Rattle.page_narrowing.specs.Passing.{narrow_reader};
 ghost use Rattle.byte_readers.specs.Reading.{emitted};
 ghost use Rattle.character_steps.specs.Encoded.{is_some_byte};
 ghost use Rattle.open_pieces.specs.Views.{plain_held, plain_place};

@@ -4,8 +4,7 @@
 use crate::token_words::push_word;
 use dtd_index::IndexedDtd;
 use dtd_model::Dtd;
-use page_cutting::{Piece, Place, piece_at};
-use page_rules::{Taken, is_right, tokens_of};
+use page_rules::{Piece, Place, Taken, is_right, piece_at, tokens_of};
 use std::alloc::Global;
 use text_base::{Bytes, NoMemory, PageToken};
 

@@ -1,6 +1,7 @@
-//! Tests of page_reader, merged_reader, page_runs and page_lexer: readers and lexer on pages with their tokens, on
-//! generated pages beside a plain reading piece by piece, where two texts share a state, and how
-//! many bytes do the same.
+//! Tests of page_reader, merged_reader, page_runs and page_lexer.
+//! Pages with their tokens written by hand, generated pages beside a plain reading piece by piece,
+//! where two texts share a state, and how many bytes do the same.
+//! Used by: none; it stands at the top.
 #![tactic(auto)]
 
 #[cfg(test)]

@@ -1,8 +1,8 @@
 //! Pages with their tokens.
 
 use crate::reading::{all_say, both_say_in_pieces, definition};
+use document_types::strict;
 use std::test::Fail;
-use xhtml_strict::strict;
 
 const DEFINITION: &[u8] = b"<!ELEMENT html (body)>
 <!ELEMENT body (p | br)*>

@@ -6,7 +6,7 @@ use Rattle.std.proofs.lemmas.Bool.{and_parts}
 use Rattle.dtd_model.specs.Lawful.{is_lawful_kind, is_lawful_rule, is_lawful}
 use Rattle.dtd_model.specs.Table.{Declared, Rule, Table}
 use Rattle.page_model.specs.Attributes.{find_rule}
-use Rattle.page_laws.proofs.Appended.{piece_more}
+use Rattle.page_model.proofs.Appended.{piece_more}
 use Rattle.page_step_laws.proofs.Opened.{pieces_open}
 use Rattle.page_step_laws.proofs.Tokens.{tokens_by_reading}
 use Rattle.tag_steps.specs.Laws.{HasLawfulKinds}

@@ -11,7 +11,7 @@ use Rattle.page_model.specs.PageTokens.{IsLawful, piece_tokens}
 use Rattle.page_model.specs.Parts.{Leaf, tag_then, character, reference, section, comment, instruction, reference_of}
 use Rattle.page_model.specs.Pieces.{Piece, mark, declaration, doctype, start_tag, empty_tag, end_tag, leaf, piece_then, may_follow, after}
 use Rattle.page_model.specs.Places.{Place, at_beginning, behind_mark, behind, is_early}
-use Rattle.page_laws.proofs.Appended.{piece_more}
+use Rattle.page_model.proofs.Appended.{piece_more}
 use Rattle.piece_steps.specs.Readers.{whole}
 use Rattle.piece_steps.specs.Reads.{Begins}
 use Rattle.page_steps.specs.PageSteps.{page_language}

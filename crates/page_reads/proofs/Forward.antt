@@ -15,7 +15,7 @@ use Rattle.page_model.specs.Pieces.{Piece, mark, declaration, doctype, start_tag
 use Rattle.page_model.specs.Places.{Place, at_beginning, behind_mark, behind, is_early}
 use Rattle.page_model.specs.Prolog.{Declaration, IsDeclaration, is_in_order}
 use Rattle.piece_steps.specs.Readers.{whole}
-use Rattle.page_fronts.specs.Fronts.{in_opener, in_target}
+use Rattle.page_model.specs.Fronts.{in_opener, in_target}
 use Rattle.reference_steps.specs.Laws.{is_right_reference}
 use Rattle.doctype_steps.specs.Laws.{inside_then}
 use Rattle.page_insides.specs.Laws.{settle, read, ends_with}

@@ -1,6 +1,8 @@
-//! The tokens of a page, read byte by byte: for every lawful definition and all bytes, the reader
-//! of page_steps puts out exactly the tokens of page_model. Below stand dtd_model, piece_steps,
-//! character_steps, page_model, page_fronts, page_laws, page_steps and the laws of its forms.
+//! Laws that the reader of pages of page_steps reads exactly the pieces of a page. Promise: by each
+//! lawful definition the reader by characters reads each lawful piece to its end and nothing else
+//! (`PiecesRead` of specs/Laws), and over all bytes the reader by bytes puts out exactly the tokens
+//! of page_model (`PageTokensRead`). No code stands here.
+//! Used by 9 crates, page_narrowing, front_laws, exact_fronts, broken_pages and others.
 #![tactic(auto)]
 
 pub mod laws;

@@ -7,16 +7,14 @@ ghost use Rattle.dtd_model.specs.Table.{declared_of};
 ghost use Rattle.dtd_model.specs.TableOf.{table_of};
 ghost use Rattle.page_model.specs.Attributes as spec;
 ghost use Rattle.page_model.specs.Parts.{refers_by, Attribute};
-ghost use Rattle.page_cutting.specs.Views.{attribute_of};
+ghost use Rattle.page_rules.specs.Views.{attribute_of};
 ghost use Rattle.page_rules.specs.Tests.{at_most_one, once_by};
 
+use crate::{Attribute as Read, has_value, is_named, is_word, must_stand, refers_to_known};
 use dtd_index::IndexedDtd;
 use dtd_model::AttrRule;
-use page_cutting::Attribute as Read;
 use std::alloc::Global;
-use tag_rules::must_stand;
 use text_base::{Bytes, NoMemory};
-use value_rules::{has_value, is_named, is_word, refers_to_known};
 
 /// Whether the attributes of a tag are those that the element may and must have (XML 1.0, 3.3).
 /// Time is linear in them, times the declared ones, of which there are at most 64.

@@ -5,7 +5,7 @@ ghost use Rattle.std.specs.List.{list_all};
 ghost use Rattle.xml_text.specs.Characters as characters;
 ghost use Rattle.page_model.specs.Parts as parts;
 
-use page_cutting::is_blank;
+use crate::is_blank;
 use xml_text::is_character;
 
 /// Whether these are characters of XML alone.

@@ -6,17 +6,15 @@ ghost use Rattle.dtd_model.specs.TableOf.{table_of};
 ghost use Rattle.page_model.specs.Parts as parts;
 ghost use Rattle.page_model.specs.Pieces as pieces;
 ghost use Rattle.page_model.specs.Prolog as prolog;
-ghost use Rattle.page_cutting.specs.Views.{doctype_of, identifier_of, piece_of, reference_of, tag_of};
+ghost use Rattle.page_rules.specs.Views.{doctype_of, identifier_of, piece_of, reference_of, tag_of};
 ghost use Rattle.page_rules.specs.Takes.{Takes, TakesTag, identifier_fits};
 
 use crate::attributes::attributes_fit;
+use crate::{Doctype, Identifier, Piece, Reference, Tag, element, is_blank, is_known, is_word};
 use dtd_index::IndexedDtd;
 use dtd_model::DoctypeRule;
-use page_cutting::{Doctype, Identifier, Piece, Reference, Tag, is_blank};
 use std::alloc::Global;
-use tag_rules::element;
 use text_base::{Elem, NoMemory};
-use value_rules::{is_known, is_word};
 
 /// What a piece is for the tree of a page.
 #[derive(Clone, Copy, Debug)]

@@ -8,12 +8,14 @@ ghost use Rattle.xml_text.specs.Characters as characters;
 ghost use Rattle.xml_text.specs.Names as names;
 ghost use Rattle.page_model.specs.Places as places;
 ghost use Rattle.page_model.specs.Prolog as prolog;
-ghost use Rattle.page_reading.specs.Right as spec;
-ghost use Rattle.page_cutting.specs.Views.{attribute_of, identifier_of, literal_of, piece_of, place_of};
+ghost use Rattle.page_model.specs.Right as spec;
+ghost use Rattle.page_rules.specs.Views.{attribute_of, identifier_of, literal_of, piece_of, place_of};
 
 use crate::characters::{are_characters, begins_blank, may_be_quoted};
-use page_cutting::{Attribute, Identifier, Literal, Piece, Place, in_public_identifier};
-use value_rules::{is_reference, is_some, is_word, is_word_in_any_case, refers};
+use crate::{
+    Attribute, Identifier, Literal, Piece, Place, in_public_identifier, is_reference, is_some,
+    is_word, is_word_in_any_case, refers,
+};
 use xml_text::is_character;
 
 /// Whether the piece is as XML asks at this place.

@@ -10,10 +10,10 @@ use Rattle.piece_steps.specs.Readers.{Move, go, fail, kept, to_state, put_out}
 use Rattle.character_steps.specs.Bytes.{decoded, is_begun}
 use Rattle.character_steps.specs.Encoded.{Held, lifted, by_character, is_some_byte}
 use Rattle.character_steps.proofs.Begun.{decoded_is}
-use Rattle.page_fronts.specs.Fronts.{Open, nothing, in_reference, in_opener, in_tag_name, in_tag, at_empty_end, in_end_tag, in_comment, in_section, in_target, behind_target, in_instruction, in_declaration, at_declaration_end, in_doctype, kept_place}
+use Rattle.page_model.specs.Fronts.{Open, nothing, in_reference, in_opener, in_tag_name, in_tag, at_empty_end, in_end_tag, in_comment, in_section, in_target, behind_target, in_instruction, in_declaration, at_declaration_end, in_doctype, kept_place}
 use Rattle.page_steps.specs.PageSteps.{PageState, page_reader, page_step, page_hold}
 use Rattle.page_endings.specs.Ending.{open_can_end, takes_several, goes_on_with}
-use Rattle.page_reader.specs.Passing.{passes, narrow_reader}
+use Rattle.page_narrowing.specs.Passing.{passes, narrow_reader}
 use Rattle.page_reader.specs.States.{coded, tokens_at}
 use Rattle.page_reader.specs.declared.state.ReaderState.{ReaderState}
 use Rattle.page_reader.specs.declared.state.ReaderState.TheVariants.{Failed, Reading}

@@ -1,8 +1,8 @@
-//! The reader of pages as one that tells runs of bytes (`PageRunReader`, a `RunReader`): it is
-//! `MergedReader` of merged_reader, and where any text may stand it says up to which byte all lead
-//! to one state and put out the same. Below stand text_base, dtd_index, dtd_model, xml_text,
-//! piece_steps, character_steps, byte_readers, page_model, page_cutting, page_fronts, page_steps,
-//! open_pieces, state_codes, page_reader, merged_reader and echoing_machine.
+//! The reader of pages as one that tells runs of bytes (`PageRunReader`): `MergedReader` of
+//! merged_reader, which where any text may stand says up to which byte all do the same.
+//! Promise: from a state all bytes up to that of `last_from` lead to one state and put out the same
+//! (clause `alike`); which bytes make a run stands in specs/Runs and specs/Classes.
+//! Used by: script_decision, merged_loose, page_reader_tests, decision_tests.
 #![tactic(auto)]
 
 mod places;

@@ -5,7 +5,7 @@ ghost use Rattle.open_pieces.specs.Views.{plain_attribute, plain_state};
 ghost use Rattle.merged_reader.specs.Merging.{attribute_alike, takes_all_alike};
 
 use open_pieces::{OpenAttribute, OpenDoctype, OpenPiece, OpenValue, PagePlace, PageState};
-use page_cutting::is_quote;
+use page_rules::is_quote;
 
 /// Whether any text may stand in the value.
 fn is_text(attribute: &OpenAttribute) -> bool

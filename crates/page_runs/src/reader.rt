@@ -4,7 +4,7 @@ ghost use Rattle.std.specs.Prelude.{◌≡◌, ◌≤◌, ℕ};
 ghost use Rattle.dtd_model.specs.Table.{Table};
 ghost use Rattle.dtd_model.specs.TableOf.{table_of};
 ghost use Rattle.echoing_machine.specs.Runs.{AreAlike};
-ghost use Rattle.merged_reader.specs.ReaderStates.{first_state, tokens_at, tokens_behind};
+ghost use Rattle.page_reader.specs.States.{first_state, tokens_at, tokens_behind};
 ghost use Rattle.merged_reader.specs.States.{merged_next};
 ghost use Rattle.page_reader.specs.declared.state.ReaderState.TheVariants.{Reading};
 

@@ -10,8 +10,8 @@ use Rattle.page_model.specs.Parts.{character}
 use Rattle.page_model.specs.Places.{Place, at_beginning, behind_mark, behind}
 use Rattle.page_model.specs.Valid.{sort_of}
 use Rattle.piece_steps.specs.Readers.{Move, go, done, fail}
-use Rattle.page_fronts.specs.Fronts.{Open, nothing, in_reference, in_opener, in_tag_name, in_tag, at_empty_end, in_end_tag, in_comment, in_section, in_target, behind_target, in_instruction, in_declaration, at_declaration_end, in_doctype, kept_place}
-use Rattle.page_fronts.specs.OpenValues.{in_entity}
+use Rattle.page_model.specs.Fronts.{Open, nothing, in_reference, in_opener, in_tag_name, in_tag, at_empty_end, in_end_tag, in_comment, in_section, in_target, behind_target, in_instruction, in_declaration, at_declaration_end, in_doctype, kept_place}
+use Rattle.page_model.specs.OpenValues.{in_entity}
 use Rattle.page_steps.specs.PageSteps.{OpenMove, first_move, text_move, open_move, PageState, put_place, page_step, is_inside, page_hold}
 use Rattle.page_step_laws.specs.Laws.{ReadByCharacters}
 use Rattle.page_step_laws.proofs.Opened.{Opens, all_open}

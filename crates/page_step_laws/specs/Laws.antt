@@ -7,7 +7,7 @@ use Rattle.page_model.specs.Places.{at_beginning}
 use Rattle.piece_steps.specs.Readers.{go, all_tokens}
 use Rattle.piece_steps.specs.Reads.{Reads}
 use Rattle.character_steps.specs.Encoded.{at_state, encoded, ByCharacters}
-use Rattle.page_fronts.specs.Fronts.{nothing}
+use Rattle.page_model.specs.Fronts.{nothing}
 use Rattle.page_steps.specs.PageSteps.{PageState, page_step, page_reader, is_inside, page_hold, page_language}
 
 -- where a character does not end a piece, one is open behind it

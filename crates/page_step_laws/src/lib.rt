@@ -1,7 +1,8 @@
-//! Laws of page_steps as a whole: something is open behind each character of a piece; the reader of
-//! a page by characters makes one by bytes; and where it reads the pieces of a page, the one by
-//! bytes puts out exactly the tokens of page_model. Below stand text_base, xml_text, piece_steps,
-//! character_steps, page_model, page_fronts and page_steps.
+//! Laws of page_steps as a whole, from characters to bytes.
+//! Promise: where the reader by characters reads the pieces of a page (`Reads` of piece_steps), the
+//! one by bytes puts out exactly the tokens of page_model (`tokens_by_reading`, over
+//! `TokensByReading` of specs/Laws).
+//! Used by 9 crates, page_reads, page_endings, page_narrowing, front_laws and others.
 #![tactic(auto)]
 
 pub mod laws;

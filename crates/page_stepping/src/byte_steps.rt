@@ -5,7 +5,7 @@ ghost use Rattle.dtd_model.specs.TableOf.{table_of};
 ghost use Rattle.character_steps.specs.Encoded as encoded;
 ghost use Rattle.page_steps.specs.PageSteps as steps;
 ghost use Rattle.piece_steps.specs.Readers as readers;
-ghost use Rattle.state_testing.specs.Passing as passing;
+ghost use Rattle.page_narrowing.specs.Passing as passing;
 ghost use Rattle.open_pieces.specs.Views.{plain_held, plain_state};
 ghost use Rattle.byte_stepping.specs.Views.{plain_move_by};
 ghost use Rattle.page_stepping.specs.Views as views;

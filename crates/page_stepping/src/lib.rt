@@ -1,7 +1,8 @@
-//! One character and one byte more in a page, in memory: `page_step`, `byte_step` and `narrow_step`
-//! are the steps of the readers of page_steps, character_steps and page_narrowing. Below stand
-//! text_base, xml_text, dtd_model, dtd_index, page_narrowing, open_pieces, byte_stepping, the
-//! crates that step in each kind of open piece, and state_testing.
+//! One character and one byte more in a page, in memory, over one call for each kind of open piece.
+//! Promise: `page_step`, `byte_step` and `narrow_step` are, through the views of open_pieces and
+//! byte_stepping, the steps of the readers of page_steps, of character_steps over it, and of
+//! page_narrowing, at the table of a definition.
+//! Used by: loose_reader, page_reader.
 #![tactic(auto)]
 
 mod byte_steps;
@@ -9,5 +10,4 @@ mod open_moves;
 mod states;
 
 pub use byte_steps::{byte_step, narrow_step};
-pub use state_testing::laws;
 pub use states::page_step;

@@ -11,9 +11,9 @@ use Rattle.page_model.specs.Places.{at_beginning, behind}
 use Rattle.piece_steps.specs.Readers.{state_after, all_tokens}
 use Rattle.character_steps.specs.Bytes.{decoded, is_begun}
 use Rattle.character_steps.specs.Encoded.{encoded}
-use Rattle.page_fronts.specs.Fronts.{in_tag, in_reference, nothing as nothing_open}
-use Rattle.page_fronts.specs.OpenTags.{in_value}
-use Rattle.page_fronts.specs.OpenValues.{in_decimal, in_words}
+use Rattle.page_model.specs.Fronts.{in_tag, in_reference, nothing as nothing_open}
+use Rattle.page_model.specs.OpenTags.{in_value}
+use Rattle.page_model.specs.OpenValues.{in_decimal, in_words}
 use Rattle.page_steps.specs.PageSteps.{PageState, page_step, page_reader, page_hold}
 
 -- paragraphs and images, with attributes of each kind

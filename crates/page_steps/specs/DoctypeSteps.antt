@@ -7,7 +7,7 @@ use Rattle.dtd_model.specs.declared.dtd.DoctypeRule.{DoctypeRule}
 use Rattle.dtd_model.specs.declared.dtd.DoctypeRule.TheVariants.{Strict, Free}
 use Rattle.page_model.specs.Parts.{is_quote}
 use Rattle.piece_steps.specs.Insides.{Turn, on, out, stop}
-use Rattle.page_fronts.specs.OpenDoctypes.{Word, system_word, public_word, letters, OpenDoctype, before_root, in_root, behind_root, in_word, behind_word, in_public, behind_public, in_system, behind_system, kept}
+use Rattle.page_model.specs.OpenDoctypes.{Word, system_word, public_word, letters, OpenDoctype, before_root, in_root, behind_root, in_word, behind_word, in_public, behind_public, in_system, behind_system, kept}
 
 -- the characters are the first of the whole
 abbrev pub begins : List ℕ → List ℕ → Bool

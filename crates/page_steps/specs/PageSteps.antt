@@ -15,10 +15,10 @@ use Rattle.page_model.specs.Valid.{sort_of}
 use Rattle.piece_steps.specs.Languages.{Language}
 use Rattle.piece_steps.specs.Readers.{Move, go, done, fail, Reader}
 use Rattle.piece_steps.specs.Insides.{inside, closing}
-use Rattle.page_fronts.specs.Fronts.{Open, nothing, in_reference, in_opener, in_tag_name, in_tag, at_empty_end, in_end_tag, in_comment, in_section, in_target, behind_target, in_instruction, in_declaration, at_declaration_end, in_doctype, reserved, kept_place}
-use Rattle.page_fronts.specs.OpenDoctypes.{before_root}
-use Rattle.page_fronts.specs.OpenTags.{OpenAttribute, between}
-use Rattle.page_fronts.specs.OpenValues.{OpenReference, in_entity}
+use Rattle.page_model.specs.Fronts.{Open, nothing, in_reference, in_opener, in_tag_name, in_tag, at_empty_end, in_end_tag, in_comment, in_section, in_target, behind_target, in_instruction, in_declaration, at_declaration_end, in_doctype, reserved, kept_place}
+use Rattle.page_model.specs.OpenDoctypes.{before_root}
+use Rattle.page_model.specs.OpenTags.{OpenAttribute, between}
+use Rattle.page_model.specs.OpenValues.{OpenReference, in_entity}
 use Rattle.page_steps.specs.AttributeSteps.{AttributeMove, stays, ends_with, leaves, stops, attribute_move}
 use Rattle.page_steps.specs.DoctypeSteps.{begins, doctype_turn}
 use Rattle.page_steps.specs.ReferenceSteps.{reference_step, reference_good}

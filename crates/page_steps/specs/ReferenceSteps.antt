@@ -4,7 +4,7 @@ use Rattle.std.specs.Char.{is_ascii_digit, is_ascii_hexdigit, digit_value}
 use Rattle.xml_text.specs.Characters.{is_character}
 use Rattle.xml_text.specs.Names.{begins_name, in_name, is_name}
 use Rattle.dtd_model.specs.References.{entity, is_known}
-use Rattle.page_fronts.specs.OpenValues.{OpenReference, in_entity, at_number, in_decimal, in_hexadecimal, capped}
+use Rattle.page_model.specs.OpenValues.{OpenReference, in_entity, at_number, in_decimal, in_hexadecimal, capped}
 
 -- behind `&` or a name: `#`, or one character more of the name of an entity
 abbrev pub entity_step : List ℕ → ℕ → Option OpenReference

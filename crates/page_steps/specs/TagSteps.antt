@@ -4,8 +4,8 @@ use Rattle.std.specs.List.{list_all, list_any}
 use Rattle.std.specs.Str.{str_eq_ignore_ascii_case}
 use Rattle.dtd_model.specs.Table.{Declared}
 use Rattle.page_model.specs.Attributes.{must_stand}
-use Rattle.page_fronts.specs.Fronts.{find_declared}
-use Rattle.page_fronts.specs.OpenValues.{OpenValue, in_text, in_fixed}
+use Rattle.page_model.specs.Fronts.{find_declared}
+use Rattle.page_model.specs.OpenValues.{OpenValue, in_text, in_fixed}
 use Rattle.page_steps.specs.AttributeSteps.{Allowing}
 use Rattle.page_steps.specs.ValueSteps.{value_start, value_step, value_good, may_stand}
 

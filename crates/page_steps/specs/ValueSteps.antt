@@ -7,7 +7,7 @@ use Rattle.dtd_model.specs.References.{is_reference, is_known, is_some}
 use Rattle.dtd_model.specs.Table.{Kind, cdata, id, idref, idrefs, nmtokens, one_of, Presence, implied, required, with_default, fixed, Declared}
 use Rattle.page_model.specs.Attributes.{has_kind, has_fixed}
 use Rattle.page_model.specs.Parts.{refers_by}
-use Rattle.page_fronts.specs.OpenValues.{OpenReference, in_entity, OpenValue, in_text, in_reference, in_fixed, in_choice, in_words}
+use Rattle.page_model.specs.OpenValues.{OpenReference, in_entity, OpenValue, in_text, in_reference, in_fixed, in_choice, in_words}
 use Rattle.page_steps.specs.ReferenceSteps.{reference_step, reference_good}
 
 -- behind the quote

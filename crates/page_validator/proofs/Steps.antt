@@ -4,10 +4,10 @@ use Rattle.text_base.specs.declared.page_token.PageToken.{PageToken}
 use Rattle.dtd_model.specs.Table.{Table}
 use Rattle.content_automata.specs.Decides.{Decides}
 use Rattle.content_automata.specs.Tables as automata
-use Rattle.page_laws.specs.Laws.{GoodPieces}
-use Rattle.page_laws.proofs.Appended.{piece_more}
-use Rattle.page_laws.proofs.Once.{some_character}
-use Rattle.page_laws.proofs.Whole.{valid_good, good_valid}
+use Rattle.page_model.specs.Laws.{GoodPieces}
+use Rattle.page_model.proofs.Appended.{piece_more}
+use Rattle.page_model.proofs.Once.{some_character}
+use Rattle.page_model.proofs.Whole.{valid_good, good_valid}
 use Rattle.page_model.specs.Nodes.{pieces_of}
 use Rattle.page_model.specs.Valid.{Valid}
 use Rattle.std.specs.Str.{IsUtf8, encode_utf8_all}
@@ -19,16 +19,16 @@ use Rattle.page_model.specs.PageTokens.{AreLawful, piece_tokens, tokens_then}
 use Rattle.page_model.specs.Pieces.{Piece, piece_then, pieces_then, after}
 use Rattle.page_model.specs.Places.{Place, at_beginning}
 use Rattle.page_model.specs.Attributes.{is_allowed}
-use Rattle.page_reading.specs.Cutting.{cut_at, kept, is_fit}
-use Rattle.page_reading.specs.Reading.{piece_at}
-use Rattle.page_reading.specs.Right.{is_right}
+use Rattle.page_model.specs.Cutting.{cut_at, kept, is_fit}
+use Rattle.page_model.specs.Reading.{piece_at}
+use Rattle.page_model.specs.Right.{is_right}
 use Rattle.std.proofs.lemmas.Bool.{and_left, and_right, and_from, eqb-true}
 use Rattle.std.specs.Prelude.{nat_eq}
 use Rattle.page_machine.specs.Views.{Goes}
 use Rattle.page_rules.specs.declared.piece_tokens.Taken.{Taken}
 use Rattle.page_rules.specs.Takes.{Takes, taken_tokens}
-use Rattle.page_reading.specs.Scan.{then_some}
-use Rattle.page_reading.proofs.CutLemmas.{cut_is, cut_read}
+use Rattle.page_model.specs.Scan.{then_some}
+use Rattle.page_model.proofs.CutLemmas.{cut_is, cut_read}
 use Rattle.page_validator.specs.Walks.{moved, Ahead, Reads, Follows, IsStuck, no_piece, no_move}
 
 -- the tokens of a piece, and then those behind it

@@ -8,15 +8,15 @@ use Rattle.std.specs.declared.vec.Vec.{Vec}
 use Rattle.text_base.specs.declared.page_token.PageToken.{PageToken}
 use Rattle.dtd_model.specs.Table.{Table}
 use Rattle.content_automata.specs.Tables as automata
-use Rattle.page_cutting.specs.Views.{place_of}
-use Rattle.page_cutting.specs.declared.parts.Place.{Place}
-use Rattle.page_laws.specs.Laws.{GoodPieces}
+use Rattle.page_rules.specs.Views.{place_of}
+use Rattle.page_rules.specs.declared.parts.Place.{Place}
+use Rattle.page_model.specs.Laws.{GoodPieces}
 use Rattle.page_machine.specs.Machine.{State, step, accepts}
 use Rattle.page_model.specs.PageTokens.{AreLawful, piece_tokens, tokens_then}
 use Rattle.page_model.specs.Pieces.{Piece, pieces_then, after}
 use Rattle.page_model.specs.Places as places
-use Rattle.page_reading.specs.Cutting.{cut_at}
-use Rattle.page_reading.specs.Scan.{then_some}
+use Rattle.page_model.specs.Cutting.{cut_at}
+use Rattle.page_model.specs.Scan.{then_some}
 
 -- the characters of the bytes; none where they are not UTF-8
 abbrev pub IsDecoded : List ℕ → Option (Vec ℕ Global) → Type 0

@@ -1,7 +1,8 @@
-//! Is one page valid by a document type definition? `check_page` answers exactly that, for every
-//! page and every definition: its contract cites `Valid` of page_model. One pass over the page
-//! with a stack of its own. Below stand page_cutting, page_rules, page_machine and
-//! content_automata.
+//! Is one page valid by a document type definition? One pass over its characters, with a stack of
+//! its own. Promise: `check_page` answers `Ok` only where the page is `Valid` (page_model; clause
+//! `valid`), `PageFault` only where it is not, and `Limit` only where the content models have over
+//! 4,096 states (clause `fault`: `IsCause` of specs/Faults).
+//! Used by: phpsa_main, dtd_tests.
 #![tactic(auto)]
 
 mod check;

@@ -6,7 +6,7 @@ use Rattle.std.proofs.lemmas.Bool.Decides.{nat_tests}
 use Rattle.std.proofs.lemmas.List.{length-take-le}
 use Rattle.string_functions.specs.Pieces.{in_first, pieces_past, pieces_of, join_of, replaced_text}
 use Rattle.string_functions.proofs.PiecesLaws.{starts_with-splits, pieces_of-occurrence, pieces_of-byte, replaced_text-occurrence, replaced_text-byte}
-use Rattle.text_search.specs.Place.{first_place, one_later}
+use Rattle.string_functions.specs.Place.{first_place, one_later}
 
 later : (o : Option ℕ) (i : ℕ) → one_later o ≡ Some i → (j : ℕ) × (o ≡ Some j) × (i ≡ suc j)
 later None i e = cc

@@ -5,10 +5,9 @@ ghost use Rattle.std.specs.Prelude.{◌≡◌, ◌≤◌, ◌⊎◌, ◌++◌, l
 ghost use Rattle.text_base.specs.declared.limits.TheConstants.{TEXT_LIMIT};
 ghost use Rattle.plain_values.specs.Plain.{Plain};
 ghost use Rattle.plain_values.specs.Members.{within_length};
-ghost use Rattle.string_functions.specs.Url.{percent_of_byte};
+ghost use Rattle.string_functions.specs.Url.{percent_of_byte, url_of_byte, raw_url_of_byte};
 ghost use Rattle.string_functions.specs.Html.{html_of_byte, html_of};
 ghost use Rattle.string_functions.specs.Slashes.{slashes_of_byte};
-ghost use Rattle.string_functions.specs.Url.{url_of_byte, raw_url_of_byte};
 ghost use Rattle.php_builtins.specs.Encodings.{bytes_for, encoded};
 
 use php_values::Text;

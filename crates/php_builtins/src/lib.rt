@@ -1,7 +1,8 @@
-//! What PHP's functions that a script may call give, computed: the contracts cite the definitions
-//! of builtin_meaning and string_functions. No result longer than a text may be is built before it
-//! is refused, and time is linear in arguments and result. Below stand text_base, string_functions,
-//! text_search, plain_values, php_values, value_operations and builtin_meaning.
+//! PHP's functions that a script may call, computed: no result that is longer than a text may be is
+//! built before it is refused.
+//! Promise: `apply` gives `builtin_value` of builtin_meaning for the function and the arguments
+//! (clause `ok`), or its fault, want of memory aside (`err`).
+//! Used by: expr_evaluator.
 #![tactic(auto)]
 
 mod application;

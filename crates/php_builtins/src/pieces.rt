@@ -6,15 +6,15 @@ ghost use Rattle.plain_values.specs.Plain.{Plain};
 ghost use Rattle.plain_values.specs.Members.{within_length};
 ghost use Rattle.string_functions.specs.Pieces.{replaced_text, pieces_of};
 ghost use Rattle.builtin_meaning.specs.Values.{pieces_at, numbered_from};
-ghost use Rattle.text_search.specs.Failure.{AreFailures};
+ghost use Rattle.string_functions.specs.Failure.{AreFailures};
 
 use crate::cases::{behind, front};
 use php_values::{Array, Text, Value};
 use plain_values::Fault;
 use std::alloc::Global;
+use string_functions::{failures, find};
 use text_base::NoMemory;
 use text_base::limits::TEXT_LIMIT;
-use text_search::{failures, find};
 
 // Whether the text with its occurrences replaced is longer than a text may be.
 fn is_too_long(search: &[u8], failures: &[usize], with: &[u8], text: &[u8]) -> bool

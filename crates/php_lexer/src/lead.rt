@@ -5,7 +5,7 @@ ghost use Rattle.lexical_grammar.specs.Characters as chars;
 ghost use Rattle.lexical_grammar.specs.Cuts.{lexeme_step};
 ghost use Rattle.php_lexer.specs.Leads.{led_step};
 
-use byte_classes::{is_blank, is_digit, is_name_start};
+use lexical_grammar::{is_blank, is_digit, is_name_start};
 
 /// What a first byte can begin inside PHP.
 #[derive(Clone, Copy, Debug)]

@@ -1,6 +1,8 @@
-//! Bytes of a script to its tokens. The contract of `lex` cites `Cuts` and `Breaks` of
-//! lexical_grammar, the lexical grammar of the script language; below this crate stand
-//! lexical_grammar, php_syntax and text_base.
+//! The bytes of a script to its tokens.
+//! Promise: `lex` gives exactly the tokens that the file is cut into (clause `tokens`, over `Cuts`
+//! of lexical_grammar), and want of memory aside refuses only a file that breaks the lexical
+//! grammar there, or is too long (`refused`, `IsCauseOf` of specs/Refusals).
+//! Used by: php_writer, program_files, phpsa_texts, reading_tests, lexer_bench.
 #![tactic(auto)]
 
 mod blanks;

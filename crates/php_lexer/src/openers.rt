@@ -8,7 +8,7 @@ ghost use Rattle.php_lexer.specs.View.{maybe_step, plain_step, Reads, ReadsWithi
 
 use crate::scan::{begins, behind, front, newline_length};
 use crate::step::{Mode, Step};
-use byte_classes::{is_gap, is_line_end, lower};
+use lexical_grammar::{is_gap, is_line_end, lower};
 use php_syntax::token::TokenKind;
 use std::alloc::Global;
 use text_base::{Bytes, NoMemory};

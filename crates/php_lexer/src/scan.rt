@@ -4,8 +4,8 @@ ghost use Rattle.std.specs.Prelude.{◌≡◌, ◌<◌, ◌≤◌, length, IsTru
 ghost use Rattle.std.specs.List.{prefix_len};
 ghost use Rattle.lexical_grammar.specs.Characters as spec;
 
-use byte_classes::{is_digit, is_gap, is_high, is_line_end, is_name_byte, is_name_start};
-pub use byte_slices::{behind, front};
+use lexical_grammar::{is_digit, is_gap, is_high, is_line_end, is_name_byte, is_name_start};
+pub use text_base::{behind, front};
 
 /// Whether the bytes begin with this text.
 pub fn begins(bytes: &[u8], text: &[u8]) -> bool

@@ -9,7 +9,7 @@ ghost use Rattle.php_lexer.specs.View.{maybe_step, IsWithin};
 
 use crate::scan::{begins, behind, front, gap_length, name_bytes_length};
 use crate::step::{Mode, Step};
-use byte_classes::lower;
+use lexical_grammar::lower;
 use php_syntax::token::{Sign, TokenKind};
 
 // The signs that begin with this byte, the longer ones first.

@@ -10,7 +10,7 @@ use crate::found::Found;
 use crate::keys::{closed_simple_key, subscripts};
 use crate::scan::{begins, behind, front, name_length};
 use crate::template::{Enclosure, TextUnit};
-use byte_classes::is_high;
+use lexical_grammar::is_high;
 use std::alloc::Global;
 use text_base::{Bytes, NoMemory};
 

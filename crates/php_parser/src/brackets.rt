@@ -4,10 +4,10 @@ ghost use Rattle.std.specs.Prelude.{◌≡◌, ◌<◌, ◌≤◌, MatchOption};
 ghost use Rattle.php_syntax.specs.Tokens.{plain_kind};
 ghost use Rattle.script_grammar.specs.Terminals.{terminal_of};
 ghost use Rattle.script_grammar.specs.Grammar.{open_after, open_after_sign, most_open};
-ghost use Rattle.stmt_parser.specs.Heads.{terminals_of};
+ghost use Rattle.expr_parser.specs.Heads.{terminals_of};
 
+use expr_parser::head::{kind_at, sign_of};
 use php_syntax::token::{Sign, Token, TokenKind};
-use stmt_parser::head::{kind_at, sign_of};
 use text_base::limits::HEIGHT_LIMIT;
 
 // How many are open behind a sign.

@@ -5,8 +5,7 @@ ghost use Rattle.php_syntax.specs.Tokens.{PlainToken};
 ghost use Rattle.php_syntax.specs.Trees.{PlainFile};
 ghost use Rattle.script_grammar.specs.Grammar.{SpellsTree, IsTooDeep};
 
-use stmt_completeness::files_are_read;
-use stmt_trees::actions_make_files;
+use stmt_laws::{actions_make_files, files_are_read};
 
 /// Tokens that are not too deep spell at most one tree.
 pub fn one_tree()

@@ -1,9 +1,8 @@
-//! The tokens of a script to its tree.
-//!
-//! `parse` carries the promise: where it answers a tree, the tokens spell that tree and no other,
-//! by `SpellsTree` of `script_grammar`; where it refuses them they spell none, or are too deep by
-//! `IsTooDeep`. Below stand `stmt_parser`, which reads, and the crates that tie what it reads to
-//! the grammar: `stmt_completeness`, `stmt_soundness`, `stmt_trees`.
+//! The tokens of a script to its tree, over the grammar of script_grammar alone.
+//! Promise: `parse` answers a tree that the tokens spell (clause `tree`, over `SpellsTree` of
+//! script_grammar), and no other (`only`); it refuses them only where they spell none, are too
+//! deep, or memory is wanting (`refused`, `IsCauseOf` of specs/Refusals).
+//! Used by: php_writer, program_files, program_sizes, program_loader, phpsa_texts, reading_tests.
 #![tactic(auto)]
 
 mod brackets;

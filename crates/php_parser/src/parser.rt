@@ -14,10 +14,8 @@ use crate::refusal::ParseRefusal;
 use php_syntax::token::Token;
 use php_syntax::tree::FileTree;
 use std::alloc::Global;
-use stmt_completeness::files_are_read;
+use stmt_laws::{actions_make_files, files_are_read, what_is_read_is_a_file};
 use stmt_parser::reader::{Reading, read_file};
-use stmt_soundness::what_is_read_is_a_file;
-use stmt_trees::actions_make_files;
 
 /// The tree that the tokens spell, by the grammar of the script language (PHP manual, "Language
 /// Reference").

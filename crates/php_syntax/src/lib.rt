@@ -1,9 +1,8 @@
-//! The tokens and the syntax trees of a script.
-//!
-//! The plain form of a token, over which the definitions of the crates above recurse, stands in
-//! `specs/Tokens.antt`, that of a tree in `specs/Trees.antt`. What relates the bytes of a file to
-//! tokens is `lexical_grammar`, what relates tokens to a tree `script_grammar`; a crate that knows
-//! only trees stands on neither. Below this crate stands `text_base` alone.
+//! The tokens and syntax trees of a script, of which all speak that read, write, mean or run one.
+//! Plain forms stand in specs/Tokens and specs/Trees, heights in specs/Height.
+//! Promise: `Sign::spelling` is the spelling of a sign (`spelling_of` of specs/Spelling). What
+//! relates bytes to tokens is lexical_grammar, and tokens to a tree script_grammar.
+//! Used by 37 crates, lexical_grammar, script_grammar, php_lexer, program_expressions and others.
 #![tactic(auto)]
 
 pub mod token;

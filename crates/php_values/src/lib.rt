@@ -1,7 +1,8 @@
-//! The values of a script, whose copies cost a count and whose writes are in place where one value
-//! holds the text or the array, and else copy one level of it. The contracts cite the definitions
-//! over plain values of plain_values, in which an array is a list of pairs with distinct keys:
-//! nothing of the sharing shows. Below stand text_base and plain_values.
+//! The values of a script: a copy costs a count, a write goes in place or copies a level.
+//! Promise: `write`, `read`, `member`, `get`, `put`, `push` and `append` answer what the
+//! definitions of plain_values give, with their faults (clauses `ok`, `err`), over `plain_of` of
+//! specs/View; nothing of the sharing shows.
+//! Used by 12 crates, value_operations, request_reading, flow_code, program_lowering and others.
 #![tactic(auto)]
 
 mod array;

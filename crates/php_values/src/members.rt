@@ -2,8 +2,7 @@
 
 ghost use Rattle.std.specs.Prelude.{◌≡◌, ◌⊎◌, ◌∷◌, [], ◌++◌, ◌^◌, ℕ, List, length, ◌<◌, ◌≤◌, true, IfOk, IfErr, OnOk, OnErr, IfSome, IfNone, is_none, Some, None, slice_index_or, slice_set};
 ghost use Rattle.text_base.specs.declared.limits.TheConstants.{DEPTH_LIMIT};
-ghost use Rattle.plain_values.specs.Plain.{Plain, keys, empty, depth, deepest};
-ghost use Rattle.plain_values.specs.Plain.{depth as depth_of};
+ghost use Rattle.plain_values.specs.Plain.{Plain, keys, empty, depth, deepest, depth as depth_of};
 ghost use Rattle.plain_values.specs.Keys.{is_absent, are_distinct};
 ghost use Rattle.plain_values.specs.Members.{member, put_pair, key_after, largest_key, larger as larger_key};
 ghost use Rattle.plain_values.specs.Paths.{named_key};

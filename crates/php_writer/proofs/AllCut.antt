@@ -3,14 +3,14 @@ use Rattle.std.proofs.Common.{◌≡◌, ℕ, List, [], ◌∷◌, ◌++◌, ref
 use Rattle.php_syntax.specs.Tokens.{PlainToken}
 use Rattle.script_grammar.specs.Terminals.{Terminal, terminals, name_terminal, word_or_name, keyword_of}
 use Rattle.lexical_grammar.specs.Cuts.{Cuts, at_end, after_blank}
-use Rattle.token_spelling.specs.Spelled.{IsName}
+use Rattle.lexical_grammar.specs.Spelled.{IsName}
 use Rattle.std.specs.Fmt.{decimal}
-use Rattle.php_writer.specs.Marks.{Mark, keyword, name, variable, integer, text, read, sign, outside as outside_mark, marked, all_written, file_written}
-use Rattle.php_writer.proofs.Cutting.{IsCut, IsCutInto, name_cut, variable_cut, integer_cut, text_cut}
+use Rattle.spellable.specs.Marks.{Mark, keyword, name, variable, integer, text, read, sign, outside as outside_mark, marked, all_written, file_written}
+use Rattle.spellable.proofs.Cutting.{IsCut, IsCutInto, name_cut, variable_cut, integer_cut, text_cut}
 use Rattle.php_writer.proofs.CutWords.{keyword_cut, sign_cut}
-use Rattle.php_writer.proofs.CutOutside.{outside_cut, opening}
-use Rattle.php_writer.proofs.CutRead.{read_cut}
-use Rattle.php_writer.proofs.Decimals.{decimal_integer, decimal_value}
+use Rattle.spellable.proofs.CutOutside.{outside_cut, opening}
+use Rattle.spellable.proofs.CutRead.{read_cut}
+use Rattle.spellable.proofs.Decimals.{decimal_integer, decimal_value}
 use Rattle.php_writer.proofs.NoCasts.{AllWritable, no_cast}
 
 call_name_cut : (w rest : List ℕ) (ts : List Terminal) → IsName w → keyword_of w ≡ None → IsCutInto rest ts → IsCutInto (w ++ 32 ∷ rest) (name_terminal w ∷ ts)

@@ -10,7 +10,7 @@ use Rattle.php_syntax.specs.declared.tree.Target.{Target}
 use Rattle.php_syntax.specs.declared.tree.UpdateSign.{UpdateSign}
 use Rattle.php_syntax.specs.Trees.{PlainExpr, PlainPath, choice_expr, update_expr, plain_expr, boxed_of, target_name, target_path}
 use Rattle.php_syntax.proofs.Views.{plain_expr-Choice, plain_expr-Update}
-use Rattle.php_writer.specs.Marks.{variable, sign, Adds}
+use Rattle.spellable.specs.Marks.{variable, sign, Adds}
 use Rattle.php_writer.specs.Written.{placed_marks, maybe_marks, path_marks, expr_marks, sign_of_update}
 
 on_ok : {A B : Type 0} (result : Result (Unit {0}) NoMemory) → (A → B) → OnOk result A → OnOk result B

@@ -7,11 +7,11 @@ use Rattle.script_grammar.specs.declared.keyword.Keyword.TheVariants as word
 use Rattle.php_syntax.specs.Tokens.{name, sign}
 use Rattle.lexical_grammar.specs.Signs.{cast_step}
 use Rattle.script_grammar.specs.Terminals.{Terminal, terminal_of, word_terminal, sign_terminal}
-use Rattle.token_spelling.specs.Spelled.{IsName}
-use Rattle.token_spelling.proofs.SpelledLemmas.{sign_spelled}
-use Rattle.php_writer.specs.Marks.{keyword_spelling, written}
-use Rattle.php_writer.specs.Marks as mark
-use Rattle.php_writer.proofs.Cutting.{IsCutInto, token_cut, name_cut, bracket_cut}
+use Rattle.lexical_grammar.specs.Spelled.{IsName}
+use Rattle.lexical_grammar.proofs.SpelledLemmas.{sign_spelled}
+use Rattle.spellable.specs.Marks.{keyword_spelling, written}
+use Rattle.spellable.specs.Marks as mark
+use Rattle.spellable.proofs.Cutting.{IsCutInto, token_cut, name_cut, bracket_cut}
 
 keyword_name : (k : Keyword) → IsName (keyword_spelling k)
 keyword_name word.Function = (refl, refl)

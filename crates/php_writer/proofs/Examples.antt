@@ -5,8 +5,8 @@ use Rattle.php_syntax.specs.declared.tree.ArithSign.TheVariants as arith
 use Rattle.php_syntax.specs.declared.tree.SuperName.TheVariants as request
 use Rattle.lexical_grammar.specs.Cuts.{opener_step}
 use Rattle.php_syntax.specs.Trees.{PlainExpr, int_expr, text_expr, var_expr, super_expr, member_expr, join_expr, arith_expr, coalesce_expr, choice_expr, isset_expr, call_expr, no_expr, no_exprs, more_exprs, inline_stmt, echo_stmt, if_stmt, no_stmts, more_stmts, no_arms, more_arms, PlainFile, some_expr, quit_stmt}
-use Rattle.php_writer.specs.Marks.{all_written, file_written, keys_spelling}
-use Rattle.php_writer.specs.Spellable.{is_name, is_call_name, is_own_name, is_inline, expr_spellable, stmt_spellable}
+use Rattle.spellable.specs.Marks.{all_written, file_written, keys_spelling}
+use Rattle.spellable.specs.Spellable.{is_name, is_call_name, is_own_name, is_inline, expr_spellable, stmt_spellable}
 use Rattle.php_writer.specs.Written.{read_name, read_keys, part_key, expr_marks, stmt_marks, file_marks}
 
 -- names

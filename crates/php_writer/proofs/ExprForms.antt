@@ -1,10 +1,10 @@
 -- Each expression that is spellable has a form at its own place, spelled by its marks.
 use Rattle.std.proofs.Common.{◌≡◌, ℕ, Bool, true, false, ◌&&◌, List}
 use Rattle.php_syntax.specs.Trees.{PlainExpr, null_expr, flag_expr, int_expr, text_expr, var_expr, super_expr, member_expr, array_expr, join_expr, neg_expr, not_expr, arith_expr, compare_expr, and_expr, or_expr, coalesce_expr, choice_expr, isset_expr, empty_expr, assign_expr, update_expr, step_expr, call_expr, MaybeExpr, no_expr, some_expr, PlainExprs, no_exprs, more_exprs, PlainItems, no_items, more_items, PlainPath, no_keys, more_keys}
-use Rattle.php_writer.specs.Marks.{Mark}
-use Rattle.php_writer.specs.Spellable.{is_name, is_call_name, are_parts, is_some_exprs, expr_spellable, maybe_spellable, exprs_spellable, items_spellable, path_spellable}
+use Rattle.spellable.specs.Marks.{Mark}
+use Rattle.spellable.specs.Spellable.{is_name, is_call_name, are_parts, is_some_exprs, expr_spellable, maybe_spellable, exprs_spellable, items_spellable, path_spellable}
 use Rattle.php_writer.specs.Written.{looseness, within, arith_looseness, arith_side, compare_side, expr_marks}
-use Rattle.php_writer.proofs.Halves.{halves, call_name_is}
+use Rattle.spellable.proofs.Halves.{halves, call_name_is}
 use Rattle.php_writer.proofs.Looseness.{IsOwn, at, whole}
 use Rattle.php_writer.proofs.ListForms.{IsMaybe, AllOwn, AllItems, AllKeys, more_formed, list_formed, dots_formed, keys_formed}
 use Rattle.php_writer.proofs.ItemForms.{items_formed}

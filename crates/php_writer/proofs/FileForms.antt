@@ -5,10 +5,10 @@ use Rattle.script_grammar.specs.declared.keyword.Keyword.TheVariants as word
 use Rattle.php_syntax.specs.Trees.{PlainExpr, null_expr, flag_expr, int_expr, text_expr, neg_expr, MaybeExpr, no_expr, some_expr, PlainExprs, no_exprs, more_exprs, PlainStmt, inline_stmt, echo_stmt, run_stmt, if_stmt, while_stmt, do_while_stmt, for_stmt, each_stmt, break_stmt, continue_stmt, return_stmt, include_stmt, quit_stmt, PlainStmts, no_stmts, more_stmts, PlainArms, no_arms, more_arms, PlainParam, PlainFunction, PlainFile}
 use Rattle.script_grammar.specs.Terminals.{Terminal, variable_terminal, word_terminal, name_terminal, sign_terminal}
 use Rattle.script_grammar.specs.Statements.{StmtsForm, no_stmts_form, more_stmts_form, stmt_terminals, stmts_terminals, stmt_trees, stmts_trees, nearest, all_nearest, is_status, LiteralForm, int_literal, negated_literal, text_literal, true_literal, false_literal, null_literal, literal_terminals, literal_tree, ParamForm, param_form, default_form, param_terminals, param_tree, more_params_terminals, params_terminals, params_trees, FunctionForm, function_form, function_terminals, function_tree, function_nearest, FileForm, end_of_file, function_part, stmt_part, file_terminals, file_stmts, file_functions, file_tree, file_nearest}
-use Rattle.php_writer.specs.Marks.{Mark, sign, marked}
-use Rattle.php_writer.specs.Spellable.{is_name, is_call_name, is_some_exprs, is_maybe_name, is_some_arms, is_printed, expr_spellable, maybe_spellable, exprs_spellable, stmt_spellable, stmts_spellable, arms_spellable, is_unsigned_literal, is_literal, is_default, params_spellable, functions_spellable, is_spellable}
+use Rattle.spellable.specs.Marks.{Mark, sign, marked}
+use Rattle.spellable.specs.Spellable.{is_name, is_call_name, is_some_exprs, is_maybe_name, is_some_arms, is_printed, expr_spellable, maybe_spellable, exprs_spellable, stmt_spellable, stmts_spellable, arms_spellable, is_unsigned_literal, is_literal, is_default, params_spellable, functions_spellable, is_spellable}
 use Rattle.php_writer.specs.Written.{int_mark, expr_marks, stmt_marks, stmts_marks, param_marks, more_params_marks, params_marks, function_marks, functions_marks}
-use Rattle.php_writer.proofs.Halves.{halves, not_so, call_name_is, IsCallName}
+use Rattle.spellable.proofs.Halves.{halves, not_so, call_name_is, IsCallName}
 use Rattle.php_writer.proofs.FormPlaces.{IsExpr}
 use Rattle.php_writer.proofs.Looseness.{whole}
 use Rattle.php_writer.proofs.ListForms.{AllOwn, more_formed, list_formed}

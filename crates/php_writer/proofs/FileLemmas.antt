@@ -6,11 +6,11 @@ use Rattle.php_syntax.specs.declared.tree.Stmt.{Stmt}
 use Rattle.php_syntax.specs.declared.tree.FunctionDef.{FunctionDef}
 use Rattle.php_syntax.specs.declared.tree.FileTree.{FileTree}
 use Rattle.php_syntax.specs.Height.{file_height}
-use Rattle.php_writer.specs.Marks.{Adds, all_written, file_written}
+use Rattle.spellable.specs.Marks.{Adds, all_written, file_written}
 use Rattle.php_writer.specs.Spelled.{Spells, IsSpelled}
 use Rattle.php_writer.specs.Tested.{file_good}
 use Rattle.std.specs.Prelude.{Bool, true, false, IsTrue, ◌↔◌, ◌≤◌}
-use Rattle.php_writer.proofs.BackFiles.{spelled_is_spellable}
+use Rattle.spellable.proofs.BackFiles.{spelled_is_spellable}
 use Rattle.php_writer.proofs.TestedFiles.{file_sound, file_tests}
 use Rattle.php_writer.specs.Written.{functions_marks, stmts_marks, file_marks}
 use Rattle.php_writer.proofs.SpelledFiles.{file_spelled}

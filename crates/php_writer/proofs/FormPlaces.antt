@@ -8,7 +8,7 @@ use Rattle.script_grammar.specs.declared.operator.Level.TheVariants as level
 use Rattle.php_syntax.specs.Trees.{PlainExpr}
 use Rattle.script_grammar.specs.Terminals.{Terminal, sign_terminal}
 use Rattle.script_grammar.specs.Expressions.{ExprForm, choice_form, ChoiceForm, only_choice, NulForm, only_nul, ChainForm, chain_form, no_more, OperandForm, tighter_form, tightest_form, UnaryForm, post_form, PostForm, base_form, BaseForm, parens_base, SubscriptsForm, no_subscript, expr_terminals, choice_terminals, nul_terminals, chain_terminals, operand_terminals, unary_terminals, post_terminals, base_terminals, subscripts_terminals, expr_tree, choice_tree, nul_tree, chain_tree, operand_tree, unary_tree, post_tree, base_tree, subscripts_tree}
-use Rattle.php_writer.specs.Marks.{Mark, sign, marked}
+use Rattle.spellable.specs.Marks.{Mark, sign, marked}
 use Rattle.php_writer.specs.Written.{within}
 
 -- a form of this tree, spelled by these marks

@@ -4,7 +4,7 @@ use Rattle.php_syntax.specs.declared.token.Sign.TheVariants as signs
 use Rattle.php_syntax.specs.Trees.{PlainExpr, MaybeExpr, no_expr, some_expr, PlainItems, no_items, more_items}
 use Rattle.script_grammar.specs.Terminals.{Terminal, sign_terminal}
 use Rattle.script_grammar.specs.Expressions.{ItemsForm, empty_items, items_form, MoreItemsForm, end_of_items, one_more_item, value_item, keyed_item, expr_terminals, expr_tree, items_terminals, more_items_terminals, items_tree, more_items_tree}
-use Rattle.php_writer.specs.Marks.{sign}
+use Rattle.spellable.specs.Marks.{sign}
 use Rattle.php_writer.specs.Written.{expr_marks, items_marks, more_items_marks}
 use Rattle.php_writer.proofs.FormPlaces.{Formed, IsExpr}
 use Rattle.php_writer.proofs.Looseness.{whole, IsOwn}

@@ -6,7 +6,7 @@ use Rattle.script_grammar.specs.declared.operator.Operator.TheVariants as operat
 use Rattle.php_syntax.specs.Trees.{PlainExpr, join_expr, MaybeExpr, no_expr, some_expr, PlainExprs, no_exprs, more_exprs, PlainItems, no_items, more_items, PlainPath, no_keys, more_keys}
 use Rattle.script_grammar.specs.Terminals.{Terminal, sign_terminal}
 use Rattle.script_grammar.specs.Expressions.{KeysForm, no_key_form, open_key_form, key_form, chain_form, MoreForm, no_more, one_more, ListForm, empty_list, list_form, MoreExprsForm, no_more_exprs, one_more_expr, expr_terminals, expr_tree, keys_terminals, more_terminals, operand_terminals, list_terminals, more_exprs_terminals, keys_tree, more_tree, operand_tree, link_operands, list_tree, more_exprs_tree}
-use Rattle.php_writer.specs.Marks.{sign}
+use Rattle.spellable.specs.Marks.{sign}
 use Rattle.php_writer.specs.Written.{looseness, within, expr_marks, dotted_marks, list_marks, more_marks, path_marks}
 use Rattle.php_writer.proofs.FormPlaces.{Formed, IsExpr, IsChain, IsOperand}
 use Rattle.php_writer.proofs.OperationForms.{operand_of}

@@ -6,7 +6,7 @@ use Rattle.php_syntax.specs.Trees.{PlainExpr, MaybeExpr, no_expr, some_expr, Pla
 use Rattle.script_grammar.specs.Terminals.{Terminal, word_terminal, sign_terminal}
 use Rattle.script_grammar.specs.Expressions.{expr_terminals, expr_tree, list_terminals, list_tree}
 use Rattle.script_grammar.specs.Statements.{MaybeForm, nothing_form, something_form, maybe_terminals, maybe_tree, VariablesForm, value_form, key_value_form, variables_terminals, key_variable, value_variable, block_form, while_form, do_form, for_form, each_form, break_form, continue_form, return_form, include_form, exit_form, exit_parens_form, is_status, printed, stmt_body, stmt_terminals, stmt_trees, stmts_trees, nearest}
-use Rattle.php_writer.specs.Marks.{Mark, keyword, text, sign, marked}
+use Rattle.spellable.specs.Marks.{Mark, keyword, text, sign, marked}
 use Rattle.php_writer.specs.Written.{expr_marks, maybe_marks, list_marks, condition_marks, variables_marks, stmts_marks}
 use Rattle.php_writer.proofs.FormPlaces.{Formed, IsExpr}
 use Rattle.php_writer.proofs.Looseness.{whole}

@@ -1,7 +1,7 @@
 -- Marks that can be written: their bytes are cut as their tokens. A name stands before a bracket, so that no bracket before it begins a cast.
 use Rattle.std.proofs.Common.{◌≡◌, ◌∙◌, ℕ, suc, ◌+◌, ◌<◌, ◌≤◌, Bool, true, false, List, [], ◌∷◌, ◌++◌, length, drop, refl, sym, ap, subst, arith, Option, Some, None}
 use Rattle.std.specs.Prelude.{◌||◌}
-use Rattle.std.specs.List.{prefix_len}
+use Rattle.std.specs.List.{prefix_len, list_all}
 use Rattle.std.specs.Fmt.{decimal}
 use Rattle.std.proofs.Math.Seq.{take-append_seam, drop-append_seam}
 use Rattle.php_syntax.specs.declared.token.Sign.{Sign}
@@ -12,15 +12,14 @@ use Rattle.lexical_grammar.specs.Characters.{is_name_byte, is_name_start, is_dig
 use Rattle.lexical_grammar.specs.Signs.{cast_step, cast_of, cast_in}
 use Rattle.script_grammar.specs.Terminals.{keyword_of}
 use Rattle.lexical_grammar.specs.Steps.{Step}
-use Rattle.std.specs.List.{list_all}
-use Rattle.token_spelling.specs.Spelled.{IsName, IsInteger}
-use Rattle.token_spelling.proofs.SpelledLemmas.{run_length, apart, apart', over, digit_bounds, name_start_high}
-use Rattle.php_writer.specs.Marks.{Mark, keyword, name, variable, integer, text, read, sign, outside, keyword_spelling, written, all_written}
-use Rattle.php_writer.specs.Spellable.{is_inline}
-use Rattle.php_writer.proofs.CutRead.{AreKeys}
-use Rattle.php_writer.proofs.FineNames.{start_passes}
-use Rattle.php_writer.proofs.Halves.{halves}
-use Rattle.php_writer.proofs.Decimals.{decimal_integer}
+use Rattle.lexical_grammar.specs.Spelled.{IsName, IsInteger}
+use Rattle.lexical_grammar.proofs.SpelledLemmas.{run_length, apart, apart', over, digit_bounds, name_start_high}
+use Rattle.spellable.specs.Marks.{Mark, keyword, name, variable, integer, text, read, sign, outside, keyword_spelling, written, all_written}
+use Rattle.spellable.specs.Spellable.{is_inline}
+use Rattle.spellable.proofs.CutRead.{AreKeys}
+use Rattle.spellable.proofs.FineNames.{start_passes}
+use Rattle.spellable.proofs.Halves.{halves}
+use Rattle.spellable.proofs.Decimals.{decimal_integer}
 
 -- a bracket stands first
 abbrev pub BeginsOpen : List Mark → Type 0

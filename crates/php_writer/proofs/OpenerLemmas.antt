@@ -6,10 +6,10 @@ use Rattle.std.specs.Str.{str_eq_ignore_ascii_case}
 use Rattle.std.proofs.lemmas.Bool.Decides.{nat_tests}
 use Rattle.lexical_grammar.specs.Characters.{before, lower, is_gap, is_line_end, is_blank}
 use Rattle.lexical_grammar.specs.Cuts.{is_opener}
-use Rattle.php_writer.specs.Spellable.{is_inline}
+use Rattle.spellable.specs.Spellable.{is_inline}
 use Rattle.php_writer.specs.Openers.{opens, none_opens}
-use Rattle.php_writer.proofs.CutOutside.{six_bytes, is_php, opener}
-use Rattle.php_writer.proofs.FineInline.{is_echo, second_byte, third_byte, fourth_byte, fifth_byte, sixth_byte, or_false, one_false, two_false, at_opener}
+use Rattle.spellable.proofs.CutOutside.{six_bytes, is_php, opener}
+use Rattle.spellable.proofs.FineInline.{is_echo, second_byte, third_byte, fourth_byte, fifth_byte, sixth_byte, or_false, one_false, two_false, at_opener}
 
 lower_is : (b : ℕ) → to_ascii_lowercase b ≡ lower b
 lower_is b = grind (arith, nat_tests)

@@ -14,11 +14,11 @@ use Rattle.script_grammar.specs.Operators.{update_sign, step_sign}
 use Rattle.php_syntax.specs.Trees.{PlainExpr, null_expr, flag_expr, int_expr, text_expr, var_expr, super_expr, member_expr, array_expr, join_expr, isset_expr, empty_expr, assign_expr, update_expr, step_expr, call_expr, PlainExprs, no_exprs, more_exprs, PlainItems, PlainPath}
 use Rattle.script_grammar.specs.Terminals.{Terminal, variable_terminal, word_terminal, name_terminal, sign_terminal}
 use Rattle.script_grammar.specs.Expressions.{constant_of, ExprForm, assign_form, update_form, target_form, after_form, before_form, int_form, text_form, template_form, constant_form, isset_form, empty_form, bracket_form, variable_base, call_base, SubscriptsForm, no_subscript, subscript_form, expr_terminals, expr_tree, keys_terminals, base_terminals, subscripts_terminals, base_tree, subscripts_tree, list_tree, more_exprs_tree, variable_tree, key_tree, read_tree}
-use Rattle.php_writer.specs.Marks.{Mark, keyword, name, variable, text, read, sign, marked}
-use Rattle.php_writer.specs.Spellable.{is_own_name, is_integer, is_part_key, is_read}
+use Rattle.spellable.specs.Marks.{Mark, keyword, name, variable, text, read, sign, marked}
+use Rattle.spellable.specs.Spellable.{is_own_name, is_integer, is_part_key, is_read}
 use Rattle.script_grammar.specs.Reserved.{request_name}
 use Rattle.php_writer.specs.Written.{flag_word, int_mark, sign_of_update, sign_of_step, read_name, part_key, read_keys, expr_marks, path_marks, list_marks, more_marks, items_marks}
-use Rattle.php_writer.proofs.Halves.{halves, own_variable, IsCallName}
+use Rattle.spellable.proofs.Halves.{halves, own_variable, IsCallName}
 use Rattle.php_writer.proofs.FormPlaces.{IsExpr, IsPost, IsBase}
 use Rattle.php_writer.proofs.ListForms.{IsMore, IsList, IsKeys}
 use Rattle.php_writer.proofs.ItemForms.{IsItems}

@@ -16,7 +16,7 @@ use Rattle.script_grammar.specs.Operators.{tighter_level, repeats, binary_operat
 use Rattle.php_syntax.specs.Trees.{PlainExpr, neg_expr, not_expr, arith_expr, compare_expr, and_expr, or_expr, coalesce_expr, choice_expr, no_expr, some_expr}
 use Rattle.script_grammar.specs.Terminals.{sign_terminal}
 use Rattle.script_grammar.specs.Expressions.{short_choice, full_choice, coalesce_form, chain_form, once_more, tighter_form, prefix_form, expr_terminals, expr_tree, nul_terminals, chain_terminals, operand_terminals, nul_tree, operand_tree, operator_tree, prefix_tree}
-use Rattle.php_writer.specs.Marks.{Mark, sign, marked}
+use Rattle.spellable.specs.Marks.{Mark, sign, marked}
 use Rattle.php_writer.specs.Written.{arith_sign, compare_sign, arith_looseness, compare_looseness, arith_side, compare_side}
 use Rattle.php_writer.proofs.Chains.{Leans, chain_then, chain_then-terminals, chain_then-tree}
 use Rattle.php_writer.proofs.FormPlaces.{IsExpr, IsChoice, IsNul, IsChain, IsOperand, IsUnary, Own, tightest_of}

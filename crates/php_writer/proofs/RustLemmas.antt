@@ -1,17 +1,15 @@
 -- What the code counts on of the definitions.
-use Rattle.std.proofs.Common.{◌≡◌, ◌≢◌, ◌∙◌, ℕ, ◌≤◌, ◌<◌, ◌+◌, List, [], ◌∷◌, length, drop, get_or, refl, arith, add-one, drop-cons}
-use Rattle.std.specs.Prelude.{◌==◌, ◌||◌, if◌then◌else◌}
-use Rattle.token_spelling.specs.Spelled.{quoted}
+use Rattle.std.proofs.Common.{◌≡◌, ◌≢◌, ◌∙◌, ℕ, ◌≤◌, ◌<◌, ◌+◌, List, [], ◌∷◌, length, drop, get_or, refl, arith, add-one, drop-cons, ap, sym}
+use Rattle.std.specs.Prelude.{◌==◌, ◌||◌, if◌then◌else◌, false, nat_lt}
+use Rattle.lexical_grammar.specs.Spelled.{quoted}
 use Rattle.script_grammar.specs.declared.keyword.Keyword.TheVariants as word
 use Rattle.php_syntax.specs.declared.tree.Expr.{Expr}
 use Rattle.php_syntax.specs.declared.tree.Stmt.{Stmt}
 use Rattle.php_syntax.specs.declared.token.Sign.TheVariants as signs
 use Rattle.php_syntax.specs.Trees.{PlainExpr, PlainExprs, no_exprs, more_exprs, exprs_of, plain_expr, stmts_of}
-use Rattle.php_writer.specs.Marks.{Mark, keyword, sign, read}
+use Rattle.spellable.specs.Marks.{Mark, keyword, sign, read}
 use Rattle.php_writer.specs.Written.{read_name, read_keys, join_looseness, looseness, within, expr_marks, list_marks, more_marks, join_marks, dotted_marks, placed_marks, behind_marks, chain_marks, stmt_marks, stmts_marks, else_marks}
 use Rattle.php_writer.proofs.Looseness.{at_most_an_assignment}
-use Rattle.std.specs.Prelude.{false, nat_lt}
-use Rattle.std.proofs.Common.{ap, sym}
 use Rattle.std.proofs.lemmas.Bool.Decides.{nat_tests}
 
 -- two parts or more are a chain of `.`

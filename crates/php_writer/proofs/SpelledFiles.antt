@@ -5,8 +5,8 @@ use Rattle.php_syntax.specs.Trees.{PlainFile}
 use Rattle.lexical_grammar.specs.Cuts.{Cuts}
 use Rattle.script_grammar.specs.Rules.{file_fits}
 use Rattle.script_grammar.specs.Grammar.{SpellsTree}
-use Rattle.php_writer.specs.Marks.{file_written}
-use Rattle.php_writer.specs.Spellable.{is_spellable}
+use Rattle.spellable.specs.Marks.{file_written}
+use Rattle.spellable.specs.Spellable.{is_spellable}
 use Rattle.php_writer.specs.Written.{file_marks}
 use Rattle.php_writer.proofs.AllCut.{IsCutFile, file_cut}
 use Rattle.php_writer.proofs.FileForms.{IsFile, file_formed, file_made}

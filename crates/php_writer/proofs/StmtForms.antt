@@ -6,7 +6,7 @@ use Rattle.php_syntax.specs.Trees.{PlainExpr, PlainExprs, more_exprs, PlainStmt,
 use Rattle.script_grammar.specs.Terminals.{Terminal, word_terminal, sign_terminal}
 use Rattle.script_grammar.specs.Expressions.{expr_terminals, more_exprs_tree}
 use Rattle.script_grammar.specs.Statements.{StmtForm, semicolon_form, inline_form, block_form, echo_form, run_form, if_form, StmtsForm, no_stmts_form, more_stmts_form, ArmsForm, no_arms_form, elseif_form, ElseForm, no_else_form, else_form, stmt_terminals, stmts_terminals, arms_terminals, else_terminals, stmt_trees, stmts_trees, arms_tree, else_tree, takes_else, nearest, all_nearest, arms_nearest, else_nearest}
-use Rattle.php_writer.specs.Marks.{Mark, keyword, sign, outside, marked}
+use Rattle.spellable.specs.Marks.{Mark, keyword, sign, outside, marked}
 use Rattle.php_writer.specs.Written.{expr_marks, more_marks, condition_marks, stmt_marks, stmts_marks, arms_marks, else_marks}
 use Rattle.php_writer.proofs.FormPlaces.{IsExpr}
 use Rattle.php_writer.proofs.ListForms.{IsMore}

@@ -3,10 +3,10 @@ use Rattle.std.proofs.Common.{◌≡◌, ℕ, ◌+◌, ◌-◌, ◌<◌, ◌≤�
 use Rattle.php_syntax.specs.Trees.{PlainExpr, null_expr, flag_expr, int_expr, text_expr, var_expr, super_expr, member_expr, array_expr, join_expr, neg_expr, not_expr, arith_expr, compare_expr, and_expr, or_expr, coalesce_expr, choice_expr, isset_expr, empty_expr, assign_expr, update_expr, step_expr, call_expr, MaybeExpr, no_expr, some_expr, PlainExprs, no_exprs, more_exprs, PlainItems, no_items, more_items, PlainPath, no_keys, more_keys}
 use Rattle.php_syntax.specs.Height.{height, maybe_height, exprs_height, items_height, path_height}
 use Rattle.script_grammar.specs.Rules.{is_known, is_writable, is_place, all_places, all_keyed, keyed_before_last, expr_fits, maybe_fits, exprs_fit, items_fit, path_fits}
-use Rattle.php_writer.specs.Spellable.{is_name, is_call_name, is_own_name, is_integer, is_some_exprs, are_parts, expr_spellable, maybe_spellable, exprs_spellable, items_spellable, path_spellable}
+use Rattle.spellable.specs.Spellable.{is_name, is_call_name, is_own_name, is_integer, is_some_exprs, are_parts, expr_spellable, maybe_spellable, exprs_spellable, items_spellable, path_spellable}
 use Rattle.php_writer.specs.Tested.{deep, is_target, expr_good, maybe_good, exprs_good, items_good, path_good, parts_good}
-use Rattle.php_writer.proofs.Halves.{halves}
-use Rattle.php_writer.proofs.BackNames.{and_true}
+use Rattle.spellable.proofs.Halves.{halves}
+use Rattle.spellable.proofs.BackNames.{and_true}
 use Rattle.php_writer.proofs.TestedSound.{is_deep, Sound, IsSound, IsSoundMaybe, AreSound, AreSoundItems, AreSoundKeys}
 
 pub some_room : (n d : ℕ) → 1 + n ≤ d → 0 < d

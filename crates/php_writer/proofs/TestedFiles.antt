@@ -3,10 +3,10 @@ use Rattle.std.proofs.Common.{◌≡◌, ℕ, ◌+◌, ◌-◌, ◌<◌, ◌≤�
 use Rattle.php_syntax.specs.Trees.{PlainExpr, null_expr, flag_expr, int_expr, text_expr, neg_expr, MaybeExpr, no_expr, some_expr, PlainStmt, inline_stmt, echo_stmt, run_stmt, if_stmt, while_stmt, do_while_stmt, for_stmt, each_stmt, break_stmt, continue_stmt, return_stmt, include_stmt, quit_stmt, PlainStmts, no_stmts, more_stmts, PlainArms, no_arms, more_arms, PlainParam, PlainFunction, PlainFile}
 use Rattle.php_syntax.specs.Height.{height, maybe_height, exprs_height, stmt_height, stmts_height, arms_height, params_height, functions_height, file_height}
 use Rattle.script_grammar.specs.Rules.{is_writable, maybe_writable, is_utf8, is_new_name, expr_fits, maybe_fits, exprs_fit, stmt_fits, stmts_fit, arms_fit, params_fit, functions_fit, file_fits}
-use Rattle.php_writer.specs.Spellable.{is_name, is_call_name, is_some_exprs, is_inline, is_maybe_name, is_some_arms, is_printed, is_unsigned_literal, is_literal, is_default, expr_spellable, maybe_spellable, exprs_spellable, stmt_spellable, stmts_spellable, arms_spellable, params_spellable, functions_spellable, is_spellable}
+use Rattle.spellable.specs.Spellable.{is_name, is_call_name, is_some_exprs, is_inline, is_maybe_name, is_some_arms, is_printed, is_unsigned_literal, is_literal, is_default, expr_spellable, maybe_spellable, exprs_spellable, stmt_spellable, stmts_spellable, arms_spellable, params_spellable, functions_spellable, is_spellable}
 use Rattle.php_writer.specs.Tested.{deep, is_target, expr_good, maybe_good, exprs_good, stmt_good, stmts_good, arms_good, pieces_good, params_good, functions_good, file_good}
-use Rattle.php_writer.proofs.Halves.{halves}
-use Rattle.php_writer.proofs.BackNames.{and_true}
+use Rattle.spellable.proofs.Halves.{halves}
+use Rattle.spellable.proofs.BackNames.{and_true}
 use Rattle.php_writer.proofs.TestedSound.{deep_is, is_deep, Sound, leaf, over_one, over_two, beside, expr_sound, maybe_sound, exprs_sound}
 use Rattle.php_writer.proofs.TestedExprs.{leaf_room, under_one, under_two, apart_two, expr_tests, maybe_tests, exprs_test}
 

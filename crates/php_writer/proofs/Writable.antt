@@ -8,13 +8,13 @@ use Rattle.php_syntax.specs.declared.tree.SuperName.TheVariants as request
 use Rattle.php_syntax.specs.Tokens.{PlainKey}
 use Rattle.lexical_grammar.specs.Characters.{largest}
 use Rattle.php_syntax.specs.Trees.{PlainExpr, null_expr, flag_expr, int_expr, text_expr, var_expr, super_expr, member_expr, array_expr, join_expr, neg_expr, not_expr, arith_expr, compare_expr, and_expr, or_expr, coalesce_expr, choice_expr, isset_expr, empty_expr, assign_expr, update_expr, step_expr, call_expr, MaybeExpr, no_expr, some_expr, PlainExprs, no_exprs, more_exprs, PlainItems, no_items, more_items, PlainPath, no_keys, more_keys}
-use Rattle.token_spelling.specs.Spelled.{IsName}
-use Rattle.php_writer.specs.Marks.{Mark, sign}
-use Rattle.php_writer.specs.Spellable.{is_name, is_call_name, is_integer, is_unsigned, is_part_key, is_read, are_parts, is_some_exprs, expr_spellable, maybe_spellable, exprs_spellable, items_spellable, path_spellable}
+use Rattle.lexical_grammar.specs.Spelled.{IsName}
+use Rattle.spellable.specs.Marks.{Mark, sign}
+use Rattle.spellable.specs.Spellable.{is_name, is_call_name, is_integer, is_unsigned, is_part_key, is_read, are_parts, is_some_exprs, expr_spellable, maybe_spellable, exprs_spellable, items_spellable, path_spellable}
 use Rattle.script_grammar.specs.Reserved.{request_name}
 use Rattle.php_writer.specs.Written.{looseness, within, int_mark, read_name, part_key, read_keys, arith_looseness, arith_side, compare_side, arith_sign, compare_sign, sign_of_update, expr_marks, maybe_marks, join_marks, dotted_marks, list_marks, more_marks, items_marks, more_items_marks, key_marks, path_marks}
-use Rattle.php_writer.proofs.Halves.{halves, name_is, own_name_is, call_name_is, IsCallName}
-use Rattle.php_writer.proofs.CutRead.{IsKey, AreKeys}
+use Rattle.spellable.proofs.Halves.{halves, name_is, own_name_is, call_name_is, IsCallName}
+use Rattle.spellable.proofs.CutRead.{IsKey, AreKeys}
 use Rattle.php_writer.proofs.NoCasts.{AllWritable}
 
 -- marks that can be written, before those that can

@@ -4,10 +4,10 @@ use Rattle.php_syntax.specs.declared.token.Sign.TheVariants as signs
 use Rattle.script_grammar.specs.declared.keyword.Keyword.{Keyword}
 use Rattle.script_grammar.specs.declared.keyword.Keyword.TheVariants as word
 use Rattle.php_syntax.specs.Trees.{PlainExpr, null_expr, flag_expr, int_expr, text_expr, neg_expr, MaybeExpr, no_expr, some_expr, PlainStmt, inline_stmt, echo_stmt, run_stmt, if_stmt, while_stmt, do_while_stmt, for_stmt, each_stmt, break_stmt, continue_stmt, return_stmt, include_stmt, quit_stmt, PlainStmts, no_stmts, more_stmts, PlainArms, no_arms, more_arms, PlainParam, PlainFunction, PlainFile}
-use Rattle.php_writer.specs.Marks.{Mark, keyword, sign}
-use Rattle.php_writer.specs.Spellable.{is_name, is_call_name, is_some_exprs, is_maybe_name, is_some_arms, is_printed, expr_spellable, maybe_spellable, exprs_spellable, stmt_spellable, stmts_spellable, arms_spellable, is_literal, is_default, params_spellable, functions_spellable, is_spellable}
+use Rattle.spellable.specs.Marks.{Mark, keyword, sign}
+use Rattle.spellable.specs.Spellable.{is_name, is_call_name, is_some_exprs, is_maybe_name, is_some_arms, is_printed, expr_spellable, maybe_spellable, exprs_spellable, stmt_spellable, stmts_spellable, arms_spellable, is_literal, is_default, params_spellable, functions_spellable, is_spellable}
 use Rattle.php_writer.specs.Written.{expr_marks, maybe_marks, list_marks, condition_marks, argument_marks, variables_marks, stmt_marks, stmts_marks, arms_marks, else_marks, default_marks, param_marks, more_params_marks, params_marks, function_marks, functions_marks, file_marks}
-use Rattle.php_writer.proofs.Halves.{halves, name_is, call_name_is, IsCallName}
+use Rattle.spellable.proofs.Halves.{halves, name_is, call_name_is, IsCallName}
 use Rattle.php_writer.proofs.NoCasts.{AllWritable}
 use Rattle.php_writer.proofs.Writable.{Keeps, expr_keeps, maybe_keeps, list_keeps, integer_keeps}
 

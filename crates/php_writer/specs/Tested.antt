@@ -3,7 +3,7 @@
 use Rattle.std.specs.Prelude.{ℕ, ◌-◌, Bool, true, false, ◌&&◌, nat_lt, List, [], ◌∷◌}
 use Rattle.php_syntax.specs.Trees.{PlainExpr, null_expr, flag_expr, int_expr, text_expr, var_expr, super_expr, member_expr, array_expr, join_expr, neg_expr, not_expr, arith_expr, compare_expr, and_expr, or_expr, coalesce_expr, choice_expr, isset_expr, empty_expr, assign_expr, update_expr, step_expr, call_expr, MaybeExpr, no_expr, some_expr, PlainExprs, no_exprs, more_exprs, PlainItems, no_items, more_items, PlainPath, no_keys, more_keys, PlainStmt, inline_stmt, echo_stmt, run_stmt, if_stmt, while_stmt, do_while_stmt, for_stmt, each_stmt, break_stmt, continue_stmt, return_stmt, include_stmt, quit_stmt, PlainStmts, no_stmts, more_stmts, PlainArms, no_arms, more_arms, PlainParam, PlainFunction, PlainFile}
 use Rattle.script_grammar.specs.Rules.{is_known, is_writable, is_place, all_places, all_keyed, keyed_before_last, maybe_writable, is_utf8, is_new_name}
-use Rattle.php_writer.specs.Spellable.{is_name, is_call_name, is_own_name, is_integer, is_some_exprs, are_parts, is_inline, is_maybe_name, is_some_arms, is_printed, is_default}
+use Rattle.spellable.specs.Spellable.{is_name, is_call_name, is_own_name, is_integer, is_some_exprs, are_parts, is_inline, is_maybe_name, is_some_arms, is_printed, is_default}
 
 -- room for one node more, and what is asked of its parts
 unfoldable pub deep : ℕ → Bool → Bool

@@ -17,7 +17,7 @@ use Rattle.script_grammar.specs.declared.operator.Level.{Level}
 use Rattle.script_grammar.specs.declared.operator.Level.TheVariants as level
 use Rattle.script_grammar.specs.Operators.{level_rank}
 use Rattle.script_grammar.specs.Reserved.{request_name}
-use Rattle.php_writer.specs.Marks.{Mark, keyword, name, variable, integer, text, read, sign, outside}
+use Rattle.spellable.specs.Marks.{Mark, keyword, name, variable, integer, text, read, sign, outside}
 
 -- the sign of an operation
 abbrev pub arith_sign : ArithSign → Sign

@@ -1,10 +1,9 @@
 //! One test of an expression: that it is so high at most, spellable and by the rules.
 
-ghost use Rattle.std.specs.Prelude.{◌≡◌, ◌&&◌};
+ghost use Rattle.std.specs.Prelude.{◌≡◌, ◌&&◌, ◌-◌};
 ghost use Rattle.php_syntax.specs.Trees.{plain_expr, exprs_of, items_of, path_of, maybe_of, boxed_of, target_name, target_path};
-ghost use Rattle.std.specs.Prelude.{◌-◌};
 ghost use Rattle.script_grammar.specs.Rules.{all_places};
-ghost use Rattle.php_writer.specs.Spellable.{is_some_exprs};
+ghost use Rattle.spellable.specs.Spellable.{is_some_exprs};
 ghost use Rattle.php_writer.specs.Tested as spec;
 
 use crate::names::{is_call_name, is_own_name, is_target};

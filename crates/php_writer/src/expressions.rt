@@ -4,8 +4,8 @@ ghost use Rattle.std.specs.Prelude.{◌≡◌, ◌++◌, ◌∷◌, [], OnOk, �
 ghost use Rattle.php_syntax.specs.declared.token.Sign.TheVariants as signs;
 ghost use Rattle.script_grammar.specs.declared.keyword.Keyword.TheVariants as words;
 ghost use Rattle.php_syntax.specs.Trees.{plain_expr, step_expr, exprs_of, items_of, path_of, boxed_of, maybe_of, target_name, target_path};
-ghost use Rattle.php_writer.specs.Marks.{Mark, Adds};
-ghost use Rattle.php_writer.specs.Marks as mark;
+ghost use Rattle.spellable.specs.Marks.{Mark, Adds};
+ghost use Rattle.spellable.specs.Marks as mark;
 ghost use Rattle.php_writer.specs.Written.{int_mark, sign_of_update, placed_marks, chain_marks, expr_marks, condition_marks, maybe_marks, join_marks, list_marks, key_marks, items_marks, path_marks};
 
 use crate::marks::Writer;

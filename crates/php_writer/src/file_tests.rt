@@ -1,7 +1,6 @@
 //! Which trees some file spells.
 
-ghost use Rattle.std.specs.Prelude.{◌≡◌, ◌≤◌, ◌↔◌, ◌&&◌, IsTrue};
-ghost use Rattle.std.specs.Prelude.{◌-◌};
+ghost use Rattle.std.specs.Prelude.{◌≡◌, ◌≤◌, ◌↔◌, ◌&&◌, IsTrue, ◌-◌};
 ghost use Rattle.php_syntax.specs.Trees.{plain_param, params_of_list, plain_function, functions_of_list, plain_file};
 ghost use Rattle.script_grammar.specs.Rules as rules;
 ghost use Rattle.php_syntax.specs.Height.{file_height};

@@ -4,8 +4,8 @@ ghost use Rattle.std.specs.Prelude.{◌≡◌, ◌++◌, ◌∷◌, OnOk, IfOk, 
 ghost use Rattle.php_syntax.specs.declared.token.Sign.TheVariants as signs;
 ghost use Rattle.script_grammar.specs.declared.keyword.Keyword.TheVariants as words;
 ghost use Rattle.php_syntax.specs.Trees.{maybe_of, plain_param, params_of_list, plain_function, functions_of_list, plain_file};
-ghost use Rattle.php_writer.specs.Marks.{Mark, Adds, all_written, file_written};
-ghost use Rattle.php_writer.specs.Marks as mark;
+ghost use Rattle.spellable.specs.Marks.{Mark, Adds, all_written, file_written};
+ghost use Rattle.spellable.specs.Marks as mark;
 ghost use Rattle.php_writer.specs.Spelled.{Spells, IsSpelled};
 ghost use Rattle.php_writer.specs.Written.{default_marks, param_marks, params_marks, function_marks, functions_marks, file_marks};
 

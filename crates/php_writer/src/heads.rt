@@ -5,8 +5,8 @@ ghost use Rattle.php_syntax.specs.declared.token.Sign.TheVariants as signs;
 ghost use Rattle.script_grammar.specs.declared.keyword.Keyword.{Keyword as Word};
 ghost use Rattle.script_grammar.specs.declared.keyword.Keyword.TheVariants as words;
 ghost use Rattle.php_syntax.specs.Trees.{plain_expr, exprs_of, maybe_of};
-ghost use Rattle.php_writer.specs.Marks.{Mark, Adds};
-ghost use Rattle.php_writer.specs.Marks as mark;
+ghost use Rattle.spellable.specs.Marks.{Mark, Adds};
+ghost use Rattle.spellable.specs.Marks as mark;
 ghost use Rattle.php_writer.specs.Written.{expr_marks, maybe_marks, list_marks, condition_marks, argument_marks, variables_marks};
 
 use crate::expressions::{condition, expression, list, maybe};

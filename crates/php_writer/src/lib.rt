@@ -1,14 +1,8 @@
-//! Which trees some file spells, and a writer of them.
-//!
-//! A tree is spelled by a file that is cut into tokens whose grammar gives the tree, by `Cuts` and
-//! `SpellsTree` of `lexical_grammar` and `script_grammar`. [`well_formed`] says exactly whether
-//! there is such a file and the tree is at most 200 high, and [`write_tree`] writes one.
-//! `specs/Spellable.antt` says of a tree, node by node, what is asked of it beside the rules of
-//! `script_grammar`; that this is asked of just the trees that some file spells is proved in both
-//! directions: the written file spells the tree (`proofs/SpelledFiles.antt`), and what a file
-//! spells is spellable (`proofs/BackFiles.antt`). What is written stands in `specs/Written.antt`: a
-//! space behind each token, round brackets just where they are needed, bodies in braces. Below this
-//! crate stand text_base, php_syntax, the two grammars and the laws of token_spelling.
+//! Which trees some file spells, a writer of them, and the law that ties it to the reader.
+//! Promise: `well_formed` is true exactly where some file spells the tree and it is at most 200
+//! high (`IsSpelled` of specs/Spelled); of such a tree `write_tree` gives bytes that spell it
+//! (`Spells`), and what `read_back` reads is the tree again (`same`).
+//! Used by: reading_tests.
 #![tactic(auto)]
 
 mod expression_tests;
@@ -21,9 +15,13 @@ mod names;
 mod openers;
 mod places;
 mod reads;
+mod round;
 mod shapes;
 mod statement_tests;
 mod statements;
+mod unread;
 
 pub use file_tests::well_formed;
 pub use files::write_tree;
+pub use round::read_back;
+pub use unread::Unread;

@@ -1,10 +1,10 @@
 //! The marks of a script, one after another.
 
 ghost use Rattle.std.specs.Prelude.{◌≡◌, ◌++◌, ◌∷◌, OnOk, ℕ, List, pos};
-ghost use Rattle.php_writer.specs.Marks.{Mark, Adds, all_written, keyword_spelling, digits_of};
-ghost use Rattle.php_writer.specs.Marks as mark;
+ghost use Rattle.spellable.specs.Marks.{Mark, Adds, all_written, keyword_spelling, digits_of};
+ghost use Rattle.spellable.specs.Marks as mark;
 ghost use Rattle.php_writer.specs.Written.{int_mark};
-ghost use Rattle.token_spelling.specs.Spelled.{quoted};
+ghost use Rattle.lexical_grammar.specs.Spelled.{quoted};
 
 use php_syntax::token::Sign;
 use script_grammar::keyword::Keyword;
@@ -30,7 +30,7 @@ impl Writer {
     }
 
     /// Puts a sign.
-    #[tactic(auto, unfolding(crate::specs::Marks::all_written))]
+    #[tactic(auto, unfolding(spellable::specs::Marks::all_written))]
     pub fn sign(&mut self, sign: Sign) -> Result<(), NoMemory>
         ensures { OnOk result (Adds self.old.bytes self.new.bytes (λ behind.
             mark.sign sign ∷ behind)) }
@@ -40,7 +40,7 @@ impl Writer {
     }
 
     /// Puts a keyword.
-    #[tactic(auto, unfolding(crate::specs::Marks::all_written))]
+    #[tactic(auto, unfolding(spellable::specs::Marks::all_written))]
     pub fn keyword(&mut self, keyword: Keyword) -> Result<(), NoMemory>
         ensures { OnOk result (Adds self.old.bytes self.new.bytes (λ behind.
             mark.keyword keyword ∷ behind)) }
@@ -50,7 +50,7 @@ impl Writer {
     }
 
     /// Puts a name.
-    #[tactic(auto, unfolding(crate::specs::Marks::all_written))]
+    #[tactic(auto, unfolding(spellable::specs::Marks::all_written))]
     pub fn name(&mut self, name: &[u8]) -> Result<(), NoMemory>
         ensures { OnOk result (Adds self.old.bytes self.new.bytes (λ behind.
             mark.name name.now ∷ behind)) }
@@ -60,7 +60,7 @@ impl Writer {
     }
 
     /// Puts a variable.
-    #[tactic(auto, unfolding(crate::specs::Marks::all_written))]
+    #[tactic(auto, unfolding(spellable::specs::Marks::all_written))]
     pub fn variable(&mut self, name: &[u8]) -> Result<(), NoMemory>
         ensures { OnOk result (Adds self.old.bytes self.new.bytes (λ behind.
             mark.variable name.now ∷ behind)) }
@@ -87,7 +87,7 @@ impl Writer {
     }
 
     /// Puts a text in single quotes.
-    #[tactic(auto, unfolding(crate::specs::Marks::all_written))]
+    #[tactic(auto, unfolding(spellable::specs::Marks::all_written))]
     pub fn text(&mut self, text: &[u8]) -> Result<(), NoMemory>
         ensures { OnOk result (Adds self.old.bytes self.new.bytes (λ behind.
             mark.text text.now ∷ behind)) }
@@ -99,7 +99,7 @@ impl Writer {
     }
 
     /// Puts bytes outside PHP, and the tags round them.
-    #[tactic(auto, unfolding(crate::specs::Marks::all_written))]
+    #[tactic(auto, unfolding(spellable::specs::Marks::all_written))]
     pub fn outside(&mut self, text: &[u8]) -> Result<(), NoMemory>
         ensures { OnOk result (Adds self.old.bytes self.new.bytes (λ behind.
             mark.outside text.now ∷ behind)) }
@@ -123,7 +123,7 @@ impl Writer {
     }
 
     /// Puts an integer literal, or the constant of the least integer.
-    #[tactic(auto, unfolding(crate::specs::Marks::all_written, crate::specs::Written::int_mark))]
+    #[tactic(auto, unfolding(spellable::specs::Marks::all_written, crate::specs::Written::int_mark))]
     pub fn integer(&mut self, number: i64) -> Result<(), NoMemory>
         ensures { OnOk result (Adds self.old.bytes self.new.bytes (λ behind.
             int_mark number ∷ behind)) }

@@ -6,10 +6,10 @@ ghost use Rattle.std.specs.List.{list_all};
 ghost use Rattle.std.specs.Str.{str_to_ascii_lowercase};
 ghost use Rattle.lexical_grammar.specs.Characters as chars;
 ghost use Rattle.script_grammar.specs.Terminals.{same_bytes};
-ghost use Rattle.php_writer.specs.Spellable as spelled;
+ghost use Rattle.spellable.specs.Spellable as spelled;
 ghost use Rattle.php_writer.specs.Tested as tested;
 
-use byte_classes::{is_name_byte, is_name_start};
+use lexical_grammar::{is_name_byte, is_name_start};
 use script_grammar::keyword::keyword_named;
 use script_grammar::reserved::{is_request, is_writable};
 

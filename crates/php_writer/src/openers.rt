@@ -2,9 +2,9 @@
 
 ghost use Rattle.std.specs.Prelude.{◌≡◌, ◌<◌, length, drop};
 ghost use Rattle.php_writer.specs.Openers as spec;
-ghost use Rattle.php_writer.specs.Spellable as spelled;
+ghost use Rattle.spellable.specs.Spellable as spelled;
 
-use byte_classes::is_blank;
+use lexical_grammar::is_blank;
 
 // Whether `<?php` in any case and a blank stand first.
 fn opens_php(bytes: &[u8]) -> bool

@@ -3,8 +3,8 @@
 ghost use Rattle.std.specs.Prelude.{◌≡◌, ◌++◌, ◌∷◌, [], OnOk, ℕ, List};
 ghost use Rattle.php_syntax.specs.Tokens.{PlainKey, text_key, int_key, var_key};
 ghost use Rattle.php_syntax.specs.Trees.{plain_expr};
-ghost use Rattle.php_writer.specs.Marks.{Mark, Adds, keys_spelling};
-ghost use Rattle.php_writer.specs.Marks as mark;
+ghost use Rattle.spellable.specs.Marks.{Mark, Adds, keys_spelling};
+ghost use Rattle.spellable.specs.Marks as mark;
 ghost use Rattle.php_writer.specs.Written.{read_name, part_key, read_keys};
 
 use crate::marks::Writer;
@@ -13,7 +13,7 @@ use script_grammar::reserved::request_name;
 use text_base::NoMemory;
 
 // Puts a text as a key.
-#[tactic(auto, unfolding(crate::specs::Marks::keys_spelling))]
+#[tactic(auto, unfolding(spellable::specs::Marks::keys_spelling))]
 fn put_text_key(out: &mut Writer, text: &[u8]) -> Result<(), NoMemory>
     ensures { OnOk result ((keys : List PlainKey) (rest : List ℕ)
         → out.new.bytes ++ (keys_spelling keys ++ rest)
@@ -26,7 +26,7 @@ fn put_text_key(out: &mut Writer, text: &[u8]) -> Result<(), NoMemory>
 }
 
 // Puts an integer as a key.
-#[tactic(auto, unfolding(crate::specs::Marks::keys_spelling))]
+#[tactic(auto, unfolding(spellable::specs::Marks::keys_spelling))]
 fn put_int_key(out: &mut Writer, number: i64) -> Result<(), NoMemory>
     ensures { OnOk result ((keys : List PlainKey) (rest : List ℕ)
         → out.new.bytes ++ (keys_spelling keys ++ rest)
@@ -39,7 +39,7 @@ fn put_int_key(out: &mut Writer, number: i64) -> Result<(), NoMemory>
 }
 
 // Puts a variable as a key.
-#[tactic(auto, unfolding(crate::specs::Marks::keys_spelling))]
+#[tactic(auto, unfolding(spellable::specs::Marks::keys_spelling))]
 fn put_variable_key(out: &mut Writer, name: &[u8]) -> Result<(), NoMemory>
     ensures { OnOk result ((keys : List PlainKey) (rest : List ℕ)
         → out.new.bytes ++ (keys_spelling keys ++ rest)
@@ -107,7 +107,7 @@ fn put_path(out: &mut Writer, expr: &Expr) -> Result<(), NoMemory>
 }
 
 /// Puts a template that reads a member of a variable.
-#[tactic(auto, unfolding(crate::specs::Marks::all_written, crate::specs::Marks::keys_spelling))]
+#[tactic(auto, unfolding(spellable::specs::Marks::all_written, spellable::specs::Marks::keys_spelling))]
 pub fn put_read(out: &mut Writer, expr: &Expr) -> Result<(), NoMemory>
     ensures { OnOk result (Adds out.old.bytes out.new.bytes (λ behind.
         mark.read (read_name (plain_expr expr.now)) (read_keys (plain_expr expr.now) []) ∷ behind)) }

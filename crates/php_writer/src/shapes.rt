@@ -3,7 +3,7 @@
 ghost use Rattle.std.specs.Prelude.{◌≡◌};
 ghost use Rattle.php_syntax.specs.Trees.{plain_expr, exprs_of, path_of, maybe_of};
 ghost use Rattle.script_grammar.specs.Rules as spec;
-ghost use Rattle.php_writer.specs.Spellable as spelled;
+ghost use Rattle.spellable.specs.Spellable as spelled;
 
 use crate::names::is_own_name;
 use php_syntax::tree::Expr;
@@ -70,7 +70,7 @@ fn is_read(expr: &Expr) -> bool
 }
 
 /// Whether a join can have these parts.
-#[tactic(auto, using(crate::proofs::ShapeLemmas::one_part_is, crate::proofs::ShapeLemmas::parts_are))]
+#[tactic(auto, using(spellable::proofs::ShapeLemmas::one_part_is, spellable::proofs::ShapeLemmas::parts_are))]
 pub fn are_parts(parts: &[Expr]) -> bool
     ensures { result ≡ spelled.are_parts (exprs_of parts.now) }
 {
@@ -136,7 +136,7 @@ pub fn all_keyed(keys: &[Option<Expr>]) -> bool
 }
 
 /// Whether each place of a path but the last has a key.
-#[tactic(auto, using(crate::proofs::ShapeLemmas::last_key))]
+#[tactic(auto, using(spellable::proofs::ShapeLemmas::last_key))]
 pub fn keyed_before_last(keys: &[Option<Expr>]) -> bool
     ensures { result ≡ spec.keyed_before_last (path_of keys.now) }
 {
@@ -147,7 +147,7 @@ pub fn keyed_before_last(keys: &[Option<Expr>]) -> bool
 }
 
 /// Whether there is an expression.
-#[tactic(auto, using(crate::proofs::ShapeLemmas::some_exprs, crate::proofs::ShapeLemmas::no_exprs_are))]
+#[tactic(auto, using(spellable::proofs::ShapeLemmas::some_exprs, spellable::proofs::ShapeLemmas::no_exprs_are))]
 pub fn is_some(exprs: &[Expr]) -> bool
     ensures { result ≡ spelled.is_some_exprs (exprs_of exprs.now) }
 {

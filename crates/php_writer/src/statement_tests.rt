@@ -3,7 +3,7 @@
 ghost use Rattle.std.specs.Prelude.{◌≡◌, ◌&&◌, true};
 ghost use Rattle.php_syntax.specs.Trees.{plain_expr, plain_stmt, exprs_of, maybe_of, stmts_of, arms_of};
 ghost use Rattle.script_grammar.specs.Rules as rules;
-ghost use Rattle.php_writer.specs.Spellable as spelled;
+ghost use Rattle.spellable.specs.Spellable as spelled;
 ghost use Rattle.php_writer.specs.Tested as spec;
 
 use crate::expression_tests::{are_good, is_good, is_maybe_good};
@@ -16,7 +16,7 @@ use script_grammar::shapes::is_status;
 use text_base::Bytes;
 
 // Whether bytes are UTF-8.
-#[tactic(auto, using(crate::proofs::ShapeLemmas::utf8_so, crate::proofs::ShapeLemmas::utf8_not))]
+#[tactic(auto, using(spellable::proofs::ShapeLemmas::utf8_so, spellable::proofs::ShapeLemmas::utf8_not))]
 fn is_utf8(bytes: &[u8]) -> bool
     ensures { result ≡ rules.is_utf8 bytes.now }
 {
@@ -57,7 +57,7 @@ fn is_printed(value: &Option<Expr>) -> bool
 }
 
 // Whether there is an arm.
-#[tactic(auto, using(crate::proofs::ShapeLemmas::some_arms, crate::proofs::ShapeLemmas::no_arms_are))]
+#[tactic(auto, using(spellable::proofs::ShapeLemmas::some_arms, spellable::proofs::ShapeLemmas::no_arms_are))]
 fn is_some_arm(arms: &[(Expr, Vec<Stmt>)]) -> bool
     ensures { result ≡ spelled.is_some_arms (arms_of arms.now) }
 {

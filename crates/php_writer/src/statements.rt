@@ -4,8 +4,8 @@ ghost use Rattle.std.specs.Prelude.{◌≡◌, ◌++◌, ◌∷◌, OnOk, ℕ, L
 ghost use Rattle.php_syntax.specs.declared.token.Sign.TheVariants as signs;
 ghost use Rattle.script_grammar.specs.declared.keyword.Keyword.TheVariants as words;
 ghost use Rattle.php_syntax.specs.Trees.{plain_expr, plain_stmt, stmts_of, arms_of};
-ghost use Rattle.php_writer.specs.Marks.{Mark, Adds};
-ghost use Rattle.php_writer.specs.Marks as mark;
+ghost use Rattle.spellable.specs.Marks.{Mark, Adds};
+ghost use Rattle.spellable.specs.Marks as mark;
 ghost use Rattle.php_writer.specs.Written.{condition_marks, stmt_marks, stmts_marks, arms_marks, else_marks};
 
 use crate::heads::{do_end, each_head, echo, for_head, head, include, jump, quit, returned, run};

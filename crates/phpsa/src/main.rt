@@ -1,6 +1,8 @@
-//! The program `phpsa`: it hands the real words, files and streams to `phpsa_main`, and ends with
-//! the status that comes back. What it answers is said by the contract of `phpsa_main::phpsa`;
-//! below it stand `io_edge`, with the files and streams of the system, and `phpsa_main`.
+//! The program `phpsa`: it hands the words, the files and the two outputs of the system to
+//! `phpsa_main::phpsa`, and ends with the status that comes back.
+//! Promise: what it answers is the contract of `phpsa_main::phpsa`; that the files and streams of
+//! the system do what io_edge asks of them is trusted.
+//! Used by: the command line.
 #![tactic(auto)]
 
 use io_edge::{DiskFiles, StdSink};

@@ -10,12 +10,12 @@ use Rattle.script_meaning.specs.Programs.{PlainProgram}
 use Rattle.script_meaning.specs.Requests.{PlainRequest, Admitted}
 use Rattle.program_files.specs.Source.{SourceCall, source_call}
 use Rattle.program_files.specs.declared.refusal.LoadRefusal.{LoadRefusal}
-use Rattle.phpsa_tasks.specs.LoaderCauses.{Loads, IsLoadCause}
+use Rattle.program_loader.specs.Causes.{Loads, IsLoadCause}
 use Rattle.request_reading.specs.Outcome.{outcome}
 use Rattle.request_reading.specs.Causes.{IsCause}
 use Rattle.request_reading.specs.declared.refusal.RequestRefusal.{RequestRefusal}
 use Rattle.request_reading.specs.declared.refusal.RequestRefusal.TheVariants as asking
-use Rattle.phpsa_tasks.specs.Told.{Content, IsLoaded}
+use Rattle.program_loader.specs.Told.{Content, IsLoaded}
 use Rattle.phpsa_texts.specs.declared.exit.Exit.{Exit}
 use Rattle.phpsa_texts.specs.declared.exit.Exit.TheVariants.{ReadFault}
 use Rattle.phpsa_texts.specs.declared.message.Refusal.{Refusal}

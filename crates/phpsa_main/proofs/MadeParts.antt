@@ -3,8 +3,8 @@ use Rattle.std.proofs.Common.{◌≡◌, ℕ, List, length, inr, subst}
 use Rattle.std.specs.Prelude.{Ok, Err}
 use Rattle.program_files.specs.Source.{SourceCall, source_call}
 use Rattle.document_types.specs.DocumentTypes.{strict_type}
-use Rattle.page_goals.specs.declared.goal.Goal.{Goal}
-use Rattle.phpsa_tasks.specs.answer.ShownAnswer.{ShownAnswer}
+use Rattle.page_decision.specs.declared.goal.Goal.{Goal}
+use Rattle.script_decision.specs.declared.shown.ShownAnswer.{ShownAnswer}
 use Rattle.script_maker.specs.Made.{made, IsSize}
 use Rattle.phpsa_texts.specs.declared.exit.Exit.TheVariants.{Done, Input}
 use Rattle.phpsa_texts.specs.declared.message.Message.{Message}

@@ -5,13 +5,13 @@ use Rattle.script_meaning.specs.Programs.{PlainProgram}
 use Rattle.program_files.specs.Source.{SourceCall, source_call, so_many_more}
 use Rattle.program_files.specs.declared.refusal.LoadRefusal.{LoadRefusal}
 use Rattle.program_files.specs.declared.refusal.LoadRefusal.TheVariants as load
-use Rattle.phpsa_tasks.specs.LoaderCauses.{Loads, IsLoadCause}
-use Rattle.phpsa_tasks.specs.Told.{IsLoaded}
+use Rattle.program_loader.specs.Causes.{Loads, IsLoadCause}
+use Rattle.program_loader.specs.Told.{IsLoaded}
 use Rattle.dtd_model.specs.Table.{Table}
 use Rattle.document_types.specs.DocumentTypes.{NamedType, HasTable, IsBuiltIn, IsDefinitionRefusal}
 use Rattle.document_types.specs.declared.refusal.DefinitionRefusal.{DefinitionRefusal}
-use Rattle.page_goals.specs.declared.goal.Goal.{Goal}
-use Rattle.phpsa_tasks.specs.answer.ShownAnswer.{ShownAnswer}
+use Rattle.page_decision.specs.declared.goal.Goal.{Goal}
+use Rattle.script_decision.specs.declared.shown.ShownAnswer.{ShownAnswer}
 use Rattle.phpsa_texts.specs.declared.exit.Exit.TheVariants.{ReadFault}
 use Rattle.phpsa_texts.specs.declared.message.Message.{Message}
 use Rattle.phpsa_texts.specs.declared.answers.AnswerForm.{AnswerForm}

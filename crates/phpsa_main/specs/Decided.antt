@@ -2,13 +2,13 @@
 use Rattle.std.specs.Prelude.{◌≡◌, ◌⊎◌, ℕ, List, Contains, Result, Ok, Err, ⊤}
 use Rattle.script_meaning.specs.Programs.{PlainProgram}
 use Rattle.dtd_model.specs.Table.{Table}
-use Rattle.page_goals.specs.declared.goal.Goal.{Goal}
+use Rattle.page_decision.specs.declared.goal.Goal.{Goal}
 use Rattle.program_files.specs.Source.{SourceCall}
-use Rattle.program_literals.specs.Short.{HasLongText}
-use Rattle.phpsa_tasks.specs.Told.{IsLoaded}
+use Rattle.program_lowering.specs.Short.{HasLongText}
+use Rattle.program_loader.specs.Told.{IsLoaded}
 use Rattle.document_types.specs.DocumentTypes.{NamedType, HasTable, IsBuiltIn}
-use Rattle.phpsa_tasks.specs.Decision.{HasManyStates}
-use Rattle.phpsa_tasks.specs.answer.ShownAnswer.{ShownAnswer}
+use Rattle.script_decision.specs.Decision.{HasManyStates}
+use Rattle.script_decision.specs.declared.shown.ShownAnswer.{ShownAnswer}
 use Rattle.phpsa_texts.specs.declared.exit.Exit.TheVariants.{Dtd, Input}
 use Rattle.phpsa_texts.specs.declared.message.Message.{Message}
 use Rattle.phpsa_texts.specs.declared.message.Refusal.{Refusal}

@@ -1,7 +1,7 @@
 -- What judging a page comes to. No public clause cites this.
 use Rattle.std.specs.Prelude.{ℕ, Bool, List, Ok, Err, ⊤}
 use Rattle.dtd_model.specs.Table.{Table}
-use Rattle.phpsa_tasks.specs.Decision.{HasManyStates}
+use Rattle.script_decision.specs.Decision.{HasManyStates}
 use Rattle.phpsa_texts.specs.declared.exit.Exit.TheVariants.{Dtd}
 use Rattle.phpsa_texts.specs.declared.message.Refusal.{Refusal}
 use Rattle.phpsa_texts.specs.Statuses.{judgment_status}

@@ -6,8 +6,8 @@ use Rattle.script_meaning.specs.Programs.{PlainProgram}
 use Rattle.script_meaning.specs.Requests.{PlainRequest}
 use Rattle.script_meaning.specs.Runs.{Ended}
 use Rattle.script_meaning.specs.Meaning.{Outcome, meaning}
-use Rattle.phpsa_tasks.specs.Pages.{DerivePages}
-use Rattle.program_literals.specs.Short.{HasLongText}
+use Rattle.loose_grammar.specs.Pages.{DerivePages}
+use Rattle.program_lowering.specs.Short.{HasLongText}
 use Rattle.phpsa_texts.specs.declared.exit.Exit.TheVariants.{Done, Input}
 use Rattle.phpsa_texts.specs.declared.message.Refusal.{Refusal}
 use Rattle.phpsa_texts.specs.Texts.{Says, long_text}

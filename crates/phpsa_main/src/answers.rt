@@ -4,10 +4,10 @@ ghost use Rattle.std.specs.Prelude.{◌≡◌, IfOk};
 ghost use Rattle.phpsa_texts.specs.Texts.{Says};
 ghost use Rattle.phpsa_tasks.specs.Replies.{answer_status, answer_text, conclusion_of};
 
-use phpsa_tasks::ShownAnswer;
 use phpsa_texts::{
     AnswerForm, Conclusion, Message, PassedCount, no_message, passed_message, yes_message,
 };
+use script_decision::ShownAnswer;
 use std::alloc::Global;
 use text_base::NoMemory;
 

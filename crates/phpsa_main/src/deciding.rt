@@ -2,17 +2,18 @@
 
 ghost use Rattle.dtd_model.specs.TableOf.{table_of};
 ghost use Rattle.document_types.specs.DocumentTypes.{type_of};
-ghost use Rattle.php_program.specs.View.{program_of};
+ghost use Rattle.program_rules.specs.View.{program_of};
 ghost use Rattle.program_files.specs.Source.{source_call};
 ghost use Rattle.phpsa_main.specs.Decided.{Decides, IsProgramDecided};
 
 use document_types::DocumentType;
 use dtd_model::Dtd;
 use io_edge::Files;
-use page_goals::Goal;
-use php_program::Program;
-use phpsa_tasks::{CheckRefusal, ShownAnswer, check_shown, load, loads_are_loaded};
+use page_decision::Goal;
 use phpsa_texts::{Refusal, definition_refusal, load_refusal, long_text_refusal, states_refusal};
+use program_loader::{load, loads_are_loaded};
+use program_rules::Program;
+use script_decision::{CheckRefusal, ShownAnswer, check_shown};
 use std::alloc::Global;
 
 /// The answer for the program of the file of this name, or why there is none.

@@ -1,18 +1,20 @@
 //! The grammar of the pages of the script of a file.
 
 ghost use Rattle.std.specs.Prelude.{◌≡◌};
-ghost use Rattle.php_program.specs.View.{program_of};
+ghost use Rattle.program_rules.specs.View.{program_of};
 ghost use Rattle.program_files.specs.Source.{source_call};
 ghost use Rattle.phpsa_tasks.specs.Tasks.{grammar_making};
 ghost use Rattle.phpsa_tasks.specs.Results.{Does};
 ghost use Rattle.phpsa_main.specs.Loaded.{HasGrammarReply};
 
 use io_edge::Files;
-use php_program::Program;
-use phpsa_tasks::{GrammarRefusal, Reply, load, loads_are_loaded, loose_grammar};
+use loose_grammar::{GrammarRefusal, loose_grammar};
+use phpsa_tasks::Reply;
 use phpsa_texts::{
     AnswerForm, PassedCount, Refusal, load_refusal, long_text_refusal, passed_message,
 };
+use program_loader::{load, loads_are_loaded};
+use program_rules::Program;
 use std::alloc::Global;
 
 /// What is written of the program of the file of this name, or why there is nothing to write.

@@ -1,18 +1,16 @@
 //! The program over any files and outputs: it does what the words of the command line ask for, and
-//! says so by a text and a status.
-//!
-//! The contract of `phpsa` cites one record, `Keeps` of `phpsa_tasks`, whatever the words ask for:
-//! `Ends` says why a status came and what is left on the outputs, `IsAnswered` when there is a
-//! reply, and which, `IsSound` what status 0 means (of `check` the headline: every run of the
-//! program that ends prints a valid page, or a nested one where that is asked for), `IsWritten`
-//! what stands on `out` (of `run` what the program means for the request, of `grammar` the text of
-//! productions that derive exactly the loose pages), `IsCounted` that each file is read once and no
-//! fault is told as something else. For sources that do not tell what they hold, `load` of
-//! `program_loader` and `check_shown` of `shown_answers` say the same of whatever was held and of
-//! its program, and `check_page` of `page_validator` of a page. Each command has modules of its own
-//! (`script`, `page`, `making` and `made`). Below stand `phpsa_tasks` with what words ask for and
-//! what an ending says, and the crates that do the work.
+//! says so by texts and a status.
+//! Promise: the one clause of `phpsa` is `Keeps` of phpsa_tasks: each status has its cause, what is
+//! held is answered, a status 0 is right, what is due is written, reads and faults are counted.
+//! Used by: check_rows, phpsa.
 #![tactic(auto)]
+
+ghost use Rattle.std.specs.Prelude.{map, string_bytes};
+ghost use Rattle.program_files.specs.Source.{source_call};
+ghost use Rattle.phpsa_tasks.specs.Call.{output_of, call_of};
+ghost use Rattle.phpsa_tasks.specs.Endings.{Ends};
+ghost use Rattle.phpsa_tasks.specs.Counted.{IsCounted};
+ghost use Rattle.phpsa_tasks.specs.Keeps.{Keeps};
 
 mod answers;
 mod deciding;
@@ -25,22 +23,14 @@ mod report;
 mod running;
 mod script;
 
-ghost use Rattle.std.specs.Prelude.{map, string_bytes};
-ghost use Rattle.program_files.specs.Source.{source_call};
-ghost use Rattle.phpsa_tasks.specs.Call.{output_of, call_of};
-ghost use Rattle.phpsa_tasks.specs.Endings.{Ends};
-ghost use Rattle.phpsa_tasks.specs.Counted.{IsCounted};
-ghost use Rattle.phpsa_tasks.specs.Keeps.{Keeps};
-
-use doing::result_of;
+use crate::doing::result_of;
+use crate::report::{refuse, report};
 use io_edge::{Files, Sink};
 use phpsa_tasks::asked_task;
 use phpsa_tasks::laws::{
     endings_are_answered, endings_are_sound, endings_are_written, words_ask_for_one_task,
 };
-pub use phpsa_texts::Exit;
-use phpsa_texts::Refusal;
-use report::{refuse, report};
+use phpsa_texts::{Exit, Refusal};
 use std::alloc::Global;
 use text_base::NoMemory;
 

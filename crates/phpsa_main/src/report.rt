@@ -9,7 +9,7 @@ ghost use Rattle.phpsa_tasks.specs.Counted.{TellsFault};
 ghost use Rattle.phpsa_tasks.specs.Results.{reply_text};
 ghost use Rattle.phpsa_main.specs.Steps.{EndsOnErr, Puts, Reports, ReportsRefusal};
 
-use grammar_writing::write_grammar;
+use derivations::write_grammar;
 use io_edge::{Sink, SinkFault};
 use phpsa_tasks::Reply;
 use phpsa_texts::{Exit, NO_MEMORY, Refusal, WRITE_FAULT};

@@ -1,7 +1,7 @@
 //! The script of a file is run.
 
 ghost use Rattle.std.specs.Prelude.{◌≡◌, ℕ, Some, IfOk, option_map};
-ghost use Rattle.php_program.specs.View.{program_of};
+ghost use Rattle.program_rules.specs.View.{program_of};
 ghost use Rattle.script_meaning.specs.Requests.{Admitted};
 ghost use Rattle.program_files.specs.Source.{source_call};
 ghost use Rattle.script_runs.specs.Outcomes.{plain_outcome};
@@ -10,17 +10,17 @@ ghost use Rattle.phpsa_tasks.specs.Results.{Does};
 ghost use Rattle.phpsa_main.specs.Loaded.{HasRequest, IsRunReply, IsReplyOfRun};
 
 use io_edge::Files;
-use php_program::Program;
-use php_requests::Request;
 use php_syntax::tree::SuperName;
-use phpsa_tasks::{Reply, load, loads_are_loaded};
+use phpsa_tasks::Reply;
 use phpsa_texts::{
     Exit, Message, Refusal, deep_message, fault_message, file_refusal, load_refusal,
     request_refusal, spent_message,
 };
-use request_reading::read_request;
+use program_loader::{load, loads_are_loaded};
+use program_rules::Program;
+use request_reading::{Request, read_request};
 use script_runs::{Ended, run};
-use statement_machine::End;
+use statement_runs::End;
 use std::alloc::Global;
 use text_base::NoMemory;
 

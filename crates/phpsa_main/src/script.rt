@@ -9,7 +9,7 @@ use crate::answers::answer_message;
 use crate::deciding::decide_script;
 use document_types::DocumentType;
 use io_edge::Files;
-use page_goals::Goal;
+use page_decision::Goal;
 use phpsa_tasks::Reply;
 use phpsa_texts::{AnswerForm, Refusal};
 use std::alloc::Global;

@@ -2,7 +2,7 @@
 use Rattle.std.proofs.Common.{◌≡◌, ℕ, List, refl, subst, inl, inr}
 use Rattle.std.specs.Prelude.{◌⊎◌}
 use Rattle.program_files.specs.Source.{SourceCall}
-use Rattle.told_programs.specs.Told.{Content}
+use Rattle.program_loader.specs.Told.{Content}
 use Rattle.dtd_model.specs.Table.{Table}
 use Rattle.dtd_reader.specs.Source as dtd_source
 use Rattle.dtd_reader.specs.Refusals.{IsCause}

@@ -1,7 +1,7 @@
 -- The definitions of `specs/` on worked examples and on near misses.
 use Rattle.std.proofs.Common.{◌≡◌, ◌≤◌, [], true, false, None, Some, codes, refl, lit≤, arith}
 use Rattle.page_model.specs.Valid as model
-use Rattle.page_goals.specs.declared.goal.Goal.TheVariants.{Valid, Nested}
+use Rattle.page_decision.specs.declared.goal.Goal.TheVariants.{Valid, Nested}
 use Rattle.command_words.specs.Asked.{check, run, page, grammar, make}
 use Rattle.document_types.specs.DocumentTypes.{strict_type, mini_type, file_type}
 use Rattle.phpsa_texts.specs.declared.exit.Exit.TheVariants.{No, Undecided, Input}

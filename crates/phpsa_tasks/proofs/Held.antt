@@ -15,8 +15,8 @@ use Rattle.script_meaning.specs.Meaning.{meaning}
 use Rattle.program_files.specs.Source.{SourceCall, source_call}
 use Rattle.program_files.specs.declared.refusal.LoadRefusal.{LoadRefusal}
 use Rattle.program_files.specs.declared.refusal.LoadRefusal.TheVariants as load
-use Rattle.told_programs.specs.Causes.{IsLoadCause}
-use Rattle.told_programs.specs.Told.{Content, IsLoaded, HoldsProgram, AreShort}
+use Rattle.program_loader.specs.Causes.{IsLoadCause}
+use Rattle.program_loader.specs.Told.{Content, IsLoaded, HoldsProgram, AreShort}
 use Rattle.dtd_model.specs.Table.{Table}
 use Rattle.request_reading.specs.Outcome.{Outcome, not_json, not_request, not_admitted, stands_for, outcome}
 use Rattle.request_reading.specs.Causes.{IsCause}
@@ -28,11 +28,11 @@ use Rattle.document_types.specs.declared.refusal.DefinitionRefusal.{DefinitionRe
 use Rattle.document_types.specs.declared.refusal.DefinitionRefusal.TheVariants as definition
 use Rattle.document_types.proofs.OneTable.{same_table}
 use Rattle.document_types.proofs.ForMemory.{IsWant, for_memory}
-use Rattle.page_goals.specs.declared.goal.Goal.{Goal}
-use Rattle.program_literals.specs.Short.{HasLongText}
-use Rattle.shown_answers.specs.Decision.{HasManyStates}
-use Rattle.shown_answers.specs.declared.answer.ShownAnswer.{ShownAnswer}
-use Rattle.shown_answers.specs.Shown.{IsShownAnswer}
+use Rattle.page_decision.specs.declared.goal.Goal.{Goal}
+use Rattle.program_lowering.specs.Short.{HasLongText}
+use Rattle.script_decision.specs.Decision.{HasManyStates}
+use Rattle.script_decision.specs.declared.shown.ShownAnswer.{ShownAnswer}
+use Rattle.script_decision.specs.Shown.{IsShownAnswer}
 use Rattle.phpsa_texts.specs.declared.exit.Exit.{Exit}
 use Rattle.phpsa_texts.specs.declared.exit.Exit.TheVariants.{Memory}
 use Rattle.phpsa_texts.specs.Statuses.{judgment_status, load_status, file_status, request_status, definition_status}

@@ -1,11 +1,11 @@
 -- A checked program that is run prints a good page.
 use Rattle.std.proofs.Common.{◌≡◌, ℕ, List, Option, refl, sym, subst}
-use Rattle.page_goals.specs.declared.goal.Goal.{Goal}
-use Rattle.page_goals.specs.Goals.{IsGood}
+use Rattle.page_decision.specs.declared.goal.Goal.{Goal}
+use Rattle.page_decision.specs.Goals.{IsGood}
 use Rattle.script_meaning.specs.Programs.{PlainProgram}
 use Rattle.script_meaning.specs.Requests.{Admitted}
 use Rattle.document_types.specs.DocumentTypes.{NamedType}
-use Rattle.shown_answers.specs.Answers.{RunsAreGood}
+use Rattle.script_decision.specs.Answers.{RunsAreGood}
 use Rattle.phpsa_texts.specs.declared.exit.Exit.TheVariants.{Done}
 use Rattle.phpsa_texts.specs.declared.answers.AnswerForm.{AnswerForm}
 use Rattle.phpsa_tasks.specs.Tasks.{script_check, script_run, AsksFor}

@@ -15,7 +15,7 @@ use Rattle.dtd_reader.specs.declared.refusal.DtdRefusal.TheVariants as dtd
 use Rattle.document_types.specs.DocumentTypes.{NamedType, strict_type}
 use Rattle.document_types.specs.declared.refusal.DefinitionRefusal.{DefinitionRefusal}
 use Rattle.document_types.specs.declared.refusal.DefinitionRefusal.TheVariants as definition
-use Rattle.shown_answers.specs.declared.answer.ShownAnswer.{ShownAnswer}
+use Rattle.script_decision.specs.declared.shown.ShownAnswer.{ShownAnswer}
 use Rattle.command_words.specs.Asked.{Asked, check, run, page, grammar, make}
 use Rattle.phpsa_texts.specs.declared.exit.Exit.{Exit}
 use Rattle.phpsa_texts.specs.declared.exit.Exit.TheVariants.{Done, Usage}

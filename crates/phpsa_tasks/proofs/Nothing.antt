@@ -7,7 +7,7 @@ use Rattle.io_edge.specs.declared.files.FileFault.TheVariants as reading
 use Rattle.program_files.specs.Source.{SourceCall}
 use Rattle.program_files.specs.declared.refusal.LoadRefusal.{LoadRefusal}
 use Rattle.program_files.specs.declared.refusal.LoadRefusal.TheVariants as load
-use Rattle.told_programs.specs.Causes.{IsLoadCause}
+use Rattle.program_loader.specs.Causes.{IsLoadCause}
 use Rattle.request_reading.specs.declared.refusal.RequestRefusal.{RequestRefusal}
 use Rattle.request_reading.specs.declared.refusal.RequestRefusal.TheVariants as asking
 use Rattle.document_types.specs.DocumentTypes.{NamedType}

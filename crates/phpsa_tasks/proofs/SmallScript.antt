@@ -6,15 +6,15 @@ use Rattle.script_meaning.specs.Programs.{function_named, arguments_of}
 use Rattle.script_meaning.specs.Expressions.{value, values}
 use Rattle.script_meaning.specs.Statements.{statements}
 use Rattle.script_meaning.specs.Meaning.{meaning}
-use Rattle.page_goals.specs.declared.goal.Goal.{Goal}
+use Rattle.page_decision.specs.declared.goal.Goal.{Goal}
 use Rattle.page_model.specs.Valid.{Valid}
 use Rattle.dtd_model.specs.Mini.{mini_table}
 use Rattle.page_model.proofs.Examples.{paragraph}
 use Rattle.program_files.specs.Source.{source_call}
-use Rattle.told_programs.specs.Told.{IsLoaded}
-use Rattle.told_programs.proofs.SmallProgram.{content, program, inner}
+use Rattle.program_loader.specs.Told.{IsLoaded}
+use Rattle.program_loader.proofs.SmallProgram.{content, program, inner}
 use Rattle.document_types.specs.DocumentTypes.{mini_type}
-use Rattle.shown_answers.specs.declared.answer.ShownAnswer.{ShownAnswer}
+use Rattle.script_decision.specs.declared.shown.ShownAnswer.{ShownAnswer}
 use Rattle.phpsa_texts.specs.declared.exit.Exit.TheVariants.{Done}
 use Rattle.phpsa_texts.specs.declared.answers.AnswerForm.TheVariants.{Plain}
 use Rattle.phpsa_texts.specs.Texts.{yes_text}
@@ -32,7 +32,7 @@ runs : (request : PlainRequest) → meaning program request 1 ≡ record { print
 unfolding meaning statements ◌then_do◌ value values function_named arguments_of
 runs request = refl
 
--- what the source holds, as a task speaks of it; that it holds the program, in files within their limit, stands in told_programs (SmallProgram)
+-- what the source holds, as a task speaks of it; that it holds the program, in files within their limit, stands in program_loader (SmallProgram)
 abbrev task : Task
 task = script_check (codes "t.php") mini_type Goal.Valid 10000 Plain
 

@@ -8,11 +8,11 @@ use Rattle.script_meaning.specs.Meaning.{meaning}
 use Rattle.script_meaning.specs.Programs.{PlainProgram}
 use Rattle.dtd_model.specs.Table.{Table}
 use Rattle.page_model.specs.Valid.{Valid}
-use Rattle.page_goals.specs.declared.goal.Goal.{Goal}
-use Rattle.shown_answers.specs.Answers.{RunsAreGood}
-use Rattle.shown_answers.specs.declared.answer.ShownAnswer.{ShownAnswer}
-use Rattle.shown_answers.specs.Shown.{ShownSaysOfRuns}
-use Rattle.told_programs.specs.Told.{Content}
+use Rattle.page_decision.specs.declared.goal.Goal.{Goal}
+use Rattle.script_decision.specs.Answers.{RunsAreGood}
+use Rattle.script_decision.specs.declared.shown.ShownAnswer.{ShownAnswer}
+use Rattle.script_decision.specs.Shown.{ShownSaysOfRuns}
+use Rattle.program_loader.specs.Told.{Content}
 use Rattle.document_types.specs.DocumentTypes.{strict_type}
 use Rattle.phpsa_texts.specs.declared.exit.Exit.{Exit}
 use Rattle.phpsa_texts.specs.declared.exit.Exit.TheVariants.{Done}

@@ -3,7 +3,7 @@ use Rattle.std.proofs.Common.{◌≡◌, ◌∙◌, ℕ, List, refl, sym}
 use Rattle.dtd_model.specs.Table.{Table}
 use Rattle.script_meaning.specs.Programs.{PlainProgram}
 use Rattle.document_types.specs.DocumentTypes.{NamedType}
-use Rattle.page_goals.specs.declared.goal.Goal.{Goal}
+use Rattle.page_decision.specs.declared.goal.Goal.{Goal}
 use Rattle.phpsa_texts.specs.declared.exit.Exit.{Exit}
 use Rattle.phpsa_texts.specs.declared.exit.Exit.TheVariants.{Done, No, Usage, Input}
 use Rattle.phpsa_tasks.specs.Tasks.{Task, script_check, page_check, script_making, made_check, script_run, grammar_making, usage}

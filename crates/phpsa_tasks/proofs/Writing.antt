@@ -4,8 +4,8 @@ use Rattle.script_meaning.specs.Programs.{PlainProgram}
 use Rattle.script_meaning.specs.Requests.{PlainRequest}
 use Rattle.script_meaning.specs.Meaning.{meaning}
 use Rattle.script_maker.specs.Made.{made}
-use Rattle.shown_answers.specs.declared.answer.ShownAnswer.{ShownAnswer}
-use Rattle.told_programs.specs.Told.{Content}
+use Rattle.script_decision.specs.declared.shown.ShownAnswer.{ShownAnswer}
+use Rattle.program_loader.specs.Told.{Content}
 use Rattle.phpsa_texts.specs.declared.exit.Exit.{Exit}
 use Rattle.phpsa_texts.specs.Statuses.{judgment_status}
 use Rattle.phpsa_texts.specs.Texts.{judgment_text, summary_text}

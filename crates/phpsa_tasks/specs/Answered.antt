@@ -5,13 +5,13 @@ use Rattle.dtd_model.specs.Table.{Table}
 use Rattle.page_model.specs.Valid.{Valid}
 use Rattle.request_reading.specs.declared.refusal.RequestRefusal.{RequestRefusal}
 use Rattle.io_edge.specs.Counts.{Rises}
-use Rattle.page_goals.specs.declared.goal.Goal.{Goal}
-use Rattle.page_goals.specs.Goals.{IsGood}
-use Rattle.program_literals.specs.Short.{HasLongText}
-use Rattle.shown_answers.specs.Pages.{IsLoosePage}
-use Rattle.shown_answers.specs.Answers.{EachIsGood}
-use Rattle.shown_answers.specs.declared.answer.ShownAnswer.{ShownAnswer}
-use Rattle.shown_answers.specs.Shown.{IsShownAnswer}
+use Rattle.page_decision.specs.declared.goal.Goal.{Goal}
+use Rattle.page_decision.specs.Goals.{IsGood}
+use Rattle.program_lowering.specs.Short.{HasLongText}
+use Rattle.loose_grammar.specs.Pages.{IsLoosePage}
+use Rattle.script_decision.specs.Answers.{EachIsGood}
+use Rattle.script_decision.specs.declared.shown.ShownAnswer.{ShownAnswer}
+use Rattle.script_decision.specs.Shown.{IsShownAnswer}
 use Rattle.script_maker.specs.Made.{IsSize}
 use Rattle.command_words.specs.Asked.{Asked, AsksNothing}
 use Rattle.command_words.specs.Canonical.{IsCanonical}

@@ -6,14 +6,14 @@ use Rattle.io_edge.specs.declared.files.FileFault.{FileFault}
 use Rattle.script_meaning.specs.Programs.{PlainProgram}
 use Rattle.program_files.specs.Source.{SourceCall, source_call}
 use Rattle.program_files.specs.declared.refusal.LoadRefusal.{LoadRefusal}
-use Rattle.told_programs.specs.Causes.{IsLoadCause}
-use Rattle.told_programs.specs.Told.{IsLoaded}
+use Rattle.program_loader.specs.Causes.{IsLoadCause}
+use Rattle.program_loader.specs.Told.{IsLoaded}
 use Rattle.dtd_model.specs.Table.{Table}
 use Rattle.dtd_reader.specs.Source as definition
 use Rattle.document_types.specs.DocumentTypes.{NamedType, strict_type, HasTable, IsDefinitionRefusal}
 use Rattle.document_types.specs.declared.refusal.DefinitionRefusal.{DefinitionRefusal}
-use Rattle.program_literals.specs.Short.{HasLongText}
-use Rattle.shown_answers.specs.Decision.{HasManyStates}
+use Rattle.program_lowering.specs.Short.{HasLongText}
+use Rattle.script_decision.specs.Decision.{HasManyStates}
 use Rattle.script_maker.specs.Made.{IsSize}
 use Rattle.phpsa_texts.specs.declared.exit.Exit.{Exit}
 use Rattle.phpsa_texts.specs.declared.exit.Exit.TheVariants.{Usage, Dtd, Input}

@@ -1,7 +1,7 @@
 -- What a source holds under one name.
 use Rattle.std.specs.Prelude.{◌≡◌, ◌≤◌, ℕ, List, length, Some}
 use Rattle.text_base.specs.declared.limits.TheConstants.{FILE_LIMIT}
-use Rattle.told_programs.specs.Told.{Content}
+use Rattle.program_loader.specs.Told.{Content}
 
 -- the source tells of these bytes, which are within the limit of a file
 pub record HoldsShortFile (content : Content) (name bytes : List ℕ) : Type 0 where

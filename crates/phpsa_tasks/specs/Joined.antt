@@ -1,7 +1,7 @@
 -- What `run` prints where `check` has said yes: both commands together.
 use Rattle.std.specs.Prelude.{◌≡◌, ℕ, List, Option}
-use Rattle.page_goals.specs.declared.goal.Goal.{Goal}
-use Rattle.page_goals.specs.Goals.{IsGood}
+use Rattle.page_decision.specs.declared.goal.Goal.{Goal}
+use Rattle.page_decision.specs.Goals.{IsGood}
 use Rattle.document_types.specs.DocumentTypes.{NamedType}
 use Rattle.phpsa_texts.specs.declared.exit.Exit.TheVariants.{Done}
 use Rattle.phpsa_texts.specs.declared.answers.AnswerForm.{AnswerForm}

@@ -14,8 +14,3 @@ pub mod Sound
 pub mod Written
 pub mod Keeps
 pub mod Joined
-pub use Rattle.shown_answers.specs.Pages
-pub use Rattle.told_programs.specs.Causes as LoaderCauses
-pub use Rattle.shown_answers.specs.Decision
-pub use Rattle.shown_answers.specs.declared.answer
-pub use Rattle.told_programs.specs.Told

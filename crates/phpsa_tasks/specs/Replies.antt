@@ -2,19 +2,19 @@
 use Rattle.std.specs.Prelude.{◌≡◌, ◌<◌, ◌⊎◌, ℕ, Bool, true, false, List, [], length, ⊤}
 use Rattle.text_base.specs.declared.numbers.Nt as nt
 use Rattle.cfg_grammar.specs.declared.production.Production.{Production}
-use Rattle.grammar_writing.specs.Text.{grammar_text}
+use Rattle.derivations.specs.Text.{grammar_text}
 use Rattle.script_meaning.specs.Programs.{PlainProgram}
 use Rattle.script_meaning.specs.Runs as runs
 use Rattle.script_meaning.specs.Meaning.{Outcome, meaning}
-use Rattle.shown_answers.specs.Pages.{DerivePages}
-use Rattle.shown_answers.specs.Refusals.{HasLargeImage}
-use Rattle.shown_answers.specs.refusal.TheConstants.{ITEM_LIMIT}
+use Rattle.loose_grammar.specs.Pages.{DerivePages}
+use Rattle.loose_grammar.specs.Refusals.{HasLargeImage}
+use Rattle.loose_grammar.specs.declared.refusal.TheConstants.{ITEM_LIMIT}
 use Rattle.dtd_model.specs.Table.{Table}
 use Rattle.page_model.specs.Valid.{Valid}
-use Rattle.page_goals.specs.declared.goal.Goal.{Goal}
+use Rattle.page_decision.specs.declared.goal.Goal.{Goal}
 use Rattle.program_files.specs.Source.{SourceCall}
-use Rattle.shown_answers.specs.declared.answer.ShownAnswer.{ShownAnswer}
-use Rattle.shown_answers.specs.Shown.{IsShownAnswer, ShownSaysOfRuns}
+use Rattle.script_decision.specs.declared.shown.ShownAnswer.{ShownAnswer}
+use Rattle.script_decision.specs.Shown.{IsShownAnswer, ShownSaysOfRuns}
 use Rattle.script_maker.specs.Made.{made, IsSize}
 use Rattle.phpsa_texts.specs.declared.exit.Exit.{Exit}
 use Rattle.phpsa_texts.specs.declared.exit.Exit.TheVariants.{Done, Undecided}

@@ -9,7 +9,7 @@ use Rattle.program_files.specs.Source.{SourceCall}
 use Rattle.request_reading.specs.Outcome.{outcome, stands_for}
 use Rattle.request_reading.specs.Causes.{IsCause}
 use Rattle.request_reading.specs.declared.refusal.RequestRefusal.{RequestRefusal}
-use Rattle.told_programs.specs.Told.{Content}
+use Rattle.program_loader.specs.Told.{Content}
 use Rattle.phpsa_texts.specs.declared.exit.Exit.{Exit}
 use Rattle.phpsa_texts.specs.Statuses.{file_status, request_status}
 use Rattle.phpsa_texts.specs.Texts.{file_text, request_text}

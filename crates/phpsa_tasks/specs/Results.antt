@@ -1,6 +1,6 @@
 -- What doing a task comes to, before anything is written.
 use Rattle.std.specs.Prelude.{ℕ, List, Result, Ok, Err, ⊤}
-use Rattle.grammar_writing.specs.Text.{grammar_text}
+use Rattle.derivations.specs.Text.{grammar_text}
 use Rattle.program_files.specs.Source.{SourceCall}
 use Rattle.phpsa_texts.specs.declared.exit.Exit.{Exit}
 use Rattle.phpsa_texts.specs.declared.exit.Exit.TheVariants.{Done, Memory}

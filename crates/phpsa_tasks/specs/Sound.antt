@@ -2,8 +2,8 @@
 use Rattle.std.specs.Prelude.{◌≡◌, ⊤}
 use Rattle.script_meaning.specs.Runs.{Ended}
 use Rattle.page_model.specs.Valid.{Valid}
-use Rattle.page_goals.specs.declared.goal.Goal.{Goal}
-use Rattle.shown_answers.specs.Answers.{RunsAreGood}
+use Rattle.page_decision.specs.declared.goal.Goal.{Goal}
+use Rattle.script_decision.specs.Answers.{RunsAreGood}
 use Rattle.script_maker.specs.Made.{IsSize}
 use Rattle.phpsa_texts.specs.declared.exit.Exit.{Exit}
 use Rattle.phpsa_texts.specs.declared.exit.Exit.TheVariants.{Done}

@@ -3,11 +3,11 @@ use Rattle.std.specs.Prelude.{◌⊎◌, ℕ, List, Some, codes, ⊤}
 use Rattle.io_edge.specs.Told.{Tells}
 use Rattle.script_meaning.specs.Programs.{PlainProgram}
 use Rattle.script_meaning.specs.Requests.{PlainRequest, Admitted}
-use Rattle.told_programs.specs.Told.{Content, IsLoaded, HoldsProgram, AreShort}
+use Rattle.program_loader.specs.Told.{Content, IsLoaded, HoldsProgram, AreShort}
 use Rattle.dtd_model.specs.Table.{Table}
 use Rattle.document_types.specs.OneFile.{file_alone}
 use Rattle.document_types.specs.DocumentTypes.{NamedType, strict_type, HasTable, NamesAreTold, NamesAreShort, IsTooLarge}
-use Rattle.shown_answers.specs.Decision.{HasManyStates}
+use Rattle.script_decision.specs.Decision.{HasManyStates}
 use Rattle.script_maker.specs.Made.{made, IsSize}
 use Rattle.phpsa_tasks.specs.Files.{HoldsShortFile}
 use Rattle.phpsa_tasks.specs.Requests.{FindsRequest, HoldsRequest}

@@ -2,8 +2,8 @@
 use Rattle.std.specs.Prelude.{List, length, true, ⊤}
 use Rattle.text_base.specs.declared.numbers.Nt as nt
 use Rattle.cfg_grammar.specs.declared.production.Production.{Production}
-use Rattle.grammar_writing.specs.Text.{grammar_text}
-use Rattle.shown_answers.specs.Pages.{DerivePages}
+use Rattle.derivations.specs.Text.{grammar_text}
+use Rattle.loose_grammar.specs.Pages.{DerivePages}
 use Rattle.script_maker.specs.Made.{made}
 use Rattle.phpsa_texts.specs.declared.exit.Exit.{Exit}
 use Rattle.phpsa_texts.specs.declared.exit.Exit.TheVariants as exit

@@ -13,7 +13,7 @@ ghost use Rattle.phpsa_tasks.specs.Written.{IsWritten};
 ghost use Rattle.phpsa_tasks.specs.Joined.{CheckedRunsPrintGoodPages};
 
 use command_words::laws::words_ask_once;
-use told_programs::{held_programs_are_loaded, one_program_is_loaded};
+use program_loader::{held_programs_are_loaded, one_program_is_loaded};
 
 /// Words ask for one thing to be done.
 pub fn words_ask_for_one_task()

@@ -1,9 +1,8 @@
 //! What is to be done for what the words of the command line ask for (`Task`), and what doing it
-//! means, as tables over tasks: what a task speaks of, replies and is refused for, how often it
-//! reads, how a call ends, and what its status says. `asked_task` reads words to a task; the other
-//! definitions of specs/ are cited by the functions of `phpsa_main`, whose contract is `Keeps`.
-//! `laws` says what follows of them for every call. Below stand `command_words`, and the crates
-//! whose definitions the tables cite.
+//! means: what each task speaks of, what it replies, why it is refused, and how a call ends.
+//! Promise: `asked_task` gives what words ask for (`AsksFor` of specs/Tasks). States what every
+//! call keeps (`Keeps` of specs/Keeps), and in `laws` what follows of that.
+//! Used by: phpsa_main.
 #![tactic(auto)]
 
 pub mod laws;
@@ -12,7 +11,5 @@ mod task;
 mod words;
 
 pub use reply::Reply;
-pub use shown_answers::{CheckRefusal, GrammarRefusal, ShownAnswer, check_shown, loose_grammar};
 pub use task::Task;
-pub use told_programs::{load, loads_are_loaded};
 pub use words::asked_task;

@@ -7,7 +7,7 @@ ghost use Rattle.phpsa_tasks.specs.Views.{task_as};
 
 use command_words::CommandLine;
 use document_types::DocumentType;
-use page_goals::Goal;
+use page_decision::Goal;
 use phpsa_texts::AnswerForm;
 
 /// What is to be done.

@@ -20,7 +20,7 @@ use Rattle.document_types.specs.declared.refusal.DefinitionRefusal.{DefinitionRe
 use Rattle.document_types.specs.declared.refusal.DefinitionRefusal.TheVariants as definition
 use Rattle.plain_values.specs.declared.fault.Fault.{Fault}
 use Rattle.plain_values.specs.declared.fault.Fault.TheVariants as fault
-use Rattle.json_answers.specs.JsonAnswers.{yes_json, no_json, sums_json, items_json}
+use Rattle.phpsa_texts.specs.JsonAnswers.{yes_json, no_json, sums_json, items_json}
 use Rattle.phpsa_texts.specs.declared.exit.Exit.{Exit}
 use Rattle.phpsa_texts.specs.declared.message.Message.{Message}
 use Rattle.phpsa_texts.specs.declared.message.Refusal.{Refusal}

@@ -8,7 +8,7 @@ ghost use Rattle.phpsa_texts.specs.declared.exit.Exit.TheVariants.{Done, No, Und
 use crate::exit::Exit;
 use crate::lines::append_number;
 use crate::message::Message;
-use json_answers::{items_json, no_json, sums_json, yes_json};
+use crate::{items_json, no_json, sums_json, yes_json};
 use std::alloc::Global;
 use text_base::{Bytes, NoMemory};
 

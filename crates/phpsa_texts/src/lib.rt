@@ -1,12 +1,14 @@
-//! The texts that the program writes, each with the status that it comes with: one function a text,
-//! whose contract cites specs/Texts.antt and specs/Statuses.antt. Below stand `json_answers` with
-//! answers as JSON, and the crates of the refusals that are told: `program_files`, `document_types`
-//! and `io_edge`.
+//! The texts that the program writes, each with the status that it comes with, and its answers as
+//! JSON: one function for each text.
+//! Promise: each gives a `Message` of exactly its status and text (`Says` of specs/Texts) or a
+//! `Refusal` that tells them (`IsTold`); `yes_json` and its like give those of specs/JsonAnswers.
+//! Used by: phpsa_tasks, phpsa_main, check_rows.
 #![tactic(auto)]
 
 mod answers;
 mod definitions;
 mod exit;
+mod json_answers;
 mod lines;
 mod message;
 mod other_refusals;
@@ -20,6 +22,7 @@ pub use answers::{
 };
 pub use definitions::{definition_refusal, states_refusal};
 pub use exit::Exit;
+pub use json_answers::{items_json, no_json, sums_json, yes_json};
 pub use lines::{NO_MEMORY, WRITE_FAULT};
 pub use message::{Message, Refusal};
 pub use other_refusals::{

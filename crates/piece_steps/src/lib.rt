@@ -1,6 +1,6 @@
-//! Reading pieces a symbol at a time: what a reader of pieces is (`Reader`), what it puts out over
-//! a whole text and in which state it is then (specs/Readers.antt), what pieces are (`Language`),
-//! and what is owed for the forms of pieces so that the reader puts out exactly the tokens of a
-//! text (`Reads`, specs/Reads.antt). The laws stand in proofs/, since a clause does not speak of
-//! all types of pieces and states. Nothing here knows a form of piece.
+//! Reading pieces a symbol at a time, whatever the pieces are: readers (specs/Readers), languages
+//! of pieces (specs/Languages), and what is owed for the forms of pieces (`Reads` of specs/Reads).
+//! Promise, as lemmas, since a clause does not speak of all types: a reader that reads the pieces
+//! of a language puts out exactly the tokens of a text (`tokens_are_read` of proofs/Whole).
+//! Used by 35 crates, byte_readers, character_steps, page_steps, reference_steps and others.
 #![tactic(auto)]

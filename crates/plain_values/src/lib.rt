@@ -1,7 +1,8 @@
 //! Values of a script as plain data, and what every operation does with them: the definitions that
-//! contracts above cite (specs/), in which an array is a list of pairs with distinct keys. The code
-//! here is what needs no value: the faults, texts read as numbers, and the decimal forms of
-//! integers. Below stands text_base.
+//! contracts above cite.
+//! Promise: `numeric_of` is `numeric` of specs/Numeric, which the law `numeric_texts` ties to the
+//! manual's grammar (specs/Grammar).
+//! Used by 24 crates, php_values, value_operations, builtin_meaning, script_meaning and others.
 #![tactic(auto)]
 
 mod fault;

@@ -1,1 +1,8 @@
+pub mod CollectLemmas
+mod Examples
 pub mod PlaceLemmas
+pub mod Exact
+pub mod ReadLemmas
+pub mod Links
+pub mod Returned
+pub mod Handed

@@ -1,1 +1,6 @@
-pub use Rattle.source_listing.specs.Places
+pub mod Views
+pub mod Collected
+pub mod Places
+pub mod Reading
+pub mod Names
+pub mod Links

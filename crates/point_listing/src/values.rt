@@ -2,13 +2,13 @@
 
 ghost use Rattle.std.specs.Prelude.{◌≡◌, ◌∷◌, [], OnOk};
 ghost use Rattle.flow_code.specs.View.{plain_point};
-ghost use Rattle.set_names.specs.Forms.{form_seen};
+ghost use Rattle.set_listing.specs.Forms.{form_seen};
 ghost use Rattle.set_listing.specs.Points as points;
-ghost use Rattle.source_listing.specs.Places.{told_of, at_of, Adds};
+ghost use Rattle.point_listing.specs.Places.{told_of, at_of, Adds};
 
+use crate::{Place, is_own_text, push_form, push_source, push_where};
 use flow_code::FlowPoint;
-use set_names::{Aspect, NamedForm, SetName};
-use source_listing::{Place, is_own_text, push_form, push_source, push_where};
+use set_listing::{Aspect, NamedForm, SetName};
 use std::alloc::Global;
 use text_base::{NoMemory, Slot};
 
@@ -27,7 +27,7 @@ fn walked(place: &Place<'_>, from: Slot, aspect: Aspect) -> NamedForm
 }
 
 /// The forms of what a point gives to its slot, behind the others; none where it sets none.
-#[tactic(auto, using(source_listing::proofs::PlaceLemmas::ends), unfolding(set_listing::specs::Points::value_forms))]
+#[tactic(auto, using(crate::proofs::PlaceLemmas::ends), unfolding(set_listing::specs::Points::value_forms))]
 pub fn push_value(
     alloc: Global,
     forms: &mut Vec<NamedForm>,

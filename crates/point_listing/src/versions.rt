@@ -1,21 +1,20 @@
 //! The forms of what is said of a version, and of slots at points.
 
 ghost use Rattle.std.specs.Prelude.{◌∷◌, [], OnOk};
-ghost use Rattle.told_keys.specs.Views.{keys_seen};
-ghost use Rattle.source_listing.specs.Reading.{read_at};
-ghost use Rattle.version_listing.specs.Versions as spec;
-ghost use Rattle.version_listing.specs.Functions.{used_pairs, entry_forms};
-ghost use Rattle.source_listing.specs.Places.{Adds};
+ghost use Rattle.point_listing.specs.Views.{keys_seen};
+ghost use Rattle.point_listing.specs.Reading.{read_at};
+ghost use Rattle.set_listing.specs.Versions as spec;
+ghost use Rattle.set_listing.specs.Functions.{used_pairs, entry_forms};
+ghost use Rattle.point_listing.specs.Places.{Adds};
 
-use set_names::{Aspect, Half, NamedForm, SetName, SetVersion};
-use source_listing::{push_form, push_text_alone, version_read};
+use crate::{ToldKey, push_form, push_text_alone, version_read};
+use set_listing::{Aspect, Half, NamedForm, SetName, SetVersion};
 use ssa_form::Versions;
 use std::alloc::Global;
 use text_base::{Bytes, NoMemory, Slot};
-use told_keys::ToldKey;
 
 /// All members of a version, at any depth.
-#[tactic(auto, using(source_listing::proofs::PlaceLemmas::ends), unfolding(version_listing::specs::Versions::members_forms, version_listing::specs::Versions::told_members))]
+#[tactic(auto, using(crate::proofs::PlaceLemmas::ends), unfolding(set_listing::specs::Versions::members_forms, set_listing::specs::Versions::told_members))]
 pub fn push_members(
     forms: &mut Vec<NamedForm>,
     told: &[ToldKey],
@@ -37,7 +36,7 @@ pub fn push_members(
 }
 
 /// What `echo` prints of a version: its text form, and `Array` for an array.
-#[tactic(auto, using(source_listing::proofs::PlaceLemmas::ends), unfolding(version_listing::specs::Versions::shown_forms))]
+#[tactic(auto, using(crate::proofs::PlaceLemmas::ends), unfolding(set_listing::specs::Versions::shown_forms))]
 pub fn push_shown(
     alloc: Global,
     forms: &mut Vec<NamedForm>,
@@ -68,7 +67,7 @@ pub fn push_link(
 }
 
 /// The values of slots at points, by pairs of a point and a slot.
-#[tactic(auto, using(source_listing::proofs::PlaceLemmas::ends))]
+#[tactic(auto, using(crate::proofs::PlaceLemmas::ends))]
 pub fn push_pairs(
     forms: &mut Vec<NamedForm>,
     versions: &Versions,
@@ -87,7 +86,7 @@ pub fn push_pairs(
 
 /// A slot at the entry of a function: what is handed in for it by pairs of a point and a slot, and
 /// null where it is no parameter.
-#[tactic(auto, using(source_listing::proofs::PlaceLemmas::ends), unfolding(set_listing::specs::Uses::where_so))]
+#[tactic(auto, using(crate::proofs::PlaceLemmas::ends), unfolding(set_listing::specs::Uses::where_so))]
 pub fn push_entry(
     alloc: Global,
     forms: &mut Vec<NamedForm>,

@@ -1,5 +1,6 @@
-//! What is collected in the expressions and statements of a program, as definitions
-//! (`specs/Collected.antt`) and lemmas over them (`proofs/CollectedLemmas.antt`).
-//!
-//! Below stands php_syntax.
+//! What is collected in the expressions of a program, as definitions: of each expression its own,
+//! and then what is collected in its parts from the left (`collected` of specs/Collected). It has
+//! no call: by the lemmas of proofs/CollectedLemmas, a state that takes up each expression in turn
+//! takes up the whole list.
+//! Used by 7 crates, program_rules, tree_walks, include_expansion, flow_code and others.
 #![tactic(auto)]

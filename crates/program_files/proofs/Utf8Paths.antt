@@ -1,6 +1,6 @@
 -- Each path that is looked at is UTF-8, by the rules of the grammar.
 use Rattle.std.proofs.Common.{◌≡◌, ℕ, zero, suc, Bool, true, false, List, [], ◌∷◌, inl, inr, refl, subst, arith}
-use Rattle.std.specs.Prelude.{◌&&◌}
+use Rattle.std.specs.Prelude.{◌&&◌, Option}
 use Rattle.std.specs.List.{Contains}
 use Rattle.std.proofs.lemmas.List.Elements.{Contains-append_cases, Contains-append_right}
 use Rattle.php_syntax.specs.Trees.{PlainStmt, inline_stmt, echo_stmt, run_stmt, if_stmt, while_stmt, do_while_stmt, for_stmt, each_stmt, break_stmt, continue_stmt, return_stmt, include_stmt, quit_stmt, PlainStmts, no_stmts, more_stmts, PlainArms, no_arms, more_arms, PlainFunction, PlainFile}
@@ -9,7 +9,6 @@ use Rattle.program_rules.specs.Includes.{includes_in, includes_of, includes_in_a
 use Rattle.program_rules.specs.Programs.{ReadFile}
 use Rattle.program_files.specs.Order.{Reached, begun, again, next}
 use Rattle.program_files.specs.Source.{HasTold}
-use Rattle.std.specs.Prelude.{Option}
 
 left : (a b : Bool) → (a && b) ≡ true → a ≡ true
 left true b e = refl

@@ -1,9 +1,7 @@
-//! The files of a program: a script and all that it includes, each read once and turned to its
-//! tree.
-//!
-//! `specs/Order.antt` says in which order files are read, `specs/Causes.antt` why reading is
-//! refused and what the counts of the source say then. Below stand `io_edge` with sources of files,
-//! `php_lexer` and `php_parser`.
+//! The files of a program: a script and all that it includes, each read once, with their trees.
+//! Promise: `read_files` gives them in the order of their includes, each asked for once (`ReadsAll`
+//! of specs/Causes), or the cause and the file at which reading stopped (`IsReadCause`).
+//! Used by 7 crates, include_expansion, program_sizes, function_rules, program_loader and others.
 #![tactic(auto)]
 
 mod files;
@@ -15,6 +13,5 @@ mod tree;
 
 pub use files::ScriptFiles;
 pub use includes::find_includes;
-pub use php_parser::laws;
 pub use reading::read_files;
 pub use refusal::{LoadRefusal, ScriptRefusal};

@@ -20,9 +20,8 @@ use crate::tree::{Unread, tree_of};
 use io_edge::{FileFault, Files};
 use php_syntax::tree::FileTree;
 use program_rules::limits::PLACE_LIMIT;
-use stacks::Stack;
 use std::alloc::Global;
-use text_base::{Bytes, NoMemory};
+use text_base::{Bytes, NoMemory, Stack};
 
 /// Reads the file of a name and all that it includes, directly or through others, each once: a file
 /// where it is first included, depth first, the includes of its body before those of its functions.

@@ -1,4 +1,4 @@
--- From files that were read to the program of a name, or to the cause of a refusal, over the laws of reading_laws and loading_laws.
+-- From files that were read to the program of a name, or to the cause of a refusal, over the laws of include_expansion and program_sizes.
 use Rattle.std.proofs.Common.{◌≡◌, ℕ, true, List, [], ◌∷◌, length, Option, Result, Err, IfErr, inl, inr, refl, sym, subst, arith}
 use Rattle.std.specs.List.{Contains}
 use Rattle.script_meaning.specs.Programs.{PlainProgram}
@@ -11,12 +11,12 @@ use Rattle.program_files.specs.declared.refusal.LoadRefusal.TheVariants.{Missing
 use Rattle.program_files.specs.Order.{is_read, Reached}
 use Rattle.program_files.specs.Source.{SourceCall, HasTold}
 use Rattle.program_files.specs.Causes.{ReadsAll, StopsAt, IsReadCause}
-use Rattle.reading_laws.proofs.NameLemmas.{tree_there}
-use Rattle.file_order.specs.Within.{tree_named, program_within, IsIncludeOrder, AreHeld}
-use Rattle.file_order.specs.FileOrder.{AreWhole, IsOrderCause}
-use Rattle.loading_laws.specs.Limits.{program_places}
-use Rattle.loading_laws.specs.Loaded.{AreScripts, MakeProgram, StandsForProgram}
-use Rattle.loading_laws.proofs.ProgramLemmas.{ReadsTheProgram}
+use Rattle.include_expansion.proofs.NameLemmas.{tree_there}
+use Rattle.include_expansion.specs.Within.{tree_named, program_within, IsIncludeOrder, AreHeld}
+use Rattle.include_expansion.specs.FileOrder.{AreWhole, IsOrderCause}
+use Rattle.program_sizes.specs.Limits.{program_places}
+use Rattle.program_sizes.specs.Loaded.{AreScripts, MakeProgram, StandsForProgram}
+use Rattle.program_sizes.proofs.ProgramLemmas.{ReadsTheProgram}
 use Rattle.program_loader.specs.Causes.{HasFiles, Loads, IsNamed, BreaksRule, IsLoadCause}
 use Rattle.program_loader.specs.Making.{AreReady, Make, BreakRules, PassLimit, IsMakeCause}
 

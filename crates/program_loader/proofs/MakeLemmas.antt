@@ -13,13 +13,13 @@ use Rattle.program_rules.specs.Limits.{IsWithin}
 use Rattle.program_rules.specs.Programs.{ReadFile, functions_in}
 use Rattle.program_files.specs.declared.refusal.LoadRefusal.{LoadRefusal}
 use Rattle.program_files.specs.Order.{is_read, place_of}
-use Rattle.file_order.specs.FileOrder.{name_or_none, names_at, IsFileOrder}
-use Rattle.file_order.proofs.PlaceLemmas.{file_there, tree_there}
-use Rattle.loading_laws.proofs.ProgramLemmas.{at_place}
-use Rattle.file_order.specs.Within.{bodies_within, with_body, tree_named, program_within}
-use Rattle.loading_laws.specs.Limits.{program_places, IsSizeCause}
-use Rattle.loading_laws.specs.FileRules.{KeepFunctionRules}
-use Rattle.loading_laws.specs.Loaded.{MakeProgram}
+use Rattle.include_expansion.specs.FileOrder.{name_or_none, names_at, IsFileOrder}
+use Rattle.include_expansion.proofs.PlaceLemmas.{file_there, tree_there}
+use Rattle.program_sizes.proofs.ProgramLemmas.{at_place}
+use Rattle.include_expansion.specs.Within.{bodies_within, with_body, tree_named, program_within}
+use Rattle.program_sizes.specs.Limits.{program_places, IsSizeCause}
+use Rattle.program_sizes.specs.FileRules.{KeepFunctionRules}
+use Rattle.program_sizes.specs.Loaded.{MakeProgram}
 use Rattle.function_rules.specs.Causes.{IsFunctionCause}
 use Rattle.program_loader.specs.Making.{AreReady, AreChecked, Make, BreakRules, PassLimit}
 

@@ -10,9 +10,9 @@ use Rattle.program_files.specs.declared.refusal.LoadRefusal.TheVariants.{Missing
 use Rattle.program_files.specs.Order.{Reached}
 use Rattle.program_files.specs.Source.{SourceCall, so_many_more}
 use Rattle.program_files.specs.Causes.{IsReadCause}
-use Rattle.loading_laws.specs.Limits.{PassesLimit}
-use Rattle.loading_laws.specs.FileRules.{KeepFunctionRules}
-use Rattle.loading_laws.specs.Loaded.{StandsForProgram}
+use Rattle.program_sizes.specs.Limits.{PassesLimit}
+use Rattle.program_sizes.specs.FileRules.{KeepFunctionRules}
+use Rattle.program_sizes.specs.Loaded.{StandsForProgram}
 use Rattle.function_rules.specs.Causes.{IsFunctionCause}
 
 -- what the source held agrees with all that it tells; these are the files that the program of the name reads, in the order of first

@@ -6,11 +6,11 @@ use Rattle.program_rules.specs.Limits.{IsWithin}
 use Rattle.program_rules.specs.Programs.{ReadFile}
 use Rattle.program_files.specs.declared.refusal.LoadRefusal.{LoadRefusal}
 use Rattle.program_files.specs.Order.{is_read}
-use Rattle.file_order.specs.Within.{tree_named, program_within, IsIncludeOrder}
-use Rattle.file_order.specs.FileOrder.{AreWhole, IsOrderCause}
-use Rattle.loading_laws.specs.Limits.{program_places, IsSizeCause}
-use Rattle.loading_laws.specs.FileRules.{KeepFunctionRules}
-use Rattle.loading_laws.specs.Loaded.{AreScripts, MakeProgram}
+use Rattle.include_expansion.specs.Within.{tree_named, program_within, IsIncludeOrder}
+use Rattle.include_expansion.specs.FileOrder.{AreWhole, IsOrderCause}
+use Rattle.program_sizes.specs.Limits.{program_places, IsSizeCause}
+use Rattle.program_sizes.specs.FileRules.{KeepFunctionRules}
+use Rattle.program_sizes.specs.Loaded.{AreScripts, MakeProgram}
 use Rattle.function_rules.specs.Causes.{IsFunctionCause}
 
 -- files that may make a program of a name: each is a script, none has the name of another, and all that they include is among them

@@ -9,11 +9,11 @@ ghost use Rattle.program_files.specs.Causes.{ReadsAll, IsReadCause};
 ghost use Rattle.program_loader.specs.Causes.{Loads, IsLoadCause};
 ghost use Rattle.program_loader.specs.Making.{AreReady, Make, IsMakeCause};
 
-use loading_laws::{
+use include_expansion::{files_of_the_program, names_looked_at, what_was_held};
+use program_sizes::{
     each_has_one_tree, made_programs_are_programs, ordered_files_stand_for_a_program,
     read_files_are_whole,
 };
-use reading_laws::{files_of_the_program, names_looked_at, what_was_held};
 
 /// What is read and made is loaded, and why reading or making stops is why loading does.
 pub fn what_is_made_is_loaded()

@@ -1,15 +1,14 @@
-//! Programs from files: `load` reads the file of a name and all that it includes, each once, tests
-//! the rules and the limits, and puts the program together.
-//!
-//! Its clauses cite `specs/Causes.antt`: on Ok the program of the name (`IsProgram` of
-//! `program_rules`), else the cause of the refusal, and in each case what the source counted. Below
-//! stand `program_files`, `file_order`, `function_rules`, `program_sizes`, `include_expansion` and
-//! the laws of `loading_laws`.
+//! Programs from files: `load` reads a file and all that it includes, and puts them together.
+//! Promise: it gives only the program of the name (`Loads` of specs/Causes), and each refusal has
+//! its cause (`IsLoadCause`); where a source that does not fail holds a program, want of memory is
+//! the only one (`held_programs_are_loaded`, over `HoldsProgram` of specs/Told).
+//! Used by: phpsa_tasks, phpsa_main, lowering_tests, extraction_tests, run_bench, extraction_bench.
 #![tactic(auto)]
 
 pub mod laws;
 mod loading;
 mod making;
+mod told_programs;
 
 pub use loading::load;
-pub use loading_laws::each_has_one_tree;
+pub use told_programs::{held_programs_are_loaded, loads_are_loaded, one_program_is_loaded};

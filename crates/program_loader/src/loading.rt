@@ -1,15 +1,15 @@
 //! The program of a name.
 
 ghost use Rattle.std.specs.Prelude.{◌≡◌, IfOk, IfErr};
-ghost use Rattle.php_program.specs.View.{program_of};
+ghost use Rattle.program_rules.specs.View.{program_of};
 ghost use Rattle.program_files.specs.Source.{source_call};
 ghost use Rattle.program_loader.specs.Causes.{Loads, IsLoadCause};
 
 use crate::laws::what_is_made_is_loaded;
 use crate::making::make_program;
 use io_edge::Files;
-use php_program::Program;
 use program_files::{LoadRefusal, read_files};
+use program_rules::Program;
 use std::alloc::Global;
 use text_base::Bytes;
 

@@ -4,19 +4,18 @@ ghost use Rattle.std.specs.Prelude.{◌≡◌, false, IfOk, IfErr, MatchOption};
 ghost use Rattle.std.specs.List.{Contains};
 ghost use Rattle.php_syntax.specs.Trees.{plain_file};
 ghost use Rattle.program_rules.specs.Programs.{ReadFile};
-ghost use Rattle.php_program.specs.View.{program_of};
+ghost use Rattle.program_rules.specs.View.{program_of};
 ghost use Rattle.program_files.specs.Order.{is_read};
 ghost use Rattle.program_files.specs.View.{files_of};
-ghost use Rattle.file_order.specs.Within.{tree_named, program_within};
+ghost use Rattle.include_expansion.specs.Within.{tree_named, program_within};
 ghost use Rattle.program_loader.specs.Making.{AreReady, AreChecked, Make, IsMakeCause};
 
-use file_order::order_files;
 use function_rules::check_functions;
-use include_expansion::{expand_functions, expand_statements};
-use loading_laws::{check_sizes, made_programs_are_lawful};
-use php_program::Program;
+use include_expansion::{expand_functions, expand_statements, order_files};
 use php_syntax::tree::FileTree;
 use program_files::{LoadRefusal, ScriptFiles};
+use program_rules::Program;
+use program_sizes::{check_sizes, made_programs_are_lawful};
 use std::alloc::Global;
 use text_base::{Bytes, NoMemory};
 

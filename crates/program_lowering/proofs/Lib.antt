@@ -1,1 +1,6 @@
 mod ProgramLemmas
+mod ShortLemmas
+mod AddedLemmas
+mod RowBlocks
+mod BodyLemmas
+mod FunctionLemmas

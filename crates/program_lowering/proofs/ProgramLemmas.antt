@@ -3,12 +3,12 @@ use Rattle.std.proofs.Common.{◌≡◌, ◌≤◌, ◌∙◌, ℕ, List, [], �
 use Rattle.php_syntax.specs.declared.tree.FunctionDef.{FunctionDef}
 use Rattle.php_syntax.specs.declared.tree.Stmt.{Stmt}
 use Rattle.php_syntax.specs.Trees.{functions_of_list}
-use Rattle.php_program.specs.Lawful.{program_with}
+use Rattle.program_rules.specs.Lawful.{program_with}
 use Rattle.script_meaning.specs.Requests.{PlainRequest}
 use Rattle.flow_code.specs.Points.{PlainFlowFunction, PlainFlow, points_in}
 use Rattle.flow_code.specs.Flat.{flat_functions, main_function, flat}
 use Rattle.flow_code.specs.Runs.{FlatRun}
-use Rattle.function_lowering.specs.Bodies.{function_with}
+use Rattle.program_lowering.specs.Bodies.{function_with}
 
 -- a program of points by its functions
 abbrev pub flow_of : List PlainFlowFunction → PlainFlow

@@ -7,26 +7,25 @@ ghost use Rattle.script_meaning.specs.Runs.{Ended};
 ghost use Rattle.script_meaning.specs.Meaning.{meaning};
 ghost use Rattle.program_rules.specs.Limits.{as_file};
 ghost use Rattle.program_rules.specs.Calls.{calls_of_program};
-ghost use Rattle.php_program.specs.View.{program_of};
+ghost use Rattle.program_rules.specs.View.{program_of};
 ghost use Rattle.flow_code.specs.Points.{points_in};
 ghost use Rattle.flow_code.specs.Flat.{flat};
 ghost use Rattle.flow_code.specs.Lawful.{IsFlow};
 ghost use Rattle.flow_code.specs.Runs.{FlatRun};
 ghost use Rattle.flow_code.specs.View.{plain_flow};
-ghost use Rattle.program_points.specs.Texts.{TextsFit};
-ghost use Rattle.program_points.specs.LeftOut.{left_out};
-ghost use Rattle.program_literals.specs.Short.{HasLongText};
-ghost use Rattle.call_lowering.specs.declared.error.LoweringError.TheVariants.{LongText};
+ghost use Rattle.flow_runs.specs.Texts.{TextsFit};
+ghost use Rattle.flow_runs.specs.LeftOut.{left_out};
+ghost use Rattle.program_lowering.specs.Short.{HasLongText};
+ghost use Rattle.expression_lowering.specs.declared.error.LoweringError.TheVariants.{LongText};
 
-use call_lowering::LoweringError;
+use crate::{literals_are_short, lower_functions};
+use expression_lowering::LoweringError;
 use flow_code::FlowProgram;
-use function_lowering::lower_functions;
-use php_program::Program;
-use program_literals::literals_are_short;
-use program_points::{
+use flow_runs::{
     lawful_points_are_few, lawful_points_are_of_their_form, lawful_runs_are_runs_of_points,
     runs_of_points_are_lawful_runs,
 };
+use program_rules::Program;
 use std::alloc::Global;
 
 /// The points of a program (`flat` of flow_code), numbered through all its functions: at most 8 for

@@ -5,3 +5,5 @@ pub mod Calls
 pub mod Rules
 pub mod Limits
 pub mod Programs
+pub mod Lawful
+pub mod View

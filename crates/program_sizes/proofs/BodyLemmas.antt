@@ -6,7 +6,7 @@ use Rattle.program_rules.specs.Includes.{includes_in, includes_of, includes_in_a
 use Rattle.program_rules.specs.Expansion.{followed_by, with_bodies, with_bodies_in, with_bodies_in_arms}
 use Rattle.program_rules.specs.Limits.{one_each}
 use Rattle.program_rules.specs.Programs.{ReadFile}
-use Rattle.file_order.specs.Within.{bodies_within, places_within, with_body}
+use Rattle.include_expansion.specs.Within.{bodies_within, places_within, with_body}
 use Rattle.program_sizes.specs.declared.size.Size.{Size}
 use Rattle.program_sizes.specs.Sizes as sizes
 use Rattle.program_sizes.specs.Bodies.{of_body, body_of_path}

@@ -3,3 +3,5 @@ pub mod LoopLemmas
 pub mod CappedLemmas
 pub mod BodyLemmas
 pub mod TableLemmas
+pub mod LawfulLemmas
+pub mod ProgramLemmas

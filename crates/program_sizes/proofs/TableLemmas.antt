@@ -6,7 +6,7 @@ use Rattle.std.proofs.lemmas.Grind.{common_steps}
 use Rattle.std.proofs.lemmas.List.{drop_all}
 use Rattle.std.proofs.lemmas.List.Elements.{Contains-append_left, Contains-append_right, Contains-append_cases}
 use Rattle.std.proofs.lemmas.Option.{same_Some, slice_get-map, slice_get-get_or, slice_get_within}
-use Rattle.include_order.proofs.ListLemmas.{set_at}
+use Rattle.strong_components.proofs.OrderListLemmas.{set_at}
 use Rattle.php_syntax.specs.declared.tree.Stmt.{Stmt}
 use Rattle.php_syntax.specs.declared.tree.FunctionDef.{FunctionDef}
 use Rattle.php_syntax.specs.declared.tree.FileTree.{FileTree}
@@ -18,9 +18,9 @@ use Rattle.program_rules.specs.Limits.{one_each, as_file, IsWithin}
 use Rattle.program_rules.specs.Expansion.{with_bodies}
 use Rattle.program_rules.specs.Programs.{ReadFile, functions_in}
 use Rattle.program_files.specs.Order.{is_read, place_of}
-use Rattle.file_order.specs.Within.{tree_named, bodies_within, places_within, program_within}
-use Rattle.file_order.specs.FileOrder.{AreWhole, name_or_none, names_at, IsFileOrder}
-use Rattle.file_order.proofs.PlaceLemmas.{place_there, file_there, tree_there}
+use Rattle.include_expansion.specs.Within.{tree_named, bodies_within, places_within, program_within}
+use Rattle.include_expansion.specs.FileOrder.{AreWhole, name_or_none, names_at, IsFileOrder}
+use Rattle.include_expansion.proofs.PlaceLemmas.{place_there, file_there, tree_there}
 use Rattle.program_sizes.specs.declared.size.Size.{Size}
 use Rattle.program_sizes.specs.Sizes as sizes
 use Rattle.program_sizes.specs.Bodies.{of_body, body_of_path, IsTableOfFirst, IsBodyTable}

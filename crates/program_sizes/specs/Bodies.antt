@@ -5,8 +5,8 @@ use Rattle.php_syntax.specs.Trees.{PlainStmts}
 use Rattle.php_syntax.specs.Height.{stmts_nodes, stmts_height}
 use Rattle.program_rules.specs.Programs.{ReadFile}
 use Rattle.program_files.specs.Order.{is_read}
-use Rattle.file_order.specs.Within.{bodies_within, places_within}
-use Rattle.file_order.specs.FileOrder.{names_at}
+use Rattle.include_expansion.specs.Within.{bodies_within, places_within}
+use Rattle.include_expansion.specs.FileOrder.{names_at}
 use Rattle.program_sizes.specs.declared.size.Size.{Size}
 use Rattle.program_sizes.specs.Sizes as sizes
 

@@ -9,7 +9,7 @@ use Rattle.program_rules.specs.Limits.{one_each, as_file}
 use Rattle.program_rules.specs.Programs.{ReadFile, functions_in}
 use Rattle.program_files.specs.declared.refusal.LoadRefusal.{LoadRefusal}
 use Rattle.program_files.specs.declared.refusal.LoadRefusal.TheVariants.{Missing, ReadFault, TooLong, Script, IncludeCycle, DoubleFunction, UnknownFunction, Arity, TooMany, Memory}
-use Rattle.file_order.specs.Within.{places_within}
+use Rattle.include_expansion.specs.Within.{places_within}
 
 -- the places of includes in the bodies of functions, where includes are replaced so many times over
 unfoldable pub function_places : List ReadFile → ℕ → List PlainFunction → ℕ

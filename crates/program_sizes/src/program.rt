@@ -6,8 +6,8 @@ ghost use Rattle.php_syntax.specs.Trees.{plain_file, stmts_of};
 ghost use Rattle.program_rules.specs.Limits.{IsWithin};
 ghost use Rattle.program_rules.specs.Programs.{ReadFile, functions_in};
 ghost use Rattle.program_files.specs.View.{files_of};
-ghost use Rattle.file_order.specs.Within.{program_within};
-ghost use Rattle.file_order.specs.FileOrder.{AreWhole, IsFileOrder};
+ghost use Rattle.include_expansion.specs.Within.{program_within};
+ghost use Rattle.include_expansion.specs.FileOrder.{AreWhole, IsFileOrder};
 ghost use Rattle.program_sizes.specs.Limits.{program_places, IsSizeCause};
 ghost use Rattle.program_sizes.specs.Sizes as sizes;
 

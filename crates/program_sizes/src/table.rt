@@ -2,7 +2,7 @@
 
 ghost use Rattle.std.specs.Prelude.{◌≡◌, length, IfOk};
 ghost use Rattle.program_files.specs.View.{files_of};
-ghost use Rattle.file_order.specs.FileOrder.{IsFileOrder};
+ghost use Rattle.include_expansion.specs.FileOrder.{IsFileOrder};
 ghost use Rattle.program_sizes.specs.Sizes as sizes;
 ghost use Rattle.program_sizes.specs.Bodies.{IsBodyTable};
 

@@ -6,7 +6,7 @@ use Rattle.page_model.specs.PageTokens.{PageTokens, IsLawful, NoPiece, piece_byt
 use Rattle.page_model.specs.Parts.{character}
 use Rattle.page_model.specs.Pieces.{Piece, leaf, after_all}
 use Rattle.page_model.specs.Places.{Place, at_beginning, behind_mark, behind}
-use Rattle.page_fronts.specs.Fronts.{bad, CanGoOn, HasFront}
+use Rattle.page_model.specs.Fronts.{bad, CanGoOn, HasFront}
 
 module _ (table : Table) where
   -- a letter may stand at each place

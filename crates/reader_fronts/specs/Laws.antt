@@ -2,7 +2,7 @@
 use Rattle.std.specs.Prelude.{◌≡◌, ◌<◌, ℕ, List, [], ◌∷◌, ◌++◌, All}
 use Rattle.text_base.specs.declared.page_token.PageToken.{PageToken}
 use Rattle.dtd_model.specs.Table.{Table}
-use Rattle.page_fronts.specs.Fronts.{Front, bad, HasFront}
+use Rattle.page_model.specs.Fronts.{Front, bad, HasFront}
 use Rattle.byte_readers.specs.Reading.{tokens_over}
 use Rattle.page_reader.specs.States.{first_state}
 use Rattle.page_reader.specs.declared.state.ReaderState.{ReaderState}

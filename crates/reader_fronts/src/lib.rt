@@ -1,6 +1,8 @@
-//! Laws: behind two pages with one front the readers of pages are in one state; and behind a bad one
-//! nothing makes a difference to what they put out. No code stands here. Below stand exact_fronts,
-//! page_reader and merged_reader.
+//! Laws of the readers of pages, `PageReader` and `MergedReader`, by each definition. Promise
+//! (specs/Laws): two pages with one front (`HasFront` of page_model), a bad one too, lead each
+//! reader to one state (`LeadsAlike`), and behind a bad front it puts out the same whatever more
+//! stands there (`EndsBad`). No code stands here.
+//! Used by: page_lexer.
 #![tactic(auto)]
 
 pub mod laws;

@@ -1,6 +1,6 @@
 -- What a step answers.
 use Rattle.std.specs.Prelude.{Option, Some, None}
-use Rattle.page_fronts.specs.OpenValues as value
+use Rattle.page_model.specs.OpenValues as value
 use Rattle.open_pieces.specs.declared.value.OpenReference.{OpenReference}
 use Rattle.open_pieces.specs.Views.{plain_reference}
 

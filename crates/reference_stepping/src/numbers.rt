@@ -2,9 +2,9 @@
 
 ghost use Rattle.std.specs.Prelude.{◌≡◌, ◌≤◌, ◌+◌, ◌*◌};
 ghost use Rattle.std.specs.Char as chars;
-ghost use Rattle.page_fronts.specs.OpenValues.{capped};
+ghost use Rattle.page_model.specs.OpenValues.{capped};
 
-use value_rules::digit_value;
+use page_rules::digit_value;
 
 /// All numbers over those of characters are this one.
 const ABOVE: u64 = 0x0011_0000;

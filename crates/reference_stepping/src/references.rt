@@ -3,17 +3,16 @@
 ghost use Rattle.std.specs.Prelude.{◌≡◌, IfOk, []};
 ghost use Rattle.dtd_model.specs.TableOf.{table_of};
 ghost use Rattle.page_steps.specs.ReferenceSteps as steps;
-ghost use Rattle.page_fronts.specs.OpenValues as value;
+ghost use Rattle.page_model.specs.OpenValues as value;
 ghost use Rattle.open_pieces.specs.Views.{plain_reference};
 ghost use Rattle.reference_stepping.specs.Views.{plain_next};
 
 use crate::numbers::with_digit;
 use dtd_index::IndexedDtd;
 use open_pieces::{Characters, OpenReference};
-use page_cutting::{begins_name, in_name};
+use page_rules::{begins_name, in_name, is_character_code, is_name, is_predefined};
 use std::alloc::Global;
 use text_base::NoMemory;
-use value_rules::{is_character_code, is_name, is_predefined};
 
 /// One character more in a reference, behind its `&` and before its `;` (XML 1.0, 4.1); none where
 /// no reference goes on so.

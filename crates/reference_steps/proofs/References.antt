@@ -10,7 +10,7 @@ use Rattle.xml_text.specs.Names.{begins_name, in_name, is_name}
 use Rattle.dtd_model.specs.References.{Reference, decimal, hexadecimal, entity, is_reference, is_known, is_some, number_written}
 use Rattle.page_model.specs.Parts.{numbered, reference_of}
 use Rattle.piece_steps.specs.Insides.{accepted, accepts}
-use Rattle.page_fronts.specs.OpenValues.{OpenReference, in_entity, at_number, in_decimal, in_hexadecimal, capped}
+use Rattle.page_model.specs.OpenValues.{OpenReference, in_entity, at_number, in_decimal, in_hexadecimal, capped}
 use Rattle.page_steps.specs.ReferenceSteps.{entity_step, decimal_step, hexadecimal_step, reference_step, reference_good}
 use Rattle.reference_steps.specs.Laws.{is_right_reference}
 

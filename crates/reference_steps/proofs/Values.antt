@@ -13,7 +13,7 @@ use Rattle.dtd_model.specs.Table.{Kind, cdata, id, idref, idrefs, nmtoken, nmtok
 use Rattle.page_model.specs.Attributes.{words_of, is_one_word, are_words, has_kind, has_fixed}
 use Rattle.page_model.specs.Parts.{up_to_semicolon, has_semicolon, reference_of, refers_by}
 use Rattle.piece_steps.specs.Insides.{accepted, accepts}
-use Rattle.page_fronts.specs.OpenValues.{OpenReference, in_entity, at_number, in_decimal, in_hexadecimal, OpenValue, in_text, in_reference, in_fixed, in_choice, in_words}
+use Rattle.page_model.specs.OpenValues.{OpenReference, in_entity, at_number, in_decimal, in_hexadecimal, OpenValue, in_text, in_reference, in_fixed, in_choice, in_words}
 use Rattle.page_steps.specs.ReferenceSteps.{reference_step, reference_good}
 use Rattle.page_steps.specs.ValueSteps.{kind_start, value_start, has_names, has_many, begins_word, words_step, choice_step, in_reference_of, text_step, semicolon_step, kept_step, may_stand, value_step, is_chosen, value_good}
 use Rattle.reference_steps.specs.Laws.{is_right_reference, may_have}

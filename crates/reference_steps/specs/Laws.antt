@@ -7,7 +7,7 @@ use Rattle.dtd_model.specs.Table.{Declared}
 use Rattle.page_model.specs.Attributes.{has_kind, has_fixed}
 use Rattle.page_model.specs.Parts.{reference_of, refers_by}
 use Rattle.piece_steps.specs.Insides.{accepts}
-use Rattle.page_fronts.specs.OpenValues.{in_entity}
+use Rattle.page_model.specs.OpenValues.{in_entity}
 use Rattle.page_steps.specs.ReferenceSteps.{reference_step, reference_good}
 use Rattle.page_steps.specs.ValueSteps.{value_start, value_step, value_good, may_stand}
 

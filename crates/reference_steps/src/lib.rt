@@ -1,6 +1,8 @@
-//! Laws of page_steps on references and values: read character by character, they end well exactly
-//! where they are references that are known, and values that the attribute may have. Below stand
-//! piece_steps, page_model, page_fronts and page_steps.
+//! Laws of page_steps on references and on the values of attributes.
+//! Promise: what stands between `&` and `;` ends well exactly where it is a reference that is known
+//! (`references_accepted`), and what stands in quotes exactly where it is a value that the
+//! attribute may have (`values_accepted`, over `ValuesAccepted` of specs/Laws).
+//! Used by: page_insides, element_attributes, declaration_steps, page_reads, front_laws.
 #![tactic(auto)]
 
 pub mod laws;

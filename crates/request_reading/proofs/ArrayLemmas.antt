@@ -14,7 +14,7 @@ use Rattle.serde_json.specs.Data.{Data, boolean, number, string, object, Items, 
 use Rattle.serde_json.specs.Data as json
 use Rattle.serde_json.specs.View.{view, members_view}
 use Rattle.serde_json.proofs.Views.{Entry}
-use Rattle.value_laws.proofs.Arrays.{HasPairs, no_pairs, put_has}
+use Rattle.function_laws.proofs.Arrays.{HasPairs, no_pairs, put_has}
 use Rattle.request_reading.specs.RequestFile.{name_key, value_of, places_of, members_of, is_member, are_members, fits_text}
 use Rattle.request_reading.proofs.KeyLemmas.{name_apart, name_is_key}
 

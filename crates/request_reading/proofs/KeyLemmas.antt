@@ -11,7 +11,7 @@ use Rattle.plain_values.specs.Keys.{canonical_integer, canonical_key, same_key}
 use Rattle.plain_values.specs.Lawful.{IsKey}
 use Rattle.plain_values.proofs.CanonicalLemmas.{spelled}
 use Rattle.std.proofs.lemmas.Cmp.{nat_list_cmp_total, tied_itself}
-use Rattle.value_laws.proofs.Arrays.{key_is}
+use Rattle.function_laws.proofs.Arrays.{key_is}
 use Rattle.request_reading.specs.RequestFile.{name_key, fits_text}
 
 same_name : (a b : List ℕ) → same_key (name_key a) (name_key b) ≡ true → a ≡ b

@@ -7,3 +7,4 @@ pub mod AdmittedLemmas
 pub mod OrderLemmas
 pub mod StrayLemmas
 mod Examples
+mod Empty

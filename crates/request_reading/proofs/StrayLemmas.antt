@@ -18,7 +18,7 @@ use Rattle.xml_text.specs.Texts.{IsText}
 use Rattle.plain_values.specs.Plain.{Plain, Pairs, pair}
 use Rattle.plain_values.specs.Keys.{canonical_integer, canonical_key}
 use Rattle.plain_values.specs.Numeric.{is_in_range}
-use Rattle.value_laws.proofs.Arrays.{canonical_range}
+use Rattle.function_laws.proofs.Arrays.{canonical_range}
 use Rattle.script_meaning.specs.Requests.{PlainRequest, IsMember, AreMembers}
 use Rattle.serde_json.specs.Data.{Data, boolean, number, string, object, Items, no_items, item, Members, no_members, member}
 use Rattle.serde_json.specs.Data as json

@@ -4,3 +4,4 @@ pub mod Admission
 pub mod Outcome
 pub mod Causes
 pub mod Laws
+pub mod RequestCode

@@ -12,7 +12,7 @@ ghost use Rattle.serde_json.specs.View.{view, items_view, members_view};
 ghost use Rattle.request_reading.specs.RequestFile as spec;
 ghost use Rattle.request_reading.specs.Admission.{stray_path};
 
-use php_requests::Request;
+use crate::Request;
 use php_values::{Array, Key, Text, Value};
 use plain_values::Fault;
 use serde_json::{Map, Value as JsonValue};

@@ -1,6 +1,8 @@
-//! Reading a request file: JSON that holds the five arrays of a request. `read_request` gives the
-//! request that the bytes stand for, or the first cause for which they are none, by
-//! specs/Outcome.antt and specs/Causes.antt. Below stand php_requests and `serde_json`.
+//! Reading a request file, JSON with five arrays whose texts and names are of XML's characters.
+//! Promise: `read_request` gives the request that the bytes stand for, or why they are none (`ok`,
+//! `err`, by `outcome` of specs/Outcome and `IsCause` of specs/Causes); `Request::array` says that
+//! it is admitted (`Admitted` of script_meaning).
+//! Used by: expr_evaluator, script_runs, phpsa_texts, phpsa_tasks, phpsa_main, run_bench.
 #![tactic(auto)]
 
 mod arrays;
@@ -9,7 +11,9 @@ pub mod laws;
 mod parsing;
 mod reading;
 mod refusal;
+mod request;
 mod straying;
 
 pub use reading::read_request;
 pub use refusal::RequestRefusal;
+pub use request::Request;

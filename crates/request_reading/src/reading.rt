@@ -4,12 +4,12 @@ ghost use Rattle.std.specs.Prelude.{◌≡◌, IfOk, IfErr};
 ghost use Rattle.request_reading.specs.Outcome.{outcome, stands_for};
 ghost use Rattle.request_reading.specs.Causes.{IsCause};
 
+use crate::Request;
 use crate::arrays::asked_request;
 use crate::form::is_request;
 use crate::parsing::parse;
 use crate::refusal::RequestRefusal;
 use crate::straying::stray_path;
-use php_requests::Request;
 use std::alloc::Global;
 
 /// The request that the bytes of a request file stand for, whose arrays are admitted. NotJson

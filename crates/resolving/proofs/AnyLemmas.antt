@@ -8,8 +8,8 @@ use Rattle.text_base.specs.ByteSet.{Has}
 use Rattle.cfg_grammar.specs.declared.production.Right.TheVariants.{Empty}
 use Rattle.cfg_grammar.specs.declared.production.Production.{Production}
 use Rattle.cfg_grammar.specs.Below.{production_below}
-use Rattle.resolve_laws.specs.Drafts.{IsByte, AddsAny, IsAnyProduction, link_of}
-use Rattle.resolve_laws.proofs.LetterLemmas.{both_so}
+use Rattle.resolving.specs.Drafts.{IsByte, AddsAny, IsAnyProduction, link_of}
+use Rattle.resolving.proofs.LetterLemmas.{both_so}
 use Rattle.resolving.specs.declared.draft.Draft.{Draft}
 use Rattle.resolving.specs.Draft.{IsIndexed, Puts, Widens}
 use Rattle.resolving.proofs.DraftLemmas.{one_longer}

@@ -7,16 +7,16 @@ use Rattle.std.proofs.lemmas.List.Elements.{All-nil, All-cons, Contains-push_cas
 use Rattle.text_base.specs.declared.numbers.Nt as nt
 use Rattle.cfg_grammar.specs.declared.production.Production.{Production}
 use Rattle.cfg_grammar.specs.Below.{AreBelow, production_below}
-use Rattle.number_chains.specs.Chains.{AreChains}
+use Rattle.numbered_sets.specs.Chains.{AreChains}
 use Rattle.grammar_chart.specs.Kept.{lefts_of, AreProductionsOf}
 use Rattle.op_system.specs.declared.system.OpSystem.{OpSystem}
-use Rattle.resolve_laws.specs.Drafts.{IsDraft, link_of}
-use Rattle.resolve_laws.proofs.LetterLemmas.{contained, all_at, all_from, both_so}
-use Rattle.resolve_laws.proofs.DraftLemmas.{draft_begins, left_below}
-use Rattle.resolve_laws.proofs.StepLemmas.{higher}
+use Rattle.resolving.specs.Drafts.{IsDraft, link_of}
+use Rattle.resolving.proofs.LetterLemmas.{contained, all_at, all_from, both_so}
+use Rattle.resolving.proofs.DraftLawLemmas.{draft_begins, left_below}
+use Rattle.resolving.proofs.StepLemmas.{higher}
 use Rattle.resolving.specs.declared.draft.Draft.{Draft}
 use Rattle.resolving.specs.Draft.{IsIndexed, Puts, PutsAll, Widens, IsOfSystem}
-use Rattle.resolve_laws.specs.Drafted.{Drafted}
+use Rattle.resolving.specs.Drafted.{Drafted}
 use Rattle.resolving.specs.Order.{IsDraftOf, IsDraftedBy}
 
 pub some_is : {X : Type 0} (x y : X) → Some x ≡ Some y → x ≡ y

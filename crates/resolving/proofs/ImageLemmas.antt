@@ -13,9 +13,9 @@ use Rattle.cfg_grammar.specs.declared.production.Production.{Production}
 use Rattle.cfg_grammar.specs.declared.grammar.Grammar.{Grammar}
 use Rattle.cfg_grammar.specs.Below.{symbols_of, symbol_below, production_below, AreBelow}
 use Rattle.cfg_grammar.specs.Tokens.{production_without_token}
-use Rattle.resolve_laws.specs.Drafts.{AddsImage, IsImageProduction, link_of, moved, moved_symbol, moved_right}
-use Rattle.resolve_laws.proofs.LetterLemmas.{first_in, later_in, contained, placed, all_at, first_so, second_so, both_so}
-use Rattle.resolve_laws.proofs.DraftLemmas.{left_below, right_below}
+use Rattle.resolving.specs.Drafts.{AddsImage, IsImageProduction, link_of, moved, moved_symbol, moved_right}
+use Rattle.resolving.proofs.LetterLemmas.{first_in, later_in, contained, placed, all_at, first_so, second_so, both_so}
+use Rattle.resolving.proofs.DraftLawLemmas.{left_below, right_below}
 use Rattle.resolving.specs.declared.draft.Draft.{Draft}
 use Rattle.resolving.proofs.DraftLemmas.{some_is, one_longer}
 use Rattle.resolving.specs.Draft.{IsIndexed, Puts, Widens}

@@ -5,7 +5,7 @@ use Rattle.std.proofs.lemmas.Cmp.{nat_eq_equiv}
 use Rattle.std.proofs.lemmas.Option.{slice_get_within}
 use Rattle.std.proofs.lemmas.Map.Steps.{le-length_from_below}
 use Rattle.std.proofs.lemmas.Map.Views.{list_any-from_Contains}
-use Rattle.resolve_laws.proofs.LetterLemmas.{placed, contained, first_in, later_in, one_of, none_in}
+use Rattle.resolving.proofs.LetterLemmas.{placed, contained, first_in, later_in, one_of, none_in}
 use Rattle.resolving.specs.declared.order.Ranked.{Ranked}
 use Rattle.resolving.specs.Order.{HasPlace, AreOnce}
 

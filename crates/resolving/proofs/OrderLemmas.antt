@@ -1,5 +1,5 @@
 -- Rules in the order of their numbers.
-use Rattle.std.proofs.Common.{◌≡◌, ◌<◌, ◌≤◌, ◌+◌, ℕ, List, [], ◌∷◌, ◌++◌, length, length-append, get_or, Some, slice_get, Contains, inl, inr, refl, sym, ◌∙◌, ap, subst, arith}
+use Rattle.std.proofs.Common.{◌≡◌, ◌<◌, ◌≤◌, ◌+◌, ℕ, List, [], ◌∷◌, ◌++◌, length, length-append, get_or, Some, slice_get, Contains, inl, inr, refl, sym, ◌∙◌, ap, subst, arith, map}
 use Rattle.std.specs.List.Sorted.{IsNonDecreasingBy, IsPermutation}
 use Rattle.std.proofs.lemmas.Bool.{cases_eq, cases_lt}
 use Rattle.std.proofs.lemmas.Option.{slice_get_within, slice_get_read, slice_get-get_or, get_or_from_slice_get}
@@ -8,18 +8,17 @@ use Rattle.std.proofs.lemmas.List.Sorted.{All-permutation, Contains-permutation,
 use Rattle.cfg_grammar.specs.declared.production.Production.{Production}
 use Rattle.op_system.specs.declared.system.OpRule.{OpRule}
 use Rattle.op_system.specs.declared.system.OpSystem.{OpSystem}
-use Rattle.resolve_laws.specs.Drafts.{IsDone}
-use Rattle.resolve_laws.proofs.LetterLemmas.{placed, contained, none_in, one_of, first_in, later_in}
-use Rattle.resolve_laws.proofs.MovedLemmas.{derives_more}
+use Rattle.resolving.specs.Drafts.{IsDone}
+use Rattle.resolving.proofs.LetterLemmas.{placed, contained, none_in, one_of, first_in, later_in}
+use Rattle.resolving.proofs.MovedLemmas.{derives_more}
 use Rattle.cfg_grammar.specs.declared.symbol.Symbol.TheVariants.{Nt}
 use Rattle.text_base.specs.declared.letter.Letter.TheVariants.{OfByte}
-use Rattle.std.proofs.Common.{map}
 use Rattle.resolving.specs.declared.draft.Draft.{Draft}
 use Rattle.resolving.proofs.DraftLemmas.{some_is}
 use Rattle.resolving.specs.declared.order.Ranked.{Ranked}
 use Rattle.resolving.specs.Order.{HasPlace, IsRanked, AreRankedBelow, AreRanked, IsOrder, IsDraftOf, IsDraftedBy, IsDraftedFrom, MayBeAdded, IsReadyFor, AddsRule, AreAdded, AllAdded}
-use Rattle.resolve_laws.specs.Drafted.{Added, HasAdded, IsNext, Drafted, IsResolved}
-use Rattle.resolve_laws.proofs.DraftedLemmas.{drafted_count, drafted_size}
+use Rattle.resolving.specs.Drafted.{Added, HasAdded, IsNext, Drafted, IsResolved}
+use Rattle.resolving.proofs.DraftedLemmas.{drafted_count, drafted_size}
 use Rattle.cfg_grammar.specs.declared.grammar.Grammar.{Grammar}
 use Rattle.resolving.proofs.OnceLemmas.{each_once}
 

@@ -11,18 +11,18 @@ use Rattle.op_system.specs.Rel.{Rel}
 use Rattle.op_system.specs.Size.{size_of}
 use Rattle.fst_core.specs.declared.table.Table.{Table}
 use Rattle.string_ops.specs.Listed.{IsMachine}
-use Rattle.op_cycles.specs.Texts.{ByteOf}
-use Rattle.op_cycles.specs.Cycles.{AreNumbers, IsInCycle}
-use Rattle.op_cycles.proofs.EdgeLemmas.{rule_left_below}
-use Rattle.system_bytes.specs.Bytes.{HasBytes}
+use Rattle.op_bytes.specs.Texts.{ByteOf}
+use Rattle.op_bytes.specs.Cycles.{AreNumbers, IsInCycle}
+use Rattle.op_bytes.proofs.EdgeLemmas.{rule_left_below}
+use Rattle.op_bytes.specs.SystemBytes.{HasBytes}
 use Rattle.grammar_image.specs.declared.refusal.ImageRefusal.{ImageRefusal}
 use Rattle.grammar_image.specs.declared.refusal.ImageRefusal.TheVariants.{Large, Memory}
 use Rattle.grammar_image.specs.Refusals as images
 use Rattle.fst_core.specs.Tables.{TableStep}
-use Rattle.resolve_laws.specs.Drafts.{IsDraft}
-use Rattle.resolve_laws.specs.Drafted.{Added, IsNext, Drafted, AddsTexts, AddsOperation, IsImageOf}
-use Rattle.resolve_laws.specs.Resolved.{AreExact}
-use Rattle.resolve_laws.proofs.StepLemmas.{any_done, image_done, operand_exact}
+use Rattle.resolving.specs.Drafts.{IsDraft}
+use Rattle.resolving.specs.Drafted.{Added, IsNext, Drafted, AddsTexts, AddsOperation, IsImageOf}
+use Rattle.resolving.specs.Resolved.{AreExact}
+use Rattle.resolving.proofs.StepLemmas.{any_done, image_done, operand_exact}
 use Rattle.resolving.specs.Causes.{IsCause}
 use Rattle.resolving.specs.declared.draft.Draft.{Draft}
 use Rattle.resolving.specs.AnyTexts.{AddsAnyTexts}

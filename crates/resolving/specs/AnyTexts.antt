@@ -8,9 +8,9 @@ use Rattle.cfg_grammar.specs.declared.production.Right.TheVariants.{Two}
 use Rattle.cfg_grammar.specs.declared.production.Production.{Production}
 use Rattle.op_system.specs.declared.system.OpRule.{OpRule}
 use Rattle.op_system.specs.declared.system.OpSystem.{OpSystem}
-use Rattle.op_cycles.specs.Cycles.{IsInCycle}
+use Rattle.op_bytes.specs.Cycles.{IsInCycle}
 use Rattle.op_bytes.specs.Bytes.{AreByteSets}
-use Rattle.resolve_laws.specs.Drafts.{IsByte, AddsAny}
+use Rattle.resolving.specs.Drafts.{IsByte, AddsAny}
 use Rattle.resolving.specs.declared.draft.Draft.{Draft}
 use Rattle.resolving.specs.Draft.{IsIndexed, Puts}
 

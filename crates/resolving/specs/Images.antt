@@ -15,8 +15,8 @@ use Rattle.fst_core.specs.Tables.{TableStep}
 use Rattle.string_ops.specs.Listed.{IsMachine}
 use Rattle.grammar_image.specs.declared.refusal.ImageRefusal.{ImageRefusal}
 use Rattle.grammar_image.specs.declared.refusal.ImageRefusal.TheVariants.{Large, Memory}
-use Rattle.image_meaning.specs.Items.{HasItems}
-use Rattle.resolve_laws.specs.Drafts.{AddsImage, moved}
+use Rattle.fst_core.specs.Items.{HasItems}
+use Rattle.resolving.specs.Drafts.{AddsImage, moved}
 use Rattle.resolving.specs.declared.draft.Draft.{Draft}
 use Rattle.resolving.specs.Draft.{IsIndexed}
 

@@ -3,3 +3,7 @@ pub mod Draft
 pub mod AnyTexts
 pub mod Images
 pub mod Order
+pub mod Resolved
+pub mod Drafts
+pub mod Drafted
+pub mod Laws

@@ -4,8 +4,8 @@ use Rattle.std.specs.List.Sorted.{IsNonDecreasingBy}
 use Rattle.cfg_grammar.specs.declared.production.Production.{Production}
 use Rattle.op_system.specs.declared.system.OpRule.{OpRule}
 use Rattle.op_system.specs.declared.system.OpSystem.{OpSystem}
-use Rattle.resolve_laws.specs.Drafts.{IsDraft, IsDone, IsReady}
-use Rattle.resolve_laws.specs.Drafted.{Added, HasAdded, IsNext, Drafted}
+use Rattle.resolving.specs.Drafts.{IsDraft, IsDone, IsReady}
+use Rattle.resolving.specs.Drafted.{Added, HasAdded, IsNext, Drafted}
 use Rattle.resolving.specs.declared.draft.Draft.{Draft}
 use Rattle.resolving.specs.declared.order.Ranked.{Ranked}
 use Rattle.resolving.specs.Draft.{IsIndexed}

@@ -2,7 +2,7 @@
 
 ghost use Rattle.std.specs.Prelude.{◌≡◌, ◌<◌, length, OnOk};
 ghost use Rattle.resolving.specs.AnyTexts.{AddsAnyTexts, PutsByte, PutsBytes};
-ghost use Rattle.resolve_laws.specs.Drafts.{link_of};
+ghost use Rattle.resolving.specs.Drafts.{link_of};
 ghost use Rattle.resolving.specs.Draft.{IsIndexed};
 
 use crate::draft::{Draft, put, widen};

@@ -5,7 +5,7 @@ ghost use Rattle.cfg_grammar.specs.Below.{AreBelow, production_below};
 ghost use Rattle.resolving.specs.Draft.{IsIndexed, IsOfSystem, Puts, PutsAll, Widens};
 
 use cfg_grammar::Production;
-use number_chains::Chains;
+use numbered_sets::Chains;
 use op_system::OpSystem;
 use std::alloc::Global;
 use text_base::NoMemory;

@@ -3,8 +3,8 @@
 ghost use Rattle.std.specs.Prelude.{◌≡◌, ◌≢◌, ◌<◌, ◌≤◌, ◌+◌, length, IfOk, IfErr, OnOk};
 ghost use Rattle.cfg_grammar.specs.Below.{AreBelow};
 ghost use Rattle.op_system.specs.declared.op.Op.TheVariants.{Any};
-ghost use Rattle.resolve_laws.specs.Drafts as laws;
-ghost use Rattle.resolve_laws.specs.Drafted.{IsImageOf};
+ghost use Rattle.resolving.specs.Drafts as laws;
+ghost use Rattle.resolving.specs.Drafted.{IsImageOf};
 ghost use Rattle.resolving.specs.Draft.{IsIndexed};
 ghost use Rattle.resolving.specs.Images.{AddsMoved, AddsProductions, FitsSymbol, FitsProduction, IsImageCause};
 

@@ -1,7 +1,7 @@
 //! The order in which operations are added.
 
 ghost use Rattle.std.specs.Prelude.{◌≡◌, IfOk};
-ghost use Rattle.op_cycles.specs.Cycles.{AreNumbers};
+ghost use Rattle.op_bytes.specs.Cycles.{AreNumbers};
 ghost use Rattle.resolving.specs.Order.{AreRanked, IsOrder};
 
 use op_system::OpSystem;

@@ -1,9 +1,9 @@
 //! Adding one rule to a draft.
 
 ghost use Rattle.std.specs.Prelude.{◌≡◌, ◌<◌, Contains, Some, slice_get, length, IfErr, OnOk};
-ghost use Rattle.op_cycles.specs.Cycles.{AreNumbers};
-ghost use Rattle.system_bytes.specs.Bytes.{HasBytes};
-ghost use Rattle.resolve_laws.specs.Drafts.{IsDraft, IsReady};
+ghost use Rattle.op_bytes.specs.Cycles.{AreNumbers};
+ghost use Rattle.op_bytes.specs.SystemBytes.{HasBytes};
+ghost use Rattle.resolving.specs.Drafts.{IsDraft, IsReady};
 ghost use Rattle.resolving.specs.AnyTexts.{AddsAnyTexts, AreNeededSets};
 ghost use Rattle.resolving.specs.Causes.{IsCause};
 ghost use Rattle.resolving.specs.Draft.{IsIndexed};
@@ -13,7 +13,7 @@ use crate::any_texts::add_any_texts;
 use crate::draft::Draft;
 use crate::images::{add_grammar, image_of};
 use grammar_image::ImageRefusal;
-use op_cycles::is_circular;
+use op_bytes::is_circular;
 use op_system::{OpRule, OpSystem};
 use std::alloc::Global;
 use text_base::{ByteSet, NoMemory};

@@ -1,16 +1,16 @@
-//! How long runs of scripts take: a few turns of each script without an argument, and with a number
-//! as an argument that many times as many and twice as many, with the seconds of the first and how
-//! many times as long the second run takes. The scripts stand in `scripts.txt` in the folder that it
-//! runs in, a line each: the turns, a name, and the script, in which `N` stands for the turns.
+//! Measures runs of scripts (`run` of script_runs), from the lines of data/scripts.txt.
+//! Without an argument it makes a few turns of each and prints no times; with a number so many
+//! times as many and twice that, with the seconds and how they grow. It has no clause.
+//! Used by: none; it stands at the top.
 #![tactic(auto)]
 
 use anyhow::{Context, Result};
 use io_edge::{DiskFiles, Files, MemFiles};
-use php_program::Program;
-use php_requests::Request;
 use program_loader::load;
+use program_rules::Program;
+use request_reading::Request;
 use script_runs::{Ended, run};
-use statement_machine::End;
+use statement_runs::End;
 use std::alloc::{AllocError, Global};
 use std::rt::{Clock, Env};
 use std::time::Instant;

@@ -3,12 +3,12 @@ use Rattle.std.proofs.Common.{ℕ}
 use Rattle.std.specs.Prelude.{Result, Ok, Err, IfOk}
 use Rattle.script_meaning.specs.Programs.{PlainProgram}
 use Rattle.dtd_model.specs.Table.{Table}
-use Rattle.page_goals.specs.declared.goal.Goal.{Goal}
+use Rattle.page_decision.specs.declared.goal.Goal.{Goal}
 use Rattle.echoing_machine.specs.Echoes.{EchoStep, EchoEnd}
-use Rattle.merged_reader.specs.ReaderStates.{first_state, tokens_at, tokens_behind}
+use Rattle.page_reader.specs.States.{first_state, tokens_at, tokens_behind}
 use Rattle.merged_reader.specs.States.{merged_next}
-use Rattle.program_answers.specs.declared.answer.Answer.{Answer}
-use Rattle.program_answers.specs.Answers.{IsAnswerBy}
+use Rattle.script_decision.specs.declared.answer.Answer.{Answer}
+use Rattle.script_decision.specs.Answers.{IsAnswerBy}
 use Rattle.script_decision.specs.declared.refusal.CheckRefusal.{CheckRefusal}
 use Rattle.script_decision.specs.Decision.{IsAnswerOf}
 

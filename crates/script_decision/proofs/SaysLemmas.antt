@@ -4,12 +4,12 @@ use Rattle.std.specs.Prelude.{Result, Ok, Err, IfOk}
 use Rattle.text_base.specs.declared.letter.Letter.{Letter}
 use Rattle.text_base.specs.declared.memory.NoMemory.{NoMemory}
 use Rattle.script_meaning.specs.Programs.{PlainProgram}
-use Rattle.php_program.specs.Lawful.{IsLawful}
-use Rattle.program_points.specs.Texts.{TextsFit}
+use Rattle.program_rules.specs.Lawful.{IsLawful}
+use Rattle.flow_runs.specs.Texts.{TextsFit}
 use Rattle.dtd_model.specs.Table.{Table}
-use Rattle.page_goals.specs.declared.goal.Goal.{Goal}
-use Rattle.program_answers.specs.declared.answer.Answer.{Answer}
-use Rattle.program_answers.specs.Answers.{EachIsGood, IsAnswerBy, RunsAreGood, SaysOfRuns}
+use Rattle.page_decision.specs.declared.goal.Goal.{Goal}
+use Rattle.script_decision.specs.declared.answer.Answer.{Answer}
+use Rattle.script_decision.specs.Answers.{EachIsGood, IsAnswerBy, RunsAreGood, SaysOfRuns}
 
 -- where each loose page is good, so are runs
 abbrev pub RunsFollow : Type 0

@@ -2,22 +2,22 @@
 use Rattle.std.specs.Prelude.{◌<◌, ℕ, ⊤}
 use Rattle.cfg_grammar.specs.declared.grammar.Grammar.{Grammar}
 use Rattle.script_meaning.specs.Programs.{PlainProgram}
-use Rattle.program_literals.specs.Short.{HasLongText}
+use Rattle.program_lowering.specs.Short.{HasLongText}
 use Rattle.dtd_model.specs.Table.{Table}
 use Rattle.content_automata.specs.declared.table.TheConstants.{STATE_LIMIT}
 use Rattle.content_automata.specs.Decides.{shapes_in}
 use Rattle.content_automata.specs.Tables.{HasStates}
-use Rattle.page_goals.specs.declared.goal.Goal.{Goal}
+use Rattle.page_decision.specs.declared.goal.Goal.{Goal}
 use Rattle.page_decision.specs.PageVerdicts.{HasManyPairs, HasManyOpenTags}
 use Rattle.echoing_machine.specs.Echoes.{EchoStep, EchoEnd}
-use Rattle.merged_reader.specs.ReaderStates.{first_state, tokens_at, tokens_behind}
+use Rattle.page_reader.specs.States.{first_state, tokens_at, tokens_behind}
 use Rattle.merged_reader.specs.States.{merged_next}
-use Rattle.program_answers.specs.declared.answer.Answer.{Answer}
-use Rattle.program_answers.specs.refusal.TheConstants.{ITEM_LIMIT}
-use Rattle.program_answers.specs.Pages.{IsLoosePage}
-use Rattle.program_answers.specs.Answers as by_machine
-use Rattle.program_answers.specs.Answers.{EachIsGood, IsCounterexample}
-use Rattle.program_answers.specs.Searches.{IsSearched}
+use Rattle.script_decision.specs.declared.answer.Answer.{Answer}
+use Rattle.loose_grammar.specs.declared.refusal.TheConstants.{ITEM_LIMIT}
+use Rattle.loose_grammar.specs.Pages.{IsLoosePage}
+use Rattle.script_decision.specs.Answers as by_machine
+use Rattle.script_decision.specs.Answers.{EachIsGood, IsCounterexample}
+use Rattle.script_decision.specs.Searches.{IsSearched}
 use Rattle.script_decision.specs.declared.refusal.CheckRefusal.{CheckRefusal}
 use Rattle.script_decision.specs.declared.refusal.CheckRefusal.TheVariants as refusal
 

@@ -1,6 +1,8 @@
 pub mod Decision
-pub use Rattle.program_answers.specs.Pages
-pub use Rattle.program_answers.specs.Refusals
-pub use Rattle.program_answers.specs.refusal
-pub use Rattle.program_answers.specs.Answers
-pub use Rattle.program_answers.specs.Searches
+pub mod Shows
+pub mod Answers
+pub mod Searches
+pub mod Steps
+pub mod SingleBytes
+pub mod Shown
+pub mod EchoLaws

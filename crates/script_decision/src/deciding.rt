@@ -2,19 +2,19 @@
 
 ghost use Rattle.std.specs.Prelude.{IfOk, IfErr};
 ghost use Rattle.dtd_model.specs.TableOf.{table_of};
-ghost use Rattle.php_program.specs.View.{program_of};
-ghost use Rattle.program_answers.specs.Answers.{SaysOfRuns};
+ghost use Rattle.program_rules.specs.View.{program_of};
+ghost use Rattle.script_decision.specs.Answers.{SaysOfRuns};
 ghost use Rattle.script_decision.specs.Decision.{IsAnswerOf, IsCheckRefusal};
 
+use crate::Answer;
 use crate::reading::check_by;
 use crate::refusal::CheckRefusal;
 use dtd_index::IndexedDtd;
 use dtd_model::Dtd;
 use merged_reader::laws::reads_pages;
-use page_goals::Goal;
+use page_decision::Goal;
 use page_runs::PageRunReader;
-use php_program::Program;
-use program_answers::Answer;
+use program_rules::Program;
 use std::alloc::Global;
 
 /// The answer by the definition of an index.

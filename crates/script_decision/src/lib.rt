@@ -1,19 +1,28 @@
-//! The decision over a program: whether every page that it may print is good by a goal and a
-//! document type definition.
-//!
-//! `check` says `Yes` only where every loose page of a program is good, and then every run of it
-//! that ends prints a good page; `No` only with a derivation of a loose page that is not good; a
-//! count only where a stated count is passed; and refuses only with its cause
-//! (`specs/Decision.antt`). How a program is loaded is no matter of this crate. Below stand
-//! loose_grammar with the grammar of the loose pages of a program, merged_reader and page_runs with
-//! the reader of pages, and program_answers, which decides over such a grammar and such a reader.
+//! Whether every page that a program may print is good by a goal and a document type definition.
+//! Promise: `check` says `Yes` only where each loose page is good, `No` only with a derivation of
+//! one that is not, a limit only where it is passed (`answer`: `IsAnswerOf` of specs/Decision);
+//! after `Yes` each run for an admitted request that ends prints a good page (`sound`).
+//! Used by: phpsa_tasks, phpsa_main.
 #![tactic(auto)]
 
+mod answer;
+mod answering;
 mod deciding;
+pub mod echo_laws;
+pub mod laws;
+mod pages;
 mod reading;
 mod refusal;
+mod showing_answers;
+mod showing_pages;
+mod shown;
+mod single_bytes;
 
+pub use answer::Answer;
+pub use answering::answer_by;
 pub use deciding::check;
-pub use program_answers::{Answer, GrammarRefusal, loose_grammar};
 pub use reading::check_by;
 pub use refusal::CheckRefusal;
+pub use showing_answers::check_shown;
+pub use showing_pages::{PAGE_LIMIT, ShownPage, show_page};
+pub use shown::ShownAnswer;

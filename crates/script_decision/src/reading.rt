@@ -2,26 +2,26 @@
 
 ghost use Rattle.std.specs.Prelude.{IfOk, IfErr};
 ghost use Rattle.dtd_model.specs.TableOf.{table_of};
-ghost use Rattle.php_program.specs.View.{program_of};
-ghost use Rattle.program_points.specs.Texts.{TextsFit};
-ghost use Rattle.program_answers.specs.Pages.{IsPageGrammar};
+ghost use Rattle.program_rules.specs.View.{program_of};
+ghost use Rattle.flow_runs.specs.Texts.{TextsFit};
+ghost use Rattle.loose_grammar.specs.Pages.{IsPageGrammar};
 ghost use Rattle.page_decision.specs.PageSums.{AreSumsOf};
-ghost use Rattle.page_echo.specs.Readers.{ReadsPages};
+ghost use Rattle.page_decision.specs.Readers.{ReadsPages};
 ghost use Rattle.echoing_machine.specs.Echoes.{EchoEnd, EchoStep};
-ghost use Rattle.program_answers.specs.Answers.{IsAnswerBy, SaysOfRuns};
+ghost use Rattle.script_decision.specs.Answers.{IsAnswerBy, SaysOfRuns};
 ghost use Rattle.script_decision.specs.Decision.{IsCheckRefusal};
 
+use crate::laws::good_loose_pages_make_good_runs;
 use crate::refusal::CheckRefusal;
+use crate::{Answer, answer_by};
 use cfg_grammar::Grammar;
 use content_automata::ContentRefusal;
 use dtd_model::Dtd;
 use echoing_machine::{Echoing, RunReader};
-use page_decision::{PageSums, sums_of};
-use page_echo::laws::echo_is_page_machine;
-use page_goals::Goal;
-use php_program::Program;
-use program_answers::laws::good_loose_pages_make_good_runs;
-use program_answers::{Answer, GrammarRefusal, answer_by, loose_grammar};
+use loose_grammar::{GrammarRefusal, loose_grammar};
+use page_decision::echo_laws::echo_is_page_machine;
+use page_decision::{Goal, PageSums, sums_of};
+use program_rules::Program;
 use std::alloc::Global;
 use text_base::NoMemory;
 

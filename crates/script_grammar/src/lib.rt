@@ -1,8 +1,8 @@
-//! The grammar of the script language and the rules beside it: which tree a token list spells.
-//!
-//! `SpellsTree` of `specs/Grammar.antt` relates a token list and its tree, by the derivations of
-//! the grammar in EBNF form. Below this crate stands `php_syntax` alone, which has the tokens and
-//! the trees.
+//! The grammar of scripts and the rules beside it: which tree a token list spells, by derivations
+//! in EBNF form (`SpellsTree` of specs/Grammar).
+//! Promise: calls such as `binary_of` and `keyword_named` answer what is defined (`binary_operator`
+//! of specs/Operators, `keyword_of` of specs/Terminals).
+//! Used by 17 crates, program_rules, expr_machine, expr_laws, expr_builder and others.
 #![tactic(auto)]
 
 pub mod keyword;

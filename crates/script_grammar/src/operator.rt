@@ -3,7 +3,7 @@
 
 ghost use Rattle.std.specs.Prelude.{◌≡◌};
 ghost use Rattle.script_grammar.specs.Operators as spec;
-ghost use Rattle.script_grammar.specs.Operators.{binary_operator, prefix_operator, update_sign, step_sign, tighter_level, repeats};
+ghost use Rattle.script_grammar.specs.Operators.{binary_operator, prefix_operator, update_sign, step_sign, repeats};
 
 use php_syntax::token::Sign;
 use php_syntax::tree::{ArithSign, CompareSign, UpdateSign};
@@ -54,21 +54,6 @@ pub enum Prefix {
     CastInt,
     /// `(string)`
     CastString,
-}
-
-/// The next tighter level, if there is one.
-pub fn tighter(level: Level) -> Option<Level>
-    ensures { result ≡ tighter_level level }
-{
-    match level {
-        Level::Or => Some(Level::And),
-        Level::And => Some(Level::Equality),
-        Level::Equality => Some(Level::Order),
-        Level::Order => Some(Level::Join),
-        Level::Join => Some(Level::Sum),
-        Level::Sum => Some(Level::Product),
-        Level::Product => None,
-    }
 }
 
 /// How loosely a level binds, from 1 for the tightest to 7.

@@ -1,16 +1,17 @@
-//! Generated scripts, whose functions call one another inside loops, for tests and figures. `make`
-//! gives the script with so many functions; its contract cites `made` of specs/. Below stands
-//! text_base.
+//! Generated scripts, whose functions call one another inside loops, for tests and figures.
+//! Promise: `make` gives exactly the script with so many functions (`made` of specs/Made, clause
+//! `ok`), and refuses a number exactly where it is no size (`IsSize`, clause `err`).
+//! Used by: phpsa_tasks, phpsa_main, base_tests.
 #![tactic(auto)]
-
-mod lines;
-mod refusal;
 
 ghost use Rattle.std.specs.Prelude.{◌≡◌, ◌+◌, ◌⊎◌, IfOk, IfErr};
 ghost use Rattle.script_maker.specs.declared.refusal.MakeRefusal.TheVariants.{Size, Memory};
 ghost use Rattle.script_maker.specs.Made.{made, IsSize};
 
-use lines::put_script;
+mod lines;
+mod refusal;
+
+use crate::lines::put_script;
 pub use refusal::MakeRefusal;
 use std::alloc::Global;
 use text_base::{Bytes, NoMemory};

@@ -6,3 +6,4 @@ mod More
 mod MoreRuns
 mod Keeps
 pub mod Loops
+pub mod FormLemmas

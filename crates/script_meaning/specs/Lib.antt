@@ -5,6 +5,4 @@ pub mod Expressions
 pub mod Statements
 pub mod Meaning
 pub mod Quiet
-pub use Rattle.builtin_meaning.specs.Names
-pub use Rattle.builtin_meaning.specs.Values
-pub use Rattle.builtin_meaning.specs.declared.builtin
+pub mod Literals

@@ -1,1 +1,5 @@
 pub mod UnitRuns
+pub mod BindLemmas
+pub mod UnitLemmas
+pub mod SettleLemmas
+pub mod PayLemmas

@@ -7,17 +7,17 @@ use Rattle.script_meaning.specs.Requests.{PlainRequest}
 use Rattle.script_meaning.specs.Runs.{Run, Going, Over, ◌then_do◌, unit_at}
 use Rattle.script_meaning.specs.Statements.{statements}
 use Rattle.script_meaning.specs.Meaning.{Outcome, outcome_of, meaning}
-use Rattle.statement_machine.specs.declared.frames.End.{End}
-use Rattle.statement_machine.specs.declared.frames.End.TheVariants as end
-use Rattle.statement_machine.specs.declared.frames.Next.{Next}
-use Rattle.statement_machine.specs.declared.frames.Next.TheVariants as next
-use Rattle.statement_machine.specs.Frames.{scope, focused, tasks_then, plain_end}
-use Rattle.run_stacks.specs.declared.calls.Pending.{Pending}
-use Rattle.run_stacks.specs.declared.wants.Wanted.{Wanted}
-use Rattle.run_stacks.specs.declared.wants.Settled.{Settled}
-use Rattle.run_stacks.specs.declared.wants.Settled.TheVariants as settled
-use Rattle.run_stacks.specs.Rest.{ahead, callers_then, rest_then, outcome, settled_outcome}
-use Rattle.run_stacks.specs.Moves.{IsReady, MayTake, Settles, Pays}
+use Rattle.statement_runs.specs.declared.frames.End.{End}
+use Rattle.statement_runs.specs.declared.frames.End.TheVariants as end
+use Rattle.statement_runs.specs.declared.frames.Next.{Next}
+use Rattle.statement_runs.specs.declared.frames.Next.TheVariants as next
+use Rattle.statement_runs.specs.Frames.{scope, focused, tasks_then, plain_end}
+use Rattle.script_runs.specs.declared.calls.Pending.{Pending}
+use Rattle.script_runs.specs.declared.wants.Wanted.{Wanted}
+use Rattle.script_runs.specs.declared.wants.Settled.{Settled}
+use Rattle.script_runs.specs.declared.wants.Settled.TheVariants as settled
+use Rattle.script_runs.specs.Rest.{ahead, callers_then, rest_then, outcome, settled_outcome}
+use Rattle.script_runs.specs.Moves.{IsReady, MayTake, Settles, Pays}
 
 -- so far the outcome is that of the beginning
 pub record IsOnTheWay (r : PlainRequest) (fs : List PlainFunction) (p : Pending) (n : Next) (steps : ℕ) (p' : Pending) (n' : Next) (left : ℕ) : Type 0 where

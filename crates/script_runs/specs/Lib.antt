@@ -1,1 +1,4 @@
 pub mod Outcomes
+pub mod Rest
+pub mod Weights
+pub mod Moves

@@ -1,6 +1,6 @@
 //! What a run comes to.
 
-use statement_machine::End;
+use statement_runs::End;
 use text_base::Bytes;
 
 /// A run that has ended.

@@ -1,12 +1,22 @@
-//! Runs a program for a request within a number of units (PHP manual, "Control structures",
-//! "User-defined functions"). What a run prints and how it ends are exactly what the meaning of the
-//! program says, for each number of units; only want of memory refuses. Nothing here calls itself:
-//! however deep a program is, a run takes no more of the machine's stack. Below stand run_stacks
-//! with the moves, and php_program with the type of programs.
+//! Runs a program for a request within a number of units; nothing in it calls itself, however deep
+//! the calls of the script are.
+//! Promise: what `run` prints and how the run ends are exactly what `meaning` of script_meaning
+//! says, for each number of units (`plain_outcome` of specs/Outcomes); only want of memory refuses.
+//! Used by: phpsa_main, run_bench.
 #![tactic(auto)]
 
+mod binding;
+pub mod calls;
 pub mod ended;
+mod paying;
+mod returning;
 mod running;
+mod settling;
+pub mod wants;
 
+pub use calls::{Call, Caller, Pending};
 pub use ended::Ended;
+pub use paying::go_on;
 pub use running::run;
+pub use settling::settle;
+pub use wants::{Settled, Wanted};

@@ -3,18 +3,18 @@
 ghost use Rattle.std.specs.Prelude.{◌≡◌, ℕ, IfOk};
 ghost use Rattle.php_syntax.specs.Trees.{functions_of_list};
 ghost use Rattle.script_meaning.specs.Meaning.{meaning};
-ghost use Rattle.php_program.specs.View.{program_of};
-ghost use Rattle.run_stacks.specs.Rest.{outcome};
-ghost use Rattle.run_stacks.specs.Moves.{IsReady};
-ghost use Rattle.statement_machine.specs.Frames.{plain_end};
+ghost use Rattle.program_rules.specs.View.{program_of};
+ghost use Rattle.script_runs.specs.Rest.{outcome};
+ghost use Rattle.script_runs.specs.Moves.{IsReady};
+ghost use Rattle.statement_runs.specs.Frames.{plain_end};
 ghost use Rattle.script_runs.specs.Outcomes.{plain_outcome};
 
 use crate::ended::Ended;
+use crate::{Pending, Settled, go_on, settle};
 use expr_evaluator::Functions;
-use php_program::Program;
-use php_requests::Request;
-use run_stacks::{Pending, Settled, go_on, settle};
-use statement_machine::{End, Next};
+use program_rules::Program;
+use request_reading::Request;
+use statement_runs::{End, Next};
 use std::alloc::Global;
 use text_base::NoMemory;
 use text_base::limits::CALL_LIMIT;

@@ -1,1 +1,5 @@
 pub mod RowLemmas
+pub mod StepLemmas
+pub mod TreeLemmas
+pub mod PageLemmas
+pub mod WholeLemmas

@@ -6,8 +6,7 @@ use Rattle.std.specs.Cmp.Lexicographic.{pointwise, pointwise_decides}
 use Rattle.std.specs.Option.{option_eq}
 use Rattle.std.specs.Hash as fed
 use Rattle.std.proofs.Common.{ap, subst, ◌∙◌}
-use Rattle.tag_sums.specs.Sum.{Sum}
-use Rattle.tag_sums.specs.Sum.{broken, reduced}
+use Rattle.tag_sums.specs.Sum.{Sum, broken, reduced}
 use Rattle.segment_summary.specs.Equal.{sum_eq, sum_fed}
 
 -- two sets of states are found equal exactly where they are one

@@ -4,8 +4,7 @@ use Rattle.std.specs.Cmp.Lexicographic.{pointwise}
 use Rattle.std.specs.Option.{option_eq}
 use Rattle.std.specs.Bool.{beq}
 use Rattle.std.specs.Hash as fed
-use Rattle.tag_sums.specs.Sum.{Sum}
-use Rattle.tag_sums.specs.Sum.{broken, reduced}
+use Rattle.tag_sums.specs.Sum.{Sum, broken, reduced}
 
 -- two sums are equal where both are broken, or their closers, their maps and their openers are
 abbrev pub sum_eq : Sum → Sum → Bool

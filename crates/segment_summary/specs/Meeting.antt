@@ -1,7 +1,6 @@
 -- How far openers and closers match.
 use Rattle.std.specs.Prelude.{◌≡◌, ℕ, ◌≤◌, ◌⊎◌, Bool, List, [], Option, Some, None, drop, length}
-use Rattle.tag_sums.specs.Sum.{meet}
-use Rattle.tag_sums.specs.Sum.{broken}
+use Rattle.tag_sums.specs.Sum.{meet, broken}
 
 -- after k pairs the rest meets in the same way
 abbrev pub MeetsFrom : List ℕ → List (List Bool) → ℕ → Type 0

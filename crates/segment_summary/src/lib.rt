@@ -1,8 +1,12 @@
-//! Sums of page tokens by a document type definition. [`Segments`] is a summary (tag_sums) whose
-//! whole lists are the tokens of trees that are as declared (page_model's `TokenTree`). Below
-//! stand tag_sums, dtd_model, page_model, content_automata and page_automata.
+//! Sums of page tokens by a document type definition (`Segments`, a `Summary` of tag_sums), and the
+//! automaton over labels of a definition (specs/PageAutomaton). Promise: a sum is whole exactly
+//! where the tokens are those of a tree that is as declared (`whole_is_tree`: `WholeIsTree` of
+//! specs/Whole, over `TokenTree` of page_model), by states that decide the content models.
+//! Used by: page_decision, decision_tests, decision_bench.
 #![tactic(auto)]
 
+mod automaton_laws;
+mod besides;
 mod meet;
 mod rows;
 mod rules;
@@ -12,5 +16,7 @@ mod steps;
 mod sum;
 mod summary;
 
+pub use automaton_laws::{page_is_tree, whole_is_tree};
+pub use besides::Besides;
 pub use segments::Segments;
 pub use sum::SegmentSum;

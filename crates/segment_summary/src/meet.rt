@@ -1,8 +1,7 @@
 //! The sum of a concatenation.
 
 ghost use Rattle.std.specs.Prelude.{◌≡◌, ◌⊎◌, ◌++◌, ◌∷◌, ℕ, Bool, true, List, [], IfOk, OnOk};
-ghost use Rattle.tag_sums.specs.Sum.{Sum, target, after, preimage, some_move, some_state, joined, moved, meet, compose};
-ghost use Rattle.tag_sums.specs.Sum.{broken, reduced};
+ghost use Rattle.tag_sums.specs.Sum.{Sum, target, after, preimage, some_move, some_state, joined, moved, meet, compose, broken, reduced};
 ghost use Rattle.segment_summary.specs.Meeting.{Matched};
 
 use crate::state_set::StateSet;

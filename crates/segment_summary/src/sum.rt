@@ -3,8 +3,7 @@
 ghost use Rattle.std.specs.Prelude.{◌≡◌, ℕ, Bool, true, List, IfOk};
 ghost use Rattle.std.proofs.Common.{rules};
 ghost use Rattle.std.specs.Cmp.Rules.{comparing, hashing};
-ghost use Rattle.tag_sums.specs.Sum.{Sum};
-ghost use Rattle.tag_sums.specs.Sum.{broken, reduced};
+ghost use Rattle.tag_sums.specs.Sum.{Sum, broken, reduced};
 ghost use Rattle.segment_summary.specs.Equal.{sum_eq, sum_fed};
 ghost use Rattle.segment_summary.specs.Decided.{sum_per, sum_equiv, sum_alike, sum_exact};
 

@@ -5,17 +5,17 @@ use Rattle.std.specs.Fmt.{signed_decimal}
 use Rattle.plain_values.specs.Plain.{PlainKey}
 use Rattle.flow_code.specs.Points.{PlainKeyRef, int_ref, text_ref, read_ref, array_source, PlainFlow}
 use Rattle.least_sets.specs.Forms.{Form, text_form, same_form, integer_form}
-use Rattle.set_names.specs.Keys.{told_keys, may_be, may_be_other}
-use Rattle.set_names.specs.SetNames as sets
-use Rattle.set_names.specs.SetNames.{text_half, own, member, others, keys_of, use_of, all_of}
-use Rattle.set_names.specs.Table.{SourceRow, KeyText}
-use Rattle.set_simulations.specs.Simulations.{Alike}
-use Rattle.set_names.specs.declared.name.Half.{Half}
-use Rattle.set_names.specs.declared.name.Half.TheVariants as half
-use Rattle.set_names.specs.declared.name.Aspect.{Aspect}
-use Rattle.set_names.specs.declared.name.Aspect.TheVariants.{Own, Keys}
-use Rattle.set_names.specs.declared.name.SetName.{SetName}
-use Rattle.set_names.specs.Stands.{IsHalf, IsAspect}
+use Rattle.loose_sets.specs.Keys.{told_keys, may_be, may_be_other}
+use Rattle.loose_sets.specs.Names as sets
+use Rattle.loose_sets.specs.Names.{text_half, own, member, others, keys_of, use_of, all_of}
+use Rattle.loose_sets.specs.Table.{SourceRow, KeyText}
+use Rattle.least_sets.specs.Simulations.{Alike}
+use Rattle.set_listing.specs.declared.name.Half.{Half}
+use Rattle.set_listing.specs.declared.name.Half.TheVariants as half
+use Rattle.set_listing.specs.declared.name.Aspect.{Aspect}
+use Rattle.set_listing.specs.declared.name.Aspect.TheVariants.{Own, Keys}
+use Rattle.set_listing.specs.declared.name.SetName.{SetName}
+use Rattle.set_listing.specs.Stands.{IsHalf, IsAspect}
 use Rattle.set_listing.specs.Uses.{At, used, all_used, where_so, may_be_at}
 use Rattle.set_listing.specs.Arrays.{key_forms, item_under, item_elsewhere, item_keys, array_forms}
 use Rattle.set_listing.proofs.ListLemmas.{Each, each_append, each_where, each_flat_map, from_place}

@@ -8,12 +8,12 @@ use Rattle.op_system.specs.declared.op.Op.TheVariants as op
 use Rattle.flow_code.specs.Points.{text_ref, read_ref, literal_source, concat_source, apply_source, set_point, branch_point, return_point, call_point}
 use Rattle.flow_code.specs.Lawful.{nexts}
 use Rattle.least_sets.specs.Forms.{text_form, same_form, join_form}
-use Rattle.set_names.specs.Keys.{literal_key, may_be, is_exactly}
-use Rattle.set_names.specs.declared.name.Half.TheVariants.{Text, Array}
-use Rattle.set_names.specs.declared.name.Aspect.TheVariants.{Own, Member, Others}
-use Rattle.set_names.specs.declared.name.SetVersion.TheVariants.{Point}
-use Rattle.set_names.specs.declared.name.Leaving.TheVariants.{Return, Exit}
-use Rattle.set_names.specs.declared.name.SetName.TheVariants.{Value, Members, Shown, Output, Joined, Out}
+use Rattle.loose_sets.specs.Keys.{literal_key, may_be, is_exactly}
+use Rattle.set_listing.specs.declared.name.Half.TheVariants.{Text, Array}
+use Rattle.set_listing.specs.declared.name.Aspect.TheVariants.{Own, Member, Others}
+use Rattle.set_listing.specs.declared.name.SetVersion.TheVariants.{Point}
+use Rattle.set_listing.specs.declared.name.Leaving.TheVariants.{Return, Exit}
+use Rattle.set_listing.specs.declared.name.SetName.TheVariants.{Value, Members, Shown, Output, Joined, Out}
 use Rattle.set_listing.specs.Uses.{At, where_so, of_told, may_be_at, number_from, member_name}
 use Rattle.set_listing.specs.Arrays.{item_under, array_forms, is_exactly_at, put_under, put_forms}
 use Rattle.set_listing.specs.Sources.{is_own_text, output_own, explode_forms, source_forms}

@@ -8,3 +8,8 @@ pub mod ValueLaws
 pub mod WorkLaws
 pub mod PrintLaws
 mod Examples
+pub mod Plain
+pub mod Reading
+pub mod Calls
+pub mod Points
+mod VersionExamples

@@ -7,22 +7,22 @@ use Rattle.string_functions.proofs.Members.{Contains-head, Contains-later}
 use Rattle.plain_values.specs.Plain.{PlainKey}
 use Rattle.flow_code.specs.Points.{PlainFlow}
 use Rattle.least_sets.specs.Forms.{Form, text_form, same_form, join_form}
-use Rattle.set_names.specs.Reaching.{at_point}
-use Rattle.set_names.specs.Keys.{told_keys}
-use Rattle.set_names.specs.SetNames as sets
-use Rattle.set_names.specs.SetNames.{Name, set_of, use_of, all_of, shown_at, result_of, input_of, output_of, joined_from, piece_of, further_piece_of, further_pieces_of, out_of, text_half, array_half, own}
-use Rattle.set_names.specs.SlotVersions.{of_definition}
-use Rattle.set_simulations.specs.Simulations.{Alike}
-use Rattle.set_names.specs.RowNames.{by_version}
-use Rattle.set_names.specs.declared.name.SetVersion.TheVariants as version
-use Rattle.set_names.specs.declared.name.Half.{Half}
-use Rattle.set_names.specs.declared.name.Half.TheVariants as half
-use Rattle.set_names.specs.declared.name.Aspect.{Aspect}
-use Rattle.set_names.specs.declared.name.Aspect.TheVariants.{Own}
-use Rattle.set_names.specs.declared.name.Leaving.{Leaving}
-use Rattle.set_names.specs.declared.name.SetName.{SetName}
-use Rattle.set_names.specs.declared.name.SetName.TheVariants as name
-use Rattle.set_names.specs.Stands.{IsHalf, IsAspect, IsLeaving, StandsFor}
+use Rattle.loose_sets.specs.Reaching.{at_point}
+use Rattle.loose_sets.specs.Keys.{told_keys}
+use Rattle.loose_sets.specs.Names as sets
+use Rattle.loose_sets.specs.Names.{Name, set_of, use_of, all_of, shown_at, result_of, input_of, output_of, joined_from, piece_of, further_piece_of, further_pieces_of, out_of, text_half, array_half, own}
+use Rattle.loose_sets.specs.Versions.{of_definition}
+use Rattle.least_sets.specs.Simulations.{Alike}
+use Rattle.loose_sets.specs.RowNames.{by_version}
+use Rattle.set_listing.specs.declared.name.SetVersion.TheVariants as version
+use Rattle.set_listing.specs.declared.name.Half.{Half}
+use Rattle.set_listing.specs.declared.name.Half.TheVariants as half
+use Rattle.set_listing.specs.declared.name.Aspect.{Aspect}
+use Rattle.set_listing.specs.declared.name.Aspect.TheVariants.{Own}
+use Rattle.set_listing.specs.declared.name.Leaving.{Leaving}
+use Rattle.set_listing.specs.declared.name.SetName.{SetName}
+use Rattle.set_listing.specs.declared.name.SetName.TheVariants as name
+use Rattle.set_listing.specs.Stands.{IsHalf, IsAspect, IsLeaving, StandsFor}
 use Rattle.set_listing.specs.Uses.{At, seen_at, used, all_used, where_so}
 use Rattle.set_listing.specs.Arrays.{Forms}
 use Rattle.set_listing.specs.Sources.{given_at}

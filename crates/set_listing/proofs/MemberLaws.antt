@@ -1,24 +1,23 @@
 -- Members under keys.
-use Rattle.std.proofs.Common.{◌≡◌, ℕ, suc, Bool, true, false, if◌then◌else◌, List, [], ◌∷◌, Some, None, refl, sym, subst, ap, ◌∙◌}
+use Rattle.std.proofs.Common.{◌≡◌, ℕ, suc, Bool, true, false, if◌then◌else◌, List, [], ◌∷◌, Some, None, refl, sym, subst, ap, ◌∙◌, arith}
 use Rattle.std.specs.Prelude.{slice_get, ◌+◌, ◌||◌}
 use Rattle.std.specs.List.{list_any}
-use Rattle.std.proofs.Common.{arith}
 use Rattle.plain_values.specs.Plain.{PlainKey, int_key}
 use Rattle.plain_values.specs.Keys.{same_key, canonical_integer, canonical_key}
 use Rattle.plain_values.proofs.SameKeys.{same_is}
 use Rattle.flow_code.specs.Points.{PlainKeyRef, int_ref, text_ref, read_ref, member_source, PlainFlow}
 use Rattle.least_sets.specs.Forms.{Form, text_form, same_form}
-use Rattle.set_names.specs.Keys.{literal_key, told_keys, is_among}
-use Rattle.set_names.specs.SetNames as sets
-use Rattle.set_names.specs.SetNames.{text_half, array_half, member, others, keys_of, use_of}
-use Rattle.set_names.specs.Table.{SourceRow, member_at, deeper}
-use Rattle.set_simulations.specs.Simulations.{Alike}
-use Rattle.set_names.specs.declared.name.Half.{Half}
-use Rattle.set_names.specs.declared.name.Half.TheVariants as half
-use Rattle.set_names.specs.declared.name.Aspect.{Aspect}
-use Rattle.set_names.specs.declared.name.Aspect.TheVariants.{Member, Others, Keys}
-use Rattle.set_names.specs.declared.name.SetName.TheVariants as name
-use Rattle.set_names.specs.Stands.{IsHalf, IsAspect}
+use Rattle.loose_sets.specs.Keys.{literal_key, told_keys, is_among}
+use Rattle.loose_sets.specs.Names as sets
+use Rattle.loose_sets.specs.Names.{text_half, array_half, member, others, keys_of, use_of}
+use Rattle.loose_sets.specs.Table.{SourceRow, member_at, deeper}
+use Rattle.least_sets.specs.Simulations.{Alike}
+use Rattle.set_listing.specs.declared.name.Half.{Half}
+use Rattle.set_listing.specs.declared.name.Half.TheVariants as half
+use Rattle.set_listing.specs.declared.name.Aspect.{Aspect}
+use Rattle.set_listing.specs.declared.name.Aspect.TheVariants.{Member, Others, Keys}
+use Rattle.set_listing.specs.declared.name.SetName.TheVariants as name
+use Rattle.set_listing.specs.Stands.{IsHalf, IsAspect}
 use Rattle.set_listing.specs.Uses.{At, used, number_from, in_member, member_name}
 use Rattle.set_listing.specs.Arrays.{null_own, member_forms}
 use Rattle.set_listing.proofs.Meetings as meetings

@@ -4,16 +4,16 @@ use Rattle.std.specs.Prelude.{Contains, map}
 use Rattle.flow_code.specs.Points.{PlainPoint, set_point, call_point, print_point, echo_point, branch_point, jump_point, begin_point, next_point, key_point, value_point, return_point, quit_point, PlainFlowFunction, PlainFlow, point_at, function_at}
 use Rattle.flow_code.specs.Lawful.{nexts}
 use Rattle.least_sets.specs.Forms.{Form, text_form, same_form, join_form, before_form}
-use Rattle.set_names.specs.SetNames as sets
-use Rattle.set_names.specs.SetNames.{text_half, own, by_return, by_exit, use_of, shown_at, out_of}
-use Rattle.set_names.specs.Table.{PrintsNothing, Row}
-use Rattle.set_simulations.specs.Simulations.{Alike}
-use Rattle.set_names.specs.declared.name.Half.TheVariants as half
-use Rattle.set_names.specs.declared.name.Aspect.TheVariants.{Own}
-use Rattle.set_names.specs.declared.name.Leaving.{Leaving}
-use Rattle.set_names.specs.declared.name.Leaving.TheVariants.{Return, Exit}
-use Rattle.set_names.specs.declared.name.SetName.TheVariants as name
-use Rattle.set_names.specs.Stands.{IsLeaving}
+use Rattle.loose_sets.specs.Names as sets
+use Rattle.loose_sets.specs.Names.{text_half, own, by_return, by_exit, use_of, shown_at, out_of}
+use Rattle.loose_sets.specs.Table.{PrintsNothing, Row}
+use Rattle.least_sets.specs.Simulations.{Alike}
+use Rattle.set_listing.specs.declared.name.Half.TheVariants as half
+use Rattle.set_listing.specs.declared.name.Aspect.TheVariants.{Own}
+use Rattle.set_listing.specs.declared.name.Leaving.{Leaving}
+use Rattle.set_listing.specs.declared.name.Leaving.TheVariants.{Return, Exit}
+use Rattle.set_listing.specs.declared.name.SetName.TheVariants as name
+use Rattle.set_listing.specs.Stands.{IsLeaving}
 use Rattle.set_listing.specs.Uses.{At, used}
 use Rattle.set_listing.specs.Arrays.{Forms}
 use Rattle.set_listing.specs.Printed.{onward, on_return, on_exit, quit_form, call_forms, out_forms}

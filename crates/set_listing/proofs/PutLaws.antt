@@ -5,17 +5,17 @@ use Rattle.string_functions.proofs.Members.{Contains-nil}
 use Rattle.plain_values.specs.Plain.{PlainKey}
 use Rattle.flow_code.specs.Points.{PlainKeyRef, put_source, PlainFlow}
 use Rattle.least_sets.specs.Forms.{Form, same_form, yes_form}
-use Rattle.set_names.specs.Keys.{told_keys, may_be_other, is_exactly}
-use Rattle.set_names.specs.SetNames as sets
-use Rattle.set_names.specs.SetNames.{text_half, array_half, own, member, others, keys_of, use_of, all_of}
-use Rattle.set_names.specs.Table.{SourceRow, KeyText}
-use Rattle.set_simulations.specs.Simulations.{Alike}
-use Rattle.set_names.specs.declared.name.Half.{Half}
-use Rattle.set_names.specs.declared.name.Half.TheVariants as half
-use Rattle.set_names.specs.declared.name.Aspect.{Aspect}
-use Rattle.set_names.specs.declared.name.Aspect.TheVariants.{Own, Member, Others, Keys}
-use Rattle.set_names.specs.declared.name.SetName.{SetName}
-use Rattle.set_names.specs.Stands.{IsHalf, IsAspect}
+use Rattle.loose_sets.specs.Keys.{told_keys, may_be_other, is_exactly}
+use Rattle.loose_sets.specs.Names as sets
+use Rattle.loose_sets.specs.Names.{text_half, array_half, own, member, others, keys_of, use_of, all_of}
+use Rattle.loose_sets.specs.Table.{SourceRow, KeyText}
+use Rattle.least_sets.specs.Simulations.{Alike}
+use Rattle.set_listing.specs.declared.name.Half.{Half}
+use Rattle.set_listing.specs.declared.name.Half.TheVariants as half
+use Rattle.set_listing.specs.declared.name.Aspect.{Aspect}
+use Rattle.set_listing.specs.declared.name.Aspect.TheVariants.{Own, Member, Others, Keys}
+use Rattle.set_listing.specs.declared.name.SetName.{SetName}
+use Rattle.set_listing.specs.Stands.{IsHalf, IsAspect}
 use Rattle.set_listing.specs.Uses.{At, used, all_used, where_so, may_be_at}
 use Rattle.set_listing.specs.Arrays.{Forms, array_own, key_forms, is_exactly_at, put_under, put_elsewhere, deep_under, deep_elsewhere, put_keys, put_forms}
 use Rattle.set_listing.proofs.ListLemmas.{Each, each_append, each_where, each_flat_map, from_place}

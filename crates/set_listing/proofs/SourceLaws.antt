@@ -9,18 +9,18 @@ use Rattle.php_syntax.specs.declared.tree.SuperName.{SuperName}
 use Rattle.flow_code.specs.declared.source.Work.{Work}
 use Rattle.flow_code.specs.Points.{PlainSource, literal_source, copy_source, super_source, concat_source, repeat_source, implode_source, explode_source, apply_source, number_source, truth_source, PlainFlow}
 use Rattle.least_sets.specs.Forms.{Form, text_form, same_form, join_form, request_form, integer_form, yes_form}
-use Rattle.set_names.specs.Reaching.{at_point}
-use Rattle.set_names.specs.Keys.{is_integer_key}
-use Rattle.set_names.specs.SetNames as sets
-use Rattle.set_names.specs.SetNames.{Name, text_half, array_half, own, member, others, set_of, use_of, output_of, joined_from, piece_of, further_pieces_of}
-use Rattle.set_names.specs.Table.{SourceRow, request_member}
-use Rattle.set_simulations.specs.Simulations.{Alike}
-use Rattle.set_names.specs.declared.name.Half.{Half}
-use Rattle.set_names.specs.declared.name.Half.TheVariants as half
-use Rattle.set_names.specs.declared.name.Aspect.{Aspect}
-use Rattle.set_names.specs.declared.name.Aspect.TheVariants.{Own}
-use Rattle.set_names.specs.declared.name.SetName.TheVariants as name
-use Rattle.set_names.specs.Stands.{IsHalf, IsAspect}
+use Rattle.loose_sets.specs.Reaching.{at_point}
+use Rattle.loose_sets.specs.Keys.{is_integer_key}
+use Rattle.loose_sets.specs.Names as sets
+use Rattle.loose_sets.specs.Names.{Name, text_half, array_half, own, member, others, set_of, use_of, output_of, joined_from, piece_of, further_pieces_of}
+use Rattle.loose_sets.specs.Table.{SourceRow, request_member}
+use Rattle.least_sets.specs.Simulations.{Alike}
+use Rattle.set_listing.specs.declared.name.Half.{Half}
+use Rattle.set_listing.specs.declared.name.Half.TheVariants as half
+use Rattle.set_listing.specs.declared.name.Aspect.{Aspect}
+use Rattle.set_listing.specs.declared.name.Aspect.TheVariants.{Own}
+use Rattle.set_listing.specs.declared.name.SetName.TheVariants as name
+use Rattle.set_listing.specs.Stands.{IsHalf, IsAspect}
 use Rattle.set_listing.specs.Uses.{At, used, where_so, of_told}
 use Rattle.set_listing.specs.Arrays.{Forms, array_own}
 use Rattle.set_listing.specs.Sources.{is_own_text, texts_alone, request_own, super_forms, given_at, copies, pieces, output_own, explode_forms}

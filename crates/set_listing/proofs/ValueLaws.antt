@@ -4,16 +4,16 @@ use Rattle.std.specs.Prelude.{codes}
 use Rattle.plain_values.specs.Text.{text_of}
 use Rattle.flow_code.specs.Points.{PlainSource, literal_source, copy_source, super_source, member_source, array_source, put_source, concat_source, repeat_source, implode_source, explode_source, apply_source, number_source, truth_source, PlainPoint, set_point, call_point, print_point, echo_point, branch_point, jump_point, begin_point, next_point, key_point, value_point, return_point, quit_point, PlainFlow, point_at}
 use Rattle.least_sets.specs.Forms.{Form, text_form, same_form, integer_form}
-use Rattle.set_names.specs.Reaching.{at_point}
-use Rattle.set_names.specs.Keys.{told_keys}
-use Rattle.set_names.specs.SetNames as sets
-use Rattle.set_names.specs.SetNames.{text_half, own, member, others, keys_of, set_of, use_of, all_of, result_of}
-use Rattle.set_names.specs.Table.{SourceRow, Row, deeper}
-use Rattle.set_names.specs.declared.name.Aspect.{Aspect}
-use Rattle.set_names.specs.declared.name.Aspect.TheVariants.{Others, Keys}
-use Rattle.set_names.specs.declared.name.SetName.{SetName}
-use Rattle.set_names.specs.declared.name.SetName.TheVariants as name
-use Rattle.set_names.specs.Stands.{IsHalf, IsAspect}
+use Rattle.loose_sets.specs.Reaching.{at_point}
+use Rattle.loose_sets.specs.Keys.{told_keys}
+use Rattle.loose_sets.specs.Names as sets
+use Rattle.loose_sets.specs.Names.{text_half, own, member, others, keys_of, set_of, use_of, all_of, result_of}
+use Rattle.loose_sets.specs.Table.{SourceRow, Row, deeper}
+use Rattle.set_listing.specs.declared.name.Aspect.{Aspect}
+use Rattle.set_listing.specs.declared.name.Aspect.TheVariants.{Others, Keys}
+use Rattle.set_listing.specs.declared.name.SetName.{SetName}
+use Rattle.set_listing.specs.declared.name.SetName.TheVariants as name
+use Rattle.set_listing.specs.Stands.{IsHalf, IsAspect}
 use Rattle.set_listing.specs.Uses.{where_so, At, used, all_used}
 use Rattle.set_listing.specs.Arrays.{Forms}
 use Rattle.set_listing.specs.Sources.{is_own_text, texts_alone, copies, pieces, source_forms}

@@ -10,14 +10,14 @@ use Rattle.op_system.specs.declared.op.Op.{Op}
 use Rattle.op_system.specs.declared.op.Op.TheVariants as op
 use Rattle.flow_code.specs.Points.{PlainSource, literal_source, copy_source, super_source, member_source, array_source, put_source, concat_source, repeat_source, implode_source, explode_source, apply_source, number_source, truth_source, PlainPoint, set_point, call_point, print_point, echo_point, branch_point, jump_point, begin_point, next_point, key_point, value_point, return_point, quit_point, PlainFlow, point_at}
 use Rattle.least_sets.specs.Forms.{Form, text_form, same_form, join_form, apply_form, where_form}
-use Rattle.set_names.specs.SetNames as sets
-use Rattle.set_names.specs.SetNames.{text_half, array_half, own, use_of, all_of, shown_at, input_of, output_of, joined_from, piece_of, further_piece_of, further_pieces_of}
-use Rattle.set_names.specs.Table.{SetsTo, Reads, Row}
-use Rattle.set_simulations.specs.Simulations.{Alike}
-use Rattle.set_names.specs.declared.name.Half.TheVariants as half
-use Rattle.set_names.specs.declared.name.Aspect.TheVariants.{Own}
-use Rattle.set_names.specs.declared.name.SetName.TheVariants as name
-use Rattle.set_names.specs.Stands.{IsHalf}
+use Rattle.loose_sets.specs.Names as sets
+use Rattle.loose_sets.specs.Names.{text_half, array_half, own, use_of, all_of, shown_at, input_of, output_of, joined_from, piece_of, further_piece_of, further_pieces_of}
+use Rattle.loose_sets.specs.Table.{SetsTo, Reads, Row}
+use Rattle.least_sets.specs.Simulations.{Alike}
+use Rattle.set_listing.specs.declared.name.Half.TheVariants as half
+use Rattle.set_listing.specs.declared.name.Aspect.TheVariants.{Own}
+use Rattle.set_listing.specs.declared.name.SetName.TheVariants as name
+use Rattle.set_listing.specs.Stands.{IsHalf}
 use Rattle.set_listing.specs.Uses.{At, all_used}
 use Rattle.set_listing.specs.Arrays.{Forms}
 use Rattle.set_listing.specs.Points.{source_at, joined_slots, imploded_slots, replaced_by, operation_of, joined_from_place, joined_forms, piece_forms, further_forms, any_further_forms, input_used, input_forms, output_forms}

@@ -4,12 +4,12 @@ use Rattle.std.specs.Fmt.{signed_decimal}
 use Rattle.plain_values.specs.Plain.{PlainKey}
 use Rattle.flow_code.specs.Points.{PlainKeyRef, int_ref, text_ref, read_ref}
 use Rattle.least_sets.specs.Forms.{Form, text_form, same_form, integer_form, yes_form}
-use Rattle.set_names.specs.Keys.{may_be_other, is_exactly}
-use Rattle.set_names.specs.declared.name.Half.{Half}
-use Rattle.set_names.specs.declared.name.Half.TheVariants.{Text, Array}
-use Rattle.set_names.specs.declared.name.Aspect.{Aspect}
-use Rattle.set_names.specs.declared.name.Aspect.TheVariants.{Own, Member, Others, Keys}
-use Rattle.set_names.specs.declared.name.SetName.{SetName}
+use Rattle.loose_sets.specs.Keys.{may_be_other, is_exactly}
+use Rattle.set_listing.specs.declared.name.Half.{Half}
+use Rattle.set_listing.specs.declared.name.Half.TheVariants.{Text, Array}
+use Rattle.set_listing.specs.declared.name.Aspect.{Aspect}
+use Rattle.set_listing.specs.declared.name.Aspect.TheVariants.{Own, Member, Others, Keys}
+use Rattle.set_listing.specs.declared.name.SetName.{SetName}
 use Rattle.set_listing.specs.Uses.{At, used, all_used, where_so, of_told, may_be_at, member_name}
 
 -- the forms of one set: each of them gives some of its texts

@@ -3,3 +3,12 @@ pub mod Arrays
 pub mod Sources
 pub mod Points
 pub mod Printed
+pub mod Forms
+pub mod SetVersions
+pub mod Stands
+pub mod Exactness
+pub mod Lists
+pub mod Used
+pub mod Functions
+pub mod Versions
+pub mod Names

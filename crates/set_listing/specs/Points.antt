@@ -5,11 +5,11 @@ use Rattle.op_system.specs.declared.op.Op.{Op}
 use Rattle.op_system.specs.declared.op.Op.TheVariants as op
 use Rattle.flow_code.specs.Points.{PlainSource, concat_source, implode_source, explode_source, apply_source, PlainPoint, set_point, call_point, begin_point, key_point, value_point}
 use Rattle.least_sets.specs.Forms.{Form, text_form, same_form, join_form, apply_form, where_form}
-use Rattle.set_names.specs.declared.name.Half.TheVariants.{Text, Array}
-use Rattle.set_names.specs.declared.name.Aspect.{Aspect}
-use Rattle.set_names.specs.declared.name.Aspect.TheVariants.{Own, Member, Others, Keys}
-use Rattle.set_names.specs.declared.name.SetName.{SetName}
-use Rattle.set_names.specs.declared.name.SetName.TheVariants as name
+use Rattle.set_listing.specs.declared.name.Half.TheVariants.{Text, Array}
+use Rattle.set_listing.specs.declared.name.Aspect.{Aspect}
+use Rattle.set_listing.specs.declared.name.Aspect.TheVariants.{Own, Member, Others, Keys}
+use Rattle.set_listing.specs.declared.name.SetName.{SetName}
+use Rattle.set_listing.specs.declared.name.SetName.TheVariants as name
 use Rattle.set_listing.specs.Uses.{At, used, all_used, where_so}
 use Rattle.set_listing.specs.Arrays.{Forms}
 use Rattle.set_listing.specs.Sources.{is_own_text, texts_alone, source_forms}

@@ -3,12 +3,12 @@ use Rattle.std.specs.Prelude.{ℕ, List, [], ◌∷◌, Option, Some, None, map,
 use Rattle.flow_code.specs.Points.{PlainPoint, call_point, print_point, echo_point, return_point, quit_point, PlainFlowFunction}
 use Rattle.flow_code.specs.Lawful.{nexts}
 use Rattle.least_sets.specs.Forms.{Form, text_form, same_form, join_form, before_form}
-use Rattle.set_names.specs.declared.name.Half.TheVariants.{Text}
-use Rattle.set_names.specs.declared.name.Aspect.TheVariants.{Own}
-use Rattle.set_names.specs.declared.name.Leaving.{Leaving}
-use Rattle.set_names.specs.declared.name.Leaving.TheVariants.{Return, Exit}
-use Rattle.set_names.specs.declared.name.SetName.{SetName}
-use Rattle.set_names.specs.declared.name.SetName.TheVariants as name
+use Rattle.set_listing.specs.declared.name.Half.TheVariants.{Text}
+use Rattle.set_listing.specs.declared.name.Aspect.TheVariants.{Own}
+use Rattle.set_listing.specs.declared.name.Leaving.{Leaving}
+use Rattle.set_listing.specs.declared.name.Leaving.TheVariants.{Return, Exit}
+use Rattle.set_listing.specs.declared.name.SetName.{SetName}
+use Rattle.set_listing.specs.declared.name.SetName.TheVariants as name
 use Rattle.set_listing.specs.Uses.{At, used}
 use Rattle.set_listing.specs.Arrays.{Forms}
 

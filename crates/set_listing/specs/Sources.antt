@@ -4,14 +4,14 @@ use Rattle.plain_values.specs.Plain.{PlainKey}
 use Rattle.plain_values.specs.Text.{text_of}
 use Rattle.flow_code.specs.Points.{PlainSource, literal_source, copy_source, super_source, member_source, array_source, put_source, concat_source, repeat_source, implode_source, explode_source, apply_source, number_source, truth_source}
 use Rattle.least_sets.specs.Forms.{text_form, same_form, join_form, request_form, integer_form, yes_form}
-use Rattle.set_names.specs.Keys.{is_integer_key}
-use Rattle.set_names.specs.declared.name.SetVersion.TheVariants as version
-use Rattle.set_names.specs.declared.name.Half.{Half}
-use Rattle.set_names.specs.declared.name.Half.TheVariants.{Text, Array}
-use Rattle.set_names.specs.declared.name.Aspect.{Aspect}
-use Rattle.set_names.specs.declared.name.Aspect.TheVariants.{Own, Member, Others, Keys}
-use Rattle.set_names.specs.declared.name.SetName.{SetName}
-use Rattle.set_names.specs.declared.name.SetName.TheVariants as name
+use Rattle.loose_sets.specs.Keys.{is_integer_key}
+use Rattle.set_listing.specs.declared.name.SetVersion.TheVariants as version
+use Rattle.set_listing.specs.declared.name.Half.{Half}
+use Rattle.set_listing.specs.declared.name.Half.TheVariants.{Text, Array}
+use Rattle.set_listing.specs.declared.name.Aspect.{Aspect}
+use Rattle.set_listing.specs.declared.name.Aspect.TheVariants.{Own, Member, Others, Keys}
+use Rattle.set_listing.specs.declared.name.SetName.{SetName}
+use Rattle.set_listing.specs.declared.name.SetName.TheVariants as name
 use Rattle.set_listing.specs.Uses.{At, used, where_so, of_told}
 use Rattle.set_listing.specs.Arrays.{Forms, array_own, member_forms, array_forms, put_forms}
 

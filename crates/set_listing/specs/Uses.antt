@@ -4,15 +4,15 @@ use Rattle.plain_values.specs.Plain.{PlainKey}
 use Rattle.plain_values.specs.Keys.{same_key}
 use Rattle.flow_code.specs.Points.{PlainKeyRef}
 use Rattle.least_sets.specs.Forms.{Form, same_form}
-use Rattle.set_names.specs.Keys.{literal_key, may_be}
-use Rattle.set_names.specs.SlotVersions.{PlainVersion}
-use Rattle.set_names.specs.declared.name.SetVersion.{SetVersion}
-use Rattle.set_names.specs.Versions.{version_seen}
-use Rattle.set_names.specs.declared.name.Half.{Half}
-use Rattle.set_names.specs.declared.name.Aspect.{Aspect}
-use Rattle.set_names.specs.declared.name.Aspect.TheVariants.{Member, Others}
-use Rattle.set_names.specs.declared.name.SetName.{SetName}
-use Rattle.set_names.specs.declared.name.SetName.TheVariants.{Value, Members}
+use Rattle.loose_sets.specs.Keys.{literal_key, may_be}
+use Rattle.loose_sets.specs.Versions.{PlainVersion}
+use Rattle.set_listing.specs.declared.name.SetVersion.{SetVersion}
+use Rattle.set_listing.specs.SetVersions.{version_seen}
+use Rattle.set_listing.specs.declared.name.Half.{Half}
+use Rattle.set_listing.specs.declared.name.Aspect.{Aspect}
+use Rattle.set_listing.specs.declared.name.Aspect.TheVariants.{Member, Others}
+use Rattle.set_listing.specs.declared.name.SetName.{SetName}
+use Rattle.set_listing.specs.declared.name.SetName.TheVariants.{Value, Members}
 
 -- the version of a slot at a point: first the point, then the slot
 abbrev pub At : Type 0

@@ -1,4 +1,12 @@
-//! The rows of the loose sets as lists: for each name in memory the forms that its rows have, from
-//! the point of the name. Definitions and laws alone: a form is in the list exactly where it is a
-//! row (proofs/). Below stand flow_code, loose_sets, version_rows and set_names.
+//! The rows of the loose sets as lists of forms, over names of sets in memory (`SetName`) that are
+//! small enough to be copied and hashed: these types, definitions and laws.
+//! States the lists of a source, a point and a name (`source_forms`, `out_forms`, `forms_from`),
+//! and that a list has exactly the rows of a set (`Lists` of specs/Lists); its laws are in proofs/.
+//! Used by: point_listing, set_numbering, extraction.
 #![tactic(auto)]
+
+mod form;
+mod name;
+
+pub use form::NamedForm;
+pub use name::{Aspect, Half, Leaving, SetName, SetVersion};

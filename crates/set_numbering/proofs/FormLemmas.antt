@@ -2,12 +2,12 @@
 use Rattle.std.proofs.Common.{◌≡◌, inl, inr, ℕ, List, [], ◌∷◌, sym, subst, Contains}
 use Rattle.op_system.specs.declared.op.Op.{Op}
 use Rattle.least_sets.specs.Forms.{Form, text_form, same_form, join_form, before_form, request_form, integer_form, apply_form, yes_form, where_form}
-use Rattle.set_simulations.specs.Simulations.{Alike}
+use Rattle.least_sets.specs.Simulations.{Alike}
 use Rattle.numbered_sets.specs.Numbers.{Keeps}
-use Rattle.set_names.specs.declared.name.SetName.{SetName}
-use Rattle.set_names.specs.declared.form.NamedForm.{NamedForm}
-use Rattle.set_names.specs.Forms.{form_seen}
-use Rattle.set_lister.specs.Asked.{all_names}
+use Rattle.set_listing.specs.declared.name.SetName.{SetName}
+use Rattle.set_listing.specs.declared.form.NamedForm.{NamedForm}
+use Rattle.set_listing.specs.Forms.{form_seen}
+use Rattle.set_numbering.specs.Asked.{all_names}
 use Rattle.set_numbering.specs.Numbered.{IsByNumbers}
 use Rattle.set_numbering.specs.Steps.{IsNameNumbered, IsFormNumbered}
 use Rattle.set_numbering.proofs.PlaceLemmas.{keeps_itself, keeps_both, at_head, at_later}

@@ -2,3 +2,5 @@ mod PlaceLemmas
 mod FormLemmas
 mod RowLemmas
 mod TableLemmas
+pub mod Naming
+pub mod Same

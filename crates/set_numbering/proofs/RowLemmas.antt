@@ -8,12 +8,12 @@ use Rattle.std.specs.List.{sum_by}
 use Rattle.std.proofs.lemmas.List.Sums.{sum_by-append, sum_by_push}
 use Rattle.std.proofs.lemmas.List.Elements.{Contains-push_cases, Contains-append_left, Contains-push}
 use Rattle.least_sets.specs.Forms.{Form}
-use Rattle.set_names.specs.declared.name.SetName.{SetName}
-use Rattle.set_names.specs.declared.form.NamedForm.{NamedForm}
-use Rattle.set_names.specs.Forms.{form_seen, forms_seen}
+use Rattle.set_listing.specs.declared.name.SetName.{SetName}
+use Rattle.set_listing.specs.declared.form.NamedForm.{NamedForm}
+use Rattle.set_listing.specs.Forms.{form_seen, forms_seen}
 use Rattle.set_tables.specs.declared.rows.Row.{Row}
 use Rattle.set_tables.specs.Forms.{cell_of, cells_of}
-use Rattle.set_lister.specs.Asked.{AreAsked, all_names}
+use Rattle.set_numbering.specs.Asked.{AreAsked, all_names}
 use Rattle.set_numbering.specs.Numbered.{IsAt, IsByNumbers, NamedIn, IsNamedBelow, AreReached, forms_in, counted_of, AreListed}
 use Rattle.set_numbering.specs.Steps.{IsFormNumbered, AddsRows, IsNameNumbered, AreNumbersOf, AskedIn}
 use Rattle.set_numbering.proofs.PlaceLemmas.{keeps_itself, keeps_both, none_of, contains_at, at_contains}

@@ -1,17 +1,16 @@
 -- The table of all rows.
 use Rattle.std.proofs.Common.{rules, ◌≡◌, ◌<◌, ◌+◌, ◌&&◌, ◌++◌, inl, inr, ℕ, Bool, true, false, List, [], ◌∷◌, Some, refl, sym, subst, ap, ◌∙◌, arith, slice_get, Contains, map, length, IsTrue}
 use Rattle.std.specs.Prelude.{nat_lt}
-use Rattle.std.specs.List.{list_all}
-use Rattle.std.specs.List.{sum_by}
+use Rattle.std.specs.List.{list_all, sum_by}
 use Rattle.std.proofs.lemmas.List.Sums.{sum_by-append, sum_by-cons}
 use Rattle.std.proofs.lemmas.Option.{slice_get_within}
 use Rattle.std.proofs.Math.Seq.{take-length}
 use Rattle.std.proofs.lemmas.List.{length-append, length-map}
 use Rattle.std.proofs.lemmas.List.Elements.{Contains-append_cases, Contains-append_left, Contains-append_right}
 use Rattle.least_sets.specs.Forms.{Form, same_form}
-use Rattle.set_simulations.specs.Simulations.{Alike}
+use Rattle.least_sets.specs.Simulations.{Alike}
 use Rattle.numbered_sets.specs.Numbers.{AreDifferent}
-use Rattle.set_names.specs.declared.name.SetName.{SetName}
+use Rattle.set_listing.specs.declared.name.SetName.{SetName}
 use Rattle.set_tables.specs.declared.rows.RowForm.{RowForm}
 use Rattle.set_tables.specs.declared.rows.RowForm.TheVariants as form
 use Rattle.set_tables.specs.declared.rows.Row.{Row}

@@ -1,4 +1,5 @@
 pub mod Numbered
 pub mod Steps
-pub use Rattle.set_lister.specs.Asked
-pub use Rattle.set_lister.specs.Listers
+pub mod Asked
+pub mod Listers
+pub mod NumberedRows

@@ -2,10 +2,10 @@
 use Rattle.std.specs.Prelude.{◌≡◌, ◌<◌, ◌+◌, ◌⊎◌, ℕ, List, Some, Contains, slice_get, length, map, take}
 use Rattle.std.specs.List.{sum_by}
 use Rattle.least_sets.specs.Forms.{Form, same_form}
-use Rattle.set_simulations.specs.Simulations.{Alike}
+use Rattle.least_sets.specs.Simulations.{Alike}
 use Rattle.numbered_sets.specs.Numbers.{AreDifferent}
-use Rattle.set_names.specs.declared.name.SetName.{SetName}
-use Rattle.set_lister.specs.Asked.{all_names}
+use Rattle.set_listing.specs.declared.name.SetName.{SetName}
+use Rattle.set_numbering.specs.Asked.{all_names}
 
 -- the number is that of the name
 abbrev pub IsAt : List SetName → SetName → ℕ → Type 0

@@ -2,8 +2,8 @@
 use Rattle.std.specs.Prelude.{◌≡◌, ◌+◌, ◌⊎◌, ℕ, List, Contains, length}
 use Rattle.least_sets.specs.Forms.{Form, same_form}
 use Rattle.numbered_sets.specs.Numbers.{Keeps, AddsOnly}
-use Rattle.set_names.specs.declared.name.SetName.{SetName}
-use Rattle.set_lister.specs.Asked.{all_names}
+use Rattle.set_listing.specs.declared.name.SetName.{SetName}
+use Rattle.set_numbering.specs.Asked.{all_names}
 use Rattle.std.specs.List.{sum_by}
 use Rattle.set_numbering.specs.Numbered.{IsAt, IsByNumbers, NamedIn, CountAlike, counted_of}
 

@@ -1,13 +1,13 @@
 //! Numbers of the names in forms.
 
 ghost use Rattle.std.specs.Prelude.{IfOk};
-ghost use Rattle.set_names.specs.Forms.{form_seen};
+ghost use Rattle.set_listing.specs.Forms.{form_seen};
 ghost use Rattle.set_tables.specs.Forms.{form_of};
 ghost use Rattle.set_numbering.specs.Steps.{IsNameNumbered, IsFormNumbered};
 
 use indexmap::IndexSet;
 use numbered_sets::number;
-use set_names::{NamedForm, SetName};
+use set_listing::{NamedForm, SetName};
 use set_tables::RowForm;
 use text_base::NoMemory;
 

@@ -1,18 +1,18 @@
 //! The worklist: names are taken up in the order of their numbers, each once.
 
 ghost use Rattle.std.specs.Prelude.{◌≡◌, ◌<◌, length, slice_get, Contains, IfOk, IfSome, OnOk};
-ghost use Rattle.set_names.specs.declared.name.SetName as plain;
+ghost use Rattle.set_listing.specs.declared.name.SetName as plain;
 ghost use Rattle.numbered_sets.specs.Numbers.{Keeps};
-ghost use Rattle.set_names.specs.Forms.{forms_seen};
+ghost use Rattle.set_listing.specs.Forms.{forms_seen};
 ghost use Rattle.set_tables.specs.Forms.{cells_of};
 ghost use Rattle.set_numbering.specs.Numbered.{AreListed, AreReached, NamedIn};
 ghost use Rattle.set_numbering.specs.Steps.{AddsRows, AskedIn};
 
+use crate::Lister;
 use crate::forms::number_form;
 use indexmap::IndexSet;
 use numbered_sets::count;
-use set_lister::Lister;
-use set_names::{NamedForm, SetName};
+use set_listing::{NamedForm, SetName};
 use set_tables::Row;
 use std::alloc::Global;
 use text_base::NoMemory;

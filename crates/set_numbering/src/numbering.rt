@@ -2,18 +2,18 @@
 
 ghost use Rattle.std.specs.Prelude.{◌≡◌, ◌<◌, ◌+◌, ◌++◌, map, length, Contains, IfOk, OnOk};
 ghost use Rattle.least_sets.specs.Forms.{same_form};
-ghost use Rattle.set_names.specs.declared.name.SetName as plain;
+ghost use Rattle.set_listing.specs.declared.name.SetName as plain;
 ghost use Rattle.set_tables.specs.Below.{RowsAreBelow};
 ghost use Rattle.set_tables.specs.Forms.{cells_of};
 ghost use Rattle.set_numbering.specs.Numbered.{AreNumbered};
 ghost use Rattle.set_numbering.specs.Steps.{AreNumbersOf, start_cell};
 
+use crate::Lister;
 use crate::forms::number_name;
 use crate::listing::list_all;
 use indexmap::IndexSet;
 use numbered_sets::count;
-use set_lister::Lister;
-use set_names::SetName;
+use set_listing::SetName;
 use set_tables::{Row, RowForm, SetTable};
 use std::alloc::Global;
 use text_base::NoMemory;

@@ -2,7 +2,7 @@
 //! 2.2).
 
 use crate::words::derives;
-use given_texts::given_texts;
+use set_tables::given_texts;
 use std::test::Fail;
 
 /// Texts of XML's characters, and bytes that are none.

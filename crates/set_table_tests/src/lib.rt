@@ -1,5 +1,7 @@
-//! Tests of the systems of tables of sets, and of the grammar of given texts, in a crate of their
-//! own so that those are proved once.
+//! Tests of set_tables: which short words the grammar of given texts and the system of a small
+//! table derive, with near misses, and which rules and how many nonterminals the system has.
+//! A word of up to five bytes is judged by trying all cuts.
+//! Used by: none; it stands at the top.
 #![tactic(auto)]
 
 #[cfg(test)]

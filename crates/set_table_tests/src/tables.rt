@@ -1,12 +1,10 @@
 //! The system of a small table, on the texts of its sets.
 
 use crate::words::derives;
-use given_texts::given_texts;
 use op_system::Op;
-use set_tables::{Row, RowForm, SetTable};
+use set_tables::{Row, RowForm, SetTable, given_texts, write_system};
 use std::alloc::Global;
 use std::test::Fail;
-use system_writing::write_system;
 use text_base::{Bytes, NoMemory};
 
 /// The rows of the table, each by its set, its kind, a text, and other sets: 0 is `<p` before 1, or

@@ -1,5 +1,5 @@
--- The texts that are given, as a closed grammar of set_systems.
-use Rattle.set_systems.specs.Parts.{Closed}
+-- The texts that are given, as a closed grammar of least_sets.
+use Rattle.least_sets.specs.Parts.{Closed}
 use Rattle.set_tables.specs.declared.given.GivenTexts.{GivenTexts}
 
 -- the closed grammar: its productions, the nonterminal of a text of the request and that of an integer

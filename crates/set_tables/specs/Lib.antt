@@ -2,3 +2,15 @@ pub mod Forms
 pub mod Below
 pub mod Given
 pub mod Size
+pub mod Listed
+pub mod Rights
+pub mod Rows
+pub mod Said
+pub mod Drafts
+pub mod Steps
+pub mod Moved
+pub mod WrittenRights
+pub mod Written
+pub mod Kept
+pub mod Sets
+pub mod TableWritten

@@ -10,7 +10,7 @@ use Rattle.flow_graph.specs.declared.arrivals.Arrival.{Arrival}
 use Rattle.flow_graph.specs.declared.arrivals.Arrival.TheVariants.{Edge, Entry}
 use Rattle.flow_graph.specs.Arrivals.{target}
 use Rattle.flow_graph.specs.Heads.{ComesFrom}
-use Rattle.slot_versions.specs.Versions.{PlainVersion, of_definition, join_at}
+use Rattle.loose_sets.specs.Versions.{PlainVersion, of_definition, join_at}
 use Rattle.ssa_form.specs.Views.{held}
 use Rattle.ssa_form.specs.Marks.{found_in}
 use Rattle.ssa_form.specs.Joins.{AreFirst}

@@ -12,7 +12,7 @@ use Rattle.flow_graph.specs.declared.arrivals.Arrival.TheVariants.{Edge as of_ed
 use Rattle.flow_graph.specs.Steps.{PlainStep, step_of_point}
 use Rattle.flow_graph.specs.Arrivals.{within, from_exits, from_steps, from_functions}
 use Rattle.flow_graph.specs.Heads.{ComesFrom, GoesOn}
-use Rattle.slot_versions.specs.Versions.{Edge, IsOnly}
+use Rattle.loose_sets.specs.Versions.{Edge, IsOnly}
 use Rattle.ssa_form.specs.Marks.{IsGraph, IsPoint}
 use Rattle.ssa_form.specs.Versions.{OnlyGoesOn}
 use Rattle.ssa_form.proofs.HeadLemmas.{contiguous, is_first}

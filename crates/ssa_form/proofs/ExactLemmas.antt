@@ -16,9 +16,9 @@ use Rattle.flow_code.specs.Lawful.{sets, IsOwnSlot}
 use Rattle.flow_graph.specs.declared.arrivals.Arrival.{Arrival}
 use Rattle.flow_graph.specs.declared.arrivals.Arrival.TheVariants.{Edge as of_edge, Entry as of_entry}
 use Rattle.flow_graph.specs.Steps.{PlainStep}
-use Rattle.slot_versions.specs.Reaching.{Definition, at_point, at_entry, Reaches}
-use Rattle.slot_versions.specs.Versions.{PlainVersion, of_definition, join_at, Edge, Sets, Leaves, Stands, Link, IsKept, AreLinks, PlainJoin, asked_in, linked_in, Behind}
-use Rattle.slot_versions.proofs.Exact.{exact}
+use Rattle.loose_sets.specs.Reaching.{Definition, at_point, at_entry, Reaches}
+use Rattle.loose_sets.specs.Versions.{PlainVersion, of_definition, join_at, Edge, Sets, Leaves, Stands, Link, IsKept, AreLinks, PlainJoin, asked_in, linked_in, Behind}
+use Rattle.loose_sets.proofs.Exact.{exact}
 use Rattle.ssa_form.specs.declared.marks.Marks.{Marks}
 use Rattle.ssa_form.specs.declared.version.Version.{Version}
 use Rattle.ssa_form.specs.declared.versions.Versions.{Versions}
@@ -29,7 +29,7 @@ use Rattle.ssa_form.specs.Joins.{AreRows}
 use Rattle.ssa_form.specs.Versions.{joins_in, asks_of, rows_of, joins_of, version_of, row_of, arrivals_at, IsExact, AreJoins}
 use Rattle.ssa_form.specs.Behind.{row_before, or_before, found_behind}
 use Rattle.ssa_form.specs.JoinRows.{row_in}
-use Rattle.function_pairs.specs.Found.{number_in}
+use Rattle.flow_graph.specs.Found.{number_in}
 use Rattle.ssa_form.proofs.BehindLemmas.{is_before}
 use Rattle.ssa_form.proofs.HeadLemmas.{is_first}
 use Rattle.ssa_form.proofs.EdgeLemmas.{edge_listed, entry_listed, listed, listed_edge, only_from, no_first, step_at, is_point}

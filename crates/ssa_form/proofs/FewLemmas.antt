@@ -11,15 +11,15 @@ use Rattle.flow_graph.specs.declared.arrivals.Arrival.{Arrival}
 use Rattle.flow_graph.specs.declared.arrivals.Arrival.TheVariants.{Edge, Entry}
 use Rattle.flow_graph.specs.Steps.{PlainStep, steps_of_points}
 use Rattle.flow_graph.specs.Arrivals.{target, within, from_exits, from_steps, from_functions}
-use Rattle.function_pairs.specs.Found.{number_in}
-use Rattle.function_pairs.proofs.FoundLemmas.{number_is}
+use Rattle.flow_graph.specs.Found.{number_in}
+use Rattle.flow_graph.proofs.FoundLemmas.{number_is}
 use Rattle.ssa_form.specs.declared.version.Version.{Version}
 use Rattle.ssa_form.specs.Views.{versions_seen}
 use Rattle.ssa_form.specs.Marks.{IsGraph}
 use Rattle.ssa_form.specs.Joins.{AreRows}
 use Rattle.ssa_form.specs.Versions.{row_of, arrivals_at}
 use Rattle.ssa_form.specs.JoinRows.{row_in}
-use Rattle.slot_versions.specs.Versions.{PlainVersion}
+use Rattle.loose_sets.specs.Versions.{PlainVersion}
 
 -- one or none
 abbrev one_if : Bool → ℕ

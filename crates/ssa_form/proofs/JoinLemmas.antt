@@ -9,8 +9,8 @@ use Rattle.flow_code.specs.Points.{PlainFlowFunction}
 use Rattle.flow_graph.specs.declared.arrivals.Arrival.{Arrival}
 use Rattle.flow_graph.specs.declared.arrivals.Arrival.TheVariants.{Edge, Entry}
 use Rattle.flow_graph.proofs.HeadLemmas.{push_cases}
-use Rattle.slot_versions.specs.Reaching.{at_entry}
-use Rattle.slot_versions.specs.Versions.{PlainVersion, of_definition, join_at, IsKept}
+use Rattle.loose_sets.specs.Reaching.{at_entry}
+use Rattle.loose_sets.specs.Versions.{PlainVersion, of_definition, join_at, IsKept}
 use Rattle.ssa_form.specs.declared.version.Version.{Version}
 use Rattle.ssa_form.specs.Views.{version_seen, versions_seen}
 use Rattle.ssa_form.specs.Marks.{asked_by}

@@ -6,7 +6,7 @@ use Rattle.std.proofs.lemmas.Option.{same_Some}
 use Rattle.std.proofs.lemmas.List.Elements.{Contains-append_left, Contains-append_right, Contains-append_cases}
 use Rattle.flow_code.specs.Points.{PlainFlowFunction}
 use Rattle.flow_graph.specs.declared.arrivals.Arrival.{Arrival}
-use Rattle.slot_versions.specs.Versions.{PlainVersion, join_at}
+use Rattle.loose_sets.specs.Versions.{PlainVersion, join_at}
 use Rattle.ssa_form.specs.declared.version.Version.{Version}
 use Rattle.ssa_form.specs.Views.{version_seen, versions_seen}
 use Rattle.ssa_form.specs.Rows.{IsRow}

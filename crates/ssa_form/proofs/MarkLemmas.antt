@@ -7,7 +7,7 @@ use Rattle.std.proofs.lemmas.Bool.Decides.{eqb_tells}
 use Rattle.flow_code.specs.Points.{PlainPoint, PlainFlow, point_at}
 use Rattle.flow_code.specs.Lawful.{sets, reads}
 use Rattle.flow_graph.specs.Steps.{PlainStep}
-use Rattle.slot_versions.specs.Versions.{PlainVersion, join_at, IsOnly, Stands}
+use Rattle.loose_sets.specs.Versions.{PlainVersion, join_at, IsOnly, Stands}
 use Rattle.ssa_form.specs.declared.marks.Marks.{Marks}
 use Rattle.ssa_form.specs.declared.version.Version.{Version}
 use Rattle.ssa_form.specs.Views.{version_seen, held}

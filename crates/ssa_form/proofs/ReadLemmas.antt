@@ -10,7 +10,7 @@ use Rattle.text_base.specs.declared.numbers.Slot.{Slot}
 use Rattle.flow_code.specs.View.{slot_number}
 use Rattle.flow_graph.specs.Steps.{numbers}
 use Rattle.numbered_sets.specs.Numbers.{Keeps}
-use Rattle.slot_versions.specs.Versions.{PlainVersion, of_definition, join_at, IsKept}
+use Rattle.loose_sets.specs.Versions.{PlainVersion, of_definition, join_at, IsKept}
 use Rattle.ssa_form.specs.declared.marks.Marks.{Marks}
 use Rattle.ssa_form.specs.declared.version.Version.{Version}
 use Rattle.ssa_form.specs.Views.{version_seen, held}

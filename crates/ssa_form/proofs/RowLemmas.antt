@@ -1,10 +1,9 @@
 -- What comes by the arrivals at a point.
-use Rattle.std.proofs.Common.{◌≡◌, ◌≤◌, ◌+◌, ◌<◌, ◌⊎◌, inl, inr, ℕ, suc, List, [], ◌∷◌, ◌++◌, map, flat_map, length, Option, Some, None, refl, sym, subst, ◌∙◌, ap, arith, append_assoc, slice_get, Contains}
+use Rattle.std.proofs.Common.{◌≡◌, ◌≤◌, ◌+◌, ◌<◌, ◌⊎◌, inl, inr, ℕ, suc, List, [], ◌∷◌, ◌++◌, map, flat_map, length, Option, Some, None, refl, sym, subst, ◌∙◌, ap, arith, append_assoc, slice_get, Contains, Bool, true, false, true≢false, if◌then◌else◌}
 use Rattle.std.specs.Prelude.{ltb}
-use Rattle.std.proofs.Common.{Bool, true, false, true≢false, if◌then◌else◌}
 use Rattle.std.specs.Option.{option_map}
 use Rattle.std.proofs.lemmas.Bool.Decides.{leb_tells}
-use Rattle.slot_versions.specs.Reaching.{at_entry}
+use Rattle.loose_sets.specs.Reaching.{at_entry}
 use Rattle.std.specs.declared.vec.Vec.{Vec}
 use Rattle.std.specs.declared.alloc.Global.{Global}
 use Rattle.std.proofs.lemmas.List.{append-nil, map-append, length-append}
@@ -15,7 +14,7 @@ use Rattle.flow_code.specs.Points.{PlainFlowFunction}
 use Rattle.flow_graph.specs.declared.arrivals.Arrival.{Arrival}
 use Rattle.flow_graph.specs.declared.arrivals.Arrival.TheVariants.{Edge, Entry}
 use Rattle.flow_graph.specs.Arrivals.{target}
-use Rattle.slot_versions.specs.Versions.{PlainVersion, of_definition}
+use Rattle.loose_sets.specs.Versions.{PlainVersion, of_definition}
 use Rattle.ssa_form.specs.declared.version.Version.{Version}
 use Rattle.ssa_form.specs.Views.{version_seen, versions_seen}
 use Rattle.ssa_form.specs.Rows.{link_of, link_from, link_into, owns, link_by, link_at, IsRow}

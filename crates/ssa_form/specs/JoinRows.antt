@@ -1,6 +1,6 @@
 -- Rows of versions in one list, each by where it ends.
 use Rattle.std.specs.Prelude.{◌≡◌, ◌≤◌, ◌↔◌, ◌⊎◌, ℕ, zero, suc, List, [], ◌∷◌, ◌++◌, Option, None, Some, length, take, drop, slice_get, Contains}
-use Rattle.slot_versions.specs.Versions.{PlainVersion}
+use Rattle.loose_sets.specs.Versions.{PlainVersion}
 use Rattle.ssa_form.specs.declared.join_rows.JoinRows.{JoinRows}
 use Rattle.ssa_form.specs.declared.version.Version.{Version}
 use Rattle.ssa_form.specs.Views.{versions_seen}

@@ -3,7 +3,7 @@ use Rattle.std.specs.Prelude.{◌≡◌, ◌≤◌, ◌⊎◌, ℕ, List, Some, 
 use Rattle.numbered_sets.specs.Numbers.{Keeps}
 use Rattle.flow_code.specs.Points.{PlainFlowFunction}
 use Rattle.flow_graph.specs.declared.arrivals.Arrival.{Arrival}
-use Rattle.slot_versions.specs.Versions.{PlainVersion, join_at, IsKept}
+use Rattle.loose_sets.specs.Versions.{PlainVersion, join_at, IsKept}
 use Rattle.ssa_form.specs.declared.version.Version.{Version}
 use Rattle.ssa_form.specs.Views.{versions_seen}
 use Rattle.ssa_form.specs.Marks.{asked_by}

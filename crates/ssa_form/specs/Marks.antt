@@ -7,8 +7,8 @@ use Rattle.flow_graph.specs.declared.arrivals.Arrival.{Arrival}
 use Rattle.flow_graph.specs.Steps.{PlainStep, step_of_point, steps_of_points}
 use Rattle.flow_graph.specs.Arrivals.{from_steps, from_functions}
 use Rattle.flow_graph.specs.Heads.{AreHeads, RowsGoOn}
-use Rattle.slot_versions.specs.Reaching.{at_point}
-use Rattle.slot_versions.specs.Versions.{PlainVersion, of_definition, join_at, Sets, Leaves, IsOnly, Stands, Asked, IsKept}
+use Rattle.loose_sets.specs.Reaching.{at_point}
+use Rattle.loose_sets.specs.Versions.{PlainVersion, of_definition, join_at, Sets, Leaves, IsOnly, Stands, Asked, IsKept}
 use Rattle.ssa_form.specs.declared.marks.Marks.{Marks}
 use Rattle.ssa_form.specs.declared.version.Version.{Version}
 use Rattle.ssa_form.specs.Views.{version_seen, held}

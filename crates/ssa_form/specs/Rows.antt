@@ -5,8 +5,8 @@ use Rattle.flow_graph.specs.declared.arrivals.Arrival.{Arrival}
 use Rattle.flow_graph.specs.declared.arrivals.Arrival.TheVariants.{Edge, Entry}
 use Rattle.flow_graph.specs.Arrivals.{target}
 use Rattle.numbered_sets.specs.Places.{places_of}
-use Rattle.slot_versions.specs.Reaching.{at_entry}
-use Rattle.slot_versions.specs.Versions.{PlainVersion, of_definition}
+use Rattle.loose_sets.specs.Reaching.{at_entry}
+use Rattle.loose_sets.specs.Versions.{PlainVersion, of_definition}
 
 -- the slot is one of the function's own
 unfoldable pub owns : PlainFlowFunction → ℕ → Bool

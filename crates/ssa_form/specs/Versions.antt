@@ -3,11 +3,11 @@ use Rattle.std.specs.Prelude.{◌≡◌, ◌≢◌, ◌≤◌, ◌+◌, ◌↔�
 use Rattle.std.specs.List.{count_by}
 use Rattle.std.specs.Option.{option_map}
 use Rattle.numbered_sets.specs.Numbers.{AreDifferent}
-use Rattle.function_pairs.specs.Found.{number_in}
+use Rattle.flow_graph.specs.Found.{number_in}
 use Rattle.flow_code.specs.Points.{PlainPoint, PlainFlowFunction, PlainFlow, points_in, point_at}
 use Rattle.flow_code.specs.Lawful.{reads, nexts}
-use Rattle.slot_versions.specs.Reaching.{Definition, Reaches}
-use Rattle.slot_versions.specs.Versions.{PlainVersion, of_definition, join_at, PlainJoin, IsOnly, asked_in, linked_in, Behind, Stands, IsKept, AreLinks}
+use Rattle.loose_sets.specs.Reaching.{Definition, Reaches}
+use Rattle.loose_sets.specs.Versions.{PlainVersion, of_definition, join_at, PlainJoin, IsOnly, asked_in, linked_in, Behind, Stands, IsKept, AreLinks}
 use Rattle.ssa_form.specs.declared.version.Version.{Version}
 use Rattle.ssa_form.specs.declared.versions.Versions.{Versions}
 use Rattle.ssa_form.specs.Views.{version_seen, versions_seen, held}

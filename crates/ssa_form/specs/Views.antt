@@ -1,8 +1,8 @@
 -- Versions of the code as plain data, and what maps by pairs of numbers hold.
 use Rattle.std.specs.Prelude.{ℕ, ◌&&◌, List, Option, map, nat_eq}
 use Rattle.indexmap.specs.IndexMap.{IndexMap, get}
-use Rattle.slot_versions.specs.Reaching as reaching
-use Rattle.slot_versions.specs.Versions.{PlainVersion, of_definition, join_at}
+use Rattle.loose_sets.specs.Reaching as reaching
+use Rattle.loose_sets.specs.Versions.{PlainVersion, of_definition, join_at}
 use Rattle.ssa_form.specs.declared.version.Definition.{Definition}
 use Rattle.ssa_form.specs.declared.version.Definition.TheVariants as definition
 use Rattle.ssa_form.specs.declared.version.Version.{Version}

@@ -1,8 +1,8 @@
 //! Versions of slots (static single assignment): for each slot that a point reads, the definition
-//! that reaches it, or a join of those that come by edges and entries to the first point of a row of
-//! points, which the point before it does not only go on to.
-//! `ssa` gives them for a program of points; the definitions behind a version are exactly those
-//! that reach the point (`IsExact`). Below stand flow_graph and slot_versions.
+//! that reaches it, or a join of those that come to the first point of a row of points.
+//! Promise: the definitions behind a version of `ssa` are exactly those that reach the point
+//! (`IsExact` of specs/Versions); where joins stand and what each joins is `AreJoins`.
+//! Used by: point_listing, extraction, lowering_tests, extraction_bench.
 #![tactic(auto)]
 
 pub mod join_rows;

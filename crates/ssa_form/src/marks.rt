@@ -2,7 +2,7 @@
 
 ghost use Rattle.std.specs.Prelude.{◌≡◌, ◌⊎◌, ◌∷◌, [], ◌&&◌, ℕ, suc, List, cond, length, Some, Contains, nat_eq, slice_get, OnOk, IfOk};
 ghost use Rattle.flow_code.specs.Points.{PlainFlow};
-ghost use Rattle.slot_versions.specs.Versions.{join_at, IsKept};
+ghost use Rattle.loose_sets.specs.Versions.{join_at, IsKept};
 ghost use Rattle.numbered_sets.specs.Numbers.{Keeps};
 ghost use Rattle.flow_graph.specs.declared.arrivals.Arrival.{Arrival};
 ghost use Rattle.flow_graph.specs.Steps.{numbers, step_seen, steps_seen};

@@ -7,10 +7,10 @@ ghost use Rattle.flow_code.specs.View.{plain_flow_function, plain_flow};
 ghost use Rattle.numbered_sets.specs.Places.{ArePlaces, AreInOrder};
 ghost use Rattle.flow_graph.specs.Steps.{steps_seen};
 ghost use Rattle.flow_graph.specs.Arrivals.{target};
-ghost use Rattle.slot_versions.specs.Versions.{PlainVersion, linked_in};
+ghost use Rattle.loose_sets.specs.Versions.{PlainVersion, linked_in};
 ghost use Rattle.ssa_form.specs.Views.{version_seen, versions_seen};
 ghost use Rattle.ssa_form.specs.Marks.{IsGraph};
-ghost use Rattle.function_pairs.specs.Found.{number_in};
+ghost use Rattle.flow_graph.specs.Found.{number_in};
 ghost use Rattle.ssa_form.specs.Versions.{joins_of, version_of, IsLinked, IsExact, joined_by, links_of, AreOnce, AreJoins};
 
 use crate::join_rows::JoinRows;

@@ -2,10 +2,10 @@
 use Rattle.std.specs.Prelude.{Some, None}
 use Rattle.character_steps.specs.Encoded.{Held}
 use Rattle.page_model.specs.Places.{Place, at_beginning, behind_mark, behind}
-use Rattle.page_fronts.specs.Fronts as fronts
-use Rattle.page_fronts.specs.OpenDoctypes as doctype
-use Rattle.page_fronts.specs.OpenTags as attribute
-use Rattle.page_fronts.specs.OpenValues as value
+use Rattle.page_model.specs.Fronts as fronts
+use Rattle.page_model.specs.OpenDoctypes as doctype
+use Rattle.page_model.specs.OpenTags as attribute
+use Rattle.page_model.specs.OpenValues as value
 use Rattle.page_steps.specs.PageSteps as steps
 use Rattle.open_pieces.specs.declared.value.OpenReference.{OpenReference}
 use Rattle.open_pieces.specs.declared.value.OpenReference.TheVariants.{Entity, Number, Decimal, HexadecimalBegin, Hexadecimal}

@@ -10,7 +10,7 @@ use Rattle.std.proofs.lemmas.Bool.{and_parts}
 use Rattle.std.proofs.lemmas.Bool.Decides.{nat_tests}
 use Rattle.std.proofs.lemmas.Str.{length-encode}
 use Rattle.dtd_model.specs.Table.{fixed, Declared}
-use Rattle.page_fronts.specs.OpenValues.{in_fixed}
+use Rattle.page_model.specs.OpenValues.{in_fixed}
 use Rattle.page_model.specs.Parts.{may_be_quoted}
 use Rattle.page_steps.specs.ValueSteps.{value_good}
 use Rattle.page_endings.specs.Ending.{bytes_behind, fixed_rest, ends_by}

@@ -5,10 +5,10 @@ ghost use Rattle.std.specs.List.{list_any};
 ghost use Rattle.dtd_model.specs.Table.{declared_of};
 ghost use Rattle.dtd_model.specs.TableOf.{table_of};
 ghost use Rattle.page_model.specs.Attributes as spec;
-ghost use Rattle.page_fronts.specs.Fronts as fronts;
+ghost use Rattle.page_model.specs.Fronts as fronts;
 ghost use Rattle.page_endings.specs.Ending as ending;
 ghost use Rattle.open_pieces.specs.Views.{plain_attribute, plain_value};
-ghost use Rattle.tag_rules.specs.Found.{plain_declared};
+ghost use Rattle.page_rules.specs.Found.{plain_declared};
 
 use crate::beginnings::begins;
 use crate::values::{has_value, value_can_end};
@@ -16,10 +16,9 @@ use attribute_stepping::is_name_among;
 use dtd_index::IndexedDtd;
 use dtd_model::AttrRule;
 use open_pieces::{NameList, OpenAttribute, OpenValue};
+use page_rules::{find_declared, is_named, must_stand};
 use std::alloc::Global;
-use tag_rules::{find_declared, must_stand};
 use text_base::{Bytes, NoMemory};
-use value_rules::is_named;
 
 // The declaration of the attribute of this name, which is ASCII.
 fn find_named<'d>(rules: &'d Vec<AttrRule>, name: &Bytes) -> Option<&'d AttrRule>

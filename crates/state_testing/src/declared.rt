@@ -5,7 +5,7 @@ ghost use Rattle.dtd_model.specs.TableOf.{table_of};
 ghost use Rattle.page_model.specs.Attributes as attributes;
 
 use dtd_index::IndexedDtd;
-use tag_rules::element;
+use page_rules::element;
 
 /// Whether an element of this name is declared (XML 1.0, 3.2).
 pub fn is_element(indexed: &IndexedDtd<'_>, name: &[char]) -> bool

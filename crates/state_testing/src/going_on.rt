@@ -6,14 +6,13 @@ ghost use Rattle.dtd_model.specs.TableOf.{table_of};
 ghost use Rattle.page_model.specs.Attributes as attributes;
 ghost use Rattle.page_endings.specs.Ending as ending;
 ghost use Rattle.open_pieces.specs.Views.{plain_attribute, plain_open, plain_value};
-ghost use Rattle.tag_rules.specs.Found.{plain_declared};
+ghost use Rattle.page_rules.specs.Found.{plain_declared};
 
 use crate::fixed::fixed_goes_on;
 use dtd_index::IndexedDtd;
 use dtd_model::AttrRule;
 use open_pieces::{OpenAttribute, OpenPiece, OpenValue};
-use page_cutting::is_quote;
-use tag_rules::{element, find_declared};
+use page_rules::{element, find_declared, is_quote};
 
 fn value_goes_on(rule: Option<&AttrRule>, value: &OpenValue, begun: &[u8]) -> bool
     ensures { result

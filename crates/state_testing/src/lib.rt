@@ -1,7 +1,8 @@
-//! Whether a piece can still come of what is open in a page, in memory: each call is the function
-//! of page_endings that it is named after. Below stand text_base, dtd_model, dtd_index,
-//! page_cutting, value_rules, tag_rules, page_endings, page_narrowing, open_pieces, value_stepping,
-//! value_ending and attribute_stepping.
+//! Whether a piece can still come of what is open in a page, in memory: the test by which a reader
+//! of pages fails as soon as none can. Promise: `passes` is, through `plain_held` of open_pieces,
+//! the function of the same name in page_narrowing (specs/Passing there), which is `can_end` of
+//! page_endings, at the table of a definition.
+//! Used by: loose_reader, page_stepping.
 #![tactic(auto)]
 
 mod attributes;
@@ -15,5 +16,4 @@ mod several;
 mod states;
 mod values;
 
-pub use page_narrowing::laws;
 pub use states::passes;

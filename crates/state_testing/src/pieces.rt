@@ -6,7 +6,7 @@ ghost use Rattle.page_model.specs.Attributes as attributes;
 ghost use Rattle.dtd_model.specs.Table.{declared_of, rule_of};
 ghost use Rattle.dtd_model.specs.TableOf.{table_of};
 ghost use Rattle.page_endings.specs.Ending as ending;
-ghost use Rattle.page_fronts.specs.OpenTags as tags;
+ghost use Rattle.page_model.specs.OpenTags as tags;
 ghost use Rattle.page_steps.specs.TagSteps as steps;
 ghost use Rattle.open_pieces.specs.Views.{plain_attribute, plain_doctype, plain_open};
 
@@ -19,10 +19,9 @@ use attribute_stepping::is_name_among;
 use dtd_index::IndexedDtd;
 use dtd_model::{AttrRule, ElementRule};
 use open_pieces::{Characters, NameList, OpenAttribute, OpenDoctype, OpenPiece};
+use page_rules::{element, is_word, must_stand};
 use std::alloc::Global;
-use tag_rules::{element, must_stand};
 use text_base::{Bytes, NoMemory};
-use value_rules::is_word;
 
 fn tag_can_end(
     alloc: Global,

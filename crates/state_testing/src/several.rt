@@ -5,7 +5,7 @@ ghost use Rattle.page_endings.specs.Ending as ending;
 ghost use Rattle.open_pieces.specs.Views.{plain_attribute, plain_doctype, plain_open, plain_value};
 
 use open_pieces::{OpenAttribute, OpenDoctype, OpenPiece, OpenValue};
-use page_cutting::is_quote;
+use page_rules::is_quote;
 
 fn value_takes(value: &OpenValue) -> bool
     ensures { result ≡ ending.value_takes (plain_value value.now) }

@@ -13,9 +13,9 @@ use crate::names::{any_begins, reference_can_end};
 use dtd_index::IndexedDtd;
 use dtd_model::{AttrKind, AttrRule};
 use open_pieces::OpenValue;
+use page_rules::{is_one_of, is_some, is_word};
 use std::alloc::Global;
 use text_base::NoMemory;
-use value_rules::{is_one_of, is_some, is_word};
 use value_stepping::value_start;
 
 fn is_chosen(kind: &AttrKind, word: &[char]) -> bool

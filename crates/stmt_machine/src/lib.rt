@@ -1,9 +1,8 @@
-//! A machine with a stack of its own that reads statements, functions and files.
-//!
-//! `specs/Machine.antt` says how it moves over the terminals of a script, where an expression is
-//! read as a whole by `expr_machine`; `specs/Actions.antt` what it makes, in postfix order,
-//! `specs/Made.antt` what that comes to, and `specs/Reading.antt` what a whole run reads. Below
-//! stand `script_grammar` and `expr_machine`.
+//! How statements, functions and files are read: a machine with a stack of its own that reads each
+//! expression as a whole by expr_machine (specs/Machine, specs/Made).
+//! Promise: each move makes the weight less (`moves_get_lighter`, over `weight` of specs/Reading);
+//! that it reads the files of script_grammar are the laws of stmt_laws.
+//! Used by: stmt_laws, stmt_builder, stmt_parser, php_parser.
 #![tactic(auto)]
 
 pub mod frame;

@@ -13,7 +13,7 @@ use Rattle.stmt_machine.specs.declared.frame.Frame.{Frame}
 use Rattle.stmt_machine.specs.Actions.{StmtAction, value_action}
 use Rattle.stmt_machine.specs.Machine.{Move, moves, finished, stuck, semicolon_next, paren_end_next, jump_move, ended_by}
 use Rattle.stmt_machine.specs.Made.{Made, with_values, on_some, apply_stmt, execute_stmts}
-use Rattle.stmt_maker.specs.Answers.{Does}
+use Rattle.stmt_builder.specs.Answers.{Does}
 use Rattle.stmt_parser.specs.Ends.{behind_test, behind_end, ended_with}
 use Rattle.stmt_parser.specs.declared.reads.End.{End}
 use Rattle.stmt_parser.specs.declared.reads.End.TheVariants as end

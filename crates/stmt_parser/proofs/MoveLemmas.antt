@@ -15,7 +15,7 @@ use Rattle.stmt_machine.specs.declared.frame.Frame.TheVariants as frame
 use Rattle.stmt_machine.specs.Actions.{StmtAction, value_action, open_action, do_action}
 use Rattle.stmt_machine.specs.Machine.{Move, moves, stuck, colon_next, semicolon_next, value_move, listed_move, if_move, body_move, while_move, each_move, foreach_move, for_condition_move, elseif_move, else_if_move, colon_elseif_move, do_end_move, jump_move}
 use Rattle.stmt_machine.specs.Made.{Made, apply_stmt}
-use Rattle.stmt_maker.specs.Answers.{Does}
+use Rattle.stmt_builder.specs.Answers.{Does}
 use Rattle.stmt_parser.specs.Nexts.{value_next, listed_next, if_next, body_next, each_next, for_condition_next, elseif_next, else_if_next, colon_elseif_next}
 use Rattle.stmt_parser.specs.Outcomes.{failed, acted, on_made, with_action, GoesOn, behind_value, reads_as}
 use Rattle.stmt_parser.proofs.ActedLemmas.{acted_behind, acted_first}

@@ -4,4 +4,3 @@ pub mod Lasts
 pub mod Ends
 pub mod Literals
 pub mod Readings
-pub use Rattle.expr_parser.specs.Heads

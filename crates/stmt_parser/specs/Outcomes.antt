@@ -14,7 +14,7 @@ use Rattle.stmt_machine.specs.declared.frame.Frame.{Frame}
 use Rattle.stmt_machine.specs.Actions.{StmtAction, value_action}
 use Rattle.stmt_machine.specs.Machine.{Move, moves, finished, stuck, semicolon_next}
 use Rattle.stmt_machine.specs.Made.{Made, with_values, execute_stmts}
-use Rattle.stmt_maker.specs.Views.{made_of}
+use Rattle.stmt_builder.specs.Views.{made_of}
 use Rattle.stmt_parser.specs.declared.reader.Reader.{Reader}
 use Rattle.stmt_parser.specs.declared.step.Step.{Step}
 use Rattle.stmt_parser.specs.declared.step.Step.TheVariants as step

@@ -8,8 +8,8 @@ ghost use Rattle.stmt_machine.specs.declared.frame.Loop.TheVariants as loops;
 ghost use Rattle.stmt_machine.specs.Machine as machine;
 ghost use Rattle.stmt_machine.specs.Machine.{condition_at, statement_at};
 ghost use Rattle.stmt_machine.specs.Made.{Made, apply_stmt};
-ghost use Rattle.stmt_maker.specs.Views.{made_of};
-ghost use Rattle.stmt_maker.specs.Answers.{Does};
+ghost use Rattle.stmt_builder.specs.Views.{made_of};
+ghost use Rattle.stmt_builder.specs.Answers.{Does};
 ghost use Rattle.stmt_parser.specs.Lasts.{last_action};
 ghost use Rattle.stmt_parser.specs.Nexts.{if_next, each_next, variable_next, keyed_next};
 ghost use Rattle.stmt_parser.specs.Outcomes.{acted, seen, Moves};
@@ -22,8 +22,8 @@ use expr_parser::head::{behind_sign, sign_at, variable_at};
 use php_syntax::token::{Sign, Token};
 use script_grammar::keyword::Keyword;
 use std::alloc::Global;
+use stmt_builder::maker::Maker;
 use stmt_machine::frame::{Focus, Frame, Loop, Row};
-use stmt_maker::maker::Maker;
 use text_base::{Bytes, NoMemory};
 
 /// What is made of the value of a statement.

@@ -1,8 +1,8 @@
-//! Reads statements, functions and files from tokens to trees.
-//!
-//! `read_file` runs the machine of `stmt_machine` over the tokens of a script, with each expression
-//! read by `expr_parser` and each action done by `stmt_maker`; its contract says that it makes what
-//! `makes_file` says.
+//! Reads statements, functions and files from tokens to trees, by the machine of stmt_machine with
+//! expr_parser and stmt_builder.
+//! Promise: `reader::read_file` answers what `makes_file` of stmt_machine says: the file's tree,
+//! `Tall` over a height of 200, or `Stuck` where there is no file (`IsReading` of specs/Readings).
+//! Used by: php_parser.
 #![tactic(auto)]
 
 mod arms;
@@ -18,5 +18,3 @@ pub mod reader;
 mod reads;
 mod rows;
 mod step;
-
-pub use expr_parser::head;

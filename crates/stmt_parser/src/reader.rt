@@ -6,19 +6,18 @@ ghost use Rattle.stmt_machine.specs.Machine as machine;
 ghost use Rattle.stmt_machine.specs.Machine.{moves};
 ghost use Rattle.stmt_machine.specs.Made.{nothing_made};
 ghost use Rattle.stmt_machine.specs.Reading.{makes_file};
-ghost use Rattle.stmt_maker.specs.Views.{made_of};
+ghost use Rattle.stmt_builder.specs.Views.{made_of};
 ghost use Rattle.stmt_parser.specs.Outcomes.{Moves};
 ghost use Rattle.stmt_parser.specs.Readings.{IsReading};
 
 use crate::step::Step;
 use php_syntax::token::Token;
 use php_syntax::tree::FileTree;
-use stacks::Stack;
 use std::alloc::Global;
+use stmt_builder::maker::Maker;
 use stmt_machine::frame::{Focus, Frame};
 use stmt_machine::laws::{moves_get_lighter, runs_go_on};
-use stmt_maker::maker::Maker;
-use text_base::NoMemory;
+use text_base::{NoMemory, Stack};
 
 /// What a list of tokens is.
 #[derive(Debug, Drop)]

@@ -5,3 +5,6 @@ pub mod JoinLaws
 pub mod BytewiseLaws
 pub mod EndsLaws
 pub mod LeftmostLaws
+pub mod BorderLemmas
+pub mod FailureLemmas
+pub mod PlaceLemmas

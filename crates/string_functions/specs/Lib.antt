@@ -8,3 +8,5 @@ pub mod Url
 pub mod Slashes
 pub mod Copies
 pub mod Leftmost
+pub mod Failure
+pub mod Place

@@ -1,8 +1,14 @@
-//! PHP's functions from bytes to bytes: definitions on plain lists in the words of the PHP manual
-//! (specs/), the laws of them that those who compute them and those who relate them both need
-//! (`laws`, and the lemmas in proofs/), and what they do with one byte (`of_byte`). Nothing of the
-//! repository stands below this crate.
+//! PHP's functions from bytes to bytes as definitions, with laws, and the search of a pattern.
+//! Promise: pieces are the one way to cut a text at the leftmost occurrences of a separator
+//! (`laws::pieces`, over `AreLeftmost` of specs/Leftmost); `find` gives exactly the first place of
+//! a pattern (`first_place` of specs/Place).
+//! Used by 13 crates, builtin_meaning, op_system, function_laws, least_sets and others.
 #![tactic(auto)]
 
+mod failure;
 pub mod laws;
+mod occurrence;
 pub mod of_byte;
+
+pub use failure::{failures, next_part, next_row};
+pub use occurrence::find;

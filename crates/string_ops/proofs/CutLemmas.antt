@@ -1,6 +1,5 @@
 -- The machines that cut follow `part_of`.
-use Rattle.std.proofs.Common.{◌≡◌, ◌==◌, ℕ, zero, suc, ◌+◌, ◌-◌, ◌<◌, ◌≤◌, ◌↔◌, ◌⊎◌, inl, inr, Bool, true, false, ◌&&◌, List, [], ◌∷◌, ◌++◌, length, take, drop, map, Contains, cond, ltb, leb, pos, negsuc, Some, None, refl, sym, ◌∙◌, ap, subst, arith, append-nil}
-use Rattle.std.proofs.Common.{Option, Result, IfOk, ℤ, nat_abs}
+use Rattle.std.proofs.Common.{◌≡◌, ◌==◌, ℕ, zero, suc, ◌+◌, ◌-◌, ◌<◌, ◌≤◌, ◌↔◌, ◌⊎◌, inl, inr, Bool, true, false, ◌&&◌, List, [], ◌∷◌, ◌++◌, length, take, drop, map, Contains, cond, ltb, leb, pos, negsuc, Some, None, refl, sym, ◌∙◌, ap, subst, arith, append-nil, Option, Result, IfOk, ℤ, nat_abs}
 use lib.Signed.{lt_z}
 use Rattle.text_base.specs.declared.memory.NoMemory.{NoMemory}
 use Rattle.op_system.specs.Size.{size_of_length}

@@ -8,9 +8,9 @@ use Rattle.string_functions.proofs.PiecesLaws.{starts_with-splits, pieces_of-occ
 use Rattle.fst_core.specs.declared.out.Out.{Out}
 use Rattle.fst_core.specs.declared.out.Out.TheVariants.{Same, Byte}
 use Rattle.string_ops.specs.Listed.{byte_of}
-use Rattle.text_search.specs.Failure.{next_length}
+use Rattle.string_functions.specs.Failure.{next_length}
 use Rattle.string_ops.specs.Search.{let_go, turn, turn_by}
-use Rattle.text_search.proofs.BorderLemmas.{Ends, IsNext, next_is}
+use Rattle.string_functions.proofs.BorderLemmas.{Ends, IsNext, next_is}
 
 -- no occurrence begins in the front, whatever of the rest it takes
 abbrev pub NoneIn : List ℕ → List ℕ → List ℕ → Type 0

@@ -13,10 +13,10 @@ use Rattle.fst_core.specs.declared.moves.TableMove.{TableMove}
 use Rattle.fst_core.specs.declared.moves.TableEnd.{TableEnd}
 use Rattle.fst_core.specs.declared.table.Table.{Table}
 use Rattle.string_ops.specs.Listed.{Rows, Lasts, byte_of, Follows, IsShort, AreSmall, IsListed, IsMachine}
-use Rattle.text_search.specs.Failure.{next_length}
+use Rattle.string_functions.specs.Failure.{next_length}
 use Rattle.string_ops.specs.Search.{let_go, is_within, AddsTurns, AddsSearch, AddsEnds, AddsStop}
 use Rattle.string_ops.specs.Piece.{behind, before_turn, inside_turn, piece_rows, piece_lasts}
-use Rattle.text_search.proofs.BorderLemmas.{IsNext, next_is}
+use Rattle.string_functions.proofs.BorderLemmas.{IsNext, next_is}
 use Rattle.string_ops.proofs.OccurrenceLemmas.{before_first, pieces_front, none_short, none_gone, gone, read_splits, whole_read, put_bytes, put_gone}
 use Rattle.string_ops.proofs.ReplaceLemmas.{short_bytes, short_go}
 use Rattle.string_ops.proofs.SearchLemmas.{stops-append}

@@ -1,7 +1,6 @@
 -- The machine that replaces a pattern follows `replaced_text`.
-use Rattle.std.proofs.Common.{◌≡◌, ◌==◌, ℕ, zero, suc, ◌+◌, ◌-◌, ◌*◌, ◌<◌, ◌≤◌, ◌↔◌, ◌⊎◌, inl, inr, Bool, true, false, IsTrue, List, [], ◌∷◌, ◌++◌, length, take, drop, map, All, cond, refl, sym, ◌∙◌, ap, subst, arith, append-nil, append_assoc}
+use Rattle.std.proofs.Common.{◌≡◌, ◌==◌, ℕ, zero, suc, ◌+◌, ◌-◌, ◌*◌, ◌<◌, ◌≤◌, ◌↔◌, ◌⊎◌, inl, inr, Bool, true, false, IsTrue, List, [], ◌∷◌, ◌++◌, length, take, drop, map, All, cond, refl, sym, ◌∙◌, ap, subst, arith, append-nil, append_assoc, Result, IfOk}
 use Rattle.std.proofs.lemmas.Bool.{cases_Bool, cases_eq, cases_lt, eq-eqb, ne_eqb, lt-ltb, le-ltb, le-leb, cond-true}
-use Rattle.std.proofs.Common.{Result, IfOk}
 use Rattle.text_base.specs.declared.memory.NoMemory.{NoMemory}
 use Rattle.std.proofs.lemmas.List.{nil_from_length, length-map, length-take, length-take-le, length-append}
 use Rattle.std.proofs.lemmas.List.Elements.{All-cons, All-nil, All-same}
@@ -12,10 +11,10 @@ use Rattle.fst_core.specs.declared.out.Out.{Out}
 use Rattle.fst_core.specs.declared.out.Out.TheVariants.{Same, Byte}
 use Rattle.fst_core.specs.declared.table.Table.{Table}
 use Rattle.string_ops.specs.Listed.{byte_of, is_plain, Follows, IsShort, AreSmall, AreBytes, IsListed, IsMachine}
-use Rattle.text_search.specs.Failure.{next_length}
+use Rattle.string_functions.specs.Failure.{next_length}
 use Rattle.string_ops.specs.Search.{let_go, turn, turn_by, is_within}
 use Rattle.string_ops.specs.Replace.{replace_rows, replace_lasts}
-use Rattle.text_search.proofs.BorderLemmas.{IsNext, next_is}
+use Rattle.string_functions.proofs.BorderLemmas.{IsNext, next_is}
 use Rattle.string_ops.proofs.OccurrenceLemmas.{NoneIn, replaced_front, none_short, none_gone, gone, read_splits, whole_read, put_bytes, put_gone}
 use Rattle.string_ops.proofs.ListedLemmas.{IsFunction, follows_function, listed_machine}
 

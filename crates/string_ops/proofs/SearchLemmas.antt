@@ -1,5 +1,5 @@
 -- The states of a search, as they are added.
-use Rattle.std.proofs.Common.{◌≡◌, ◌==◌, ℕ, zero, suc, ◌+◌, ◌-◌, ◌<◌, ◌≤◌, ◌⊎◌, inl, inr, Bool, true, false, not, ◌&&◌, List, [], ◌∷◌, ◌++◌, length, take, map, get_or, slice_get, slice_index, cond, ltb, leb, eqb, Some, None, Option, refl, sym, ◌∙◌, ap, subst, arith, append-nil, append_assoc}
+use Rattle.std.proofs.Common.{◌≡◌, ◌==◌, ℕ, zero, suc, ◌+◌, ◌-◌, ◌<◌, ◌≤◌, ◌⊎◌, inl, inr, Bool, true, false, not, ◌&&◌, List, [], ◌∷◌, ◌++◌, length, take, map, get_or, slice_get, slice_index, cond, ltb, leb, eqb, Some, None, Option, refl, sym, ◌∙◌, ap, subst, arith, append-nil, append_assoc, IsTrue}
 use Rattle.std.proofs.lemmas.Bool.{cases_Bool, cases_eq, cases_lt, eqb-true, eqb-false, eq-eqb, ne_eqb, le-leb, lt-leb, lt-ltb, le-ltb, and_left, and_right, ltb-true}
 use Rattle.fst_core.specs.Choices.{choices, stops, in_range, choice_of, AddsRow}
 use Rattle.fst_core.proofs.ChoiceLemmas.{choices-append}
@@ -9,9 +9,8 @@ use Rattle.fst_core.specs.declared.moves.TableMove.{TableMove}
 use Rattle.fst_core.specs.declared.moves.TableEnd.{TableEnd}
 use Rattle.fst_core.specs.declared.moves.Action.{Action}
 use Rattle.string_ops.specs.Search.{let_go, turn, turn_by, is_within, AddsTurn, AddsFirst, AddsTurns, AddsSearch, AddsEnds}
-use Rattle.text_search.specs.Failure.{next_length}
-use Rattle.text_search.proofs.BorderLemmas.{next_is}
-use Rattle.std.proofs.Common.{IsTrue}
+use Rattle.string_functions.specs.Failure.{next_length}
+use Rattle.string_functions.proofs.BorderLemmas.{next_is}
 use Rattle.std.specs.List.{list_all}
 use Rattle.fst_core.specs.Fits.{is_fixed}
 

@@ -5,7 +5,7 @@ use Rattle.fst_core.specs.declared.out.Out.{Out}
 use Rattle.fst_core.specs.declared.out.Out.TheVariants.{Same, Byte}
 use Rattle.fst_core.specs.declared.moves.TableMove.{TableMove}
 use Rattle.fst_core.specs.declared.moves.TableEnd.{TableEnd}
-use Rattle.text_search.specs.Failure.{next_length}
+use Rattle.string_functions.specs.Failure.{next_length}
 
 -- what is read and is part of no occurrence any more, where `at` bytes of the pattern were read before the byte and `part` after it
 abbrev pub let_go : List ℕ → ℕ → ℕ → List Out

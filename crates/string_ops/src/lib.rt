@@ -1,7 +1,8 @@
-//! A machine for each operation on texts: it relates exactly the inputs and outputs that the
-//! operation does (`Rel` of op_system). A machine is built as a table, state by state; what a
-//! state does by a byte stands in specs/, and that these steps relate what PHP's function does is
-//! proved over lists. Below stand fst_core, op_system and string_functions.
+//! For each operation on texts but `Op::Any` a machine, as a table that is built state by state,
+//! which relates exactly the inputs and outputs that the operation does.
+//! Promise: the table of `machine_of` is an `IsMachine` (specs/Listed): exact over bytes, without
+//! page tokens, and small for the size of the operation.
+//! Used by: resolving, image_tests, string_ops_bench.
 #![tactic(auto)]
 
 mod breaks;

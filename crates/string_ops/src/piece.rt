@@ -9,8 +9,8 @@ ghost use Rattle.string_ops.specs.Piece.{piece_rows, piece_lasts};
 use crate::search::{Search, add_ends, add_state, add_states};
 use fst_core::{Table, TableEnd, TableMove};
 use std::alloc::Global;
+use string_functions::failures;
 use text_base::{ByteRange, NoMemory};
-use text_search::failures;
 
 /// The machine of `Op::Piece`; one that relates nothing where the separator is empty.
 pub(crate) fn piece_machine(alloc: Global, sep: &[u8]) -> Result<Table, NoMemory>

@@ -8,8 +8,8 @@ ghost use Rattle.string_ops.specs.Replace.{replace_rows, replace_lasts};
 use crate::search::{Search, add_ends, add_states, bytes_out};
 use fst_core::Table;
 use std::alloc::Global;
+use string_functions::failures;
 use text_base::NoMemory;
-use text_search::failures;
 
 /// The machine of `Op::Replace` with a search that is not empty.
 pub(crate) fn replace_machine(alloc: Global, pattern: &[u8], with: &[u8]) -> Result<Table, NoMemory>

@@ -2,13 +2,13 @@
 
 ghost use Rattle.std.specs.Prelude.{◌≡◌, ◌+◌, ◌<◌, ◌≤◌, ◌^◌, ◌++◌, [], ◌∷◌, length, map, IfOk, OnOk, if◌then◌else◌};
 ghost use Rattle.fst_core.specs.declared.out.Out.TheVariants.{Byte};
-ghost use Rattle.text_search.specs.Failure.{AreFailures};
+ghost use Rattle.string_functions.specs.Failure.{AreFailures};
 ghost use Rattle.string_ops.specs.Search.{turn, turn_by, AddsTurn, AddsFirst, AddsTurns, AddsSearch, AddsEnds};
 
 use fst_core::{Action, Out, Table, TableEnd, TableMove};
 use std::alloc::Global;
+use string_functions::next_row;
 use text_base::{ByteRange, NoMemory};
-use text_search::next_row;
 
 /// A search for a pattern.
 #[derive(Clone, Copy)]

@@ -1,28 +1,27 @@
-//! Builds the machines of a search of a thousand bytes and of a cut of 1,024, and copies their
-//! tables; and puts grammars through the machines of four operations. Without an argument it prints
-//! how large the machines are, and how many items the images of small grammars have; with `machines`
-//! too how much longer than the copy the building takes; with `chain`, `choices` or `texts` how long
-//! larger images of these take, under all four operations or under the one that a second word names.
+//! Measures the machines of string_ops, and the images of grammars under them (grammar_image).
+//! Without an argument it prints how many states, moves and items there are; with `machines` also
+//! times, and with `chain`, `choices` or `texts` items and times of larger images. No clause.
+//! Used by: none; it stands at the top.
 #![tactic(auto)]
+
+ghost use Rattle.std.specs.Prelude.{◌≢◌};
+ghost use Rattle.op_system.specs.declared.op.Op.TheVariants.{Any};
 
 mod images;
 mod operations;
 mod works;
 
-ghost use Rattle.std.specs.Prelude.{◌≢◌};
-ghost use Rattle.op_system.specs.declared.op.Op.TheVariants.{Any};
-
+use crate::images::{measure, show};
+use crate::operations::{Operation, search};
+use crate::works::Work;
 use anyhow::Result;
 use fst_core::{IndexedTable, Out, Table};
-use images::{measure, show};
 use op_system::Op;
-use operations::{Operation, search};
 use std::alloc::{AllocError, Global};
 use std::env;
 use std::rt::{Clock, Env};
 use std::time::Instant;
 use string_ops::machine_of;
-use works::Work;
 
 /// The outputs of a table, one after the other.
 fn copied(alloc: Global, table: &Table) -> Result<Vec<Vec<Out>>, AllocError> {

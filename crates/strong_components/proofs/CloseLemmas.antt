@@ -5,8 +5,8 @@ use Rattle.smallvec.specs.SmallVec.{SmallVec}
 use Rattle.std.proofs.lemmas.Option.{same_Some, slice_get_within}
 use Rattle.std.proofs.lemmas.Bool.{cases_lt, cases_eq}
 use Rattle.std.proofs.lemmas.List.Sums.{sum_by-set}
-use Rattle.include_order.specs.Edges.{HasEdge}
-use Rattle.include_order.proofs.ListLemmas.{set_cases, kept_cases, set_at}
+use Rattle.strong_components.specs.Edges.{HasEdge}
+use Rattle.strong_components.proofs.OrderListLemmas.{set_cases, kept_cases, set_at}
 use Rattle.strong_components.specs.Components.{Reaches}
 use Rattle.strong_components.specs.declared.marks.Mark.{Mark}
 use Rattle.strong_components.specs.declared.marks.Mark.TheVariants.{New, Open, Done}

@@ -5,8 +5,8 @@ use Rattle.std.specs.Prelude.{◌⊎◌}
 use Rattle.std.specs.List.{Contains}
 use Rattle.smallvec.specs.SmallVec.{SmallVec}
 use Rattle.std.proofs.lemmas.Option.{same_Some, slice_get_within, slice_get-get_or, slice_get-map}
-use Rattle.include_order.specs.Edges.{HasEdge}
-use Rattle.include_order.proofs.ListLemmas.{set_at}
+use Rattle.strong_components.specs.Edges.{HasEdge}
+use Rattle.strong_components.proofs.OrderListLemmas.{set_at}
 use Rattle.strong_components.specs.Components.{Reaches, AreComponents}
 use Rattle.strong_components.specs.declared.marks.Mark.{Mark}
 use Rattle.strong_components.specs.declared.marks.Mark.TheVariants.{New, Open, Done}

@@ -4,3 +4,5 @@ pub mod PassLemmas
 pub mod OpenLemmas
 pub mod CloseLemmas
 pub mod LabelLemmas
+pub mod OrderListLemmas
+pub mod WalkLemmas

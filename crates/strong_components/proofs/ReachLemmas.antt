@@ -1,7 +1,7 @@
 -- Nodes that edges lead to.
 use Rattle.std.proofs.Common.{ℕ, List, inl, inr, sym, subst}
 use Rattle.smallvec.specs.SmallVec.{SmallVec}
-use Rattle.include_order.specs.Edges.{HasEdge, Leads, by_edge, onward}
+use Rattle.strong_components.specs.Edges.{HasEdge, Leads, by_edge, onward}
 use Rattle.strong_components.specs.Components.{Reaches}
 
 leads_leads : (edges : List (SmallVec ℕ)) (a b c : ℕ) → Leads edges a b → Leads edges b c → Leads edges a c

@@ -1,7 +1,7 @@
 -- The strongly connected components of a graph (Tarjan, Depth-first search and linear graph algorithms, 1972).
 use Rattle.std.specs.Prelude.{◌≡◌, ◌≤◌, ◌⊎◌, ℕ, List, length, Some, slice_get}
 use Rattle.smallvec.specs.SmallVec.{SmallVec}
-use Rattle.include_order.specs.Edges.{HasEdge, Leads}
+use Rattle.strong_components.specs.Edges.{HasEdge, Leads}
 
 -- edges lead from the one node to the other, or it is the same
 abbrev pub Reaches : List (SmallVec ℕ) → ℕ → ℕ → Type 0

@@ -2,7 +2,7 @@
 use Rattle.std.specs.Prelude.{◌≡◌, ◌<◌, ◌≤◌, ◌+◌, ℕ, List, [], ◌∷◌, length, Some, slice_get, nat_le, if◌then◌else◌}
 use Rattle.std.specs.List.{Contains, sum_by}
 use Rattle.smallvec.specs.SmallVec.{SmallVec}
-use Rattle.include_order.specs.Edges.{HasEdge}
+use Rattle.strong_components.specs.Edges.{HasEdge}
 use Rattle.strong_components.specs.Components.{Reaches}
 use Rattle.strong_components.specs.declared.marks.Mark.{Mark}
 use Rattle.strong_components.specs.declared.marks.Mark.TheVariants.{New, Open, Done}

@@ -1,7 +1,7 @@
 //! The components of a whole graph.
 
 ghost use Rattle.std.specs.Prelude.{◌≡◌, [], ◌<◌, ℕ, map, slice_get, IfOk, OnOk, length, Some};
-ghost use Rattle.include_order.specs.Edges.{AreWithin};
+ghost use Rattle.strong_components.specs.Edges.{AreWithin};
 ghost use Rattle.strong_components.specs.Components.{AreComponents};
 ghost use Rattle.strong_components.specs.Search.{number_in};
 ghost use Rattle.strong_components.specs.Opening.{Keeps, GoesOn, IsMet, work_of};
@@ -9,8 +9,8 @@ ghost use Rattle.strong_components.specs.Opening.{Keeps, GoesOn, IsMet, work_of}
 use crate::closing::close;
 use crate::marks::Mark;
 use crate::opening::{follow, next_edge, open_node, top};
+use crate::order::Targets;
 use crate::search::Search;
-use include_order::Targets;
 use std::alloc::Global;
 use text_base::NoMemory;
 

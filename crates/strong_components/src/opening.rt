@@ -1,16 +1,15 @@
 //! Following edges.
 
 ghost use Rattle.std.specs.Prelude.{◌≡◌, [], ◌∷◌, ◌≤◌, ◌<◌, ℕ, List, slice_get, IfSome, IfNone, OnOk, length};
-ghost use Rattle.include_order.specs.Edges.{AreWithin};
+ghost use Rattle.strong_components.specs.Edges.{AreWithin};
 ghost use Rattle.strong_components.specs.Search.{waits, kept};
 ghost use Rattle.strong_components.specs.Opening.{Opens, KeepsBut, IsLast, GoesOn};
 ghost use Rattle.strong_components.specs.declared.marks.Waiting as waiting_edge;
 
 use crate::marks::{Mark, Waiting};
+use crate::order::Targets;
 use crate::search::Search;
-use include_order::Targets;
-use stacks::Stack;
-use text_base::NoMemory;
+use text_base::{NoMemory, Stack};
 
 /// The last value of the stack.
 pub fn top(starts: &Stack<usize>) -> Option<usize>

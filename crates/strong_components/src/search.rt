@@ -4,10 +4,9 @@ ghost use Rattle.std.specs.Prelude.{◌≡◌, [], IfOk};
 ghost use Rattle.strong_components.specs.Search.{AreNew};
 
 use crate::marks::{Mark, Waiting};
-use include_order::Targets;
-use stacks::Stack;
+use crate::order::Targets;
 use std::alloc::Global;
-use text_base::NoMemory;
+use text_base::{NoMemory, Stack};
 
 /// A search: the marks of nodes, the path of open nodes, where the groups of the path begin, the
 /// edges that are still to be followed, and a node of each component that is found.

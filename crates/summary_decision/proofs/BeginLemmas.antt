@@ -13,14 +13,14 @@ use Rattle.derivations.specs.declared.node.Parts.{Parts}
 use Rattle.derivations.specs.declared.node.Parts.TheVariants as parts
 use Rattle.numbered_sets.specs.Numbers.{Keeps}
 use Rattle.useful_nonterminals.specs.Useful.{IsUseful}
-use Rattle.summary_fixpoint.specs.declared.letters.Piece.{Piece}
-use Rattle.summary_fixpoint.specs.declared.table.Table.{Table}
-use Rattle.summary_fixpoint.specs.Closed.{Pair, HasSum, IsClosed}
-use Rattle.summary_fixpoint.specs.Tables.{known, IsTable, GoesOn, MakesAt, Adds}
-use Rattle.summary_fixpoint.specs.Joints.{IsLetterOf}
-use Rattle.summary_fixpoint.proofs.ClosedLemmas.{placed}
-use Rattle.summary_fixpoint.proofs.KnownLemmas.{keeps_member}
-use Rattle.summary_fixpoint.proofs.JointLemmas.{letter_supports, letter_is, goes_none, goes_both}
+use Rattle.summary_decision.specs.declared.letters.Piece.{Piece}
+use Rattle.summary_decision.specs.declared.table.Table.{Table}
+use Rattle.summary_decision.specs.Closed.{Pair, HasSum, IsClosed}
+use Rattle.summary_decision.specs.Tables.{known, IsTable, GoesOn, MakesAt, Adds}
+use Rattle.summary_decision.specs.Joints.{IsLetterOf}
+use Rattle.summary_decision.proofs.ClosedLemmas.{placed}
+use Rattle.summary_decision.proofs.KnownLemmas.{keeps_member}
+use Rattle.summary_decision.proofs.JointLemmas.{letter_supports, letter_is, goes_none, goes_both}
 use Rattle.summary_decision.specs.Beginning.{IsBegun, AreMadeOf, IsMadeOf, StandsAt, Begins}
 
 module _ {S : Type 0} (sum_of : List PageToken → S) (composed : S → S → S) (whole : S → Bool) (ps : List Production) (start : nt.Nt) where

@@ -14,14 +14,14 @@ use Rattle.derivations.specs.declared.node.Part.{Part}
 use Rattle.derivations.specs.declared.node.Part.TheVariants.{Inner}
 use Rattle.derivations.specs.declared.node.Node.{Node}
 use Rattle.derivations.specs.Stands.{Stands, IsDerivation}
-use Rattle.number_chains.specs.Chains.{AreChains}
-use Rattle.summary_fixpoint.specs.declared.table.Entry.{Entry}
-use Rattle.summary_fixpoint.specs.declared.table.Table.{Table}
-use Rattle.summary_fixpoint.specs.declared.table.Taken.{Taken}
-use Rattle.summary_fixpoint.specs.Closed.{Pair, IsClosed}
-use Rattle.summary_fixpoint.specs.Tables.{known, known_of, sums_at, IsTable}
-use Rattle.summary_fixpoint.specs.Joints.{first_nonterminals, taken_count}
-use Rattle.summary_fixpoint.proofs.ClosedLemmas.{contained}
+use Rattle.numbered_sets.specs.Chains.{AreChains}
+use Rattle.summary_decision.specs.declared.table.Entry.{Entry}
+use Rattle.summary_decision.specs.declared.table.Table.{Table}
+use Rattle.summary_decision.specs.declared.table.Taken.{Taken}
+use Rattle.summary_decision.specs.Closed.{Pair, IsClosed}
+use Rattle.summary_decision.specs.Tables.{known, known_of, sums_at, IsTable}
+use Rattle.summary_decision.specs.Joints.{first_nonterminals, taken_count}
+use Rattle.summary_decision.proofs.ClosedLemmas.{contained}
 use Rattle.summary_decision.specs.Beginning.{Begins}
 use Rattle.summary_decision.specs.Taking.{AreUp}
 use Rattle.summary_decision.proofs.BeginLemmas.{begun_closed}

@@ -6,15 +6,15 @@ use Rattle.text_base.specs.declared.page_token.PageToken.{PageToken}
 use Rattle.text_base.specs.declared.numbers.Nt as nt
 use Rattle.cfg_grammar.specs.declared.production.Production.{Production}
 use Rattle.useful_nonterminals.specs.Useful.{IsUseful}
-use Rattle.summary_fixpoint.specs.declared.table.Table.{Table}
-use Rattle.summary_fixpoint.specs.declared.table.Taken.{Taken}
-use Rattle.summary_fixpoint.specs.Pairs.{tokens_in, AreWhole}
-use Rattle.summary_fixpoint.specs.Closed.{IsClosed, IsComplete}
-use Rattle.summary_fixpoint.specs.Tables.{known, IsTable}
-use Rattle.summary_fixpoint.specs.Joints.{taken_count}
-use Rattle.summary_fixpoint.proofs.ClosedLemmas.{closed_complete, closed_has_all}
-use Rattle.summary_fixpoint.proofs.KnownLemmas.{known_length}
-use Rattle.summary_fixpoint.proofs.MadeLemmas.{made_on}
+use Rattle.summary_decision.specs.declared.table.Table.{Table}
+use Rattle.summary_decision.specs.declared.table.Taken.{Taken}
+use Rattle.summary_decision.specs.Pairs.{tokens_in, AreWhole}
+use Rattle.summary_decision.specs.Closed.{IsClosed, IsComplete}
+use Rattle.summary_decision.specs.Tables.{known, IsTable}
+use Rattle.summary_decision.specs.Joints.{taken_count}
+use Rattle.summary_decision.proofs.ClosedLemmas.{closed_complete, closed_has_all}
+use Rattle.summary_decision.proofs.KnownLemmas.{known_length}
+use Rattle.summary_decision.proofs.MadeLemmas.{made_on}
 use Rattle.summary_decision.specs.Taking.{AreUp}
 use Rattle.summary_decision.specs.Running.{raised}
 

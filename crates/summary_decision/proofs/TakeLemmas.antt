@@ -18,24 +18,24 @@ use Rattle.cfg_grammar.specs.Derives.{Derives}
 use Rattle.derivations.specs.declared.node.Parts.TheVariants as parts
 use Rattle.derivations.specs.declared.node.Part.TheVariants as part
 use Rattle.numbered_sets.specs.Numbers.{Keeps}
-use Rattle.number_chains.specs.Chains.{AreChains}
-use Rattle.number_chains.specs.declared.Chains.{Chains}
+use Rattle.numbered_sets.specs.Chains.{AreChains}
+use Rattle.numbered_sets.specs.declared.chains.Chains.{Chains}
 use Rattle.useful_nonterminals.specs.Rules.{number_in}
-use Rattle.summary_fixpoint.specs.declared.joint.Side.{Side}
-use Rattle.summary_fixpoint.specs.declared.joint.Side.TheVariants.{First, Second}
-use Rattle.summary_fixpoint.specs.declared.joint.Joint.{Joint}
-use Rattle.summary_fixpoint.specs.declared.table.Table.{Table}
-use Rattle.summary_fixpoint.specs.declared.table.Taken.{Taken}
-use Rattle.summary_fixpoint.specs.Closed.{Pair, HasSum, IsClosed, IsTaken}
-use Rattle.summary_fixpoint.specs.Tables.{known, AreNumbered, IsTable, GoesOn, MakesAt, Adds}
-use Rattle.summary_fixpoint.specs.Joints.{right_by, other_by, number_by, composed_by, StandsOn, first_nonterminals, taken_count, AreTaken, AreUses, IsAt, IsBeside, IsGiven, Gives, MeetsSymbol}
-use Rattle.summary_fixpoint.proofs.ClosedLemmas.{placed, takes_one}
-use Rattle.summary_fixpoint.proofs.KnownLemmas.{at_before, keeps_member, is_there, known_length, not_absent, at_known}
-use Rattle.summary_fixpoint.specs.declared.table.Entry.{Entry}
-use Rattle.summary_fixpoint.proofs.TakenLemmas.{first_kept, first_more}
-use Rattle.summary_fixpoint.proofs.AddLemmas.{passes_at}
-use Rattle.summary_fixpoint.proofs.MadeLemmas.{derives_of}
-use Rattle.summary_fixpoint.proofs.JointLemmas.{goes_none, goes_both}
+use Rattle.summary_decision.specs.declared.joint.Side.{Side}
+use Rattle.summary_decision.specs.declared.joint.Side.TheVariants.{First, Second}
+use Rattle.summary_decision.specs.declared.joint.Joint.{Joint}
+use Rattle.summary_decision.specs.declared.table.Table.{Table}
+use Rattle.summary_decision.specs.declared.table.Taken.{Taken}
+use Rattle.summary_decision.specs.Closed.{Pair, HasSum, IsClosed, IsTaken}
+use Rattle.summary_decision.specs.Tables.{known, AreNumbered, IsTable, GoesOn, MakesAt, Adds}
+use Rattle.summary_decision.specs.Joints.{right_by, other_by, number_by, composed_by, StandsOn, first_nonterminals, taken_count, AreTaken, AreUses, IsAt, IsBeside, IsGiven, Gives, MeetsSymbol}
+use Rattle.summary_decision.proofs.ClosedLemmas.{placed, takes_one}
+use Rattle.summary_decision.proofs.KnownLemmas.{at_before, keeps_member, is_there, known_length, not_absent, at_known}
+use Rattle.summary_decision.specs.declared.table.Entry.{Entry}
+use Rattle.summary_decision.proofs.TakenLemmas.{first_kept, first_more}
+use Rattle.summary_decision.proofs.AddLemmas.{passes_at}
+use Rattle.summary_decision.proofs.MadeLemmas.{derives_of}
+use Rattle.summary_decision.proofs.JointLemmas.{goes_none, goes_both}
 use Rattle.summary_decision.specs.Taking.{AreUp, Takes}
 
 -- nonterminals that derive something are below the count

@@ -14,14 +14,14 @@ use Rattle.cfg_grammar.specs.declared.production.Right.{Right}
 use Rattle.cfg_grammar.specs.declared.production.Right.TheVariants.{Empty, One, Two}
 use Rattle.cfg_grammar.specs.declared.production.Production.{Production}
 use Rattle.cfg_grammar.specs.Below.{production_below, symbol_below, symbols_of}
-use Rattle.number_chains.specs.Chains.{AreChains}
-use Rattle.number_chains.specs.declared.Chains.{Chains}
+use Rattle.numbered_sets.specs.Chains.{AreChains}
+use Rattle.numbered_sets.specs.declared.chains.Chains.{Chains}
 use Rattle.useful_nonterminals.specs.Follows.{IsMarked}
 use Rattle.useful_nonterminals.specs.Rules.{number_in}
 use Rattle.useful_nonterminals.specs.Useful.{IsUseful}
-use Rattle.summary_fixpoint.specs.declared.joint.Side.{Side}
-use Rattle.summary_fixpoint.specs.declared.joint.Side.TheVariants.{First, Second}
-use Rattle.summary_fixpoint.specs.Joints.{number_by, StandsOn, AreUses}
+use Rattle.summary_decision.specs.declared.joint.Side.{Side}
+use Rattle.summary_decision.specs.declared.joint.Side.TheVariants.{First, Second}
+use Rattle.summary_decision.specs.Joints.{number_by, StandsOn, AreUses}
 use Rattle.summary_decision.specs.Using.{key_of}
 
 -- a test of marks against the marks

@@ -8,9 +8,9 @@ use Rattle.cfg_grammar.specs.declared.production.Production.{Production}
 use Rattle.derivations.specs.declared.node.Parts.{Parts}
 use Rattle.derivations.specs.declared.node.Node.{Node}
 use Rattle.useful_nonterminals.specs.Useful.{IsUseful}
-use Rattle.summary_fixpoint.specs.declared.table.Table.{Table}
-use Rattle.summary_fixpoint.specs.Closed.{Pair, HasSum}
-use Rattle.summary_fixpoint.specs.Tables.{known, Makes, GoesOn}
+use Rattle.summary_decision.specs.declared.table.Table.{Table}
+use Rattle.summary_decision.specs.Closed.{Pair, HasSum}
+use Rattle.summary_decision.specs.Tables.{known, Makes, GoesOn}
 
 -- the production at a place has a useful left side, and this right side
 pub record StandsAt (productions : List Production) (start : nt.Nt) (place : ℕ) (r : Right) : Type 0 where

@@ -2,3 +2,10 @@ pub mod Using
 pub mod Beginning
 pub mod Taking
 pub mod Running
+pub mod Pairs
+pub mod Verdicts
+pub mod Closed
+pub mod Tables
+pub mod Halts
+pub mod Notes
+pub mod Joints

@@ -1,6 +1,6 @@
 -- Going on to the next height.
 use Rattle.std.specs.Prelude.{◌+◌, ℕ, if◌then◌else◌, nat_lt, length}
-use Rattle.summary_fixpoint.specs.declared.table.Table.{Table}
+use Rattle.summary_decision.specs.declared.table.Table.{Table}
 
 -- where all pairs before the bound are taken up, all pairs that are found so far come before the bound
 abbrev pub raised : {S : Type 0} → ℕ → Table S → Table S

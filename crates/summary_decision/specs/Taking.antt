@@ -3,11 +3,11 @@ use Rattle.std.specs.Prelude.{◌≡◌, ◌+◌, ◌≤◌, ℕ, Bool, List, le
 use Rattle.text_base.specs.declared.page_token.PageToken.{PageToken}
 use Rattle.text_base.specs.declared.numbers.Nt as nt
 use Rattle.cfg_grammar.specs.declared.production.Production.{Production}
-use Rattle.summary_fixpoint.specs.declared.table.Table.{Table}
-use Rattle.summary_fixpoint.specs.declared.table.Taken.{Taken}
-use Rattle.summary_fixpoint.specs.Closed.{IsClosed}
-use Rattle.summary_fixpoint.specs.Tables.{known, IsTable, GoesOn}
-use Rattle.summary_fixpoint.specs.Joints.{taken_count, AreTaken}
+use Rattle.summary_decision.specs.declared.table.Table.{Table}
+use Rattle.summary_decision.specs.declared.table.Taken.{Taken}
+use Rattle.summary_decision.specs.Closed.{IsClosed}
+use Rattle.summary_decision.specs.Tables.{known, IsTable, GoesOn}
+use Rattle.summary_decision.specs.Joints.{taken_count, AreTaken}
 
 module _ {S : Type 0} (sum_of : List PageToken → S) (composed : S → S → S) (whole : S → Bool) (productions : List Production)
     (start : nt.Nt) where

@@ -4,14 +4,14 @@ ghost use Rattle.std.specs.Prelude.{◌≡◌, ◌↔◌, ◌<◌, Some, slice_g
 ghost use Rattle.text_base.specs.declared.numbers.Nt as nt;
 ghost use Rattle.useful_nonterminals.specs.Follows.{IsMarked};
 ghost use Rattle.useful_nonterminals.specs.Useful.{IsUseful};
-ghost use Rattle.summary_fixpoint.specs.Tables.{IsTable};
-ghost use Rattle.summary_fixpoint.specs.Halts.{Explains};
+ghost use Rattle.summary_decision.specs.Tables.{IsTable};
+ghost use Rattle.summary_decision.specs.Halts.{Explains};
 ghost use Rattle.summary_decision.specs.Beginning.{IsMadeOf, Begins, StandsAt};
 
 use crate::using::is_marked;
+use crate::{Halt, Question, Side, Table, add, compose, letter};
 use cfg_grammar::{Production, Right};
 use derivations::Parts;
-use summary_fixpoint::{Halt, Question, Side, Table, add, compose, letter};
 use tag_sums::Summary;
 use text_base::NoMemory;
 

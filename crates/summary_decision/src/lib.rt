@@ -1,14 +1,38 @@
-//! The steps of the decision whether each sentence of a grammar is whole by a summary: the pairs
-//! that letters make, and taking up one pair after another. What they come to is `IsTable` and
-//! `Explains` of summary_fixpoint, `Begins` and `Takes` of specs/. Below stand text_base,
-//! numbered_sets, number_chains, cfg_grammar, useful_nonterminals, derivations, tag_sums and
-//! summary_fixpoint.
+//! Whether each sentence of a grammar of page tokens is whole by a summary of tag_sums. Promise:
+//! `decide` says `Yes` only where every sentence of the start is whole, `No` only with a derivation
+//! of one that is not, and `Pairs` or `Tags` only where that limit is passed with every sentence of
+//! a smaller height whole (`IsVerdict` of specs/Verdicts).
+//! Used by 7 crates, script_decision, page_decision, echoing_machine, coarse_reader and others.
 #![tactic(auto)]
 
+mod adding;
 mod beginning;
+mod deciding;
+mod halt;
+mod joining;
+mod joint;
+mod laws;
+mod letters;
+mod meeting;
+mod noting;
+mod question;
+mod running;
+mod table;
 mod taking;
 mod using;
+mod verdict;
 
+pub use adding::{add, add_known};
 pub use beginning::begin;
+pub use deciding::decide;
+pub use halt::Halt;
+pub use joining::sum_number;
+pub use joint::{Joint, Side, other, parts};
+pub use laws::closed_pairs;
+pub use letters::{Piece, letter};
+pub use meeting::{compose, meet, sum_of_pair};
+pub use question::Question;
+pub use table::{Entry, Join, Table, Taken};
 pub use taking::take;
 pub use using::{Uses, uses_on};
+pub use verdict::{TAG_LIMIT, Verdict};

@@ -4,19 +4,19 @@
 ghost use Rattle.std.specs.Prelude.{◌≡◌, ◌<◌, ◌≤◌, ℕ, Some, slice_get, IfErr, OnOk, length};
 ghost use Rattle.cfg_grammar.specs.declared.production.Right as plain;
 ghost use Rattle.cfg_grammar.specs.declared.production.Production as productions;
-ghost use Rattle.summary_fixpoint.specs.Tables.{known, IsTable, AreNumbered};
-ghost use Rattle.summary_fixpoint.specs.Halts.{Explains};
-ghost use Rattle.summary_fixpoint.specs.Joints.{StandsOn, taken_count, AreTaken, AreUses, IsAt, Gives};
+ghost use Rattle.summary_decision.specs.Tables.{known, IsTable, AreNumbered};
+ghost use Rattle.summary_decision.specs.Halts.{Explains};
+ghost use Rattle.summary_decision.specs.Joints.{StandsOn, taken_count, AreTaken, AreUses, IsAt, Gives};
 ghost use Rattle.summary_decision.specs.Taking.{Takes, AreUp};
 
 use crate::using::Uses;
-use cfg_grammar::{Right, Symbol};
-use derivations::{Part, Parts};
-use number_chains::Chains;
-use std::hash::Hash;
-use summary_fixpoint::{
+use crate::{
     Halt, Joint, Question, Side, Table, Taken, add_known, meet, other, sum_number, sum_of_pair,
 };
+use cfg_grammar::{Right, Symbol};
+use derivations::{Part, Parts};
+use numbered_sets::Chains;
+use std::hash::Hash;
 use tag_sums::Summary;
 use text_base::Exact;
 

@@ -5,13 +5,13 @@ ghost use Rattle.text_base.specs.declared.numbers.Nt as nt;
 ghost use Rattle.useful_nonterminals.specs.Rules.{number_in};
 ghost use Rattle.useful_nonterminals.specs.Follows.{IsMarked};
 ghost use Rattle.useful_nonterminals.specs.Useful.{IsUseful};
-ghost use Rattle.summary_fixpoint.specs.Joints.{number_by, AreUses};
+ghost use Rattle.summary_decision.specs.Joints.{number_by, AreUses};
 ghost use Rattle.summary_decision.specs.Using.{key_of};
 
+use crate::Side;
 use cfg_grammar::{Grammar, Production, Right, Symbol};
-use number_chains::{Chains, chains_of};
+use numbered_sets::{Chains, chains_of};
 use std::alloc::Global;
-use summary_fixpoint::Side;
 use text_base::NoMemory;
 
 /// For each nonterminal, a chain of the places where it stands on each side.

@@ -10,11 +10,10 @@ use crate::finding::declared;
 use byte_readers::Emit;
 use dtd_index::IndexedDtd;
 use open_pieces::{Characters, OpenPiece, PagePlace};
-use page_cutting::{begins_name, in_name, is_blank};
+use page_rules::{begins_name, in_name, is_blank, is_name};
 use remark_stepping::PageMove;
 use std::alloc::Global;
 use text_base::{NoMemory, PageToken};
-use value_rules::is_name;
 
 /// Behind `</`, so much of a name, and maybe white space (XML 1.0, 3.1).
 pub fn end_tag_move(

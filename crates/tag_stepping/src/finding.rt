@@ -13,7 +13,7 @@ use attribute_stepping::is_name_among;
 use dtd_index::IndexedDtd;
 use dtd_model::AttrRule;
 use open_pieces::NameList;
-use tag_rules::{element, must_stand};
+use page_rules::{element, must_stand};
 
 /// The declared element of this name.
 pub fn declared<'a>(indexed: &'a IndexedDtd<'_>, name: &[char]) -> Option<TagElement<'a>>

@@ -1,7 +1,8 @@
-//! One character more in a tag or in the XML declaration of a page, in memory: each call is the
-//! function of page_steps that it is named after. Below stand text_base, dtd_model, dtd_index,
-//! byte_readers, page_cutting, value_rules, tag_rules, page_steps, open_pieces, attribute_stepping
-//! and remark_stepping.
+//! One character more in a tag or in the XML declaration of a page, in memory, by a definition with
+//! its names indexed. Promise: `tag_name_move`, `tag_move`, `empty_move` and `end_tag_move` are,
+//! through `plain_move` of remark_stepping, the functions of the same names in page_steps
+//! (specs/PageSteps there), and `declaration_move` is `declaration_by` there.
+//! Used by: page_stepping.
 #![tactic(auto)]
 
 mod declarations;

@@ -16,7 +16,7 @@ use attribute_stepping::{Allowing, AttributeMove, attribute_move};
 use byte_readers::Emit;
 use dtd_index::IndexedDtd;
 use open_pieces::{Characters, NameList, OpenAttribute, OpenPiece, PagePlace};
-use page_cutting::in_name;
+use page_rules::in_name;
 use remark_stepping::PageMove;
 use std::alloc::Global;
 use text_base::{NoMemory, PageToken};

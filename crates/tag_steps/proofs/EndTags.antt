@@ -12,7 +12,7 @@ use Rattle.page_model.specs.Attributes.{find_rule, is_some_rule}
 use Rattle.page_model.specs.PageTokens.{element_of}
 use Rattle.page_model.specs.Places.{Place, behind}
 use Rattle.piece_steps.specs.Readers.{go, done, fail, Outcome, whole}
-use Rattle.page_fronts.specs.Fronts.{in_end_tag}
+use Rattle.page_model.specs.Fronts.{in_end_tag}
 use Rattle.page_steps.specs.PageSteps.{OpenMove, PageState, closed_move, end_name_move, open_move}
 use Rattle.attribute_steps.proofs.Over.{blank_character, name_character, begins_in, blank_not_name}
 use Rattle.page_insides.specs.Laws.{settle, read, ends_with}

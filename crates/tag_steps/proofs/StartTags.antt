@@ -11,9 +11,9 @@ use Rattle.page_model.specs.Attributes.{find_rule, attributes_fit, fits_rule, ta
 use Rattle.page_model.specs.Parts.{Attribute, attributes_then, Tag, tag_then, IsTag}
 use Rattle.page_model.specs.Places.{Place, behind}
 use Rattle.piece_steps.specs.Readers.{Move, go, done, fail, Outcome, whole, next, ends}
-use Rattle.page_fronts.specs.Fronts.{find_declared, in_tag_name, in_tag, at_empty_end}
-use Rattle.page_fronts.specs.OpenTags.{OpenAttribute, between}
-use Rattle.page_fronts.specs.OpenValues.{OpenValue}
+use Rattle.page_model.specs.Fronts.{find_declared, in_tag_name, in_tag, at_empty_end}
+use Rattle.page_model.specs.OpenTags.{OpenAttribute, between}
+use Rattle.page_model.specs.OpenValues.{OpenValue}
 use Rattle.page_steps.specs.AttributeSteps.{AttributeMove, stays, ends_with as ends_at, leaves, stops, attribute_move}
 use Rattle.page_steps.specs.PageSteps.{OpenMove, end_move, tag_by, tag_move, empty_move, PageState, put_place, page_step, page_reader}
 use Rattle.page_steps.specs.TagSteps.{step_of, of_element, are_all}

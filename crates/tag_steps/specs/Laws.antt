@@ -12,7 +12,7 @@ use Rattle.page_model.specs.PageTokens.{element_of}
 use Rattle.page_model.specs.Parts.{Tag, tag_then, IsTag}
 use Rattle.page_model.specs.Places.{Place, behind}
 use Rattle.piece_steps.specs.Readers.{whole}
-use Rattle.page_fronts.specs.Fronts.{in_tag_name, in_end_tag}
+use Rattle.page_model.specs.Fronts.{in_tag_name, in_end_tag}
 use Rattle.page_insides.specs.Laws.{read, ends_with}
 
 -- the types of the attributes are lawful

@@ -1,8 +1,7 @@
 -- Composition is associative.
 use Rattle.std.proofs.Common.{◌≡◌, ℕ, Bool, true, false, List, [], ◌∷◌, ◌++◌, Option, Some, None, refl, sym, ◌∙◌, ap}
 use Rattle.std.specs.Prelude.{if◌then◌else◌}
-use Rattle.tag_sums.specs.Sum.{Sum, target, has, follow, admits, after, preimage, some_move, some_state, joined, moved, meet, compose}
-use Rattle.tag_sums.specs.Sum.{broken, reduced}
+use Rattle.tag_sums.specs.Sum.{Sum, target, has, follow, admits, after, preimage, some_move, some_state, joined, moved, meet, compose, broken, reduced}
 use Rattle.tag_sums.proofs.Tables.{target_after, has_preimage, target_empty, has_empty, after_after, preimage_after, after_empty_first, after_empty_second, preimage_empty_first, preimage_empty_second}
 
 pub joins : {X : Type 0} (xs ys zs : List X) → (xs ++ ys) ++ zs ≡ xs ++ (ys ++ zs)

@@ -4,3 +4,4 @@ pub mod Units
 pub mod Trees
 pub mod NestLemmas
 mod Examples
+pub mod NestingLemmas

@@ -4,11 +4,9 @@ use Rattle.std.specs.Prelude.{if◌then◌else◌, nat_eq}
 use Rattle.std.specs.Cmp.{unsigned_Decides}
 use Rattle.text_base.specs.declared.page_token.PageToken.{PageToken}
 use Rattle.text_base.specs.declared.page_token.PageToken.TheVariants.{Doctype, Start, End, Blank, Text, Misc, Bad}
-use Rattle.tag_sums.specs.Trees.{Nodes, start_tag, end_tag, tokens_of}
+use Rattle.tag_sums.specs.Trees.{Nodes, start_tag, end_tag, tokens_of, no_nodes, mark, element}
 use Rattle.tag_sums.specs.Labels.{Mark, blank, text, misc, doctype, token_of as mark_token}
-use Rattle.tag_sums.specs.Trees.{no_nodes, mark, element}
-use Rattle.tag_sums.specs.Nesting.{Nest, match_tags, join, nest_token, nest_of, IsNested}
-use Rattle.tag_sums.specs.Nesting.{torn, nest}
+use Rattle.tag_sums.specs.Nesting.{Nest, match_tags, join, nest_token, nest_of, IsNested, torn, nest}
 use Rattle.tag_sums.proofs.Associativity.{joins}
 
 abbrev before : List ℕ → Nest → Nest

@@ -2,13 +2,11 @@
 use Rattle.std.proofs.Common.{◌≡◌, ◌↔◌, ℕ, ◌<◌, Bool, true, false, List, [], ◌∷◌, ◌++◌, Option, Some, None, refl, sym, ◌∙◌, ap, subst}
 use Rattle.std.specs.Prelude.{if◌then◌else◌}
 use Rattle.tag_sums.specs.Automaton.{Automaton, IsAutomaton, and_then, along}
-use Rattle.tag_sums.specs.Trees.{Nodes, start_tag, end_tag, tokens_of, labels_of, AreValid, IsPage}
-use Rattle.tag_sums.specs.Trees.{no_nodes, mark, element}
+use Rattle.tag_sums.specs.Trees.{Nodes, start_tag, end_tag, tokens_of, labels_of, AreValid, IsPage, no_nodes, mark, element}
 use Rattle.text_base.specs.declared.page_token.PageToken.{PageToken}
 use Rattle.text_base.specs.declared.page_token.PageToken.TheVariants.{Doctype, Start, End, Blank, Text, Misc, Bad}
 use Rattle.tag_sums.specs.Labels.{Mark, Label, child, other, blank, text, misc, doctype, token_of as mark_token}
-use Rattle.tag_sums.specs.Sum.{Sum, target, has, some_move, some_state, moved, meet, compose, by_state, by_label, with_label, opening, of_token, sum_of, IsWhole}
-use Rattle.tag_sums.specs.Sum.{broken, reduced}
+use Rattle.tag_sums.specs.Sum.{Sum, target, has, some_move, some_state, moved, meet, compose, by_state, by_label, with_label, opening, of_token, sum_of, IsWhole, broken, reduced}
 use Rattle.tag_sums.specs.Fits.{AreStates}
 use Rattle.tag_sums.proofs.Tables.{target_empty, has_empty}
 use Rattle.tag_sums.proofs.Associativity.{assoc, joins}

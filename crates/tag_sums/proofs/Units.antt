@@ -8,8 +8,7 @@ use Rattle.tag_sums.specs.Automaton.{Automaton, IsAutomaton}
 use Rattle.text_base.specs.declared.page_token.PageToken.{PageToken}
 use Rattle.text_base.specs.declared.page_token.PageToken.TheVariants.{Doctype, Start, End, Blank, Text, Misc, Bad}
 use Rattle.tag_sums.specs.Labels.{Mark, Label, child, other, blank, text, misc, doctype}
-use Rattle.tag_sums.specs.Sum.{Sum, target, has, follow, admits, after, preimage, some_move, some_state, joined, moved, meet, compose, by_state, unit, by_label, with_label, opening, of_token, sum_of}
-use Rattle.tag_sums.specs.Sum.{broken, reduced}
+use Rattle.tag_sums.specs.Sum.{Sum, target, has, follow, admits, after, preimage, some_move, some_state, joined, moved, meet, compose, by_state, unit, by_label, with_label, opening, of_token, sum_of, broken, reduced}
 use Rattle.tag_sums.specs.Fits.{AreStates, LeadBelow, AreSets, Fits}
 use Rattle.tag_sums.proofs.Tables.{target_after, has_preimage}
 use Rattle.tag_sums.proofs.Associativity.{assoc}

@@ -1,11 +1,19 @@
-//! What a list of page tokens does to the elements that stand open: sums of tags, with their
-//! laws, and the trait of summaries that the decision over a grammar works with. A sum forgets
-//! all of the tokens but what matters for what may stand before and behind them; the files of
-//! specs/ say which sum a list has. Below stands text_base alone.
+//! What a list of page tokens does to the elements that stand open: sums of tags, and the trait
+//! `Summary` for a decision over a grammar. Promise: sums compose (`SumsCompose` of specs/Laws),
+//! one is whole exactly where the tokens are those of a page (`WholeIsPage`), and one of the
+//! summary `Nesting` where they are those of a tree (`WholeIsNested` of specs/NestingLaws).
+//! Used by 8 crates, segment_summary, page_decision, summary_decision, coarse_reader and others.
 #![tactic(auto)]
 
 mod laws;
+mod nesting;
+mod nesting_join;
+mod nesting_laws;
+mod nesting_sum;
 mod summary;
 
 pub use laws::{associative, nesting, one_token, sums_compose, whole_is_page};
+pub use nesting::Nesting;
+pub use nesting_laws::whole_is_nested;
+pub use nesting_sum::NestingSum;
 pub use summary::Summary;

@@ -4,8 +4,8 @@ use Rattle.xml_text.specs.Characters.{is_blank}
 use Rattle.xml_text.specs.Names.{begins_name, in_name}
 use Rattle.page_model.specs.Places.{Place, is_early}
 use Rattle.piece_steps.specs.Readers.{go, fail}
-use Rattle.page_fronts.specs.Fronts.{reserved, in_target, behind_target, in_instruction, in_declaration}
-use Rattle.page_fronts.specs.OpenTags.{between}
+use Rattle.page_model.specs.Fronts.{reserved, in_target, behind_target, in_instruction, in_declaration}
+use Rattle.page_model.specs.OpenTags.{between}
 use Rattle.page_steps.specs.PageSteps.{OpenMove, behind_move}
 
 -- behind a target that is not `xml`

@@ -1,6 +1,8 @@
 //! One character more in the target of an instruction or of the XML declaration of a page, in
-//! memory: `target_move` is the function of page_steps of that name. Below stand text_base,
-//! page_cutting, value_rules, page_steps, open_pieces and remark_stepping.
+//! memory. Promise: `target_move` is, through the views of open_pieces and remark_stepping, the
+//! function of that name in page_steps (specs/PageSteps there), where the target may still become
+//! `xml`, and `other_target_move` that of specs/Views, where it cannot.
+//! Used by: page_stepping.
 #![tactic(auto)]
 
 mod targets;

@@ -2,7 +2,7 @@
 
 ghost use Rattle.std.specs.Prelude.{◌≡◌, ◌&&◌, codes, length, nat_le, take, IfOk, Some};
 ghost use Rattle.std.specs.Str.{str_eq_ignore_ascii_case};
-ghost use Rattle.page_fronts.specs.Fronts as fronts;
+ghost use Rattle.page_model.specs.Fronts as fronts;
 ghost use Rattle.page_model.specs.Places as places;
 ghost use Rattle.page_steps.specs.PageSteps as steps;
 ghost use Rattle.open_pieces.specs.Views.{plain_open, plain_place};
@@ -10,11 +10,10 @@ ghost use Rattle.remark_stepping.specs.Views.{plain_move};
 ghost use Rattle.target_stepping.specs.Views as views;
 
 use open_pieces::{Characters, NameList, OpenAttribute, OpenPiece, PagePlace};
-use page_cutting::{begins_name, in_name, is_blank};
+use page_rules::{begins_name, in_name, is_blank, is_word, is_word_in_any_case};
 use remark_stepping::PageMove;
 use std::alloc::Global;
 use text_base::NoMemory;
-use value_rules::{is_word, is_word_in_any_case};
 
 /// One character more behind `<?` and so much of a target that may still become `xml` (XML 1.0, 2.6
 /// and 2.8).

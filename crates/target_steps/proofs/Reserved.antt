@@ -6,7 +6,7 @@ use Rattle.std.specs.Str.{str_eq_ignore_ascii_case}
 use Rattle.std.proofs.lemmas.Slice.Eq.{bytes_eq-Decides}
 use Rattle.std.proofs.lemmas.Bool.Decides.{nat_tests}
 use Rattle.xml_text.specs.Names.{in_name}
-use Rattle.page_fronts.specs.Fronts.{reserved}
+use Rattle.page_model.specs.Fronts.{reserved}
 use Rattle.page_steps.specs.PageSteps.{more_target, may_be_target, is_reserved, is_xml, is_started}
 
 -- a front of `xml`, in any case

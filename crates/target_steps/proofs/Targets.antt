@@ -13,8 +13,8 @@ use Rattle.dtd_model.specs.Table.{Table}
 use Rattle.page_model.specs.Parts.{IsInstruction, begins_blank}
 use Rattle.page_model.specs.Places.{Place, at_beginning, behind_mark, behind, is_early}
 use Rattle.piece_steps.specs.Readers.{go, done, fail, Outcome, whole}
-use Rattle.page_fronts.specs.Fronts.{Open, in_target, behind_target, in_instruction, in_declaration, reserved}
-use Rattle.page_fronts.specs.OpenTags.{between}
+use Rattle.page_model.specs.Fronts.{Open, in_target, behind_target, in_instruction, in_declaration, reserved}
+use Rattle.page_model.specs.OpenTags.{between}
 use Rattle.page_steps.specs.PageSteps.{OpenMove, more_target, may_be_target, is_reserved, is_xml, is_started, behind_move as move_behind, target_move, PageState, page_step}
 use Rattle.attribute_steps.proofs.Over.{blank_character, name_character, begins_in, blank_not_name}
 use Rattle.remark_steps.specs.Laws.{IsLeft, IsData}

@@ -7,8 +7,8 @@ use Rattle.dtd_model.specs.Table.{Table}
 use Rattle.page_model.specs.Parts.{IsInstruction}
 use Rattle.page_model.specs.Places.{Place, behind, is_early}
 use Rattle.piece_steps.specs.Readers.{whole}
-use Rattle.page_fronts.specs.Fronts.{in_target, in_declaration}
-use Rattle.page_fronts.specs.OpenTags.{between}
+use Rattle.page_model.specs.Fronts.{in_target, in_declaration}
+use Rattle.page_model.specs.OpenTags.{between}
 use Rattle.page_insides.specs.Laws.{settle, read, ends_with}
 
 -- what was read to an end behind `<?`

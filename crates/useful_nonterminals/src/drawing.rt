@@ -2,13 +2,13 @@
 
 ghost use Rattle.std.specs.Prelude.{◌≡◌, ◌<◌, ◌↔◌, [], ℕ, List, Some, slice_get, Contains, length, map, IfOk, OnOk};
 ghost use Rattle.std.specs.List.{All};
-ghost use Rattle.number_chains.specs.Chains.{AreChains, Falls};
+ghost use Rattle.numbered_sets.specs.Chains.{AreChains, Falls};
 ghost use Rattle.numbered_sets.specs.Numbers.{Keeps, AddsOnly};
 ghost use Rattle.useful_nonterminals.specs.Follows.{Follows, IsRuleBelow, IsMarked};
 ghost use Rattle.useful_nonterminals.specs.Work.{IsNoted, Concludes};
 
 use crate::rule::Rule;
-use number_chains::{Chains, chains_of};
+use numbered_sets::{Chains, chains_of};
 use std::alloc::Global;
 use text_base::NoMemory;
 

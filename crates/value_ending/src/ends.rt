@@ -4,16 +4,16 @@ ghost use Rattle.std.specs.Prelude.{◌≡◌, ◌&&◌, IfOk};
 ghost use Rattle.dtd_model.specs.References as references;
 ghost use Rattle.dtd_model.specs.Table.{declared_of, kind_of};
 ghost use Rattle.dtd_model.specs.TableOf.{table_of};
-ghost use Rattle.page_fronts.specs.OpenValues.{in_fixed};
+ghost use Rattle.page_model.specs.OpenValues.{in_fixed};
 ghost use Rattle.page_steps.specs.ValueSteps as steps;
 ghost use Rattle.open_pieces.specs.Views.{plain_value};
 
 use dtd_index::IndexedDtd;
 use dtd_model::{AttrKind, AttrRule};
 use open_pieces::OpenValue;
+use page_rules::{has_value, is_one_of, is_some, refers, refers_to_known};
 use std::alloc::Global;
 use text_base::NoMemory;
-use value_rules::{has_value, is_one_of, is_some, refers, refers_to_known};
 
 /// Whether a value may end there, by how its attribute is declared (XML 1.0, 3.3). Takes memory for
 /// a fixed value alone.

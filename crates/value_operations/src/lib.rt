@@ -1,6 +1,8 @@
 //! What the operations of a script do with values: text form, truth and key, identity and loose
-//! comparison, arithmetic, and joining as texts. The contracts cite the definitions over plain
-//! values of plain_values. Below stand text_base, plain_values and php_values.
+//! comparison, arithmetic, and joining as texts.
+//! Promise: each call answers what the definition of its name in plain_values gives, with its fault
+//! or want of memory (clauses `ok`, `err`); `same` answers whether two plain values are equal.
+//! Used by: request_reading, point_listing, php_builtins, expr_evaluator, statement_runs, values_bench.
 #![tactic(auto)]
 
 mod arithmetic;

@@ -3,7 +3,7 @@ use Rattle.std.specs.Prelude.{ℕ, Bool, false, ◌||◌, if◌then◌else◌, L
 use Rattle.xml_text.specs.Characters.{is_blank}
 use Rattle.dtd_model.specs.References.{is_some}
 use Rattle.dtd_model.specs.Table.{Kind}
-use Rattle.page_fronts.specs.OpenValues as value
+use Rattle.page_model.specs.OpenValues as value
 use Rattle.page_steps.specs.ReferenceSteps.{reference_good}
 use Rattle.page_steps.specs.ValueSteps.{choice_step, words_step}
 use Rattle.open_pieces.specs.declared.value.OpenValue.{OpenValue}

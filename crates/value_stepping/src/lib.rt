@@ -1,6 +1,8 @@
-//! One character more in the quotes of a value, in memory: each call is the function of page_steps
-//! that it is named after. Below stand xml_text, dtd_model, dtd_index, page_cutting, value_rules,
-//! page_steps, open_pieces and reference_stepping.
+//! One character more in the quotes of a value of an attribute, in memory. Promise: `value_start`,
+//! `value_step` and `may_stand` are, through the views of open_pieces and `plain_next` of
+//! specs/Views, the functions of the same names in page_steps (specs/ValueSteps there), by a
+//! definition with its names indexed.
+//! Used by: attribute_stepping, state_testing.
 #![tactic(auto)]
 
 mod start;

@@ -7,10 +7,9 @@ ghost use Rattle.value_stepping.specs.Views.{plain_next, choice_next, words_next
 
 use dtd_model::AttrKind;
 use open_pieces::{Characters, OpenValue};
-use page_cutting::{begins_name, in_name, is_blank};
+use page_rules::{begins_name, in_name, is_blank, is_some};
 use std::alloc::Global;
 use text_base::NoMemory;
-use value_rules::is_some;
 
 // Whether the type has names, and not name tokens.
 fn has_names(kind: &AttrKind) -> bool

@@ -1,6 +1,7 @@
-//! Writes into values that are shared, and how long they take beside a plain vector: a thousand of
-//! each kind without an argument, and as many as a number in the first argument says, with how many
-//! times as long each takes as as many pushes onto a plain vector.
+//! Measures writes into values that are shared, beside pushes onto a plain vector.
+//! Without an argument it makes 1,000 of each kind and prints no times; with a number it makes so
+//! many and prints how many times as long each kind takes. It has no clause.
+//! Used by: none; it stands at the top.
 #![tactic(auto)]
 
 use anyhow::{Context, Result};

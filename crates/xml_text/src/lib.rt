@@ -1,6 +1,8 @@
-//! The characters of XML, its white space, its names, and texts of its characters in UTF-8. The
-//! contracts cite specs/ of this crate, which pages, definitions and requests share; below stands
-//! std alone.
+//! The characters of XML, its white space, its names, and texts of its characters in UTF-8, which
+//! pages, document type definitions and requests share.
+//! Promise: each call answers as the definition of its name, and `is_text` is true exactly where
+//! `IsText` of specs/Texts holds.
+//! Used by 45 crates, script_meaning, request_reading, dtd_model, number_kinds and others.
 #![tactic(auto)]
 
 mod classes;
@@ -8,5 +10,5 @@ mod names;
 mod texts;
 
 pub use classes::{is_blank, is_character};
-pub use names::{begins_name, in_name, in_public_identifier, is_name, is_name_token};
+pub use names::{begins_name, in_name, in_public_identifier, is_name};
 pub use texts::is_text;

@@ -1,4 +1,4 @@
-//! Names and name tokens (XML 1.0, 2.3), in ASCII.
+//! Names (XML 1.0, 2.3), in ASCII.
 
 ghost use Rattle.std.specs.Prelude.{◌≡◌};
 ghost use Rattle.std.specs.List.{list_all};
@@ -33,16 +33,6 @@ pub fn is_name(bytes: &[u8]) -> bool
     match bytes {
         [] => false,
         [first, rest @ ..] => begins_name(*first) && are_in_name(rest),
-    }
-}
-
-/// Whether the bytes are a name token (Nmtoken).
-pub fn is_name_token(bytes: &[u8]) -> bool
-    ensures { result ≡ spec.is_name_token bytes.now }
-{
-    match bytes {
-        [] => false,
-        [first, rest @ ..] => in_name(*first) && are_in_name(rest),
     }
 }
 

@@ -3,9 +3,9 @@ use Rattle.std.proofs.Common.{ap, subst}
 use Rattle.cfg_grammar.specs.declared.symbol.Symbol as symbols
 use Rattle.dtd_model.specs.Table.{Table}
 use Rattle.dtd_model.specs.TableOf.{table_of}
-use Rattle.image_meaning.specs.Outputs.{DerivesText}
+use Rattle.fst_core.specs.Outputs.{DerivesText}
 use Rattle.page_model.specs.Broken.{Broken}
-use Rattle.text_decision.specs.TextVerdicts.{IsDerivationOf}
+use Rattle.page_decision.specs.TextVerdicts.{IsDerivationOf}
 use Rattle.broken_search.specs.Found.{IsBrokenPage, IsSearchCause}
 use Rattle.broken_search.proofs.searching.find_broken_page.Goals as goal
 

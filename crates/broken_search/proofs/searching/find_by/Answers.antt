@@ -3,8 +3,8 @@ use Rattle.std.proofs.lemmas.Result.{IfOk-weaker}
 use Rattle.cfg_grammar.specs.declared.symbol.Symbol as symbols
 use Rattle.derivations.specs.declared.derivation.Derivation.{Derivation}
 use Rattle.dtd_model.specs.TableOf.{table_of}
-use Rattle.image_meaning.specs.Outputs.{DerivesText}
-use Rattle.text_decision.specs.TextVerdicts.{IsDerivationOf}
+use Rattle.fst_core.specs.Outputs.{DerivesText}
+use Rattle.page_decision.specs.TextVerdicts.{IsDerivationOf}
 use Rattle.loose_machine.proofs.FindLemmas.{puts_no_tags}
 use Rattle.broken_search.proofs.SearchLemmas.{if_some, if_none, is_broken, none_broken}
 use Rattle.broken_search.proofs.searching.find_by.Goals as goal

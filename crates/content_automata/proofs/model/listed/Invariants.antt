@@ -1,6 +1,6 @@
 use Rattle.std.proofs.Common.{◌≡◌, false, drop}
 use Rattle.std.specs.Prelude.{replicate}
-use Rattle.content_positions.specs.Sets.{raised}
+use Rattle.content_automata.specs.Sets.{raised}
 use Rattle.content_automata.proofs.model.listed.Given as goal
 
 -- what is left decides

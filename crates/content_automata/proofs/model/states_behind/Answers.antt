@@ -1,6 +1,6 @@
 use Rattle.std.proofs.Common.{◌∙◌, sym, ap, map, false}
 use Rattle.std.specs.Prelude.{replicate}
-use Rattle.content_positions.specs.Sets.{raised}
+use Rattle.content_automata.specs.Sets.{raised}
 use Rattle.std.specs.List.{range_with_len}
 use Rattle.content_automata.specs.Shapes as spec
 use Rattle.content_automata.specs.declared.model.Model.{Model}

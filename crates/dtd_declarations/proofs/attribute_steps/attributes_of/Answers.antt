@@ -1,6 +1,6 @@
 use Rattle.std.proofs.Common.{◌+◌, [], drop, get_or}
-use Rattle.dtd_tokens.specs.Views.{token_of, tokens_of}
-use Rattle.dtd_tokens.specs.declared.token.Token.TheVariants.{Gap}
+use Rattle.dtd_declarations.specs.TokenViews.{token_of, tokens_of}
+use Rattle.dtd_declarations.specs.declared.token.Token.TheVariants.{Gap}
 use Rattle.dtd_texts.specs.Went.{all_steps}
 use Rattle.dtd_texts.specs.AttributeLists as spec
 use Rattle.dtd_declarations.specs.Views.{reading_of}

@@ -1,5 +1,5 @@
 use Rattle.std.proofs.Common.{◌≡◌, drop}
-use Rattle.dtd_tokens.specs.Views.{tokens_of}
+use Rattle.dtd_declarations.specs.TokenViews.{tokens_of}
 use Rattle.dtd_texts.specs.Went.{all_steps}
 use Rattle.dtd_texts.specs.ContentModels.{stage_step, behind_name}
 use Rattle.dtd_declarations.specs.Views.{stage_of}

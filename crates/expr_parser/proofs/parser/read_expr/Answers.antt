@@ -3,7 +3,7 @@ use Rattle.std.specs.Prelude.{Some}
 use Rattle.expr_machine.specs.declared.frame.Focus.TheVariants as focus
 use Rattle.expr_machine.specs.Machine as machine
 use Rattle.expr_machine.specs.Reading.{reads_on, reads_next}
-use Rattle.expr_values.specs.Views.{plain_values}
+use Rattle.expr_builder.specs.Views.{plain_values}
 use Rattle.expr_parser.specs.Heads.{terminals_of}
 use Rattle.expr_parser.proofs.ReaderLemmas as rl
 use Rattle.expr_parser.proofs.parser.read_expr.Goals as goal

@@ -1,6 +1,6 @@
 use Rattle.std.proofs.Common.{◌≡◌}
 use Rattle.expr_machine.specs.Reading.{weight, reads_on, reads_expr}
-use Rattle.expr_values.specs.Views.{plain_values}
+use Rattle.expr_builder.specs.Views.{plain_values}
 use Rattle.expr_parser.specs.Heads.{terminals_of}
 use Rattle.expr_parser.proofs.parser.read_expr.Given as goal
 

@@ -1,4 +1,4 @@
-use Rattle.literal_trees.proofs.FormLemmas.{no_number}
+use Rattle.script_meaning.proofs.FormLemmas.{no_number}
 use Rattle.expression_lowering.proofs.alone.number_key.Goals as goal
 
 pub returns-in_default : goal.returns-in_default

@@ -16,11 +16,11 @@ use Rattle.flow_code.specs.Expressions.{code, codes, variable, path_code, length
 use Rattle.flow_lowering.specs.View.{progress}
 use Rattle.flow_lowering.specs.Emits.{Puts, Emits, place}
 use Rattle.flow_lowering.proofs.EmitLemmas.{emits_known, emits_computed, emits_both, puts_length}
-use Rattle.function_scopes.specs.View.{scope_in}
-use Rattle.expression_pieces.specs.Forms.{source_for}
-use Rattle.expression_pieces.proofs.ChoiceLemmas.{emits_connected, emits_there, emits_itself}
+use Rattle.flow_lowering.specs.ScopeView.{scope_in}
+use Rattle.flow_lowering.specs.Forms.{source_for}
+use Rattle.flow_lowering.proofs.ChoiceLemmas.{emits_connected, emits_there, emits_itself}
 use Rattle.expression_lowering.proofs.RowEmits.{exprs_further, exprs_end, path_further, path_end, SoFar, items_begin, items_further, items_end, pushed_length, key_text, key_slot, length_of_keys, by_form}
-use Rattle.expression_pieces.proofs.WriteLemmas.{emits_stored, emits_old, emits_filled}
+use Rattle.flow_lowering.proofs.WriteLemmas.{emits_stored, emits_old, emits_filled}
 use Rattle.expression_lowering.proofs.expressions.+expressions.Goals as goal
 
 pub lower_exprs-loop-expr-preserved : goal.lower_exprs-loop-expr-preserved

@@ -8,7 +8,7 @@ use Rattle.flow_code.specs.View.{slot_number, plain_item, plain_maybe_key}
 use Rattle.flow_code.specs.Expressions.{codes, path_code}
 use Rattle.flow_lowering.specs.View.{progress}
 use Rattle.flow_lowering.specs.Emits.{Progress, Emits}
-use Rattle.function_scopes.specs.View.{scope_in}
+use Rattle.flow_lowering.specs.ScopeView.{scope_in}
 use Rattle.expression_lowering.proofs.RowEmits.{SoFar}
 use Rattle.expression_lowering.proofs.expressions.+expressions.Given as goal
 

@@ -1,6 +1,6 @@
 use Rattle.std.proofs.Common.{length}
 use Rattle.flow_code.specs.View.{plain_flow}
-use Rattle.extraction_bounds.proofs.Bounded.{is_bounded}
+use Rattle.extraction.proofs.Bounded.{is_bounded}
 use Rattle.extraction.proofs.Readings.{made_with}
 use Rattle.extraction.proofs.extracting.extract.Goals as goal
 

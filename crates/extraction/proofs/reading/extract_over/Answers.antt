@@ -1,10 +1,10 @@
 use Rattle.std.proofs.Common.{refl, length, ◌+◌}
 use Rattle.flow_code.specs.View.{plain_flow}
 use Rattle.cfg_grammar.specs.declared.symbol.Symbol.TheVariants.{Nt}
-use Rattle.set_systems.specs.Closed.{HasText}
+use Rattle.least_sets.specs.Closed.{HasText}
 use Rattle.set_tables.specs.Given.{closed_of}
-use Rattle.flow_listing.specs.Made.{IsMadeOver}
-use Rattle.extraction_bounds.proofs.Bounded.{is_bounded_over}
+use Rattle.extraction.specs.ListedMade.{IsMadeOver}
+use Rattle.extraction.proofs.Bounded.{is_bounded_over}
 use Rattle.extraction.proofs.Readings.{closed_by, made_with}
 use Rattle.extraction.proofs.reading.extract_over.Goals as goal
 

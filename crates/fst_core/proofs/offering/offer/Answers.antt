@@ -1,8 +1,7 @@
-use Rattle.std.proofs.Common.{◌∙◌, refl}
+use Rattle.std.proofs.Common.{◌∙◌, refl, ℕ}
 use Rattle.fst_core.proofs.OfferLemmas.{offers_push}
 use Rattle.fst_core.proofs.IndexLemmas.{once_push, once_other, once_apart}
 use Rattle.fst_core.specs.declared.machine.Move.{Move}
-use Rattle.std.proofs.Common.{ℕ}
 use Rattle.fst_core.proofs.offering.offer.Goals as goal
 
 pub returns-clause-more : goal.returns-clause-more

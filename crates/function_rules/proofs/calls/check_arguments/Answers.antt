@@ -1,6 +1,6 @@
 use Rattle.std.proofs.Common.{◌≡◌, ◌<◌, false, length, arith}
 use Rattle.program_rules.specs.Rules.{serves_call}
-use Rattle.program_calls.specs.Seen.{plain_call, calls_seen}
+use Rattle.tree_walks.specs.Seen.{plain_call, calls_seen}
 use Rattle.function_rules.specs.Causes.{is_misused}
 use Rattle.function_rules.proofs.CallLemmas.{stops, first_named, not_known}
 use Rattle.function_rules.proofs.calls.check_arguments.Goals as goal

@@ -1,7 +1,7 @@
 use Rattle.std.proofs.Common.{◌≡◌, List, drop}
 use Rattle.std.specs.List.{find}
 use Rattle.php_syntax.specs.Trees.{PlainFunction}
-use Rattle.program_calls.specs.Seen.{calls_seen}
+use Rattle.tree_walks.specs.Seen.{calls_seen}
 use Rattle.function_rules.specs.Causes.{is_misused}
 use Rattle.function_rules.specs.Table.{IsTable}
 use Rattle.function_rules.proofs.calls.check_arguments.Given as goal

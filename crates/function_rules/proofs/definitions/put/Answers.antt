@@ -4,7 +4,7 @@ use Rattle.php_syntax.specs.Trees.{plain_function, params_of_list}
 use Rattle.builtin_meaning.specs.Names.{builtin_named}
 use Rattle.script_meaning.specs.Programs.{function_named}
 use Rattle.program_rules.specs.Rules.{is_there, DefinesTwice}
-use Rattle.function_calls.specs.Arguments.{AreNumbersOf}
+use Rattle.function_rules.specs.Arguments.{AreNumbersOf}
 use Rattle.function_rules.proofs.TableLemmas.{so_there, found_there, not_there, put_one, double_builtin, double_again}
 use Rattle.function_rules.proofs.definitions.put.Goals as goal
 

@@ -1,7 +1,7 @@
 use Rattle.std.proofs.Common.{◌≡◌, ◌∙◌, List, Err, IfErr, sym, ap, subst, rules}
-use Rattle.program_calls.specs.declared.call.Call.{Call}
-use Rattle.program_calls.specs.Seen.{calls_seen}
-use Rattle.function_calls.specs.FileCalls.{calls_in_files}
+use Rattle.tree_walks.specs.declared.call.Call.{Call}
+use Rattle.tree_walks.specs.Seen.{calls_seen}
+use Rattle.include_expansion.specs.FileCalls.{calls_in_files}
 use Rattle.program_rules.specs.Programs.{functions_in}
 use Rattle.program_files.specs.View.{files_of}
 use Rattle.function_rules.specs.Causes.{IsFunctionCause}

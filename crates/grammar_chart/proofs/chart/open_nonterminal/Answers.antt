@@ -1,5 +1,5 @@
 use Rattle.grammar_chart.specs.Kept.{lefts_of}
-use Rattle.number_chains.proofs.ChainLemmas.{chains_fall}
+use Rattle.numbered_sets.proofs.ChainLemmas.{chains_fall}
 use Rattle.grammar_chart.proofs.StepLemmas.{chart_opens}
 use Rattle.grammar_chart.proofs.chart.open_nonterminal.Goals as goal
 

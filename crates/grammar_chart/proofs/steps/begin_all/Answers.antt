@@ -1,5 +1,5 @@
 use Rattle.std.proofs.Common.{sym, ℕ}
-use Rattle.number_chains.proofs.WalkLemmas.{walk_begun, walk_further, walk_ended}
+use Rattle.numbered_sets.proofs.WalkLemmas.{walk_begun, walk_further, walk_ended}
 use Rattle.grammar_chart.specs.declared.keys.Read.TheVariants.{Nothing}
 use Rattle.grammar_chart.proofs.AddingLemmas.{adds_none, adds_more, adds_same}
 use Rattle.grammar_chart.proofs.steps.begin_all.Goals as goal

@@ -1,6 +1,6 @@
 use Rattle.std.proofs.Common.{◌+◌, ℕ, List, length, if◌then◌else◌, nat_lt}
-use Rattle.number_chains.specs.Chains.{AreChains}
-use Rattle.number_chains.proofs.WalkLemmas.{HasWalked}
+use Rattle.numbered_sets.specs.Chains.{AreChains}
+use Rattle.numbered_sets.proofs.WalkLemmas.{HasWalked}
 use Rattle.grammar_chart.specs.Adding.{AddsAsked}
 use Rattle.grammar_chart.specs.declared.keys.Read.TheVariants.{Nothing}
 use Rattle.grammar_chart.proofs.steps.begin_all.Given as goal

@@ -1,6 +1,6 @@
 use Rattle.std.proofs.Common.{List, length, subst, sym}
 use Rattle.std.specs.Prelude.{IfOk}
-use Rattle.image_meaning.specs.Weight.{IsSmall}
+use Rattle.fst_core.specs.Weight.{IsSmall}
 use Rattle.cfg_grammar.specs.declared.production.Production.{Production}
 use Rattle.grammar_chart.specs.Kept.{AreProductionsOf}
 use Rattle.grammar_image.proofs.imaging.image.Goals as goal

@@ -3,8 +3,8 @@ use Rattle.text_base.specs.declared.letter.Letter.{Letter}
 use Rattle.text_base.specs.declared.numbers.Nt as nt
 use Rattle.cfg_grammar.specs.Derives.{Derives}
 use Rattle.cfg_grammar.specs.declared.symbol.Symbol as symbols
-use Rattle.image_meaning.specs.Outputs.{Outputs}
-use Rattle.image_meaning.specs.Weight.{IsSmall}
+use Rattle.fst_core.specs.Outputs.{Outputs}
+use Rattle.fst_core.specs.Weight.{IsSmall}
 use Rattle.grammar_image.proofs.BeginLemmas.{worked_begins}
 use Rattle.grammar_image.proofs.imaging.imaged_over.Goals as goal
 

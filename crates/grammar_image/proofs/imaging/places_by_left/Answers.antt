@@ -1,6 +1,6 @@
 use Rattle.std.proofs.Common.{◌≡◌, ◌<◌, ◌∙◌, ℕ, List, map, subst, sym, ap}
 use Rattle.std.specs.List.{All}
-use Rattle.number_chains.specs.Chains.{AreChains}
+use Rattle.numbered_sets.specs.Chains.{AreChains}
 use Rattle.cfg_grammar.specs.declared.production.Production.{Production}
 use Rattle.grammar_image.proofs.BeginLemmas.{lefts_below}
 use Rattle.grammar_image.proofs.imaging.places_by_left.Goals as goal

@@ -1,5 +1,5 @@
 use Rattle.std.proofs.Common.{subst, sym}
-use Rattle.php_program.specs.View.{program_of}
+use Rattle.program_rules.specs.View.{program_of}
 use Rattle.loose_grammar.specs.declared.refusal.GrammarRefusal.{GrammarRefusal}
 use Rattle.loose_grammar.specs.Refusals.{IsGrammarRefusal}
 use Rattle.loose_grammar.proofs.PageLemmas.{page_grammar, operation_refusal}

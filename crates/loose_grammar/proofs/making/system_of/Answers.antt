@@ -6,10 +6,10 @@ use Rattle.flow_code.specs.Flat.{flat}
 use Rattle.flow_code.specs.Points.{PlainFlow}
 use Rattle.op_system.specs.declared.system.OpSystem.{OpSystem}
 use Rattle.loose_sets.specs.Loose.{Loose}
-use Rattle.op_cycles.specs.Texts.{TextOf}
-use Rattle.php_program.specs.View.{program_of}
-use Rattle.flow_listing.specs.Rules.{AreLooseRules}
-use Rattle.flow_listing.specs.Made.{IsMade}
+use Rattle.op_bytes.specs.Texts.{TextOf}
+use Rattle.program_rules.specs.View.{program_of}
+use Rattle.extraction.specs.Rules.{AreLooseRules}
+use Rattle.extraction.specs.ListedMade.{IsMade}
 use Rattle.script_meaning.specs.Programs.{PlainProgram}
 use Rattle.loose_grammar.specs.Pages.{IsSystemOf, IsProgramSystem}
 use Rattle.loose_grammar.proofs.making.system_of.Goals as goal

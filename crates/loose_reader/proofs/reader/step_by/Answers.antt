@@ -1,6 +1,6 @@
 use Rattle.std.proofs.Common.{ap, sym, ◌∙◌}
 use Rattle.piece_steps.specs.Readers.{to_state}
-use Rattle.loose_narrowing.specs.LoosePassing.{narrow_loose_reader}
+use Rattle.loose_reads.specs.LoosePassing.{narrow_loose_reader}
 use Rattle.loose_reader.specs.declared.state.LooseOpen.{LooseOpen}
 use Rattle.loose_reader.specs.Views.{plain_loose}
 use Rattle.byte_stepping.specs.declared.state_move.StateMove.{StateMove}

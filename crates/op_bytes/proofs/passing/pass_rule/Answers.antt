@@ -1,6 +1,6 @@
 use Rattle.std.proofs.Common.{length, sym}
 use Rattle.std.proofs.lemmas.Result.{on_ok_weaker}
-use Rattle.system_bytes.proofs.ListLemmas.{contained}
+use Rattle.op_bytes.proofs.ListLemmas.{contained}
 use Rattle.op_bytes.proofs.UseLemmas.{rule_below_so}
 use Rattle.op_bytes.proofs.GrowLemmas.{rule_none, rule_some}
 use Rattle.op_bytes.proofs.passing.pass_rule.Goals as goal

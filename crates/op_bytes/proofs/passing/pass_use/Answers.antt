@@ -2,7 +2,7 @@ use Rattle.std.proofs.Common.{◌<◌, length, sym}
 use Rattle.std.proofs.lemmas.List.Elements.{All-contains}
 use Rattle.std.proofs.lemmas.Result.{on_ok_weaker}
 use Rattle.op_bytes.specs.declared.uses.Use.{Use}
-use Rattle.system_bytes.proofs.ListLemmas.{contained}
+use Rattle.op_bytes.proofs.ListLemmas.{contained}
 use Rattle.op_bytes.proofs.GrowLemmas.{use_none, use_some}
 use Rattle.op_bytes.proofs.passing.pass_use.Goals as goal
 

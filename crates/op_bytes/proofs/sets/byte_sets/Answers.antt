@@ -3,7 +3,7 @@ use Rattle.std.specs.Prelude.{◌↔◌}
 use Rattle.std.proofs.lemmas.Option.{slice_get_read, slice_get_within}
 use Rattle.op_system.specs.declared.system.OpRule.{OpRule}
 use Rattle.op_bytes.specs.declared.uses.Use.{Use}
-use Rattle.system_bytes.proofs.ListLemmas.{contained}
+use Rattle.op_bytes.proofs.ListLemmas.{contained}
 use Rattle.op_bytes.proofs.UseLemmas.{uses_from_below}
 use Rattle.op_bytes.proofs.WorkLemmas.{work_begins, work_more, work_done}
 use Rattle.op_bytes.proofs.sets.byte_sets.Goals as goal

@@ -1,11 +1,11 @@
 use Rattle.std.proofs.Common.{IfOk, subst}
 use Rattle.std.proofs.lemmas.Result.{IfOk-weaker}
 use Rattle.cfg_grammar.specs.declared.symbol.Symbol as symbols
-use Rattle.image_meaning.specs.Outputs.{DerivesText}
+use Rattle.fst_core.specs.Outputs.{DerivesText}
 use Rattle.dtd_model.specs.TableOf.{table_of}
-use Rattle.text_decision.specs.Echoes.{IsMachineImage}
-use Rattle.text_decision.specs.TextVerdicts.{IsDerivationOf}
-use Rattle.page_goals.specs.declared.goal.Goal.{Goal}
+use Rattle.page_decision.specs.Echoes.{IsMachineImage}
+use Rattle.page_decision.specs.TextVerdicts.{IsDerivationOf}
+use Rattle.page_decision.specs.declared.goal.Goal.{Goal}
 use Rattle.page_decision.specs.declared.sums.PageSums.{PageSums}
 use Rattle.page_decision.specs.PageSums.{AreSumsOf}
 use Rattle.page_decision.specs.PageVerdicts.{IsPageVerdict}

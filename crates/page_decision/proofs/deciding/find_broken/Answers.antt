@@ -2,10 +2,10 @@ use Rattle.std.specs.Prelude.{Option, Some, None, IfSome, IfNone}
 use Rattle.std.proofs.lemmas.Result.{IfOk-weaker}
 use Rattle.cfg_grammar.specs.declared.symbol.Symbol as symbols
 use Rattle.derivations.specs.declared.derivation.Derivation.{Derivation}
-use Rattle.image_meaning.specs.Outputs.{DerivesText}
+use Rattle.fst_core.specs.Outputs.{DerivesText}
 use Rattle.dtd_model.specs.TableOf.{table_of}
-use Rattle.text_decision.specs.Echoes.{IsMachineImage, PutsTokens}
-use Rattle.text_decision.specs.TextVerdicts.{IsDerivationOf}
+use Rattle.page_decision.specs.Echoes.{IsMachineImage, PutsTokens}
+use Rattle.page_decision.specs.TextVerdicts.{IsDerivationOf}
 use Rattle.page_decision.proofs.FoundLemmas.{all_nested}
 use Rattle.page_decision.proofs.VerdictLemmas.{broken_is_bad}
 use Rattle.page_decision.proofs.deciding.find_broken.Goals as goal

@@ -1,6 +1,6 @@
 use Rattle.std.proofs.Common.{ap, sym, ◌∙◌}
 use Rattle.piece_steps.specs.Readers.{to_state}
-use Rattle.page_stepping.specs.Passing.{narrow_reader}
+use Rattle.page_narrowing.specs.Passing.{narrow_reader}
 use Rattle.open_pieces.specs.declared.state.HeldState.{HeldState}
 use Rattle.open_pieces.specs.Views.{plain_held}
 use Rattle.byte_stepping.specs.declared.state_move.StateMove.{StateMove}

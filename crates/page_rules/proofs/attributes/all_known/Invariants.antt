@@ -3,7 +3,7 @@ use Rattle.std.specs.List.{list_all}
 use Rattle.dtd_model.specs.References.{is_known}
 use Rattle.dtd_model.specs.TableOf.{table_of}
 use Rattle.page_model.specs.Parts.{Attribute, refers_by}
-use Rattle.page_cutting.specs.Views.{attribute_of}
+use Rattle.page_rules.specs.Views.{attribute_of}
 use Rattle.page_rules.proofs.attributes.all_known.Given as goal
 
 abbrev pub invariant-loop-attribute : goal.invariant-loop-attribute

@@ -1,6 +1,6 @@
 use Rattle.std.proofs.Common.{◌≡◌, drop, map}
 use Rattle.dtd_model.specs.Table.{declared_of}
-use Rattle.page_cutting.specs.Views.{attribute_of}
+use Rattle.page_rules.specs.Views.{attribute_of}
 use Rattle.page_rules.specs.Tests.{once_by}
 use Rattle.page_rules.proofs.attributes.all_once.Given as goal
 

@@ -1,6 +1,6 @@
 use Rattle.std.proofs.Common.{◌∙◌, map}
 use Rattle.dtd_model.specs.Table.{declared_of}
-use Rattle.page_cutting.specs.Views.{attribute_of}
+use Rattle.page_rules.specs.Views.{attribute_of}
 use Rattle.page_rules.proofs.Once.{four, once_by_rules}
 use Rattle.page_rules.proofs.attributes.attributes_fit.Goals as goal
 

@@ -1,5 +1,5 @@
 use Rattle.std.proofs.Common.{◌≡◌, drop, map}
-use Rattle.page_cutting.specs.Views.{attribute_of}
+use Rattle.page_rules.specs.Views.{attribute_of}
 use Rattle.page_rules.specs.Tests.{at_most_one, once_after}
 use Rattle.page_rules.proofs.attributes.is_once.Given as goal
 

@@ -1,6 +1,6 @@
 use Rattle.std.proofs.Common.{◌≡◌, drop, map}
 use Rattle.page_model.specs.Attributes.{stands}
-use Rattle.page_cutting.specs.Views.{attribute_of}
+use Rattle.page_rules.specs.Views.{attribute_of}
 use Rattle.page_rules.proofs.attributes.stands.Given as goal
 
 abbrev pub invariant-loop-attribute : goal.invariant-loop-attribute

@@ -1,7 +1,7 @@
 use Rattle.std.proofs.Common.{◌≡◌, drop, map}
 use Rattle.std.specs.List.{list_all}
-use Rattle.page_reading.specs.Right.{attribute_is_right}
-use Rattle.page_cutting.specs.Views.{attribute_of}
+use Rattle.page_model.specs.Right.{attribute_is_right}
+use Rattle.page_rules.specs.Views.{attribute_of}
 use Rattle.page_rules.proofs.right.attributes_are_right.Given as goal
 
 abbrev pub invariant-loop-attribute : goal.invariant-loop-attribute

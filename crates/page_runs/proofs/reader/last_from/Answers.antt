@@ -1,6 +1,6 @@
 use Rattle.std.proofs.Common.{◌≡◌, ℕ, ◌≤◌, List, sym, ◌∙◌, ap, subst, arith}
 use Rattle.echoing_machine.specs.Runs.{AreAlike}
-use Rattle.merged_reader.specs.ReaderStates.{tokens_at}
+use Rattle.page_reader.specs.States.{tokens_at}
 use Rattle.merged_reader.specs.States.{merged_next}
 use Rattle.page_reader.specs.declared.state.ReaderState.TheVariants.{Reading}
 use Rattle.page_runs.specs.Runs.{last_behind}

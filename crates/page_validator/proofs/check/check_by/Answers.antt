@@ -3,7 +3,7 @@ use Rattle.std.specs.Prelude.{Option}
 use Rattle.content_automata.specs.Decides.{Decides}
 use Rattle.dtd_model.specs.TableOf.{table_of}
 use Rattle.dtd_model.specs.declared.definition.Dtd.{Dtd}
-use Rattle.page_laws.specs.Laws.{GoodPieces}
+use Rattle.page_model.specs.Laws.{GoodPieces}
 use Rattle.page_validator.specs.Walks.{IsDecoded, IsWalk}
 use Rattle.page_validator.proofs.Steps.{valid_if, not_valid, not_utf8}
 use Rattle.page_validator.proofs.check.check_by.Goals as goal

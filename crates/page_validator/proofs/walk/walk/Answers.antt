@@ -2,8 +2,8 @@ use Rattle.std.proofs.Common.{◌<◌, ℕ, List, sym, ◌∙◌, subst, arith, 
 use Rattle.std.specs.Borrow.{Bor}
 use Rattle.std.specs.Prelude.{Option}
 use Rattle.dtd_model.specs.TableOf.{table_of}
-use Rattle.page_cutting.specs.Views.{place_of}
-use Rattle.page_cutting.specs.declared.parts.Place.{Place}
+use Rattle.page_rules.specs.Views.{place_of}
+use Rattle.page_rules.specs.declared.parts.Place.{Place}
 use Rattle.page_machine.specs.Machine.{State}
 use Rattle.page_machine.specs.Views.{progress_of}
 use Rattle.page_model.specs.Places.{at_beginning}

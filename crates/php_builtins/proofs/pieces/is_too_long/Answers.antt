@@ -1,6 +1,6 @@
 use Rattle.std.proofs.Common.{◌≡◌, ◌<◌, ◌+◌, List, ℕ, Some, None, length, drop, sym, ◌∙◌, ap, arith}
 use Rattle.string_functions.specs.Pieces.{replaced_text}
-use Rattle.text_search.specs.Place.{first_place}
+use Rattle.string_functions.specs.Place.{first_place}
 use Rattle.php_builtins.proofs.PieceLemmas.{replaced_length, replaced_nowhere, over, same_test}
 use Rattle.php_builtins.proofs.pieces.is_too_long.Goals as goal
 

@@ -1,7 +1,7 @@
 use Rattle.std.proofs.Common.{rules}
 use Rattle.php_syntax.specs.Tokens.{plain_kind}
 use Rattle.script_grammar.specs.Terminals.{terminal_of}
-use Rattle.stmt_parser.specs.Heads.{terminals_of}
+use Rattle.expr_parser.specs.Heads.{terminals_of}
 use Rattle.php_parser.proofs.Open.{open_too_many}
 use Rattle.php_parser.proofs.brackets.too_many.Goals as goal
 

@@ -1,5 +1,5 @@
 use Rattle.std.proofs.Common.{length}
-use Rattle.stmt_parser.specs.Heads.{terminals_of}
+use Rattle.expr_parser.specs.Heads.{terminals_of}
 use Rattle.php_parser.proofs.Open.{OpenSoFar}
 use Rattle.php_parser.proofs.brackets.too_many.Given as goal
 

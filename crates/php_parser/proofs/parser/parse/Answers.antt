@@ -1,5 +1,5 @@
 use mathlib.Core.Logic.{inl}
-use Rattle.stmt_parser.specs.Heads.{terminals_of}
+use Rattle.expr_parser.specs.Heads.{terminals_of}
 use Rattle.php_syntax.specs.Tokens.{plain_tokens}
 use Rattle.php_syntax.specs.Trees.{plain_file}
 use Rattle.php_parser.proofs.Spelled.{tree_read, only_tree_read, tall_read, none_read, not_too_deep, file_is, tall_is, stuck_is}

@@ -2,7 +2,7 @@ use Rattle.std.proofs.Common.{◌≡◌, ◌++◌, max, ◌+◌, ◌*◌, List, 
 use Rattle.php_syntax.specs.declared.tree.Expr.{size-Expr}
 use Rattle.php_syntax.specs.declared.tree.Target.{size-Target}
 use Rattle.php_syntax.specs.Trees.{exprs_of, items_of, path_of}
-use Rattle.php_writer.specs.Marks.{Mark, all_written}
+use Rattle.spellable.specs.Marks.{Mark, all_written}
 use Rattle.php_writer.specs.Written.{behind_marks, more_items_marks, path_marks}
 use Rattle.php_writer.proofs.expressions.+expressions.Given as goal
 

@@ -1,6 +1,6 @@
 use Rattle.std.proofs.Common.{◌≡◌, ◌++◌, List, drop}
 use Rattle.php_syntax.specs.Trees.{functions_of_list}
-use Rattle.php_writer.specs.Marks.{Mark, all_written}
+use Rattle.spellable.specs.Marks.{Mark, all_written}
 use Rattle.php_writer.specs.Written.{functions_marks}
 use Rattle.php_writer.proofs.files.functions.Given as goal
 

@@ -1,5 +1,5 @@
 use Rattle.std.proofs.Common.{sym}
-use Rattle.php_writer.proofs.ShapeLemmas.{utf8_so, utf8_not}
+use Rattle.spellable.proofs.ShapeLemmas.{utf8_so, utf8_not}
 use Rattle.php_writer.proofs.statement_tests.is_utf8.Goals as goal
 
 pub returns-in-Ok : goal.returns-in-Ok

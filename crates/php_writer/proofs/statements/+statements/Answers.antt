@@ -5,7 +5,7 @@ use Rattle.php_syntax.specs.declared.tree.Expr.{Expr}
 use Rattle.php_syntax.specs.declared.tree.Stmt.{Stmt}
 use Rattle.php_syntax.specs.Trees.{plain_stmt, stmts_of, arms_of}
 use Rattle.php_syntax.specs.Height.{stmt_height, stmts_height, arms_height}
-use Rattle.php_writer.proofs.StmtHeights.{if_height, while_height, do_height, for_height, each_height, member_height, arm_height, first_height}
+use Rattle.spellable.proofs.StmtHeights.{if_height, while_height, do_height, for_height, each_height, member_height, arm_height, first_height}
 use Rattle.php_writer.proofs.statements.+statements.Goals as goal
 
 pub statements-statement-requires : goal.statements-statement-requires

@@ -2,7 +2,7 @@ use Rattle.std.proofs.Common.{◌≡◌, ◌++◌, ◌+◌, ◌*◌, List, drop}
 use Rattle.script_grammar.specs.declared.keyword.Keyword.TheVariants as words
 use Rattle.php_syntax.specs.Trees.{plain_stmt, stmts_of, arms_of}
 use Rattle.php_syntax.specs.Height.{stmt_height, stmts_height, arms_height}
-use Rattle.php_writer.specs.Marks.{Mark, all_written}
+use Rattle.spellable.specs.Marks.{Mark, all_written}
 use Rattle.php_writer.specs.Written.{stmts_marks, arms_marks}
 use Rattle.php_writer.proofs.statements.+statements.Given as goal
 

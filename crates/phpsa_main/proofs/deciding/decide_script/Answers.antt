@@ -1,6 +1,6 @@
 use Rattle.std.proofs.Common.{◌∙◌}
 use Rattle.dtd_model.specs.TableOf.{table_of}
-use Rattle.php_program.specs.View.{program_of}
+use Rattle.program_rules.specs.View.{program_of}
 use Rattle.program_files.specs.Source.{source_call}
 use Rattle.document_types.specs.DocumentTypes.{type_of}
 use Rattle.phpsa_tasks.proofs.Defining.{has_table, definition_cause}

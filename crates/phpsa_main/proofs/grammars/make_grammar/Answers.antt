@@ -1,4 +1,4 @@
-use Rattle.php_program.specs.View.{program_of}
+use Rattle.program_rules.specs.View.{program_of}
 use Rattle.program_files.specs.Source.{source_call}
 use Rattle.phpsa_main.proofs.LoadedParts.{unloaded_grammar, grammar_does}
 use Rattle.phpsa_main.proofs.grammars.make_grammar.Goals as goal

@@ -1,7 +1,7 @@
 use Rattle.std.proofs.Common.{ℕ, subst}
 use Rattle.program_files.specs.Source.{source_call}
 use Rattle.document_types.specs.DocumentTypes.{strict_type}
-use Rattle.page_goals.specs.declared.goal.Goal.TheVariants.{Valid}
+use Rattle.page_decision.specs.declared.goal.Goal.TheVariants.{Valid}
 use Rattle.phpsa_tasks.specs.Subjects.{made_name, only_script}
 use Rattle.phpsa_main.specs.Decided.{Decides}
 use Rattle.phpsa_main.proofs.made.decided.Goals as goal

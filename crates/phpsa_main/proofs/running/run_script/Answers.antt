@@ -1,5 +1,5 @@
 use Rattle.std.specs.Prelude.{option_map, Ok, Err}
-use Rattle.php_program.specs.View.{program_of}
+use Rattle.program_rules.specs.View.{program_of}
 use Rattle.program_files.specs.Source.{source_call}
 use Rattle.phpsa_main.proofs.LoadedParts.{unloaded_run, moved, lacks_request, run_does, wanting_run}
 use Rattle.phpsa_main.proofs.running.run_script.Goals as goal

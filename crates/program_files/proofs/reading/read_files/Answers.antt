@@ -1,6 +1,6 @@
 use Rattle.std.proofs.Common.{◌∙◌, ◌<◌, ◌+◌, ℕ, zero, List, [], ◌∷◌, Option, length, refl, sym, subst, arith}
 use Rattle.std.specs.List.{Contains}
-use Rattle.php_writer.proofs.ShapeLemmas.{utf8_so}
+use Rattle.spellable.proofs.ShapeLemmas.{utf8_so}
 use Rattle.program_rules.specs.declared.limits.TheConstants.{PLACE_LIMIT}
 use Rattle.program_rules.specs.Programs.{ReadFile}
 use Rattle.program_files.specs.Order.{Reached}

@@ -1,5 +1,5 @@
 use Rattle.std.proofs.Common.{◌≡◌, ◌∙◌, List, ℕ, Err, sym, subst, rules}
-use Rattle.php_program.specs.View.{program_of}
+use Rattle.program_rules.specs.View.{program_of}
 use Rattle.program_files.specs.View.{files_of}
 use Rattle.program_loader.specs.Making.{AreReady, Make, IsMakeCause}
 use Rattle.program_loader.proofs.LoadLemmas.{failed}

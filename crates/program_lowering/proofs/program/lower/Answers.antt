@@ -1,5 +1,5 @@
 use Rattle.std.proofs.Common.{sym, subst}
-use Rattle.php_program.specs.View.{program_of, lawful_program}
+use Rattle.program_rules.specs.View.{program_of, lawful_program}
 use Rattle.flow_code.specs.Points.{PlainFlow}
 use Rattle.flow_code.specs.Lawful.{IsFlow}
 use Rattle.flow_code.specs.Runs.{FlatRun}

@@ -5,7 +5,7 @@ use Rattle.php_syntax.specs.declared.tree.Expr.{Expr}
 use Rattle.php_syntax.specs.declared.tree.Stmt.{Stmt}
 use Rattle.php_syntax.specs.Trees.{plain_expr, plain_stmt, stmts_of, arms_of, exprs_of, maybe_of}
 use Rattle.php_syntax.specs.Height.{stmt_height, stmts_height, arms_height}
-use Rattle.php_writer.proofs.StmtHeights.{if_height, while_height, do_height, for_height, each_height, member_height, arm_height}
+use Rattle.spellable.proofs.StmtHeights.{if_height, while_height, do_height, for_height, each_height, member_height, arm_height}
 use Rattle.program_files.specs.View.{files_of}
 use Rattle.program_sizes.specs.Sizes as sizes
 use Rattle.program_sizes.proofs.LoopLemmas.{begin_at, go_on, finish, stmts_left, no_stmts_left, arms_left, no_arms_left}

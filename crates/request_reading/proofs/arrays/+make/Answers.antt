@@ -1,5 +1,4 @@
-use Rattle.std.proofs.Common.{◌≡◌, ◌≤◌, ◌<◌, ◌^◌, length, get_or, true, sym, subst, arith, rules}
-use Rattle.std.proofs.Common.{w64, to_z}
+use Rattle.std.proofs.Common.{◌≡◌, ◌≤◌, ◌<◌, ◌^◌, length, get_or, true, sym, subst, arith, rules, w64, to_z}
 use Rattle.std.proofs.lemmas.Bool.{lt-ltb}
 use Rattle.std.proofs.lemmas.Int.{to_z_pos}
 use Rattle.serde_json.specs.declared.value.Value.{the_lemmas}

@@ -1,7 +1,6 @@
-use Rattle.std.proofs.Common.{subst}
+use Rattle.std.proofs.Common.{subst, ◌↔◌}
 use Rattle.request_reading.proofs.TextLemmas.{text_test}
 use Rattle.xml_text.specs.Texts.{IsText}
-use Rattle.std.proofs.Common.{◌↔◌}
 use Rattle.std.specs.Prelude.{IsTrue}
 use Rattle.request_reading.proofs.straying.is_text.Goals as goal
 

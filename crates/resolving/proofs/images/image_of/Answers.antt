@@ -5,10 +5,10 @@ use Rattle.fst_core.specs.declared.table.Table.{Table}
 use Rattle.op_system.specs.Rel.{Rel}
 use Rattle.op_system.specs.Size.{size_of}
 use Rattle.string_ops.specs.Listed.{IsMachine}
-use Rattle.image_meaning.specs.Weight.{IsSmall}
+use Rattle.fst_core.specs.Weight.{IsSmall}
 use Rattle.grammar_chart.specs.Kept.{AreProductionsOf}
 use Rattle.grammar_image.specs.Refusals.{IsCause}
-use Rattle.resolve_laws.specs.Drafts.{IsImage}
+use Rattle.resolving.specs.Drafts.{IsImage}
 use Rattle.resolving.proofs.RuleLemmas.{image_cause}
 use Rattle.resolving.proofs.images.image_of.Goals as goal
 

@@ -1,7 +1,7 @@
 use Rattle.std.proofs.Common.{◌≡◌, ◌+◌, List, Some, slice_get, length, refl, sym, subst, arith}
 use Rattle.std.proofs.lemmas.Option.{slice_get_read, slice_get-get_or}
 use Rattle.op_system.specs.declared.system.OpRule.{OpRule}
-use Rattle.op_cycles.proofs.EdgeLemmas.{rule_left_below, contained}
+use Rattle.op_bytes.proofs.EdgeLemmas.{rule_left_below, contained}
 use Rattle.resolving.specs.declared.order.Ranked.{Ranked}
 use Rattle.resolving.specs.Order.{AreRankedBelow}
 use Rattle.resolving.proofs.OrderLemmas.{ranked_more}

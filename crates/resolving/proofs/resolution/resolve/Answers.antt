@@ -1,5 +1,5 @@
 use Rattle.std.proofs.Common.{length, refl, arith}
-use Rattle.resolve_laws.proofs.StepLemmas.{all_exact}
+use Rattle.resolving.proofs.StepLemmas.{all_exact}
 use Rattle.resolving.proofs.DraftLemmas.{draft_of_system, system_drafted}
 use Rattle.resolving.proofs.OrderLemmas.{resolved_of}
 use Rattle.resolving.proofs.resolution.resolve.Goals as goal

@@ -1,7 +1,7 @@
 use Rattle.std.proofs.Common.{length, refl, true≢false, sym, ◌∙◌, arith}
 use Rattle.std.proofs.lemmas.Option.{slice_get_read}
-use Rattle.op_cycles.proofs.EdgeLemmas.{rule_left_below}
-use Rattle.op_cycles.proofs.CycleLemmas.{any_in_cycle}
+use Rattle.op_bytes.proofs.EdgeLemmas.{rule_left_below}
+use Rattle.op_bytes.proofs.CycleLemmas.{any_in_cycle}
 use Rattle.resolving.proofs.RuleLemmas.{any_rule, image_rule, cause_of}
 use Rattle.resolving.proofs.rules.add_rule.Goals as goal
 

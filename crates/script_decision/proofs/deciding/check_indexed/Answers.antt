@@ -1,5 +1,5 @@
 use Rattle.dtd_model.specs.TableOf.{table_of}
-use Rattle.php_program.specs.View.{program_of}
+use Rattle.program_rules.specs.View.{program_of}
 use Rattle.script_decision.proofs.ReaderLemmas.{result_of_reader}
 use Rattle.script_decision.proofs.deciding.check_indexed.Goals as goal
 

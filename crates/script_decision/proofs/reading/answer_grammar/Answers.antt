@@ -1,5 +1,5 @@
 use Rattle.dtd_model.specs.TableOf.{table_of}
-use Rattle.php_program.specs.View.{program_of, lawful_program}
+use Rattle.program_rules.specs.View.{program_of, lawful_program}
 use Rattle.echoing_machine.specs.Echoes.{EchoStep, EchoEnd}
 use Rattle.script_decision.proofs.SaysLemmas.{result_says}
 use Rattle.script_decision.proofs.reading.answer_grammar.Goals as goal

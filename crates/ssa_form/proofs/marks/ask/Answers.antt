@@ -1,5 +1,5 @@
 use Rattle.std.proofs.Common.{ℕ, inl, inr, sym, subst, ap, ◌∙◌}
-use Rattle.slot_versions.specs.Versions.{join_at, IsKept}
+use Rattle.loose_sets.specs.Versions.{join_at, IsKept}
 use Rattle.ssa_form.specs.declared.version.Version.{Version}
 use Rattle.ssa_form.specs.Views.{version_seen}
 use Rattle.ssa_form.specs.Marks.{asked_by}

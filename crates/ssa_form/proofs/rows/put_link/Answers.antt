@@ -3,7 +3,7 @@ use Rattle.std.specs.Option.{option_map}
 use Rattle.std.proofs.lemmas.Option.{slice_get-map}
 use Rattle.flow_code.specs.View.{plain_flow_function}
 use Rattle.flow_graph.proofs.HeadLemmas.{looked}
-use Rattle.slot_versions.specs.Versions.{PlainVersion}
+use Rattle.loose_sets.specs.Versions.{PlainVersion}
 use Rattle.ssa_form.specs.Views.{versions_seen}
 use Rattle.ssa_form.specs.Behind.{behind_rows}
 use Rattle.ssa_form.proofs.RowLemmas.{edge_link, edge_none, entry_link, entry_none, pushed, as_it_was, looked_past}

@@ -2,7 +2,7 @@ use Rattle.std.proofs.Common.{◌≡◌, ◌∙◌, ◌++◌, List, ap, map, fla
 use Rattle.indexmap.proofs.MapLemmas.{OnOk-map}
 use Rattle.flow_code.specs.View.{plain_flow_function}
 use Rattle.flow_graph.proofs.HeadLemmas.{looked}
-use Rattle.slot_versions.specs.Versions.{PlainVersion}
+use Rattle.loose_sets.specs.Versions.{PlainVersion}
 use Rattle.ssa_form.specs.Views.{versions_seen}
 use Rattle.ssa_form.specs.Behind.{behind_rows}
 use Rattle.ssa_form.specs.Rows.{link_at}

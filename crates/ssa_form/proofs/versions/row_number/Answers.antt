@@ -1,4 +1,4 @@
-use Rattle.function_pairs.proofs.FoundLemmas.{numbered}
+use Rattle.flow_graph.proofs.FoundLemmas.{numbered}
 use Rattle.ssa_form.proofs.versions.row_number.Goals as goal
 
 pub returns-clause-number : goal.returns-clause-number

@@ -3,7 +3,7 @@ use Rattle.flow_code.specs.Points.{PlainFlowFunction}
 use Rattle.std.proofs.lemmas.List.{length-map}
 use Rattle.flow_graph.specs.Steps.{step_seen, steps_seen}
 use Rattle.ssa_form.specs.Marks.{AreMarked}
-use Rattle.slot_versions.specs.Versions.{PlainVersion}
+use Rattle.loose_sets.specs.Versions.{PlainVersion}
 use Rattle.ssa_form.specs.Behind.{row_before, found_behind}
 use Rattle.ssa_form.specs.JoinRows.{rows_in}
 use Rattle.ssa_form.specs.Joins.{AreRows}

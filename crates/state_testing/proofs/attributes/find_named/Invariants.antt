@@ -1,6 +1,6 @@
 use Rattle.std.proofs.Common.{◌≡◌, drop, map}
 use Rattle.dtd_model.specs.Table.{declared_of}
-use Rattle.page_fronts.specs.Fronts.{find_declared}
+use Rattle.page_model.specs.Fronts.{find_declared}
 use Rattle.state_testing.proofs.attributes.find_named.Given as goal
 
 abbrev pub invariant-loop-rule : goal.invariant-loop-rule

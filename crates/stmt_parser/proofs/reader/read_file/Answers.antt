@@ -5,7 +5,7 @@ use Rattle.stmt_machine.specs.declared.frame.Focus.TheVariants as focus
 use Rattle.stmt_machine.specs.Machine.{move}
 use Rattle.stmt_machine.specs.Made.{Made}
 use Rattle.stmt_machine.specs.Reading.{weight, makes_on}
-use Rattle.stmt_maker.specs.Views.{made_of}
+use Rattle.stmt_builder.specs.Views.{made_of}
 use Rattle.stmt_parser.specs.Readings.{IsReading}
 use Rattle.stmt_parser.proofs.ReaderLemmas.{goes_to, lighter_there, ends_so, stops_so}
 use Rattle.stmt_parser.proofs.reader.read_file.Goals as goal

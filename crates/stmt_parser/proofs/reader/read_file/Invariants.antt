@@ -1,6 +1,6 @@
 use Rattle.std.proofs.Common.{◌≡◌}
 use Rattle.expr_parser.specs.Heads.{terminals_of}
-use Rattle.stmt_maker.specs.Views.{made_of}
+use Rattle.stmt_builder.specs.Views.{made_of}
 use Rattle.stmt_machine.specs.Reading.{weight, makes_on, makes_file}
 use Rattle.stmt_parser.proofs.reader.read_file.Given as goal
 

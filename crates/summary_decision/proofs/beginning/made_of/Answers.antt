@@ -1,8 +1,8 @@
 use Rattle.std.proofs.Common.{Option, sym, subst}
 use Rattle.cfg_grammar.specs.declared.production.Right.{Right}
 use Rattle.derivations.specs.declared.node.Parts.TheVariants as parts
-use Rattle.summary_fixpoint.specs.declared.letters.Piece.{Piece}
-use Rattle.summary_fixpoint.specs.Joints.{IsLetterOf}
+use Rattle.summary_decision.specs.declared.letters.Piece.{Piece}
+use Rattle.summary_decision.specs.Joints.{IsLetterOf}
 use Rattle.summary_decision.specs.Beginning.{AreMadeOf}
 use Rattle.summary_decision.proofs.BeginLemmas.{made_one, made_two}
 use Rattle.summary_decision.proofs.beginning.made_of.Goals as goal

@@ -1,5 +1,5 @@
 use Rattle.std.proofs.Common.{◌≡◌, ◌∙◌, ℕ, Some, slice_get, subst, arith}
-use Rattle.summary_fixpoint.specs.Tables.{known}
+use Rattle.summary_decision.specs.Tables.{known}
 use Rattle.summary_decision.proofs.TakeLemmas.{here_is, pair_below, count_more, chains_more, takes_all}
 use Rattle.summary_decision.proofs.taking.take.Goals as goal
 

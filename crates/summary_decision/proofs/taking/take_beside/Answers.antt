@@ -1,7 +1,7 @@
 use Rattle.std.proofs.Common.{length, subst, sym}
 use Rattle.cfg_grammar.specs.declared.symbol.Symbol.{Symbol}
 use Rattle.std.specs.Prelude.{OnOk}
-use Rattle.summary_fixpoint.specs.Joints.{IsBeside, MeetsSymbol}
+use Rattle.summary_decision.specs.Joints.{IsBeside, MeetsSymbol}
 use Rattle.summary_decision.proofs.TakeLemmas.{at_beside, gives_beside}
 use Rattle.summary_decision.proofs.taking.take_beside.Goals as goal
 

@@ -1,5 +1,5 @@
 use Rattle.std.proofs.Common.{length, sym, arith}
-use Rattle.number_chains.proofs.WalkLemmas.{walk_begun, walk_stands, walk_further, walk_ended, walk_smaller}
+use Rattle.numbered_sets.proofs.WalkLemmas.{walk_begun, walk_stands, walk_further, walk_ended, walk_smaller}
 use Rattle.summary_decision.proofs.TakeLemmas.{gives_none, gives_more, gives_fewer, stands_at, taken_on}
 use Rattle.summary_decision.proofs.taking.take_side.Goals as goal
 

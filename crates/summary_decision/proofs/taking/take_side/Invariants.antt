@@ -1,6 +1,6 @@
 use Rattle.std.proofs.Common.{◌+◌, length, if◌then◌else◌, nat_lt}
-use Rattle.number_chains.proofs.WalkLemmas.{HasWalked}
-use Rattle.summary_fixpoint.specs.Joints.{taken_count, AreUses, Gives}
+use Rattle.numbered_sets.proofs.WalkLemmas.{HasWalked}
+use Rattle.summary_decision.specs.Joints.{taken_count, AreUses, Gives}
 use Rattle.summary_decision.proofs.taking.take_side.Given as goal
 
 abbrev pub invariant-loop-before : goal.invariant-loop-before

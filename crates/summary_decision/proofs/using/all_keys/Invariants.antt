@@ -1,5 +1,5 @@
 use Rattle.std.proofs.Common.{◌≡◌, ◌++◌, drop, false, get_or, map}
-use Rattle.summary_fixpoint.specs.Joints.{number_by}
+use Rattle.summary_decision.specs.Joints.{number_by}
 use Rattle.summary_decision.specs.Using.{key_of}
 use Rattle.summary_decision.proofs.using.all_keys.Given as goal
 

@@ -1,8 +1,8 @@
 use Rattle.std.proofs.Common.{◌≡◌, ◌+◌, ◌<◌, ◌∙◌, ℕ, false, List, get_or, length, map, sym, ap, subst}
 use Rattle.std.specs.List.{All}
 use Rattle.cfg_grammar.specs.declared.production.Production.{Production}
-use Rattle.number_chains.specs.Chains.{AreChains}
-use Rattle.summary_fixpoint.specs.Joints.{number_by}
+use Rattle.numbered_sets.specs.Chains.{AreChains}
+use Rattle.summary_decision.specs.Joints.{number_by}
 use Rattle.summary_decision.specs.Using.{key_of}
 use Rattle.summary_decision.proofs.UsingLemmas.{keys_below, uses_exact}
 use Rattle.summary_decision.proofs.using.uses_on.Goals as goal

@@ -1,6 +1,6 @@
 use Rattle.std.proofs.Common.{◌≡◌, ◌∙◌, ℕ, List, None, Some, map, slice_get, sym, ap, arith}
 use Rattle.std.proofs.lemmas.Option.{slice_get_within}
-use Rattle.number_chains.proofs.ChainLemmas.{chains_fall}
+use Rattle.numbered_sets.proofs.ChainLemmas.{chains_fall}
 use Rattle.useful_nonterminals.specs.declared.rule.Rule.{Rule}
 use Rattle.useful_nonterminals.proofs.DrawLemmas.{work_begins, work_below, work_more, work_done, past}
 use Rattle.useful_nonterminals.proofs.drawing.closure.Goals as goal

@@ -1,5 +1,5 @@
 use Rattle.std.proofs.Common.{◌∙◌, refl, sym}
-use Rattle.number_chains.proofs.WalkLemmas.{walk_begun, walk_further, walk_ended}
+use Rattle.numbered_sets.proofs.WalkLemmas.{walk_begun, walk_further, walk_ended}
 use Rattle.useful_nonterminals.proofs.DrawLemmas.{concludes_same, concludes_more, concludes_fewer}
 use Rattle.useful_nonterminals.proofs.drawing.conclude.Goals as goal
 

@@ -1,6 +1,6 @@
 use Rattle.std.proofs.Common.{◌≡◌, ◌+◌, ℕ, List, length, if◌then◌else◌, nat_lt}
-use Rattle.number_chains.specs.Chains.{AreChains}
-use Rattle.number_chains.proofs.WalkLemmas.{HasWalked}
+use Rattle.numbered_sets.specs.Chains.{AreChains}
+use Rattle.numbered_sets.proofs.WalkLemmas.{HasWalked}
 use Rattle.useful_nonterminals.specs.Work.{IsNoted, Concludes}
 use Rattle.useful_nonterminals.proofs.drawing.conclude.Given as goal
 

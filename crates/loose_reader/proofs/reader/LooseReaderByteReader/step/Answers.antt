@@ -3,7 +3,7 @@ use Rattle.text_base.specs.declared.page_token.PageToken.{PageToken}
 use Rattle.dtd_model.specs.TableOf.{table_of}
 use Rattle.page_model.specs.Places.{Place}
 use Rattle.piece_steps.specs.Readers.{Move, to_state, put_out}
-use Rattle.loose_narrowing.specs.LoosePassing.{narrow_loose_reader}
+use Rattle.loose_reads.specs.LoosePassing.{narrow_loose_reader}
 use Rattle.loose_steps.specs.LooseReading as steps
 use Rattle.loose_reader.specs.States.{coded, next_state, tokens_at}
 use Rattle.loose_reader.specs.declared.state.LooseState.{LooseState}

@@ -1,5 +1,5 @@
 use Rattle.std.proofs.Common.{◌≡◌, ◌++◌, ℕ, List, drop}
-use Rattle.token_spelling.specs.Spelled.{quoted}
+use Rattle.lexical_grammar.specs.Spelled.{quoted}
 use Rattle.php_writer.proofs.marks.Writer.quote.Given as goal
 
 -- what is left to put stands behind what is put

@@ -1,6 +1,5 @@
-use Rattle.std.proofs.Common.{◌∙◌, ◌<◌, ◌≤◌, length, ap, subst}
+use Rattle.std.proofs.Common.{◌∙◌, ◌<◌, ◌≤◌, length, ap, subst, List, get_or}
 use Rattle.php_syntax.specs.declared.tree.FileTree.{FileTree}
-use Rattle.std.proofs.Common.{List, get_or}
 use Rattle.program_files.proofs.Pairs.{tree_at, tree_found, no_tree}
 use Rattle.program_files.proofs.files.ScriptFiles.tree.Goals as goal
 

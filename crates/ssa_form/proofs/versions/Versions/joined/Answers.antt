@@ -1,9 +1,9 @@
 use Rattle.std.proofs.Common.{◌≡◌, ◌↔◌, ◌∙◌, ℕ, List, Option, Some, ap, sym, subst}
 use Rattle.std.specs.Prelude.{Contains}
-use Rattle.slot_versions.specs.Versions.{linked_in}
+use Rattle.loose_sets.specs.Versions.{linked_in}
 use Rattle.ssa_form.specs.declared.version.Version.{Version}
 use Rattle.ssa_form.specs.Views.{versions_seen}
-use Rattle.function_pairs.specs.Found.{number_in}
+use Rattle.flow_graph.specs.Found.{number_in}
 use Rattle.ssa_form.specs.Versions.{asks_of, rows_of, joins_of, row_of}
 use Rattle.ssa_form.proofs.ExactLemmas.{linked_row, none_linked}
 use Rattle.ssa_form.proofs.versions.Versions.joined.Goals as goal

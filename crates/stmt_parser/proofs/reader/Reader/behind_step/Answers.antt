@@ -1,6 +1,6 @@
 use Rattle.std.proofs.Common.{ap, ◌∙◌, true}
 use Rattle.expr_parser.specs.Heads.{terminals_of}
-use Rattle.stmt_maker.specs.Views.{made_of}
+use Rattle.stmt_builder.specs.Views.{made_of}
 use Rattle.stmt_machine.specs.Actions.{if_action, loop_action}
 use Rattle.stmt_machine.specs.Machine.{behind_move}
 use Rattle.stmt_parser.specs.Outcomes.{acted}

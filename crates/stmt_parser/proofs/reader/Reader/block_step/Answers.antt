@@ -6,7 +6,7 @@ use Rattle.stmt_parser.proofs.ActedLemmas.{acted_none}
 use Rattle.stmt_parser.proofs.OtherLemmas.{block_none}
 use Rattle.stmt_machine.specs.declared.frame.Focus.TheVariants as focus
 use Rattle.stmt_parser.proofs.ReadLemmas.{on_ok}
-use Rattle.stmt_maker.specs.Views.{made_of}
+use Rattle.stmt_builder.specs.Views.{made_of}
 use Rattle.stmt_parser.proofs.reader.Reader.block_step.Goals as goal
 
 pub returns-in-Some : goal.returns-in-Some

@@ -1,6 +1,6 @@
 use Rattle.std.proofs.Common.{◌∙◌}
 use Rattle.expr_parser.specs.Heads.{terminals_of}
-use Rattle.stmt_maker.specs.Views.{made_of}
+use Rattle.stmt_builder.specs.Views.{made_of}
 use Rattle.stmt_machine.specs.Actions.{break_action}
 use Rattle.stmt_parser.proofs.ActedLemmas.{acted_jump}
 use Rattle.stmt_parser.proofs.reader.Reader.break_step.Goals as goal

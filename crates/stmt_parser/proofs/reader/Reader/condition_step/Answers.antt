@@ -1,6 +1,6 @@
 use Rattle.std.proofs.Common.{ap, ◌∙◌, false, true}
 use Rattle.expr_parser.specs.Heads.{terminals_of}
-use Rattle.stmt_maker.specs.Views.{made_of}
+use Rattle.stmt_builder.specs.Views.{made_of}
 use Rattle.stmt_machine.specs.Machine.{statement_at, condition_move}
 use Rattle.stmt_parser.specs.Nexts.{for_condition_next}
 use Rattle.stmt_parser.specs.Outcomes.{acted}

@@ -1,7 +1,7 @@
 use Rattle.std.proofs.Common.{[], ◌∷◌, ap, sym, ◌∙◌}
 use Rattle.php_syntax.specs.Trees.{some_expr, plain_expr}
 use Rattle.expr_parser.specs.Heads.{terminals_of}
-use Rattle.stmt_maker.specs.Views.{made_of}
+use Rattle.stmt_builder.specs.Views.{made_of}
 use Rattle.stmt_machine.specs.Actions.{parameter_action}
 use Rattle.stmt_machine.specs.Machine.{moves}
 use Rattle.stmt_parser.specs.Nexts.{default_next}

@@ -1,6 +1,6 @@
 use Rattle.std.proofs.Common.{◌∙◌}
 use Rattle.expr_parser.specs.Heads.{terminals_of}
-use Rattle.stmt_maker.specs.Views.{made_of}
+use Rattle.stmt_builder.specs.Views.{made_of}
 use Rattle.stmt_machine.specs.Actions.{do_action}
 use Rattle.stmt_machine.specs.Machine.{condition_at, jump_move}
 use Rattle.stmt_parser.specs.Outcomes.{acted}

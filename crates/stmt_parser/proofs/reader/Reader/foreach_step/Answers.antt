@@ -1,7 +1,7 @@
 use Rattle.std.proofs.Common.{ap, ◌∙◌}
 use Rattle.expr_machine.specs.Reading.{expr_at}
 use Rattle.expr_parser.specs.Heads.{terminals_of}
-use Rattle.stmt_maker.specs.Views.{made_of}
+use Rattle.stmt_builder.specs.Views.{made_of}
 use Rattle.stmt_machine.specs.Machine.{foreach_begin_move, behind_paren}
 use Rattle.stmt_parser.specs.Nexts.{each_next}
 use Rattle.stmt_parser.specs.Outcomes.{acted}

@@ -1,7 +1,7 @@
 use Rattle.std.proofs.Common.{[], ◌∷◌, ap, ◌∙◌, sym}
 use Rattle.script_grammar.specs.Terminals.{name_terminal}
 use Rattle.expr_parser.specs.Heads.{terminals_of}
-use Rattle.stmt_maker.specs.Views.{made_of}
+use Rattle.stmt_builder.specs.Views.{made_of}
 use Rattle.stmt_machine.specs.Actions.{function_action}
 use Rattle.stmt_machine.specs.Machine.{function_move}
 use Rattle.stmt_parser.specs.Outcomes.{acted, gone}

@@ -1,7 +1,7 @@
 use Rattle.std.proofs.Common.{◌∷◌, ap, ◌∙◌}
 use Rattle.script_grammar.specs.Terminals.{text_terminal}
 use Rattle.expr_parser.specs.Heads.{terminals_of}
-use Rattle.stmt_maker.specs.Views.{made_of}
+use Rattle.stmt_builder.specs.Views.{made_of}
 use Rattle.stmt_machine.specs.Actions.{include_action}
 use Rattle.stmt_parser.specs.Nexts.{included_next}
 use Rattle.stmt_parser.specs.Outcomes.{acted}

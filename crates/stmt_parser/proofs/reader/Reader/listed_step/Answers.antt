@@ -1,7 +1,7 @@
 use Rattle.std.proofs.Common.{◌∙◌}
 use Rattle.expr_machine.specs.Reading.{expr_at}
 use Rattle.expr_parser.specs.Heads.{terminals_of}
-use Rattle.stmt_maker.specs.Views.{made_of}
+use Rattle.stmt_builder.specs.Views.{made_of}
 use Rattle.stmt_parser.specs.Nexts.{listed_next}
 use Rattle.stmt_parser.specs.Outcomes.{acted}
 use Rattle.stmt_parser.proofs.ActedLemmas.{acted_none}

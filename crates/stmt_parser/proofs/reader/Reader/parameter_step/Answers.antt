@@ -1,7 +1,7 @@
 use Rattle.std.proofs.Common.{◌∷◌, ap, ◌∙◌}
 use Rattle.script_grammar.specs.Terminals.{variable_terminal}
 use Rattle.expr_parser.specs.Heads.{terminals_of}
-use Rattle.stmt_maker.specs.Views.{made_of}
+use Rattle.stmt_builder.specs.Views.{made_of}
 use Rattle.stmt_machine.specs.Machine.{parameter_move}
 use Rattle.stmt_parser.specs.Outcomes.{acted}
 use Rattle.stmt_parser.proofs.ActedLemmas.{acted_stuck}

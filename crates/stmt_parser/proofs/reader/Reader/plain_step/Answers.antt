@@ -1,7 +1,7 @@
 use Rattle.std.proofs.Common.{◌∙◌, arith}
 use Rattle.php_syntax.specs.Trees.{no_expr}
 use Rattle.expr_parser.specs.Heads.{terminals_of}
-use Rattle.stmt_maker.specs.Views.{made_of}
+use Rattle.stmt_builder.specs.Views.{made_of}
 use Rattle.stmt_machine.specs.Actions.{parameter_action}
 use Rattle.stmt_parser.proofs.ActedLemmas.{acted_does}
 use Rattle.stmt_parser.proofs.LiteralLemmas.{none_height}

@@ -1,7 +1,7 @@
 use Rattle.std.proofs.Common.{◌∙◌}
 use Rattle.expr_machine.specs.Reading.{expr_at}
 use Rattle.expr_parser.specs.Heads.{terminals_of}
-use Rattle.stmt_maker.specs.Views.{made_of}
+use Rattle.stmt_builder.specs.Views.{made_of}
 use Rattle.stmt_parser.specs.Ends.{behind_end}
 use Rattle.stmt_parser.proofs.ActedLemmas.{on_end, ended_reads}
 use Rattle.stmt_parser.proofs.ReadLemmas.{read_none, end_read}

@@ -1,6 +1,6 @@
 use Rattle.std.proofs.Common.{ap, sym, ◌∙◌}
 use Rattle.expr_parser.specs.Heads.{terminals_of}
-use Rattle.stmt_maker.specs.Views.{made_of}
+use Rattle.stmt_builder.specs.Views.{made_of}
 use Rattle.stmt_machine.specs.Actions.{run_action}
 use Rattle.stmt_machine.specs.Machine.{statement_at, value_move, sign_move}
 use Rattle.stmt_parser.specs.Outcomes.{acted}

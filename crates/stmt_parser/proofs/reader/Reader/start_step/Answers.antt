@@ -1,6 +1,6 @@
 use Rattle.std.proofs.Common.{ap, ◌∙◌}
 use Rattle.expr_parser.specs.Heads.{terminals_of}
-use Rattle.stmt_maker.specs.Views.{made_of}
+use Rattle.stmt_builder.specs.Views.{made_of}
 use Rattle.stmt_parser.specs.Outcomes.{acted}
 use Rattle.stmt_parser.proofs.ActedLemmas.{acted_none}
 use Rattle.stmt_parser.proofs.ReadLemmas.{on_ok}

@@ -1,4 +1,0 @@
-pub mod ReplaceLemmas
-pub mod FillLemmas
-pub mod BlockLemmas
-pub mod LoopLemmas

@@ -1,5 +1,0 @@
-use Rattle.block_pieces.proofs.BlockLemmas.{drafts_stop}
-use Rattle.block_pieces.proofs.exits.put_break.Goals as goal
-
-pub returns : goal.returns
-returns c = drafts_stop c.in_ok-point.ensures c.in_ok-push.ensures.items

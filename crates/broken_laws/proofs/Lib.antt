@@ -1,6 +1,0 @@
-mod Characters
-mod Passing
-mod Loose
-mod Tags
-mod Pieces
-mod Found

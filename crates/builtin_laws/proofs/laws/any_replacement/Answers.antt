@@ -1,5 +1,0 @@
-use Rattle.builtin_laws.proofs.LawLemmas.{any_replaced}
-use Rattle.builtin_laws.proofs.laws.any_replacement.Goals as goal
-
-pub returns : goal.returns
-returns c a b r with t out hb hr e byte has = any_replaced a b r with t out hb hr e byte has

@@ -1,9 +1,0 @@
-use Rattle.std.proofs.Common.{[]}
-use Rattle.builtin_laws.proofs.LawLemmas.{literal_replaced}
-use Rattle.builtin_laws.proofs.laws.literal_replacement.Goals as goal
-
-pub returns-clause-replace : goal.returns-clause-replace
-returns-clause-replace c search with a t out h e = literal_replaced search with a t out h e
-
-pub returns-clause-same : goal.returns-clause-same
-returns-clause-same c with a t out h e = literal_replaced [] with a t out h e

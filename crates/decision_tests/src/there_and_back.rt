@@ -1,0 +1,101 @@
+//! A page that is not nested, found over the tokens that the reader of pages puts between its bytes.
+
+ghost use Rattle.dtd_model.specs.TableOf.{table_of};
+ghost use Rattle.page_decision.specs.Readers.{ReadsPages};
+
+use crate::derivations_of::is_by;
+use crate::two_pages::two_pages;
+use cfg_grammar::Grammar;
+use derivations::{Derivation, prepare, yield_into};
+use dtd_index::IndexedDtd;
+use dtd_model::{Dtd, mini};
+use echoing_machine::{Echoing, RunReader};
+use io_edge::MemSink;
+use merged_reader::laws::reads_pages;
+use page_decision::echo_laws::echo_is_page_machine;
+use page_decision::{Goal, decide_pages, sums_of};
+use page_runs::PageRunReader;
+use std::alloc::Global;
+use std::test::Fail;
+use summary_decision::Verdict;
+
+// The derivation of a page that is not nested, by a reader of pages.
+fn not_nested_by<R: RunReader + Drop>(
+    alloc: Global,
+    grammar: &Grammar,
+    dtd: &Dtd,
+    reader: R,
+) -> Option<Derivation>
+    requires { ReadsPages (table_of dtd.now) (R.next reader) (R.puts reader) (R.lasts reader)
+        (R.first reader) }
+{
+    let Ok(sums) = sums_of(alloc, dtd, Goal::Nested) else {
+        return None;
+    };
+    echo_is_page_machine(dtd, &reader);
+    let machine = Echoing { reader };
+    match decide_pages(
+        alloc,
+        grammar,
+        dtd,
+        Goal::Nested,
+        &machine,
+        &sums,
+        100_000,
+        100,
+    ) {
+        Ok(Verdict::No(derivation)) => Some(derivation),
+        _ => None,
+    }
+}
+
+// The same by the reader of a definition.
+fn not_nested(alloc: Global, grammar: &Grammar, indexed: &IndexedDtd<'_>) -> Option<Derivation> {
+    reads_pages(indexed.dtd);
+    let reader = PageRunReader { indexed };
+    not_nested_by(alloc, grammar, indexed.dtd, reader)
+}
+
+// The second end closes no body: the derivation of the no is one of that page by the grammar, which
+// has no tokens.
+#[test]
+fn there_and_back(rt: HostRuntime) -> Result<(), Fail> {
+    let alloc = rt.alloc();
+    let dtd = mini(alloc)?;
+    let indexed = IndexedDtd::new(alloc, &dtd)?;
+    let front = b"<html><body><p>a &lt; b</p>".as_slice();
+    let grammar = two_pages(
+        alloc,
+        front,
+        b"</body></html>".as_slice(),
+        b"</html>".as_slice(),
+    )?
+    .ok_or("no grammar")?;
+    let derivation = not_nested(alloc, &grammar, &indexed).ok_or("no derivation")?;
+    assert!(rt; is_by(&grammar, &derivation));
+    let mut walk = prepare(alloc, &derivation)?;
+    let mut sink = MemSink::new(alloc, None);
+    assert_eq!(rt; yield_into(&mut walk, 100, &mut sink), Ok(()));
+    assert_eq!(rt;
+        sink.written(),
+        b"<html><body><p>a &lt; b</p></html>".as_slice()
+    );
+    Ok(())
+}
+
+// Where both ends are right, there is no such page.
+#[test]
+fn none_is_found(rt: HostRuntime) -> Result<(), Fail> {
+    let alloc = rt.alloc();
+    let dtd = mini(alloc)?;
+    let indexed = IndexedDtd::new(alloc, &dtd)?;
+    let grammar = two_pages(
+        alloc,
+        b"<html><body>".as_slice(),
+        b"</body></html>".as_slice(),
+        b"<p></p></body></html>".as_slice(),
+    )?
+    .ok_or("no grammar")?;
+    assert!(rt; not_nested(alloc, &grammar, &indexed).is_none());
+    Ok(())
+}

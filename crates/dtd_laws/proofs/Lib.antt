@@ -1,4 +1,0 @@
-pub mod Entities
-pub mod Holdings
-pub mod Attributes
-pub mod Declarations

@@ -1,0 +1,50 @@
+-- A file spells one table.
+use Rattle.std.proofs.Common.{◌≡◌, ◌∙◌, ℕ, List, [], ◌∷◌, map, refl, sym, ap, subst, inl, inr, arith}
+use Rattle.dtd_model.specs.Table.{Table, Rule}
+use Rattle.dtd_model.specs.declared.dtd.DoctypeRule.{DoctypeRule}
+use Rattle.dtd_texts.specs.Reading.{State, Content, Holds, start}
+use Rattle.dtd_texts.specs.Causes.{asks}
+use Rattle.dtd_texts.specs.Spells.{ReadsAll, Says, DtdSpells}
+use Rattle.dtd_texts.specs.Tables.{Said, rules_of}
+use Rattle.dtd_texts.specs.Went.{leads}
+use Rattle.dtd_reader.proofs.NothingWrong.{cons_first, cons_rest}
+use Rattle.dtd_reader.specs.Certain.{IsToldOf, AreTold}
+use Rattle.dtd_reader.proofs.Told.{AsksFrom, asks_there, TellsFrom, holds_one, reads_one}
+
+asked_for : {content : Content} {name file system : List ℕ} → AreTold content name → Holds content name file → AsksFrom content [] start file system → IsToldOf content system
+asked_for told held (asks_there outer s b n bytes entity meets is shut outside) =
+    told _ (inr (record { file = _; held = held; so = asks entity outer s (record { b = b; n = n; bytes = bytes; meets = meets; is = is }) shut outside }))
+
+pub tells : {content : Content} {name file : List ℕ} → AreTold content name → Holds content name file → TellsFrom content [] start file
+tells told held = record { told = λ system asked. asked_for told held asked }
+
+-- the file holds one text
+pub one_file : {content : Content} {name a b : List ℕ} → AreTold content name → Holds content name a → Holds content name b → a ≡ b
+one_file {content = content} {name = name} {a = a} {b = b} told h k = holds_one content name a b (told name (inl refl)) h k
+
+leads_same : {S : Type 0} {a b : S} → leads a ≡ leads b → a ≡ b
+leads_same e = cc
+
+map_leads : (xs ys : List Said) → map leads xs ≡ map leads ys → xs ≡ ys
+map_leads [] [] e = refl
+map_leads [] (y ∷ ys) e = absurd (grind arith)
+map_leads (x ∷ xs) [] e = absurd (grind arith)
+map_leads (x ∷ xs) (y ∷ ys) e = ap (λ (z : Said). z ∷ xs) (leads_same (cons_first e)) ∙ ap (λ (zs : List Said). y ∷ zs) (map_leads xs ys (cons_rest e))
+
+pub same_table : (t u : Table) → t.elements ≡ u.elements → t.entities ≡ u.entities → t.doctype ≡ u.doctype → t ≡ u
+same_table t u e f g =
+    ap (λ (rs : List Rule). let x : Table = record { elements = rs; entities = t.entities; doctype = t.doctype } in x) e
+    ∙ ap (λ (ns : List (List ℕ)). let x : Table = record { elements = u.elements; entities = ns; doctype = t.doctype } in x) f
+    ∙ ap (λ (d : DoctypeRule). let x : Table = record { elements = u.elements; entities = u.entities; doctype = d } in x) g
+
+same_last : (t u : Table) (a b : State) (xs ys : List Said) → a ≡ b → Says a.written xs → Says b.written ys → t.elements ≡ rules_of xs xs → u.elements ≡ rules_of ys ys → t.entities ≡ a.generals → u.entities ≡ b.generals
+    → t.doctype ≡ u.doctype → t ≡ u
+same_last t u a b xs ys e p q te ue tn un d =
+    let all : Says b.written xs = subst (λ (s : State). Says s.written xs) e p in
+    let same : xs ≡ ys = map_leads xs ys (sym all.each ∙ q.each) in
+    same_table t u (te ∙ ap (λ (zs : List Said). rules_of zs zs) same ∙ sym ue) (tn ∙ ap (λ (s : State). s.generals) e ∙ sym un) d
+
+pub one_table : (content : Content) (name : List ℕ) (t u : Table) → AreTold content name → DtdSpells content name t → DtdSpells content name u → t ≡ u
+one_table content name t u told p q =
+    let other : ReadsAll content q.file p.last = subst (λ f. ReadsAll content f p.last) (one_file told p.held q.held) p.read in
+    same_last t u p.last q.last p.says q.says (reads_one (tells told q.held) other.reads q.read.reads) p.said q.said p.elements q.elements p.entities q.entities (p.doctype ∙ sym q.doctype)

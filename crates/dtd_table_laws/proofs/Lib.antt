@@ -1,4 +1,0 @@
-pub mod NothingWrong
-pub mod Told
-pub mod OneTable
-pub mod NotRefused

@@ -1,3 +1,0 @@
-pub mod Letters
-pub mod Numbers
-pub mod TokenRows

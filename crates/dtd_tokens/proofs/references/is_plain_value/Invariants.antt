@@ -1,9 +1,0 @@
-use Rattle.std.proofs.Common.{◌≡◌, length}
-use Rattle.dtd_texts.specs.Heads.{is_plain_value}
-use Rattle.dtd_tokens.proofs.references.is_plain_value.Given as goal
-
-abbrev pub invariant-loop-first : goal.invariant-loop-first
-invariant-loop-first l = is_plain_value l.rest ≡ is_plain_value l.fn.value
-
-abbrev pub decreases-loop-first : goal.decreases-loop-first
-decreases-loop-first l = length l.rest

@@ -1,4 +1,0 @@
-pub mod CallLemmas
-pub mod Tests
-pub mod RuleLemmas
-pub mod FormLemmas

@@ -1,5 +1,0 @@
-use Rattle.expansion_keeps.proofs.RuleLemmas.{keep_stmts}
-use Rattle.expansion_keeps.proofs.rules_are_kept.Goals as goal
-
-pub returns : goal.returns
-returns c = λ bodies l f ss h. keep_stmts bodies h l f ss

@@ -1,2 +1,0 @@
-pub mod FileCalls
-pub use Rattle.expansion_laws.specs.Within

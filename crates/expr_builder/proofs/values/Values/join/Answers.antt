@@ -1,0 +1,12 @@
+use Rattle.std.proofs.Common.{ap, sym, ◌∙◌}
+use Rattle.std.specs.Prelude.{Some}
+use Rattle.expr_builder.specs.Views.{plain_values}
+use Rattle.expr_machine.specs.Values.{apply_join}
+use Rattle.expr_builder.proofs.CountedLemmas as cl
+use Rattle.expr_builder.proofs.values.Values.join.Goals as goal
+
+pub returns-in-None : goal.returns-in-None
+returns-in-None c = cl.join_by _ _ ∙ ap apply_join (rw c.in-None.is at c.in_ok-take_exprs.ensures)
+
+pub returns-in_ok-push-in-Some : goal.returns-in_ok-push-in-Some
+returns-in_ok-push-in-Some c = cl.join_by _ _ ∙ cl.joined _ _ _ _ _ (rw c.in-Some.is at c.in_ok-take_exprs.ensures) c.join_value.ensures ∙ ap (λ s. Some (plain_values s)) (sym c.in_ok-push-in-Some.ensures)

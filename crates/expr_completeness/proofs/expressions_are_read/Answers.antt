@@ -1,5 +1,0 @@
-use Rattle.expr_completeness.proofs.Enough.{expressions_are_read}
-use Rattle.expr_completeness.proofs.expressions_are_read.Goals as goal
-
-pub returns : goal.returns
-returns c = expressions_are_read

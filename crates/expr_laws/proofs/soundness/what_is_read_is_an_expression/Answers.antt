@@ -1,0 +1,5 @@
+use Rattle.expr_laws.proofs.Soundness.{sound}
+use Rattle.expr_laws.proofs.soundness.what_is_read_is_an_expression.Goals as goal
+
+pub returns : goal.returns
+returns c = sound

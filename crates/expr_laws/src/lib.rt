@@ -1,0 +1,14 @@
+//! Laws: the machine of expr_machine reads exactly the expressions of script_grammar.
+//! Promise: each that nothing goes on with is read by its own actions (`expressions_are_read`),
+//! what is read is one (`what_is_read_is_an_expression`), and the actions make the value of its
+//! tree, or nothing where it breaks a rule (`actions_make_trees`).
+//! Used by: stmt_laws.
+#![tactic(auto)]
+
+mod completeness;
+mod soundness;
+mod trees;
+
+pub use completeness::expressions_are_read;
+pub use soundness::what_is_read_is_an_expression;
+pub use trees::actions_make_trees;

@@ -1,9 +1,0 @@
-pub mod Carry
-pub mod NodeValues
-pub mod Nodes
-pub mod Rows
-pub mod Variables
-pub mod Steps
-pub mod Joined
-pub mod Ends
-pub mod Forms

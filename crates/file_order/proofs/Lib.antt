@@ -1,3 +1,0 @@
-pub mod PlaceLemmas
-pub mod EdgeLemmas
-pub mod OrderLemmas

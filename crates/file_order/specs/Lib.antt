@@ -1,3 +1,0 @@
-pub mod FileOrder
-pub mod FileEdges
-pub use Rattle.expansion_laws.specs.Within

@@ -1,4 +1,0 @@
-mod Entries
-pub mod Exact
-mod Closed
-mod Listing

@@ -1,3 +1,0 @@
-pub mod Asked
-pub mod Made
-pub use Rattle.page_extraction.specs.Rules

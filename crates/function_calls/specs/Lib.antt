@@ -1,2 +1,0 @@
-pub mod Arguments
-pub use Rattle.expansion_keeps.specs.FileCalls

@@ -1,5 +1,0 @@
-use Rattle.function_lowering.proofs.BodyLemmas.{body_is}
-use Rattle.function_lowering.proofs.bodies.lower_body.Goals as goal
-
-pub returns : goal.returns
-returns c = body_is c.args.point c.args.free c.new-points.ensures c.new-exits.ensures.items c.in_ok-lower_stmts.ensures c.place-end.ensures c.fill_exits.ensures c.in_ok-slot.ensures c.in_ok-push.ensures

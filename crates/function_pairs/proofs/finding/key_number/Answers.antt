@@ -1,5 +1,0 @@
-use Rattle.function_pairs.proofs.FoundLemmas.{numbered}
-use Rattle.function_pairs.proofs.finding.key_number.Goals as goal
-
-pub returns : goal.returns
-returns c = numbered c.args.keys.now.keys (c.args.function, c.args.param) c.number_of.result c.count-count.ensures.different c.number_of.ensures.some c.number_of.ensures.none

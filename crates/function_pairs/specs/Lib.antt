@@ -1,4 +1,0 @@
-pub mod Returned
-pub mod Handed
-pub mod Tables
-pub mod Found

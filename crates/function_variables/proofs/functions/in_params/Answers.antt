@@ -1,8 +1,0 @@
-use Rattle.function_variables.proofs.AddedLemmas.{params_end, params_further}
-use Rattle.function_variables.proofs.functions.in_params.Goals as goal
-
-pub loop-param-preserved : goal.loop-param-preserved
-loop-param-preserved c = params_further c.loop-param.names.known.keys c.args.params.now c.loop-param.param-index c.param-item.result c.loop-param-test.true c.param-item.is c.in_ok-note.ensures c.loop-param.invariant
-
-pub returns : goal.returns
-returns c = params_end c.args.params.now c.loop-param.param-index c.loop-param-test.false c.loop-param.invariant

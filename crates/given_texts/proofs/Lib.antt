@@ -1,9 +1,0 @@
-mod Characters
-mod ListLemmas
-mod Means
-mod Sound
-mod Complete
-mod Live
-mod Lists
-mod Closed
-mod Examples

@@ -1,5 +1,0 @@
-use Rattle.std.proofs.Common.{◌≡◌, length, All}
-use Rattle.grammar_decision.proofs.deciding.zeros.Given as goal
-
-abbrev pub invariant-loop : goal.invariant-loop
-invariant-loop l = record { len : length l.counts.items ≡ l.counter; zero : All (λ n. n ≡ 0) l.counts.items }

@@ -1,3 +1,0 @@
-mod Examples
-pub mod Reading
-pub mod Over

@@ -1,6 +1,0 @@
-use Rattle.std.proofs.Common.{◌≡◌, length}
-use Rattle.image_sources.specs.Firsts.{AreFirsts}
-use Rattle.image_sources.proofs.firsts.first_bytes.Given as goal
-
-abbrev pub invariant-loop-node : goal.invariant-loop-node
-invariant-loop-node l = record { firsts : AreFirsts l.nodes l.firsts.items; all : length l.firsts.items ≡ l.node-index }

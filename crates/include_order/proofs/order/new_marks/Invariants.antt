@@ -1,7 +1,0 @@
-use Rattle.std.proofs.Common.{◌≡◌, ◌<◌, ℕ, Some, slice_get, length}
-use Rattle.include_order.specs.declared.order.Mark.TheVariants.{New}
-use Rattle.include_order.proofs.order.new_marks.Given as goal
-
-abbrev pub invariant-loop-edge : goal.invariant-loop-edge
-invariant-loop-edge l = (length l.marks.items ≡ l._edge-index)
-    × ((node : ℕ) → node < length l.marks.items → slice_get l.marks.items node ≡ Some New)

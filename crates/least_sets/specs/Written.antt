@@ -1,0 +1,48 @@
+-- What it means that a system of productions and rules stands for a list of cells.
+use Rattle.std.specs.Prelude.{◌≡◌, ℕ, List, [], ◌∷◌, Some, Contains, slice_get}
+use Rattle.text_base.specs.declared.byte_range.ByteRange.{ByteRange}
+use Rattle.text_base.specs.declared.numbers.Nt as nt
+use Rattle.cfg_grammar.specs.declared.symbol.Symbol.{Symbol}
+use Rattle.cfg_grammar.specs.declared.symbol.Symbol.TheVariants.{Range, Nt}
+use Rattle.cfg_grammar.specs.declared.production.Right.{Right}
+use Rattle.cfg_grammar.specs.declared.production.Right.TheVariants.{Empty, One, Two}
+use Rattle.cfg_grammar.specs.declared.production.Production.{Production}
+use Rattle.op_system.specs.declared.op.Op.{Op}
+use Rattle.op_system.specs.declared.system.OpRule.{OpRule}
+use Rattle.least_sets.specs.Forms.{Form, text_form, same_form, join_form, apply_form}
+use Rattle.least_sets.specs.Parts.{Part, set_part, end_part, range_part, Numbered, Closed, PartRow}
+
+-- a symbol stands for a part: a nonterminal for the part that is listed at its number, and a range for itself, or for a byte of a text
+pub data Denotes (parts : List Part) : Part → Symbol → Type 0 where
+  listed : (p : Part) (n : nt.Nt) → slice_get parts n.0 ≡ Some p → Denotes parts p (Nt n)
+  range : (r : ByteRange) → Denotes parts (range_part r) (Range r)
+  byte : (b : ℕ) (r : ByteRange) → r.lo ≡ b → r.hi ≡ b → Denotes parts (end_part (b ∷ [])) (Range r)
+
+-- a right side stands for a form
+pub data IsRight (parts : List Part) : Form Part → Right → Type 0 where
+  empty : IsRight parts (text_form []) Empty
+  one : (p : Part) (s : Symbol) → Denotes parts p s → IsRight parts (same_form p) (One s)
+  two : (p q : Part) (s t : Symbol) → Denotes parts p s → Denotes parts q t → IsRight parts (join_form p q) (Two s t)
+
+-- each production stands for a row of the part at its left side, each rule for an operation of it, and each row of a listed part has its
+-- production or rule;
+-- sets are listed once
+pub record IsWritten (cells : Numbered) (says : ℕ → Type 0) (closed : Closed) (parts : List Part) (productions : List Production)
+    (rules : List OpRule) : Type 0 where
+  pub once : (k n m : ℕ) → slice_get parts n ≡ Some (set_part k) → slice_get parts m ≡ Some (set_part k) → n ≡ m
+  pub each_production : (left : nt.Nt) (right : Right) → Contains productions (record { left = left; right = right })
+      → (p : Part) × (f : Form Part) × (slice_get parts left.0 ≡ Some p) × PartRow cells says closed p f × IsRight parts f right
+  pub each_rule : (left operand : nt.Nt) (op : Op) → Contains rules (record { left = left; op = op; operand = operand })
+      → (k : ℕ) × (j : ℕ) × (slice_get parts left.0 ≡ Some (set_part k)) × (slice_get parts operand.0 ≡ Some (set_part j))
+      × PartRow cells says closed (set_part k) (apply_form op (set_part j))
+  pub all_empty : (p : Part) (n : nt.Nt) → slice_get parts n.0 ≡ Some p → PartRow cells says closed p (text_form [])
+      → Contains productions (record { left = n; right = Empty })
+  pub all_same : (p q : Part) (n : nt.Nt) → slice_get parts n.0 ≡ Some p → PartRow cells says closed p (same_form q)
+      → (s : Symbol) × Denotes parts q s × Contains productions (record { left = n; right = One s })
+  pub all_join : (p q r : Part) (n : nt.Nt) → slice_get parts n.0 ≡ Some p → PartRow cells says closed p (join_form q r)
+      → (s : Symbol) × (t : Symbol) × Denotes parts q s × Denotes parts r t × Contains productions (record { left = n; right = Two s t })
+  pub all_apply : (p q : Part) (op : Op) (n : nt.Nt) → slice_get parts n.0 ≡ Some p → PartRow cells says closed p (apply_form op q)
+      → (m : nt.Nt) × (slice_get parts m.0 ≡ Some q) × Contains rules (record { left = n; op = op; operand = m })
+  -- a byte alone is a range, and no part at a number
+  pub no_byte : (b n : ℕ) → slice_get parts n ≡ Some (end_part (b ∷ [])) → ⊥
+  pub no_range : (r : ByteRange) (n : ℕ) → slice_get parts n ≡ Some (range_part r) → ⊥

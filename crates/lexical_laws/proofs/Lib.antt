@@ -1,4 +1,0 @@
-pub mod FitLemmas
-pub mod CutLaws
-pub mod SignLaws
-pub mod TextLaws

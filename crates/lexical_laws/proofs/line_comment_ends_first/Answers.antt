@@ -1,5 +1,0 @@
-use Rattle.lexical_laws.proofs.TextLaws.{line_comment_ends}
-use Rattle.lexical_laws.proofs.line_comment_ends_first.Goals as goal
-
-pub returns : goal.returns
-returns c = line_comment_ends

@@ -1,2 +1,0 @@
-pub mod Links
-pub use Rattle.set_versions.specs.Reading

@@ -1,5 +1,0 @@
-use Rattle.literal_trees.proofs.FormLemmas.{no_number}
-use Rattle.literal_trees.proofs.literals.literal_number.Goals as goal
-
-pub returns-in_default : goal.returns-in_default
-returns-in_default c = no_number c.args.expr.now c.in_default.not-Int

@@ -1,5 +1,0 @@
-use Rattle.literal_trees.proofs.FormLemmas.{no_text}
-use Rattle.literal_trees.proofs.literals.literal_text.Goals as goal
-
-pub returns-in_default : goal.returns-in_default
-returns-in_default c = no_text c.args.expr.now c.in_default.not-Text

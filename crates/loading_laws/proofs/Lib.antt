@@ -1,2 +1,0 @@
-pub mod LawfulLemmas
-pub mod ProgramLemmas

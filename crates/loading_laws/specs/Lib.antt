@@ -1,3 +1,0 @@
-pub mod FileRules
-pub mod Loaded
-pub use Rattle.program_sizes.specs.Limits

@@ -1,2 +1,0 @@
-pub mod LoosePassing
-pub mod Laws

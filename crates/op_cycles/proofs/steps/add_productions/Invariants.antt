@@ -1,6 +1,0 @@
-use Rattle.std.proofs.Common.{◌≡◌, vec_len}
-use Rattle.op_cycles.specs.Steps.{AddsEdges, IsFirstStep}
-use Rattle.op_cycles.proofs.steps.add_productions.Given as goal
-
-abbrev pub invariant-loop-p : goal.invariant-loop-p
-invariant-loop-p l = record { len : vec_len l.edges ≡ vec_len l.initial.edges; adds : AddsEdges l.initial.edges.items l.edges.items (IsFirstStep l.productions l.p-index) }

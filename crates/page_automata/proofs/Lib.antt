@@ -1,4 +1,0 @@
-pub mod StepLemmas
-pub mod TreeLemmas
-pub mod PageLemmas
-pub mod WholeLemmas

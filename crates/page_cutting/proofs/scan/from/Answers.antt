@@ -1,5 +1,0 @@
-use Rattle.page_cutting.proofs.Splits.{to_end}
-use Rattle.page_cutting.proofs.scan.from.Goals as goal
-
-pub returns : goal.returns
-returns c = to_end c.args.i c.args.cs.now

@@ -1,7 +1,0 @@
-use Rattle.std.proofs.Common.{◌≡◌, take, drop}
-use Rattle.page_reading.specs.Scan.{until}
-use Rattle.page_cutting.proofs.Untils.{behind_front}
-use Rattle.page_cutting.proofs.scan.until.Given as goal
-
-abbrev pub invariant-loop-i : goal.invariant-loop-i
-invariant-loop-i l = until l.word l.cs ≡ behind_front (take l.i l.cs) (until l.word (drop l.i l.cs))

@@ -1,5 +1,0 @@
-mod EndLemmas
-mod Numbering
-mod Pages
-mod Operations
-mod Rules

@@ -1,4 +1,0 @@
-pub mod Ends
-pub mod Rules
-pub mod Made
-pub use Rattle.set_numbering.specs.Asked

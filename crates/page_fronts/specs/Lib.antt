@@ -1,4 +1,0 @@
-pub mod OpenValues
-pub mod OpenTags
-pub mod OpenDoctypes
-pub mod Fronts

@@ -1,5 +1,0 @@
-use Rattle.page_goals.proofs.TellingLemmas.{nests_nested}
-use Rattle.page_goals.proofs.laws.nests_tell_nested.Goals as goal
-
-pub returns : goal.returns
-returns c = nests_nested c.one_token_list.ensures c.whole_is_nested.ensures

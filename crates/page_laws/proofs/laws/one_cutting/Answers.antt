@@ -1,5 +1,0 @@
-use Rattle.page_laws.proofs.Once.{bytes_once}
-use Rattle.page_laws.proofs.laws.one_cutting.Goals as goal
-
-pub returns : goal.returns
-returns c = bytes_once

@@ -1,5 +1,0 @@
-use Rattle.page_laws.proofs.Whole as whole
-use Rattle.page_laws.proofs.laws.valid_by_pieces.Goals as goal
-
-pub returns : goal.returns
-returns c = whole.valid_by_pieces

@@ -1,5 +1,0 @@
-use Rattle.page_laws.proofs.ByTokens as by
-use Rattle.page_laws.proofs.laws.valid_by_tokens.Goals as goal
-
-pub returns : goal.returns
-returns c = by.valid_by_tokens

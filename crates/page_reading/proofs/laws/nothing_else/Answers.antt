@@ -1,5 +1,0 @@
-use Rattle.page_reading.proofs.CutLemmas.{cut_is}
-use Rattle.page_reading.proofs.laws.nothing_else.Goals as goal
-
-pub returns : goal.returns
-returns c = λ table place characters found e. let i = cut_is table place characters found e in (i.lawful, i.is)

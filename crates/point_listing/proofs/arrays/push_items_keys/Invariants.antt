@@ -1,0 +1,12 @@
+use Rattle.std.proofs.Common.{◌≡◌, ◌++◌, drop, map, flat_map}
+use Rattle.flow_code.specs.View.{plain_item}
+use Rattle.set_listing.specs.Forms.{forms_seen}
+use Rattle.set_listing.specs.Arrays.{item_keys}
+use Rattle.point_listing.specs.Places.{at_of}
+use Rattle.point_listing.proofs.arrays.push_items_keys.Given as goal
+
+-- what is left to put stands behind what is put
+abbrev pub invariant-loop-item : goal.invariant-loop-item
+invariant-loop-item l =
+    forms_seen l.forms.items ++ flat_map (item_keys (at_of l.place) l.place.point) (map plain_item (drop l.item-index l.items))
+    ≡ forms_seen l.initial.forms.items ++ flat_map (item_keys (at_of l.place) l.place.point) (map plain_item l.items)

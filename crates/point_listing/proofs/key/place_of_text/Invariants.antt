@@ -1,0 +1,9 @@
+use Rattle.std.proofs.Common.{◌≡◌, drop}
+use Rattle.plain_values.specs.Plain.{text_key}
+use Rattle.set_listing.specs.Uses.{number_from}
+use Rattle.point_listing.specs.Views.{keys_seen}
+use Rattle.point_listing.proofs.key.place_of_text.Given as goal
+
+-- it stands where it stands among those that are left
+abbrev pub invariant-loop-place : goal.invariant-loop-place
+invariant-loop-place l = number_from l.place (text_key l.text) (keys_seen (drop l.place l.told)) ≡ number_from 0 (text_key l.text) (keys_seen l.told)

@@ -1,4 +1,0 @@
-pub mod AscendingLemmas
-pub mod PartLemmas
-pub mod RangeLemmas
-pub mod SetLemmas

@@ -1,3 +1,0 @@
-pub mod EdgeLemmas
-pub mod FrontLemmas
-pub mod TreeLemmas

@@ -1,0 +1,127 @@
+-- A source that tells of each name that a program reads holds one program of the name.
+use Rattle.std.proofs.Common.{◌≡◌, ◌∙◌, ◌+◌, ℕ, List, [], ◌∷◌, Option, Some, refl, sym, ap, subst}
+use Rattle.std.specs.List.{Contains}
+use Rattle.php_syntax.specs.Trees.{PlainStmts, PlainParam, PlainFunction, PlainFile}
+use Rattle.io_edge.specs.Told.{Tells}
+use Rattle.script_meaning.specs.Programs.{PlainProgram}
+use Rattle.program_rules.specs.Files.{Held, Agrees, HasTree, HasOneTree}
+use Rattle.program_rules.specs.Includes.{Reads, itself, LeadsTo}
+use Rattle.program_rules.specs.Expansion.{StandsFor, FunctionStandsFor}
+use Rattle.program_rules.specs.Limits.{HasPlaces, HavePlaces}
+use Rattle.program_rules.specs.Limits as limits
+use Rattle.program_rules.specs.Programs.{ReadFile, AreRead, functions_in, TableStandsFor}
+use Rattle.program_rules.specs.Programs as programs
+use Rattle.program_files.specs.Order.{Reached}
+use Rattle.program_loader.specs.Told.{Content, IsProgramInOrder, IsLoaded, TellsAll, HoldsProgram}
+use Rattle.program_loader.proofs.Same.{AreSame, tree_here, reads_here, same_back, leads_here, reached_here, stands_here, places_here, table_here, counts_here, functions_read, body_read}
+use Rattle.program_loader.proofs.Walk.{one_order}
+
+-- the laws of includes: each file has one tree, statements stand for one list, and have one number of places; names that are looked at are read
+pub record Laws : Type 0 where
+  pub one_tree : (held : Held) → HasOneTree held
+  pub one_body : (held : Held) (ss a b : PlainStmts) → HasOneTree held → StandsFor held ss a → StandsFor held ss b → a ≡ b
+  pub one_count : (held : Held) (ss : PlainStmts) (m n : ℕ) → HasOneTree held → HasPlaces held ss m → HasPlaces held ss n → m ≡ n
+  pub looked : (held : Held) (name : List ℕ) (files : List ReadFile) (paths : List (List ℕ)) (path : List ℕ) → Reached (HasTree held) name files paths → Contains paths path → Reads held name path
+
+-- parts make a function, and a program
+same_function : (f g : PlainFunction) → f.name_of ≡ g.name_of → f.params_of ≡ g.params_of → f.body_of ≡ g.body_of → f ≡ g
+same_function f g e p b =
+    ap (λ (n : List ℕ). let x : PlainFunction = record { name_of = n; params_of = f.params_of; body_of = f.body_of } in x) e
+    ∙ ap (λ (ps : List PlainParam). let x : PlainFunction = record { name_of = g.name_of; params_of = ps; body_of = f.body_of } in x) p
+    ∙ ap (λ (ss : PlainStmts). let x : PlainFunction = record { name_of = g.name_of; params_of = g.params_of; body_of = ss } in x) b
+
+pub same_program : (p q : PlainProgram) → p.main_of ≡ q.main_of → p.functions_of ≡ q.functions_of → p ≡ q
+same_program p q m f =
+    ap (λ (ss : PlainStmts). let x : PlainProgram = record { main_of = ss; functions_of = p.functions_of } in x) m
+    ∙ ap (λ (fs : List PlainFunction). let x : PlainProgram = record { main_of = q.main_of; functions_of = fs } in x) f
+
+-- a table of functions by its first row
+abbrev Rows : Held → List PlainFunction → List PlainFunction → Type 0
+Rows held [] gs = gs ≡ []
+Rows held (f ∷ fs) gs = (g : PlainFunction) × (rest : List PlainFunction) × (gs ≡ g ∷ rest) × FunctionStandsFor held f g × TableStandsFor held fs rest
+
+rows : (held : Held) (fs gs : List PlainFunction) → TableStandsFor held fs gs → Rows held fs gs
+rows held fs gs programs.none = refl
+rows held _ _ (programs.more f g fs gs one rest) = (g, gs, refl, one, rest)
+
+pub one_table : Laws → (held : Held) (fs gs hs : List PlainFunction) → TableStandsFor held fs gs → TableStandsFor held fs hs → gs ≡ hs
+one_table laws held [] gs hs a b = rows held [] gs a ∙ sym (rows held [] hs b)
+one_table laws held (f ∷ fs) gs hs a b =
+    let (g, more, is, one, rest) : Rows held (f ∷ fs) gs = rows held (f ∷ fs) gs a in
+    let (h, others, also, other, later) : Rows held (f ∷ fs) hs = rows held (f ∷ fs) hs b in
+    let same : g ≡ h = same_function g h (one.name ∙ sym other.name) (one.params ∙ sym other.params) (laws.one_body held f.body_of g.body_of h.body_of (laws.one_tree held) one.body other.body) in
+    is ∙ ap (λ (x : PlainFunction). x ∷ more) same ∙ ap (λ (xs : List PlainFunction). h ∷ xs) (one_table laws held fs more others rest later) ∙ sym also
+
+-- and their places of includes
+abbrev Counts : Held → List PlainFunction → ℕ → Type 0
+Counts held [] n = n ≡ 0
+Counts held (f ∷ fs) n = (m : ℕ) × (k : ℕ) × (n ≡ m + k) × HasPlaces held f.body_of m × HavePlaces held fs k
+
+counts : (held : Held) (fs : List PlainFunction) (n : ℕ) → HavePlaces held fs n → Counts held fs n
+counts held fs n limits.none = refl
+counts held _ _ (limits.more f fs m n one rest) = (m, n, refl, one, rest)
+
+pub one_sum : Laws → (held : Held) (fs : List PlainFunction) (m n : ℕ) → HavePlaces held fs m → HavePlaces held fs n → m ≡ n
+one_sum laws held [] m n a b = counts held [] m a ∙ sym (counts held [] n b)
+one_sum laws held (f ∷ fs) m n a b =
+    let (i, j, is, one, rest) : Counts held (f ∷ fs) m = counts held (f ∷ fs) m a in
+    let (k, l, also, other, later) : Counts held (f ∷ fs) n = counts held (f ∷ fs) n b in
+    is ∙ ap (λ x. x + j) (laws.one_count held f.body_of i k (laws.one_tree held) one other) ∙ ap (λ x. k + x) (one_sum laws held fs j l rest later) ∙ sym also
+
+-- of one source, a name has one program in the order of its files
+pub programs_agree : Laws → (held : Held) (name : List ℕ) (p q : PlainProgram) → IsProgramInOrder held name p → IsProgramInOrder held name q → p ≡ q
+programs_agree laws held name p q a b =
+    let files : a.is_program.files ≡ b.is_program.files = one_order (HasTree held) (laws.one_tree held) name a.is_program.files b.is_program.files a.in_order b.in_order in
+    let tree : a.is_program.tree ≡ b.is_program.tree = laws.one_tree held name a.is_program.tree b.is_program.tree a.is_program.spelled b.is_program.spelled in
+    same_program p q
+    (laws.one_body held a.is_program.tree.body_of p.main_of q.main_of (laws.one_tree held) a.is_program.main (subst (λ (t : PlainFile). StandsFor held t.body_of q.main_of) (sym tree) b.is_program.main))
+    (one_table laws held (functions_in a.is_program.files) p.functions_of q.functions_of a.is_program.functions
+    (subst (λ (fs : List ReadFile). TableStandsFor held (functions_in fs) q.functions_of) (sym files) b.is_program.functions))
+
+-- what holds there holds here, where the same was held under each name that is read
+read_here : (held other : Held) (name : List ℕ) → AreSame held other name → (files : List ReadFile) → AreRead other name files → AreRead held name files
+read_here held other name same files read = record {
+  each = λ file c. (let f = read.each file c in let r = reads_here held other name same file.name f.0 in (r, tree_here held other file.name file.tree (same file.name r) f.1));
+  all = λ path r. read.all path (reads_here other held name (same_back held other name same) path r);
+  once = read.once;
+}
+
+no_cycle_here : (held other : Held) (name : List ℕ) → AreSame held other name → ((path : List ℕ) → Reads other name path → LeadsTo other path path → ⊥)
+    → (path : List ℕ) → Reads held name path → LeadsTo held path path → ⊥
+no_cycle_here held other name same acyclic path reads leads =
+    let back : AreSame other held name = same_back held other name same in
+    acyclic path (reads_here other held name back path reads) (leads_here other held name back path path reads leads)
+
+pub program_here : Laws → (held other : Held) (name : List ℕ) (p : PlainProgram) → AreSame held other name → IsProgramInOrder other name p → IsProgramInOrder held name p
+program_here laws held other name p same a =
+    let is = a.is_program in
+    let own : Reads other name name = itself in
+    record {
+      is_program = record {
+        files = is.files;
+        read = read_here held other name same is.files is.read;
+        acyclic = no_cycle_here held other name same is.acyclic;
+        tree = is.tree;
+        spelled = tree_here held other name is.tree (same name itself) is.spelled;
+        main = stands_here held other name same is.tree.body_of p.main_of (body_read other name name is.tree own is.spelled) is.main;
+        functions = table_here held other name same (functions_in is.files) p.functions_of (functions_read other name is.files is.read.each) is.functions;
+        rules = is.rules;
+        own_places = is.own_places;
+        has_places = places_here held other name same is.tree.body_of is.own_places (body_read other name name is.tree own is.spelled) is.has_places;
+        function_places = is.function_places;
+        have_places = counts_here held other name same (functions_in is.files) is.function_places (functions_read other name is.files is.read.each) is.have_places;
+        within = is.within;
+      };
+      in_order = reached_here held other name same (λ files paths path. laws.looked other name files paths path) is.files [] a.in_order;
+    }
+
+-- what agrees with what is told is what is told
+pub agreed : (content : Content) (held other : Held) (name : List ℕ) → TellsAll content held name → Agrees content other → AreSame held other name
+agreed content held other name told agrees path reads =
+    let same : Tells (Some (held path)) (other path) = subst (λ (x : Option (Option (List ℕ))). Tells x (other path)) (told path reads) (agrees path) in
+    sym same
+
+pub one_program : Laws → (content : Content) (name : List ℕ) (p q : PlainProgram) → HoldsProgram content name p → IsLoaded content name q → p ≡ q
+one_program laws content name p q h l =
+    programs_agree laws h.held name p q h.is_program
+    (program_here laws h.held l.held name q (agreed content h.held l.held name h.told l.agrees) l.is_program)

@@ -1,0 +1,51 @@
+//! Where a source of files tells of each name that a program reads, there is one program of the
+//! name, and `load` is refused for want of memory alone. Each function stands for the law that its
+//! contract states.
+
+ghost use Rattle.std.specs.Prelude.{◌≡◌, ℕ, List};
+ghost use Rattle.script_meaning.specs.Programs.{PlainProgram};
+ghost use Rattle.io_edge.specs.Counts.{Rises};
+ghost use Rattle.program_files.specs.Source.{SourceCall};
+ghost use Rattle.program_files.specs.declared.refusal.LoadRefusal.{LoadRefusal};
+ghost use Rattle.program_files.specs.declared.refusal.LoadRefusal.TheVariants.{Memory};
+ghost use Rattle.program_loader.specs.Causes.{Loads, IsLoadCause};
+ghost use Rattle.program_loader.specs.Told.{Content, IsLoaded, HoldsProgram, AreShort};
+
+use include_expansion::{names_looked_at, what_was_held};
+use lexical_grammar::laws::{never_both, one_token_list};
+use program_rules::laws::{one_expansion, one_number_of_places};
+use program_sizes::each_has_one_tree;
+
+/// What `load` gives is the program of the name, with the functions of its files in the order of
+/// first include.
+pub fn loads_are_loaded()
+    ensures { (call : SourceCall) (name : List ℕ) (program : PlainProgram) → Loads call name program
+        → IsLoaded call.content name program }
+{}
+
+/// And where the source tells of each name that the program reads, no other program is loaded.
+pub fn one_program_is_loaded()
+    ensures { (content : Content) (name : List ℕ) (program other : PlainProgram) →
+        HoldsProgram content name program → IsLoaded content name other → program ≡ other }
+{
+    each_has_one_tree();
+    one_expansion();
+    one_number_of_places();
+    names_looked_at();
+}
+
+/// A program that is held, in files within their limit, is refused for want of memory alone, where
+/// the source does not fail.
+pub fn held_programs_are_loaded()
+    ensures { (call : SourceCall) (name : List ℕ) (program : PlainProgram) (refusal : LoadRefusal) →
+        (h : HoldsProgram call.content name program) → AreShort h.held name →
+        (Rises call.faults call.faults' → ⊥) → IsLoadCause call name refusal → refusal ≡ Memory }
+{
+    each_has_one_tree();
+    one_expansion();
+    one_number_of_places();
+    names_looked_at();
+    what_was_held();
+    one_token_list();
+    never_both();
+}

@@ -1,3 +1,0 @@
-mod Fitting
-mod Bounds
-pub mod Keys

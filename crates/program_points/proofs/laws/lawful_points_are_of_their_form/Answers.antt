@@ -1,5 +1,0 @@
-use Rattle.program_points.proofs.Fitting.{have_defaults, program_fits}
-use Rattle.program_points.proofs.laws.lawful_points_are_of_their_form.Goals as goal
-
-pub returns : goal.returns
-returns c program lawful texts = c.points_are_of_their_form.ensures program (have_defaults program lawful) (program_fits program lawful texts)

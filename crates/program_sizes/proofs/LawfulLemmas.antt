@@ -1,0 +1,223 @@
+-- The program that files make keeps what every program in memory keeps.
+use Rattle.std.proofs.Common.{◌≡◌, ◌∙◌, ℕ, zero, suc, Bool, true, false, if◌then◌else◌, List, [], ◌∷◌, ◌++◌, length, map, Some, None, Option, option_map, refl, sym, ap, subst, arith, inl, inr}
+use Rattle.std.specs.Prelude.{◌&&◌, ◌||◌, bytes_eq, nat_eq}
+use Rattle.std.specs.List.{Contains, list_any}
+use Rattle.std.specs.Cmp.Lexicographic.{pointwise}
+use Rattle.std.proofs.lemmas.List.Elements.{Contains-append_right}
+use Rattle.php_syntax.specs.Trees.{PlainStmts, PlainFunction}
+use Rattle.script_grammar.specs.Rules.{stmts_fit, params_fit, functions_fit, file_fits}
+use Rattle.spellable.specs.Spellable.{is_call_name, params_spellable, stmts_spellable, functions_spellable, is_spellable}
+use Rattle.builtin_meaning.specs.declared.builtin.Builtin.{Builtin}
+use Rattle.builtin_meaning.specs.Names.{builtin_named}
+use Rattle.script_meaning.specs.Programs.{PlainProgram, function_named}
+use Rattle.program_rules.specs.Calls.{PlainCall, calls_of_program}
+use Rattle.program_rules.specs.Includes.{includes_in, includes_in_functions, includes_of_file}
+use Rattle.program_rules.specs.Expansion.{with_bodies}
+use Rattle.program_rules.specs.Limits.{as_file, IsWithin}
+use Rattle.program_rules.specs.Programs.{ReadFile, functions_in}
+use Rattle.program_rules.specs.Rules.{is_there, DefinesTwice, serves, serves_builtin, is_known, serves_call, KeepsRules}
+use Rattle.program_rules.specs.Lawful.{IsLawful}
+use Rattle.include_expansion.specs.Within.{tree_named, bodies_within, with_body, program_within}
+use Rattle.include_expansion.specs.FileCalls.{calls_in_files}
+use Rattle.program_sizes.specs.FileRules.{KeepFunctionRules}
+use Rattle.program_sizes.specs.Limits.{program_places}
+use Rattle.program_sizes.specs.Loaded.{AreScripts, MakeProgram}
+
+left : (a b : Bool) → (a && b) ≡ true → a ≡ true
+left true b e = refl
+left false b e = absurd (cc)
+
+right : (a b : Bool) → (a && b) ≡ true → b ≡ true
+right true b e = e
+right false b e = absurd (cc)
+
+both : (a b : Bool) → a ≡ true → b ≡ true → (a && b) ≡ true
+both true b e f = f
+both false b e f = absurd (cc)
+
+-- names and parameters stay
+same_names : (bodies : List ℕ → PlainStmts) (fs : List PlainFunction) (name : List ℕ) → list_any (λ (f : PlainFunction). bytes_eq f.name_of name) (map (with_body bodies) fs) ≡ list_any (λ (f : PlainFunction). bytes_eq f.name_of name) fs
+same_names bodies [] name = refl
+same_names bodies (f ∷ fs) name = ap (λ (b : Bool). bytes_eq f.name_of name || b) (same_names bodies fs name)
+
+still_once : (bodies : List ℕ → PlainStmts) (fs : List PlainFunction) (name : List ℕ) → DefinesTwice (map (with_body bodies) fs) name → DefinesTwice fs name
+unfolding DefinesTwice
+still_once bodies [] name d = d
+still_once bodies (f ∷ fs) name (inl (same, double)) = inl (same, ap (λ (b : Bool). is_there (builtin_named name) || b) (sym (same_names bodies fs name)) ∙ double)
+still_once bodies (f ∷ fs) name (inr later) = inr (still_once bodies fs name later)
+
+same_function : (bodies : List ℕ → PlainStmts) (fs : List PlainFunction) (name : List ℕ) → function_named (map (with_body bodies) fs) name ≡ option_map (with_body bodies) (function_named fs name)
+unfolding function_named
+same_function bodies [] name = refl
+same_function bodies (f ∷ fs) name = by (pointwise nat_eq f.name_of name) (same_function bodies fs name)
+  where
+    by : (b : Bool) → function_named (map (with_body bodies) fs) name ≡ option_map (with_body bodies) (function_named fs name)
+        → (if b then Some (with_body bodies f) else function_named (map (with_body bodies) fs) name) ≡ option_map (with_body bodies) (if b then Some f else function_named fs name)
+    by true rest = refl
+    by false rest = rest
+
+there_still : (bodies : List ℕ → PlainStmts) (o : Option PlainFunction) → is_there (option_map (with_body bodies) o) ≡ is_there o
+there_still bodies None = refl
+there_still bodies (Some f) = refl
+
+same_known : (bodies : List ℕ → PlainStmts) (fs : List PlainFunction) (call : PlainCall) → is_known (map (with_body bodies) fs) call ≡ is_known fs call
+same_known bodies fs call = ap (λ (b : Bool). is_there (builtin_named call.name_of) || b) (ap (λ (o : Option PlainFunction). is_there o) (same_function bodies fs call.name_of) ∙ there_still bodies (function_named fs call.name_of))
+
+-- how many arguments serve a call, by what its name stands for
+served_builtin : (fs : List PlainFunction) (call : PlainCall) (b : Builtin) → builtin_named call.name_of ≡ Some b → serves_call fs call ≡ serves_builtin call.arguments b
+served_builtin fs call b e = rw e refl
+
+served_none : (fs : List PlainFunction) (call : PlainCall) → builtin_named call.name_of ≡ None → function_named fs call.name_of ≡ None → serves_call fs call ≡ true
+served_none fs call e g = rw (e, g) refl
+
+served_some : (fs : List PlainFunction) (call : PlainCall) (f : PlainFunction) → builtin_named call.name_of ≡ None → function_named fs call.name_of ≡ Some f → serves_call fs call ≡ serves call.arguments f.params_of
+served_some fs call f e g = rw (e, g) refl
+
+same_served : (bodies : List ℕ → PlainStmts) (fs : List PlainFunction) (call : PlainCall) → serves_call (map (with_body bodies) fs) call ≡ serves_call fs call
+same_served bodies fs call = by (builtin_named call.name_of) refl (function_named fs call.name_of) refl
+  where
+    by : (o : Option Builtin) → builtin_named call.name_of ≡ o → (own : Option PlainFunction) → function_named fs call.name_of ≡ own → serves_call (map (with_body bodies) fs) call ≡ serves_call fs call
+    by (Some b) e own g = served_builtin (map (with_body bodies) fs) call b e ∙ sym (served_builtin fs call b e)
+    by None e None g = served_none (map (with_body bodies) fs) call e (same_function bodies fs call.name_of ∙ ap (λ (o : Option PlainFunction). option_map (with_body bodies) o) g) ∙ sym (served_none fs call e g)
+    by None e (Some f) g =
+        served_some (map (with_body bodies) fs) call (with_body bodies f) e (same_function bodies fs call.name_of ∙ ap (λ (o : Option PlainFunction). option_map (with_body bodies) o) g) ∙ sym (served_some fs call f e g)
+
+-- each call of the program is one in the files
+abbrev pub CallsAreInFiles : Type 0
+CallsAreInFiles = (files : List ReadFile) (n : ℕ) (name : List ℕ) (call : PlainCall) → Contains (calls_of_program (program_within files n (tree_named files name))) call → Contains (calls_in_files files) call
+
+pub rules_kept : CallsAreInFiles → (files : List ReadFile) (n : ℕ) (name : List ℕ) → KeepFunctionRules files → KeepsRules (program_within files n (tree_named files name))
+rules_kept calls files n name rules = record {
+  once = λ x double. rules.once x (still_once (bodies_within files n) (functions_in files) x double);
+  known = λ call c. same_known (bodies_within files n) (functions_in files) call ∙ rules.known call (calls files n name call c);
+  served = λ call c. same_served (bodies_within files n) (functions_in files) call ∙ rules.served call (calls files n name call c);
+}
+
+-- the forms of the grammar
+abbrev pub FormsAreKept : Type 0
+FormsAreKept = (bodies : List ℕ → PlainStmts) (ss : PlainStmts) → ((path : List ℕ) → stmts_spellable (bodies path) ≡ true) → stmts_spellable ss ≡ true → stmts_spellable (with_bodies bodies ss) ≡ true
+
+tree_spellable : (files : List ReadFile) → AreScripts files → (path : List ℕ) → stmts_spellable (tree_named files path).body_of ≡ true
+unfolding tree_named stmts_spellable
+tree_spellable [] are path = refl
+tree_spellable (f ∷ fs) are path = by (bytes_eq path f.name) (tree_spellable fs (λ file c. are file (Contains-append_right (f ∷ []) fs file c)) path)
+  where
+    by : (b : Bool) → stmts_spellable (tree_named fs path).body_of ≡ true → stmts_spellable (if b then f.tree else tree_named fs path).body_of ≡ true
+    by true rest = left (stmts_spellable f.tree.body_of) (functions_spellable f.tree.functions_of) (are f (0, omega arith, refl)).0
+    by false rest = rest
+
+bodies_spellable : FormsAreKept → (files : List ReadFile) → AreScripts files → (n : ℕ) (path : List ℕ) → stmts_spellable (bodies_within files n path) ≡ true
+unfolding bodies_within stmts_spellable
+bodies_spellable kept files are zero path = refl
+bodies_spellable kept files are (suc n) path = kept (bodies_within files n) (tree_named files path).body_of (bodies_spellable kept files are n) (tree_spellable files are path)
+
+append_spellable : (fs gs : List PlainFunction) → functions_spellable fs ≡ true → functions_spellable gs ≡ true → functions_spellable (fs ++ gs) ≡ true
+append_spellable [] gs e g = g
+append_spellable (f ∷ fs) gs e g =
+    let rest = right (is_call_name f.name_of) (params_spellable f.params_of && (stmts_spellable f.body_of && functions_spellable fs)) e in
+    let last = right (params_spellable f.params_of) (stmts_spellable f.body_of && functions_spellable fs) rest in
+    both (is_call_name f.name_of) (params_spellable f.params_of && (stmts_spellable f.body_of && functions_spellable (fs ++ gs))) (left (is_call_name f.name_of) (params_spellable f.params_of && (stmts_spellable f.body_of && functions_spellable fs)) e)
+    (both (params_spellable f.params_of) (stmts_spellable f.body_of && functions_spellable (fs ++ gs)) (left (params_spellable f.params_of) (stmts_spellable f.body_of && functions_spellable fs) rest)
+    (both (stmts_spellable f.body_of) (functions_spellable (fs ++ gs)) (left (stmts_spellable f.body_of) (functions_spellable fs) last) (append_spellable fs gs (right (stmts_spellable f.body_of) (functions_spellable fs) last) g)))
+
+all_spellable : (files : List ReadFile) → AreScripts files → functions_spellable (functions_in files) ≡ true
+unfolding functions_in
+all_spellable [] are = refl
+all_spellable (f ∷ fs) are =
+    append_spellable f.tree.functions_of (functions_in fs) (right (stmts_spellable f.tree.body_of) (functions_spellable f.tree.functions_of) (are f (0, omega arith, refl)).0) (all_spellable fs (λ file c. are file (Contains-append_right (f ∷ []) fs file c)))
+
+mapped_spellable : FormsAreKept → (bodies : List ℕ → PlainStmts) → ((path : List ℕ) → stmts_spellable (bodies path) ≡ true) → (fs : List PlainFunction) → functions_spellable fs ≡ true → functions_spellable (map (with_body bodies) fs) ≡ true
+mapped_spellable kept bodies h [] e = refl
+mapped_spellable kept bodies h (f ∷ fs) e =
+    let rest = right (is_call_name f.name_of) (params_spellable f.params_of && (stmts_spellable f.body_of && functions_spellable fs)) e in
+    let last = right (params_spellable f.params_of) (stmts_spellable f.body_of && functions_spellable fs) rest in
+    let body = stmts_spellable (with_bodies bodies f.body_of) in
+    let behind = functions_spellable (map (with_body bodies) fs) in
+    both (is_call_name f.name_of) (params_spellable f.params_of && (body && behind)) (left (is_call_name f.name_of) (params_spellable f.params_of && (stmts_spellable f.body_of && functions_spellable fs)) e)
+    (both (params_spellable f.params_of) (body && behind) (left (params_spellable f.params_of) (stmts_spellable f.body_of && functions_spellable fs) rest)
+    (both body behind (kept bodies f.body_of h (left (stmts_spellable f.body_of) (functions_spellable fs) last)) (mapped_spellable kept bodies h fs (right (stmts_spellable f.body_of) (functions_spellable fs) last))))
+
+pub forms_kept : FormsAreKept → (files : List ReadFile) (n : ℕ) (name : List ℕ) → AreScripts files → is_spellable (as_file (program_within files n (tree_named files name))) ≡ true
+forms_kept kept files n name are =
+    let bodies = bodies_within files n in
+    both (stmts_spellable (with_bodies bodies (tree_named files name).body_of)) (functions_spellable (map (with_body bodies) (functions_in files)))
+    (kept bodies (tree_named files name).body_of (bodies_spellable kept files are n) (tree_spellable files are name))
+    (mapped_spellable kept bodies (bodies_spellable kept files are n) (functions_in files) (all_spellable files are))
+
+-- the rules beside the grammar
+abbrev pub RulesAreKept : Type 0
+RulesAreKept = (bodies : List ℕ → PlainStmts) (in_loop in_function : Bool) (ss : PlainStmts) → ((path : List ℕ) → stmts_fit false false (bodies path) ≡ true) → stmts_fit in_loop in_function ss ≡ true → stmts_fit in_loop in_function (with_bodies bodies ss) ≡ true
+
+tree_fits : (files : List ReadFile) → AreScripts files → (path : List ℕ) → stmts_fit false false (tree_named files path).body_of ≡ true
+unfolding tree_named stmts_fit
+tree_fits [] are path = refl
+tree_fits (f ∷ fs) are path = by (bytes_eq path f.name) (tree_fits fs (λ file c. are file (Contains-append_right (f ∷ []) fs file c)) path)
+  where
+    by : (b : Bool) → stmts_fit false false (tree_named fs path).body_of ≡ true → stmts_fit false false (if b then f.tree else tree_named fs path).body_of ≡ true
+    by true rest = left (stmts_fit false false f.tree.body_of) (functions_fit f.tree.functions_of) (are f (0, omega arith, refl)).1
+    by false rest = rest
+
+bodies_fit : RulesAreKept → (files : List ReadFile) → AreScripts files → (n : ℕ) (path : List ℕ) → stmts_fit false false (bodies_within files n path) ≡ true
+unfolding bodies_within stmts_fit
+bodies_fit kept files are zero path = refl
+bodies_fit kept files are (suc n) path = kept (bodies_within files n) false false (tree_named files path).body_of (bodies_fit kept files are n) (tree_fits files are path)
+
+append_fits : (fs gs : List PlainFunction) → functions_fit fs ≡ true → functions_fit gs ≡ true → functions_fit (fs ++ gs) ≡ true
+append_fits [] gs e g = g
+append_fits (f ∷ fs) gs e g =
+    let rest = right (params_fit f.params_of) (stmts_fit false true f.body_of && functions_fit fs) e in
+    both (params_fit f.params_of) (stmts_fit false true f.body_of && functions_fit (fs ++ gs)) (left (params_fit f.params_of) (stmts_fit false true f.body_of && functions_fit fs) e)
+    (both (stmts_fit false true f.body_of) (functions_fit (fs ++ gs)) (left (stmts_fit false true f.body_of) (functions_fit fs) rest) (append_fits fs gs (right (stmts_fit false true f.body_of) (functions_fit fs) rest) g))
+
+all_fit : (files : List ReadFile) → AreScripts files → functions_fit (functions_in files) ≡ true
+unfolding functions_in
+all_fit [] are = refl
+all_fit (f ∷ fs) are =
+    append_fits f.tree.functions_of (functions_in fs) (right (stmts_fit false false f.tree.body_of) (functions_fit f.tree.functions_of) (are f (0, omega arith, refl)).1) (all_fit fs (λ file c. are file (Contains-append_right (f ∷ []) fs file c)))
+
+mapped_fit : RulesAreKept → (bodies : List ℕ → PlainStmts) → ((path : List ℕ) → stmts_fit false false (bodies path) ≡ true) → (fs : List PlainFunction) → functions_fit fs ≡ true → functions_fit (map (with_body bodies) fs) ≡ true
+mapped_fit kept bodies h [] e = refl
+mapped_fit kept bodies h (f ∷ fs) e =
+    let rest = right (params_fit f.params_of) (stmts_fit false true f.body_of && functions_fit fs) e in
+    let body = stmts_fit false true (with_bodies bodies f.body_of) in
+    let behind = functions_fit (map (with_body bodies) fs) in
+    both (params_fit f.params_of) (body && behind) (left (params_fit f.params_of) (stmts_fit false true f.body_of && functions_fit fs) e)
+    (both body behind (kept bodies false true f.body_of h (left (stmts_fit false true f.body_of) (functions_fit fs) rest)) (mapped_fit kept bodies h fs (right (stmts_fit false true f.body_of) (functions_fit fs) rest)))
+
+pub fits_kept : RulesAreKept → (files : List ReadFile) (n : ℕ) (name : List ℕ) → AreScripts files → file_fits (as_file (program_within files n (tree_named files name))) ≡ true
+fits_kept kept files n name are =
+    let bodies = bodies_within files n in
+    both (stmts_fit false false (with_bodies bodies (tree_named files name).body_of)) (functions_fit (map (with_body bodies) (functions_in files)))
+    (kept bodies false false (tree_named files name).body_of (bodies_fit kept files are n) (tree_fits files are name))
+    (mapped_fit kept bodies (bodies_fit kept files are n) (functions_in files) (all_fit files are))
+
+-- no include
+abbrev pub NoneIsLeft : Type 0
+NoneIsLeft = (files : List ReadFile) (n : ℕ) (ss : PlainStmts) → includes_in (with_bodies (bodies_within files n) ss) ≡ []
+
+none_in_functions : NoneIsLeft → (files : List ReadFile) (n : ℕ) (fs : List PlainFunction) → includes_in_functions (map (with_body (bodies_within files n)) fs) ≡ []
+unfolding includes_in_functions
+none_in_functions none files n [] = refl
+none_in_functions none files n (f ∷ fs) = ap (λ (xs : List (List ℕ)). xs ++ includes_in_functions (map (with_body (bodies_within files n)) fs)) (none files n f.body_of) ∙ none_in_functions none files n fs
+
+none_in_file : NoneIsLeft → (files : List ReadFile) (n : ℕ) (name : List ℕ) → includes_of_file (as_file (program_within files n (tree_named files name))) ≡ []
+unfolding includes_of_file
+none_in_file none files n name =
+    ap (λ (xs : List (List ℕ)). xs ++ includes_in_functions (map (with_body (bodies_within files n)) (functions_in files))) (none files n (tree_named files name).body_of) ∙ none_in_functions none files n (functions_in files)
+
+no_member : (xs : List (List ℕ)) (path : List ℕ) → xs ≡ [] → Contains xs path → ⊥
+no_member [] path e c = let h = c.1 in omega arith
+no_member (x ∷ xs) path e c = absurd (cc)
+
+pub lawful : CallsAreInFiles → RulesAreKept → FormsAreKept → NoneIsLeft → (files : List ReadFile) (order : List (List ℕ)) (name : List ℕ) (program : PlainProgram) → AreScripts files → MakeProgram files order name program → IsLawful program
+lawful calls rules forms none files order name program are made =
+    let n = length order in
+    let within = made.within in
+    subst IsLawful (sym made.program_is) (record {
+      whole = λ path c. no_member (includes_of_file (as_file (program_within files n (tree_named files name)))) path (none_in_file none files n name) c;
+      of_grammar = forms_kept forms files n name are;
+      fits = fits_kept rules files n name are;
+      rules = rules_kept calls files n name made.rules;
+      nodes_within = (subst (λ (p : PlainProgram). IsWithin (program_places files n (tree_named files name)) p) made.program_is within).nodes_within;
+      height_within = (subst (λ (p : PlainProgram). IsWithin (program_places files n (tree_named files name)) p) made.program_is within).height_within;
+    })

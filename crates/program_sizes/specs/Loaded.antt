@@ -1,0 +1,37 @@
+-- What files say of the program that they stand for.
+use Rattle.std.specs.Prelude.{◌≡◌, ℕ, ◌+◌, true, List, length}
+use Rattle.std.specs.List.{Contains}
+use Rattle.php_syntax.specs.Trees.{PlainFile}
+use Rattle.script_grammar.specs.Rules.{file_fits}
+use Rattle.spellable.specs.Spellable.{is_spellable}
+use Rattle.script_meaning.specs.Programs.{PlainProgram}
+use Rattle.program_rules.specs.Files.{Held, HasTree}
+use Rattle.program_rules.specs.Expansion.{StandsFor}
+use Rattle.program_rules.specs.Limits.{HasPlaces, HavePlaces, IsWithin}
+use Rattle.program_rules.specs.Programs.{ReadFile, functions_in, TableStandsFor}
+use Rattle.include_expansion.specs.Within.{tree_named, program_within, IsIncludeOrder}
+use Rattle.program_sizes.specs.FileRules.{KeepFunctionRules}
+use Rattle.program_sizes.specs.Limits.{program_places}
+
+-- each tree has the forms of the grammar and keeps the rules beside it, as a tree that is read does
+abbrev pub AreScripts : List ReadFile → Type 0
+AreScripts files = (file : ReadFile) → Contains files file → (is_spellable file.tree ≡ true) × (file_fits file.tree ≡ true)
+
+-- files are those of a name, in an order of their includes, and keep the rules and the limits: their program
+pub record MakeProgram (files : List ReadFile) (order : List (List ℕ)) (name : List ℕ) (program : PlainProgram) : Type 0 where
+  pub sorted : IsIncludeOrder files order
+  pub rules : KeepFunctionRules files
+  pub within : IsWithin (program_places files (length order) (tree_named files name)) program
+  pub program_is : program ≡ program_within files (length order) (tree_named files name)
+
+-- the file of a name, whose program reads these files, stands for a program, however large: so many places of includes are replaced
+pub record StandsForProgram (held : Held) (name : List ℕ) (files : List ReadFile) (places : ℕ) (program : PlainProgram) : Type 0 where
+  pub tree : PlainFile
+  pub spelled : HasTree held name tree
+  pub main : StandsFor held tree.body_of program.main_of
+  pub functions : TableStandsFor held (functions_in files) program.functions_of
+  pub own_places : ℕ
+  pub has_places : HasPlaces held tree.body_of own_places
+  pub function_places : ℕ
+  pub have_places : HavePlaces held (functions_in files) function_places
+  pub all_places : places ≡ own_places + function_places

@@ -1,5 +1,0 @@
-use Rattle.reading_laws.proofs.ReadLemmas.{paths_read}
-use Rattle.reading_laws.proofs.names_looked_at.Goals as goal
-
-pub returns : goal.returns
-returns c = λ held name files paths path reached own. paths_read held name files paths reached path own

@@ -1,1 +1,0 @@
-pub use Rattle.program_files.specs.Order

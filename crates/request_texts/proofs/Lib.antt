@@ -1,4 +1,0 @@
-mod Kept
-mod Joined
-mod Closed
-mod Sizes

@@ -1,5 +1,0 @@
-use Rattle.resolve_laws.proofs.StepLemmas.{all_exact}
-use Rattle.resolve_laws.proofs.laws.all_is_exact.Goals as goal
-
-pub returns : goal.returns
-returns c ps count draft done a lt = all_exact c.args.s.now ps count draft done a lt

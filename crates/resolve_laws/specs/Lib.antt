@@ -1,4 +1,0 @@
-pub mod Resolved
-pub mod Drafts
-pub mod Drafted
-pub mod Laws

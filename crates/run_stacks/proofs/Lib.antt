@@ -1,4 +1,0 @@
-pub mod BindLemmas
-pub mod UnitLemmas
-pub mod SettleLemmas
-pub mod PayLemmas

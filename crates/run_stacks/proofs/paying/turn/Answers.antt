@@ -1,5 +1,0 @@
-use Rattle.run_stacks.proofs.PayLemmas.{pays_turn}
-use Rattle.run_stacks.proofs.paying.turn.Goals as goal
-
-pub returns : goal.returns
-returns c = λ r fs. pays_turn r fs c.args.pending.now c.args.again _ _ c.requires c.deref.ensures.value c.in_ok-push.ensures.ok

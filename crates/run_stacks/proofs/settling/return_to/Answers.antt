@@ -1,5 +1,0 @@
-use Rattle.run_stacks.proofs.SettleLemmas.{returned_so}
-use Rattle.run_stacks.proofs.settling.return_to.Goals as goal
-
-pub returns : goal.returns
-returns c = returned_so _ _ c.args.pending.now c.args.caller _ _ _ _ _ _ c.value_returned-value.ensures c.in_ok-pause.ensures c.resumed.ensures

@@ -1,4 +1,0 @@
-pub mod ForkLemmas
-pub mod PieceLemmas
-pub mod StackLemmas
-pub mod WriteLemmas

@@ -1,4 +1,0 @@
-pub mod Simulating
-pub mod Parts
-pub mod Texts
-pub mod Same

@@ -1,4 +1,0 @@
-pub mod Systems
-pub mod Parts
-pub mod Written
-pub mod Closed

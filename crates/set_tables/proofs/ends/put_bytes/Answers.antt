@@ -1,0 +1,13 @@
+use Rattle.set_tables.proofs.EndSteps.{begin, further, at_last}
+use Rattle.set_tables.proofs.ends.put_bytes.Goals as goal
+
+pub loop-last-init : goal.loop-last-init
+loop-last-init c = begin c.args.draft.now c.args.bytes.now c.args.behind
+
+pub loop-last-preserved : goal.loop-last-preserved
+loop-last-preserved c =
+    further c.args.draft.now c.loop-last.draft c.put_byte.new.draft c.args.bytes.now c.loop-last.rest.now c.in-Some.before.now c.in-Some.last.now c.args.behind c.loop-last.symbol _
+    c.loop-last.invariant c.in-Some.ensures.cases.0 c.in_ok-symbol.ensures
+
+pub returns : goal.returns
+returns c = at_last c.args.draft.now c.loop-last.draft c.args.bytes.now c.loop-last.rest.now c.args.behind c.loop-last.symbol c.loop-last.invariant c.in_default.ensures.cases

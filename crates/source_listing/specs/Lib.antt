@@ -1,2 +1,0 @@
-pub mod Places
-pub use Rattle.set_versions.specs.Reading

@@ -1,0 +1,15 @@
+pub mod Halves
+pub mod Cutting
+pub mod Decimals
+pub mod CutOutside
+pub mod CutRead
+pub mod StmtHeights
+pub mod FineNames
+pub mod FineUnits
+pub mod FineInline
+pub mod FineSteps
+pub mod BackNames
+pub mod BackParts
+pub mod BackExprs
+pub mod BackFiles
+pub mod ShapeLemmas

@@ -1,8 +1,0 @@
-pub mod ClosedLemmas
-mod Examples
-pub mod KnownLemmas
-pub mod MadeLemmas
-pub mod TableLemmas
-pub mod AddLemmas
-pub mod TakenLemmas
-pub mod JointLemmas

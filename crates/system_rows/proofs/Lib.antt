@@ -1,3 +1,0 @@
-pub mod RowLemmas
-pub mod AddLemmas
-pub mod EndLemmas

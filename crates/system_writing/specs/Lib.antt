@@ -1,5 +1,0 @@
-pub mod Drafts
-pub mod Steps
-pub mod Moved
-pub mod Rights
-pub mod Written

@@ -1,3 +1,0 @@
-mod SetLemmas
-mod WrittenLemmas
-mod Examples

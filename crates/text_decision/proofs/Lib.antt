@@ -1,4 +1,0 @@
-pub mod EchoLemmas
-pub mod ByteLemmas
-pub mod AlongLemmas
-pub mod FoundLemmas

@@ -1,3 +1,0 @@
-pub mod Echoes
-pub mod LedBack
-pub mod TextVerdicts

@@ -1,3 +1,0 @@
-pub mod BorderLemmas
-pub mod FailureLemmas
-pub mod PlaceLemmas

@@ -1,5 +1,0 @@
-use Rattle.text_search.specs.Failure.{AreFailures}
-use Rattle.text_search.proofs.failure.failures.Given as goal
-
-abbrev pub invariant-loop-at : goal.invariant-loop-at
-invariant-loop-at l = AreFailures l.pattern l.failures.items l.at

@@ -1,8 +1,0 @@
-use Rattle.text_search.proofs.FailureLemmas.{Shortened}
-use Rattle.text_search.proofs.failure.next_failure.Given as goal
-
-abbrev pub invariant-loop-part : goal.invariant-loop-part
-invariant-loop-part l = Shortened l.pattern l.at l.part
-
-abbrev pub decreases-loop-part : goal.decreases-loop-part
-decreases-loop-part l = l.part

@@ -1,5 +1,0 @@
-use Rattle.text_search.proofs.PlaceLemmas.{Reads}
-use Rattle.text_search.proofs.occurrence.find.Given as goal
-
-abbrev pub invariant-loop-at : goal.invariant-loop-at
-invariant-loop-at l = Reads l.pattern l.text l.at l.part

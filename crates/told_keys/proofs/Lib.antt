@@ -1,2 +1,0 @@
-pub mod CollectLemmas
-mod Examples

@@ -1,5 +1,0 @@
-pub mod Same
-pub mod Walk
-pub mod OneProgram
-pub mod NotRefused
-pub mod SmallProgram

@@ -1,7 +1,0 @@
-use Rattle.told_programs.proofs.OneProgram.{Laws, one_program}
-use Rattle.told_programs.proofs.one_program_is_loaded.Goals as goal
-
-pub returns : goal.returns
-returns c =
-    let laws : Laws = record { one_tree = c.each_has_one_tree.ensures; one_body = c.one_expansion.ensures; one_count = c.one_number_of_places.ensures; looked = c.names_looked_at.ensures } in
-    one_program laws

@@ -1,8 +1,0 @@
-use Rattle.value_laws.proofs.Arrays.{subscript_value, key_value}
-use Rattle.value_laws.proofs.laws.members.Goals as goal
-
-pub returns-clause-subscript : goal.returns-clause-subscript
-returns-clause-subscript c = subscript_value
-
-pub returns-clause-key : goal.returns-clause-key
-returns-clause-key c = key_value

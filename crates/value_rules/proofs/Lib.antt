@@ -1,2 +1,0 @@
-pub mod Semicolons
-pub mod FirstWords

@@ -1,2 +1,0 @@
-//! The table of the sets by versions.
-#![tactic(auto)]
