@@ -5,7 +5,7 @@
 #![tactic(auto)]
 
 #[cfg(test)]
-mod derivations;
+mod all_cuts;
 #[cfg(test)]
 mod image_words;
 #[cfg(test)]

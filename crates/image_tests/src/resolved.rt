@@ -1,6 +1,6 @@
 //! Systems as one grammar: which words it derives, with near misses.
 
-use crate::derivations::derived;
+use crate::all_cuts::derived;
 use crate::derives;
 use cfg_grammar::{Grammar, Production, Right, Symbol};
 use grammar_image::ImageRefusal;
