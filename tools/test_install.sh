@@ -69,7 +69,7 @@ for tool in sh dirname readlink find head wc mkdir flock mktemp sha256sum sort x
 done
 copy=$room/copy
 mkdir "$copy"
-tar -C "$top" --exclude='crates/*/out' -cf - phpsa tools crates.txt crates | tar -C "$copy" -xf -
+tar -C "$top" --exclude='crates/*/out' -cf - phpsa tools crates.txt crates | tar -C "$copy" --no-same-owner -xf -
 PATH=$few ends 70 "$copy/phpsa" check page.php
 writes 'python3, which is missing' err
 ln -s "$(type -P true)" "$few/python3"
