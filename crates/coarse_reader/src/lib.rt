@@ -1,5 +1,5 @@
 //! The coarse reader of pages, as code (`CoarseReader`): it keeps no names, numbers and attribute
-//! lists, and puts out one bad token where a page is broken whatever its definition is.
+//! lists, and puts out one bad token exactly where `is_broken` of broken_pages holds of the page.
 //! Promise: the laws `tells_broken` and `finds_broken` of `laws` (`TellsBroken` and `FindsBroken`
 //! of specs/Laws); its steps are those of broken_pages, state by state (specs/States).
 //! Used by: script_decision.

@@ -5,10 +5,10 @@
 //! Used by: stmt_laws.
 #![tactic(auto)]
 
-mod completeness;
-mod soundness;
-mod trees;
+mod completeness_laws;
+mod soundness_laws;
+mod tree_laws;
 
-pub use completeness::expressions_are_read;
-pub use soundness::what_is_read_is_an_expression;
-pub use trees::actions_make_trees;
+pub use completeness_laws::expressions_are_read;
+pub use soundness_laws::what_is_read_is_an_expression;
+pub use tree_laws::actions_make_trees;

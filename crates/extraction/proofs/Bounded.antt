@@ -38,8 +38,8 @@ use Rattle.extraction.proofs.Fits.{bytes_of, joined_few}
 use Rattle.extraction.proofs.Universe.{Weighs, total, places, place_in, places_length, sum_places, joined_count, called_by, targets_in, aspects, all_versions, all_names_of, entry_slots}
 use Rattle.extraction.proofs.Named as named
 use Rattle.extraction.proofs.Joins.{joins_few, links_few}
-use Rattle.extraction.proofs.Tables as tables
-use Rattle.extraction.proofs.Tables.{bytes_at}
+use Rattle.extraction.proofs.TableBounds as tables
+use Rattle.extraction.proofs.TableBounds.{bytes_at}
 
 -- with k for the keys and one: what is so many times the aspects, so many times what a version has, and some more is so many times k
 within : (n x a v y r c k t : ℕ) → n ≤ x * a + v * y + r → a ≤ 5 * k → v ≤ 5 * k → 1 ≤ k → 5 * x + 5 * y + r ≤ c * t → n ≤ c * (k * t)

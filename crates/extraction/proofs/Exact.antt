@@ -33,7 +33,7 @@ use Rattle.flow_graph.specs.Rows.{points_seen}
 use Rattle.extraction.specs.declared.tables.FlowTables.{FlowTables}
 use Rattle.extraction.specs.Params.{is_null}
 use Rattle.extraction.specs.Tables.{flow_of, functions_of, at_in, handed_in, result_forms, entered_forms, further_forms, lists_from, lists_of, AreTables}
-use Rattle.extraction.proofs.Entries as entries
+use Rattle.extraction.proofs.ListedEntries as entries
 
 module _ (t : FlowTables) (are : AreTables t) where
   abbrev flow : PlainFlow

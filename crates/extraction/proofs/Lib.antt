@@ -5,7 +5,7 @@ mod Pages
 mod Operations
 mod Rules
 pub mod ParamLemmas
-mod Entries
+mod ListedEntries
 pub mod Exact
 mod Closed
 mod Listing
@@ -14,7 +14,7 @@ mod Universe
 mod Named
 mod Counts
 mod Fits
-mod Tables
+mod TableBounds
 mod Joins
 pub mod Bounded
 mod Examples

@@ -3,12 +3,13 @@ use Rattle.std.proofs.Common.{◌≡◌, pos, true, false, List, [], ◌∷◌, 
 use Rattle.std.specs.Prelude.{codes}
 use Rattle.php_syntax.specs.declared.tree.SuperName.TheVariants.{Get}
 use Rattle.php_syntax.specs.declared.tree.UpdateSign.TheVariants.{Coalesce}
-use Rattle.php_syntax.specs.Trees.{PlainExpr, int_expr, text_expr, var_expr, super_expr, member_expr, array_expr, join_expr, isset_expr, assign_expr, update_expr, step_expr, call_expr, no_expr, some_expr, PlainExprs, no_exprs, more_exprs, no_items, more_items, no_keys, more_keys, PlainStmt, echo_stmt, run_stmt, while_stmt, for_stmt, each_stmt, break_stmt, quit_stmt, return_stmt, PlainStmts, no_stmts, more_stmts, PlainFunction}
+use Rattle.php_syntax.specs.Trees.{PlainExpr, int_expr, text_expr, var_expr, super_expr, member_expr, array_expr, join_expr, isset_expr, assign_expr, update_expr, step_expr, call_expr, no_expr, some_expr, PlainExprs, no_exprs, more_exprs, no_items, more_items, no_keys, more_keys, PlainStmt, echo_stmt, run_stmt, if_stmt, while_stmt, for_stmt, each_stmt, break_stmt, continue_stmt, quit_stmt, return_stmt, PlainStmts, no_stmts, more_stmts, no_arms, more_arms, PlainFunction}
 use Rattle.plain_values.specs.Plain.{null, text, int}
 use Rattle.script_meaning.specs.Programs.{PlainProgram}
 use Rattle.flow_code.specs.declared.source.Work.TheVariants as work
 use Rattle.flow_code.specs.Points.{PlainPoint, set_point, call_point, echo_point, branch_point, jump_point, begin_point, next_point, key_point, value_point, return_point, quit_point, literal_source, copy_source, super_source, member_source, array_source, put_source, concat_source, number_source, truth_source, text_ref, points_in}
 use Rattle.flow_code.specs.Expressions.{code}
+use Rattle.flow_code.specs.Completion.{completes, all_complete, jumps_out, reaches_end}
 use Rattle.flow_code.specs.Statements.{block}
 use Rattle.flow_code.specs.Flat.{flat}
 use Rattle.program_expressions.specs.Collected.{collected, collected_of}
@@ -79,8 +80,8 @@ called : points_are (script (record {
   body_of = return_stmt (some_expr (var_expr (codes "b"))) then no_stmts;
 } ∷ [])
     (run_stmt (call_expr (codes "f") (one (text_expr (codes "t")))) then quit_stmt no_expr then no_stmts))
-    (set_point 0 (literal_source (text (codes "t"))) 1 ∷ set_point 1 (literal_source (int (pos 1))) 2 ∷ call_point 2 1 (0 ∷ 1 ∷ []) 3 ∷ quit_point None ∷ set_point 3 (literal_source null) 5 ∷ return_point 3
-    ∷ set_point 6 (copy_source 5) 7 ∷ return_point 6 ∷ set_point 7 (literal_source null) 9 ∷ return_point 7 ∷ [])
+    (set_point 0 (literal_source (text (codes "t"))) 1 ∷ set_point 1 (literal_source (int (pos 1))) 2 ∷ call_point 2 1 (0 ∷ 1 ∷ []) 3 ∷ quit_point None
+    ∷ set_point 5 (copy_source 4) 5 ∷ return_point 5 ∷ [])
 unfolding flat code block collected collected_of own_names points_in
 called = refl
 
@@ -96,3 +97,77 @@ joined : points_are (script [] (run_stmt (join_expr (one (var_expr (codes "x")))
     (set_point 1 (copy_source 0) 1 ∷ set_point 2 (literal_source (text [])) 2 ∷ set_point 3 (concat_source (1 ∷ 2 ∷ [])) 3 ∷ set_point 4 (literal_source null) 4 ∷ return_point 4 ∷ [])
 unfolding flat code block collected collected_of own_names points_in
 joined = refl
+
+-- Ends of blocks. `if ($x) BODY else OTHER`, and `return $x;`
+abbrev chosen_by : PlainStmts → PlainStmts → PlainStmt
+chosen_by body other = if_stmt (more_arms (var_expr (codes "x")) body no_arms) other
+
+abbrev giving : PlainStmt
+giving = return_stmt (some_expr (var_expr (codes "x")))
+
+-- `return $x;`
+returns_there : reaches_end (giving then no_stmts) ≡ false
+unfolding reaches_end
+returns_there = refl
+
+-- `if ($x) { return $x; } else { exit; }`
+both_end : reaches_end (chosen_by (giving then no_stmts) (quit_stmt no_expr then no_stmts) then no_stmts) ≡ false
+unfolding reaches_end
+both_end = refl
+
+-- near: `if ($x) { return $x; }`, without `else`
+one_ends : reaches_end (chosen_by (giving then no_stmts) no_stmts then no_stmts) ≡ true
+unfolding reaches_end
+one_ends = refl
+
+-- near: `while ($x) { return $x; }`, and a loop without a condition likewise
+loop_never_ends : reaches_end (while_stmt (var_expr (codes "x")) (giving then no_stmts) then no_stmts) ≡ true
+unfolding reaches_end
+loop_never_ends = refl
+
+-- `break;` ends its block, and leads to the end of a body without a loop
+break_ends : all_complete (break_stmt then giving then no_stmts) ≡ false
+unfolding completes
+break_ends = refl
+
+break_leads_there : reaches_end (break_stmt then giving then no_stmts) ≡ true
+unfolding reaches_end
+break_leads_there = refl
+
+-- `if ($x) { break; } return $x;`
+break_leads_past : reaches_end (chosen_by (break_stmt then no_stmts) no_stmts then giving then no_stmts) ≡ true
+unfolding reaches_end
+break_leads_past = refl
+
+-- `while ($x) { continue; } return $x;`: it leads to the head of its loop
+continue_stays : reaches_end (while_stmt (var_expr (codes "x")) (continue_stmt then no_stmts) then giving then no_stmts) ≡ false
+unfolding reaches_end
+continue_stays = refl
+
+-- `return $x; break;`: what stands behind the end of a block leads nowhere
+behind_the_end : reaches_end (giving then break_stmt then no_stmts) ≡ false
+unfolding reaches_end
+behind_the_end = refl
+
+-- `exit; echo 'a';` has one point
+ended : points_are (script [] (quit_stmt no_expr then echo_stmt (one (text_expr (codes "a"))) then no_stmts)) (quit_point None ∷ [])
+unfolding flat code block collected collected_of own_names points_in
+ended = refl
+
+-- `if ($x) { exit; } else { exit; }`: no jump leads behind it, and null is not returned
+ended_either_way : points_are (script [] (chosen_by (quit_stmt no_expr then no_stmts) (quit_stmt no_expr then no_stmts) then no_stmts))
+    (set_point 1 (copy_source 0) 1 ∷ branch_point 1 2 3 ∷ quit_point None ∷ quit_point None ∷ [])
+unfolding flat code block collected collected_of own_names points_in
+ended_either_way = refl
+
+-- `if ($x) { exit; }`: where `$x` is not true the end is reached
+ended_one_way : points_are (script [] (chosen_by (quit_stmt no_expr then no_stmts) no_stmts then no_stmts))
+    (set_point 1 (copy_source 0) 1 ∷ branch_point 1 2 3 ∷ quit_point None ∷ set_point 2 (literal_source null) 4 ∷ return_point 2 ∷ [])
+unfolding flat code block collected collected_of own_names points_in
+ended_one_way = refl
+
+-- `for (;;) { break; echo 'a'; }`: what stands behind `break` has no points, and the jump back stays
+broken_early : points_are (script [] (for_stmt no_exprs no_expr no_exprs (break_stmt then echo_stmt (one (text_expr (codes "a"))) then no_stmts) then no_stmts))
+    (jump_point 2 ∷ jump_point 0 ∷ set_point 0 (literal_source null) 3 ∷ return_point 0 ∷ [])
+unfolding flat code block collected collected_of own_names points_in
+broken_early = refl

@@ -1,12 +1,13 @@
 -- The points of a program, numbered through all its functions: first those of the statements outside functions.
-use Rattle.std.specs.Prelude.{ℕ, ◌+◌, List, [], ◌∷◌, ◌++◌, map, length}
+use Rattle.std.specs.Prelude.{ℕ, ◌+◌, Bool, true, false, List, [], ◌∷◌, ◌++◌, map, length}
 use Rattle.php_syntax.specs.Trees.{PlainParam, PlainFunction}
 use Rattle.plain_values.specs.Plain.{null}
 use Rattle.script_meaning.specs.Programs.{PlainProgram}
-use Rattle.flow_code.specs.Points.{literal_source, set_point, return_point, PlainFlowFunction, PlainFlow}
+use Rattle.flow_code.specs.Points.{PlainPoint, literal_source, set_point, return_point, PlainFlowFunction, PlainFlow}
 use Rattle.flow_code.specs.Variables.{variables_of}
 use Rattle.flow_code.specs.Code.{Block}
 use Rattle.flow_code.specs.Expressions.{Scope, variable}
+use Rattle.flow_code.specs.Completion.{reaches_end}
 use Rattle.flow_code.specs.Statements.{block}
 
 -- what names stand for in a function whose first slot this is
@@ -19,9 +20,20 @@ unfoldable pub body_of_function : List PlainFunction → PlainFunction → ℕ �
 unfolding scope_of block
 body_of_function table f slot = block (scope_of table f slot) f.body_of
 
--- a function from a point and a slot on: its variables have the first slots; at the end of its body it returns null
+-- the points at the end of a body, from this point on, by whether it can be reached: there null is returned, by way of a slot
+abbrev pub end_points : Bool → ℕ → ℕ → List PlainPoint
+end_points true end slot = set_point slot (literal_source null) (end + 1) ∷ return_point slot ∷ []
+end_points false end slot = []
+
+-- how many slots they have
+abbrev pub end_slots : Bool → ℕ
+end_slots true = 1
+end_slots false = 0
+
+-- a function from a point and a slot on: its variables have the first slots; at the end of its body it returns null, where that end can be
+-- reached
 unfoldable pub flat_function : List PlainFunction → PlainFunction → ℕ → ℕ → PlainFlowFunction
-unfolding body_of_function variable
+unfolding body_of_function variable reaches_end
 flat_function table f point slot =
     let body : Block = body_of_function table f slot in
     let free = slot + length (variables_of f) in
@@ -30,10 +42,10 @@ flat_function table f point slot =
       entry_of = point;
       params_of = map (λ (p : PlainParam). variable (scope_of table f slot) p.name_of) f.params_of;
       first_slot_of = slot;
-      slots_of = length (variables_of f) + body.slots + 1;
+      slots_of = length (variables_of f) + body.slots + end_slots (reaches_end f.body_of);
       first_point_of = point;
       points_of = body.points (record { stop = end; again = end }) point free
-          ++ (set_point (free + body.slots) (literal_source null) (end + 1) ∷ return_point (free + body.slots) ∷ []);
+          ++ end_points (reaches_end f.body_of) end (free + body.slots);
     }
 
 -- functions in their order, from a point and a slot on: each one's points and slots begin where those of the one before it end

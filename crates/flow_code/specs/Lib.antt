@@ -4,6 +4,7 @@ pub mod Variables
 pub mod Code
 pub mod Builtins
 pub mod Expressions
+pub mod Completion
 pub mod Statements
 pub mod Flat
 pub mod Runs

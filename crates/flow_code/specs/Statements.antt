@@ -1,11 +1,13 @@
 -- The points of statements. Each goes on to the one behind it, but for branches, jumps back to the head of a loop, and jumps out of it.
-use Rattle.std.specs.Prelude.{ℕ, ◌+◌, List, [], ◌∷◌, ◌++◌, Option, Some, None}
+-- Statements behind one that cannot complete normally have no points.
+use Rattle.std.specs.Prelude.{ℕ, ◌+◌, Bool, true, false, List, [], ◌∷◌, ◌++◌, Option, Some, None}
 use Rattle.php_syntax.specs.Trees.{MaybeExpr, no_expr, some_expr, PlainExprs, no_exprs, more_exprs, PlainStmt, inline_stmt, echo_stmt, run_stmt, if_stmt, while_stmt, do_while_stmt, for_stmt, each_stmt, break_stmt, continue_stmt, return_stmt, include_stmt, quit_stmt, PlainStmts, no_stmts, more_stmts, PlainArms, no_arms, more_arms}
 use Rattle.plain_values.specs.Plain.{null}
 use Rattle.flow_code.specs.Points.{PlainPoint, print_point, echo_point, branch_point, jump_point, begin_point, next_point, key_point, value_point, return_point, quit_point}
 use Rattle.flow_code.specs.Variables.{Name}
 use Rattle.flow_code.specs.Code.{Code, no_code, Block, no_block, ◌before◌, run_code, ending}
 use Rattle.flow_code.specs.Expressions.{Scope, variable, literal, code, codes}
+use Rattle.flow_code.specs.Completion.{completes, all_complete}
 
 -- `echo`: each value is printed before the next one is evaluated
 unfoldable pub echo_block : Scope → PlainExprs → Block
@@ -24,6 +26,28 @@ either test one other = record {
       test.points p t ++ (branch_point (test.gives t) first second ∷ one.points to first (t + test.slots)
       ++ (jump_point (second + other.size) ∷ other.points to second (t + test.slots + one.slots)));
 }
+
+-- a condition, and a body that no run leaves at its end; where the condition does not hold the other body
+abbrev pub guarding : Code ℕ → Block → Block → Block
+guarding test one other = record {
+  size = test.size + 1 + one.size + other.size;
+  slots = test.slots + one.slots + other.slots;
+  points = λ to p t.
+      let first = p + test.size + 1 in
+      let second = first + one.size in
+      test.points p t ++ (branch_point (test.gives t) first second ∷ one.points to first (t + test.slots)
+      ++ other.points to second (t + test.slots + one.slots));
+}
+
+-- an arm of an `if` and what stands behind it, by whether its body can complete normally
+abbrev pub arm : Bool → Code ℕ → Block → Block → Block
+arm true test one other = either test one other
+arm false test one other = guarding test one other
+
+-- what stands behind a statement in its block, by whether the statement can complete normally: nothing where it cannot
+abbrev pub reached : Bool → Block → Block
+reached true rest = rest
+reached false rest = no_block
 
 -- a condition that may be left out, and then holds; where it does not hold it leads to a point
 pub record Test : Type 0 where
@@ -111,7 +135,7 @@ key_variable w None = None
 key_variable w (Some x) = Some (variable w x)
 
 unfoldable mutual
-  unfolding code echo_block test_code return_block quit_block variable
+  unfolding code echo_block test_code return_block quit_block variable completes
 
   -- the points of a statement
   pub stmt_block : Scope → PlainStmt → Block
@@ -131,12 +155,12 @@ unfoldable mutual
   stmt_block w (include_stmt path) = no_block
   stmt_block w (quit_stmt e) = quit_block w e
 
-  -- the points of statements in their order
+  -- the points of statements in their order, up to the first that cannot complete normally
   pub block : Scope → PlainStmts → Block
   block w no_stmts = no_block
-  block w (more_stmts s ss) = stmt_block w s before block w ss
+  block w (more_stmts s ss) = stmt_block w s before reached (completes s) (block w ss)
 
   -- the arms in turn, and then what stands behind `else`
   pub arms_block : Scope → PlainArms → Block → Block
   arms_block w no_arms otherwise = otherwise
-  arms_block w (more_arms e body arms) otherwise = either (code w e) (block w body) (arms_block w arms otherwise)
+  arms_block w (more_arms e body arms) otherwise = arm (all_complete body) (code w e) (block w body) (arms_block w arms otherwise)

@@ -3,7 +3,7 @@ use Rattle.std.proofs.Common.{◌≡◌, ◌∙◌, ℕ, ◌+◌, List, [], ◌�
 use Rattle.std.proofs.lemmas.List.{map-append, length-map}
 use Rattle.flow_code.specs.Points.{PlainPoint, branch_point, jump_point}
 use Rattle.flow_code.specs.Code.{Code, Targets, Block, no_block, ◌before◌, run_code, ending}
-use Rattle.flow_code.specs.Statements.{either}
+use Rattle.flow_code.specs.Statements.{either, guarding}
 use Rattle.flow_lowering.specs.Emits.{Progress, place, Puts, Emits, Reserves, Replaces}
 use Rattle.flow_lowering.proofs.EmitLemmas.{puts_none, puts_then, puts_same, puts_length, emits_place, emits_end}
 use Rattle.flow_lowering.proofs.BranchLemmas.{replaces_between}
@@ -171,4 +171,67 @@ drafts_either {s0} {s1} {s2} {s3} {s4} {s5} {s6} {e0} {e1} {e2} {c} {one} {other
           let second_body : map (aimed to) b.draft ≡ other.points to (place s0 + c.size + 1 + one.size + 1) (s0.slot + c.slots + one.slots) = b.aims to ∙ (λ i. other.points to (p5 i) (t5 i)) in
           two_mapped (aimed to) test branches over a.draft b.draft (λ y. refl) (aimed_settled to test)
           ∙ (λ i. test ++ (branch_point (d.gives i) (f1 i) (f2 i) ∷ (first_body i ++ (jump_point (p6 i) ∷ second_body i)))));
+    }
+
+-- the exits of a draft behind points that stay, and of one behind it
+exits_of_guard : (n m k : ℕ) (xs : List PlainPoint) (x : PlainPoint) (d e : List Draft) → m ≡ n + length xs + 1 → k ≡ m + length d
+    → exits_from n (map settled xs ++ (settled x ∷ (d ++ e))) ≡ exits_from m d ++ exits_from k e
+exits_of_guard n m k xs x d e first second =
+    let at : n + length (map settled xs) + 1 ≡ m = omega (arith, first, length-map xs settled) in
+    exits_append n (map settled xs) (settled x ∷ (d ++ e))
+    ∙ ap (λ (l : List Exit). l ++ exits_from (n + length (map settled xs) + 1) (d ++ e)) (no_exits n xs)
+    ∙ ap (λ (i : ℕ). exits_from i (d ++ e)) at
+    ∙ exits_append m d e
+    ∙ ap (λ (i : ℕ). exits_from m d ++ exits_from i e) (sym second)
+
+guard_mapped : (f : Draft → PlainPoint) (xs : List PlainPoint) (x : PlainPoint) (d e : List Draft) → ((q : PlainPoint) → f (settled q) ≡ q) → map f (map settled xs) ≡ xs
+    → map f (map settled xs ++ (settled x ∷ (d ++ e))) ≡ xs ++ (x ∷ (map f d ++ map f e))
+guard_mapped f xs x d e same is =
+    map-append f (map settled xs) (settled x ∷ (d ++ e))
+    ∙ ap (λ (l : List PlainPoint). l ++ (f (settled x) ∷ map f (d ++ e))) is
+    ∙ ap (λ (l : List PlainPoint). xs ++ (f (settled x) ∷ l)) (map-append f d e)
+    ∙ (λ i. xs ++ (same x i ∷ (map f d ++ map f e)))
+
+guard_length : (xs : List PlainPoint) (x : PlainPoint) (d e : List Draft) (a b c : ℕ) → length xs ≡ a → length d ≡ b → length e ≡ c
+    → length (map settled xs ++ (settled x ∷ (d ++ e))) ≡ a + 1 + b + c
+guard_length xs x d e a b c ea eb ec =
+    omega (arith, length-append (map settled xs) (settled x ∷ (d ++ e)), length-map xs settled, length-append d e, ea, eb, ec)
+
+-- a condition, a body behind which no run goes on, and another body
+pub drafts_guarding : {s0 s1 s2 s3 s5 s6 : Progress} {e0 e1 e2 : List Exit} {c : Code ℕ} {one other : Block} {x branch first second : ℕ}
+    → Emits s0 s1 c x → Reserves s1 s2 branch first → Drafts s2 s3 e0 e1 one → second ≡ place s3 → Replaces s3 s5 branch (branch_point x first second) → Drafts s5 s6 e1 e2 other
+    → Drafts s0 s6 e0 e2 (guarding c one other)
+drafts_guarding {s0} {s1} {s2} {s3} {s5} {s6} {e0} {e1} {e2} {c} {one} {other} {x} {branch} {first} {second} d r1 a at_second q b =
+    let test : List PlainPoint = c.points (place s0) s0.slot in
+    let z : PlainPoint = jump_point 0 in
+    let branches : PlainPoint = branch_point x first second in
+    let d1 : List PlainPoint = map unaimed a.draft in
+    let d2 : List PlainPoint = map unaimed b.draft in
+    let long : length test ≡ c.size = omega (arith, puts_length d.puts, d.size) in
+    let n2 : length s2.points ≡ length s0.points + length test + 1 = omega (arith, puts_length d.puts, puts_length r1.puts) in
+    let n3 : length s3.points ≡ length s2.points + length a.draft = drafts_end a in
+    let n5 : length s5.points ≡ length s2.points + length a.draft = omega (arith, q.size, n3) in
+    let p2 : place s2 ≡ place s0 + c.size + 1 = omega (arith, n2, long, r1.puts.first, d.puts.first) in
+    let p5 : place s5 ≡ place s0 + c.size + 1 + one.size = omega (arith, n5, a.size, p2, q.first, a.puts.first) in
+    let t2 : s2.slot ≡ s0.slot + c.slots = omega (arith, r1.puts.slot, d.puts.slot) in
+    let t5 : s5.slot ≡ s0.slot + c.slots + one.slots = omega (arith, q.slot, a.puts.slot, t2) in
+    let f1 : first ≡ place s0 + c.size + 1 = omega (arith, r1.behind_is, emits_place d) in
+    let f2 : second ≡ place s0 + c.size + 1 + one.size = omega (arith, at_second, n3, a.size, p2, a.puts.first) in
+    let at1 : branch ≡ length s1.points + 0 = omega (arith, r1.index_is) in
+    let mid : Puts s1 s3 (z ∷ d1) (0 + one.slots) = puts_then r1.puts a.puts in
+    let fixed : Puts s1 s5 (branches ∷ d1) (0 + one.slots) = replaces_between [] d1 z branch branches mid at1 q in
+    let whole : Puts s1 s6 ((branches ∷ d1) ++ d2) (0 + one.slots + other.slots) = puts_then fixed b.puts in
+    let all : List Draft = map settled test ++ (settled branches ∷ (a.draft ++ b.draft)) in
+    record {
+      draft = all;
+      puts = puts_same (sym (guard_mapped unaimed test branches a.draft b.draft (λ y. refl) (unaimed_settled test))) (omega arith) (puts_then d.puts whole);
+      exits = b.exits ∙ ap (λ (l : List Exit). l ++ exits_from (length s5.points) b.draft) a.exits
+          ∙ append_assoc e0 (exits_from (length s2.points) a.draft) (exits_from (length s5.points) b.draft)
+          ∙ ap (λ (l : List Exit). e0 ++ l) (sym (exits_of_guard (length s0.points) (length s2.points) (length s5.points) test branches a.draft b.draft n2 n5));
+      size = guard_length test branches a.draft b.draft c.size one.size other.size long a.size b.size;
+      aims = λ to. (
+          let first_body : map (aimed to) a.draft ≡ one.points to (place s0 + c.size + 1) (s0.slot + c.slots) = a.aims to ∙ (λ i. one.points to (p2 i) (t2 i)) in
+          let second_body : map (aimed to) b.draft ≡ other.points to (place s0 + c.size + 1 + one.size) (s0.slot + c.slots + one.slots) = b.aims to ∙ (λ i. other.points to (p5 i) (t5 i)) in
+          guard_mapped (aimed to) test branches a.draft b.draft (λ y. refl) (aimed_settled to test)
+          ∙ (λ i. test ++ (branch_point (d.gives i) (f1 i) (f2 i) ∷ (first_body i ++ second_body i))));
     }

@@ -1,10 +1,11 @@
 -- What it means that statements were put behind the points so far.
-use Rattle.std.specs.Prelude.{◌≡◌, ℕ, ◌+◌, List, [], ◌∷◌, ◌++◌, length, map, Option}
+use Rattle.std.specs.Prelude.{◌≡◌, ℕ, ◌+◌, Bool, true, false, List, [], ◌∷◌, ◌++◌, length, map, Option}
 use Rattle.flow_code.specs.Points.{PlainPoint, jump_point, begin_point, next_point}
 use Rattle.flow_code.specs.Code.{Code, no_code, Targets, Block, ending}
 use Rattle.flow_code.specs.Statements.{Test, pair_points, pair_size}
-use Rattle.flow_lowering.specs.Emits.{Progress, place, Puts}
+use Rattle.flow_lowering.specs.Emits.{Progress, place, Puts, Reserves}
 use Rattle.flow_lowering.specs.declared.exits.Exit.{Exit}
+use Rattle.flow_lowering.specs.declared.exits.Exit.TheVariants as exit
 use Rattle.flow_lowering.specs.declared.heads.Head.{Head}
 use Rattle.flow_lowering.specs.Drafts.{Draft, unaimed, aimed, exits_from, filled, closed}
 
@@ -44,6 +45,17 @@ stopping = ending no_code (λ none to p. jump_point to.stop)
 -- `continue`, as a block of one point
 abbrev pub continuing : Block
 continuing = ending no_code (λ none to p. jump_point to.again)
+
+-- a jump is put, to be replaced, and stands behind the others
+pub record PutsOne (old new : Progress) (before after : List Exit) : Type 0 where
+  pub index : ℕ
+  pub reserves : Reserves old new index (place new)
+  pub exits : after ≡ before ++ exit.Stop index ∷ []
+
+-- the same, where it is needed
+abbrev pub PutsJump : Bool → Progress → Progress → List Exit → List Exit → Type 0
+PutsJump true old new before after = PutsOne old new before after
+PutsJump false old new before after = (new ≡ old) × (after ≡ before)
 
 -- the head of a `foreach`: the value is copied into a slot, and walked there
 abbrev pub walk_head : Code ℕ → Option ℕ → ℕ → Test

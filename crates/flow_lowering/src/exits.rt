@@ -4,7 +4,7 @@ ghost use Rattle.std.specs.Prelude.{◌≡◌, [], ◌∷◌, OnOk};
 ghost use Rattle.flow_code.specs.View.{plain_point};
 ghost use Rattle.flow_lowering.specs.View.{progress};
 ghost use Rattle.flow_lowering.specs.Drafts.{replaced, filled};
-ghost use Rattle.flow_lowering.specs.Blocks.{Drafts, stopping, continuing};
+ghost use Rattle.flow_lowering.specs.Blocks.{Drafts, PutsJump, stopping, continuing};
 
 use crate::PointBuilder;
 use flow_code::FlowPoint;
@@ -71,4 +71,24 @@ pub fn put_continue(points: &mut PointBuilder, exits: &mut Vec<Exit>) -> Result<
     let point = points.reserve()?;
     exits.push(Exit::Again(point.index))?;
     Ok(())
+}
+
+/// The point that jumps over what stands behind an arm of an `if`, where a run goes on behind the
+/// arm's body. It is replaced at the end of the `if`.
+pub fn put_jump(
+    needed: bool,
+    points: &mut PointBuilder,
+    jumps: &mut Vec<Exit>,
+) -> Result<(), NoMemory>
+    ensures { OnOk result
+        (PutsJump needed (progress points.old) (progress points.new) jumps.old.items
+        jumps.new.items) }
+{
+    if needed {
+        let point = points.reserve()?;
+        jumps.push(Exit::Stop(point.index))?;
+        Ok(())
+    } else {
+        Ok(())
+    }
 }

@@ -14,9 +14,11 @@ mod heads;
 pub mod rows;
 mod scope;
 pub mod values;
+mod ways;
 pub mod writes;
 
 pub use builder::{PointBuilder, Reserved};
-pub use exits::{Exit, fill_exits, put_break, put_continue};
+pub use exits::{Exit, fill_exits, put_break, put_continue, put_jump};
 pub use heads::{Head, begin_test, begin_walk, end_loop};
 pub use scope::FunctionScope;
+pub use ways::Ways;

@@ -3,17 +3,18 @@ use Rattle.std.proofs.Common.{◌≡◌, ℕ, suc, ◌+◌, ◌≤◌, List, [],
 use Rattle.std.specs.Prelude.{if◌then◌else◌}
 use Rattle.plain_values.specs.Plain.{Plain, null, flag, int, text, array}
 use Rattle.plain_values.specs.Text.{truth, text_of}
-use Rattle.script_meaning.specs.Runs.{State, Run, Going, ◌then_do◌, unit_at, printing}
+use Rattle.script_meaning.specs.Runs.{State, Run, Going, Over, ◌then_do◌, Ended, Faulted, Spent, Deep, unit_at, printing}
 use Rattle.script_meaning.specs.Statements.{Flow, goes_on, breaks, continues, returns, next_after, nothing, exit_with}
 use Rattle.flow_code.specs.Points.{print_point, echo_point, branch_point, jump_point, return_point, quit_point, point_at}
 use Rattle.flow_code.specs.Code.{Code, no_code, Targets, Block, no_block, ◌before◌, run_code, ending}
 use Rattle.flow_code.specs.Expressions.{Scope}
-use Rattle.flow_code.specs.Statements.{either, Test, test_of}
+use Rattle.flow_code.specs.Statements.{either, guarding, arm, reached, Test, test_of}
 use Rattle.flow_code.specs.Runs.{Slots, Frame}
-use Rattle.flow_runs.proofs.Ends.{World, Post, Follows, Comes, quit_stuck, after, lighter, here, over, heavy, onward, unit, jump_comes, print_comes, echo_comes, branch_comes, quit_ends, quit_text_ends}
+use Rattle.flow_runs.proofs.Ends.{World, Post, Comes_to, Lands, Follows, Comes, quit_stuck, after, lighter, here, over, heavy, onward, unit, jump_comes, print_comes, echo_comes, branch_comes, quit_ends, quit_text_ends}
 use Rattle.flow_runs.proofs.Has.{HasAt, has_front, has_back, two_long, mid_long, last_long}
 use Rattle.flow_runs.proofs.Frames.{free, Shows, Kept, kept_same, kept_join}
 use Rattle.flow_runs.proofs.Codes.{at_slot, Does, bind_did}
+use Rattle.flow_runs.proofs.Leaving.{LeftAs, LeftBy, IsLeft, no_way, ended_same}
 
 -- where a run of statements stands that was left so
 abbrev pub At : World → Targets → ℕ → Flow → ℕ → Frame → Type 0
@@ -37,6 +38,24 @@ at_moved m to e e' flow p g same h = subst (λ e. At m to e flow p g) same h
 
 pub went_from : {m : World} {w : Scope} {to : Targets} {e e' t t' : ℕ} {f g : Frame} {flow : Flow} {s : State} {p : ℕ} {h : Frame} → Went m w to e t' g flow s p h → e ≡ e' → t ≤ t' → Kept w t f g → Went m w to e' t f flow s p h
 went_from {m} {w} {to} {e} {e'} {flow = flow} {p = p} {h = h} went same le kept = record { at = at_moved m to e e' flow p h same went.at; shows = went.shows; kept = kept_join kept went.kept (omega arith) le }
+
+known_at : (m : World) (c p : ℕ) (f : Frame) (n : ℕ) (out : List ℕ) (r : Run Flow) (P : Post Flow) (on jumps : Bool) → LeftBy on jumps r → Comes_to m c p f n out r P → Comes_to m c p f n out r (λ how s q g. LeftAs on jumps how × P how s q g)
+known_at m c p f n out (Going how s) P on jumps left l = record { at = l.at; frame = l.frame; holds = (left, l.holds); falls = l.falls; forth = l.forth; back = l.back }
+known_at m c p f n out (Over Ended w) P on jumps left l = l
+known_at m c p f n out (Over (Faulted fault) w) P on jumps left l = l
+known_at m c p f n out (Over Spent w) P on jumps left l = l
+known_at m c p f n out (Over Deep w) P on jumps left l = l
+
+-- how a run may be left is known where it goes on
+pub known : {m : World} {c p : ℕ} {f : Frame} {n : ℕ} {out : List ℕ} {r : Run Flow} {P : Post Flow} {on jumps : Bool} → IsLeft on jumps r → Follows m c Flow p f n out r P → Follows m c Flow p f n out r (λ how s q g. LeftAs on jumps how × P how s q g)
+known {m} {c} {p} {f} {n} {out} {r} {P} {on} {jumps} left h = record { is = known_at m c p f n out r P on jumps left.is h.is }
+
+-- the end of a block that no run comes to may have any number
+moved : {m : World} {w : Scope} {to : Targets} {e t q : ℕ} {f g : Frame} {s : State} (jumps : Bool) (e' : ℕ) (flow : Flow) → LeftAs false jumps flow → Went m w to e t f flow s q g → Went m w to e' t f flow s q g
+moved jumps e' goes_on left went = no_way left
+moved jumps e' breaks left went = record { at = went.at; shows = went.shows; kept = went.kept }
+moved jumps e' continues left went = record { at = went.at; shows = went.shows; kept = went.kept }
+moved jumps e' (returns v) left went = record { at = went.at; shows = went.shows; kept = went.kept }
 
 -- something behind the turns of a loop, whose value is not asked for
 pub record Behind (w : Scope) (q t : ℕ) (f : Frame) (vs : List Plain) (s : State) (p : ℕ) (g : Frame) : Type 0 where
@@ -95,6 +114,20 @@ module _ {m : World} {w : Scope} where
       goes to p t f le has breaks s q g went = lighter 0 k (omega arith) (here (record { at = went.at; shows = went.shows; kept = went.kept }))
       goes to p t f le has continues s q g went = lighter 0 k (omega arith) (here (record { at = went.at; shows = went.shows; kept = went.kept }))
       goes to p t f le has (returns v) s q g went = lighter 0 k (omega arith) (here (record { at = went.at; shows = went.shows; kept = went.kept }))
+
+  -- what stands behind a statement that is not left at its end has no points
+  does_ended : {a : Block} {j : ℕ} {run_a : State → Run Flow} (k : ℕ) (run_b : State → Run Flow) {jumps : Bool} → DoesBlock m j w a run_a → ((s : State) → IsLeft false jumps (run_a s)) → DoesBlock m (j + k) w (a before no_block) (λ s. run_a s then_do λ flow s. next_after flow s run_b)
+  does_ended {a} {j} {run_a} k run_b d left = record {
+    long = λ to p t. two_long _ _ a.size 0 _ (d.long to p t) refl refl;
+    follows = λ to p t f s has le shows.
+        subst (λ r. Follows m (j + k) Flow p f s.left s.printed r (Went m w to (p + (a.size + 0)) t f)) (sym (ended_same (run_a s) run_b (left s)))
+        (lighter j (j + k) (omega arith) (onward (d.follows to p t f s (has_front m.flow p _ _ has) le shows) (λ flow s q g went. here (went_from went (omega arith) (omega arith) (kept_same f)))));
+  }
+
+  -- a statement and what stands behind it, by whether it can be left at its end
+  pub does_next : (on : Bool) {jumps : Bool} {a b : Block} {j k : ℕ} {run_a run_b : State → Run Flow} → ((s : State) → IsLeft on jumps (run_a s)) → DoesBlock m j w a run_a → DoesBlock m k w b run_b → DoesBlock m (j + k) w (a before reached on b) (λ s. run_a s then_do λ flow s. next_after flow s run_b)
+  does_next true left d e = does_before d e
+  does_next false {k = k} {run_b = run_b} left d e = does_ended k run_b d left
 
   pub does_run : {A V : Type 0} {a : Code A} {read : Slots → A → V} {run : State → Run V} → Does m w A V a read run → DoesBlock m 0 w (run_code a) (λ s. run s then_do λ v s. Going goes_on s)
   does_run d = record {
@@ -182,7 +215,11 @@ module _ {m : World} {w : Scope} where
   unfolding nothing
   does_no_behind = record { long = λ to p t. refl; follows = λ to p t f s has le shows. here (record { at = omega arith; shows = shows; kept = kept_same f }) }
 
-  pub does_either : {a : Code ℕ} {one other : Block} {j k : ℕ} {run : State → Run Plain} {run_one run_other : State → Run Flow} → Does m w ℕ Plain a at_slot run → DoesBlock m j w one run_one → DoesBlock m k w other run_other → DoesBlock m (j + k) w (either a one other) (λ s. run s then_do λ v s. (if truth v then run_one s else run_other s))
+  branching : {c : ℕ} (run_one run_other : State → Run Flow) (to : Targets) (v : Bool) (p t : ℕ) (f g : Frame) (s : State) (x first second e : ℕ) → point_at m.flow p ≡ Some (branch_point x first second) → truth (g.slots x) ≡ v → Follows m c Flow first g s.left s.printed (run_one s) (Went m w to e t f) → Follows m c Flow second g s.left s.printed (run_other s) (Went m w to e t f) → Follows m c Flow p g s.left s.printed (if v then run_one s else run_other s) (Went m w to e t f)
+  branching run_one run_other to true p t f g s x first second e at is h1 h2 = after (branch_comes m p x first second g s.printed true at is) h1
+  branching run_one run_other to false p t f g s x first second e at is h1 h2 = after (branch_comes m p x first second g s.printed false at is) h2
+
+  does_either : {a : Code ℕ} {one other : Block} {j k : ℕ} {run : State → Run Plain} {run_one run_other : State → Run Flow} → Does m w ℕ Plain a at_slot run → DoesBlock m j w one run_one → DoesBlock m k w other run_other → DoesBlock m (j + k) w (either a one other) (λ s. run s then_do λ v s. (if truth v then run_one s else run_other s))
   does_either {a} {one} {other} {j} {k} {run_one = run_one} {run_other = run_other} d e h = record {
     long = λ to p t.
         let first = p + a.size + 1 in
@@ -194,7 +231,7 @@ module _ {m : World} {w : Scope} where
         let h1 = has_back m.flow p a.size _ _ (d.long p t) has in
         let h2 = has_back m.flow first one.size _ _ (e.long to first (t + a.slots)) h1.1 in
         bind_did _ (d.follows p t f s (has_front m.flow p _ _ has) le shows) (λ s1 g1 v gives1 shows1 kept1.
-        branching to (truth v) p t f g1 s1 (a.gives t) first second (p + (a.size + 1 + one.size + 1 + other.size)) h1.0 (ap truth gives1)
+        branching run_one run_other to (truth v) (p + a.size) t f g1 s1 (a.gives t) first second (p + (a.size + 1 + one.size + 1 + other.size)) h1.0 (ap truth gives1)
         (lighter j (j + k) (omega arith) (onward (e.follows to first (t + a.slots) g1 s1 (has_front m.flow _ _ _ h1.1) (omega (arith, le)) shows1) (λ flow s2 q g went. jumps to (first + one.size) (second + other.size) _ t f g flow s2 q (omega arith) h2.0 (went_from went refl (omega arith) kept1))))
         (lighter k (j + k) (omega arith) (onward (h.follows to second (t + a.slots + one.slots) g1 s1 h2.1 (omega (arith, le)) shows1) (λ flow s2 q g went. here (went_from went (omega arith) (omega arith) kept1)))));
   }
@@ -205,6 +242,25 @@ module _ {m : World} {w : Scope} where
       jumps to p next e t f g continues s q same at went = here (record { at = went.at; shows = went.shows; kept = went.kept })
       jumps to p next e t f g (returns v) s q same at went = here (record { at = went.at; shows = went.shows; kept = went.kept })
 
-      branching : (to : Targets) (v : Bool) (p t : ℕ) (f g : Frame) (s : State) (x first second e : ℕ) → point_at m.flow (p + a.size) ≡ Some (branch_point x first second) → truth (g.slots x) ≡ v → Follows m (j + k) Flow first g s.left s.printed (run_one s) (Went m w to e t f) → Follows m (j + k) Flow second g s.left s.printed (run_other s) (Went m w to e t f) → Follows m (j + k) Flow (p + a.size) g s.left s.printed (if v then run_one s else run_other s) (Went m w to e t f)
-      branching to true p t f g s x first second e at is h1 h2 = after (branch_comes m (p + a.size) x first second g s.printed true at is) h1
-      branching to false p t f g s x first second e at is h1 h2 = after (branch_comes m (p + a.size) x first second g s.printed false at is) h2
+  -- where the condition holds, a body that is not left at its end
+  does_guarding : {a : Code ℕ} {one other : Block} {j k : ℕ} {run : State → Run Plain} {run_one run_other : State → Run Flow} {out : Bool} → ((s : State) → IsLeft false out (run_one s)) → Does m w ℕ Plain a at_slot run → DoesBlock m j w one run_one → DoesBlock m k w other run_other → DoesBlock m (j + k) w (guarding a one other) (λ s. run s then_do λ v s. (if truth v then run_one s else run_other s))
+  does_guarding {a} {one} {other} {j} {k} {run_one = run_one} {run_other = run_other} {out = out} left d e h = record {
+    long = λ to p t.
+        let first = p + a.size + 1 in
+        let second = first + one.size in
+        mid_long _ _ _ a.size (one.size + other.size) _ (d.long p t) (two_long _ _ one.size other.size _ (e.long to first (t + a.slots)) (h.long to second (t + a.slots + one.slots)) refl) (omega arith);
+    follows = λ to p t f s has le shows.
+        let first = p + a.size + 1 in
+        let second = first + one.size in
+        let h1 = has_back m.flow p a.size _ _ (d.long p t) has in
+        let h2 = has_back m.flow first one.size _ _ (e.long to first (t + a.slots)) h1.1 in
+        bind_did _ (d.follows p t f s (has_front m.flow p _ _ has) le shows) (λ s1 g1 v gives1 shows1 kept1.
+        branching run_one run_other to (truth v) (p + a.size) t f g1 s1 (a.gives t) first second (p + (a.size + 1 + one.size + other.size)) h1.0 (ap truth gives1)
+        (lighter j (j + k) (omega arith) (onward (known (left s1) (e.follows to first (t + a.slots) g1 s1 (has_front m.flow _ _ _ h1.1) (omega (arith, le)) shows1)) (λ flow s2 q g went. here (went_from (moved out (p + (a.size + 1 + one.size + other.size)) flow went.0 went.1) refl (omega arith) kept1))))
+        (lighter k (j + k) (omega arith) (onward (h.follows to second (t + a.slots + one.slots) g1 s1 h2 (omega (arith, le)) shows1) (λ flow s2 q g went. here (went_from went (omega arith) (omega arith) kept1)))));
+  }
+
+  -- an arm of an `if`, by whether its body can be left at its end
+  pub does_arm : (on : Bool) {a : Code ℕ} {one other : Block} {j k : ℕ} {run : State → Run Plain} {run_one run_other : State → Run Flow} {out : Bool} → ((s : State) → IsLeft on out (run_one s)) → Does m w ℕ Plain a at_slot run → DoesBlock m j w one run_one → DoesBlock m k w other run_other → DoesBlock m (j + k) w (arm on a one other) (λ s. run s then_do λ v s. (if truth v then run_one s else run_other s))
+  does_arm true left d e h = does_either d e h
+  does_arm false left d e h = does_guarding left d e h

@@ -15,7 +15,8 @@ use Rattle.program_rules.specs.Calls.{PlainCall, own_call, calls_in, maybe_calls
 use Rattle.flow_code.specs.Points.{PlainKeyRef, PlainFlow, points_in}
 use Rattle.flow_code.specs.Code.{Code, both, Block}
 use Rattle.flow_code.specs.Expressions.{Scope, variable, function_in, default_code, default_codes, code, codes, maybe_key, path_code, join_code, Begun, no_item, one_item, items_code, key_code, call_code, call_own, update_code, step_code, old_value, length_of_path, number_of as slots_asked}
-use Rattle.flow_code.specs.Statements.{test_code, return_block, quit_block, echo_block, stmt_block, block, arms_block, pair_size, key_variable}
+use Rattle.flow_code.specs.Completion.{completes, all_complete}
+use Rattle.flow_code.specs.Statements.{arm, reached, test_code, return_block, quit_block, echo_block, stmt_block, block, arms_block, pair_size, key_variable}
 use Rattle.flow_code.specs.Flat.{scope_of, flat_function, flat_functions, main_function, flat}
 use Rattle.flow_runs.specs.Defaults.{HaveDefaults}
 use Rattle.flow_runs.proofs.Ends.{world}
@@ -193,6 +194,14 @@ unfolding quit_block nodes collected own_call expr_fits
 quit_size w no_expr s = omega arith
 quit_size w (some_expr e) s = let h = expr_size w e s in omega (arith, h)
 
+reached_size : (on : Bool) (b : Block) → (reached on b).size ≤ b.size
+reached_size true b = omega arith
+reached_size false b = omega arith
+
+arm_size : (on : Bool) (test : Code ℕ) (one other : Block) → (arm on test one other).size ≤ test.size + 1 + one.size + 1 + other.size
+arm_size true test one other = omega arith
+arm_size false test one other = omega arith
+
 mutual
   unfolding stmt_block stmt_nodes collected_of own_call stmt_fits
 
@@ -235,7 +244,7 @@ mutual
   stmts_size w i f no_stmts s = omega arith
   stmts_size w i f (more_stmts st ss) s =
       let h = stmt_size w i f st (left (stmt_fits i f st) (stmts_fit i f ss) s) in let k = stmts_size w i f ss (right (stmt_fits i f st) (stmts_fit i f ss) s) in
-      let l = left_both w.functions (calls_of st) (statement_calls ss) in omega (arith, h, k, l)
+      let l = left_both w.functions (calls_of st) (statement_calls ss) in let r = reached_size (completes st) (block w ss) in omega (arith, h, k, l, r)
 
   arms_size : (w : Scope) (i f : Bool) (arms : PlainArms) → arms_fit i f arms ≡ true → (other : Block) → (arms_block w arms other).size ≤ 8 * arms_nodes arms + 2 * left_out w.functions (arm_calls arms) + other.size
   arms_size w i f no_arms s other = omega arith
@@ -243,7 +252,8 @@ mutual
       let s1 = right (expr_fits e) (stmts_fit i f ss && arms_fit i f arms) s in
       let h = expr_size w e (left (expr_fits e) (stmts_fit i f ss && arms_fit i f arms) s) in
       let k = stmts_size w i f ss (left (stmts_fit i f ss) (arms_fit i f arms) s1) in let n = arms_size w i f arms (right (stmts_fit i f ss) (arms_fit i f arms) s1) other in
-      let l = left_both w.functions (calls_in e) (statement_calls ss ++ arm_calls arms) in let m = left_both w.functions (statement_calls ss) (arm_calls arms) in omega (arith, h, k, n, l, m)
+      let l = left_both w.functions (calls_in e) (statement_calls ss ++ arm_calls arms) in let m = left_both w.functions (statement_calls ss) (arm_calls arms) in
+      let r = arm_size (all_complete ss) (code w e) (block w ss) (arms_block w arms other) in omega (arith, h, k, n, l, m, r)
 
 module _ (flow : PlainFlow) (table : List PlainFunction) (defaults : HaveDefaults table) (calls : (cost : ℕ) → CallsDo (world flow no_request false cost zero) table) where
   function_points : (i g : Bool) (f : PlainFunction) (p t : ℕ) → stmts_fit i g f.body_of ≡ true → length (flat_function table f p t).points_of ≤ 8 * stmts_nodes f.body_of + 2 + 2 * left_out table (statement_calls f.body_of)

@@ -11,6 +11,7 @@ pub mod Calls
 pub mod Items
 pub mod Agreement
 pub mod Trees
+pub mod Leaving
 pub mod Blocks
 pub mod Loops
 pub mod Stmts

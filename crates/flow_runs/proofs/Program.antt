@@ -1,5 +1,5 @@
 -- The points of a program do what it does.
-use Rattle.std.proofs.Common.{◌≡◌, ℕ, zero, suc, ◌+◌, List, [], ◌∷◌, ◌++◌, length, Some, None, Option, refl, sym, ap, ◌∙◌, subst, arith, ◌≤◌, ◌⊎◌, inl, inr, Bool, true, false, map, take, drop, nat_eq, bytes_eq, slice_get}
+use Rattle.std.proofs.Common.{◌≡◌, ℕ, zero, suc, ◌+◌, List, [], ◌∷◌, ◌++◌, length, Some, None, Option, refl, sym, ap, ◌∙◌, subst, arith, ◌≤◌, ◌⊎◌, inl, inr, Bool, true, false, ◌||◌, map, take, drop, nat_eq, bytes_eq, slice_get}
 use Rattle.std.specs.Prelude.{if◌then◌else◌}
 use Rattle.std.proofs.lemmas.Bool.{eq-eqb, ne_eqb}
 use Rattle.php_syntax.specs.Trees.{PlainParam, PlainFunction}
@@ -15,8 +15,9 @@ use Rattle.flow_code.specs.Points.{literal_source, set_point, call_point, return
 use Rattle.flow_code.specs.Variables.{Name, name_of_param, names_of, variables_of}
 use Rattle.flow_code.specs.Code.{Targets}
 use Rattle.flow_code.specs.Expressions.{Scope, variable, function_in}
+use Rattle.flow_code.specs.Completion.{all_complete, some_jump_out, reaches_end}
 use Rattle.flow_code.specs.Statements.{block}
-use Rattle.flow_code.specs.Flat.{scope_of, body_of_function, flat_function, flat_functions, main_function, flat}
+use Rattle.flow_code.specs.Flat.{end_points, scope_of, body_of_function, flat_function, flat_functions, main_function, flat}
 use Rattle.flow_code.specs.Runs.{Frame, set_slot, fresh, arguments_in, source_value, FlowEnd, returned, exited, RunsFrom, FlatRun}
 use Rattle.flow_runs.specs.Defaults.{HaveDefaults}
 use Rattle.flow_runs.specs.Keyed.{StmtsKeyed, FunctionsKeyed, ProgramKeyed}
@@ -26,7 +27,8 @@ use Rattle.flow_runs.proofs.Has.{HasAt, has_front, has_back, has_all}
 use Rattle.flow_runs.proofs.Names.{Has, HasAll, all_front, all_back, once_has, place_is, name_is, other_name}
 use Rattle.flow_runs.proofs.Frames.{slot_same, Shows}
 use Rattle.flow_runs.proofs.Calls.{env, default_of, handed, Came, CallsDo, by_own}
-use Rattle.flow_runs.proofs.Blocks.{Went}
+use Rattle.flow_runs.proofs.Leaving.{LeftAs, left_holds, right_holds, stmts_left}
+use Rattle.flow_runs.proofs.Blocks.{Went, known}
 use Rattle.flow_runs.proofs.Stmts.{stmts_units, block_does}
 
 -- a function stands among the points
@@ -135,19 +137,22 @@ inside (inl b) = let paid = b.paid in record { w = b.u; end = returned b.v; inne
 inside {w = w} (inr b) = let paid = b.paid in record { w = w; end = exited; inner = b.inner; paid = omega (arith, paid) }
 
 module _ {flow : PlainFlow} {r : PlainRequest} {strict : Bool} {cost room : ℕ} where
-  -- the points behind a body
-  body_ends : (w : Scope) (to : Targets) (e t y q : ℕ) (f g : Frame) (how : Flow) (s : State) → to.stop ≡ e → to.again ≡ e → point_at flow e ≡ Some (set_point y (literal_source null) (e + 1)) → point_at flow (e + 1) ≡ Some (return_point y) → Went (world flow r strict cost room) w to e t f how s q g → Ends (world flow r strict cost room) q g s.printed s.printed (returned (value_returned how))
+  -- the points behind a body, whose end can be reached where the body can be left at its end, or by a jump
+  body_ends : (w : Scope) (to : Targets) (on jumps : Bool) (e t y q : ℕ) (f g : Frame) (how : Flow) (s : State) → to.stop ≡ e → to.again ≡ e → HasAt flow e (end_points (on || jumps) e y) → LeftAs on jumps how → Went (world flow r strict cost room) w to e t f how s q g → Ends (world flow r strict cost room) q g s.printed s.printed (returned (value_returned how))
   unfolding value_returned source_value
-  body_ends w to e t y q f g how s stop again sets back went = by_flow how went
+  body_ends w to on jumps e t y q f g how s stop again has left went = by_flow how left went
     where
-      null_ends : Ends (world flow r strict cost room) e g s.printed s.printed (returned null)
-      null_ends = (set_comes (world flow r strict cost room) e y (e + 1) (literal_source null) g null s.printed sets refl).forth s.printed (returned null) (return_ends (world flow r strict cost room) (e + 1) y (set_slot g y null) s.printed null back (slot_same g y null))
+      null_ends : HasAt flow e (end_points true e y) → Ends (world flow r strict cost room) e g s.printed s.printed (returned null)
+      null_ends has = (set_comes (world flow r strict cost room) e y (e + 1) (literal_source null) g null s.printed has.0 refl).forth s.printed (returned null) (return_ends (world flow r strict cost room) (e + 1) y (set_slot g y null) s.printed null has.1.0 (slot_same g y null))
 
-      by_flow : (how : Flow) → Went (world flow r strict cost room) w to e t f how s q g → Ends (world flow r strict cost room) q g s.printed s.printed (returned (value_returned how))
-      by_flow goes_on went = subst (λ q. Ends (world flow r strict cost room) q g s.printed s.printed (returned null)) (sym went.at) null_ends
-      by_flow breaks went = subst (λ q. Ends (world flow r strict cost room) q g s.printed s.printed (returned null)) (sym (went.at ∙ stop)) null_ends
-      by_flow continues went = subst (λ q. Ends (world flow r strict cost room) q g s.printed s.printed (returned null)) (sym (went.at ∙ again)) null_ends
-      by_flow (returns v) went = return_ends (world flow r strict cost room) q went.at.0 g s.printed v went.at.1 went.at.2
+      there : (on || jumps) ≡ true → Ends (world flow r strict cost room) e g s.printed s.printed (returned null)
+      there is = null_ends (subst (λ b. HasAt flow e (end_points b e y)) is has)
+
+      by_flow : (how : Flow) → LeftAs on jumps how → Went (world flow r strict cost room) w to e t f how s q g → Ends (world flow r strict cost room) q g s.printed s.printed (returned (value_returned how))
+      by_flow goes_on left went = subst (λ q. Ends (world flow r strict cost room) q g s.printed s.printed (returned null)) (sym went.at) (there (left_holds on jumps left))
+      by_flow breaks left went = subst (λ q. Ends (world flow r strict cost room) q g s.printed s.printed (returned null)) (sym (went.at ∙ stop)) (there (right_holds on jumps left))
+      by_flow continues left went = subst (λ q. Ends (world flow r strict cost room) q g s.printed s.printed (returned null)) (sym (went.at ∙ again)) (there (right_holds on jumps left))
+      by_flow (returns v) left went = return_ends (world flow r strict cost room) q went.at.0 g s.printed v went.at.1 went.at.2
 
   goes_in : {x next n : ℕ} {args : List ℕ} {callee : PlainFlowFunction} {f : Frame} {w : List ℕ} {end : FlowEnd} {most : ℕ} → function_at flow n ≡ Some callee → Calls_on (world flow r strict cost (suc room)) x n args next f w end most → Comes_back (world flow r strict cost (suc room)) room x next callee (map f.slots args) f w end most ⊎ Stays_in (world flow r strict cost (suc room)) room callee (map f.slots args) w end most
   goes_in {x} {next} {n} {args} {callee} {f} {w} {end} {most} is a =
@@ -212,7 +217,7 @@ module _ {flow : PlainFlow} {r : PlainRequest} {strict : Bool} {cost : ℕ} (tab
     (keyed : (k : ℕ) (f : PlainFunction) → slice_get table k ≡ Some f → strict ≡ true → StmtsKeyed f.body_of) (few : (k : ℕ) (f : PlainFunction) → slice_get table k ≡ Some f → suc (stmts_units f.body_of) ≤ cost) where
   -- a function whose points stand here, from a state whose variables its slots show
   function_follows : (room : ℕ) → CallsDo (world flow r strict cost room) table → (f : PlainFunction) (point slot : ℕ) (frame : Frame) (s : State) → (strict ≡ true → StmtsKeyed f.body_of) → suc (stmts_units f.body_of) ≤ cost → HasAt flow point (flat_function table f point slot).points_of → Shows (scope_of table f slot) s frame → Follows (world flow r strict cost room) (stmts_units f.body_of) Flow point frame s.left s.printed (statements (env (world flow r strict cost room) table) f.body_of s) (λ how t q g. Ends (world flow r strict cost room) q g t.printed t.printed (returned (value_returned how)))
-  unfolding flat_function body_of_function scope_of
+  unfolding flat_function body_of_function scope_of reaches_end
   function_follows room calls f point slot frame s own_keyed own_few has shows =
       let w = scope_of table f slot in
       let body = block w f.body_of in
@@ -221,8 +226,8 @@ module _ {flow : PlainFlow} {r : PlainRequest} {strict : Bool} {cost : ℕ} (tab
       let to : Targets = record { stop = e; again = e } in
       let d = block_does {m = world flow r strict cost room} {w = w} calls defaults f.body_of (all_back w.names (map name_of_param f.params_of) (names_of f.body_of) (names_there table f slot)) own_keyed (omega (arith, own_few)) in
       let ends = has_back flow point body.size (body.points to point start) _ (d.long to point start) has in
-      onward (d.follows to point start frame s (has_front flow point (body.points to point start) _ has) (omega arith) shows)
-      (λ how t q g went. here (body_ends w to e start _ q frame g how t refl refl ends.0 ends.1.0 went))
+      onward (known (stmts_left (env (world flow r strict cost room) table) f.body_of s) (d.follows to point start frame s (has_front flow point (body.points to point start) _ has) (omega arith) shows))
+      (λ how t q g went. here (body_ends w to (all_complete f.body_of) (some_jump_out f.body_of) e start _ q frame g how t refl refl ends went.0 went.1))
 
   called_follows : (room : ℕ) → CallsDo (world flow r strict cost room) table → (n : ℕ) (f : PlainFunction) (point slot : ℕ) → (strict ≡ true → StmtsKeyed f.body_of) → suc (stmts_units f.body_of) ≤ cost → HasAt flow point (flat_function table f point slot).points_of → function_at flow n ≡ Some (flat_function table f point slot) → (p x next : ℕ) (args : List ℕ) (g : Frame) (s : State) (left : ℕ) (vs : List Plain) → s.left ≡ left → point_at flow p ≡ Some (call_point x n args next) → map g.slots args ≡ handed f vs → Follows (world flow r strict cost (suc room)) 0 Plain p g (suc left) s.printed (run_body (env (world flow r strict cost room) table) f vs s) (Came x next g s)
   unfolding run_body flat_function scope_of fresh

@@ -10,6 +10,7 @@ use Rattle.script_meaning.specs.Statements.{Flow, goes_on, next_after, condition
 use Rattle.program_expressions.specs.Collected.{collected, collected_of}
 use Rattle.flow_code.specs.Variables.{own_names, names_in, maybe_names, names_in_all, key_names, names_of_stmt, names_of, names_of_arms}
 use Rattle.flow_code.specs.Code.{Block}
+use Rattle.flow_code.specs.Completion.{completes, all_complete}
 use Rattle.flow_code.specs.Expressions.{Scope}
 use Rattle.flow_code.specs.Statements.{echo_block, test_code, return_block, quit_block, stmt_block, block, arms_block}
 use Rattle.flow_runs.specs.Defaults.{HaveDefaults}
@@ -18,7 +19,8 @@ use Rattle.flow_runs.proofs.Ends.{World}
 use Rattle.flow_runs.proofs.Names.{HasAll, all_front, all_back}
 use Rattle.flow_runs.proofs.Calls.{env, CallsDo, does_literal}
 use Rattle.flow_runs.proofs.Trees.{code_does, codes_does}
-use Rattle.flow_runs.proofs.Blocks.{DoesBlock, DoesTest, block_same, heavier, does_unit, does_nothing, does_before, does_run, does_print, does_echo, does_break, does_continue, does_return, does_quit, does_quit_with, does_test, does_no_test, does_behind, does_no_behind, does_either}
+use Rattle.flow_runs.proofs.Leaving.{stmt_left, stmts_left}
+use Rattle.flow_runs.proofs.Blocks.{DoesBlock, DoesTest, block_same, heavier, does_unit, does_nothing, does_before, does_next, does_run, does_print, does_echo, does_break, does_continue, does_return, does_quit, does_quit_with, does_test, does_no_test, does_behind, does_no_behind, does_arm}
 use Rattle.flow_runs.proofs.Loops.{does_looping, does_repeating, does_walking}
 
 echo_then : (r : Run Plain) (go : State → Run Flow) → ((r then_do λ v s. Going goes_on (printing (text_of v) s)) then_do λ flow s. next_after flow s go) ≡ (r then_do λ v s. go (printing (text_of v) s))
@@ -114,7 +116,7 @@ module _ {m : World} {w : Scope} (calls : CallsDo m w.functions) (defaults : Hav
 
     pub block_does : (ss : PlainStmts) → HasAll w.names (names_of ss) → (m.strict ≡ true → StmtsKeyed ss) → stmts_units ss ≤ m.cost → DoesBlock m (stmts_units ss) w (block w ss) (statements (env m w.functions) ss)
     block_does no_stmts h o n = does_nothing
-    block_does (more_stmts st ss) h o n = does_before (stmt_does st (all_front w.names (names_of_stmt st) (names_of ss) h) (λ k. (o k).0) (omega (arith, n))) (block_does ss (all_back w.names (names_of_stmt st) (names_of ss) h) (λ k. (o k).1) (omega (arith, n)))
+    block_does (more_stmts st ss) h o n = does_next (completes st) (stmt_left (env m w.functions) st) (stmt_does st (all_front w.names (names_of_stmt st) (names_of ss) h) (λ k. (o k).0) (omega (arith, n))) (block_does ss (all_back w.names (names_of_stmt st) (names_of ss) h) (λ k. (o k).1) (omega (arith, n)))
 
     pub arms_does : (arms : PlainArms) → HasAll w.names (names_of_arms arms) → (m.strict ≡ true → ArmsKeyed arms) → arms_units arms ≤ m.cost → {other : Block} {c : ℕ} {run : State → Run Flow} → DoesBlock m c w other run → DoesBlock m (arms_units arms + c) w (arms_block w arms other) (arms_in (env m w.functions) arms run)
     arms_does no_arms h o n {c = c} d = heavier c (0 + c) (omega arith) d
@@ -122,4 +124,4 @@ module _ {m : World} {w : Scope} (calls : CallsDo m w.functions) (defaults : Hav
         let h1 = all_back w.names (names_in e) (names_of body ++ names_of_arms arms) h in
         heavier (stmts_units body + (arms_units arms + c)) (arms_units (more_arms e body arms) + c) (omega arith)
         (block_same _ _ (λ s. made_then (value (env m w.functions) e s) truth (λ holds s. if holds then statements (env m w.functions) body s else arms_in (env m w.functions) arms run s))
-        (does_either (code_does calls defaults e (all_front w.names (names_in e) (names_of body ++ names_of_arms arms) h) (λ k. (o k).0)) (block_does body (all_front w.names (names_of body) (names_of_arms arms) h1) (λ k. (o k).1) (omega (arith, n))) (arms_does arms (all_back w.names (names_of body) (names_of_arms arms) h1) (λ k. (o k).2) (omega (arith, n)) d)))
+        (does_arm (all_complete body) (stmts_left (env m w.functions) body) (code_does calls defaults e (all_front w.names (names_in e) (names_of body ++ names_of_arms arms) h) (λ k. (o k).0)) (block_does body (all_front w.names (names_of body) (names_of_arms arms) h1) (λ k. (o k).1) (omega (arith, n))) (arms_does arms (all_back w.names (names_of body) (names_of_arms arms) h1) (λ k. (o k).2) (omega (arith, n)) d)))

@@ -71,7 +71,7 @@ fn statements(rt: HostRuntime) -> Result<(), Fail> {
             "sbsbjjjjsr ",
         ),
         ("<?php function f($a, $b = 'c') {} f(5);", "sscsr sr "),
-        ("<?php function f() { exit('a'); } echo f();", "cesr sqsr "),
+        ("<?php function f() { exit('a'); } echo f();", "cesr sq "),
         ("<?php function f($a) { echo $a; }", "sr sesr "),
     ] {
         assert!(rt; has_kinds(rt.alloc(), text, kinds)?, "{text}");
@@ -91,9 +91,14 @@ fn control(rt: HostRuntime) -> Result<(), Fail> {
         ("<?php do { echo 'a'; } while ($x);", "sesbsr "),
         ("<?php for (;;) { break; }", "jjsr "),
         ("<?php foreach ($a as $v) { continue; }", "swnvjjsr "),
-        ("<?php print $x; exit;", "seqsr "),
-        ("<?php exit(3);", "qsr "),
-        ("<?php function f() { return 1; } f();", "csr srsr "),
+        ("<?php print $x; exit;", "seq "),
+        ("<?php exit(3);", "q "),
+        ("<?php function f() { return 1; } f();", "csr sr "),
+        ("<?php exit; echo 'a';", "q "),
+        ("<?php if ($x) { exit; } else { exit('a'); }", "sbqsq "),
+        ("<?php if ($x) { exit; } echo 'a';", "sbqsesr "),
+        ("<?php while ($x) { exit; }", "sbqjsr "),
+        ("<?php for (;;) { break; echo 'a'; }", "jjsr "),
     ] {
         assert!(rt; has_kinds(rt.alloc(), text, kinds)?, "{text}");
     }

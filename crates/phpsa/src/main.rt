@@ -1,7 +1,7 @@
 //! The program `phpsa`: it hands the words, the files and the two outputs of the system to
 //! `phpsa_main::phpsa`, and ends with the status that comes back.
-//! Promise: what it answers is the contract of `phpsa_main::phpsa`; that the files and streams of
-//! the system do what io_edge asks of them is trusted.
+//! Promise: what it answers is the contract of `phpsa_main::phpsa`; what real files and streams hold
+//! no clause says, which is tested.
 //! Used by: the command line.
 #![tactic(auto)]
 

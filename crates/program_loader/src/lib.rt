@@ -1,7 +1,7 @@
 //! Programs from files: `load` reads a file and all that it includes, and puts them together.
-//! Promise: it gives only the program of the name (`Loads` of specs/Causes), and each refusal has
-//! its cause (`IsLoadCause`); where a source that does not fail holds a program, want of memory is
-//! the only one (`held_programs_are_loaded`, over `HoldsProgram` of specs/Told).
+//! Promise: it gives a program of the name, of files that the source could hold (`Loads` of
+//! specs/Causes), and each refusal has its cause (`IsLoadCause`); one that a source holds in files
+//! within their limit is refused for want of memory alone (`held_programs_are_loaded`).
 //! Used by: phpsa_tasks, phpsa_main, lowering_tests, extraction_tests, run_bench, extraction_bench.
 #![tactic(auto)]
 

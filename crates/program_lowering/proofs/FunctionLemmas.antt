@@ -12,9 +12,10 @@ use Rattle.flow_code.specs.Points.{PlainPoint, PlainFlowFunction}
 use Rattle.flow_code.specs.Variables.{Name, name_of_param, names_of, once, variables_of}
 use Rattle.flow_code.specs.Expressions.{Scope, variable}
 use Rattle.flow_code.specs.Statements.{block}
-use Rattle.flow_code.specs.Flat.{scope_of, body_of_function, flat_function, flat_functions}
+use Rattle.flow_code.specs.Completion.{reaches_end}
+use Rattle.flow_code.specs.Flat.{end_slots, scope_of, body_of_function, flat_function, flat_functions}
 use Rattle.flow_lowering.specs.Emits.{Progress}
-use Rattle.program_lowering.specs.Bodies.{with_return, function_with}
+use Rattle.program_lowering.specs.Bodies.{with_end, function_with}
 use Rattle.flow_code.specs.View.{slot_number, plain_point, plain_flow_function}
 use Rattle.flow_code.specs.declared.program.FlowFunction.{FlowFunction}
 
@@ -46,7 +47,7 @@ params_end {all} slots w params i le inv =
 -- a function, from its parts as they were made
 pub function_is : {count free slots : ℕ} {names : List Name} {made : List ℕ} {points : List PlainPoint} {all : Progress} (table : List PlainFunction) (name : List ℕ) (params : List Param) (body : List Stmt) (point slot : ℕ)
     → names ≡ once (map name_of_param (params_of_list params) ++ names_of (stmts_of body)) → count ≡ length names → free ≡ slot + count
-    → made ≡ slots_in (record { base = slot; names = names; functions = table }) params → all ≡ with_return (block (record { base = slot; names = names; functions = table }) (stmts_of body)) point free
+    → made ≡ slots_in (record { base = slot; names = names; functions = table }) params → all ≡ with_end (reaches_end (stmts_of body)) (block (record { base = slot; names = names; functions = table }) (stmts_of body)) point free
     → slot + slots ≡ all.slot → points ≡ all.points
     → flow_function point made slot slots points ≡ flat_function table (function_with name params body) point slot
 unfolding flat_function body_of_function scope_of variables_of
@@ -55,11 +56,11 @@ function_is {count} {free} {slots} {names} {made} {points} {all} table name para
     let old : Scope = record { base = slot; names = names; functions = table } in
     let scopes : old ≡ scope_of table f slot = λ i. record { base = slot; names = names_are i; functions = table } in
     let frees : free ≡ slot + length (variables_of f) = free_is ∙ ap (λ (n : ℕ). slot + n) (count_is ∙ ap length names_are) in
-    let last : all.slot ≡ free + (block old (stmts_of body)).slots + 1 = ap (λ (s : Progress). s.slot) all_is in
-    let number : slots ≡ length names + (block old (stmts_of body)).slots + 1 = omega (arith, last, slots_are, free_is, count_is) in
-    let points_end : points ≡ (flat_function table f point slot).points_of = points_are ∙ ap (λ (s : Progress). s.points) all_is ∙ (λ i. (with_return (block (scopes i) (stmts_of body)) point (frees i)).points) in
+    let last : all.slot ≡ free + (block old (stmts_of body)).slots + end_slots (reaches_end (stmts_of body)) = ap (λ (s : Progress). s.slot) all_is in
+    let number : slots ≡ length names + (block old (stmts_of body)).slots + end_slots (reaches_end (stmts_of body)) = omega (arith, last, slots_are, free_is, count_is) in
+    let points_end : points ≡ (flat_function table f point slot).points_of = points_are ∙ ap (λ (s : Progress). s.points) all_is ∙ (λ i. (with_end (reaches_end (stmts_of body)) (block (scopes i) (stmts_of body)) point (frees i)).points) in
     let params_end : made ≡ (flat_function table f point slot).params_of = made_are ∙ (λ i. slots_in (scopes i) params) in
-    let number_end : slots ≡ (flat_function table f point slot).slots_of = number ∙ (λ i. length (names_are i) + (block (scopes i) (stmts_of body)).slots + 1) in
+    let number_end : slots ≡ (flat_function table f point slot).slots_of = number ∙ (λ i. length (names_are i) + (block (scopes i) (stmts_of body)).slots + end_slots (reaches_end (stmts_of body))) in
     λ i. flow_function point (params_end i) slot (number_end i) (points_end i)
 
 -- the functions behind those that are made

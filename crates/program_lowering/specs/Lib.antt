@@ -1,3 +1,4 @@
 pub mod Short
 pub mod Added
+pub mod Arms
 pub mod Bodies

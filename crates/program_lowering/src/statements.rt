@@ -1,17 +1,19 @@
 //! Statements that have bodies, and statements in a row.
+//!
+//! What stands behind a statement that cannot complete normally is left out.
 
 ghost use Rattle.std.specs.Prelude.{◌≡◌, IfOk, OnOk, List};
 ghost use Rattle.php_syntax.specs.Trees.{plain_expr, plain_stmt, stmts_of, arms_of, exprs_of, maybe_of};
-ghost use Rattle.flow_code.specs.Points.{jump_point};
 ghost use Rattle.flow_code.specs.Code.{Block, no_block, ◌before◌, run_code};
 ghost use Rattle.flow_code.specs.Expressions.{code, codes, variable};
-ghost use Rattle.flow_code.specs.Statements.{Test, either, test_of, test_code, looping, repeating, walking, key_variable, stmt_block, block, arms_block};
+ghost use Rattle.flow_code.specs.Completion.{completes, all_complete, one_completes, jumps_out, some_jump_out, one_jumps_out};
+ghost use Rattle.flow_code.specs.Statements.{Test, arm, test_of, test_code, looping, repeating, walking, key_variable, stmt_block, block, arms_block};
 ghost use Rattle.flow_lowering.specs.View.{progress};
 ghost use Rattle.flow_lowering.specs.Emits.{Progress, place};
 ghost use Rattle.flow_lowering.specs.ScopeView.{scope_in};
 ghost use Rattle.flow_lowering.specs.declared.exits.Exit.{Exit};
-ghost use Rattle.flow_lowering.specs.Drafts.{replaced};
 ghost use Rattle.flow_lowering.specs.Blocks.{Lays, Drafts, Opens};
+ghost use Rattle.program_lowering.specs.Arms.{Armed};
 
 use crate::alone::{
     key_slot, lower_echo, lower_inline, lower_maybe_test, lower_quit, lower_return, lower_run,
@@ -20,15 +22,16 @@ use crate::alone::{
 use expression_lowering::{LoweringError, lower_expr, lower_exprs};
 use flow_code::FlowPoint;
 use flow_lowering::{
-    Exit, FunctionScope, Head, PointBuilder, begin_walk, end_loop, fill_exits, put_break,
-    put_continue,
+    Exit, FunctionScope, Head, PointBuilder, Ways, begin_walk, end_loop, fill_exits, put_break,
+    put_continue, put_jump,
 };
 use php_syntax::tree::{Expr, Stmt};
 use std::alloc::Global;
 use text_base::{Bytes, Point};
 
-/// Statements, one behind the other. Their `break` and `continue` outside loops of their own are
-/// put behind the exits so far, and are to be replaced once it is known where they lead.
+/// Statements, one behind the other, and how a run may leave them. Their `break` and `continue`
+/// outside loops of their own are put behind the exits so far, and are to be replaced once it is
+/// known where they lead.
 #[cycle(statements)]
 pub fn lower_stmts(
     alloc: Global,
@@ -36,19 +39,30 @@ pub fn lower_stmts(
     stmts: &[Stmt],
     points: &mut PointBuilder,
     exits: &mut Vec<Exit>,
-) -> Result<(), LoweringError>
-    ensures { OnOk result
+) -> Result<Ways, LoweringError>
+    ensures points { OnOk result
         (Drafts (progress points.old) (progress points.new) exits.old.items exits.new.items
         (block (scope_in scope.now) (stmts_of stmts.now))) }
+    ensures completes { IfOk result
+        (λ ways. ways.completes ≡ all_complete (stmts_of stmts.now)) }
+    ensures jumps { IfOk result (λ ways. ways.jumps_out ≡ some_jump_out (stmts_of stmts.now)) }
 {
+    let mut ways = Ways {
+        completes: true,
+        jumps_out: false,
+    };
     for stmt in stmts {
-        lower_stmt(alloc, scope, stmt, points, exits)?;
+        let next = lower_stmt(alloc, scope, stmt, points, exits)?;
+        ways = ways.then(next);
+        if !ways.completes {
+            return Ok(ways);
+        }
     }
-    Ok(())
+    Ok(ways)
 }
 
-// An arm of an `if`. Its point that jumps over what stands behind the arm has this place, and is to
-// be replaced.
+// An arm of an `if`, and how a run may leave its body. Where it may go on behind the body, a point
+// that jumps over what stands behind the arm is put behind the jumps so far, and is to be replaced.
 #[cycle(statements)]
 fn lower_arm(
     alloc: Global,
@@ -57,22 +71,25 @@ fn lower_arm(
     body: &[Stmt],
     points: &mut PointBuilder,
     exits: &mut Vec<Exit>,
-) -> Result<usize, LoweringError>
-    ensures { IfOk result
-        (λ jump. (s : Progress) (last : List Exit) (rest : Block)
+    jumps: &mut Vec<Exit>,
+) -> Result<Ways, LoweringError>
+    ensures points { IfOk result
+        (λ ways. (s : Progress) (last : List Exit) (rest : Block)
         → Drafts (progress points.new) s exits.new.items last rest
-        → Drafts (progress points.old) (replaced s jump (jump_point (place s))) exits.old.items last
-        (either (code (scope_in scope.now) (plain_expr test.now))
+        → Armed (progress points.old) s exits.old.items last jumps.old.items jumps.new.items
+        (arm (all_complete (stmts_of body.now)) (code (scope_in scope.now) (plain_expr test.now))
         (block (scope_in scope.now) (stmts_of body.now)) rest)) }
+    ensures completes { IfOk result (λ ways. ways.completes ≡ all_complete (stmts_of body.now)) }
+    ensures jumps { IfOk result (λ ways. ways.jumps_out ≡ some_jump_out (stmts_of body.now)) }
 {
     let slot = lower_expr(alloc, scope, test, points)?;
     let branch = points.reserve()?;
-    lower_stmts(alloc, scope, body, points, exits)?;
-    let jump = points.reserve()?;
+    let ways = lower_stmts(alloc, scope, body, points, exits)?;
+    put_jump(ways.completes, points, jumps)?;
     let yes = branch.behind;
-    let no = jump.behind;
+    let no = points.place();
     points.replace(branch.index, FlowPoint::Branch { slot, yes, no });
-    Ok(jump.index)
+    Ok(ways)
 }
 
 // `if`
@@ -84,21 +101,30 @@ fn lower_if(
     otherwise: &[Stmt],
     points: &mut PointBuilder,
     exits: &mut Vec<Exit>,
-) -> Result<(), LoweringError>
-    ensures { OnOk result
+) -> Result<Ways, LoweringError>
+    ensures points { OnOk result
         (Drafts (progress points.old) (progress points.new) exits.old.items exits.new.items
         (arms_block (scope_in scope.now) (arms_of arms.now)
         (block (scope_in scope.now) (stmts_of otherwise.now)))) }
+    ensures completes { IfOk result (λ ways. ways.completes
+        ≡ one_completes (arms_of arms.now) (all_complete (stmts_of otherwise.now))) }
+    ensures jumps { IfOk result (λ ways. ways.jumps_out
+        ≡ one_jumps_out (arms_of arms.now) (some_jump_out (stmts_of otherwise.now))) }
 {
     let mut jumps = Vec::new(alloc);
+    let mut ways = Ways {
+        completes: false,
+        jumps_out: false,
+    };
     for arm in arms {
-        let jump = lower_arm(alloc, scope, &arm.0, arm.1.as_slice(), points, exits)?;
-        jumps.push(Exit::Stop(jump))?;
+        let body = arm.1.as_slice();
+        let next = lower_arm(alloc, scope, &arm.0, body, points, exits, &mut jumps)?;
+        ways = ways.beside(next);
     }
-    lower_stmts(alloc, scope, otherwise, points, exits)?;
+    let last = lower_stmts(alloc, scope, otherwise, points, exits)?;
     let stop = points.place();
     fill_exits(jumps, stop, stop, points);
-    Ok(())
+    Ok(ways.beside(last))
 }
 
 // The turns of `while` and `for` behind their test, which begins at `back`.
@@ -227,35 +253,49 @@ fn lower_each(
     Ok(())
 }
 
-// A statement.
+// A statement, and how a run may leave it.
 #[cycle(statements)]
-#[tactic(auto, using(php_syntax::proofs::Views::views), unfolding(flow_code::specs::Statements::stmt_block))]
+#[tactic(auto, using(php_syntax::proofs::Views::views), unfolding(flow_code::specs::Statements::stmt_block, flow_code::specs::Completion::completes, flow_code::specs::Completion::jumps_out))]
 fn lower_stmt(
     alloc: Global,
     scope: &FunctionScope<'_>,
     stmt: &Stmt,
     points: &mut PointBuilder,
     exits: &mut Vec<Exit>,
-) -> Result<(), LoweringError>
-    ensures { OnOk result
+) -> Result<Ways, LoweringError>
+    ensures points { OnOk result
         (Drafts (progress points.old) (progress points.new) exits.old.items exits.new.items
         (stmt_block (scope_in scope.now) (plain_stmt stmt.now))) }
+    ensures completes { IfOk result (λ ways. ways.completes ≡ completes (plain_stmt stmt.now)) }
+    ensures jumps { IfOk result (λ ways. ways.jumps_out ≡ jumps_out (plain_stmt stmt.now)) }
 {
+    let on = Ways {
+        completes: true,
+        jumps_out: false,
+    };
+    let end = Ways {
+        completes: false,
+        jumps_out: false,
+    };
+    let jump = Ways {
+        completes: false,
+        jumps_out: true,
+    };
     match stmt {
         Stmt::Inline(bytes) => {
             lower_inline(alloc, bytes, points)?;
-            Ok(())
+            Ok(on)
         }
         Stmt::Echo(exprs) => {
             lower_echo(alloc, scope, exprs.as_slice(), points)?;
-            Ok(())
+            Ok(on)
         }
         Stmt::Run(expr) => {
             lower_run(alloc, scope, expr, points)?;
-            Ok(())
+            Ok(on)
         }
         Stmt::If(arms, otherwise) => {
-            lower_if(
+            let ways = lower_if(
                 alloc,
                 scope,
                 arms.as_slice(),
@@ -263,41 +303,41 @@ fn lower_stmt(
                 points,
                 exits,
             )?;
-            Ok(())
+            Ok(ways)
         }
         Stmt::While(test, body) => {
             lower_while(alloc, scope, test, body.as_slice(), points)?;
-            Ok(())
+            Ok(on)
         }
         Stmt::DoWhile(body, test) => {
             lower_do(alloc, scope, body.as_slice(), test, points)?;
-            Ok(())
+            Ok(on)
         }
         Stmt::For(begin, test, next, body) => {
             let (begin, next) = (begin.as_slice(), next.as_slice());
             lower_for(alloc, scope, begin, test, next, body.as_slice(), points)?;
-            Ok(())
+            Ok(on)
         }
         Stmt::Each(array, key, value, body) => {
             lower_each(alloc, scope, array, key, value, body.as_slice(), points)?;
-            Ok(())
+            Ok(on)
         }
         Stmt::Break => {
             put_break(points, exits)?;
-            Ok(())
+            Ok(jump)
         }
         Stmt::Continue => {
             put_continue(points, exits)?;
-            Ok(())
+            Ok(jump)
         }
         Stmt::Return(value) => {
             lower_return(alloc, scope, value, points)?;
-            Ok(())
+            Ok(end)
         }
-        Stmt::Include(_) => Ok(()),
+        Stmt::Include(_) => Ok(on),
         Stmt::Quit(value) => {
             lower_quit(alloc, scope, value, points)?;
-            Ok(())
+            Ok(end)
         }
     }
 }

@@ -5,10 +5,10 @@
 //! Used by: php_parser.
 #![tactic(auto)]
 
-mod completeness;
-mod soundness;
-mod trees;
+mod completeness_laws;
+mod soundness_laws;
+mod tree_laws;
 
-pub use completeness::files_are_read;
-pub use soundness::what_is_read_is_a_file;
-pub use trees::actions_make_files;
+pub use completeness_laws::files_are_read;
+pub use soundness_laws::what_is_read_is_a_file;
+pub use tree_laws::actions_make_files;

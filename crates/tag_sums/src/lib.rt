@@ -6,14 +6,14 @@
 #![tactic(auto)]
 
 mod laws;
-mod nesting;
 mod nesting_join;
 mod nesting_laws;
 mod nesting_sum;
+mod nesting_summary;
 mod summary;
 
 pub use laws::{associative, nesting, one_token, sums_compose, whole_is_page};
-pub use nesting::Nesting;
 pub use nesting_laws::whole_is_nested;
 pub use nesting_sum::NestingSum;
+pub use nesting_summary::Nesting;
 pub use summary::Summary;
