@@ -12,13 +12,13 @@ use cfg_grammar::Grammar;
 use derivations::Derivation;
 use dtd_index::IndexedDtd;
 use dtd_model::Dtd;
+use dyck_balance::Nesting;
 use echoing_machine::Echoing;
 use grammar_image::ImageRefusal;
 use loose_machine::laws::{loose_finds_broken, loose_misses_none, loose_tells_broken};
 use merged_loose::MergedLooseReader;
 use page_decision::{find_wrong, texts_fit};
 use std::alloc::Global;
-use tag_sums::Nesting;
 
 /// The most different sums of the sentences of a nonterminal by the tokens of the reader of loose
 /// pieces: a sentence has a bad token or none.

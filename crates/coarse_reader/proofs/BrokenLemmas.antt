@@ -7,7 +7,7 @@ use Rattle.text_base.specs.declared.page_token.PageToken.TheVariants.{Doctype, S
 use Rattle.dtd_model.specs.Table.{Table}
 use Rattle.page_reads.specs.Laws.{IsLawfulTable, PageTokensRead}
 use Rattle.tag_sums.specs.Nesting.{Nest, torn, nest, join, nest_of, is_balanced}
-use Rattle.tag_sums.specs.NestingLaws.{WholeIsNested}
+use Rattle.dyck_balance.specs.Laws.{WholeIsNested}
 use Rattle.summary_decision.specs.Pairs.{tokens_in}
 use Rattle.page_decision.specs.declared.goal.Goal as goals
 use Rattle.page_decision.specs.Goals.{IsGood}

@@ -14,5 +14,5 @@ pub fn finds_broken()
     broken_pages::laws::broken_is_bad();
     broken_pages::laws::broken_not_valid();
     broken_pages::laws::page_tokens_read();
-    tag_sums::whole_is_nested();
+    dyck_balance::whole_is_nested();
 }

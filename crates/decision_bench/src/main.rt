@@ -10,13 +10,13 @@ use crate::grammars::{Work, grammar_of};
 use anyhow::{Context, Result};
 use content_automata::build;
 use dtd_model::{Dtd, mini};
+use dyck_balance::Nesting;
 use segment_summary::Segments;
 use std::alloc::Global;
 use std::env;
 use std::rt::{Clock, Env};
 use std::time::Instant;
 use summary_decision::{Verdict, decide};
-use tag_sums::Nesting;
 
 /// The number that is meant without a word.
 const FEW: u32 = 10;

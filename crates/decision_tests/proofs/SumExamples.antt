@@ -10,8 +10,8 @@ use Rattle.tag_sums.specs.Automaton.{Automaton}
 use Rattle.tag_sums.specs.Trees.{start_tag, end_tag}
 use Rattle.tag_sums.specs.Sum.{sum_of}
 use Rattle.tag_sums.specs.Nesting.{torn, nest, nest_of, is_balanced}
-use Rattle.segment_summary.specs.PageAutomaton.{parts_of, page_automaton}
-use Rattle.segment_summary.specs.Whole.{is_whole}
+use Rattle.page_automata.specs.PageAutomaton.{parts_of, page_automaton}
+use Rattle.page_automata.specs.Whole.{is_whole}
 
 abbrev states : States
 states = (

@@ -4,9 +4,9 @@ use crate::generated::generated;
 use crate::grammars::grammar;
 use crate::listing::{is_nested, lists_wrong};
 use crate::shown::shown;
+use dyck_balance::Nesting;
 use std::test::Fail;
 use summary_decision::{Verdict, decide};
-use tag_sums::Nesting;
 
 // Where a sentence that is listed is not nested, the answer is no; no comes with a derivation from
 // the start whose sentence is not nested.

@@ -3,10 +3,10 @@
 use crate::grammars::{grammar, outcome};
 use content_automata::build;
 use dtd_model::mini;
+use dyck_balance::Nesting;
 use segment_summary::Segments;
 use std::test::Fail;
 use summary_decision::decide;
-use tag_sums::Nesting;
 
 // By nesting: nothing, an element, an open one; p^n P^n; p^n; p^n P; a part of which no sentence is
 // left; copies of nonterminals with one sum; two sums of a nonterminal before the first sentence,

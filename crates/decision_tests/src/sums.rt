@@ -4,10 +4,11 @@
 mod tests {
     use content_automata::build;
     use dtd_model::mini;
+    use dyck_balance::Nesting;
     use segment_summary::Segments;
     use std::alloc::Global;
     use std::test::Fail;
-    use tag_sums::{Nesting, Summary};
+    use tag_sums::Summary;
     use text_base::{Elem, NoMemory, PageToken};
 
     // One letter a token: `h b p` start `html`, `body` and `p`, which are the elements 0, 1 and 2,

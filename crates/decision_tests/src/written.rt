@@ -2,11 +2,11 @@
 
 use cfg_grammar::{Grammar, Production, Right, Symbol};
 use derivations::{Derivation, length, prepare, yield_into};
+use dyck_balance::Nesting;
 use io_edge::{MemSink, SinkFault};
 use std::alloc::Global;
 use std::test::Fail;
 use summary_decision::{Verdict, decide};
-use tag_sums::Nesting;
 use text_base::{ByteRange, Elem, NoMemory, Nt, PageToken};
 
 // What 1 derives and then a start tag, where each nonterminal from 1 on is the next one twice, but

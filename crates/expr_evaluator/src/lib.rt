@@ -2,7 +2,7 @@
 //! the script, which the caller runs and whose value it hands back.
 //! Promise: where `evaluate` and `resume` stop, what is to come is what `value` of script_meaning
 //! says, for whatever the functions of the script do (`Pauses` of specs/Moves).
-//! Used by: statement_runs, script_runs.
+//! Used by: script_runs.
 #![tactic(auto)]
 
 mod begin;

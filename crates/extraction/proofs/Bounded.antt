@@ -21,13 +21,13 @@ use Rattle.set_listing.specs.declared.name.Aspect.{Aspect}
 use Rattle.set_listing.specs.declared.name.Leaving.TheVariants.{Return, Exit}
 use Rattle.set_listing.specs.declared.name.SetName.{SetName}
 use Rattle.set_listing.specs.declared.name.SetName.TheVariants.{Value, Members, Shown, Result, Input, Output, Joined, Piece, FurtherPiece, FurtherPieces, Out}
-use Rattle.set_numbering.specs.Numbered.{IsByNumbers, forms_in, counted_of, AreNumbered}
+use Rattle.extraction.specs.Numbered.{IsByNumbers, forms_in, counted_of, AreNumbered}
 use Rattle.set_listing.specs.Names.{point_of}
 use Rattle.extraction.specs.Ends.{AreEnds}
 use Rattle.extraction.specs.Made.{IsMadeBy}
 use Rattle.extraction.specs.declared.tables.FlowTables.{FlowTables}
 use Rattle.extraction.specs.Tables.{flow_of, functions_of, AreTables, lists_of}
-use Rattle.extraction.specs.Asked.{IsAsked}
+use Rattle.extraction.specs.FlowAsked.{IsAsked}
 use Rattle.extraction.specs.ListedMade.{IsMadeWith, IsMade, IsMadeOver}
 use Rattle.extraction.proofs.Exact as exactness
 use Rattle.extraction.specs.Sizes.{point_parts, point_bytes, program_size, joins_count, links_count}

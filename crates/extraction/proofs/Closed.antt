@@ -14,7 +14,7 @@ use Rattle.set_listing.specs.Lists.{Lists}
 use Rattle.set_listing.specs.Used.{ReadsVersion, IsUsed}
 use Rattle.set_listing.specs.declared.name.SetName.{SetName}
 use Rattle.set_listing.specs.Stands.{StandsFor}
-use Rattle.set_numbering.specs.Asked.{all_names}
+use Rattle.extraction.specs.Asked.{all_names}
 use Rattle.point_listing.proofs.Returned.{none_in, only_one}
 
 module _ (flow : PlainFlow) (linked : Linked) (at : Versioned) where

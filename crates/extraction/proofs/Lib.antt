@@ -1,6 +1,6 @@
 mod Readings
 mod EndLemmas
-mod Numbering
+mod NumberingLemmas
 mod Pages
 mod Operations
 mod Rules
@@ -8,7 +8,7 @@ pub mod ParamLemmas
 mod ListedEntries
 pub mod Exact
 mod Closed
-mod Listing
+mod ListingLemmas
 mod Sums
 mod Universe
 mod Named
@@ -18,3 +18,9 @@ mod TableBounds
 mod Joins
 pub mod Bounded
 mod Examples
+mod PlaceLemmas
+mod FormLemmas
+mod RowLemmas
+mod TableLemmas
+pub mod NamingLemmas
+pub mod Same

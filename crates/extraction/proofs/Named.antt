@@ -35,7 +35,7 @@ use Rattle.set_listing.specs.declared.name.SetName.{SetName}
 use Rattle.set_listing.specs.declared.name.SetName.TheVariants as name
 use Rattle.set_listing.specs.SetVersions.{version_seen}
 use Rattle.set_listing.specs.Stands.{IsHalf, IsLeaving, IsAspect, StandsFor}
-use Rattle.set_numbering.specs.Asked.{all_names}
+use Rattle.extraction.specs.Asked.{all_names}
 use Rattle.set_listing.specs.Uses.{seen_at}
 use Rattle.set_listing.specs.Points.{source_at, joined_slots}
 use Rattle.set_listing.proofs.ListLemmas.{map_has, from_place}

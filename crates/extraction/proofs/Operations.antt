@@ -13,7 +13,7 @@ use Rattle.loose_sets.specs.RowNames.{VersionName, unversioned, Versioned, by_ve
 use Rattle.loose_sets.specs.Rows.{VersionRow, AreExact}
 use Rattle.loose_sets.proofs.ByVersions as forward
 use Rattle.loose_sets.proofs.OfVersions as back
-use Rattle.set_numbering.proofs.Naming.{applies}
+use Rattle.extraction.proofs.NamingLemmas.{applies}
 
 module _ (flow : PlainFlow) (linked : Linked) (at : Versioned) where
   abbrev V : VersionName → Form VersionName → Type 0

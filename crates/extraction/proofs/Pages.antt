@@ -15,11 +15,11 @@ use Rattle.set_listing.specs.declared.name.SetName.{SetName}
 use Rattle.set_listing.specs.Uses.{seen_at}
 use Rattle.point_listing.specs.Reading.{read_at}
 use Rattle.point_listing.proofs.Exact.{are_exact}
-use Rattle.set_numbering.specs.Numbered.{AreNumbered}
+use Rattle.extraction.specs.Numbered.{AreNumbered}
 use Rattle.set_tables.specs.Listed.{listed}
 use Rattle.set_tables.specs.Sets.{SystemText, HasSets}
 use Rattle.extraction.specs.Ends.{AreEnds, IsExactLister}
-use Rattle.extraction.proofs.Numbering as numbering
+use Rattle.extraction.proofs.NumberingLemmas as numbering
 
 module _ (outputs : Op → List ℕ → List ℕ → Type 0) (request : List ℕ → Type 0) (circular : (ℕ → Type 0) → List ℕ → Type 0) (more : IsMonotone circular) where
   -- a number of the table has its texts in the system

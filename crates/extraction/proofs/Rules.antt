@@ -20,14 +20,14 @@ use Rattle.set_listing.specs.Stands.{StandsFor}
 use Rattle.set_listing.specs.Uses.{seen_at}
 use Rattle.point_listing.specs.Reading.{read_at}
 use Rattle.point_listing.proofs.Exact.{are_exact}
-use Rattle.set_numbering.specs.Listers.{IsFlowLister}
-use Rattle.set_numbering.specs.Numbered.{IsAt, AreNumbered}
-use Rattle.set_numbering.specs.NumberedRows.{Numbers}
-use Rattle.set_numbering.proofs.Same as same
+use Rattle.extraction.specs.Listers.{IsFlowLister}
+use Rattle.extraction.specs.Numbered.{IsAt, AreNumbered}
+use Rattle.extraction.specs.NumberedRows.{Numbers}
+use Rattle.extraction.proofs.Same as same
 use Rattle.set_tables.specs.Sets.{HasSets, HasCycles, AreOfRows}
 use Rattle.extraction.specs.Ends.{AreEnds, IsExactLister}
 use Rattle.extraction.specs.Rules.{HasTexts, IsLooseRule, AreLooseRulesBy}
-use Rattle.extraction.proofs.Numbering as numbering
+use Rattle.extraction.proofs.NumberingLemmas as numbering
 use Rattle.extraction.proofs.Operations as operations
 use Rattle.extraction.proofs.Pages.{number_texts}
 

@@ -10,7 +10,7 @@ use Rattle.set_listing.specs.declared.name.SetName.{SetName}
 use Rattle.set_listing.specs.declared.name.SetName.TheVariants.{Out}
 use Rattle.set_listing.specs.Uses.{seen_at}
 use Rattle.point_listing.specs.Reading.{read_at}
-use Rattle.set_numbering.specs.Listers.{IsFlowLister}
+use Rattle.extraction.specs.Listers.{IsFlowLister}
 
 -- exactly what is printed from the entry of the first function on, until it returns and until the run ends elsewhere
 pub record AreEnds (flow : PlainFlow) (names : List SetName) : Type 0 where

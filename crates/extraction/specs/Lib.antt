@@ -3,7 +3,12 @@ pub mod Rules
 pub mod Made
 pub mod Params
 pub mod Tables
-pub mod Asked
+pub mod FlowAsked
 pub mod ListedMade
 pub mod Sizes
 pub mod Bounds
+pub mod Numbered
+pub mod Steps
+pub mod Asked
+pub mod Listers
+pub mod NumberedRows

@@ -6,7 +6,7 @@ use Rattle.flow_code.specs.Points.{PlainFlow}
 use Rattle.extraction.specs.Made.{IsMadeBy}
 use Rattle.extraction.specs.declared.tables.FlowTables.{FlowTables}
 use Rattle.extraction.specs.Tables.{flow_of, lists_of, AreTables}
-use Rattle.extraction.specs.Asked.{IsAsked}
+use Rattle.extraction.specs.FlowAsked.{IsAsked}
 
 -- there are tables of the program, and the system is made of the sets that they list, and of a grammar of what is given: these texts for
 -- the request, by so many productions over so many nonterminals

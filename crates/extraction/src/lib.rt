@@ -7,16 +7,22 @@
 
 mod entries;
 mod extracting;
+mod flow_lister;
+mod forms;
 mod lister;
+mod listing;
 mod naming;
+mod numbering;
 mod page_extracting;
 mod params;
 mod reading;
 mod tables;
 
 pub use extracting::extract;
-pub use lister::FlowLister;
+pub use flow_lister::FlowLister;
+pub use lister::Lister;
 pub use naming::forms_by;
+pub use numbering::{Numbered, number_sets};
 pub use page_extracting::extract_by;
 pub use reading::extract_over;
 pub use tables::{FlowTables, tables_of};

@@ -1,47 +1,27 @@
-//! The lister of a program.
+//! What a lister is.
 
-ghost use Rattle.std.specs.Prelude.{◌≡◌, IfOk};
-ghost use Rattle.flow_code.specs.View.{plain_flow};
-ghost use Rattle.extraction.specs.Tables.{flow_of, lists_of, AreTables};
-ghost use Rattle.extraction.specs.Ends.{IsExactLister};
-ghost use Rattle.extraction.specs.Asked.{IsAsked};
+ghost use Rattle.std.specs.Prelude.{◌≡◌, List, IfOk};
+ghost use Rattle.least_sets.specs.Forms.{Form};
+ghost use Rattle.set_listing.specs.declared.name.SetName as plain;
+ghost use Rattle.set_listing.specs.Forms.{forms_seen};
+ghost use Rattle.extraction.specs.Asked.{AreAsked};
 
-use crate::{FlowTables, forms_by, tables_of};
-use flow_code::FlowProgram;
 use set_listing::{NamedForm, SetName};
-use set_numbering::Lister;
 use std::alloc::Global;
 use text_base::NoMemory;
 
-/// Lists the rows of the sets of a program of points by their names.
-#[derive(Drop)]
-pub struct FlowLister<'a> {
-    /// What is found out once of the program.
-    pub tables: FlowTables<'a>,
-}
+/// Has for each name of which it may be asked a list of forms: all ways in which the texts of the
+/// set are made.
+pub trait Lister {
+    /// The names of which it may be asked.
+    ghost asks: { Self → plain.SetName → Type 0 };
 
-impl<'a> FlowLister<'a> {
-    /// The lister of a program. Linear in the program, and for each slot that is joined where
-    /// several points lead, in these points.
-    pub fn new(alloc: Global, flow: &'a FlowProgram) -> Result<FlowLister<'a>, NoMemory>
-        ensures flow { IfOk result (λ lister. flow_of lister.tables ≡ plain_flow flow.now) }
-        ensures tables { IfOk result (λ lister. AreTables lister.tables) }
-        ensures exact { IfOk result
-            (λ lister. IsExactLister (plain_flow flow.now) (IsAsked lister.tables)
-            (lists_of lister.tables)) }
-    {
-        let tables = tables_of(alloc, flow)?;
-        Ok(FlowLister { tables })
-    }
-}
+    /// The forms of a name, in turn.
+    ghost lists: { Self → plain.SetName → List (Form plain.SetName) };
 
-impl<'a> Lister for FlowLister<'a> {
-    ghost asks = { λ lister. IsAsked lister.tables };
-
-    ghost lists = { λ lister. lists_of lister.tables };
-
-    fn forms(&self, alloc: Global, name: SetName) -> Result<Vec<NamedForm>, NoMemory> {
-        let forms = forms_by(alloc, &self.tables, name)?;
-        Ok(forms)
-    }
+    /// The forms of a name. Of each name in them it may be asked too.
+    fn forms(&self, alloc: Global, name: SetName) -> Result<Vec<NamedForm>, NoMemory>
+        requires { asks self.now name }
+        ensures forms { IfOk result (λ forms. forms_seen forms.items ≡ lists self.now name) }
+        ensures asked { IfOk result (λ forms. AreAsked (asks self.now) (forms_seen forms.items)) };
 }

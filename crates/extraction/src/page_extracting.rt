@@ -11,10 +11,10 @@ ghost use Rattle.extraction.specs.Ends.{AreEnds, IsExactLister};
 ghost use Rattle.extraction.specs.Made.{IsMadeBy};
 ghost use Rattle.extraction.specs.Rules.{AreLooseRulesBy};
 
+use crate::{Lister, number_sets};
 use flow_code::FlowProgram;
 use op_system::OpSystem;
 use set_listing::{Leaving, SetName};
-use set_numbering::{Lister, number_sets};
 use set_tables::{GivenTexts, Reading, system_by};
 use std::alloc::Global;
 use text_base::NoMemory;

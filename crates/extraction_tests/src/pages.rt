@@ -193,13 +193,23 @@ fn functions(rt: HostRuntime) -> Result<(), Fail> {
         ),
         (
             "<?php function f($x) { return $x; } echo f('a'), f('b');",
-            "ab|aa|ba|bb|a|b|",
-            "abb|c",
+            "ab|aa|ba|bb",
+            "abb|c|a|b|",
         ),
         (
             "<?php function f($x) { return $x; } function g($y) { echo f($y); } echo f('a'), '.';",
+            "a.",
+            "aa.|a|.",
+        ),
+        (
+            "<?php function f($x) { if ($x) { return 'a'; } } echo f(1), '.';",
             "a.|.",
             "aa.|a",
+        ),
+        (
+            "<?php function f($x) { if ($x) { return 'a'; } else { return 'b'; return 'c'; } } echo f(1), '.';",
+            "a.|b.",
+            "c.|.|ab.",
         ),
         (
             "<?php function f($x) { if ($x) { echo 'a'; f($x); echo 'b'; } } f(1);",

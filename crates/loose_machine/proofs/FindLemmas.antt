@@ -13,7 +13,7 @@ use Rattle.page_model.specs.Laws.{ValidByTokens}
 use Rattle.page_reads.specs.Laws.{IsLawfulTable, PageTokensRead}
 use Rattle.page_step_laws.specs.Laws.{read_tokens}
 use Rattle.tag_sums.specs.Nesting.{Nest, torn, nest, join, nest_of, is_balanced}
-use Rattle.tag_sums.specs.NestingLaws.{WholeIsNested}
+use Rattle.dyck_balance.specs.Laws.{WholeIsNested}
 use Rattle.summary_decision.specs.Pairs.{tokens_in}
 use Rattle.page_decision.specs.declared.goal.Goal as goals
 use Rattle.page_decision.specs.Goals.{IsGood}

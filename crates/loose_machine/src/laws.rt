@@ -34,5 +34,5 @@ pub fn broken_is_not_good()
     broken_pages::broken_laws::broken_have_bad();
     page_model::valid_by_tokens();
     page_reads::laws::page_tokens_read();
-    tag_sums::whole_is_nested();
+    dyck_balance::whole_is_nested();
 }

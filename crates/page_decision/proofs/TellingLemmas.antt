@@ -3,8 +3,8 @@ use Rattle.std.proofs.Common.{List, subst}
 use Rattle.text_base.specs.declared.page_token.PageToken.{PageToken}
 use Rattle.tag_sums.specs.Nesting.{IsNested}
 use Rattle.page_model.specs.Laws.{OneTokenList, ValidByTokens}
-use Rattle.segment_summary.specs.Whole.{WholeIsTree}
-use Rattle.tag_sums.specs.NestingLaws.{WholeIsNested}
+use Rattle.page_automata.specs.Whole.{WholeIsTree}
+use Rattle.dyck_balance.specs.Laws.{WholeIsNested}
 use Rattle.page_decision.specs.Telling.{SumsTellValid, NestsTellNested}
 
 pub sums_valid : ValidByTokens → WholeIsTree → SumsTellValid

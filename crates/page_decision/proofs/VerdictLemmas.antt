@@ -7,9 +7,9 @@ use Rattle.cfg_grammar.specs.declared.grammar.Grammar.{Grammar}
 use Rattle.dtd_model.specs.Table.{Table}
 use Rattle.derivations.specs.declared.derivation.Derivation.{Derivation}
 use Rattle.page_model.specs.PageTokens.{PageTokens}
-use Rattle.segment_summary.specs.PageAutomaton.{Parts, parts_of, page_automaton}
-use Rattle.segment_summary.specs.Whole.{is_whole}
-use Rattle.tag_sums.specs.declared.nesting_summary.Nesting.{Nesting}
+use Rattle.page_automata.specs.PageAutomaton.{Parts, parts_of, page_automaton}
+use Rattle.page_automata.specs.Whole.{is_whole}
+use Rattle.dyck_balance.specs.declared.summary.Nesting.{Nesting}
 use Rattle.tag_sums.specs.Nesting.{nest_of, is_balanced, nest_count}
 use Rattle.tag_sums.specs.Sum.{sum_of, tag_count}
 use Rattle.segment_summary.specs.declared.segments.Segments.{Segments}

@@ -1,7 +1,7 @@
 -- Which summary goes with a goal.
 use Rattle.std.specs.Prelude.{◌≡◌, ⊤}
 use Rattle.dtd_model.specs.Table.{Table}
-use Rattle.segment_summary.specs.PageAutomaton.{parts_of}
+use Rattle.page_automata.specs.PageAutomaton.{parts_of}
 use Rattle.segment_summary.specs.declared.segments.Segments.{Segments}
 use Rattle.segment_summary.specs.Parts.{parts_in}
 use Rattle.page_decision.specs.declared.goal.Goal.{Goal}

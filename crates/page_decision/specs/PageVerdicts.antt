@@ -6,7 +6,7 @@ use Rattle.dtd_model.specs.Table.{Table}
 use Rattle.content_automata.specs.Tables.{Table as States}
 use Rattle.derivations.specs.declared.derivation.Derivation.{Derivation}
 use Rattle.page_model.specs.PageTokens.{PageTokens}
-use Rattle.segment_summary.specs.Whole.{is_whole}
+use Rattle.page_automata.specs.Whole.{is_whole}
 use Rattle.tag_sums.specs.Nesting.{nest_of, is_balanced, nest_count}
 use Rattle.tag_sums.specs.Sum.{sum_of, tag_count}
 use Rattle.summary_decision.specs.declared.verdict.Verdict.{Verdict}

@@ -8,8 +8,8 @@ use Rattle.page_model.specs.PageTokens.{PageTokens}
 use Rattle.tag_sums.specs.Automaton.{Automaton}
 use Rattle.tag_sums.specs.Sum.{sum_of}
 use Rattle.tag_sums.specs.Nesting.{nest_of, is_balanced}
-use Rattle.segment_summary.specs.PageAutomaton.{parts_of, page_automaton}
-use Rattle.segment_summary.specs.Whole.{is_whole}
+use Rattle.page_automata.specs.PageAutomaton.{parts_of, page_automaton}
+use Rattle.page_automata.specs.Whole.{is_whole}
 use Rattle.page_decision.specs.declared.goal.Goal.{Goal}
 use Rattle.page_decision.specs.Goals.{IsGood}
 

@@ -17,11 +17,11 @@ use crate::{Goal, decide_texts, find_wrong, texts_fit};
 use cfg_grammar::Grammar;
 use derivations::Derivation;
 use dtd_model::Dtd;
+use dyck_balance::Nesting;
 use fst_core::Machine;
 use grammar_image::ImageRefusal;
 use std::alloc::Global;
 use summary_decision::Verdict;
-use tag_sums::Nesting;
 
 /// Whether each page that the grammar derives is good by the goal and the definition, with at most
 /// `items` items of the image, at most `pairs` different sums of sentences a nonterminal, and

@@ -8,7 +8,7 @@ pub fn sums_tell_valid()
     ensures { SumsTellValid }
 {
     page_model::valid_by_tokens();
-    segment_summary::whole_is_tree();
+    page_automata::whole_is_tree();
 }
 
 /// The sum by nesting of a page's tokens is whole exactly where the page is nested.
@@ -16,5 +16,5 @@ pub fn nests_tell_nested()
     ensures { NestsTellNested }
 {
     page_model::one_token_list();
-    tag_sums::whole_is_nested();
+    dyck_balance::whole_is_nested();
 }

@@ -9,9 +9,9 @@ ghost use Rattle.page_decision.specs.PageSums.{AreSumsOf};
 use crate::Goal;
 use content_automata::{ContentRefusal, build};
 use dtd_model::Dtd;
+use dyck_balance::Nesting;
 use segment_summary::Segments;
 use std::alloc::Global;
-use tag_sums::Nesting;
 
 /// The summary of page tokens that tells which pages are good.
 #[derive(Debug, Drop)]

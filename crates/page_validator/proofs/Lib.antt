@@ -1,2 +1,5 @@
 pub mod Scalars
 pub mod Steps
+pub mod Accepted
+pub mod Rooted
+pub mod Accepting

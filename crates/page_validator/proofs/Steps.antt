@@ -12,9 +12,9 @@ use Rattle.page_model.specs.Nodes.{pieces_of}
 use Rattle.page_model.specs.Valid.{Valid}
 use Rattle.std.specs.Str.{IsUtf8, encode_utf8_all}
 use Rattle.page_validator.proofs.Scalars.{pieces_utf8}
-use Rattle.page_machine.specs.Machine.{State, step, and_on, accepts, start, is_done}
-use Rattle.page_machine.proofs.Accepting.{accepting}
-use Rattle.page_machine.proofs.Rooted.{whole}
+use Rattle.page_validator.specs.Machine.{State, step, and_on, accepts, start, is_done}
+use Rattle.page_validator.proofs.Accepting.{accepting}
+use Rattle.page_validator.proofs.Rooted.{whole}
 use Rattle.page_model.specs.PageTokens.{AreLawful, piece_tokens, tokens_then}
 use Rattle.page_model.specs.Pieces.{Piece, piece_then, pieces_then, after}
 use Rattle.page_model.specs.Places.{Place, at_beginning}
@@ -24,7 +24,7 @@ use Rattle.page_model.specs.Reading.{piece_at}
 use Rattle.page_model.specs.Right.{is_right}
 use Rattle.std.proofs.lemmas.Bool.{and_left, and_right, and_from, eqb-true}
 use Rattle.std.specs.Prelude.{nat_eq}
-use Rattle.page_machine.specs.Views.{Goes}
+use Rattle.page_validator.specs.Views.{Goes}
 use Rattle.page_rules.specs.declared.piece_tokens.Taken.{Taken}
 use Rattle.page_rules.specs.Takes.{Takes, taken_tokens}
 use Rattle.page_model.specs.Scan.{then_some}

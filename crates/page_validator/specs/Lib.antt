@@ -1,2 +1,5 @@
 pub mod Faults
 pub mod Walks
+pub mod Laws
+pub mod Machine
+pub mod Views

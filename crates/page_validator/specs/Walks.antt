@@ -11,7 +11,7 @@ use Rattle.content_automata.specs.Tables as automata
 use Rattle.page_rules.specs.Views.{place_of}
 use Rattle.page_rules.specs.declared.parts.Place.{Place}
 use Rattle.page_model.specs.Laws.{GoodPieces}
-use Rattle.page_machine.specs.Machine.{State, step, accepts}
+use Rattle.page_validator.specs.Machine.{State, step, accepts}
 use Rattle.page_model.specs.PageTokens.{AreLawful, piece_tokens, tokens_then}
 use Rattle.page_model.specs.Pieces.{Piece, pieces_then, after}
 use Rattle.page_model.specs.Places as places

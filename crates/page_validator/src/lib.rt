@@ -7,8 +7,14 @@
 
 mod check;
 mod decode;
+mod laws;
+mod progress;
 mod refusal;
+mod stage;
 mod walk;
 
 pub use check::check_page;
+pub use laws::accepts_trees;
+pub use progress::Progress;
 pub use refusal::PageRefusal;
+pub use stage::{Open, Sort, Stage};

@@ -5,15 +5,15 @@ ghost use Rattle.dtd_model.specs.TableOf.{table_of};
 ghost use Rattle.page_model.specs.Pieces as pieces;
 ghost use Rattle.page_model.specs.Places as places;
 ghost use Rattle.page_rules.specs.Views.{piece_of, place_of};
-ghost use Rattle.page_machine.specs.Views.{Goes, progress_of};
+ghost use Rattle.page_validator.specs.Views.{Goes, progress_of};
 ghost use Rattle.page_rules.specs.Takes.{taken_tokens};
 ghost use Rattle.page_validator.specs.Walks.{IsNext, IsWalk, moved};
 ghost use Rattle.content_automata.specs.Decides.{Decides};
 
+use crate::{Progress, Sort};
 use content_automata::Contents;
 use dtd_index::IndexedDtd;
 use dtd_model::Dtd;
-use page_machine::{Progress, Sort};
 use page_rules::{Piece, Place, Taken, is_right, piece_at, tokens_of};
 use std::alloc::Global;
 use text_base::NoMemory;

@@ -19,8 +19,7 @@ use phpsa_texts::{
 use program_loader::{load, loads_are_loaded};
 use program_rules::Program;
 use request_reading::{Request, read_request};
-use script_runs::{Ended, run};
-use statement_runs::End;
+use script_runs::{End, Ended, run};
 use std::alloc::Global;
 use text_base::NoMemory;
 

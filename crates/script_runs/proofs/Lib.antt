@@ -3,3 +3,6 @@ pub mod BindLemmas
 pub mod UnitLemmas
 pub mod SettleLemmas
 pub mod PayLemmas
+pub mod HeadLemmas
+pub mod BeginLemmas
+pub mod GiveLemmas

@@ -19,16 +19,16 @@ use Rattle.script_meaning.specs.Meaning.{outcome_of, run_body, value_returned}
 use Rattle.expr_evaluator.proofs.Runs.{assoc, same_then}
 use Rattle.expr_evaluator.specs.Frames.{values_then}
 use Rattle.expr_evaluator.specs.Moves.{seeing}
-use Rattle.statement_runs.specs.declared.frames.End.TheVariants as end
-use Rattle.statement_runs.specs.declared.frames.Looping.{Looping}
-use Rattle.statement_runs.specs.declared.frames.Walking.{Walking}
-use Rattle.statement_runs.specs.declared.frames.Wait.{Wait}
-use Rattle.statement_runs.specs.declared.frames.Task.{Task}
-use Rattle.statement_runs.specs.declared.frames.Task.TheVariants as task
-use Rattle.statement_runs.specs.declared.frames.Next.{Next}
-use Rattle.statement_runs.specs.declared.frames.Next.TheVariants as next
-use Rattle.statement_runs.specs.Frames.{scope, focused, tasks_then, name_of}
-use Rattle.statement_runs.specs.Moves.{Begins}
+use Rattle.script_runs.specs.declared.frames.End.TheVariants as end
+use Rattle.script_runs.specs.declared.frames.Looping.{Looping}
+use Rattle.script_runs.specs.declared.frames.Walking.{Walking}
+use Rattle.script_runs.specs.declared.frames.Wait.{Wait}
+use Rattle.script_runs.specs.declared.frames.Task.{Task}
+use Rattle.script_runs.specs.declared.frames.Task.TheVariants as task
+use Rattle.script_runs.specs.declared.frames.Next.{Next}
+use Rattle.script_runs.specs.declared.frames.Next.TheVariants as next
+use Rattle.script_runs.specs.Frames.{scope, focused, tasks_then, name_of}
+use Rattle.script_runs.specs.StatementMoves.{Begins}
 use Rattle.script_runs.specs.declared.calls.Call.{Call}
 use Rattle.script_runs.specs.declared.calls.Caller.{Caller}
 use Rattle.script_runs.specs.declared.calls.Pending.{Pending}

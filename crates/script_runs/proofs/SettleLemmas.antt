@@ -25,20 +25,20 @@ use Rattle.expr_evaluator.specs.declared.frame.Focus.TheVariants as focus
 use Rattle.expr_evaluator.specs.declared.frame.Pause.{Pause}
 use Rattle.expr_evaluator.specs.declared.frame.Pause.TheVariants as pause
 use Rattle.expr_evaluator.specs.declared.evaluator.Evaluator.{Evaluator}
-use Rattle.statement_runs.specs.declared.frames.End.{End}
-use Rattle.statement_runs.specs.declared.frames.End.TheVariants as end
-use Rattle.statement_runs.specs.declared.frames.Flow.{Flow}
-use Rattle.statement_runs.specs.declared.frames.Flow.TheVariants as flow
-use Rattle.statement_runs.specs.declared.frames.Looping.{Looping}
-use Rattle.statement_runs.specs.declared.frames.Walking.{Walking}
-use Rattle.statement_runs.specs.declared.frames.Wait.{Wait}
-use Rattle.statement_runs.specs.declared.frames.Task.{Task}
-use Rattle.statement_runs.specs.declared.frames.Task.TheVariants as task
-use Rattle.statement_runs.specs.declared.frames.Next.{Next}
-use Rattle.statement_runs.specs.declared.frames.Next.TheVariants as next
-use Rattle.statement_runs.specs.Frames.{focused, wait_after, task_after, tasks_then, turning, plain_flow, name_of, is_include}
-use Rattle.statement_runs.specs.Cost.{next_weight, block_weight, task_weight, tasks_weight}
-use Rattle.statement_runs.specs.Moves.{Means, Gives}
+use Rattle.script_runs.specs.declared.frames.End.{End}
+use Rattle.script_runs.specs.declared.frames.End.TheVariants as end
+use Rattle.script_runs.specs.declared.frames.Flow.{Flow}
+use Rattle.script_runs.specs.declared.frames.Flow.TheVariants as flow
+use Rattle.script_runs.specs.declared.frames.Looping.{Looping}
+use Rattle.script_runs.specs.declared.frames.Walking.{Walking}
+use Rattle.script_runs.specs.declared.frames.Wait.{Wait}
+use Rattle.script_runs.specs.declared.frames.Task.{Task}
+use Rattle.script_runs.specs.declared.frames.Task.TheVariants as task
+use Rattle.script_runs.specs.declared.frames.Next.{Next}
+use Rattle.script_runs.specs.declared.frames.Next.TheVariants as next
+use Rattle.script_runs.specs.Frames.{focused, wait_after, task_after, tasks_then, turning, plain_flow, name_of, is_include}
+use Rattle.script_runs.specs.Cost.{next_weight, block_weight, task_weight, tasks_weight}
+use Rattle.script_runs.specs.StatementMoves.{Means, Gives}
 use Rattle.script_runs.specs.declared.calls.Caller.{Caller}
 use Rattle.script_runs.specs.declared.calls.Pending.{Pending}
 use Rattle.script_runs.specs.declared.wants.Wanted.TheVariants as wanted

@@ -14,8 +14,8 @@ use Rattle.expr_evaluator.specs.Moves.{Pauses, seeing}
 use Rattle.expr_evaluator.specs.declared.frame.Focus.{Focus}
 use Rattle.expr_evaluator.specs.declared.frame.Pause.{Pause}
 use Rattle.expr_evaluator.specs.declared.evaluator.Evaluator.{Evaluator}
-use Rattle.statement_runs.specs.declared.frames.Task.{Task}
-use Rattle.statement_runs.specs.Frames.{scope, task_after, tasks_then, is_include}
+use Rattle.script_runs.specs.declared.frames.Task.{Task}
+use Rattle.script_runs.specs.Frames.{scope, task_after, tasks_then, is_include}
 use Rattle.script_runs.specs.declared.calls.Pending.{Pending}
 use Rattle.script_runs.specs.Rest.{enter_at, rest_then, world_of}
 

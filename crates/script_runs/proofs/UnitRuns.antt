@@ -7,11 +7,11 @@ use Rattle.script_meaning.specs.Requests.{PlainRequest}
 use Rattle.script_meaning.specs.Runs.{Run, Going, Over, ◌then_do◌, unit_at}
 use Rattle.script_meaning.specs.Statements.{statements}
 use Rattle.script_meaning.specs.Meaning.{Outcome, outcome_of, meaning}
-use Rattle.statement_runs.specs.declared.frames.End.{End}
-use Rattle.statement_runs.specs.declared.frames.End.TheVariants as end
-use Rattle.statement_runs.specs.declared.frames.Next.{Next}
-use Rattle.statement_runs.specs.declared.frames.Next.TheVariants as next
-use Rattle.statement_runs.specs.Frames.{scope, focused, tasks_then, plain_end}
+use Rattle.script_runs.specs.declared.frames.End.{End}
+use Rattle.script_runs.specs.declared.frames.End.TheVariants as end
+use Rattle.script_runs.specs.declared.frames.Next.{Next}
+use Rattle.script_runs.specs.declared.frames.Next.TheVariants as next
+use Rattle.script_runs.specs.Frames.{scope, focused, tasks_then, plain_end}
 use Rattle.script_runs.specs.declared.calls.Pending.{Pending}
 use Rattle.script_runs.specs.declared.wants.Wanted.{Wanted}
 use Rattle.script_runs.specs.declared.wants.Settled.{Settled}

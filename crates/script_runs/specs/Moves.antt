@@ -11,13 +11,13 @@ use Rattle.script_meaning.specs.Meaning.{outcome_of}
 use Rattle.expr_evaluator.specs.Moves.{seeing}
 use Rattle.expr_evaluator.specs.declared.frame.Pause.{Pause}
 use Rattle.expr_evaluator.specs.declared.frame.Pause.TheVariants as pause
-use Rattle.statement_runs.specs.declared.frames.Wait.{Wait}
-use Rattle.statement_runs.specs.declared.frames.Flow.{Flow}
-use Rattle.statement_runs.specs.declared.frames.Walking.{Walking}
-use Rattle.statement_runs.specs.declared.frames.Next.{Next}
-use Rattle.statement_runs.specs.declared.frames.Next.TheVariants as next
-use Rattle.statement_runs.specs.Frames.{name_of, plain_flow, is_include}
-use Rattle.statement_runs.specs.Cost.{wait_weight, block_weight}
+use Rattle.script_runs.specs.declared.frames.Wait.{Wait}
+use Rattle.script_runs.specs.declared.frames.Flow.{Flow}
+use Rattle.script_runs.specs.declared.frames.Walking.{Walking}
+use Rattle.script_runs.specs.declared.frames.Next.{Next}
+use Rattle.script_runs.specs.declared.frames.Next.TheVariants as next
+use Rattle.script_runs.specs.Frames.{name_of, plain_flow, is_include}
+use Rattle.script_runs.specs.Cost.{wait_weight, block_weight}
 use Rattle.script_runs.specs.declared.calls.Caller.{Caller}
 use Rattle.script_runs.specs.declared.calls.Pending.{Pending}
 use Rattle.script_runs.specs.declared.wants.Wanted.{Wanted}

@@ -1,6 +1,6 @@
 -- What a run that has ended is seen as.
 use Rattle.script_meaning.specs.Meaning.{Outcome}
-use Rattle.statement_runs.specs.Frames.{plain_end}
+use Rattle.script_runs.specs.Frames.{plain_end}
 use Rattle.script_runs.specs.declared.ended.Ended.{Ended}
 
 -- what it printed, and how it ended

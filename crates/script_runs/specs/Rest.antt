@@ -11,10 +11,10 @@ use Rattle.script_meaning.specs.Meaning.{Outcome, outcome_of, run_body, value_re
 use Rattle.expr_evaluator.specs.Frames.{Entering, values_then, paused}
 use Rattle.expr_evaluator.specs.Moves.{seeing}
 use Rattle.expr_evaluator.specs.declared.frame.Pause.{Pause}
-use Rattle.statement_runs.specs.declared.frames.Wait.{Wait}
-use Rattle.statement_runs.specs.declared.frames.Task.TheVariants as task
-use Rattle.statement_runs.specs.declared.frames.Next.{Next}
-use Rattle.statement_runs.specs.Frames.{scope, focused, wait_after, task_after, tasks_then, plain_end, name_of}
+use Rattle.script_runs.specs.declared.frames.Wait.{Wait}
+use Rattle.script_runs.specs.declared.frames.Task.TheVariants as task
+use Rattle.script_runs.specs.declared.frames.Next.{Next}
+use Rattle.script_runs.specs.Frames.{scope, focused, wait_after, task_after, tasks_then, plain_end, name_of}
 use Rattle.script_runs.specs.declared.calls.Call.{Call}
 use Rattle.script_runs.specs.declared.calls.Caller.{Caller}
 use Rattle.script_runs.specs.declared.calls.Pending.{Pending}

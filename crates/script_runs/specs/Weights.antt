@@ -1,7 +1,7 @@
 -- How much is still to be done before a unit is taken: with every move it is less. No promise is read off from here.
 use Rattle.std.specs.Prelude.{ℕ, ◌+◌, List, [], ◌∷◌}
-use Rattle.statement_runs.specs.declared.frames.Next.{Next}
-use Rattle.statement_runs.specs.Cost.{next_weight, tasks_weight, wait_weight}
+use Rattle.script_runs.specs.declared.frames.Next.{Next}
+use Rattle.script_runs.specs.Cost.{next_weight, tasks_weight, wait_weight}
 use Rattle.script_runs.specs.declared.calls.Caller.{Caller}
 use Rattle.script_runs.specs.declared.calls.Pending.{Pending}
 

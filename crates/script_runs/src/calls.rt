@@ -2,8 +2,8 @@
 
 ghost use Rattle.std.specs.Prelude.{◌≡◌, []};
 
+use crate::{Task, Wait};
 use expr_evaluator::{Evaluator, Variables};
-use statement_runs::{Task, Wait};
 use std::alloc::Global;
 use text_base::{Bytes, Stack};
 

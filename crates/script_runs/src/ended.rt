@@ -1,6 +1,6 @@
 //! What a run comes to.
 
-use statement_runs::End;
+use crate::End;
 use text_base::Bytes;
 
 /// A run that has ended.

@@ -8,15 +8,24 @@
 mod binding;
 pub mod calls;
 pub mod ended;
+mod flows;
+pub mod frames;
+mod heads;
 mod paying;
 mod returning;
 mod running;
 mod settling;
+mod statements;
+mod values;
 pub mod wants;
 
 pub use calls::{Call, Caller, Pending};
 pub use ended::Ended;
+pub use flows::hand_on;
+pub use frames::{End, Flow, Looping, Next, Task, Wait, Walking};
 pub use paying::go_on;
 pub use running::run;
 pub use settling::settle;
+pub use statements::{begin, is_include};
+pub use values::give;
 pub use wants::{Settled, Wanted};

@@ -3,10 +3,10 @@
 ghost use Rattle.std.specs.Prelude.{◌≡◌};
 ghost use Rattle.php_values.specs.View.{plain_of};
 ghost use Rattle.script_meaning.specs.Meaning as meaning;
-ghost use Rattle.statement_runs.specs.Frames.{plain_flow};
+ghost use Rattle.script_runs.specs.Frames.{plain_flow};
 
+use crate::Flow;
 use php_values::Value;
-use statement_runs::Flow;
 
 // The value of a call whose body was left so: null where it was left at its end.
 #[tactic(auto, unfolding(script_meaning::specs::Meaning::value_returned))]

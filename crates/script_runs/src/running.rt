@@ -6,15 +6,14 @@ ghost use Rattle.script_meaning.specs.Meaning.{meaning};
 ghost use Rattle.program_rules.specs.View.{program_of};
 ghost use Rattle.script_runs.specs.Rest.{outcome};
 ghost use Rattle.script_runs.specs.Moves.{IsReady};
-ghost use Rattle.statement_runs.specs.Frames.{plain_end};
+ghost use Rattle.script_runs.specs.Frames.{plain_end};
 ghost use Rattle.script_runs.specs.Outcomes.{plain_outcome};
 
 use crate::ended::Ended;
-use crate::{Pending, Settled, go_on, settle};
+use crate::{End, Next, Pending, Settled, go_on, settle};
 use expr_evaluator::Functions;
 use program_rules::Program;
 use request_reading::Request;
-use statement_runs::{End, Next};
 use std::alloc::Global;
 use text_base::NoMemory;
 use text_base::limits::CALL_LIMIT;

@@ -8,10 +8,10 @@ ghost use Rattle.script_runs.specs.Moves.{Enters, IsIdle, IsReady, Leaves, Moves
 use crate::calls::{Caller, Pending};
 use crate::returning::value_returned;
 use crate::wants::{Moved, Settled, Wanted};
+use crate::{End, Flow, Next, Task, Wait, give, hand_on, is_include};
 use expr_evaluator::{Functions, Pause};
 use php_syntax::tree::{Expr, Stmt};
 use request_reading::Request;
-use statement_runs::{End, Flow, Next, Task, Wait, give, hand_on, is_include};
 use std::alloc::Global;
 use text_base::NoMemory;
 

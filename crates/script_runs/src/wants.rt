@@ -1,8 +1,8 @@
 //! What a run wants a unit for.
 
+use crate::{End, Looping, Next, Wait, Walking};
 use php_syntax::tree::{FunctionDef, Stmt};
 use php_values::{Key, Value};
-use statement_runs::{End, Looping, Next, Wait, Walking};
 
 /// What a unit is wanted for.
 #[derive(Drop)]

@@ -1,5 +1,1 @@
 pub mod RowLemmas
-pub mod StepLemmas
-pub mod TreeLemmas
-pub mod PageLemmas
-pub mod WholeLemmas

@@ -4,7 +4,7 @@ use Rattle.text_base.specs.declared.page_token.PageToken.{PageToken}
 use Rattle.tag_sums.specs.Automaton.{Automaton, IsAutomaton}
 use Rattle.tag_sums.specs.Sum.{Sum, broken, reduced, sum_of, compose, is_broken}
 use Rattle.tag_sums.proofs.Units.{sum_append}
-use Rattle.segment_summary.specs.Whole.{is_whole}
+use Rattle.page_automata.specs.Whole.{is_whole}
 
 -- the sum of a concatenation is the composition of the sums
 pub appends : (a : Automaton) → IsAutomaton a → (u v : List PageToken) → sum_of a (u ++ v) ≡ compose (sum_of a u) (sum_of a v)

@@ -4,6 +4,3 @@ pub mod Laws
 pub mod Meeting
 pub mod Parts
 pub mod View
-pub mod AutomatonLaws
-pub mod PageAutomaton
-pub mod Whole

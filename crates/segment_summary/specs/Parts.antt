@@ -1,8 +1,8 @@
 -- What a summary's fields stand for.
 use Rattle.tag_sums.specs.Automaton.{Automaton, IsAutomaton}
 use Rattle.segment_summary.specs.declared.segments.Segments.{Segments}
-use Rattle.segment_summary.specs.PageAutomaton.{Parts, page_automaton}
-use Rattle.segment_summary.proofs.StepLemmas.{lawful}
+use Rattle.page_automata.specs.PageAutomaton.{Parts, page_automaton}
+use Rattle.page_automata.proofs.StepLemmas.{lawful}
 
 -- the parts of the automaton: its states, what may stand besides elements, the root, and whether that needs no document type declaration
 abbrev pub parts_in : Segments → Parts

@@ -3,12 +3,12 @@ use Rattle.std.specs.Prelude.{Bool, false}
 use Rattle.tag_sums.specs.Sum.{Sum, broken, reduced}
 use Rattle.segment_summary.specs.declared.sum.Shape.{Shape}
 use Rattle.segment_summary.specs.declared.sum.Shape.TheVariants.{Broken, Live}
-use Rattle.segment_summary.specs.declared.besides.Besides.{Besides}
+use Rattle.page_automata.specs.declared.besides.Besides.{Besides}
 use Rattle.segment_summary.specs.declared.rules.Mark.{Mark as Kind}
 use Rattle.segment_summary.specs.declared.rules.Mark.TheVariants as kind
 use Rattle.page_model.specs.Valid as sort
 use Rattle.tag_sums.specs.Labels.{Mark, blank, text, misc, doctype}
-use Rattle.segment_summary.specs.PageAutomaton.{may_stand}
+use Rattle.page_automata.specs.PageAutomaton.{may_stand}
 
 -- the plain form of a sum
 abbrev pub view_of : Shape → Sum

@@ -3,11 +3,11 @@
 ghost use Rattle.std.specs.Prelude.{◌≡◌, ◌+◌, ◌<◌, List, map, length, codes, IfOk};
 ghost use Rattle.dtd_model.specs.Table.{Rule, rule_of, holding_of};
 ghost use Rattle.page_model.specs.Valid.{place_of};
-ghost use Rattle.segment_summary.specs.PageAutomaton as spec;
+ghost use Rattle.page_automata.specs.PageAutomaton as spec;
 ghost use Rattle.segment_summary.specs.View.{mark_keeps};
 
-use crate::Besides;
 use dtd_model::{Content, DoctypeRule, ElementRule};
+use page_automata::Besides;
 use std::alloc::Global;
 use text_base::NoMemory;
 

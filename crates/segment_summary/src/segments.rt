@@ -4,8 +4,8 @@ ghost use Rattle.std.specs.Prelude.{◌≡◌, ◌≤◌, length};
 ghost use Rattle.content_automata.specs.declared.limits.TheConstants.{STATE_LIMIT};
 ghost use Rattle.content_automata.specs.Decides.{HasOwners};
 
-use crate::Besides;
 use content_automata::Contents;
+use page_automata::Besides;
 
 /// The summary of page tokens by a document type definition: the states of its content models,
 /// and what the page's own rules ask. The type keeps that each state belongs to an element.

@@ -7,7 +7,7 @@ ghost use Rattle.content_automata.specs.declared.limits.TheConstants.{STATE_LIMI
 ghost use Rattle.content_automata.specs.Decides.{HasOwners};
 ghost use Rattle.tag_sums.specs.Labels.{child, other};
 ghost use Rattle.tag_sums.specs.Sum.{by_label, by_state};
-ghost use Rattle.segment_summary.specs.PageAutomaton.{Parts, parts_of, inner_step, page_step, page_init, page_closes, page_automaton};
+ghost use Rattle.page_automata.specs.PageAutomaton.{Parts, parts_of, inner_step, page_step, page_init, page_closes, page_automaton};
 ghost use Rattle.segment_summary.specs.Parts.{parts_in, automaton_of};
 ghost use Rattle.segment_summary.specs.View.{mark_of};
 

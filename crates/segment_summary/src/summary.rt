@@ -5,9 +5,9 @@ ghost use Rattle.tag_sums.specs.Automaton.{Automaton, IsAutomaton};
 ghost use Rattle.tag_sums.specs.Labels.{Label, other};
 ghost use Rattle.tag_sums.specs.Sum.{Sum, unit, of_token, sum_of, compose, with_label, closing, opening, tag_count, is_broken};
 ghost use Rattle.segment_summary.specs.Parts.{automaton_of, is_lawful};
-ghost use Rattle.segment_summary.specs.PageAutomaton.{page_init};
+ghost use Rattle.page_automata.specs.PageAutomaton.{page_init};
 ghost use Rattle.segment_summary.specs.View.{mark_of};
-ghost use Rattle.segment_summary.specs.Whole.{is_whole};
+ghost use Rattle.page_automata.specs.Whole.{is_whole};
 ghost use Rattle.segment_summary.specs.Laws.{appends, broken_first, broken_second, broken_not_whole};
 
 use crate::meet::{composition, has_move, has_state, target};

@@ -2,7 +2,7 @@
 //! small enough to be copied and hashed: these types, definitions and laws.
 //! States the lists of a source, a point and a name (`source_forms`, `out_forms`, `forms_from`),
 //! and that a list has exactly the rows of a set (`Lists` of specs/Lists); its laws are in proofs/.
-//! Used by: point_listing, set_numbering, extraction.
+//! Used by: point_listing, extraction.
 #![tactic(auto)]
 
 mod form;

@@ -2,7 +2,7 @@
 //! any reading of operations, of the request and of operations in cycles (`Reading`).
 //! Promise: `system_by` has exactly the sets of the table (`HasSets` of specs/Sets), where the
 //! given texts are closed (`IsClosed` of least_sets), as `given_texts` makes them.
-//! Used by: set_numbering, extraction, set_table_tests, extraction_tests, string_ops_bench.
+//! Used by: extraction, set_table_tests, extraction_tests, string_ops_bench.
 #![tactic(auto)]
 
 mod beginning;

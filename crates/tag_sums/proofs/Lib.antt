@@ -4,4 +4,3 @@ pub mod Units
 pub mod Trees
 pub mod NestLemmas
 mod Examples
-pub mod NestingLemmas

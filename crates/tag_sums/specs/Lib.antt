@@ -5,8 +5,3 @@ pub mod Sum
 pub mod Fits
 pub mod Nesting
 pub mod Laws
-pub mod Equal
-pub mod NestingView
-pub mod Decided
-pub mod Meeting
-pub mod NestingLaws

@@ -2,7 +2,7 @@
 //! comparison, arithmetic, and joining as texts.
 //! Promise: each call answers what the definition of its name in plain_values gives, with its fault
 //! or want of memory (clauses `ok`, `err`); `same` answers whether two plain values are equal.
-//! Used by: request_reading, point_listing, php_builtins, expr_evaluator, statement_runs, values_bench.
+//! Used by: request_reading, point_listing, php_builtins, expr_evaluator, script_runs, values_bench.
 #![tactic(auto)]
 
 mod arithmetic;

@@ -2,7 +2,7 @@ use Rattle.std.proofs.Common.{ℕ, List, sym, ◌∙◌, ap, subst}
 use Rattle.std.specs.Prelude.{Option}
 use Rattle.dtd_model.specs.TableOf.{table_of}
 use Rattle.page_rules.specs.Views.{piece_of, place_of, seen_piece}
-use Rattle.page_machine.specs.Views.{progress_of}
+use Rattle.page_validator.specs.Views.{progress_of}
 use Rattle.page_model.specs.Pieces.{Piece}
 use Rattle.page_rules.specs.declared.piece_tokens.Taken.{Taken}
 use Rattle.page_rules.specs.Takes.{Takes}

@@ -4,8 +4,8 @@ use Rattle.std.specs.Prelude.{Option}
 use Rattle.dtd_model.specs.TableOf.{table_of}
 use Rattle.page_rules.specs.Views.{place_of}
 use Rattle.page_rules.specs.declared.parts.Place.{Place}
-use Rattle.page_machine.specs.Machine.{State}
-use Rattle.page_machine.specs.Views.{progress_of}
+use Rattle.page_validator.specs.Machine.{State}
+use Rattle.page_validator.specs.Views.{progress_of}
 use Rattle.page_model.specs.Places.{at_beginning}
 use Rattle.page_validator.specs.Walks.{Ahead, IsNext}
 use Rattle.page_validator.proofs.Steps.{on, back, stuck, ended, not_ended, good_ahead, ahead_good, shorter, nonempty, empty_is}

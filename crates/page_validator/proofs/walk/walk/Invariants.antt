@@ -2,7 +2,7 @@ use Rattle.std.proofs.Common.{◌↔◌, ◌≤◌, length}
 use Rattle.dtd_model.specs.TableOf.{table_of}
 use Rattle.page_rules.specs.Views.{place_of}
 use Rattle.page_model.specs.Laws.{GoodPieces}
-use Rattle.page_machine.specs.Views.{progress_of}
+use Rattle.page_validator.specs.Views.{progress_of}
 use Rattle.page_validator.specs.Walks.{Ahead}
 use Rattle.page_validator.proofs.walk.walk.Given as goal
 

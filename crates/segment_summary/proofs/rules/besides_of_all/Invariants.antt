@@ -1,6 +1,6 @@
 use Rattle.std.proofs.Common.{◌≡◌, map, take}
 use Rattle.dtd_model.specs.Table.{Rule, rule_of}
-use Rattle.segment_summary.specs.PageAutomaton as spec
+use Rattle.page_automata.specs.PageAutomaton as spec
 use Rattle.segment_summary.proofs.rules.besides_of_all.Given as goal
 
 abbrev pub invariant-loop-element : goal.invariant-loop-element

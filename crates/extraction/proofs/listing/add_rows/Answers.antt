@@ -1,0 +1,26 @@
+use Rattle.std.proofs.Common.{arith, ◌≡◌, [], sym, refl, ap, ◌∙◌, ◌++◌, List}
+use Rattle.std.specs.Vec.Iter.{into_iter_items}
+use Rattle.set_listing.specs.declared.form.NamedForm.{NamedForm}
+use Rattle.set_listing.specs.Forms.{forms_seen}
+use Rattle.extraction.proofs.RowLemmas.{rest_of, rows_none, forms_more, all_named, rows_done, no_items}
+use Rattle.extraction.proofs.listing.add_rows.Goals as goal
+
+pub loop-named-init : goal.loop-named-init
+loop-named-init c = record { split = sym c.into_iter-named-iterator.ensures.into_iter_gives.0; adds = rows_none _ _ _ _ }
+
+pub loop-named-preserved : goal.loop-named-preserved
+loop-named-preserved c =
+    let all = c.args.forms.items in
+    let at = c.loop-named in
+    let next = into_iter_items c.next.new.self in
+    record {
+      split = rest_of all at.yielded c.in-Some.named _ _ at.invariant.split c.in-Some.ensures.steps.0;
+      adds = forms_more _ _ _ _ _ _ _ c.args.set all at.yielded c.in-Some.named next (record { set = c.args.set; form = c.in_ok-form.form })
+          (all_named (forms_seen all)) (at.invariant.split ∙ ap (λ (ys : List NamedForm). at.yielded ++ ys) c.in-Some.ensures.steps.0) refl at.invariant.adds c.in_ok-form.ensures c.in_ok-push.ensures.items;
+    }
+
+pub returns : goal.returns
+returns c =
+    let v = c.loop-named.named-iterator.rest in
+    let none : into_iter_items c.loop-named.named-iterator ≡ [] = no_items v.items (grind (arith, v.ok, c.in-None.ensures.steps.0)) in
+    rows_done _ _ _ _ _ _ c.args.forms.items c.loop-named.yielded (into_iter_items c.loop-named.named-iterator) c.loop-named.invariant.split none c.loop-named.invariant.adds

@@ -1,0 +1,4 @@
+pub mod StepLemmas
+pub mod TreeLemmas
+pub mod PageLemmas
+pub mod WholeLemmas

@@ -1,8 +1,0 @@
-//! The law. The function does nothing, and stands for the law that its contract states.
-
-ghost use Rattle.page_machine.specs.Laws.{AcceptsTrees};
-
-/// The machine accepts exactly the tokens of a tree.
-pub fn accepts_trees()
-    ensures { AcceptsTrees }
-{}

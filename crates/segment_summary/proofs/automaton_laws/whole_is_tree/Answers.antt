@@ -1,5 +1,0 @@
-use Rattle.segment_summary.proofs.WholeLemmas.{whole_is_tree}
-use Rattle.segment_summary.proofs.automaton_laws.whole_is_tree.Goals as goal
-
-pub returns : goal.returns
-returns c = λ table t decides own tokens. whole_is_tree table t decides own tokens

@@ -1,0 +1,45 @@
+# Completes the words of phpsa in bash.
+
+_phpsa() {
+  local at=$COMP_CWORD command=${COMP_WORDS[1]}
+  local word=${COMP_WORDS[at]} before=${COMP_WORDS[at - 1]} list
+  COMPREPLY=()
+  # Bash takes `--dtd=mini` as three words.
+  if [[ $word == = ]]; then
+    word=
+  elif [[ $before == = ]]; then
+    before=${COMP_WORDS[at - 2]}
+  fi
+  if ((at == 1)); then
+    mapfile -t COMPREPLY < <(compgen -W 'check page make run grammar' -- "$word")
+    return
+  fi
+  case $before in
+    --limit | --steps) return ;;
+    --dtd)
+      mapfile -t COMPREPLY < <({ compgen -W 'strict mini' -- "$word"; compgen -f -- "$word"; })
+      compopt -o filenames 2>/dev/null
+      return
+      ;;
+    --request)
+      mapfile -t COMPREPLY < <(compgen -f -- "$word")
+      compopt -o filenames 2>/dev/null
+      return
+      ;;
+  esac
+  case $command in
+    check) list='--dtd --limit --nesting --json' ;;
+    page) list='--dtd' ;;
+    make) list='--check' ;;
+    run) list='--request --steps' ;;
+    *) list= ;;
+  esac
+  if [[ $word == -* ]]; then
+    mapfile -t COMPREPLY < <(compgen -W "$list" -- "$word")
+  elif [[ $command != make ]]; then
+    mapfile -t COMPREPLY < <(compgen -f -- "$word")
+    compopt -o filenames 2>/dev/null
+  fi
+}
+
+complete -F _phpsa phpsa
