@@ -8,7 +8,8 @@ use Rattle.content_automata.specs.declared.refusal.ContentRefusal.{ContentRefusa
 use Rattle.content_automata.specs.declared.refusal.ContentRefusal.TheVariants.{Limit, Memory}
 use Rattle.content_automata.specs.Shapes.{Shape, shape, first_state, state_behind, states_walk, then_some, IsSized}
 use Rattle.content_automata.specs.Tables.{Table, IsTable, Row, Key, key_eq, Keeps, CellFits, RowsFit, FirstsFit, AreElements, AllReached, AreSized, run, ends, first_at, next_at, row_at, owner_at}
-use Rattle.content_automata.specs.Refusals.{IsOver, IsCause}
+use Rattle.content_automata.specs.Refusals.{AreTooMany, IsCause, many_states, many_moves}
+use Rattle.content_automata.specs.Counts.{pairs_in}
 use Rattle.dtd_model.specs.Matches.{matches}
 use Rattle.dtd_model.specs.Lawful.{is_lawful, is_lawful_rule, is_lawful_holding, are_lawful_attributes, are_names, element_limit}
 use Rattle.std.specs.Cmp.{first_so, second_so}
@@ -45,8 +46,9 @@ all_sized (x ∷ rules) (suc e) s h = all_sized rules e s h
 pub firsts_kept : (shapes : List Shape) (old new : List Key) (firsts : List ℕ) (count : ℕ) → Keeps old new → FirstsFit shapes old firsts count → FirstsFit shapes new firsts count
 firsts_kept shapes old new firsts count keeps f = record { long = f.long; fit = λ e s h at. keeps (slice_index_or firsts e 0) (e, first_state s) (f.fit e s h at) }
 
-pub cause : (shapes : List Shape) (keys : List Key) (r : ContentRefusal) → AllReached shapes keys → IsOver keys r → IsCause shapes r
-cause shapes keys (Limit count) all over = (over.0, (keys, over.1, over.2, λ k has. led_reached shapes k (all k has)))
+pub cause : (shapes : List Shape) (keys : List Key) (r : ContentRefusal) → AllReached shapes keys → AreTooMany shapes keys r → IsCause shapes r
+cause shapes keys (Limit count) all (inl over) = many_states over.0 (keys, over.1, over.2, λ k has. led_reached shapes k (all k has))
+cause shapes keys (Limit count) all (inr over) = many_moves over.0 (keys, over.2, (λ k has. led_reached shapes k (all k has)), over.1)
 cause shapes keys Memory all over = tt
 
 pub table_decides : (d : Definition) (t : Table) → IsTable (shapes_in d) t → Decides d t
@@ -229,3 +231,13 @@ owners_more keys n k items new at e m =
     let i = slice_get_within keys n k (sym at) in
     let same : take (n + 1) keys ≡ take n keys ++ k ∷ [] = take_more keys n k i ∙ ap (λ z. take n keys ++ z ∷ []) (get_or_from_slice_get keys n k k (sym at)) in
     m ∙ ap (λ (l : List ℕ). l ++ k.0 ∷ []) e ∙ sym (map-append (λ (x : Key). x.0) (take n keys) (k ∷ [])) ∙ ap (map (λ (x : Key). x.0)) (sym same)
+
+-- the elements of the definition, as they are handed on
+pub elements_as : (es elements : List ElementRule) → es ≡ elements → map (λ (r : ElementRule). shape (holding_of r.content)) es ≡ map (λ (r : Rule). shape r.holding) (map rule_of elements)
+elements_as es elements e = ap (map (λ (r : ElementRule). shape (holding_of r.content))) e ∙ shapes_are elements
+
+pub cause_as : (es elements : List ElementRule) (r : ContentRefusal) → es ≡ elements → IsCause (map (λ (x : ElementRule). shape (holding_of x.content)) es) r → IsCause (map (λ (x : Rule). shape x.holding) (map rule_of elements)) r
+cause_as es elements r e cause = subst (λ (ss : List Shape). IsCause ss r) (elements_as es elements e) cause
+
+pub pairs_as : (es elements : List ElementRule) (limit : ℕ) → es ≡ elements → pairs_in (map (λ (x : ElementRule). shape (holding_of x.content)) es) ≤ limit → pairs_in (map (λ (x : Rule). shape x.holding) (map rule_of elements)) ≤ limit
+pairs_as es elements limit e few = subst (λ (ss : List Shape). pairs_in ss ≤ limit) (elements_as es elements e) few

@@ -1,9 +1,11 @@
 pub mod BuildLemmas
+pub mod CountLemmas
 pub mod ExploreLemmas
 pub mod GoingLemmas
 pub mod KeyLemmas
 pub mod LiveLemmas
 pub mod ModelLemmas
+pub mod MoveLemmas
 pub mod PassLemmas
 pub mod ReachLemmas
 pub mod RunLemmas

@@ -1,6 +1,7 @@
 pub mod Decides
 pub mod Shapes
 pub mod Refusals
+pub mod Counts
 pub mod Tables
 pub mod Views
 pub mod Positions

@@ -1,19 +1,22 @@
 //! The automata of all elements.
 
-ghost use Rattle.std.specs.Prelude.{◌≡◌, ◌≤◌, ◌<◌, ◌↔◌, IsTrue, length, map, IfOk, IfErr};
+ghost use Rattle.std.specs.Prelude.{◌≡◌, ◌≤◌, ◌<◌, ◌↔◌, IsTrue, length, map, IfOk, IfErr, OnOk};
 ghost use Rattle.dtd_model.specs.declared.dtd.ElementRule.{ElementRule};
 ghost use Rattle.dtd_model.specs.Table.{holding_of};
-ghost use Rattle.content_automata.specs.declared.table.TheConstants.{STATE_LIMIT};
+ghost use Rattle.content_automata.specs.declared.limits.TheConstants.{STATE_LIMIT, PAIR_LIMIT};
 ghost use Rattle.content_automata.specs.Shapes.{shape};
 ghost use Rattle.dtd_model.specs.TableOf.{table_of};
 ghost use Rattle.content_automata.specs.Tables as spec;
 ghost use Rattle.content_automata.specs.Tables.{AreSized, IsTable, Key};
 ghost use Rattle.content_automata.specs.Refusals.{IsCause};
+ghost use Rattle.content_automata.specs.Counts.{pairs_in};
 ghost use Rattle.content_automata.specs.Decides.{shapes_in, Decides, TellsApart, HasOwners, GoesOn, ReachesAll};
 ghost use Rattle.content_automata.specs.Views.{shapes_of};
 
 use crate::Flags;
+use crate::counts::all_pairs;
 use crate::explore::{State, begin, explore};
+use crate::limits::PAIR_LIMIT;
 use crate::model::{Model as Allowed, model_of_content};
 use crate::refusal::ContentRefusal;
 use dtd_model::{Dtd, ElementRule};
@@ -91,7 +94,48 @@ fn tabled(alloc: Global, models: &[Allowed]) -> Result<Contents, ContentRefusal>
     })
 }
 
+// The pairs of the content models are within the limit, or why no table is built. So it is known
+// before any of them takes memory.
+fn within_limit(elements: &[ElementRule]) -> Result<(), ContentRefusal>
+    ensures pairs { OnOk result
+        (pairs_in (map (λ (r : ElementRule). shape (holding_of r.content)) elements.now) ≤ PAIR_LIMIT) }
+    ensures limit { IfErr result
+        (IsCause (map (λ (r : ElementRule). shape (holding_of r.content)) elements.now)) }
+{
+    let pairs = all_pairs(elements)?;
+    if pairs > PAIR_LIMIT {
+        return Err(ContentRefusal::Limit {
+            count: pairs as u64,
+        });
+    }
+    Ok(())
+}
+
+// The models, where their pairs are within the limit.
+fn limited(alloc: Global, elements: &[ElementRule]) -> Result<Vec<Allowed>, ContentRefusal>
+    ensures models { IfOk result (λ v. shapes_of v.items
+        ≡ map (λ (r : ElementRule). shape (holding_of r.content)) elements.now) }
+    ensures pairs { OnOk result
+        (pairs_in (map (λ (r : ElementRule). shape (holding_of r.content)) elements.now) ≤ PAIR_LIMIT) }
+    ensures limit { IfErr result
+        (IsCause (map (λ (r : ElementRule). shape (holding_of r.content)) elements.now)) }
+{
+    match within_limit(elements) {
+        Ok(()) => {}
+        Err(refusal) => return Err(refusal),
+    }
+    let models = models(alloc, elements)?;
+    Ok(models)
+}
+
 /// The automata of the content models of a definition.
+///
+/// # Errors
+///
+/// `Limit` only where the content models have over 4,096 states, over 4,194,304 pairs of positions
+/// of which the second may come behind the first, or states with over 16,777,216 moves. The pairs
+/// are counted before a position is put down, the moves of a state before it is left. `Memory` may
+/// come at any time.
 pub fn build(alloc: Global, dtd: &Dtd) -> Result<Contents, ContentRefusal>
     ensures decides { IfOk result (λ c. Decides (table_of dtd.now) c) }
     ensures apart { IfOk result (λ c. TellsApart (table_of dtd.now) c) }
@@ -100,9 +144,13 @@ pub fn build(alloc: Global, dtd: &Dtd) -> Result<Contents, ContentRefusal>
     ensures reached { IfOk result (λ c. ReachesAll (length (table_of dtd.now).elements) c) }
     ensures few { IfOk result (λ c. length c.1 ≤ STATE_LIMIT) }
     ensures elements { IfOk result (λ c. length c.0 ≡ length (table_of dtd.now).elements) }
+    ensures pairs { OnOk result (pairs_in (shapes_in (table_of dtd.now)) ≤ PAIR_LIMIT) }
     ensures limit { IfErr result (IsCause (shapes_in (table_of dtd.now))) }
 {
-    let models = models(alloc, dtd.elements.as_slice())?;
+    let models = match limited(alloc, dtd.elements.as_slice()) {
+        Ok(models) => models,
+        Err(refusal) => return Err(refusal),
+    };
     match tabled(alloc, models.as_slice()) {
         Ok(contents) => Ok(contents),
         Err(refusal) => Err(refusal),

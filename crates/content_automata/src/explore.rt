@@ -1,14 +1,17 @@
 //! All states, one after another.
 
-ghost use Rattle.std.specs.Prelude.{◌≡◌, ◌≤◌, ◌<◌, [], length, map, Some, slice_get, IfOk, IfErr, OnOk};
+ghost use Rattle.std.specs.Prelude.{◌≡◌, ◌≤◌, ◌<◌, ◌+◌, [], length, map, take, Some, slice_get, IfOk, IfErr, OnOk};
 ghost use Rattle.std.specs.List.{IsDistinct};
-ghost use Rattle.content_automata.specs.Tables.{key_eq, Keeps, AllReached, AreSized, RowFits, RowsFit, FirstsFit};
-ghost use Rattle.content_automata.specs.declared.table.TheConstants.{STATE_LIMIT};
-ghost use Rattle.content_automata.specs.Refusals.{IsOver};
+ghost use Rattle.content_automata.specs.Tables.{Key, key_eq, Keeps, AllReached, AreSized, RowFits, RowsFit, FirstsFit};
+ghost use Rattle.content_automata.specs.declared.limits.TheConstants.{STATE_LIMIT, MOVE_LIMIT};
+ghost use Rattle.content_automata.specs.Refusals.{IsOver, AreTooMany};
+ghost use Rattle.content_automata.specs.Counts.{moves_at, moves_in};
 ghost use Rattle.content_automata.specs.Views.{shape_of, shapes_of, row_of, BeginsAt, HasRow};
 
 use crate::Flags;
-use crate::model::{Model, first_state};
+use crate::limits::MOVE_LIMIT;
+use crate::model::{Model, first_state, moves_of};
+use crate::places::added;
 use crate::refusal::ContentRefusal;
 use crate::table::{cells, number};
 use indexmap::IndexSet;
@@ -114,6 +117,51 @@ fn state_at(
     })
 }
 
+// How many moves the state of this number has.
+fn moves_of_state(
+    models: &[Model],
+    keys: &IndexSet<(u64, Flags)>,
+    at: usize,
+) -> Result<usize, NoMemory>
+    requires within { at < length keys.now.keys }
+    requires sized { AreSized (shapes_of models.now) }
+    requires reached { AllReached (shapes_of models.now) keys.now.keys }
+    ensures { IfOk result (λ n. (k : Key) → slice_get keys.now.keys at ≡ Some k
+        → n ≡ moves_at (shapes_of models.now) k) }
+{
+    match keys.get_index(at) {
+        Some(key) => {
+            let count = moves_of(model_at(models, key.0 as usize), &key.1)?;
+            Ok(count)
+        }
+        None => unreachable!(),
+    }
+}
+
+// The moves that were counted, with those of the state of this number: within the limit, or why no
+// table is built.
+fn counted(
+    models: &[Model],
+    keys: &IndexSet<(u64, Flags)>,
+    at: usize,
+    sum: usize,
+) -> Result<usize, ContentRefusal>
+    requires within { at < length keys.now.keys }
+    requires sized { AreSized (shapes_of models.now) }
+    requires reached { AllReached (shapes_of models.now) keys.now.keys }
+    requires apart { IsDistinct key_eq keys.now.keys }
+    requires sum { sum ≡ moves_in (shapes_of models.now) (take at keys.now.keys) }
+    ensures sum { IfOk result (λ n. n ≡ moves_in (shapes_of models.now) (take (at + 1) keys.now.keys)) }
+    ensures few { IfOk result (λ n. n ≤ MOVE_LIMIT) }
+    ensures limit { IfErr result (AreTooMany (shapes_of models.now) keys.now.keys) }
+{
+    let sum = added(sum, moves_of_state(models, keys, at)?)?;
+    if sum > MOVE_LIMIT {
+        return Err(ContentRefusal::Limit { count: sum as u64 });
+    }
+    Ok(sum)
+}
+
 /// The rows of all states that are reached.
 pub fn explore(
     alloc: Global,
@@ -130,12 +178,18 @@ pub fn explore(
     ensures apart { OnOk result (IsDistinct key_eq keys.new.keys) }
     ensures keeps { Keeps keys.old.keys keys.new.keys }
     ensures reached { AllReached (shapes_of models.now) keys.new.keys }
-    ensures limit { IfErr result (IsOver keys.new.keys) }
+    ensures moves { OnOk result (moves_in (shapes_of models.now) keys.new.keys ≤ MOVE_LIMIT) }
+    ensures limit { IfErr result (AreTooMany (shapes_of models.now) keys.new.keys) }
 {
     let mut states = Vec::new(alloc);
     let mut next = 0;
+    let mut moves = 0;
     'states: while next < keys.len() {
-        let state = state_at(alloc, models, next, keys)?;
+        moves = counted(models, keys, next, moves)?;
+        let state = match state_at(alloc, models, next, keys) {
+            Ok(state) => state,
+            Err(refusal) => return Err(refusal),
+        };
         match states.push(state) {
             Ok(()) => {}
             Err(_) => return Err(ContentRefusal::Memory),

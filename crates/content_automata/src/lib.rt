@@ -6,9 +6,11 @@
 #![tactic(auto)]
 
 mod contents;
+mod counts;
 mod explore;
 mod flags;
 mod laws;
+mod limits;
 mod model;
 mod places;
 mod refusal;
@@ -18,7 +20,7 @@ mod table;
 pub use contents::{Contents, build};
 pub use flags::Flags;
 pub use laws::{positions_decide, sets_decide};
+pub use limits::{MOVE_LIMIT, PAIR_LIMIT, STATE_LIMIT};
 pub use places::{Behind, Place, first_of, places_of};
 pub use refusal::ContentRefusal;
 pub use sets::{set_of, steps};
-pub use table::STATE_LIMIT;

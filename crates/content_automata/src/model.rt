@@ -1,12 +1,17 @@
 //! What an element may hold, ready to be walked.
 
-ghost use Rattle.std.specs.Prelude.{◌≡◌, map, replicate, false, IfOk};
+ghost use Rattle.std.specs.Prelude.{◌≡◌, length, map, replicate, false, IfOk};
 ghost use Rattle.std.specs.List.{range_with_len};
 ghost use Rattle.content_automata.specs.Sets.{raised};
 ghost use Rattle.dtd_model.specs.Table as table;
 ghost use Rattle.content_automata.specs.Shapes as spec;
 ghost use Rattle.content_automata.specs.Views.{shape_of};
+ghost use Rattle.content_automata.specs.Counts as counts;
+ghost use Rattle.content_automata.specs.PlaceViews.{positions_of};
+ghost use Rattle.content_automata.specs.Ascending.{Ascends};
 
+use crate::places::added;
+use crate::sets::place_of;
 use crate::{Flags, Place, first_of, places_of, set_of, steps};
 use dtd_model::{Content, Particle};
 use std::alloc::Global;
@@ -144,5 +149,30 @@ pub fn states_behind(
         Model::Anything => kept_for_all(alloc, flags, true, count),
         Model::Text(elements) => kept_for(alloc, flags, elements.as_slice(), count),
         Model::Children(_, places) => steps(alloc, count, places.as_slice(), flags),
+    }
+}
+
+// How many pairs begin in these positions.
+fn moves_from(places: &[Place], members: &[usize]) -> Result<usize, NoMemory>
+    requires { Ascends 0 (length places.now) members.now }
+    ensures { IfOk result (λ n. n ≡ counts.moves_from (positions_of places.now) members.now) }
+{
+    let mut sum: usize = 0;
+    for member in members {
+        sum = added(sum, place_of(places, *member).behind.positions.len())?;
+    }
+    Ok(sum)
+}
+
+/// How many moves the state has: the pairs that begin in one of its positions.
+pub fn moves_of(model: &Model, flags: &Flags) -> Result<usize, NoMemory>
+    requires { spec.IsSized (shape_of model.now) flags.now }
+    ensures { IfOk result (λ n. n ≡ counts.moves_of (shape_of model.now) flags.now) }
+{
+    match model {
+        Model::Nothing => Ok(0),
+        Model::Anything => Ok(0),
+        Model::Text(_) => Ok(0),
+        Model::Children(_, places) => moves_from(places.as_slice(), flags.members()),
     }
 }

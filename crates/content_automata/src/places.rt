@@ -27,7 +27,7 @@ pub struct Place {
 // Whether the particle matches no element at all.
 #[tactic(auto, using(dtd_model::proofs::Views::views), unfolding(dtd_model::specs::Matches::may_be_empty))]
 #[cycle(emptiness)]
-fn may_be_empty(particle: &Particle) -> bool
+pub(crate) fn may_be_empty(particle: &Particle) -> bool
     ensures { result ≡ matching.may_be_empty (model_of particle.now) }
 {
     match particle {
@@ -67,7 +67,7 @@ fn some_may_be_empty(parts: &[Particle]) -> bool
 }
 
 // The sum of two counts. None of what memory holds is more than a `usize` counts.
-fn added(a: usize, b: usize) -> Result<usize, NoMemory>
+pub(crate) fn added(a: usize, b: usize) -> Result<usize, NoMemory>
     ensures { IfOk result (λ n. n ≡ a + b) }
 {
     match a.checked_add(b) {
@@ -208,9 +208,9 @@ fn before_end(alloc: Global, particle: &Particle) -> Result<Behind, NoMemory>
 }
 
 // What may come next behind a particle that may come again.
-fn again(alloc: Global, particle: &Particle, base: usize, next: &Behind) -> Result<Behind, NoMemory>
+fn again(alloc: Global, particle: &Particle, base: usize, next: Behind) -> Result<Behind, NoMemory>
     ensures { IfOk result
-        (λ b. next_of b ≡ spec.again base (model_of particle.now) (next_of next.now)) }
+        (λ b. next_of b ≡ spec.again base (model_of particle.now) (next_of next)) }
 {
     let mut positions = Vec::new(alloc);
     push_firsts(particle, base, &mut positions)?;
@@ -222,17 +222,11 @@ fn again(alloc: Global, particle: &Particle, base: usize, next: &Behind) -> Resu
 }
 
 // Puts down the position of an element.
-fn push_place(
-    alloc: Global,
-    element: usize,
-    next: &Behind,
-    places: &mut Vec<Place>,
-) -> Result<(), NoMemory>
+fn push_place(element: usize, behind: Behind, places: &mut Vec<Place>) -> Result<(), NoMemory>
     ensures { OnOk result (positions_of places.new.items
         ≡ positions_of places.old.items ++
-        (record { element = element; behind = next_of next.now } ∷ [])) }
+        (record { element = element; behind = next_of behind } ∷ [])) }
 {
-    let behind = copied(alloc, next)?;
     places.push(Place { element, behind })?;
     Ok(())
 }
@@ -244,25 +238,25 @@ fn push_places(
     alloc: Global,
     particle: &Particle,
     base: usize,
-    next: &Behind,
+    next: Behind,
     places: &mut Vec<Place>,
 ) -> Result<(), NoMemory>
     ensures { OnOk result (positions_of places.new.items
         ≡ positions_of places.old.items ++ spec.places base (model_of particle.now)
-        (next_of next.now)) }
+        (next_of next)) }
 {
     match particle {
-        Particle::One(element) => push_place(alloc, usize::from(element.0), next, places),
+        Particle::One(element) => push_place(usize::from(element.0), next, places),
         Particle::Seq(parts) => { push_places_in_turn(alloc, parts.as_slice(), base, next, places) }
         Particle::Alt(parts) => { push_places_of_each(alloc, parts.as_slice(), base, next, places) }
         Particle::Opt(inner) => push_places(alloc, inner, base, next, places),
         Particle::Star(inner) => {
             let behind = again(alloc, inner, base, next)?;
-            push_places(alloc, inner, base, &behind, places)
+            push_places(alloc, inner, base, behind, places)
         }
         Particle::Plus(inner) => {
             let behind = again(alloc, inner, base, next)?;
-            push_places(alloc, inner, base, &behind, places)
+            push_places(alloc, inner, base, behind, places)
         }
     }
 }
@@ -273,19 +267,22 @@ fn push_places_in_turn(
     alloc: Global,
     parts: &[Particle],
     base: usize,
-    next: &Behind,
+    next: Behind,
     places: &mut Vec<Place>,
 ) -> Result<(), NoMemory>
     ensures { OnOk result (positions_of places.new.items
         ≡ positions_of places.old.items ++ spec.places_in_turn base (models_in parts.now)
-        (next_of next.now)) }
+        (next_of next)) }
 {
     let mut at = base;
     for i in 0..parts.len() {
         let part = &parts[i];
+        if i + 1 == parts.len() {
+            return push_places(alloc, part, at, next, places);
+        }
         let behind = added(at, positions(part)?)?;
-        let inner = before_all(alloc, &parts[i + 1..], behind, next)?;
-        push_places(alloc, part, at, &inner, places)?;
+        let inner = before_all(alloc, &parts[i + 1..], behind, &next)?;
+        push_places(alloc, part, at, inner, places)?;
         at = behind;
     }
     Ok(())
@@ -297,16 +294,21 @@ fn push_places_of_each(
     alloc: Global,
     parts: &[Particle],
     base: usize,
-    next: &Behind,
+    next: Behind,
     places: &mut Vec<Place>,
 ) -> Result<(), NoMemory>
     ensures { OnOk result (positions_of places.new.items
         ≡ positions_of places.old.items ++ spec.places_of_each base (models_in parts.now)
-        (next_of next.now)) }
+        (next_of next)) }
 {
     let mut at = base;
-    for part in parts {
-        push_places(alloc, part, at, next, places)?;
+    for i in 0..parts.len() {
+        let part = &parts[i];
+        if i + 1 == parts.len() {
+            return push_places(alloc, part, at, next, places);
+        }
+        let behind = copied(alloc, &next)?;
+        push_places(alloc, part, at, behind, places)?;
         at = added(at, positions(part)?)?;
     }
     Ok(())
@@ -329,6 +331,6 @@ pub fn places_of(alloc: Global, particle: &Particle) -> Result<Vec<Place>, NoMem
         whole: true,
     };
     let mut places = Vec::new(alloc);
-    push_places(alloc, particle, 0, &end, &mut places)?;
+    push_places(alloc, particle, 0, end, &mut places)?;
     Ok(places)
 }

@@ -9,8 +9,10 @@ use thiserror::Error;
 /// Why no table is built.
 #[derive(Clone, Copy, Debug, PartialEq, Eq, Error)]
 pub enum ContentRefusal {
-    /// The content models have more than 4,096 sets of positions, at least `count`.
-    #[error("the content models have {count} states and more")]
+    /// The content models have over 4,096 states, at least `count`; or just `count` pairs of positions
+    /// of which the second may come behind the first, over 4,194,304; or states with over 16,777,216
+    /// moves, at least `count`.
+    #[error("the content models are too large: {count}")]
     Limit { count: u64 },
     /// No memory was left.
     #[error("out of memory")]

@@ -72,7 +72,7 @@ fn joined(alloc: Global, slot: Option<Behind>, more: &Behind) -> Result<Behind, 
 
 // The place of a position.
 #[tactic(auto, using(crate::proofs::SetLemmas::place_is))]
-fn place_of(places: &[Place], position: usize) -> &Place
+pub(crate) fn place_of(places: &[Place], position: usize) -> &Place
     requires { position < length places.now }
     ensures { position_of result.now ≡ place_at (positions_of places.now) position }
 {

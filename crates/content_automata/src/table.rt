@@ -5,17 +5,16 @@ ghost use Rattle.content_automata.specs.Shapes.{IsSized};
 ghost use Rattle.content_automata.specs.Shapes as shapes;
 ghost use Rattle.content_automata.specs.Tables.{Key, Keeps, CellFits, CellsFit, Adds, AddsFound};
 ghost use Rattle.content_automata.specs.Refusals.{IsOver};
+ghost use Rattle.content_automata.specs.declared.limits.TheConstants.{STATE_LIMIT};
 ghost use Rattle.content_automata.specs.Views.{shape_of};
 
 use crate::Flags;
+use crate::limits::STATE_LIMIT;
 use crate::model::{Model, states_behind};
 use crate::refusal::ContentRefusal;
 use indexmap::IndexSet;
 use std::alloc::Global;
 use text_base::NoMemory;
-
-/// The most states that a table has.
-pub const STATE_LIMIT: usize = 4096;
 
 fn insert(keys: &mut IndexSet<(u64, Flags)>, key: (u64, Flags)) -> Result<usize, NoMemory>
     ensures number { IfOk result (λ n. slice_get keys.new.keys n ≡ Some key) }

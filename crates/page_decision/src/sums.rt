@@ -26,8 +26,8 @@ pub enum PageSums {
 ///
 /// # Errors
 ///
-/// `Limit` only where the content models of the definition have over 4,096 states. `Memory` may
-/// come at any time.
+/// `Limit` only where the content models of the definition pass a limit of content_automata.
+/// `Memory` may come at any time.
 pub fn sums_of(alloc: Global, dtd: &Dtd, goal: Goal) -> Result<PageSums, ContentRefusal>
     ensures sums { IfOk result (AreSumsOf goal (table_of dtd.now)) }
     ensures cause { IfErr result (IsCause (shapes_in (table_of dtd.now))) }

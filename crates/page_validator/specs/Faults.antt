@@ -1,17 +1,16 @@
 -- The cause of a refusal.
-use Rattle.std.specs.Prelude.{◌≤◌, ◌<◌, ℕ, List, length, Result, Ok, Err}
+use Rattle.std.specs.Prelude.{◌≤◌, ℕ, List, length, Result, Ok, Err}
 use Rattle.dtd_model.specs.Table.{Table}
-use Rattle.content_automata.specs.declared.table.TheConstants.{STATE_LIMIT}
 use Rattle.content_automata.specs.Decides.{shapes_in}
-use Rattle.content_automata.specs.Tables.{HasStates}
+use Rattle.content_automata.specs.Refusals.{PassLimit}
 use Rattle.page_model.specs.Valid.{Valid}
 use Rattle.page_validator.specs.declared.refusal.PageRefusal.{PageRefusal}
 use Rattle.page_validator.specs.declared.refusal.PageRefusal.TheVariants.{PageFault, Limit, Memory}
 
--- a fault says that the page is not valid, a limit that the content models have over 4,096 states; want of memory says nothing
+-- a fault says that the page is not valid, a limit that the content models are too large; want of memory says nothing
 abbrev pub IsCause : PageRefusal → Table → List ℕ → Type 0
 IsCause (PageFault at) table page = Valid table page → ⊥
-IsCause (Limit count) table page = (STATE_LIMIT < count) × HasStates (shapes_in table) count
+IsCause (Limit count) table page = PassLimit (shapes_in table) count
 IsCause Memory table page = Unit {0}
 
 -- the place is one of the page, or its end

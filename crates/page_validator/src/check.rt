@@ -17,7 +17,7 @@ use std::alloc::Global;
 /// Whether the page is valid by the definition (XML 1.0, 2.8 and 3; XHTML 1.0, 3.1.1). `Ok` comes
 /// only where it is, and `PageFault` only where it is not; its place is the beginning of the
 /// piece that no valid page goes on with, or the page's end. `Limit` comes only where the content
-/// models of the definition have over 4,096 states.
+/// models of the definition pass a limit (content_automata).
 pub fn check_page(alloc: Global, dtd: &Dtd, page: &[u8]) -> Result<(), PageRefusal>
     ensures valid { OnOk result (Valid (table_of dtd.now) page.now) }
     ensures fault { IfErr result (λ refusal. IsCause refusal (table_of dtd.now) page.now) }

@@ -1,7 +1,7 @@
 //! Is one page valid by a document type definition? One pass over its characters, with a stack of
 //! its own. Promise: `check_page` answers `Ok` only where the page is `Valid` (page_model; clause
-//! `valid`), `PageFault` only where it is not, and `Limit` only where the content models have over
-//! 4,096 states (clause `fault`: `IsCause` of specs/Faults).
+//! `valid`), `PageFault` only where it is not, and `Limit` only where the content models pass a limit
+//! of content_automata (clause `fault`: `IsCause` of specs/Faults).
 //! Used by: phpsa_main, dtd_tests.
 #![tactic(auto)]
 

@@ -12,8 +12,9 @@ pub enum PageRefusal {
     /// The page is not valid. `at` is where that showed, in bytes from the page's beginning.
     #[error("the page is not valid, as byte {at} shows")]
     PageFault { at: u64 },
-    /// The content models of the definition have over 4,096 states, at least `count`.
-    #[error("the content models have over {count} states")]
+    /// The content models of the definition pass a limit of content_automata (`PassLimit`): on their
+    /// states, on their pairs of positions, or on the moves of the states.
+    #[error("the content models are too large: {count}")]
     Limit { count: u64 },
     /// No memory was left.
     #[error("out of memory")]

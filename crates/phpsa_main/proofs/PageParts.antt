@@ -15,7 +15,7 @@ use Rattle.phpsa_texts.specs.declared.message.Refusal.{Refusal}
 use Rattle.phpsa_texts.specs.Statuses.{file_status, definition_status}
 use Rattle.phpsa_texts.specs.Texts.{IsTold, file_text, definition_text}
 use Rattle.phpsa_tasks.specs.Tasks.{page_check}
-use Rattle.phpsa_tasks.specs.Causes.{definition_call, not_defined, many_states, not_read, page_lacks_definition}
+use Rattle.phpsa_tasks.specs.Causes.{definition_call, not_defined, large_models, not_read, page_lacks_definition}
 use Rattle.phpsa_tasks.specs.declared.reply.Reply.TheVariants as reply
 use Rattle.phpsa_tasks.specs.Results.{TaskResult, Does}
 use Rattle.phpsa_tasks.proofs.Faults.{told_faults, wanted_faults}
@@ -80,7 +80,7 @@ judged_does files file d table page (Ok (reply.Text message)) has told once calm
 judged_does files file d table page (Ok (reply.Grammar grammar)) has told once calm says = absurd says
 judged_does files file d table page (Ok (reply.Halted printed message)) has told once calm says = absurd says
 judged_does files file d table page (Err (Refusal.Told message)) has told once calm (count, many, (status_is, text_is)) = record {
-  due = page_lacks_definition page told (many_states table count has many status_is text_is);
+  due = page_lacks_definition page told (large_models table count has many status_is text_is);
   read = λ built_in. inl (once built_in);
   faults = inr calm;
 }

@@ -21,7 +21,7 @@ use Rattle.phpsa_texts.specs.Texts.{Says, IsTold, load_text, definition_text}
 use Rattle.phpsa_tasks.specs.declared.reply.Reply.TheVariants as reply
 use Rattle.phpsa_tasks.specs.Tasks.{script_check}
 use Rattle.phpsa_tasks.specs.Replies.{answer_status, answer_text}
-use Rattle.phpsa_tasks.specs.Causes.{definition_call, RefusesScript, not_defined, many_states, not_loaded, lacks_definition, has_long_text}
+use Rattle.phpsa_tasks.specs.Causes.{definition_call, RefusesScript, not_defined, large_models, not_loaded, lacks_definition, has_long_text}
 use Rattle.phpsa_tasks.specs.Counted.{uncounted, ReadsItsFiles}
 use Rattle.phpsa_tasks.specs.Results.{Does}
 use Rattle.phpsa_tasks.proofs.Faults.{told_faults, wanted_faults}
@@ -77,7 +77,7 @@ definition_decides files file d goal limit cause Refusal.Memory program loaded w
 program_refused : (files : SourceCall) (file : List ℕ) (d : NamedType) (table : Table) (program : PlainProgram) (message : Message) → HasTable files.content d table
     → IsLoaded files.content file program → IsProgramRefused table program file message → RefusesScript files file d message.status message.text
 program_refused files file d table program message has loaded (inl (long, (status_is, text_is))) = has_long_text program loaded long status_is text_is
-program_refused files file d table program message has loaded (inr (count, many, (status_is, text_is))) = lacks_definition program loaded (many_states table count has many status_is text_is)
+program_refused files file d table program message has loaded (inr (count, many, (status_is, text_is))) = lacks_definition program loaded (large_models table count has many status_is text_is)
 
 -- the program is decided, or not
 pub program_decides : (files : SourceCall) (file : List ℕ) (d : NamedType) (goal : Goal) (limit : ℕ) (table : Table) (program : PlainProgram) (decision : Decision)

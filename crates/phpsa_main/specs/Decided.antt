@@ -7,7 +7,7 @@ use Rattle.program_files.specs.Source.{SourceCall}
 use Rattle.program_lowering.specs.Short.{HasLongText}
 use Rattle.program_loader.specs.Told.{IsLoaded}
 use Rattle.document_types.specs.DocumentTypes.{NamedType, HasTable, IsBuiltIn}
-use Rattle.script_decision.specs.Decision.{HasManyStates}
+use Rattle.script_decision.specs.Decision.{HasLargeModels}
 use Rattle.script_decision.specs.declared.shown.ShownAnswer.{ShownAnswer}
 use Rattle.phpsa_texts.specs.declared.exit.Exit.TheVariants.{Dtd, Input}
 use Rattle.phpsa_texts.specs.declared.message.Message.{Message}
@@ -44,11 +44,11 @@ Decides files file document_type goal limit (Ok answer) = IsDecidedAs files file
 Decides files file document_type goal limit (Err (Refusal.Told message)) = IsRefusedBy files file document_type message
 Decides files file document_type goal limit (Err Refusal.Memory) = ⊤
 
--- what deciding a loaded program comes to, with the name of its file: a text of it is too long, or the content models have too many states
+-- what deciding a loaded program comes to, with the name of its file: a text of it is too long, or the content models pass a limit
 abbrev pub IsProgramRefused : Table → PlainProgram → List ℕ → Message → Type 0
 IsProgramRefused table program name message =
     (HasLongText program × Says message Input (long_text name))
-    ⊎ ((count : ℕ) × HasManyStates table count × Says message Dtd (states_text count))
+    ⊎ ((count : ℕ) × HasLargeModels table count × Says message Dtd (states_text count))
 
 -- what deciding a loaded program comes to, with the name of its file
 abbrev pub IsProgramDecided : Table → PlainProgram → List ℕ → Goal → ℕ → Decision → Type 0

@@ -30,7 +30,7 @@ use Rattle.document_types.proofs.OneTable.{same_table}
 use Rattle.document_types.proofs.ForMemory.{IsWant, for_memory}
 use Rattle.page_decision.specs.declared.goal.Goal.{Goal}
 use Rattle.program_lowering.specs.Short.{HasLongText}
-use Rattle.script_decision.specs.Decision.{HasManyStates}
+use Rattle.script_decision.specs.Decision.{HasLargeModels}
 use Rattle.script_decision.specs.declared.shown.ShownAnswer.{ShownAnswer}
 use Rattle.script_decision.specs.Shown.{IsShownAnswer}
 use Rattle.phpsa_texts.specs.declared.exit.Exit.{Exit}
@@ -41,7 +41,7 @@ use Rattle.phpsa_tasks.specs.Files.{HoldsShortFile}
 use Rattle.phpsa_tasks.specs.Requests.{no_request, FindsRequest, HoldsRequest, unread, no_request_in, RefusesRequest}
 use Rattle.phpsa_tasks.specs.Subjects.{ProgramBy, PageBy, ProgramFor, Subject, made_name, only_made, Finds, HoldsShortProgram, HoldsTable, Holds, IsSmall, IsWithin}
 use Rattle.phpsa_tasks.specs.Replies.{answer_status, end_status, HasManyItems, IsJudged, IsReplyOf, IsHaltOf}
-use Rattle.phpsa_tasks.specs.Causes.{definition_call, RefusesDefinition, not_defined, many_states, RefusesScript, not_loaded, lacks_definition, has_long_text, not_read, page_lacks_definition, no_size, made_refused, Refuses}
+use Rattle.phpsa_tasks.specs.Causes.{definition_call, RefusesDefinition, not_defined, large_models, RefusesScript, not_loaded, lacks_definition, has_long_text, not_read, page_lacks_definition, no_size, made_refused, Refuses}
 use Rattle.phpsa_tasks.specs.Answered.{IsScriptVerdict, PassesScriptLimit, PassesGrammarLimit, IsVerdict, PassesLimit, IsStopped}
 use Rattle.command_words.specs.declared.values.TheConstants.{PAIR_LIMIT}
 
@@ -196,8 +196,8 @@ pub definition_memory : (files : SourceCall) (d : NamedType) (table : Table) (st
     → (Rises files.faults files.faults' → ⊥) → RefusesDefinition files d status text → status ≡ Memory
 definition_memory files d table status text t w calm (not_defined cause why status_is text_is) =
     status_is ∙ want_status cause (for_memory (definition_call files) d table cause t.told w.short w.small t.has calm why)
-definition_memory files d table status text t w calm (many_states found count has many status_is text_is) =
-    absurd (w.few count (subst (λ (s : Table). HasManyStates s count) (same_table files.content d found table t.told has t.has) many))
+definition_memory files d table status text t w calm (large_models found count has many status_is text_is) =
+    absurd (w.few count (subst (λ (s : Table). HasLargeModels s count) (same_table files.content d found table t.told has t.has) many))
 
 -- a count of 0 has not risen
 never : Rises 0 0 → ⊥

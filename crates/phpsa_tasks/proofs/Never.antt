@@ -26,7 +26,7 @@ use Rattle.phpsa_tasks.specs.Requests.{unread, no_request_in, RefusesRequest}
 use Rattle.phpsa_tasks.specs.Subjects.{Subject, made_name, only_made}
 use Rattle.phpsa_tasks.specs.Replies.{answer_status, end_status, IsReplyOf, IsHaltOf}
 use Rattle.phpsa_tasks.specs.Written.{HasAllWritten}
-use Rattle.phpsa_tasks.specs.Causes.{RefusesDefinition, not_defined, many_states, RefusesScript, not_loaded, lacks_definition, has_long_text, RefusesPage, not_read, page_lacks_definition, RefusesMade, no_size, made_refused, Refuses}
+use Rattle.phpsa_tasks.specs.Causes.{RefusesDefinition, not_defined, large_models, RefusesScript, not_loaded, lacks_definition, has_long_text, RefusesPage, not_read, page_lacks_definition, RefusesMade, no_size, made_refused, Refuses}
 
 -- neither status of a task that is done, nor that of the usage
 abbrev pub IsOther : Exit → Type 0
@@ -78,7 +78,7 @@ of_defining definition.Memory = tt
 
 of_definition : (files : SourceCall) (d : NamedType) (status : Exit) (text : List ℕ) → RefusesDefinition files d status text → IsOther status
 of_definition files d status text (not_defined cause why is text_is) = subst IsOther (sym is) (of_defining cause)
-of_definition files d status text (many_states table count has many is text_is) = subst IsOther (sym is) tt
+of_definition files d status text (large_models table count has many is text_is) = subst IsOther (sym is) tt
 
 of_script : (files : SourceCall) (file : List ℕ) (d : NamedType) (status : Exit) (text : List ℕ) → RefusesScript files file d status text → IsOther status
 of_script files file d status text (not_loaded cause why is text_is) = subst IsOther (sym is) (of_load cause)

@@ -13,7 +13,7 @@ use Rattle.dtd_reader.specs.Source as definition
 use Rattle.document_types.specs.DocumentTypes.{NamedType, strict_type, HasTable, IsDefinitionRefusal}
 use Rattle.document_types.specs.declared.refusal.DefinitionRefusal.{DefinitionRefusal}
 use Rattle.program_lowering.specs.Short.{HasLongText}
-use Rattle.script_decision.specs.Decision.{HasManyStates}
+use Rattle.script_decision.specs.Decision.{HasLargeModels}
 use Rattle.script_maker.specs.Made.{IsSize}
 use Rattle.phpsa_texts.specs.declared.exit.Exit.{Exit}
 use Rattle.phpsa_texts.specs.declared.exit.Exit.TheVariants.{Usage, Dtd, Input}
@@ -28,11 +28,11 @@ use Rattle.phpsa_tasks.specs.Counted.{ReadsForRun}
 abbrev pub definition_call : SourceCall → definition.SourceCall
 definition_call files = definition.source_call files.content files.faults files.faults' files.misses files.misses'
 
--- the document type has no definition, or the content models of its definition have too many states
+-- the document type has no definition, or the content models of its definition pass a limit
 pub data RefusesDefinition (files : SourceCall) (document_type : NamedType) (status : Exit) (text : List ℕ) : Type 0 where
   not_defined : (cause : DefinitionRefusal) → IsDefinitionRefusal (definition_call files) document_type cause
       → status ≡ definition_status cause → text ≡ definition_text cause → RefusesDefinition files document_type status text
-  many_states : (table : Table) (count : ℕ) → HasTable files.content document_type table → HasManyStates table count
+  large_models : (table : Table) (count : ℕ) → HasTable files.content document_type table → HasLargeModels table count
       → status ≡ Dtd → text ≡ states_text count → RefusesDefinition files document_type status text
 
 -- the program is not loaded; or it is, and there is no definition for it, or a text in it is over the limit of a run

@@ -7,7 +7,7 @@ use Rattle.program_loader.specs.Told.{Content, IsLoaded, HoldsProgram, AreShort}
 use Rattle.dtd_model.specs.Table.{Table}
 use Rattle.document_types.specs.OneFile.{file_alone}
 use Rattle.document_types.specs.DocumentTypes.{NamedType, strict_type, HasTable, NamesAreTold, NamesAreShort, IsTooLarge}
-use Rattle.script_decision.specs.Decision.{HasManyStates}
+use Rattle.script_decision.specs.Decision.{HasLargeModels}
 use Rattle.script_maker.specs.Made.{made, IsSize}
 use Rattle.phpsa_tasks.specs.Files.{HoldsShortFile}
 use Rattle.phpsa_tasks.specs.Requests.{FindsRequest, HoldsRequest}
@@ -95,7 +95,7 @@ Holds content usage subject = ⊤
 pub record IsSmall (content : Content) (document_type : NamedType) (table : Table) : Type 0 where
   pub short : NamesAreShort content document_type
   pub small : (count : ℕ) → IsTooLarge content document_type count → ⊥
-  pub few : (count : ℕ) → HasManyStates table count → ⊥
+  pub few : (count : ℕ) → HasLargeModels table count → ⊥
 
 -- the definition of a task is so
 abbrev pub IsWithin : Content → (task : Task) → Subject task → Type 0

@@ -104,7 +104,7 @@ pub fn definition_refusal(alloc: Global, refusal: &DefinitionRefusal) -> Refusal
     told(definition_status(refusal), definition_text(alloc, refusal))
 }
 
-/// That the content models of a definition have over 4,096 states, at least `count`.
+/// That the content models of a definition pass a limit, by `count`.
 pub fn states_refusal(alloc: Global, count: u64) -> Refusal
     ensures { IsTold result Dtd (states_text count) }
 {

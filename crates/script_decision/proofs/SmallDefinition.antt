@@ -1,10 +1,11 @@
--- The content models of the smallest definition have nine states at most: so a call by it is never refused for them.
+-- The content models of the smallest definition have nine states at most, of one move each, and one pair of positions: so a call by it is
+-- never refused for them.
 use Rattle.std.proofs.Common.{◌≡◌, ◌≤◌, ◌∙◌, ◌&&◌, ◌||◌, ℕ, zero, suc, Bool, true, false, List, [], ◌∷◌, length, Contains, Some, refl, sym, ap, subst, arith}
 use Rattle.std.specs.Bool.{beq}
 use Rattle.std.specs.Cmp.{IsEquivalence}
 use Rattle.std.proofs.lemmas.Cmp.{nat_eq_equiv}
 use Rattle.std.specs.Cmp.Lexicographic.{pointwise}
-use Rattle.std.specs.List.{list_any}
+use Rattle.std.specs.List.{list_any, IsDistinct}
 use Rattle.std.proofs.lemmas.Map.Made.{length-le_from_is_member}
 use Rattle.content_automata.specs.Positions.{places, firsts, positions}
 use Rattle.dtd_model.specs.Matches.{may_be_empty}
@@ -12,10 +13,12 @@ use Rattle.dtd_model.specs.Mini.{mini_table}
 use Rattle.content_automata.specs.Decides.{shapes_in}
 use Rattle.content_automata.specs.Shapes.{Shape, text, first_state, states_walk}
 use Rattle.content_automata.specs.Tables.{Key, key_eq, IsReached}
+use Rattle.content_automata.specs.Counts.{pairs_in, moves_at, moves_in}
+use Rattle.content_automata.specs.Refusals.{many_states, many_pairs, many_moves}
 use Rattle.content_automata.proofs.BuildLemmas.{all_sized}
 use Rattle.content_automata.proofs.KeyLemmas.{exact_key}
 use Rattle.content_automata.proofs.ReachLemmas.{reached_sized}
-use Rattle.script_decision.specs.Decision.{HasManyStates}
+use Rattle.script_decision.specs.Decision.{HasLargeModels}
 
 -- a state of each element, with one flag or two
 states : List Key
@@ -88,8 +91,54 @@ found P q (k ∷ keys) each h = go (key_eq q k) refl h (found P q keys (λ x hol
     go true e h later = subst P (sym (exact_key q k e)) (each k (0, omega arith, refl))
     go false e h later = later h
 
-pub mini_is_small : (count : ℕ) → HasManyStates mini_table count → ⊥
+two_flags_hold : (P : List Bool → Type 0) → ((a b : Bool) → P (a ∷ b ∷ [])) → (flags : List Bool) → length flags ≡ 2 → P flags
+two_flags_hold P h [] l = cc
+two_flags_hold P h (a ∷ []) l = cc
+two_flags_hold P h (a ∷ b ∷ []) l = h a b
+two_flags_hold P h (a ∷ b ∷ c ∷ more) l = absurd (omega (arith, l))
+
+-- a state of an element has one move at most
+html_moves : (a b : Bool) → moves_at (shapes_in mini_table) (0, a ∷ b ∷ []) ≤ 1
+unfolding mini_table places firsts positions may_be_empty
+html_moves true true = omega arith
+html_moves true false = omega arith
+html_moves false true = omega arith
+html_moves false false = omega arith
+
+body_moves : (a b : Bool) → moves_at (shapes_in mini_table) (1, a ∷ b ∷ []) ≤ 1
+unfolding mini_table places firsts positions may_be_empty
+body_moves true true = omega arith
+body_moves true false = omega arith
+body_moves false true = omega arith
+body_moves false false = omega arith
+
+few_moves : (k : Key) → IsReached (shapes_in mini_table) k → moves_at (shapes_in mini_table) k ≤ 1
+unfolding mini_table places firsts positions may_be_empty
+few_moves (zero, flags) r = two_flags_hold (λ f. moves_at (shapes_in mini_table) (0, f) ≤ 1) html_moves flags (reached_sized (shapes_in mini_table) (0, flags) _ (all_sized mini_table.elements) r refl)
+few_moves (suc zero, flags) r = two_flags_hold (λ f. moves_at (shapes_in mini_table) (1, f) ≤ 1) body_moves flags (reached_sized (shapes_in mini_table) (1, flags) _ (all_sized mini_table.elements) r refl)
+few_moves (suc (suc zero), flags) r = omega arith
+few_moves (suc (suc (suc e)), flags) r = omega arith
+
+all_few : (keys : List Key) → ((k : Key) → Contains keys k → moves_at (shapes_in mini_table) k ≤ 1) → moves_in (shapes_in mini_table) keys ≤ length keys
+all_few [] each = omega arith
+all_few (k ∷ keys) each =
+    let one : moves_at (shapes_in mini_table) k ≤ 1 = each k (0, omega arith, refl) in
+    let others : moves_in (shapes_in mini_table) keys ≤ length keys = all_few keys (λ x holds. each x (suc holds.0, omega (arith, holds.1), holds.2)) in
+    omega (arith, one, others)
+
+few_keys : (keys : List Key) → IsDistinct key_eq keys → ((k : Key) → Contains keys k → IsReached (shapes_in mini_table) k) → length keys ≤ 9
 unfolding states
-mini_is_small count (over, (keys, long, apart, all)) =
-    let few : length keys ≤ length states = length-le_from_is_member keys_agree keys states apart (λ q h. found (λ k. list_any (key_eq k) states ≡ true) q keys (λ k holds. listed k (all k holds)) h) in
-    omega (arith, few, long, over)
+few_keys keys apart all =
+    length-le_from_is_member keys_agree keys states apart (λ q h. found (λ k. list_any (key_eq k) states ≡ true) q keys (λ k holds. listed k (all k holds)) h)
+
+few_pairs : pairs_in (shapes_in mini_table) ≤ 1
+unfolding mini_table places firsts positions may_be_empty
+few_pairs = omega arith
+
+pub mini_is_small : (count : ℕ) → HasLargeModels mini_table count → ⊥
+mini_is_small count (many_states over (keys, long, apart, all)) = let few = few_keys keys apart all in omega (arith, few, long, over)
+mini_is_small count (many_pairs over is) = let few = few_pairs in omega (arith, few, is, over)
+mini_is_small count (many_moves over (keys, apart, all, most)) =
+    let few = few_keys keys apart all in
+    let moves = all_few keys (λ k holds. few_moves k (all k holds)) in
+    omega (arith, few, moves, most, over)

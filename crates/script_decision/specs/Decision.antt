@@ -4,9 +4,8 @@ use Rattle.cfg_grammar.specs.declared.grammar.Grammar.{Grammar}
 use Rattle.script_meaning.specs.Programs.{PlainProgram}
 use Rattle.program_lowering.specs.Short.{HasLongText}
 use Rattle.dtd_model.specs.Table.{Table}
-use Rattle.content_automata.specs.declared.table.TheConstants.{STATE_LIMIT}
 use Rattle.content_automata.specs.Decides.{shapes_in}
-use Rattle.content_automata.specs.Tables.{HasStates}
+use Rattle.content_automata.specs.Refusals.{PassLimit}
 use Rattle.page_decision.specs.declared.goal.Goal.{Goal}
 use Rattle.page_decision.specs.PageVerdicts.{HasManyPairs, HasManyOpenTags}
 use Rattle.echoing_machine.specs.Echoes.{EchoStep, EchoEnd}
@@ -43,12 +42,12 @@ IsAnswerOf goal table program limit (Answer.Tags count height) =
     IsSearched table program × HasManyOpenTags table (IsLoosePage program) (IsReaderImage table program) goal count height
 IsAnswerOf goal table program limit (Answer.Items count) = (ITEM_LIMIT < count) × HasManyItems table program count
 
--- the content models of the definition have over 4,096 states, at least so many
-abbrev pub HasManyStates : Table → ℕ → Type 0
-HasManyStates table count = (STATE_LIMIT < count) × HasStates (shapes_in table) count
+-- the content models of the definition pass a limit, by so many: on their states, on their pairs of positions, or on the moves of the states
+abbrev pub HasLargeModels : Table → ℕ → Type 0
+HasLargeModels table count = PassLimit (shapes_in table) count
 
 -- the program is refused, for this reason; want of memory says nothing
 abbrev pub IsCheckRefusal : Table → PlainProgram → CheckRefusal → Type 0
-IsCheckRefusal table program (refusal.Limit count) = HasManyStates table count
+IsCheckRefusal table program (refusal.Limit count) = HasLargeModels table count
 IsCheckRefusal table program refusal.LongText = HasLongText program
 IsCheckRefusal table program refusal.Memory = ⊤

@@ -9,7 +9,7 @@ use thiserror::Error;
 /// Why a program has no answer.
 #[derive(Clone, Copy, Debug, PartialEq, Eq, Error)]
 pub enum CheckRefusal {
-    /// The content models of the definition have over 4,096 states, at least `count`.
+    /// The content models of the definition pass a limit (`PassLimit` of content_automata).
     #[error("the content models have over {count} states")]
     Limit { count: u64 },
     /// A text literal of the program has over 16,777,216 bytes, and so is no text of a run.

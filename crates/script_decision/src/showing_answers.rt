@@ -43,7 +43,7 @@ fn show(alloc: Global, answer: Answer) -> Result<ShownAnswer, NoMemory>
 /// # Errors
 ///
 /// `LongText` only where a text literal of the program has over 16,777,216 bytes; `Limit` only
-/// where the content models of the definition have over 4,096 states. `Memory` may come at any
+/// where the content models of the definition pass a limit. `Memory` may come at any
 /// time.
 pub fn check_shown(
     alloc: Global,

@@ -1,7 +1,7 @@
 //! The type of the summary by segments.
 
 ghost use Rattle.std.specs.Prelude.{◌≡◌, ◌≤◌, length};
-ghost use Rattle.content_automata.specs.declared.table.TheConstants.{STATE_LIMIT};
+ghost use Rattle.content_automata.specs.declared.limits.TheConstants.{STATE_LIMIT};
 ghost use Rattle.content_automata.specs.Decides.{HasOwners};
 
 use content_automata::Contents;

@@ -3,7 +3,7 @@
 ghost use Rattle.std.specs.Prelude.{◌≡◌, ◌<◌, ◌≤◌, length, map, IfOk, nat_lt};
 ghost use Rattle.std.specs.List.{range_with_len};
 ghost use Rattle.dtd_model.specs.TableOf.{table_of};
-ghost use Rattle.content_automata.specs.declared.table.TheConstants.{STATE_LIMIT};
+ghost use Rattle.content_automata.specs.declared.limits.TheConstants.{STATE_LIMIT};
 ghost use Rattle.content_automata.specs.Decides.{HasOwners};
 ghost use Rattle.tag_sums.specs.Labels.{child, other};
 ghost use Rattle.tag_sums.specs.Sum.{by_label, by_state};

@@ -1,8 +1,10 @@
+use Rattle.content_automata.specs.Views.{shapes_of}
 use Rattle.content_automata.proofs.BuildLemmas.{cause, table_is}
+use Rattle.content_automata.proofs.MoveLemmas.{over_too_many}
 use Rattle.content_automata.proofs.contents.tabled.Goals as goal
 
 pub returns-in-Err-clause-limit : goal.returns-in-Err-clause-limit
-returns-in-Err-clause-limit c = cause _ _ _ c.in-Err.ensures.reached c.in-Err.ensures.limit
+returns-in-Err-clause-limit c = cause _ _ _ c.in-Err.ensures.reached (over_too_many (shapes_of c.args.models.now) _ _ c.in-Err.ensures.limit)
 
 pub returns-in-Err-explore-clause-limit : goal.returns-in-Err-explore-clause-limit
 returns-in-Err-explore-clause-limit c = cause _ _ _ c.in-Err-explore.ensures.reached c.in-Err-explore.ensures.limit

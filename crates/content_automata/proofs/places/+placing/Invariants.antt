@@ -8,6 +8,6 @@ abbrev pub invariant-push_places_in_turn-loop-i : goal.invariant-push_places_in_
 invariant-push_places_in_turn-loop-i l =
     positions_of l.places.items ++ places_in_turn l.at (models_in (drop l.i l.parts)) (next_of l.next) ≡ positions_of l.fn.places.items ++ places_in_turn l.base (models_in l.parts) (next_of l.next)
 
-abbrev pub invariant-push_places_of_each-loop-part : goal.invariant-push_places_of_each-loop-part
-invariant-push_places_of_each-loop-part l =
-    positions_of l.places.items ++ places_of_each l.at (models_in (drop l.part-index l.parts)) (next_of l.next) ≡ positions_of l.fn.places.items ++ places_of_each l.base (models_in l.parts) (next_of l.next)
+abbrev pub invariant-push_places_of_each-loop-i : goal.invariant-push_places_of_each-loop-i
+invariant-push_places_of_each-loop-i l =
+    positions_of l.places.items ++ places_of_each l.at (models_in (drop l.i l.parts)) (next_of l.next) ≡ positions_of l.fn.places.items ++ places_of_each l.base (models_in l.parts) (next_of l.next)
