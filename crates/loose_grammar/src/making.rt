@@ -33,8 +33,9 @@ use useful_nonterminals::trim;
 #[derive(Debug, Drop)]
 pub struct PageGrammar {
     pub grammar: Grammar,
-    /// Whether its system takes texts from outside: by a range of several bytes, or by an operation
-    /// that gives any text over its bytes. No clause speaks of it.
+    /// Whether its system may take texts from outside: by a range of several bytes, as a number that
+    /// is not known has them too, or by an operation that gives any text over its bytes. No clause
+    /// speaks of it.
     pub takes_outside: bool,
 }
 
