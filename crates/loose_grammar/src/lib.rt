@@ -6,7 +6,8 @@
 #![tactic(auto)]
 
 mod making;
+mod outside;
 mod refusal;
 
-pub use making::loose_grammar;
+pub use making::{PageGrammar, loose_grammar};
 pub use refusal::{GrammarRefusal, ITEM_LIMIT};

@@ -14,6 +14,7 @@ ghost use Rattle.resolving.specs.Causes.{IsCause};
 ghost use Rattle.loose_grammar.specs.Pages.{DerivePages, IsPageGrammar, IsProgramSystem};
 ghost use Rattle.loose_grammar.specs.Refusals.{IsGrammarRefusal};
 
+use crate::outside::takes_outside;
 use crate::refusal::{GrammarRefusal, ITEM_LIMIT, refusal_of};
 use cfg_grammar::Grammar;
 use expression_lowering::LoweringError;
@@ -27,6 +28,16 @@ use resolving::resolve;
 use std::alloc::Global;
 use text_base::NoMemory;
 use useful_nonterminals::trim;
+
+/// The grammar of the loose pages of a program.
+#[derive(Debug, Drop)]
+pub struct PageGrammar {
+    pub grammar: Grammar,
+    /// Whether its system may take texts from outside: by a range of several bytes, as a number that
+    /// is not known has them too, or by an operation that gives any text over its bytes. No clause
+    /// speaks of it.
+    pub takes_outside: bool,
+}
 
 // The system of a program, from its points, which are let go then.
 fn system_of(alloc: Global, program: &Program, flow: FlowProgram) -> Result<OpSystem, NoMemory>
@@ -50,29 +61,39 @@ fn resolved_of(alloc: Global, system: OpSystem) -> Result<Grammar, ImageRefusal>
 }
 
 // The grammar of a system.
-fn grammar_of(alloc: Global, program: &Program, system: OpSystem) -> Result<Grammar, GrammarRefusal>
+fn grammar_of(
+    alloc: Global,
+    program: &Program,
+    system: OpSystem,
+) -> Result<PageGrammar, GrammarRefusal>
     requires { IsProgramSystem (program_of program.now) system }
-    ensures grammar { IfOk result (IsPageGrammar (program_of program.now)) }
+    ensures grammar { IfOk result (λ made. IsPageGrammar (program_of program.now) made.grammar) }
     ensures refusal { IfErr result (IsGrammarRefusal (program_of program.now)) }
 {
     let _ = program;
+    let takes_outside = takes_outside(&system);
     match resolved_of(alloc, system) {
-        Ok(grammar) => Ok(trim(alloc, &grammar)?),
+        Ok(grammar) => Ok(PageGrammar {
+            grammar: trim(alloc, &grammar)?,
+            takes_outside,
+        }),
         Err(refusal) => Err(refusal_of(refusal)),
     }
 }
 
-/// The grammar of the loose pages of a program, without what stands in no derivation.
+/// The grammar of the loose pages of a program, without what stands in no derivation, and whether
+/// its system takes texts from outside.
 ///
 /// # Errors
 ///
 /// `LongText` only where a text literal of the program has over 16,777,216 bytes; `Items` only
 /// where the image of a string operation has so many items, over `ITEM_LIMIT`. `Memory` may come at
 /// any time.
-pub fn loose_grammar(alloc: Global, program: &Program) -> Result<Grammar, GrammarRefusal>
+pub fn loose_grammar(alloc: Global, program: &Program) -> Result<PageGrammar, GrammarRefusal>
     ensures pages { IfOk result
-        (λ g. DerivePages (program_of program.now) g.productions.items g.start) }
-    ensures grammar { IfOk result (IsPageGrammar (program_of program.now)) }
+        (λ made. DerivePages (program_of program.now) made.grammar.productions.items
+        made.grammar.start) }
+    ensures grammar { IfOk result (λ made. IsPageGrammar (program_of program.now) made.grammar) }
     ensures texts { IfOk result (λ _. TextsFit (program_of program.now)) }
     ensures refusal { IfErr result (IsGrammarRefusal (program_of program.now)) }
 {

@@ -22,7 +22,7 @@ fn grammar_reply(alloc: Global, name: &str, program: &Program) -> Result<Reply, 
     ensures { HasGrammarReply (program_of program.now) name.now result }
 {
     match loose_grammar(alloc, program) {
-        Ok(grammar) => Ok(Reply::Grammar(grammar)),
+        Ok(made) => Ok(Reply::Grammar(made.grammar)),
         Err(GrammarRefusal::LongText) => Err(long_text_refusal(alloc, name.as_bytes())),
         Err(GrammarRefusal::Items { count }) => {
             let passed = PassedCount::Items { count };

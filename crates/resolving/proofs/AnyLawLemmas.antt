@@ -1,5 +1,5 @@
 -- All texts over some bytes, by one nonterminal.
-use Rattle.std.proofs.Common.{◌≡◌, ◌+◌, ℕ, suc, List, [], ◌∷◌, ◌++◌, map, Contains, refl, ◌∙◌, ap, subst, arith}
+use Rattle.std.proofs.Common.{◌≡◌, ℕ, suc, List, [], ◌∷◌, ◌++◌, map, Contains, refl, ◌∙◌, ap, subst, arith}
 use Rattle.std.specs.Prelude.{All}
 use Rattle.std.proofs.lemmas.List.Elements.{All-nil, All-cons}
 use Rattle.text_base.specs.declared.byte_range.ByteRange.{ByteRange}
@@ -14,10 +14,10 @@ use Rattle.cfg_grammar.specs.declared.production.Right.TheVariants.{Empty, One, 
 use Rattle.cfg_grammar.specs.declared.production.Production.{Production}
 use Rattle.cfg_grammar.specs.Derives.{Derives}
 
--- the right sides of the nonterminal: nothing, or a byte before it
+-- the right sides of the nonterminal: nothing, or a byte of a range before it
 pub data IsAnyRight (E : ℕ → Type 0) (t : nt.Nt) (right : Right) : Type 0 where
   stop : right ≡ Empty → IsAnyRight E t right
-  go : (c : ℕ) (r : ByteRange) → E c → r.lo ≡ c → r.hi ≡ c → right ≡ Two (Range r) (Nt t) → IsAnyRight E t right
+  go : (r : ByteRange) → ((c : ℕ) → InRange r c → E c) → right ≡ Two (Range r) (Nt t) → IsAnyRight E t right
 
 pub record AllOver (E : ℕ → Type 0) (w : List Letter) : Type 0 where
   pub text : List ℕ
@@ -47,7 +47,7 @@ module _ (E : ℕ → Type 0) (t : nt.Nt) (ps : List Production) where
   module _ (own : (right : Right) → Contains ps (record { left = t; right = right }) → IsAnyRight E t right) where
     one_no : (a : Symbol) → IsAnyRight E t (One a) → ⊥
     one_no a (IsAnyRight.stop e) = cc
-    one_no a (IsAnyRight.go c r h low high e) = cc
+    one_no a (IsAnyRight.go r h e) = cc
 
     empty_two : (a b : Symbol) → Two a b ≡ Empty → ⊥
     empty_two a b e = cc
@@ -73,20 +73,19 @@ module _ (E : ℕ → Type 0) (t : nt.Nt) (ps : List Production) where
       where
         so : IsAnyRight E t (Two a b) → (b ≡ Nt t → AllOver E w) → AllOver E (v ++ w)
         so (IsAnyRight.stop e) further = absurd (empty_two a b e)
-        so (IsAnyRight.go c r h low high e) further =
+        so (IsAnyRight.go r h e) further =
             let l = range_letters a v d r (first_of a b (Range r) (Nt t) e) in
-            let same : c ≡ l.0 = (let x = l.1.0 in let y = l.1.1 in omega arith) in
             let rest = further (second_of a b (Range r) (Nt t) e) in
             record {
               text = l.0 ∷ rest.text;
               is = ap (λ (z : List Letter). z ++ w) l.2 ∙ ap (λ (z : List Letter). OfByte l.0 ∷ z) rest.is;
-              all = All-cons E l.0 rest.text (subst E same h) rest.all;
+              all = All-cons E l.0 rest.text (h l.0 l.1) rest.all;
             }
 
-  pub any_complete : Contains ps (record { left = t; right = Empty }) → ((c : ℕ) → E c → (r : ByteRange) × (r.lo ≡ c) × (r.hi ≡ c) × Contains ps (record { left = t; right = Two (Range r) (Nt t) }))
+  pub any_complete : Contains ps (record { left = t; right = Empty }) → ((c : ℕ) → E c → (r : ByteRange) × InRange r c × Contains ps (record { left = t; right = Two (Range r) (Nt t) }))
       → (text : List ℕ) → All E text → Derives ps (Nt t) (map OfByte text)
   any_complete ends puts [] all = Derives.by_empty t ends
   any_complete ends puts (b ∷ text) all =
       let p = puts b (all 0 b (omega arith)) in
       let rest = any_complete ends puts text (λ k d lt. all (suc k) d (omega arith)) in
-      Derives.by_two t (Range p.0) (Nt t) (OfByte b ∷ []) (map OfByte text) p.3 (Derives.by_range p.0 b (let l = p.1 in let h = p.2 in (omega arith, omega arith))) rest
+      Derives.by_two t (Range p.0) (Nt t) (OfByte b ∷ []) (map OfByte text) p.2 (Derives.by_range p.0 b p.1) rest

@@ -18,7 +18,7 @@ module _ (s : OpSystem) where
   pub drafted_count : (ps : List Production) (count : ℕ) (added : List Added) → Drafted s ps count added → count ≡ s.grammar.count + sum_by (λ a. a.nonterminals) added
   drafted_count _ _ _ Drafted.begins = omega arith
   drafted_count _ _ _ (Drafted.by_texts ps after count place added rule d next adds) =
-      more_of (λ a. a.nonterminals) (record { place = place; nonterminals = 1; productions = 258 }) added s.grammar.count count 1 (drafted_count ps count added d) refl
+      more_of (λ a. a.nonterminals) (record { place = place; nonterminals = 1; productions = 130 }) added s.grammar.count count 1 (drafted_count ps count added d) refl
   drafted_count _ _ _ (Drafted.by_image ps after count place added rule image d next adds) =
       more_of (λ a. a.nonterminals) (record { place = place; nonterminals = image.count; productions = 1 + length image.productions.items }) added s.grammar.count count image.count (drafted_count ps count added d) refl
 
@@ -26,7 +26,7 @@ module _ (s : OpSystem) where
   pub drafted_size : (ps : List Production) (count : ℕ) (added : List Added) → Drafted s ps count added → length ps ≤ length s.grammar.productions.items + sum_by (λ a. a.productions) added
   drafted_size _ _ _ Drafted.begins = omega arith
   drafted_size _ _ _ (Drafted.by_texts ps after count place added rule d next adds) =
-      at_most (λ a. a.productions) (record { place = place; nonterminals = 1; productions = 258 }) added (length s.grammar.productions.items) (length ps) (length after) 258 (drafted_size ps count added d) adds.few refl
+      at_most (λ a. a.productions) (record { place = place; nonterminals = 1; productions = 130 }) added (length s.grammar.productions.items) (length ps) (length after) 130 (drafted_size ps count added d) adds.few refl
   drafted_size _ _ _ (Drafted.by_image ps after count place added rule image d next adds) =
       at_most (λ a. a.productions) (record { place = place; nonterminals = image.count; productions = 1 + length image.productions.items }) added (length s.grammar.productions.items) (length ps) (length after) (1 + length image.productions.items)
       (drafted_size ps count added d) adds.few refl

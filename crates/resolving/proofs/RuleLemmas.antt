@@ -33,7 +33,7 @@ use Rattle.resolving.specs.Order.{IsDraftOf, IsDraftedBy, IsReadyFor, MayBeAdded
 texts_drafted : (s : OpSystem) (rule : OpRule) (set : List Bool) (old new : Draft) → IsInCycle s rule → ((b : ℕ) → b < 256 → Has set b ↔ ByteOf s (Nt rule.left) b) → AddsAnyTexts rule.left set old new
     → (added : List Added) (place : ℕ) → IsDraftedBy s old added → IsNext s added place rule → (a : Added) × (a.place ≡ place) × IsDraftedBy s new (a ∷ added)
 texts_drafted s rule set old new circles exact adds added place drafted next =
-    let a : Added = record { place = place; nonterminals = 1; productions = 258 } in
+    let a : Added = record { place = place; nonterminals = 1; productions = 130 } in
     let step : AddsTexts s old.productions.items (length old.chains.last.items) rule new.productions.items = record { in_cycle = circles; set = set; bytes = exact; adds = adds.adds; few = adds.few } in
     (a, refl, subst (λ (n : ℕ). Drafted s new.productions.items n (a ∷ added)) (sym adds.count) (Drafted.by_texts old.productions.items new.productions.items (length old.chains.last.items) place added rule drafted next step))
 

@@ -93,7 +93,7 @@ module _ (s : OpSystem) where
         so (IsAnyProduction.before old) = absurd (let l = left_below count ps (record { left = t; right = right }) draft.below old in omega arith)
         so (IsAnyProduction.links e) = absurd (let f : count ≡ rule.left.0 = ap (λ (q : Production). q.left.0) e in let l = left_in rule has in let m = draft.least in omega arith)
         so (IsAnyProduction.stops e) = IsAnyRight.stop (ap (λ (q : Production). q.right) e)
-        so (IsAnyProduction.puts b) = IsAnyRight.go b.byte b.range (b.small, b.has) b.low b.high (ap (λ (q : Production). q.right) b.is)
+        so (IsAnyProduction.puts b) = IsAnyRight.go b.range b.has (ap (λ (q : Production). q.right) b.is)
 
     any_means : (w : List Letter) → Derives after (Nt t) w → HasLetters s (Nt rule.left) w
     any_means w d =

@@ -34,13 +34,13 @@ pub record IsNext (s : OpSystem) (added : List Added) (place : ℕ) (rule : OpRu
   pub at : slice_get s.ops.items place ≡ Some rule
   pub fresh : HasAdded added place → ⊥
 
--- a rule in a cycle is added: all texts over its bytes, by one nonterminal and at most 258 productions
+-- a rule in a cycle is added: all texts over its bytes, by one nonterminal and at most 130 productions
 pub record AddsTexts (s : OpSystem) (ps : List Production) (count : ℕ) (rule : OpRule) (after : List Production) : Type 0 where
   pub in_cycle : IsInCycle s rule
   pub set : List Bool
   pub bytes : (b : ℕ) → b < 256 → Has set b ↔ ByteOf s (Nt rule.left) b
   pub adds : AddsAny ps rule.left (record { 0 = count }) set after
-  pub few : length after ≤ length ps + 258
+  pub few : length after ≤ length ps + 130
 
 -- the grammar is the image of what the productions derive for the operand, under a machine of the operation, and is small for it
 pub record IsImageOf (ps : List Production) (rule : OpRule) (image : Grammar) : Type 0 where
@@ -64,7 +64,7 @@ pub data Drafted (s : OpSystem) : List Production → ℕ → List Added → Typ
   begins : Drafted s s.grammar.productions.items s.grammar.count []
   by_texts : (ps after : List Production) (count place : ℕ) (added : List Added) (rule : OpRule) → Drafted s ps count added
       → IsNext s added place rule → AddsTexts s ps count rule after
-      → Drafted s after (count + 1) (record { place = place; nonterminals = 1; productions = 258 } ∷ added)
+      → Drafted s after (count + 1) (record { place = place; nonterminals = 1; productions = 130 } ∷ added)
   by_image : (ps after : List Production) (count place : ℕ) (added : List Added) (rule : OpRule) (image : Grammar)
       → Drafted s ps count added → IsNext s added place rule → AddsOperation s ps count rule image after
       → Drafted s after (count + image.count)

@@ -4,6 +4,7 @@ use Rattle.text_base.specs.declared.byte_range.ByteRange.{ByteRange}
 use Rattle.text_base.specs.declared.numbers.Nt as nt
 use Rattle.text_base.specs.declared.letter.Letter.{Letter}
 use Rattle.text_base.specs.declared.letter.Letter.TheVariants.{OfByte}
+use Rattle.text_base.specs.ByteRange.{InRange}
 use Rattle.text_base.specs.ByteSet.{Has}
 use Rattle.cfg_grammar.specs.declared.symbol.Symbol.{Symbol}
 use Rattle.cfg_grammar.specs.declared.symbol.Symbol.TheVariants.{Range, Token, Nt}
@@ -66,16 +67,19 @@ pub data IsNew (ps : List Production) (count : ℕ) (left m : nt.Nt) (p : Produc
   link : p ≡ record { left = left; right = One (Nt m) } → IsNew ps count left m p
   fresh : count ≤ p.left.0 → ((b : nt.Nt) → Contains (symbols_of p.right) (Nt b) → count ≤ b.0) → IsNew ps count left m p
 
--- the production puts a byte of the set, below n, before the same nonterminal
-pub record IsByte (t : nt.Nt) (set : List Bool) (n : ℕ) (p : Production) : Type 0 where
-  pub byte : ℕ
-  pub below : byte < n
-  pub small : byte < 256
-  pub has : Has set byte
+-- a byte of the range is put before the same nonterminal
+abbrev pub range_production : nt.Nt → ByteRange → Production
+range_production t range = record { left = t; right = Two (Range range) (Nt t) }
+
+-- the production puts a byte of a range, all of whose bytes are in the set, before the same nonterminal
+pub record IsRangeOf (t : nt.Nt) (set : List Bool) (p : Production) : Type 0 where
   pub range : ByteRange
-  pub low : range.lo ≡ byte
-  pub high : range.hi ≡ byte
-  pub is : p ≡ record { left = t; right = Two (Range range) (Nt t) }
+  pub has : (byte : ℕ) → InRange range byte → (byte < 256) × Has set byte
+  pub is : p ≡ range_production t range
+
+-- some production puts the byte, as one of a range, before the same nonterminal
+abbrev pub HasRange : List Production → nt.Nt → ℕ → Type 0
+HasRange ps t byte = (range : ByteRange) × InRange range byte × Contains ps (range_production t range)
 
 -- the one nonterminal becomes the other
 abbrev pub link_of : nt.Nt → nt.Nt → Production
@@ -86,7 +90,7 @@ pub data IsAnyProduction (ps : List Production) (left t : nt.Nt) (set : List Boo
   before : Contains ps p → IsAnyProduction ps left t set p
   links : p ≡ link_of left t → IsAnyProduction ps left t set p
   stops : p ≡ record { left = t; right = Empty } → IsAnyProduction ps left t set p
-  puts : IsByte t set 256 p → IsAnyProduction ps left t set p
+  puts : IsRangeOf t set p → IsAnyProduction ps left t set p
 
 -- a production of before, the link, or one of the other grammar
 pub data IsImageProduction (ps : List Production) (left : nt.Nt) (base : ℕ) (image : Grammar) (p : Production) : Type 0 where
@@ -101,8 +105,7 @@ pub record AddsAny (ps : List Production) (left t : nt.Nt) (set : List Bool) (af
   pub only : (p : Production) → Contains after p → IsAnyProduction ps left t set p
   pub link : Contains after (link_of left t)
   pub stop : Contains after (record { left = t; right = Empty })
-  pub has : (byte : ℕ) → byte < 256 → Has set byte
-      → (range : ByteRange) × (range.lo ≡ byte) × (range.hi ≡ byte) × Contains after (record { left = t; right = Two (Range range) (Nt t) })
+  pub has : (byte : ℕ) → byte < 256 → Has set byte → HasRange after t byte
 
 -- a link to the start of another grammar is added, and its productions with higher numbers, but those with a page token
 pub record AddsImage (ps : List Production) (left : nt.Nt) (base : ℕ) (image : Grammar) (after : List Production) : Type 0 where

@@ -3,6 +3,5 @@ pub mod Shows
 pub mod Answers
 pub mod Searches
 pub mod Steps
-pub mod SingleBytes
 pub mod Shown
 pub mod EchoLaws

@@ -29,6 +29,7 @@ fn verdict_by<M: Machine>(
     alloc: Global,
     program: &Program,
     grammar: &Grammar,
+    takes_outside: bool,
     dtd: &Dtd,
     goal: Goal,
     machine: &M,
@@ -50,13 +51,23 @@ fn verdict_by<M: Machine>(
         → IsSearched (table_of dtd.now) (program_of program.now) }
 {
     let _ = program;
-    decide_grammar(alloc, grammar, dtd, goal, machine, sums, pairs)
+    decide_grammar(
+        alloc,
+        grammar,
+        takes_outside,
+        dtd,
+        goal,
+        machine,
+        sums,
+        pairs,
+    )
 }
 
 /// Whether each loose page of the program is good by the goal and the definition, with at most
 /// `pairs` different sums of sentences a nonterminal. Where that passes a limit, a page that is broken
 /// by the definition is looked for: if the search ends within its own limit, there is none where the
-/// limit is answered.
+/// limit is answered. Where texts from outside are taken, a page that is broken whatever the
+/// definition is looked for first; no clause depends on it.
 ///
 /// # Errors
 ///
@@ -65,6 +76,7 @@ pub fn answer_by<M: Machine>(
     alloc: Global,
     program: &Program,
     grammar: &Grammar,
+    takes_outside: bool,
     dtd: &Dtd,
     goal: Goal,
     machine: &M,
@@ -79,7 +91,17 @@ pub fn answer_by<M: Machine>(
         (IsAnswerBy (M.first machine.now) (M.steps machine.now) (M.ends machine.now) goal
         (table_of dtd.now) (program_of program.now) pairs) }
 {
-    match verdict_by(alloc, program, grammar, dtd, goal, machine, sums, pairs) {
+    match verdict_by(
+        alloc,
+        program,
+        grammar,
+        takes_outside,
+        dtd,
+        goal,
+        machine,
+        sums,
+        pairs,
+    ) {
         Ok(verdict) => Ok(verdict_answer(verdict)),
         Err(ImageRefusal::Large { items }) => Ok(Answer::Items { count: items }),
         Err(ImageRefusal::Memory) => Err(NoMemory),

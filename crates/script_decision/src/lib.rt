@@ -16,7 +16,6 @@ mod refusal;
 mod showing_answers;
 mod showing_pages;
 mod shown;
-mod single_bytes;
 
 pub use answer::Answer;
 pub use answering::answer_by;

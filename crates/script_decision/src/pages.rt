@@ -16,7 +16,6 @@ ghost use Rattle.page_decision.specs.declared.goal.Goal as goals;
 ghost use Rattle.script_decision.specs.Searches.{NoneIsBroken, IsSearchedIn};
 ghost use Rattle.script_decision.specs.Steps.{is_settled};
 
-use crate::single_bytes::are_of_single_bytes;
 use broken_search::find_broken_page;
 use cfg_grammar::Grammar;
 use coarse_reader::CoarseReader;
@@ -156,14 +155,15 @@ fn find_first<M: Machine>(
     }
 }
 
-/// Whether each page that the grammar derives is good by the goal and the definition. Where texts
-/// from outside may be printed, a page that is broken whatever the definition is looked for first, by
-/// a reader of few states: the whole reader meets too many where such a text stands in a page as it
-/// is. Where single bytes alone are printed it meets few, so that one pass decides. Where that has
-/// passed a limit, a page that is broken by the definition is looked for behind it.
+/// Whether each page that the grammar derives is good by the goal and the definition. Where the
+/// system of the pages takes texts from outside, a page that is broken whatever the definition is
+/// looked for first, by a reader of few states: the whole reader meets too many where such a text
+/// stands in a page as it is. Where none is taken it meets few, so that one pass decides. Where that
+/// has passed a limit, a page that is broken by the definition is looked for behind it.
 pub(crate) fn decide_grammar<M: Machine>(
     alloc: Global,
     grammar: &Grammar,
+    takes_outside: bool,
     dtd: &Dtd,
     goal: Goal,
     machine: &M,
@@ -182,9 +182,9 @@ pub(crate) fn decide_grammar<M: Machine>(
         (M.first machine.now) ITEM_LIMIT) }
     ensures searched { is_settled result ≡ false → IsSearchedIn (table_of dtd.now) grammar.now }
 {
-    if are_of_single_bytes(&grammar.productions) {
-        decide_first(alloc, grammar, dtd, goal, machine, sums, pairs)
-    } else {
+    if takes_outside {
         find_first(alloc, grammar, dtd, goal, machine, sums, pairs)
+    } else {
+        decide_first(alloc, grammar, dtd, goal, machine, sums, pairs)
     }
 }

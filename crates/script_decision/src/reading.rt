@@ -30,6 +30,7 @@ fn answer_grammar<R: RunReader + Drop>(
     alloc: Global,
     program: &Program,
     grammar: &Grammar,
+    takes_outside: bool,
     dtd: &Dtd,
     goal: Goal,
     reader: R,
@@ -50,7 +51,17 @@ fn answer_grammar<R: RunReader + Drop>(
     good_loose_pages_make_good_runs();
     echo_is_page_machine(dtd, &reader);
     let machine = Echoing { reader };
-    answer_by(alloc, program, grammar, dtd, goal, &machine, sums, pairs)
+    answer_by(
+        alloc,
+        program,
+        grammar,
+        takes_outside,
+        dtd,
+        goal,
+        &machine,
+        sums,
+        pairs,
+    )
 }
 
 // The answer for a program, by the summary of the goal.
@@ -74,8 +85,16 @@ fn decide_program<R: RunReader + Drop>(
     ensures refusal { IfErr result (IsCheckRefusal (table_of dtd.now) (program_of program.now)) }
 {
     match loose_grammar(alloc, program) {
-        Ok(grammar) => match answer_grammar(
-            alloc, program, &grammar, dtd, goal, reader, sums, pairs,
+        Ok(made) => match answer_grammar(
+            alloc,
+            program,
+            &made.grammar,
+            made.takes_outside,
+            dtd,
+            goal,
+            reader,
+            sums,
+            pairs,
         ) {
             Ok(answer) => Ok(answer),
             Err(_) => Err(CheckRefusal::Memory),
