@@ -85,6 +85,9 @@ fn pairs_in_turn(parts: &[Particle], behind: usize) -> Result<usize, NoMemory>
         let part = &parts[left];
         let count = pairs(part, next)?;
         let more = added(count, sum)?;
+        if left == 0 {
+            return Ok(more);
+        }
         let ahead = before(part, next)?;
         sum = more;
         next = ahead;
