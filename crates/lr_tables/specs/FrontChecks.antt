@@ -72,6 +72,10 @@ abbrev pub is_item : List (ℕ × ℕ × ℕ) → ℕ → ℕ → Bool
 is_item [] p d = false
 is_item (i ∷ items) p d = (nat_eq i.0 p && nat_eq i.1 d) || is_item items p d
 
+abbrev pub has_none : List (ℕ × ℕ × ℕ) → Bool
+has_none [] = true
+has_none (i ∷ items) = false
+
 abbrev pub starts_with : List ℕ → ℕ → Bool
 starts_with [] x = false
 starts_with (y ∷ ys) x = nat_eq y x
@@ -136,10 +140,12 @@ module _ (terminals : ℕ) (lefts rights : List ℕ) (rules : List (ℕ × List 
   are_entered prev kernel closed [] = true
   are_entered prev kernel closed (i ∷ items) = is_entered prev kernel closed i.0 i.1 && are_entered prev kernel closed items
 
-  -- no step is at the end of the input, and each leads to a state whose items come from here
+  -- no step is at the end of the input, and each leads to a state whose items come from here, and which has some behind a token
   abbrev pub step_enters : List State → ℕ → State → ℕ → Step → Bool
   step_enters states prev state x Fail = true
-  step_enters states prev state x (Go s) = not_true (nat_eq x 0) && are_entered prev state.kernel state.closed (slice_index_or states s no_state).kernel
+  step_enters states prev state x (Go s) = not_true (nat_eq x 0)
+      && ((if nat_lt x terminals then not_true (has_none (slice_index_or states s no_state).kernel) else true)
+      && are_entered prev state.kernel state.closed (slice_index_or states s no_state).kernel)
   step_enters states prev state x (Reduce p) = true
   step_enters states prev state x Accept = true
 
@@ -155,10 +161,11 @@ module _ (terminals : ℕ) (lefts rights : List ℕ) (rules : List (ℕ × List 
 -- what the place of an error asks for
 abbrev pub fronts_ok : Tables → List (ℕ × ℕ × List ℕ) → List State → Bool
 fronts_ok t samples states = is_free t.grammar.lefts 0
-    && (is_some (sampled t.grammar.terminals t.grammar.lefts samples (t.grammar.start ∷ []))
+    && (is_some (sample_of samples t.grammar.start)
+    && (has_none (slice_index_or states 0 no_state).kernel
     && (are_samples t.grammar.terminals t.grammar.lefts t.grammar.rights (sides t.grammar.rules) samples
     && (states_front t.grammar.terminals t.grammar.lefts t.grammar.rights (sides t.grammar.rules) samples true t.grammar.start t.accesses states
-    && rows_enter t.grammar.terminals t.grammar.lefts t.grammar.rights (sides t.grammar.rules) samples states t.accesses states t.rows)))
+    && rows_enter t.grammar.terminals t.grammar.lefts t.grammar.rights (sides t.grammar.rules) samples states t.accesses states t.rows))))
 
 -- all of it
 abbrev pub is_certified : Tables → Certificate → Bool
