@@ -1,12 +1,12 @@
 -- Whatever is derived is read, where each state is ready for what may come.
-use Rattle.std.proofs.Common.{◌≡◌, ◌⊎◌, inl, inr, ℕ, zero, suc, ◌+◌, Bool, true, false, nat_lt, nat_eq, List, [], ◌∷◌, ◌++◌, refl, sym, ◌∙◌, ap, subst, arith, Option, Some, None}
+use Rattle.std.proofs.Common.{◌≡◌, ◌⊎◌, inl, inr, ℕ, suc, ◌+◌, Bool, true, false, nat_lt, List, [], ◌∷◌, ◌++◌, refl, sym, ◌∙◌, ap, subst, arith, Option, Some, None}
 use Rattle.std.specs.Prelude.{if◌then◌else◌, slice_get}
 use Rattle.lr_tables.specs.declared.rule.Rule.{Rule}
 use Rattle.lr_tables.specs.declared.step.Step.{Step}
-use Rattle.lr_tables.specs.declared.step.Step.TheVariants.{Fail, Go, Reduce, Accept}
+use Rattle.lr_tables.specs.declared.step.Step.TheVariants.{Go, Reduce}
 use Rattle.lr_tables.specs.declared.event.Event as event
-use Rattle.lr_tables.specs.Grammars.{Grammar, Derives, leaf, node, Spells, none, more, named, onto, side, head, is_blocked, is_barred}
-use Rattle.lr_tables.specs.Machine.{Tables, Answer, Read, Wrong, top, access, entry, pops, told, put, replaced, reduced, shifted, accepted, acted, run}
+use Rattle.lr_tables.specs.Grammars.{Derives, leaf, node, Spells, none, more, named, onto, side, head, is_blocked, is_barred}
+use Rattle.lr_tables.specs.Machine.{Tables, Read, Wrong, top, access, entry, pops, told, put, replaced, reduced, acted, run}
 use Rattle.lr_tables.proofs.Basics.{is_eq}
 use Rattle.lr_tables.proofs.Sizes.{size, sizes}
 

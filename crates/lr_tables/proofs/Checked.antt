@@ -1,21 +1,19 @@
 -- What is computed of tables makes their states ready for what may come.
-use Rattle.std.proofs.Common.{◌≡◌, ◌⊎◌, inl, inr, ℕ, zero, suc, ◌+◌, ◌≤◌, ◌<◌, ◌^◌, Bool, true, false, ◌&&◌, ◌||◌, nat_lt, nat_le, nat_eq, List, [], ◌∷◌, refl, sym, ◌∙◌, ap, subst, arith, Option, Some, None, get_or}
-use Rattle.std.specs.Prelude.{if◌then◌else◌, slice_get, slice_index_or, bit_or}
+use Rattle.std.proofs.Common.{◌≡◌, inl, inr, ℕ, zero, suc, ◌+◌, ◌≤◌, ◌^◌, Bool, true, false, ◌&&◌, ◌||◌, nat_lt, nat_le, nat_eq, List, [], ◌∷◌, refl, sym, ◌∙◌, ap, subst, arith, Option, Some, None, get_or}
+use Rattle.std.specs.Prelude.{if◌then◌else◌, slice_get}
 use Rattle.std.specs.Int.{bit_at}
-use Rattle.std.proofs.lemmas.Nat.Bits.{bit_at-pow_same, bit_at-zero}
+use Rattle.std.proofs.lemmas.Nat.Bits.{bit_at-pow_same}
 use Rattle.std.proofs.lemmas.Bool.{and_parts}
 use Rattle.std.proofs.lemmas.Bool.Decides.{nat_tests}
 use Rattle.lr_tables.specs.declared.rule.Rule.{Rule}
 use Rattle.lr_tables.specs.declared.step.Step.{Step}
-use Rattle.lr_tables.specs.declared.step.Step.TheVariants.{Fail, Go, Reduce, Accept}
-use Rattle.lr_tables.specs.Grammars.{Grammar, side}
-use Rattle.lr_tables.specs.Machine.{Tables, access, entry}
+use Rattle.lr_tables.specs.Grammars.{side}
 use Rattle.lr_tables.specs.Certificates.{State, no_state, sides, behind, side_at, is_sub, closed_of}
 use Rattle.lr_tables.specs.Checks.{before_at, first_of, empty_of, weight_of, heads, all_empty, weights, below, is_fact, are_facts, all_reduce, covers, goes_on, item_ok, kernel_ok, begun_ok, closed_ok, state_ok, states_ok}
-use Rattle.lr_tables.proofs.Basics.{eq_is, is_eq, none_some, some_is}
-use Rattle.lr_tables.proofs.Bits.{sub_bit, or_left, or_right, no_bit, all_reduces}
+use Rattle.lr_tables.proofs.Basics.{eq_is, none_some, some_is}
+use Rattle.lr_tables.proofs.Bits.{sub_bit, or_left, or_right, no_bit}
 use Rattle.lr_tables.proofs.Sizes.{weights_by}
-use Rattle.lr_tables.proofs.Certified.{Among, Starts, AllEmpty, Expect, Leads, AreLawful}
+use Rattle.lr_tables.proofs.Certified.{Among, Starts, AllEmpty}
 
 pub or_false : (a b : Bool) → (a || b) ≡ true → a ≡ false → b ≡ true
 or_false true b h e = cc

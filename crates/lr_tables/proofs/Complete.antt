@@ -1,23 +1,23 @@
 -- Whatever is derived is read, where the checks of the tables hold.
-use Rattle.std.proofs.Common.{◌≡◌, ◌⊎◌, inl, inr, ℕ, zero, suc, ◌+◌, ◌-◌, ◌≤◌, ◌<◌, Bool, true, false, ◌&&◌, ◌||◌, nat_lt, nat_eq, List, [], ◌∷◌, refl, sym, ◌∙◌, ap, subst, arith, Option, Some, None, get_or}
-use Rattle.std.specs.Prelude.{if◌then◌else◌, slice_get, slice_index_or}
+use Rattle.std.proofs.Common.{◌≡◌, ℕ, suc, ◌+◌, ◌-◌, ◌≤◌, ◌<◌, Bool, true, false, ◌&&◌, ◌||◌, nat_lt, nat_eq, List, [], ◌∷◌, refl, sym, ◌∙◌, ap, subst, arith, Some, get_or}
+use Rattle.std.specs.Prelude.{if◌then◌else◌, slice_get}
 use Rattle.std.specs.Int.{bit_at}
 use Rattle.std.proofs.lemmas.Bool.{and_parts}
 use Rattle.lr_tables.specs.declared.rule.Rule.{Rule}
 use Rattle.lr_tables.specs.declared.step.Step.{Step}
 use Rattle.lr_tables.specs.declared.step.Step.TheVariants.{Fail, Go, Reduce, Accept}
 use Rattle.lr_tables.specs.declared.event.Event as event
-use Rattle.lr_tables.specs.Grammars.{Grammar, Derives, IsDerived, side, head}
-use Rattle.lr_tables.specs.Machine.{Tables, Answer, Read, Wrong, top, access, entry, accepted, acted, run}
+use Rattle.lr_tables.specs.Grammars.{IsDerived, side}
+use Rattle.lr_tables.specs.Machine.{Tables, Read, Wrong, access, entry, acted, run}
 use Rattle.lr_tables.specs.Certificates.{State, no_state, Certificate, sides, behind, side_at, is_sub, closed_of}
 use Rattle.lr_tables.specs.FrontChecks.{is_certified, fronts_ok}
 use Rattle.lr_tables.specs.Checks.{before_at, first_of, empty_of, weight_of, weights, below, heads, are_facts, covers, goes_on, item_ok, kernel_ok, closed_ok, states_ok, rows_accessed, moves_ok, is_accept, start_ok, tables_ok, paid}
 use Rattle.lr_tables.specs.Laws.{IsComplete}
-use Rattle.lr_tables.proofs.Basics.{eq_is, is_eq, none_some, accessed}
+use Rattle.lr_tables.proofs.Basics.{eq_is, is_eq, accessed}
 use Rattle.lr_tables.proofs.Bits.{sub_bit, all_reduces}
 use Rattle.lr_tables.proofs.Sizes.{size, weights_by, costs}
 use Rattle.lr_tables.proofs.Certified.{Among, Expect, Leads, AreLawful, reads}
-use Rattle.lr_tables.proofs.Checked.{begins, Empty, IsFact, fact_of, own_of, heads_among, side_is, side_found, before_found, behind_suc, Covered, covered, begun_at, begun_bit, state_kernel, state_closed, same_weights, or_false}
+use Rattle.lr_tables.proofs.Checked.{begins, Empty, fact_of, own_of, heads_among, side_is, side_found, before_found, behind_suc, covered, begun_at, begun_bit, state_kernel, state_closed, same_weights, or_false}
 
 module _ (t : Tables) (most : ℕ) (facts : List (ℕ × Bool × ℕ)) (states : List State)
     (reached : rows_accessed t t.rows ≡ true) (begins_at : access t 0 ≡ 0) (told : are_facts most t.grammar.terminals facts (sides t.grammar.rules) ≡ true)

@@ -1,9 +1,8 @@
 -- What the check of fronts says of one state and of one step.
-use Rattle.std.proofs.Common.{◌≡◌, ◌⊎◌, inl, inr, ℕ, zero, suc, ◌+◌, Bool, true, false, ◌&&◌, ◌||◌, nat_eq, nat_lt, List, [], ◌∷◌, refl, sym, ◌∙◌, ap, subst, arith, get_or}
-use Rattle.std.specs.Prelude.{if◌then◌else◌}
+use Rattle.std.proofs.Common.{◌≡◌, ℕ, zero, suc, ◌+◌, Bool, true, false, ◌&&◌, ◌||◌, nat_eq, nat_lt, List, [], ◌∷◌, refl, ◌∙◌, ap, subst, arith, get_or}
 use Rattle.std.proofs.lemmas.Bool.{and_parts}
 use Rattle.lr_tables.specs.declared.step.Step.{Step}
-use Rattle.lr_tables.specs.declared.step.Step.TheVariants.{Fail, Go, Reduce, Accept}
+use Rattle.lr_tables.specs.declared.step.Step.TheVariants.{Fail, Go}
 use Rattle.lr_tables.specs.Certificates.{State, no_state, behind, not_true}
 use Rattle.lr_tables.specs.FrontChecks.{is_item, has_none, is_led, are_led, are_opened, is_completed, is_entered, are_entered, state_front, states_front, step_enters, row_enters, rows_enter}
 use Rattle.lr_tables.proofs.Basics.{eq_is}

@@ -1,20 +1,18 @@
 -- Whatever stands on the stack can be completed to a sentence.
-use Rattle.std.proofs.Common.{◌≡◌, ◌⊎◌, inl, inr, ℕ, zero, suc, ◌+◌, Bool, true, false, ◌&&◌, ◌||◌, nat_eq, nat_lt, List, [], ◌∷◌, ◌++◌, refl, sym, ◌∙◌, ap, subst, arith, Option, Some, None, get_or, append_assoc}
+use Rattle.std.proofs.Common.{◌≡◌, ℕ, zero, suc, Bool, true, false, ◌&&◌, ◌||◌, nat_eq, nat_lt, List, [], ◌∷◌, ◌++◌, refl, sym, ◌∙◌, ap, subst, Option, Some, None, get_or, append_assoc}
 use Rattle.std.specs.Prelude.{if◌then◌else◌, slice_get}
 use Rattle.std.proofs.lemmas.Bool.{and_parts}
 use Rattle.lr_tables.specs.declared.rule.Rule.{Rule}
-use Rattle.lr_tables.specs.declared.step.Step.{Step}
-use Rattle.lr_tables.specs.declared.step.Step.TheVariants.{Fail, Go, Reduce, Accept}
-use Rattle.lr_tables.specs.declared.event.Event as event
-use Rattle.lr_tables.specs.Grammars.{Grammar, IsSentence, IsFront, Derives, side, head, is_barred}
+use Rattle.lr_tables.specs.declared.step.Step.TheVariants.{Go}
+use Rattle.lr_tables.specs.Grammars.{IsSentence, IsFront, Derives, side, head, is_barred}
 use Rattle.lr_tables.specs.Machine.{Tables, top, access, entry}
 use Rattle.lr_tables.specs.Certificates.{State, no_state, sides, side_at, behind, not_true}
-use Rattle.lr_tables.specs.FrontChecks.{is_free, is_some, begins_free, sample_of, sampled, are_samples, is_begun, is_item, has_none, starts_with, may_begin, may_begin_free, is_known, frees, is_opened, are_opened, is_led, are_led, is_completed, is_entered, are_entered, state_front, states_front, step_enters, row_enters, rows_enter}
-use Rattle.lr_tables.proofs.Basics.{eq_is, is_eq, none_some, some_is, not_is}
+use Rattle.lr_tables.specs.FrontChecks.{is_free, is_some, begins_free, sample_of, sampled, are_samples, is_begun, is_item, has_none, starts_with, may_begin, may_begin_free, is_known, frees, is_opened, are_opened, is_led, is_completed, are_entered, states_front, rows_enter}
+use Rattle.lr_tables.proofs.Basics.{eq_is, is_eq, not_is}
 use Rattle.lr_tables.proofs.Checked.{behind_suc, side_found}
 use Rattle.lr_tables.proofs.Holds.{and_nothing, ahead, head_ahead, ahead-append, Yields, YieldsAll, yields_more, yields_node, Holds}
-use Rattle.lr_tables.proofs.Samples.{Found, found, free_stands, free_ahead, Sampled, SampledAll, all_sampled, each_sampled}
-use Rattle.lr_tables.proofs.Entries.{rows_at_step, at_first, OpenedAt, opened_at, item_led, item_entered, completed_at}
+use Rattle.lr_tables.proofs.Samples.{found, free_stands, free_ahead, SampledAll, all_sampled, each_sampled}
+use Rattle.lr_tables.proofs.Entries.{rows_at_step, at_first, opened_at, item_led, item_entered, completed_at}
 
 module _ (t : Tables) (samples : List (ℕ × ℕ × List ℕ)) (states : List State) where
   abbrev all_sides : List (ℕ × List ℕ × ℕ × ℕ)

@@ -1,19 +1,17 @@
 -- Where the machine stops is the first token that no sentence goes on with.
-use Rattle.std.proofs.Common.{◌≡◌, ℕ, zero, suc, ◌+◌, ◌-◌, ◌<◌, ◌≤◌, Bool, true, false, ◌&&◌, nat_eq, nat_lt, List, [], ◌∷◌, ◌++◌, length, take, drop, refl, sym, ◌∙◌, ap, subst, arith, Option, Some, None, get_or, length-append}
+use Rattle.std.proofs.Common.{◌≡◌, ℕ, zero, suc, ◌+◌, ◌-◌, ◌<◌, ◌≤◌, Bool, true, ◌&&◌, nat_eq, List, [], ◌∷◌, ◌++◌, length, take, refl, sym, ◌∙◌, ap, subst, arith, get_or, length-append}
 use Rattle.std.proofs.lemmas.Bool.{and_parts}
-use Rattle.lr_tables.specs.declared.step.Step.TheVariants.{Go}
-use Rattle.lr_tables.specs.declared.event.Event as event
-use Rattle.lr_tables.specs.Grammars.{Grammar, IsDerived, IsSentence, IsFront, IsFirstWrong}
-use Rattle.lr_tables.specs.Machine.{Tables, Read, Wrong, top, access, entry, run}
+use Rattle.lr_tables.specs.Grammars.{IsSentence, IsFront, IsFirstWrong}
+use Rattle.lr_tables.specs.Machine.{Tables, Wrong, access, run}
 use Rattle.lr_tables.specs.Certificates.{State, no_state, Certificate, sides}
-use Rattle.lr_tables.specs.Checks.{rows_accessed, moves_ok, tables_ok, paid, weight_of}
+use Rattle.lr_tables.specs.Checks.{rows_accessed, tables_ok, paid, weight_of}
 use Rattle.lr_tables.specs.FrontChecks.{is_free, is_some, sample_of, are_samples, has_none, states_front, rows_enter, fronts_ok, is_certified}
-use Rattle.lr_tables.specs.Laws.{AreChecked, IsPlaced}
+use Rattle.lr_tables.specs.Laws.{IsPlaced}
 use Rattle.lr_tables.proofs.Basics.{eq_is, read_wrong, accessed, stands}
 use Rattle.lr_tables.proofs.Complete.{moves_of, is_complete}
 use Rattle.lr_tables.proofs.Stops.{Agree, agree_self, Stops, stops}
 use Rattle.lr_tables.proofs.Fronts.{Path, front_behind, front_of_nothing}
-use Rattle.lr_tables.proofs.Viable.{Stopped, run_stands}
+use Rattle.lr_tables.proofs.Viable.{run_stands}
 
 record Parts (t : Tables) (samples : List (ℕ × ℕ × List ℕ)) (states : List State) : Type 0 where
   end_free : is_free t.grammar.lefts 0 ≡ true

@@ -1,10 +1,10 @@
 -- Samples are derived.
-use Rattle.std.proofs.Common.{◌≡◌, ℕ, zero, suc, Bool, true, false, ◌&&◌, nat_eq, nat_lt, nat_le, List, [], ◌∷◌, ◌++◌, refl, sym, ◌∙◌, ap, subst, arith, Option, Some, None, get_or}
+use Rattle.std.proofs.Common.{◌≡◌, ℕ, zero, suc, Bool, true, false, ◌&&◌, nat_eq, nat_lt, nat_le, List, [], ◌∷◌, refl, sym, ◌∙◌, ap, subst, arith, Option, Some, None, get_or}
 use Rattle.std.specs.Prelude.{if◌then◌else◌, slice_get}
 use Rattle.std.proofs.lemmas.Bool.{and_parts}
 use Rattle.std.proofs.lemmas.Bool.Decides.{nat_tests}
 use Rattle.lr_tables.specs.declared.rule.Rule.{Rule}
-use Rattle.lr_tables.specs.Grammars.{Grammar, side, is_blocked, is_barred}
+use Rattle.lr_tables.specs.Grammars.{Grammar, side, is_blocked}
 use Rattle.lr_tables.specs.Certificates.{sides}
 use Rattle.lr_tables.specs.FrontChecks.{is_free, begins_free, joined, sample_of, one_sampled, sampled, same_list, is_sampled, stands_behind_all, is_sample, are_samples}
 use Rattle.lr_tables.proofs.Basics.{eq_is, none_some, some_is, held_some}

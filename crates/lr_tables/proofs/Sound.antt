@@ -1,16 +1,16 @@
 -- What is read is derived.
-use Rattle.std.proofs.Common.{◌≡◌, ℕ, zero, suc, Bool, true, false, nat_eq, nat_lt, List, [], ◌∷◌, refl, sym, ◌∙◌, ap, subst, Option, Some, None}
-use Rattle.std.specs.Prelude.{if◌then◌else◌, slice_get}
+use Rattle.std.proofs.Common.{◌≡◌, ℕ, zero, suc, false, nat_eq, nat_lt, List, [], ◌∷◌, refl, sym, subst, Option, Some, None}
+use Rattle.std.specs.Prelude.{slice_get}
 use Rattle.lr_tables.specs.declared.rule.Rule.{Rule}
 use Rattle.lr_tables.specs.declared.step.Step.{Step}
 use Rattle.lr_tables.specs.declared.step.Step.TheVariants.{Fail, Go, Reduce, Accept}
 use Rattle.lr_tables.specs.declared.event.Event as event
-use Rattle.lr_tables.specs.Grammars.{Grammar, Derives, leaf, node, Spells, none, more, named, onto, side, head, is_blocked, is_barred}
+use Rattle.lr_tables.specs.Grammars.{Derives, leaf, node, Spells, none, more, named, onto, side, head, is_blocked, is_barred}
 use Rattle.lr_tables.specs.Machine.{Tables, Answer, Read, Wrong, top, access, entry, pops, told, put, replaced, reduced, shifted, accepted, acted, run}
 use Rattle.lr_tables.specs.Checks.{rows_accessed}
 use Rattle.std.proofs.lemmas.Bool.{and_parts}
 use Rattle.lr_tables.specs.Laws.{IsSound}
-use Rattle.lr_tables.proofs.Basics.{eq_is, none_some, some_is, wrong_read, going_read, read_is, Tells, tells, Held, held, held_some, Unheld, unheld, accessed, stands}
+use Rattle.lr_tables.proofs.Basics.{eq_is, none_some, some_is, wrong_read, going_read, read_is, tells, held, held_some, unheld, accessed, stands}
 
 module _ (t : Tables) (good : (s x u : ℕ) → entry t s x ≡ Go u → access t u ≡ x) (free : (s x p : ℕ) (r : Rule) → entry t s x ≡ Reduce p → slice_get t.grammar.rules p ≡ Some r → is_blocked t.grammar r x ≡ false) (begins : access t 0 ≡ 0) (all : List ℕ) (events : List event.Event) where
   -- the symbols on the stack derive what was read

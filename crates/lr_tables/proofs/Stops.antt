@@ -1,12 +1,12 @@
 -- Where the machine stops, it stops with every other list that agrees with its tokens up to the one where it stops.
-use Rattle.std.proofs.Common.{◌≡◌, ℕ, zero, suc, ◌+◌, ◌≤◌, Bool, true, false, nat_eq, nat_lt, List, [], ◌∷◌, ◌++◌, length, take, refl, sym, ◌∙◌, ap, subst, arith, Option, Some, None}
+use Rattle.std.proofs.Common.{◌≡◌, ℕ, zero, suc, ◌≤◌, Bool, true, false, nat_eq, nat_lt, List, [], ◌∷◌, ◌++◌, length, refl, sym, ◌∙◌, ap, subst, arith, Option, Some, None}
 use Rattle.std.specs.Prelude.{if◌then◌else◌, slice_get}
 use Rattle.lr_tables.specs.declared.rule.Rule.{Rule}
 use Rattle.lr_tables.specs.declared.step.Step.{Step}
 use Rattle.lr_tables.specs.declared.step.Step.TheVariants.{Fail, Go, Reduce, Accept}
 use Rattle.lr_tables.specs.declared.event.Event as event
 use Rattle.lr_tables.specs.Grammars.{named, head, is_barred}
-use Rattle.lr_tables.specs.Machine.{Tables, Answer, Read, Wrong, Going, top, access, entry, pops, told, put, replaced, reduced, shifted, accepted, acted, run}
+use Rattle.lr_tables.specs.Machine.{Tables, Answer, Read, Wrong, top, access, entry, pops, told, put, replaced, reduced, shifted, accepted, acted, run}
 use Rattle.lr_tables.proofs.Basics.{read_wrong, going_wrong, wrong_is, untold}
 
 -- the lists have the same first tokens, and end together where they end among these

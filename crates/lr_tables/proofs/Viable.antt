@@ -6,9 +6,9 @@ use Rattle.lr_tables.specs.declared.step.Step.{Step}
 use Rattle.lr_tables.specs.declared.step.Step.TheVariants.{Fail, Go, Reduce, Accept}
 use Rattle.lr_tables.specs.declared.event.Event as event
 use Rattle.lr_tables.specs.Grammars.{IsFront, named, side, head, is_blocked, is_barred}
-use Rattle.lr_tables.specs.Machine.{Tables, Answer, Read, Wrong, Going, top, access, entry, pops, told, put, replaced, reduced, shifted, accepted, acted, run}
+use Rattle.lr_tables.specs.Machine.{Tables, Answer, Read, Wrong, top, access, entry, pops, told, put, replaced, reduced, shifted, accepted, acted, run}
 use Rattle.lr_tables.proofs.Basics.{read_wrong, going_wrong, wrong_is, untold}
-use Rattle.lr_tables.proofs.Holds.{ahead, and_nothing, Yields, yields_nothing, yields_leaf, yields_node, Holds, Popped, popped}
+use Rattle.lr_tables.proofs.Holds.{and_nothing, Yields, yields_nothing, yields_leaf, yields_node, Holds, Popped, popped}
 
 module _ (t : Tables) (Path : List ℕ → Type 0) (all left : List ℕ)
     (accessed : (s x u : ℕ) → entry t s x ≡ Go u → access t u ≡ x)

@@ -1,5 +1,5 @@
 -- What comes with tables, so that a computation sees that they are right. Nothing of it needs trust.
-use Rattle.std.specs.Prelude.{ℕ, zero, suc, Bool, true, false, ◌&&◌, ◌||◌, List, [], ◌∷◌, nat_eq, bit_and, if◌then◌else◌, slice_index_or}
+use Rattle.std.specs.Prelude.{ℕ, zero, suc, Bool, true, false, List, [], ◌∷◌, nat_eq, bit_and, if◌then◌else◌, slice_index_or}
 use Rattle.lr_tables.specs.declared.rule.Rule.{Rule}
 use Rattle.lr_tables.specs.Grammars.{side}
 

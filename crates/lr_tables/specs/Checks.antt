@@ -1,11 +1,11 @@
 -- The check of tables for soundness and completeness: each item is looked at once (Jourdan, Pottier and Leroy, Validating LR(1) parsers).
-use Rattle.std.specs.Prelude.{◌≡◌, ℕ, zero, suc, ◌+◌, ◌-◌, ◌*◌, ◌/◌, ◌%◌, ◌^◌, Bool, true, false, ◌&&◌, ◌||◌, List, [], ◌∷◌, Option, Some, None, slice_get, slice_index_or, nat_lt, nat_le, nat_eq, bit_or, if◌then◌else◌}
+use Rattle.std.specs.Prelude.{ℕ, suc, ◌+◌, ◌-◌, ◌/◌, ◌%◌, ◌^◌, Bool, true, false, ◌&&◌, ◌||◌, List, [], ◌∷◌, Option, Some, None, slice_get, slice_index_or, nat_lt, nat_le, nat_eq, bit_or, if◌then◌else◌}
 use Rattle.lr_tables.specs.declared.rule.Rule.{Rule}
 use Rattle.lr_tables.specs.declared.step.Step.{Step}
 use Rattle.lr_tables.specs.declared.step.Step.TheVariants.{Fail, Go, Reduce, Accept}
 use Rattle.lr_tables.specs.Grammars.{Grammar, is_blocked}
 use Rattle.lr_tables.specs.Machine.{Tables, access, entry}
-use Rattle.lr_tables.specs.Certificates.{State, no_state, Certificate, not_true, sides, side_at, behind, is_sub, closed_of}
+use Rattle.lr_tables.specs.Certificates.{State, no_state, not_true, sides, side_at, behind, is_sub, closed_of}
 
 abbrev pub may_stand : Grammar → Option Rule → ℕ → Bool
 may_stand g None x = true

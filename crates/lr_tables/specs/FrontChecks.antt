@@ -1,5 +1,5 @@
 -- The check of tables for the place of an error: whatever is on the stack behind a token can be completed to a sentence.
-use Rattle.std.specs.Prelude.{◌≡◌, ℕ, zero, suc, Bool, true, false, ◌&&◌, ◌||◌, List, [], ◌∷◌, ◌++◌, Option, Some, None, slice_get, slice_index_or, nat_lt, nat_le, nat_eq, if◌then◌else◌}
+use Rattle.std.specs.Prelude.{ℕ, zero, suc, Bool, true, false, ◌&&◌, ◌||◌, List, [], ◌∷◌, ◌++◌, Option, Some, None, slice_get, slice_index_or, nat_lt, nat_le, nat_eq, if◌then◌else◌}
 use Rattle.lr_tables.specs.declared.step.Step.{Step}
 use Rattle.lr_tables.specs.declared.step.Step.TheVariants.{Fail, Go, Reduce, Accept}
 use Rattle.lr_tables.specs.Machine.{Tables}

@@ -1,6 +1,6 @@
 -- Grammars as data, and what they derive: rules whose operators have powers in place of levels of nonterminals (as in Aho, Sethi and
 -- Ullman, Compilers, 4.8, but as a part of what is derived and not of how it is read).
-use Rattle.std.specs.Prelude.{◌≡◌, ℕ, zero, suc, ◌+◌, ◌<◌, ◌≤◌, Bool, true, false, List, [], ◌∷◌, ◌++◌, Option, Some, None, length, take, slice_get, slice_index_or, nat_lt}
+use Rattle.std.specs.Prelude.{◌≡◌, ℕ, zero, suc, ◌+◌, ◌<◌, ◌≤◌, Bool, true, false, List, [], ◌∷◌, ◌++◌, Some, length, take, slice_get, slice_index_or, nat_lt}
 use Rattle.lr_tables.specs.declared.rule.Rule.{Rule}
 use Rattle.lr_tables.specs.declared.event.Event as event
 

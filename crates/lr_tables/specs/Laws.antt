@@ -1,5 +1,5 @@
 -- What tables promise that pass the check.
-use Rattle.std.specs.Prelude.{◌≡◌, ℕ, ◌+◌, ◌-◌, ◌<◌, true, List, [], length, drop}
+use Rattle.std.specs.Prelude.{◌≡◌, ℕ, ◌+◌, ◌-◌, ◌<◌, true, List, [], length}
 use Rattle.lr_tables.specs.declared.event.Event as event
 use Rattle.lr_tables.specs.Grammars.{IsDerived, IsFirstWrong}
 use Rattle.lr_tables.specs.Machine.{Tables, Read, Wrong, run}

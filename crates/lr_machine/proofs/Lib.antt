@@ -1,0 +1,4 @@
+pub mod Named
+pub mod RowLemmas
+pub mod LastTurns
+pub mod OnlyOne
