@@ -151,33 +151,29 @@ class Grammar:
                     return
         raise SystemExit('no weights: a symbol leads to itself without a token')
 
+    def is_free(self, token):
+        """Every rule stands before this token."""
+        return self.lefts[token] == 0
+
     def find_samples(self):
-        """Of each nonterminal some tokens that it derives, behind every symbol and before every token up to a power."""
-        self.samples, self.sampled = {}, []
+        """Of each nonterminal some tokens that it derives, behind every symbol, where a free token follows."""
+        self.samples = {}
         changed = True
         while changed:
             changed = False
             for place, (left, side) in enumerate(self.rules):
-                if left in self.samples or self.behind[place] < max(self.rights):
-                    continue
-                limits = [limit for limit in sorted({0, self.before[place], *self.lefts}, reverse=True)
-                          if limit <= self.before[place] and self.ended(side, limit) is not None]
-                if limits:
-                    self.samples[left] = (place, self.ended(side, limits[0]), limits[0])
-                    self.sampled.append(left)
+                tokens = self.sampled(side)
+                if left not in self.samples and self.behind[place] >= max(self.rights) and tokens is not None:
+                    self.samples[left] = (place, tokens)
                     changed = True
-        for symbol in range(self.terminals, len(self.names)):
-            if symbol not in self.samples:
-                print('no sample of', self.names[symbol], file=sys.stderr)
 
-    def ended(self, side, power):
-        """Tokens that the symbols derive where a token of at most this power follows."""
+    def sampled(self, side):
+        """Tokens that the symbols derive where a free token follows, if there is a sample of each."""
         tokens = []
         for symbol in reversed(side):
-            follows = self.lefts[tokens[0]] if tokens else power
             if symbol < self.terminals:
                 tokens = [symbol] + tokens
-            elif symbol in self.samples and follows <= self.samples[symbol][2]:
+            elif symbol in self.samples and (not tokens or self.is_free(tokens[0])):
                 tokens = self.samples[symbol][1] + tokens
             else:
                 return None
@@ -194,7 +190,7 @@ class Tables:
         self.find_states()
         self.find_aheads()
         self.find_rows()
-        self.find_powers()
+        self.find_opened()
 
     def closure(self, kernel, last):
         items, work = set(kernel), list(kernel)
@@ -280,71 +276,119 @@ class Tables:
                         row[token] = step
             self.rows.append(row)
 
-    def find_powers(self):
-        """For each item of a kernel, and each nonterminal that begins in a state, the least power of what may follow it in
-           every place where the state is entered: a greatest fixpoint from below. And by which item it is so."""
-        states = range(len(self.kernels))
-        self.powers = [{item: 0 for item in kernel} for kernel in self.kernels]
-        self.opened = [{} for _ in states]
-        changed = True
-        while changed:
-            changed = False
-            for state in states:
-                self.open(state)
-            for state in states:
-                for symbol, target in self.steps[state].items():
-                    for rule, place in self.kernels[target]:
-                        power = self.power_below(state, rule, place - 1)
-                        if power is not None and power > self.powers[target][rule, place]:
-                            self.powers[target][rule, place] = power
-                            changed = True
-
-    def power_below(self, state, rule, place):
-        if place > 0 or rule == self.begin:
-            return self.powers[state].get((rule, place), 0)
-        left = self.grammar.rules[rule][0]
-        if left not in self.opened[state]:
-            return MOST + 1
-        power = self.opened[state][left][2]
-        return power if power <= self.grammar.before[rule] else MOST + 1
-
-    def open(self, state):
-        """The nonterminals that begin in a state, those with the least power first, as in Dijkstra's way through a graph."""
-        grammar, opened = self.grammar, {}
-        items = [(rule, place, self.powers[state][rule, place]) for rule, place in self.kernels[state]]
-        while True:
-            best = None
-            for rule, place, power in items:
+    def find_opened(self):
+        """For each nonterminal that begins in a state an item before it, behind which a free token may follow; in the order in
+           which they are found, so that the item is of the kernel or of one that was found before."""
+        self.opened = []
+        for state in range(len(self.kernels)):
+            opened, items = {}, sorted(self.kernels[state])
+            for rule, place in items:
                 rest = self.sides[rule][place:]
-                if not rest or rest[0] < grammar.terminals or rest[0] in opened:
+                if not rest or rest[0] < self.grammar.terminals or rest[0] in opened:
                     continue
-                if rule != self.begin and place == 0 and power > grammar.before[rule]:
-                    continue
-                tokens = grammar.ended(rest[1:], power)
-                if tokens is None:
-                    continue
-                found = grammar.lefts[tokens[0]] if tokens else power
-                if best is None or found < best[3]:
-                    best = (rest[0], rule, place, found)
-            if best is None:
-                break
-            opened[best[0]] = best[1:]
-            items += [(rule, 0, best[3]) for rule in grammar.begun(best[0], self.accesses[state])]
-        self.opened[state] = opened
+                tokens = self.grammar.sampled(rest[1:])
+                if tokens is not None and (not tokens or self.grammar.is_free(tokens[0])):
+                    opened[rest[0]] = (rule, place)
+                    items += [(begun, 0) for begun in self.grammar.begun(rest[0], self.accesses[state])]
+            self.opened.append(opened)
+
+    def missing(self):
+        """What the certificate lacks: samples, and nonterminals behind which no free token can be shown to follow."""
+        grammar = self.grammar
+        for symbol in range(grammar.terminals, len(grammar.names)):
+            if symbol not in grammar.samples:
+                yield f'no sample of {grammar.names[symbol]}'
+        for state, opened in enumerate(self.opened):
+            for symbol in self.closed[state]:
+                if symbol not in opened:
+                    yield f'no free token follows {grammar.names[symbol]} in state {state}'
 
     def figures(self):
         grammar = self.grammar
         items = sum(len(self.items_of(state)) for state in range(len(self.kernels)))
-        greatest = max([0] + [power for powers in self.powers for power in powers.values()]
-                       + [found[2] for opened in self.opened for found in opened.values()])
-        missing = sum(1 for state in range(len(self.kernels)) for symbol in self.closed[state] if symbol not in self.opened[state])
         return (f'{grammar.terminals} terminals, {len(grammar.names) - grammar.terminals} nonterminals, '
                 f'{len(grammar.rules)} rules, {len(self.kernels)} states, {items} items, {len(self.conflicts)} conflicts, '
-                f'most {grammar.most}, weight {grammar.weights[grammar.start]}, greatest power {greatest}, {missing} not opened')
+                f'most {grammar.most}, weight {grammar.weights[grammar.start]}')
+
+
+def constant(grammar, symbol):
+    return grammar.names[symbol].upper() + ('' if symbol < grammar.terminals else '_')
+
+
+def code(step):
+    """The number of a step, as step_of of lr_machine reads it."""
+    return 1 if step[0] == 'accept' else 2 * step[1] + 2 + (step[0] == 'reduce')
+
+
+def rows_text(tables):
+    count = len(tables.grammar.names)
+    lines = ['//! What each state does at each symbol. Made by tools/tables.py.', '', '/// The rows, as numbers.',
+             f'pub const ROWS: [[u16; {count}]; {len(tables.rows)}] = [']
+    for row in tables.rows:
+        lines.append('    [' + ', '.join(str(code(row[x])) if x in row else '0' for x in range(count)) + '],')
+    return '\n'.join(lines + ['];', '', '/// The symbol that leads to each state.',
+                              f'pub const ACCESSES: [u16; {len(tables.rows)}] = {tables.accesses};', ''])
+
+
+def rules_text(grammar):
+    count = len(grammar.names)
+    lines = ['//! The grammar. Made by tools/tables.py.', '', 'use lr_tables::Rule;', '']
+    lines += [f'const {constant(grammar, x)}: u16 = {x};' for x in range(count)]
+    lines += ['', '/// The rules.', f'pub const RULES: [Rule; {len(grammar.rules)}] = [']
+    for place, (left, side) in enumerate(grammar.rules):
+        back = [constant(grammar, x) for x in reversed(side)] + ['0'] * (WIDTH - len(side))
+        lines.append(f'    // {grammar.names[left]}: {" ".join(grammar.names[x] for x in side)}'.rstrip())
+        lines.append(f'    Rule {{ left: {constant(grammar, left)}, back: [{", ".join(back)}], '
+                     f'before: {grammar.before[place]}, behind: {grammar.behind[place]} }},')
+    return '\n'.join(lines + [
+        '];', '', '/// The powers of the symbols to the left.', f'pub const LEFTS: [u16; {count}] = {grammar.lefts};',
+        '', '/// The powers of the symbols to the right.', f'pub const RIGHTS: [u16; {count}] = {grammar.rights};',
+        '', '/// How many terminals there are, with the end.', f'pub const TERMINALS: u16 = {grammar.terminals};',
+        '', '/// What a whole input is.', f'pub const START: u16 = {constant(grammar, grammar.start)};', ''])
+
+
+def listed(items):
+    return ' ∷ '.join([*items, '[]'])
+
+
+def certificate_text(tables):
+    grammar = tables.grammar
+    facts = [f'({grammar.firsts[x]}, {"true" if grammar.empty[x] else "false"}, {grammar.weights[x]})'
+             for x in range(grammar.terminals, len(grammar.names))]
+    samples = [f'({x}, {rule}, {listed(map(str, tokens))})' for x, (rule, tokens) in reversed(grammar.samples.items())]
+    lines = ['-- What lr_tables checks the tables by. Made by tools/tables.py.',
+             'use Rattle.std.specs.Prelude.{ℕ, Bool, true, false, List, [], ◌∷◌}',
+             'use Rattle.lr_tables.specs.Certificates.{State, Certificate}', '',
+             'abbrev pub facts : List (ℕ × Bool × ℕ)', 'facts = ' + listed(facts), '',
+             'abbrev pub samples : List (ℕ × ℕ × List ℕ)', 'samples = ' + listed(samples), '',
+             'abbrev pub states : List State', 'states =']
+    for state in range(len(tables.kernels)):
+        kernel = [f'({rule}, {place}, {ahead})' for (rule, place), ahead in sorted(tables.aheads[state].items())
+                  if rule != tables.begin]
+        closed = [f'({x}, {tables.closed[state][x]}, {rule}, {place})'
+                  for x, (rule, place) in reversed(tables.opened[state].items())]
+        lines.append(f'    record {{ kernel = {listed(kernel)}; closed = {listed(closed)} }} ∷')
+    return '\n'.join(lines + ['    []', '', 'abbrev pub certificate : Certificate',
+                              f'certificate = record {{ most = {grammar.most}; facts = facts; samples = samples; states = states }}', ''])
+
+
+def write(tables, crate):
+    for name, text in [('src/rows.rt', rows_text(tables)), ('src/rules.rt', rules_text(tables.grammar)),
+                       ('specs/Certificate.antt', certificate_text(tables))]:
+        with open(f'{crate}/{name}', 'w') as file:
+            file.write(text)
+
+
+def main(words):
+    tables = Tables(Grammar(open(words[0]).read()))
+    for conflict in tables.conflicts:
+        print('conflict', conflict, file=sys.stderr)
+    for lack in tables.missing():
+        print(lack, file=sys.stderr)
+    print(tables.figures())
+    if len(words) > 1:
+        write(tables, words[1])
 
 
 if __name__ == '__main__':
-    tables = Tables(Grammar(open(sys.argv[1]).read()))
-    for conflict in tables.conflicts:
-        print('conflict', conflict, file=sys.stderr)
-    print(tables.figures())
+    main(sys.argv[1:])

@@ -1,5 +1,5 @@
 -- One turn of all that are left.
-use Rattle.std.proofs.Common.{◌≡◌, ℕ, zero, suc, ◌-◌, ◌+◌, ◌<◌, List, [], refl, ap, sym, ◌∙◌, subst, arith, Bor}
+use Rattle.std.proofs.Common.{◌≡◌, ℕ, suc, ◌-◌, ◌+◌, ◌<◌, List, ap, sym, ◌∙◌, subst, arith, Bor}
 use Rattle.lr_tables.specs.Machine.{Tables, Answer, Read, Wrong, top, head, entry, acted, run}
 use Rattle.lr_machine.specs.declared.turns.Turn.{Turn}
 use Rattle.lr_machine.specs.declared.turns.Turn.TheVariants.{On, Done, Stuck}

@@ -1,10 +1,10 @@
 -- What the machine answers is told of the only derivation, and where it stops is the first token that does not fit.
-use Rattle.std.proofs.Common.{◌≡◌, ℕ, ◌+◌, ◌-◌, ◌<◌, ◌≤◌, true, List, [], Option, Some, None, Result, Ok, Err, refl, sym, ◌∙◌, ap, subst, arith, length}
+use Rattle.std.proofs.Common.{◌≡◌, ℕ, ◌+◌, ◌<◌, List, [], Result, Ok, Err, refl, sym, ◌∙◌, subst, arith}
 use Rattle.std.specs.Prelude.{MatchResult}
 use Rattle.lr_tables.specs.declared.event.Event as event
 use Rattle.lr_tables.specs.Grammars.{IsDerived, IsOnly, IsFirstWrong}
 use Rattle.lr_tables.specs.Laws.{AreChecked}
-use Rattle.lr_tables.specs.Machine.{Tables, Read, Wrong, run}
+use Rattle.lr_tables.specs.Machine.{Tables, Read, run}
 use Rattle.lr_tables.specs.Checks.{paid, weight_of}
 use Rattle.lr_tables.proofs.Basics.{read_is}
 use Rattle.lr_tables.proofs.Sound.{is_sound}

@@ -1,7 +1,7 @@
 -- Rows of numbers as rows of steps.
-use Rattle.std.proofs.Common.{◌≡◌, ℕ, zero, suc, List, [], ◌∷◌, refl, sym, ap, ◌∙◌, get_or, Option, Some, None}
+use Rattle.std.proofs.Common.{◌≡◌, ℕ, zero, suc, List, [], ◌∷◌, refl, sym, ap, ◌∙◌, get_or}
 use Rattle.lr_tables.specs.declared.step.Step.{Step}
-use Rattle.lr_tables.specs.declared.step.Step.TheVariants.{Fail, Go, Reduce, Accept}
+use Rattle.lr_tables.specs.declared.step.Step.TheVariants.{Fail}
 use Rattle.lr_machine.specs.Shown.{step_for, row_of, steps_of}
 
 pub row_at : (ns : List ℕ) (x : ℕ) → get_or (row_of ns) x Fail ≡ step_for (get_or ns x 0)

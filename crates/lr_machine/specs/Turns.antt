@@ -1,5 +1,5 @@
 -- What a turn of the machine gives.
-use Rattle.std.specs.Prelude.{◌≡◌, ℕ, List, [], ◌∷◌, ◌++◌}
+use Rattle.std.specs.Prelude.{◌≡◌, ℕ, List, ◌++◌}
 use Rattle.lr_tables.specs.declared.event.Event as event
 use Rattle.lr_tables.specs.Machine.{Answer, Read, Wrong, Going}
 use Rattle.lr_machine.specs.declared.turns.Turn.{Turn}

@@ -1,4 +1,3 @@
-use Rattle.std.proofs.Common.{refl}
 use Rattle.lr_machine.specs.declared.reading.TheConstants.{TURNS}
 use Rattle.lr_machine.specs.Shown.{shown}
 use Rattle.lr_machine.proofs.LastTurns.{on_kept, done_is, stuck_is}
@@ -20,5 +19,5 @@ returns-in-Stuck g c =
     record {
       left = l.rest.now;
       stops = stuck_is (shown c.args.tables.now) TURNS l._turn l.rest.now l.reader c.go_on.new.reader _ c.in-Ok.turned c.in-Stuck.is c.in-Ok.ensures c.loop-turn-test.true l.invariant;
-      is = refl;
+      is = c.saturating_sub.ensures;
     }

@@ -1,4 +1,4 @@
-use Rattle.std.proofs.Common.{◌≡◌, ap, subst, ◌∙◌}
+use Rattle.std.proofs.Common.{ap, subst, ◌∙◌}
 use Rattle.lr_tables.specs.declared.step.Step.{Step}
 use Rattle.lr_tables.specs.Machine as machine
 use Rattle.lr_machine.specs.Shown.{shown}
