@@ -8,7 +8,7 @@ use Rattle.lr_tables.specs.Machine.{Tables, Read, run}
 use Rattle.lr_tables.specs.Checks.{paid, weight_of}
 use Rattle.lr_tables.proofs.Basics.{read_is}
 use Rattle.lr_tables.proofs.Sound.{is_sound}
-use Rattle.lr_tables.proofs.Complete.{moves_of, is_complete}
+use Rattle.lr_tables.proofs.Complete.{tables_of, moves_of, is_complete}
 use Rattle.lr_tables.proofs.Placed.{is_placed}
 use Rattle.lr_tables.proofs.Longer.{still_read}
 use Rattle.lr_machine.specs.declared.reading.ReadError.{ReadError}
@@ -20,7 +20,7 @@ module _ (t : Tables) (ks : List ℕ) (limit : ℕ) (c : AreChecked t) where
   same_told es fs n h d e =
       let enough : n < limit + (n + 1) = omega arith in
       let at = subst (λ (v : ℕ). v < limit + (n + 1)) e enough in
-      read_is (sym (is_complete t c.certificate c.passes ks fs d (limit + (n + 1)) at) ∙ still_read t limit (n + 1) [] ks es h)
+      read_is (sym (is_complete t c.certificate (tables_of t c.certificate c.passes) ks fs d (limit + (n + 1)) at) ∙ still_read t limit (n + 1) [] ks es h)
 
   only_one : (es : List event.Event) → run t limit [] ks ≡ Read es → IsOnly t.grammar ks es
   only_one es h = record {

@@ -151,11 +151,7 @@ fn reduce<'a, const C: usize>(
 }
 
 // All is read, where nothing is left and the start alone stands on the stack.
-fn accept<'a, const C: usize>(
-    tables: &Tables<C>,
-    rest: &'a [u16],
-    reader: &mut Reader,
-) -> Turn<'a>
+fn accept<'a, const C: usize>(tables: &Tables<C>, rest: &'a [u16], reader: &mut Reader) -> Turn<'a>
     ensures { Turns result rest.now reader.old reader.new
         (λ next. machine.accepted (shown tables.now) next reader.old.states rest.now) }
 {

@@ -167,11 +167,14 @@ module _ (t : Tables) (most : ℕ) (facts : List (ℕ × Bool × ℕ)) (states :
       let d = and_parts has_start are_good c.1 in
       record { moves = a.0; told = b.0; starts = c.0; sub = d.0; good = d.1 }
 
+pub tables_of : (t : Tables) (c : Certificate) → is_certified t c ≡ true → tables_ok t c.most c.facts c.states ≡ true
+tables_of t c h = (and_parts (tables_ok t c.most c.facts c.states) (fronts_ok t c.samples c.states) h).0
+
 pub moves_of : (t : Tables) (c : Certificate) → is_certified t c ≡ true → moves_ok t ≡ true
-moves_of t c h = (parts t c.most c.facts c.states (and_parts (tables_ok t c.most c.facts c.states) (fronts_ok t c.samples c.states) h).0).moves
+moves_of t c h = (parts t c.most c.facts c.states (tables_of t c h)).moves
 
 pub is_complete : IsComplete
 is_complete t c h ks es d n l =
-    let p = parts t c.most c.facts c.states (and_parts (tables_ok t c.most c.facts c.states) (fronts_ok t c.samples c.states) h).0 in
+    let p = parts t c.most c.facts c.states h in
     let m = and_parts (nat_eq (access t 0) 0) (rows_accessed t t.rows) p.moves in
     complete t c.most c.facts c.states m.1 (eq_is (access t 0) 0 m.0) p.told p.good (entry t 0 t.grammar.start) refl p.starts p.sub ks es d n l

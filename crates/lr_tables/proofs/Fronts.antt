@@ -228,14 +228,19 @@ module _ (t : Tables) (samples : List (ℕ × ℕ × List ℕ)) (states : List S
     -- whatever was read is a front of a sentence, once a token is on the stack
     pub front_behind : (s : ℕ) (stack front : List ℕ) → Path (s ∷ stack) → nat_lt (access t s) t.grammar.terminals ≡ true → ((k : ℕ) → Holds t (s ∷ stack) front k) → IsFront t.grammar front
     front_behind s stack front path small holds =
-        let c = completed (s ∷ stack) (kernel s) (completed_at t.grammar.terminals t.grammar.lefts t.grammar.rights all_sides samples t.grammar.start t.accesses states s fronts (not_start s stack path) (has_some s stack path small) small) (items_end (s ∷ stack) path) in
-        (c.ks ++ c.rest.ws, c.rest.ends front c.ks (holds (ahead c.ks (head c.rest.ws)))
-        (all_sampled t.grammar samples (each_sampled t.grammar samples are) c.xs c.ks c.sample (access t s) (head c.rest.ws) c.rest.is_free_ahead))
+        let c = completed (s ∷ stack) (kernel s) (completed_at t.grammar.terminals t.grammar.lefts t.grammar.rights all_sides samples t.grammar.start t.accesses states s fronts (not_start s stack path) (has_some s stack path small) small) (items_end (s ∷ stack) path) in (
+          c.ks ++ c.rest.ws,
+          c.rest.ends front c.ks (holds (ahead c.ks (head c.rest.ws)))
+              (all_sampled t.grammar samples (each_sampled t.grammar samples are) c.xs c.ks c.sample (access t s) (head c.rest.ws) c.rest.is_free_ahead),
+        )
 
     sample_begins : (o : Option (List ℕ)) → sample_of samples t.grammar.start ≡ o → is_some o ≡ true → IsFront t.grammar []
     sample_begins None is h = cc
-    sample_begins (Some ks) is h = (ks, subst (IsSentence t.grammar) (and_nothing ks)
-        (each_sampled t.grammar samples are t.grammar.start ks is 0 0 end_free [] [] refl))
+    sample_begins (Some ks) is h = (
+      ks,
+      subst (IsSentence t.grammar) (and_nothing ks)
+          (each_sampled t.grammar samples are t.grammar.start ks is 0 0 end_free [] [] refl),
+    )
 
     -- some sentence there is
     pub front_of_nothing : is_some (sample_of samples t.grammar.start) ≡ true → IsFront t.grammar []

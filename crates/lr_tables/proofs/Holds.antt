@@ -41,9 +41,11 @@ module _ (g : Grammar) where
   pub yields_more : (prev x : ℕ) (xs js ls : List ℕ) (k : ℕ) → Yields prev x js (ahead ls k) → YieldsAll x xs ls k → YieldsAll prev (x ∷ xs) (js ++ ls) k
   yields_more prev x xs js ls k y ys = λ rest later e.
       let sp = ys rest later e in
-      let d = y (ls ++ rest) sp.0 (head_ahead ls rest ∙ ap (ahead ls) e) in
-      (d.0, subst (λ (v : List ℕ). Spells g prev (x ∷ xs) v rest d.0 later) (sym (append_assoc js ls rest))
-      (more prev x xs (js ++ (ls ++ rest)) (ls ++ rest) rest d.0 sp.0 later d.1 sp.1))
+      let d = y (ls ++ rest) sp.0 (head_ahead ls rest ∙ ap (ahead ls) e) in (
+        d.0,
+        subst (λ (v : List ℕ). Spells g prev (x ∷ xs) v rest d.0 later) (sym (append_assoc js ls rest))
+            (more prev x xs (js ++ (ls ++ rest)) (ls ++ rest) rest d.0 sp.0 later d.1 sp.1),
+      )
 
   pub yields_node : (prev p : ℕ) (r : Rule) (part : List ℕ) (k : ℕ) → slice_get g.rules p ≡ Some r → is_barred g r prev ≡ false → is_blocked g r k ≡ false → YieldsAll prev (side r) part k → Yields prev r.left part k
   yields_node prev p r part k got open_ free ys = λ rest later e.
@@ -78,5 +80,5 @@ module _ (t : Tables) where
       let one = subst (λ (v : ℕ). Yields t.grammar (access t (top stack)) v h.1 (ahead part k)) is h.3 in
       let all = subst (λ (v : ℕ). YieldsAll t.grammar v done part k) is ys in
       let rest = popped back (x ∷ done) stack left h.0 (h.1 ++ part) k m.is (subst (λ (v : ℕ). Holds stack h.0 v) (sym (ahead-append h.1 part k)) h.4)
-          (yields_more t.grammar (access t (top stack)) x done h.1 part k one all) in
+      (yields_more t.grammar (access t (top stack)) x done h.1 part k one all) in
       subst (λ (v : List ℕ). Popped left (onto back (x ∷ done)) v k) (sym (append_assoc h.0 h.1 part) ∙ ap (λ (v : List ℕ). v ++ part) (sym h.2)) rest

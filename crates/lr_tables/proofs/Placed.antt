@@ -8,7 +8,7 @@ use Rattle.lr_tables.specs.Checks.{rows_accessed, tables_ok, paid, weight_of}
 use Rattle.lr_tables.specs.FrontChecks.{is_free, is_some, sample_of, are_samples, has_none, states_front, rows_enter, fronts_ok, is_certified}
 use Rattle.lr_tables.specs.Laws.{IsPlaced}
 use Rattle.lr_tables.proofs.Basics.{eq_is, read_wrong, accessed, stands}
-use Rattle.lr_tables.proofs.Complete.{moves_of, is_complete}
+use Rattle.lr_tables.proofs.Complete.{tables_of, moves_of, is_complete}
 use Rattle.lr_tables.proofs.Stops.{Agree, agree_self, Stops, stops}
 use Rattle.lr_tables.proofs.Fronts.{Path, front_behind, front_of_nothing}
 use Rattle.lr_tables.proofs.Viable.{run_stands}
@@ -72,7 +72,7 @@ never_wrong : (t : Tables) (c : Certificate) → is_certified t c ≡ true → (
 never_wrong t c h n js wrong sentence =
     let enough = paid c.most js + weight_of t.grammar.terminals c.facts t.grammar.start in
     let w = wrong (n + suc enough) (at_least n enough) in
-    read_wrong (sym (is_complete t c h js sentence.0 sentence.1 (n + suc enough) (more_than n enough)) ∙ w.1)
+    read_wrong (sym (is_complete t c (tables_of t c h) js sentence.0 sentence.1 (n + suc enough) (more_than n enough)) ∙ w.1)
   where
     at_least : (n m : ℕ) → n ≤ n + suc m
     at_least n m = omega arith
@@ -101,8 +101,8 @@ module _ (t : Tables) (c : Certificate) (h : is_certified t c ≡ true) (n : ℕ
       let good = accessed t reached.1 in
       let is_path = Path t c.samples c.states good begins p.end_free p.are p.nothing p.fronts p.enters in
       let stop = run_stands t is_path ks left good (stands t reached.1) (λ s stack e path. (e, path)) (λ s stack path. path.1)
-          (front_behind t c.samples c.states good begins p.end_free p.are p.nothing p.fronts p.enters) n [] ks run_is
-          (record { front = []; is = refl; path = tt; holds = refl; fits = front_of_nothing t c.samples c.states good begins p.end_free p.are p.nothing p.fronts p.enters p.some }) in
+      (front_behind t c.samples c.states good begins p.end_free p.are p.nothing p.fronts p.enters) n [] ks run_is
+      (record { front = []; is = refl; path = tt; holds = refl; fits = front_of_nothing t c.samples c.states good begins p.end_free p.are p.nothing p.fronts p.enters p.some }) in
       record { front = stop.front; is = stop.is; fits = stop.fits }
 
   fits_at : (place : ℕ) → place ≡ length ks - length left → IsFront t.grammar (take place ks)

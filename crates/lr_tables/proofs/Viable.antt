@@ -54,8 +54,14 @@ module _ (t : Tables) (Path : List ℕ → Type 0) (all left : List ℕ)
           front = st.front;
           is = st.is;
           path = longer s below (ap (entry t (top below)) symbol ∙ is) path;
-          holds = (pop.before, pop.part, sym (and_nothing st.front) ∙ pop.is, subst (λ (v : ℕ). Yields t.grammar (access t (top below)) v pop.part (head ks)) (sym symbol)
-              (yields_node t.grammar (access t (top below)) p r pop.part (head ks) got open_ at pop.yields), pop.holds);
+          holds = (
+            pop.before,
+            pop.part,
+            sym (and_nothing st.front) ∙ pop.is,
+            subst (λ (v : ℕ). Yields t.grammar (access t (top below)) v pop.part (head ks)) (sym symbol)
+                (yields_node t.grammar (access t (top below)) p r pop.part (head ks) got open_ at pop.yields),
+            pop.holds,
+          );
           fits = st.fits;
         })
     put_stands p r (Reduce q) stack below ks got open_ at path is h st pop = stopped stack ks h st

@@ -5,7 +5,7 @@ use Rattle.lr_tables.specs.Grammars.{IsDerived, IsFirstWrong}
 use Rattle.lr_tables.specs.Machine.{Read, Wrong, run}
 use Rattle.lr_tables.proofs.Basics.{read_is}
 use Rattle.lr_tables.proofs.Sound.{is_sound}
-use Rattle.lr_tables.proofs.Complete.{is_complete, moves_of}
+use Rattle.lr_tables.proofs.Complete.{is_complete, moves_of, tables_of}
 use Rattle.lr_tables.proofs.Placed.{is_placed}
 use Rattle.lr_tests.specs.Certificate.{certificate}
 use Rattle.lr_tests.specs.Small.{small}
@@ -38,7 +38,7 @@ sum_inside = by 1 ∷ token ∷ by 17 ∷ token ∷ token ∷ by 17 ∷ by 12 �
 
 only_so : (es : List event.Event) → IsDerived small.grammar sum es → Read es ≡ Read product_inside
 unfolding run small
-only_so es d = sym (is_complete small certificate are_good sum es d 40 (omega arith))
+only_so es d = sym (is_complete small certificate (tables_of small certificate are_good) sum es d 40 (omega arith))
 
 differ : Read sum_inside ≡ Read product_inside → ⊥
 differ e = cc

@@ -33,11 +33,20 @@ fn tells_derivations(rt: HostRuntime) {
     // nothing
     assert_eq!(rt; told(&rt, &[]).as_deref(), Ok("ba"));
     // 1 + 2 * 3;
-    assert_eq!(rt; told(&rt, &[16, 12, 16, 13, 16, 4]).as_deref(), Ok("b.r..r..rnm.eca"));
+    assert_eq!(rt;
+        told(&rt, &[16, 12, 16, 13, 16, 4]).as_deref(),
+        Ok("b.r..r..rnm.eca")
+    );
     // 1 * 2 + 3;
-    assert_eq!(rt; told(&rt, &[16, 13, 16, 12, 16, 4]).as_deref(), Ok("b.r..rn..rm.eca"));
+    assert_eq!(rt;
+        told(&rt, &[16, 13, 16, 12, 16, 4]).as_deref(),
+        Ok("b.r..rn..rm.eca")
+    );
     // a = !b + c;
-    assert_eq!(rt; told(&rt, &[15, 10, 14, 15, 12, 15, 4]).as_deref(), Ok("b....qo..qmp.eca"));
+    assert_eq!(rt;
+        told(&rt, &[15, 10, 14, 15, 12, 15, 4]).as_deref(),
+        Ok("b....qo..qmp.eca")
+    );
 }
 
 #[test]
