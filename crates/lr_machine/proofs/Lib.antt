@@ -1,4 +1,1 @@
-pub mod Named
-pub mod RowLemmas
-pub mod LastTurns
-pub mod OnlyOne
+pub mod ReadingLemmas

@@ -1,14 +1,51 @@
--- Whatever is derived is read, where each state is ready for what may come.
-use Rattle.std.proofs.Common.{◌≡◌, ◌⊎◌, inl, inr, ℕ, suc, ◌+◌, Bool, true, false, nat_lt, List, [], ◌∷◌, ◌++◌, refl, sym, ◌∙◌, ap, subst, arith, Option, Some, None}
-use Rattle.std.specs.Prelude.{if◌then◌else◌, slice_get}
+-- Whatever is derived is read, where each state is ready for what may come; and how many turns that takes.
+use Rattle.std.proofs.Common.{◌≡◌, ℕ, suc, ◌+◌, ◌≤◌, List, [], ◌∷◌, Some, arith, ◌⊎◌, inl, inr, Bool, true, false, nat_lt, ◌++◌, refl, sym, ◌∙◌, ap, subst, Option, None}
+use Rattle.std.specs.Prelude.{slice_get, if◌then◌else◌}
 use Rattle.lr_tables.specs.declared.rule.Rule.{Rule}
+use Rattle.lr_tables.specs.Grammars.{Grammar, Derives, leaf, node, Spells, none, more, side, named, onto, head, is_blocked, is_barred}
+use Rattle.lr_tables.specs.Checks.{below, paid}
 use Rattle.lr_tables.specs.declared.step.Step.{Step}
 use Rattle.lr_tables.specs.declared.step.Step.TheVariants.{Go, Reduce}
-use Rattle.lr_tables.specs.declared.event.Event as event
-use Rattle.lr_tables.specs.Grammars.{Derives, leaf, node, Spells, none, more, named, onto, side, head, is_blocked, is_barred}
 use Rattle.lr_tables.specs.Machine.{Tables, Read, Wrong, top, access, entry, pops, told, put, replaced, reduced, acted, run}
 use Rattle.lr_tables.proofs.Basics.{is_eq}
-use Rattle.lr_tables.proofs.Sizes.{size, sizes}
+use Rattle.lr_tables.specs.declared.event.Event as event
+
+abbrev mutual
+  pub size : {g : Grammar} {prev x : ℕ} {from rest : List ℕ} {es later : List event.Event} → Derives g prev x from rest es later → ℕ
+  size (leaf prev k rest later e) = 1
+  size (node prev p r from rest es later is open_ free sp) = suc (sizes sp)
+
+  pub sizes : {g : Grammar} {prev : ℕ} {xs from rest : List ℕ} {es later : List event.Event} → Spells g prev xs from rest es later → ℕ
+  sizes (none prev rest later) = 0
+  sizes (more prev x xs from mid rest es fs later d sp) = size d + sizes sp
+
+abbrev pub weights_by : (ℕ → ℕ) → List ℕ → ℕ
+weights_by weight [] = 0
+weights_by weight (x ∷ xs) = weight x + weights_by weight xs
+
+module _ (g : Grammar) (most : ℕ) (weight : ℕ → ℕ) (weigh : (p : ℕ) (r : Rule) → slice_get g.rules p ≡ Some r → 1 + weights_by weight (side r) + most ≤ weight r.left + below most (side r)) where
+  for_leaf : (n m w : ℕ) → 1 + n + m ≤ suc n + m + w
+  for_leaf n m w = omega arith
+
+  for_node : (n most rest ws b left from : ℕ) → n + b + rest ≤ from + ws → 1 + ws + most ≤ left + b → suc n + most + rest ≤ from + left
+  for_node n most rest ws b left from h e = omega arith
+
+  for_none : (m : ℕ) → 0 + 0 + m ≤ m + 0
+  for_none m = omega arith
+
+  for_more : (d s most b rest from mid w ws : ℕ) → d + most + mid ≤ from + w → s + b + rest ≤ mid + ws → d + s + (most + b) + rest ≤ from + (w + ws)
+  for_more d s most b rest from mid w ws h e = omega arith
+
+  mutual
+    pub costs : {prev x : ℕ} {from rest : List ℕ} {es later : List event.Event} (d : Derives g prev x from rest es later) → size d + most + paid most rest ≤ paid most from + weight x
+    costs (leaf prev k rest later e) = for_leaf most (paid most rest) (weight k)
+    costs (node prev p r from rest es later is open_ free sp) = for_node (sizes sp) most (paid most rest) (weights_by weight (side r)) (below most (side r)) (weight r.left) (paid most from) (all_cost sp) (weigh p r is)
+
+    pub all_cost : {prev : ℕ} {xs from rest : List ℕ} {es later : List event.Event} (sp : Spells g prev xs from rest es later) → sizes sp + below most xs + paid most rest ≤ paid most from + weights_by weight xs
+    all_cost (none prev rest later) = for_none (paid most rest)
+    all_cost (more prev x xs from mid rest es fs later d sp) = for_more (size d) (sizes sp) most (below most xs) (paid most rest) (paid most from) (paid most mid) (weight x) (weights_by weight xs) (costs d) (all_cost sp)
+
+-- Whatever is derived is read, where each state is ready for what may come.
 
 -- turned round twice
 turned : (d xs ys : List ℕ) → onto (onto d xs) ys ≡ onto xs (d ++ ys)

@@ -10,10 +10,8 @@ use Rattle.lr_tables.specs.declared.step.Step.{Step}
 use Rattle.lr_tables.specs.Grammars.{side}
 use Rattle.lr_tables.specs.Certificates.{State, no_state, sides, behind, side_at, is_sub, closed_of}
 use Rattle.lr_tables.specs.Checks.{before_at, first_of, empty_of, weight_of, heads, all_empty, weights, below, is_fact, are_facts, all_reduce, covers, goes_on, item_ok, kernel_ok, begun_ok, closed_ok, state_ok, states_ok}
-use Rattle.lr_tables.proofs.Basics.{eq_is, none_some, some_is}
-use Rattle.lr_tables.proofs.Bits.{sub_bit, or_left, or_right, no_bit}
-use Rattle.lr_tables.proofs.Sizes.{weights_by}
-use Rattle.lr_tables.proofs.Certified.{Among, Starts, AllEmpty}
+use Rattle.lr_tables.proofs.Basics.{eq_is, none_some, some_is, sub_bit, or_left, or_right, no_bit}
+use Rattle.lr_tables.proofs.Certified.{weights_by, Among, Starts, AllEmpty}
 
 pub or_false : (a b : Bool) → (a || b) ≡ true → a ≡ false → b ≡ true
 or_false true b h e = cc

@@ -13,10 +13,8 @@ use Rattle.lr_tables.specs.Certificates.{State, no_state, Certificate, sides, be
 use Rattle.lr_tables.specs.FrontChecks.{is_certified, fronts_ok}
 use Rattle.lr_tables.specs.Checks.{before_at, first_of, empty_of, weight_of, weights, below, heads, are_facts, covers, goes_on, item_ok, kernel_ok, closed_ok, states_ok, rows_accessed, moves_ok, is_accept, start_ok, tables_ok, paid}
 use Rattle.lr_tables.specs.Laws.{IsComplete}
-use Rattle.lr_tables.proofs.Basics.{eq_is, is_eq, accessed}
-use Rattle.lr_tables.proofs.Bits.{sub_bit, all_reduces}
-use Rattle.lr_tables.proofs.Sizes.{size, weights_by, costs}
-use Rattle.lr_tables.proofs.Certified.{Among, Expect, Leads, AreLawful, reads}
+use Rattle.lr_tables.proofs.Basics.{eq_is, is_eq, accessed, sub_bit, all_reduces}
+use Rattle.lr_tables.proofs.Certified.{size, weights_by, costs, Among, Expect, Leads, AreLawful, reads}
 use Rattle.lr_tables.proofs.Checked.{begins, Empty, fact_of, own_of, heads_among, side_is, side_found, before_found, behind_suc, covered, begun_at, begun_bit, state_kernel, state_closed, same_weights, or_false}
 
 module _ (t : Tables) (most : ℕ) (facts : List (ℕ × Bool × ℕ)) (states : List State)

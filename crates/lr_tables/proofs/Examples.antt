@@ -1,5 +1,5 @@
 -- Two small grammars that differ in one power: what is derived, and where the place of an error would be wrong, so that no tables pass.
-use Rattle.std.proofs.Common.{◌≡◌, ℕ, zero, suc, Bool, true, false, nat_lt, List, [], ◌∷◌, refl, sym, ◌∙◌, ap, subst, Option, Some, None}
+use Rattle.std.proofs.Common.{◌≡◌, ℕ, zero, suc, Bool, true, false, nat_eq, nat_lt, List, [], ◌∷◌, refl, sym, ◌∙◌, ap, subst, Option, Some, None}
 use Rattle.std.specs.Prelude.{slice_get}
 use Rattle.lr_tables.specs.declared.rule.Rule.{Rule}
 use Rattle.lr_tables.specs.declared.step.Step.TheVariants.{Fail, Go, Reduce, Accept}
@@ -10,7 +10,7 @@ use Rattle.lr_tables.specs.Certificates.{State, Certificate}
 use Rattle.lr_tables.specs.Checks.{tables_ok}
 use Rattle.lr_tables.specs.FrontChecks.{is_certified}
 use Rattle.lr_tables.specs.Laws.{AreChecked}
-use Rattle.lr_tables.proofs.Basics.{none_some, some_is}
+use Rattle.lr_tables.proofs.Basics.{is_eq, none_some, some_is}
 use Rattle.lr_tables.proofs.Placed.{is_placed}
 
 -- 1 and 2 are terminals; 3 becomes 4 1, by rule 0
@@ -48,15 +48,21 @@ not_small k n is large small = apart (sym large ∙ ap (λ (v : ℕ). nat_lt v 3
     apart : {P : Type 0} → false ≡ true → P
     apart e = cc
 
+not_left : {P : Type 0} (q r : Rule) (x : ℕ) → q ≡ r → r.left ≡ x → nat_eq q.left x ≡ false → P
+not_left q r x same is other = apart (sym other ∙ is_eq q.left x (ap (λ (v : Rule). v.left) same ∙ is))
+  where
+    apart : {P : Type 0} → false ≡ true → P
+    apart e = cc
+
 begins_one : {prev x : ℕ} {from rest : List ℕ} {es later : List event.Event} → Derives dead prev x from rest es later → x ≡ 1 → head from ≡ 1
 begins_one (leaf prev k rest later e) is = is
-begins_one (node prev zero r from rest es later got open_ free sp) is = let same = some_is got in cc
-begins_one (node prev (suc zero) r from rest es later got open_ free sp) is = let same = some_is got in cc
+begins_one (node prev zero r from rest es later got open_ free sp) is = not_left pair r 1 (some_is got) is refl
+begins_one (node prev (suc zero) r from rest es later got open_ free sp) is = not_left (single 0) r 1 (some_is got) is refl
 begins_one (node prev (suc (suc p)) r from rest es later got open_ free sp) is = none_some got
 
 one_begins : {prev : ℕ} {xs from rest : List ℕ} {es later : List event.Event} → Spells dead prev xs from rest es later → xs ≡ 1 ∷ [] → head from ≡ 1
 one_begins (none prev rest later) is = cc
-one_begins (more prev x xs from mid rest es fs later d sp) is = begins_one d cc
+one_begins (more prev x xs from mid rest es fs later d sp) is = begins_one d (cc)
 
 stands_not : (r : Rule) (k : ℕ) {P : Type 0} → single 0 ≡ r → k ≡ 1 → is_blocked dead r k ≡ false → P
 stands_not r k same is free = apart (sym (ap (λ (v : ℕ). is_blocked dead (single 0) v) is) ∙ ap (λ (v : Rule). is_blocked dead v k) same ∙ free)
@@ -66,28 +72,28 @@ stands_not r k same is free = apart (sym (ap (λ (v : ℕ). is_blocked dead (sin
 
 no_single : {prev x : ℕ} {from rest : List ℕ} {es later : List event.Event} → Derives dead prev x from rest es later → x ≡ 4 → head rest ≡ 1 → ⊥
 no_single (leaf prev k rest later e) is at = not_small k 4 is refl e
-no_single (node prev zero r from rest es later got open_ free sp) is at = let same = some_is got in cc
+no_single (node prev zero r from rest es later got open_ free sp) is at = not_left pair r 4 (some_is got) is refl
 no_single (node prev (suc zero) r from rest es later got open_ free sp) is at = stands_not r (head rest) (some_is got) at free
 no_single (node prev (suc (suc p)) r from rest es later got open_ free sp) is at = none_some got
 
 no_pair : {prev : ℕ} {xs from rest : List ℕ} {es later : List event.Event} → Spells dead prev xs from rest es later → xs ≡ 4 ∷ 1 ∷ [] → ⊥
 no_pair (none prev rest later) is = cc
-no_pair (more prev x xs from mid rest es fs later d sp) is = no_single d cc (one_begins sp cc)
+no_pair (more prev x xs from mid rest es fs later d sp) is = no_single d (cc) (one_begins sp (cc))
 
 no_start : {prev x : ℕ} {from rest : List ℕ} {es later : List event.Event} → Derives dead prev x from rest es later → x ≡ 3 → ⊥
 no_start (leaf prev k rest later e) is = not_small k 3 is refl e
 no_start (node prev zero r from rest es later got open_ free sp) is = no_pair sp (ap Rattle.lr_tables.specs.Grammars.side (sym (some_is got)))
-no_start (node prev (suc zero) r from rest es later got open_ free sp) is = let same = some_is got in cc
+no_start (node prev (suc zero) r from rest es later got open_ free sp) is = not_left (single 0) r 3 (some_is got) is refl
 no_start (node prev (suc (suc p)) r from rest es later got open_ free sp) is = none_some got
 
 no_front : (ks : List ℕ) → IsFront dead ks → ⊥
-no_front ks f = no_start f.2 refl
+no_front ks f = no_start f.1.1 refl
 
 -- its tables pass what soundness and completeness ask for
 abbrev dead_tables : Tables
 dead_tables = record {
   grammar = dead;
-  rows = (Fail ∷ Fail ∷ Go 1 ∷ Go 3 ∷ Go 2 ∷ []) ∷ (Fail ∷ []) ∷ (Fail ∷ Go 4 ∷ []) ∷ (Accept ∷ []) ∷ (Reduce 0 ∷ []) ∷ [];
+  rows = (Fail ∷ Fail ∷ Go 1 ∷ Go 3 ∷ Go 2 ∷ []) ∷ (Fail ∷ Fail ∷ []) ∷ (Fail ∷ Go 4 ∷ []) ∷ (Accept ∷ []) ∷ (Reduce 0 ∷ []) ∷ [];
   accesses = 0 ∷ 2 ∷ 4 ∷ 3 ∷ 1 ∷ [];
 }
 

@@ -10,8 +10,7 @@ use Rattle.lr_tables.specs.Certificates.{State, no_state, sides, side_at, behind
 use Rattle.lr_tables.specs.FrontChecks.{is_free, is_some, begins_free, sample_of, sampled, are_samples, is_begun, is_item, has_none, starts_with, may_begin, may_begin_free, is_known, frees, is_opened, are_opened, is_led, is_completed, are_entered, states_front, rows_enter}
 use Rattle.lr_tables.proofs.Basics.{eq_is, is_eq, not_is}
 use Rattle.lr_tables.proofs.Checked.{behind_suc, side_found}
-use Rattle.lr_tables.proofs.Holds.{and_nothing, ahead, head_ahead, ahead-append, Yields, YieldsAll, yields_more, yields_node, Holds}
-use Rattle.lr_tables.proofs.Samples.{found, free_stands, free_ahead, SampledAll, all_sampled, each_sampled}
+use Rattle.lr_tables.proofs.Holds.{and_nothing, ahead, head_ahead, ahead-append, Yields, YieldsAll, yields_more, yields_node, Holds, found, free_stands, free_ahead, SampledAll, all_sampled, each_sampled}
 use Rattle.lr_tables.proofs.Entries.{rows_at_step, at_first, opened_at, item_led, item_entered, completed_at}
 
 module _ (t : Tables) (samples : List (ℕ × ℕ × List ℕ)) (states : List State) where

@@ -9,7 +9,7 @@ use Rattle.lr_tables.specs.FrontChecks.{is_free, is_some, sample_of, are_samples
 use Rattle.lr_tables.specs.Laws.{IsPlaced}
 use Rattle.lr_tables.proofs.Basics.{eq_is, read_wrong, accessed, stands}
 use Rattle.lr_tables.proofs.Complete.{tables_of, moves_of, is_complete}
-use Rattle.lr_tables.proofs.Stops.{Agree, agree_self, Stops, stops}
+use Rattle.lr_tables.proofs.Runs.{Agree, agree_self, Stops, stops}
 use Rattle.lr_tables.proofs.Fronts.{Path, front_behind, front_of_nothing}
 use Rattle.lr_tables.proofs.Viable.{run_stands}
 

@@ -1,6 +1,6 @@
 use Rattle.lr_machine.specs.declared.reading.TheConstants.{TURNS}
 use Rattle.lr_machine.specs.Shown.{shown}
-use Rattle.lr_machine.proofs.OnlyOne.{answered}
+use Rattle.lr_machine.proofs.ReadingLemmas.{answered}
 use Rattle.lr_machine.proofs.reading.parse.Goals as goal
 
 pub returns : goal.returns

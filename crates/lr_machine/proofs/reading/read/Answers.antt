@@ -1,6 +1,6 @@
 use Rattle.lr_machine.specs.declared.reading.TheConstants.{TURNS}
 use Rattle.lr_machine.specs.Shown.{shown}
-use Rattle.lr_machine.proofs.LastTurns.{on_kept, done_is, stuck_is}
+use Rattle.lr_machine.proofs.ReadingLemmas.{on_kept, done_is, stuck_is}
 use Rattle.lr_machine.proofs.reading.read.Goals as goal
 
 pub loop-turn-preserved : goal.loop-turn-preserved

@@ -1,6 +1,6 @@
 use Rattle.std.proofs.Common.{ap, ◌∙◌}
 use Rattle.lr_machine.specs.Shown.{step_for}
-use Rattle.lr_machine.proofs.RowLemmas.{entry_at}
+use Rattle.lr_machine.proofs.ReadingLemmas.{entry_at}
 use Rattle.lr_machine.proofs.tables.entry.Goals as goal
 
 pub returns : goal.returns

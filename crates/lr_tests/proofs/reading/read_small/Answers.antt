@@ -8,7 +8,7 @@ use Rattle.lr_tests.proofs.AreGood.{are_checked}
 use Rattle.lr_tests.proofs.reading.read_small.Goals as goal
 
 pub parse-requires : goal.parse-requires
-parse-requires c = (omega arith, subst AreChecked (sym c.tables-tables.ensures) are_checked)
+parse-requires c = (omega arith, (omega arith, subst AreChecked (sym c.tables-tables.ensures) are_checked))
 
 pub returns : goal.returns
 returns c = subst (λ (t : Tables). MatchResult c.parse.result (λ events. IsOnly t.grammar c.args.kinds.now events.items) (λ error. IsRefused error (IsFirstWrong t.grammar c.args.kinds.now))) c.tables-tables.ensures c.parse.ensures
