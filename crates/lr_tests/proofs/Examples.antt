@@ -1,9 +1,8 @@
 -- Statements of the small language: how they are derived, how they are not, and where others go wrong.
-use Rattle.std.proofs.Common.{◌≡◌, ℕ, ◌+◌, ◌<◌, List, [], ◌∷◌, refl, sym, ◌∙◌, arith}
+use Rattle.std.proofs.Common.{◌≡◌, ℕ, List, [], ◌∷◌, refl, sym, arith}
 use Rattle.lr_tables.specs.declared.event.Event as event
 use Rattle.lr_tables.specs.Grammars.{IsDerived, IsFirstWrong}
-use Rattle.lr_tables.specs.Machine.{Read, Wrong, run}
-use Rattle.lr_tables.proofs.Basics.{read_is}
+use Rattle.lr_tables.specs.Machine.{Read, run}
 use Rattle.lr_tables.proofs.Sound.{is_sound}
 use Rattle.lr_tables.proofs.Complete.{is_complete, moves_of, tables_of}
 use Rattle.lr_tables.proofs.Placed.{is_placed}

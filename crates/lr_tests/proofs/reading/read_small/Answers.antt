@@ -1,4 +1,4 @@
-use Rattle.std.proofs.Common.{◌≡◌, subst, sym, arith}
+use Rattle.std.proofs.Common.{subst, sym, arith}
 use Rattle.std.specs.Prelude.{MatchResult}
 use Rattle.lr_tables.specs.Grammars.{IsOnly, IsFirstWrong}
 use Rattle.lr_tables.specs.Laws.{AreChecked}
