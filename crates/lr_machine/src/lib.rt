@@ -1,7 +1,7 @@
 //! The machine over LR(1) tables in memory, with a stack of its own.
 //! Promise: of tables that pass the check of lr_tables, `parse` answers what is told of the only
-//! derivation of the tokens (`IsOnly` of lr_tables), or the place of the first one that no
-//! sentence goes on with (`IsFirstWrong`), or want of memory.
+//! derivation of the tokens (`IsOnly` of its specs/Grammars), or the place of the first one that no
+//! sentence goes on with (`IsFirstWrong` there), or want of memory.
 //! Used by: lr_tests.
 #![tactic(auto)]
 

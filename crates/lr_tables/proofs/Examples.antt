@@ -1,15 +1,13 @@
 -- Two small grammars that differ in one power: what is derived, and where the place of an error would be wrong, so that no tables pass.
-use Rattle.std.proofs.Common.{◌≡◌, ℕ, zero, suc, Bool, true, false, nat_eq, nat_lt, List, [], ◌∷◌, refl, sym, ◌∙◌, ap, subst, Option, Some, None}
-use Rattle.std.specs.Prelude.{slice_get}
+use Rattle.std.proofs.Common.{◌≡◌, ℕ, zero, suc, true, false, nat_eq, nat_lt, List, [], ◌∷◌, refl, sym, ◌∙◌, ap}
 use Rattle.lr_tables.specs.declared.rule.Rule.{Rule}
 use Rattle.lr_tables.specs.declared.step.Step.TheVariants.{Fail, Go, Reduce, Accept}
 use Rattle.lr_tables.specs.declared.event.Event as event
 use Rattle.lr_tables.specs.Grammars.{Grammar, Derives, leaf, node, Spells, none, more, IsDerived, IsFront, IsFirstWrong, head, is_blocked, is_barred}
 use Rattle.lr_tables.specs.Machine.{Tables, Wrong, run}
-use Rattle.lr_tables.specs.Certificates.{State, Certificate}
+use Rattle.lr_tables.specs.Certificates.{Certificate}
 use Rattle.lr_tables.specs.Checks.{tables_ok}
 use Rattle.lr_tables.specs.FrontChecks.{is_certified}
-use Rattle.lr_tables.specs.Laws.{AreChecked}
 use Rattle.lr_tables.proofs.Basics.{is_eq, none_some, some_is}
 use Rattle.lr_tables.proofs.Placed.{is_placed}
 

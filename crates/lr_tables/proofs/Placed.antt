@@ -1,12 +1,12 @@
 -- Where the machine stops is the first token that no sentence goes on with.
-use Rattle.std.proofs.Common.{◌≡◌, ℕ, zero, suc, ◌+◌, ◌-◌, ◌<◌, ◌≤◌, Bool, true, ◌&&◌, nat_eq, List, [], ◌∷◌, ◌++◌, length, take, refl, sym, ◌∙◌, ap, subst, arith, get_or, length-append}
+use Rattle.std.proofs.Common.{◌≡◌, ℕ, zero, suc, ◌+◌, ◌-◌, ◌<◌, ◌≤◌, Bool, true, ◌&&◌, nat_eq, List, [], ◌∷◌, ◌++◌, length, take, refl, sym, ◌∙◌, ap, subst, arith, get_or, length-append, append_assoc}
 use Rattle.std.proofs.lemmas.Bool.{and_parts}
-use Rattle.lr_tables.specs.Grammars.{IsSentence, IsFront, IsFirstWrong}
+use Rattle.lr_tables.specs.Grammars.{Grammar, IsSentence, IsFront, IsFirstWrong}
 use Rattle.lr_tables.specs.Machine.{Tables, Wrong, access, run}
 use Rattle.lr_tables.specs.Certificates.{State, no_state, Certificate, sides}
 use Rattle.lr_tables.specs.Checks.{rows_accessed, tables_ok, paid, weight_of}
 use Rattle.lr_tables.specs.FrontChecks.{is_free, is_some, sample_of, are_samples, has_none, states_front, rows_enter, fronts_ok, is_certified}
-use Rattle.lr_tables.specs.Laws.{IsPlaced}
+use Rattle.lr_tables.specs.Laws.{IsPlaced, IsOnePlace}
 use Rattle.lr_tables.proofs.Basics.{eq_is, read_wrong, accessed, stands}
 use Rattle.lr_tables.proofs.Complete.{tables_of, moves_of, is_complete}
 use Rattle.lr_tables.proofs.Runs.{Agree, agree_self, Stops, stops}
@@ -132,3 +132,34 @@ module _ (t : Tables) (c : Certificate) (h : is_certified t c ≡ true) (n : ℕ
 
 pub is_placed : IsPlaced
 is_placed t are n ks left h = first_wrong t are.certificate are.passes n ks left h
+
+-- what is taken first is a part of what is taken
+record Split (short long : List ℕ) : Type 0 where
+  rest : List ℕ
+  is : long ≡ short ++ rest
+
+split_take : (c b : ℕ) (ks : List ℕ) → c ≤ b → Split (take c ks) (take b ks)
+split_take zero b ks l = record { rest = take b ks; is = refl }
+split_take (suc c) zero ks l = absurd (omega arith)
+split_take (suc c) (suc b) [] l = record { rest = []; is = refl }
+split_take (suc c) (suc b) (k ∷ ks) l =
+    let s = split_take c b ks (omega arith) in
+    record { rest = s.rest; is = ap (λ (v : List ℕ). k ∷ v) s.is }
+
+shorter_front : (g : Grammar) (ks : List ℕ) (c b : ℕ) → c ≤ b → IsFront g (take b ks) → IsFront g (take c ks)
+shorter_front g ks c b l f =
+    let s = split_take c b ks l in
+    (s.rest ++ f.0, subst (IsSentence g) (ap (λ (v : List ℕ). v ++ f.0) s.is ∙ append_assoc (take c ks) s.rest f.0) f.1)
+
+not_before : (g : Grammar) (ks : List ℕ) (one other : ℕ) → IsFirstWrong g ks one → IsFirstWrong g ks other → one < other → ⊥
+not_before g ks one other w v l =
+    let within = v.within in
+    let inside : one < length ks = omega arith in
+    let next : one + 1 ≤ other = omega arith in
+    w.wrong inside (shorter_front g ks (one + 1) other next v.fits)
+
+pub is_one_place : IsOnePlace
+is_one_place g ks one other w v = equal one other (not_before g ks one other w v) (not_before g ks other one v w)
+  where
+    equal : (a b : ℕ) → (a < b → ⊥) → (b < a → ⊥) → a ≡ b
+    equal a b f h = grind (arith, f, h)

@@ -2,7 +2,7 @@
 -- what its powers allow.
 use Rattle.std.specs.Prelude.{◌≡◌, ℕ, ◌+◌, ◌-◌, ◌<◌, true, List, [], length}
 use Rattle.lr_tables.specs.declared.event.Event as event
-use Rattle.lr_tables.specs.Grammars.{IsDerived, IsFirstWrong}
+use Rattle.lr_tables.specs.Grammars.{Grammar, IsDerived, IsFirstWrong}
 use Rattle.lr_tables.specs.Machine.{Tables, Read, Wrong, run}
 use Rattle.lr_tables.specs.Certificates.{Certificate}
 use Rattle.lr_tables.specs.Checks.{moves_ok, tables_ok, paid, weight_of}
@@ -26,3 +26,7 @@ IsComplete = (t : Tables) (c : Certificate) → tables_ok t c.most c.facts c.sta
 -- where the machine stops before tokens, the first of them is the first that no sentence goes on with
 abbrev pub IsPlaced : Type 0
 IsPlaced = (t : Tables) → AreChecked t → (n : ℕ) (ks left : List ℕ) → run t n [] ks ≡ Wrong left → IsFirstWrong t.grammar ks (length ks - length left)
+
+-- tokens have one such place at most, whatever the grammar is
+abbrev pub IsOnePlace : Type 0
+IsOnePlace = (g : Grammar) (ks : List ℕ) (one other : ℕ) → IsFirstWrong g ks one → IsFirstWrong g ks other → one ≡ other

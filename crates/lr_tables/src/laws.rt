@@ -1,6 +1,6 @@
 //! Laws of tables that pass the check, each the contract of a function with an empty body.
 
-ghost use Rattle.lr_tables.specs.Laws.{IsSound, IsComplete, IsPlaced};
+ghost use Rattle.lr_tables.specs.Laws.{IsSound, IsComplete, IsPlaced, IsOnePlace};
 
 /// What is read by tables is derived by their grammar.
 pub fn what_is_read_is_derived()
@@ -15,4 +15,9 @@ pub fn what_is_derived_is_read()
 /// Where checked tables stop is the first token that no sentence goes on with.
 pub fn where_it_stops_is_first_wrong()
     ensures { IsPlaced }
+{}
+
+/// There is one first token at most that no sentence goes on with.
+pub fn first_wrong_is_one()
+    ensures { IsOnePlace }
 {}
