@@ -1,11 +1,17 @@
-//! Tests of reading and writing scripts, over php_lexer, php_parser and php_writer.
-//! Texts with their tokens, precedence and alternative forms by the PHP manual, scripts that keep
-//! and that break each rule, trees written and read again, and the table of docs/language.md.
+//! Tests of reading and writing scripts, over php_lexer, php_parser and php_writer, by the PHP manual
+//! and the table of docs/language.md; and a small language of statements as an instance of
+//! lr_machine. Promise: `read_small` answers what is told of the only derivation of the tokens, or
+//! the place of the first one that no sentence goes on with (`IsOnly`, `IsFirstWrong` of lr_tables).
 //! Used by: none; it stands at the top.
 #![tactic(auto)]
 
 #[cfg(test)]
 mod forms;
+mod reading;
+mod rows;
+mod rules;
+#[cfg(test)]
+mod statements;
 #[cfg(test)]
 mod tokens;
 #[cfg(test)]

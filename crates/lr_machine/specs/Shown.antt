@@ -1,0 +1,25 @@
+-- Tables in memory as those of lr_tables.
+use Rattle.std.specs.Prelude.{ℕ, ◌-◌, ◌/◌, ◌%◌, nat_eq, if◌then◌else◌, List, [], ◌∷◌}
+use Rattle.lr_tables.specs.declared.step.Step.{Step}
+use Rattle.lr_tables.specs.declared.step.Step.TheVariants.{Fail, Go, Reduce, Accept}
+use Rattle.lr_tables.specs.Machine as machine
+use Rattle.lr_machine.specs.declared.tables.Tables.{Tables}
+
+-- what a number says: 0 and 1 that nothing goes on and that the input is read, else the even ones a state, the odd ones a rule
+abbrev pub step_for : ℕ → Step
+step_for n = if nat_eq n 0 then Fail else (if nat_eq n 1 then Accept else (if nat_eq (n % 2) 0 then Go (n / 2 - 1) else Reduce (n / 2 - 1)))
+
+abbrev pub row_of : List ℕ → List Step
+row_of [] = []
+row_of (n ∷ ns) = step_for n ∷ row_of ns
+
+abbrev pub steps_of : List (List ℕ) → List (List Step)
+steps_of [] = []
+steps_of (ns ∷ rows) = row_of ns ∷ steps_of rows
+
+abbrev pub shown : {C : ℕ} → Tables C → machine.Tables
+shown t = record {
+  grammar = record { terminals = t.terminals; start = t.start; rules = t.rules.now; lefts = t.lefts.now; rights = t.rights.now };
+  rows = steps_of t.rows.now;
+  accesses = t.accesses.now;
+}

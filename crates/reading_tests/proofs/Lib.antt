@@ -1,0 +1,2 @@
+pub mod AreGood
+pub mod Examples
