@@ -1,10 +1,10 @@
 -- What is in normal form, and not nothing, matches some text.
-use Rattle.std.proofs.Common.{◌≡◌, ℕ, Bool, true, false, nat_le, List, [], ◌∷◌, refl, arith}
+use Rattle.std.proofs.Common.{◌≡◌, ℕ, Bool, true, false, nat_le, List, [], ◌∷◌, refl, subst, arith}
 use Rattle.std.proofs.lemmas.Bool.{and_parts, and_from}
 use Rattle.std.proofs.lemmas.Bool.Decides.{nat_tests}
 use Rattle.derivatives.specs.Expressions.{Expr, nothing, empty, range, chain, either, star, among, Members, none, member, lies, Joins, at_once, on, here, no_more, Matches, is_empty, is_byte, is_chain, is_left, is_over, is_done, is_taken}
 use Rattle.derivatives.specs.Derivatives.{may_end, before, chain_of, beside, occurs, unless_occurs, either_of, among_of, when, onto, after, after_members, after_all, is_full, are_full, Normal, fails, lives}
-use Rattle.derivatives.specs.Laws.{IsDerivativeByAll, HasSomeText, StaysNormal, OnlyNothingFails, FailsAtOnce}
+use Rattle.derivatives.specs.Laws.{IsDerivativeByAll, HasSomeText, StaysNormal, MakesNormal, OnlyNothingFails, FailsAtOnce}
 use Rattle.derivatives.proofs.After.{shown, made}
 
 -- Derivatives stay in normal form.
@@ -73,6 +73,22 @@ step_normal b (lives {e = e} h) = after_normal b e h
 pub stays_normal : StaysNormal
 stays_normal e n [] = n
 stays_normal e n (b ∷ u) = stays_normal (after b e) (step_normal b n) u
+
+chain_nothing : (x : Expr) → nothing ≡ chain_of x nothing
+chain_nothing nothing = refl
+chain_nothing empty = refl
+chain_nothing x = refl
+
+both_normal : (x : Expr) {y : Expr} → Normal x → Normal y → Normal (chain_of x y)
+both_normal x n fails = subst Normal (chain_nothing x) fails
+both_normal x n (lives {e = e} h) = chain_normal x e n h
+
+pub makes_normal : MakesNormal
+makes_normal = record {
+  chained = λ x y n m. both_normal x n m;
+  either = λ x y n m. either_normal y n m;
+  among = λ ms h. lives (among_full ms h);
+}
 
 -- Some text.
 

@@ -1,8 +1,10 @@
 -- Laws of expressions and their derivatives, as statements.
 use Rattle.std.specs.Prelude.{◌≡◌, ◌≤◌, ℕ, true, List, [], ◌∷◌, ◌↔◌}
 use Rattle.derivatives.specs.Expressions.{Expr, nothing, chain, either, among, Members, Matches, Joins}
-use Rattle.derivatives.specs.Derivatives.{may_end, after, after_all, chain_of, either_of, among_of, is_full, Normal}
+use Rattle.derivatives.specs.Derivatives.{may_end, after, after_all, chain_of, either_of, among_of, is_full, are_full, Normal}
 use Rattle.derivatives.specs.Classes.{last_byte, last_alike}
+use Rattle.derivatives.specs.Standing.{IsExpr, IsList, IsMade, IsListed, expr_at, members_at, Grows}
+use Rattle.derivatives.specs.declared.arena.Arena.{Arena}
 
 -- an expression may end exactly where it matches the empty text
 abbrev pub EndsWhereEmpty : Type 0
@@ -30,6 +32,12 @@ HasSomeText = (e : Expr) → is_full e ≡ true → (w : List ℕ) × Matches e 
 abbrev pub StaysNormal : Type 0
 StaysNormal = (e : Expr) → Normal e → (u : List ℕ) → Normal (after_all u e)
 
+-- what is put together of parts in normal form is in normal form
+pub record MakesNormal : Type 0 where
+  pub chained : (x y : Expr) → Normal x → Normal y → Normal (chain_of x y)
+  pub either : (x y : Expr) → Normal x → Normal y → Normal (either_of x y)
+  pub among : (ms : Members) → are_full ms ≡ true → Normal (among_of ms)
+
 -- an expression in normal form matches no text only where it is nothing
 abbrev pub OnlyNothingFails : Type 0
 OnlyNothingFails = (e : Expr) → Normal e → ((w : List ℕ) → Matches e w → ⊥) → e ≡ nothing
@@ -42,3 +50,8 @@ FailsAtOnce = (e : Expr) → Normal e → (u : List ℕ) → ((v w : List ℕ) �
 pub record AreClasses : Type 0 where
   pub own : (b : ℕ) (e : Expr) → b ≤ last_byte → b ≤ last_alike b e
   pub alike : (b c : ℕ) (e : Expr) → b ≤ c → c ≤ last_alike b e → after c e ≡ after b e
+
+-- while an arena grows, each number goes on to stand for what it stood for
+pub record GoesOn : Type 0 where
+  pub exprs : (old new : Arena) → Grows old new → (n : ℕ) → IsExpr old n → IsMade new n (expr_at old n)
+  pub lists : (old new : Arena) → Grows old new → (n : ℕ) → IsList old n → IsListed new n (members_at old n)

@@ -1,6 +1,6 @@
 //! The laws. Each function does nothing, and stands for the law that its contract states.
 
-ghost use Rattle.derivatives.specs.Laws.{EndsWhereEmpty, IsDerivative, IsDerivativeByAll, MatchesAsPlain, HasSomeText, StaysNormal, OnlyNothingFails, FailsAtOnce, AreClasses};
+ghost use Rattle.derivatives.specs.Laws.{EndsWhereEmpty, IsDerivative, IsDerivativeByAll, MatchesAsPlain, HasSomeText, StaysNormal, MakesNormal, OnlyNothingFails, FailsAtOnce, AreClasses, GoesOn};
 
 /// An expression may end exactly where it matches the empty text.
 pub fn what_may_end_matches_the_empty_text()
@@ -32,6 +32,11 @@ pub fn derivatives_stay_normal()
     ensures { StaysNormal }
 {}
 
+/// What is made of parts in normal form is in normal form.
+pub fn what_is_made_stays_normal()
+    ensures { MakesNormal }
+{}
+
 /// In normal form, only nothing matches no text.
 pub fn only_nothing_fails()
     ensures { OnlyNothingFails }
@@ -45,4 +50,9 @@ pub fn what_fails_fails_at_once()
 /// All bytes of a class have one derivative.
 pub fn bytes_of_a_class_have_one_derivative()
     ensures { AreClasses }
+{}
+
+/// Numbers go on to stand for what they stood for.
+pub fn numbers_go_on_to_stand()
+    ensures { GoesOn }
 {}

@@ -20,7 +20,7 @@ pub use arena::Arena;
 pub use laws::{
     bytes_of_a_class_have_one_derivative, derivatives_by_texts_match_what_follows,
     derivatives_match_what_follows, derivatives_stay_normal, full_expressions_match_some_text,
-    normal_forms_match_as_plain_ones, only_nothing_fails, what_fails_fails_at_once,
-    what_may_end_matches_the_empty_text,
+    normal_forms_match_as_plain_ones, numbers_go_on_to_stand, only_nothing_fails,
+    what_fails_fails_at_once, what_is_made_stays_normal, what_may_end_matches_the_empty_text,
 };
 pub use steps::Steps;
