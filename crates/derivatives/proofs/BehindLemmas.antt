@@ -1,8 +1,8 @@
 -- Derivatives by numbers.
-use Rattle.std.proofs.Common.{◌≡◌, ◌<◌, ◌≤◌, ℕ, Bool, true, false, nat_le, List, refl, sym, ◌∙◌, ap, subst, arith}
+use Rattle.std.proofs.Common.{◌≡◌, ◌<◌, ◌≤◌, ℕ, Bool, true, false, nat_le, sym, ◌∙◌, ap, arith}
 use Rattle.std.proofs.lemmas.Bool.{and_from, and_left, and_right}
 use Rattle.std.proofs.lemmas.Bool.Decides.{nat_tests}
-use Rattle.derivatives.specs.Expressions.{Expr, nothing, empty, range, chain, either, star, among, Members, none, member, lies}
+use Rattle.derivatives.specs.Expressions.{Expr, nothing, empty, range, chain, either, star, among, Members, none, member}
 use Rattle.derivatives.specs.Derivatives.{may_end, chain_of, either_of, among_of, when, onto, after, after_members}
 use Rattle.derivatives.specs.Standing.{expr_at, members_at, IsExpr, IsList, IsMade, IsListed, HasFirst, Grows}
 use Rattle.derivatives.specs.declared.arena.Arena.{Arena}

@@ -1,6 +1,6 @@
 -- An expression has one number.
-use Rattle.std.proofs.Common.{◌≡◌, ◌<◌, ℕ, zero, suc, Bool, true, false, List, Option, Some, None, slice_get, refl, sym, ◌∙◌, ap, subst, arith}
-use Rattle.derivatives.specs.Expressions.{Expr, nothing, empty, range, chain, either, star, among, Members, none, member}
+use Rattle.std.proofs.Common.{◌≡◌, ◌<◌, ℕ, zero, suc, Bool, true, List, Some, slice_get, refl, sym, ◌∙◌, ap, subst, arith}
+use Rattle.derivatives.specs.Expressions.{Expr, range, chain, either, star, among, Members, member}
 use Rattle.numbered_sets.specs.Numbers.{AreDifferent}
 use Rattle.derivatives.specs.Nodes.{IsExprAt, IsListAt, AreBelow, AreParts, is_expr_at, is_list_at}
 use Rattle.derivatives.specs.Standing.{expr_of, members_of, expr_at, members_at, IsExpr, IsList, HasEachOnce}

@@ -1,7 +1,7 @@
 -- Worked texts and near misses.
 use Rattle.std.proofs.Common.{◌≡◌, ℕ, true, false, List, [], ◌∷◌, refl, codes, Bool}
 use Rattle.derivatives.specs.Expressions.{Expr, nothing, empty, range, chain, either, star, among, none, member, Matches, Joins, at_once, on}
-use Rattle.derivatives.specs.Derivatives.{chain_of, may_end, after, after_all, is_full}
+use Rattle.derivatives.specs.Derivatives.{chain_of, may_end, after_all, is_full}
 use Rattle.derivatives.specs.Classes.{last_alike}
 use Rattle.derivatives.proofs.Ends.{empty_matched, ends_empty}
 use Rattle.derivatives.proofs.Living.{is_derivative_by_all}

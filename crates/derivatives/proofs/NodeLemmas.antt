@@ -1,8 +1,8 @@
 -- What a number stands for, by the node that stands there.
-use Rattle.std.proofs.Common.{◌≡◌, ◌<◌, ◌≤◌, ℕ, zero, suc, Bool, true, false, List, Option, Some, None, slice_get, get_or, length, Contains, refl, sym, ◌∙◌, ap, subst, arith, ◌⊎◌, inl, inr}
+use Rattle.std.proofs.Common.{◌≡◌, ◌<◌, ◌≤◌, ℕ, zero, suc, true, List, Option, Some, None, slice_get, get_or, length, Contains, refl, sym, ◌∙◌, ap, subst, arith, inl, inr}
 use Rattle.std.proofs.lemmas.Option.{slice_get_within, slice_get-get_or, get_or_from_slice_get}
 use Rattle.std.proofs.lemmas.Bool.{cases_lt}
-use Rattle.derivatives.specs.Expressions.{Expr, nothing, empty, range, chain, either, star, among, Members, none, member}
+use Rattle.derivatives.specs.Expressions.{Expr, chain, either, star, among, Members, member}
 use Rattle.numbered_sets.specs.Numbers.{Keeps, AddsOnly}
 use Rattle.derivatives.specs.Nodes.{IsBuilt, IsExprAt, IsListAt, AreBelow, AreParts, is_expr_at, is_list_at}
 use Rattle.derivatives.specs.Standing.{expr_of, members_of, expr_within, members_within, expr_at, members_at, count_of, IsExpr, IsList, IsMade, IsListed, Grows}

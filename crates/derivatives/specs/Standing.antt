@@ -1,5 +1,5 @@
 -- What the numbers of an arena stand for.
-use Rattle.std.specs.Prelude.{◌≡◌, ◌<◌, ℕ, zero, suc, Bool, true, false, List, Option, Some, None, slice_get, length}
+use Rattle.std.specs.Prelude.{◌≡◌, ◌<◌, ℕ, zero, suc, Bool, true, false, List, Option, Some, slice_get, length}
 use Rattle.numbered_sets.specs.Numbers.{Keeps}
 use Rattle.derivatives.specs.Expressions.{Expr, nothing, empty, range, chain, either, star, among, Members, none, member}
 use Rattle.derivatives.specs.Nodes.{IsExprAt, IsListAt}

@@ -1,7 +1,6 @@
 -- What is known of derivatives.
 use Rattle.std.specs.Prelude.{◌≡◌, ℕ, Some}
 use Rattle.derivatives.specs.Answers.{answer_of}
-use Rattle.derivatives.specs.declared.ask.Ask.{Ask}
 use Rattle.derivatives.specs.declared.steps.Steps.{Steps}
 
 -- the derivative of an expression by a byte was asked for, and has this number
