@@ -1,4 +1,4 @@
-//! Each call once, with values written down by hand.
+//! Calls with values written down by hand.
 
 ghost use Rattle.std.specs.Prelude.{◌≤◌};
 

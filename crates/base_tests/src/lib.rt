@@ -1,5 +1,5 @@
-//! Tests of text_base, cfg_grammar, op_system, fst_core and script_maker, with ample memory and with
-//! values written down by hand.
+//! Tests of text_base, derivatives, cfg_grammar, op_system, fst_core and script_maker, with ample
+//! memory and with values written down by hand.
 //! And of command_words: a table of words and what they ask for.
 //! Used by: none; it stands at the top.
 #![tactic(auto)]
@@ -8,6 +8,8 @@
 mod asked;
 #[cfg(test)]
 mod bytes;
+#[cfg(test)]
+mod expressions;
 #[cfg(test)]
 mod grammars;
 #[cfg(test)]

@@ -1,0 +1,11 @@
+pub mod Ends
+pub mod NormalForms
+pub mod After
+pub mod Living
+pub mod Alike
+pub mod NodeLemmas
+pub mod EachOnce
+pub mod Choices
+pub mod BehindLemmas
+pub mod AnswerLemmas
+pub mod Examples

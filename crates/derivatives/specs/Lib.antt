@@ -1,0 +1,9 @@
+pub mod Expressions
+pub mod Derivatives
+pub mod Classes
+pub mod Laws
+pub mod Exactness
+pub mod Nodes
+pub mod Standing
+pub mod Answers
+pub mod Steps
