@@ -9,14 +9,17 @@ use Rattle.lr_machine.specs.declared.tables.Tables.{Tables}
 abbrev pub step_for : ℕ → Step
 step_for n = if nat_eq n 0 then Fail else (if nat_eq n 1 then Accept else (if nat_eq (n % 2) 0 then Go (n / 2 - 1) else Reduce (n / 2 - 1)))
 
+-- the steps that the numbers of a row say
 abbrev pub row_of : List ℕ → List Step
 row_of [] = []
 row_of (n ∷ ns) = step_for n ∷ row_of ns
 
+-- the same of each row
 abbrev pub steps_of : List (List ℕ) → List (List Step)
 steps_of [] = []
 steps_of (ns ∷ rows) = row_of ns ∷ steps_of rows
 
+-- the tables in memory as those of the definitions
 abbrev pub shown : {C : ℕ} → Tables C → machine.Tables
 shown t = record {
   grammar = record { terminals = t.terminals; start = t.start; rules = t.rules.now; lefts = t.lefts.now; rights = t.rights.now };

@@ -10,6 +10,7 @@ pub record State : Type 0 where
   pub kernel : List (ℕ × ℕ × ℕ)
   pub closed : List (ℕ × ℕ × ℕ × ℕ)
 
+-- what stands for a state that there is not
 abbrev pub no_state : State
 no_state = record { kernel = []; closed = [] }
 
@@ -22,6 +23,7 @@ pub record Certificate : Type 0 where
   pub samples : List (ℕ × ℕ × List ℕ)
   pub states : List State
 
+-- the other truth value
 abbrev pub not_true : Bool → Bool
 not_true true = false
 not_true false = true
@@ -31,6 +33,7 @@ abbrev pub sides : List Rule → List (ℕ × List ℕ × ℕ × ℕ)
 sides [] = []
 sides (r ∷ rules) = (r.left, side r, r.before, r.behind) ∷ sides rules
 
+-- the right side of the rule of this number
 abbrev pub side_at : List (ℕ × List ℕ × ℕ × ℕ) → ℕ → List ℕ
 side_at all p = (slice_index_or all p (0, [], 0, 0)).1
 
@@ -40,9 +43,11 @@ behind zero xs = xs
 behind (suc n) [] = []
 behind (suc n) (x ∷ xs) = behind n xs
 
+-- each bit of the one number is one of the other
 abbrev pub is_sub : ℕ → ℕ → Bool
 is_sub a b = nat_eq (bit_and a b) a
 
+-- what may follow the nonterminal where it begins, as bits; none where it does not begin
 abbrev pub closed_of : List (ℕ × ℕ × ℕ × ℕ) → ℕ → ℕ
 closed_of [] x = 0
 closed_of (c ∷ closed) x = if nat_eq c.0 x then c.1 else closed_of closed x

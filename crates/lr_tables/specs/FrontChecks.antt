@@ -15,14 +15,17 @@ abbrev pub begins_free : List ℕ → List ℕ → Bool
 begins_free lefts [] = true
 begins_free lefts (k ∷ ks) = is_free lefts k
 
+-- the tokens, if there are some, and these behind them
 abbrev pub joined : Option (List ℕ) → List ℕ → Option (List ℕ)
 joined None ks = None
 joined (Some js) ks = Some (js ++ ks)
 
+-- there are some tokens
 abbrev pub is_some : Option (List ℕ) → Bool
 is_some None = false
 is_some (Some ks) = true
 
+-- the sample of a nonterminal, if it has one
 abbrev pub sample_of : List (ℕ × ℕ × List ℕ) → ℕ → Option (List ℕ)
 sample_of [] x = None
 sample_of (m ∷ samples) x = if nat_eq m.0 x then Some m.2 else sample_of samples x
@@ -38,12 +41,14 @@ module _ (terminals : ℕ) (lefts : List ℕ) where
   sampled samples [] = Some []
   sampled samples (x ∷ xs) = one_sampled samples x (sampled samples xs)
 
+-- both are one list
 abbrev pub same_list : List ℕ → List ℕ → Bool
 same_list [] [] = true
 same_list [] (y ∷ ys) = false
 same_list (x ∷ xs) [] = false
 same_list (x ∷ xs) (y ∷ ys) = nat_eq x y && same_list xs ys
 
+-- the first are there, and are these
 abbrev pub is_sampled : Option (List ℕ) → List ℕ → Bool
 is_sampled None ks = false
 is_sampled (Some js) ks = same_list js ks
@@ -58,6 +63,7 @@ abbrev pub is_sample : ℕ → List ℕ → List ℕ → List (ℕ × ℕ × Lis
 is_sample terminals lefts rights samples m None = false
 is_sample terminals lefts rights samples m (Some r) = nat_eq r.0 m.0 && (is_sampled (sampled terminals lefts samples r.1) m.2 && stands_behind_all rights r.3)
 
+-- the same of each sample, by those behind it in the list
 abbrev pub are_samples : ℕ → List ℕ → List ℕ → List (ℕ × List ℕ × ℕ × ℕ) → List (ℕ × ℕ × List ℕ) → Bool
 are_samples terminals lefts rights rules [] = true
 are_samples terminals lefts rights rules (m ∷ samples) = is_sample terminals lefts rights samples m (slice_get rules m.1) && are_samples terminals lefts rights rules samples
@@ -72,10 +78,12 @@ abbrev pub is_item : List (ℕ × ℕ × ℕ) → ℕ → ℕ → Bool
 is_item [] p d = false
 is_item (i ∷ items) p d = (nat_eq i.0 p && nat_eq i.1 d) || is_item items p d
 
+-- the kernel has no item
 abbrev pub has_none : List (ℕ × ℕ × ℕ) → Bool
 has_none [] = true
 has_none (i ∷ items) = false
 
+-- the symbols begin with this one
 abbrev pub starts_with : List ℕ → ℕ → Bool
 starts_with [] x = false
 starts_with (y ∷ ys) x = nat_eq y x
@@ -85,6 +93,7 @@ abbrev pub may_begin : List ℕ → ℕ → List (ℕ × ℕ × ℕ × ℕ) → 
 may_begin rights prev closed None = false
 may_begin rights prev closed (Some r) = is_begun closed r.0 && not_true (nat_lt r.3 (slice_index_or rights prev 0))
 
+-- there are some tokens, which begin with a free one or are none
 abbrev pub may_begin_free : List ℕ → Option (List ℕ) → Bool
 may_begin_free lefts None = false
 may_begin_free lefts (Some ks) = begins_free lefts ks

@@ -19,6 +19,7 @@ abbrev pub top : List ℕ → ℕ
 top [] = 0
 top (s ∷ stack) = s
 
+-- what a state does at a symbol
 abbrev pub entry : Tables → ℕ → ℕ → Step
 entry t s x = slice_index_or (slice_index_or t.rows s []) x Fail
 
