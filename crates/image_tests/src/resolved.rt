@@ -97,13 +97,13 @@ fn in_a_cycle(rt: HostRuntime) -> Result<(), Fail> {
     Ok(())
 }
 
-/// The texts of 0 are `ab` and those of 1, which are the texts of 0 with `ab` for each `b`.
+/// The texts of 0 are `ac` and those of 1, which are the texts of 0 with `ac` for each `c`.
 fn lengthened_in_a_loop(alloc: Global) -> Result<Option<OpSystem>, NoMemory> {
     let mut productions = Vec::new(alloc);
-    productions.push(production(0, Right::Two(one(b'a'), one(b'b'))))?;
+    productions.push(production(0, Right::Two(one(b'a'), one(b'c'))))?;
     productions.push(production(0, Right::One(Symbol::Nt(Nt(1)))))?;
-    let search = Bytes::from_slice(alloc, "b".as_bytes())?;
-    let with = Bytes::from_slice(alloc, "ab".as_bytes())?;
+    let search = Bytes::from_slice(alloc, "c".as_bytes())?;
+    let with = Bytes::from_slice(alloc, "ac".as_bytes())?;
     let mut ops = Vec::new(alloc);
     ops.push(OpRule {
         left: Nt(1),
@@ -116,29 +116,30 @@ fn lengthened_in_a_loop(alloc: Global) -> Result<Option<OpSystem>, NoMemory> {
     Ok(OpSystem::new(grammar, ops, Nt(0)))
 }
 
-/// Of `$s = 'ab'; while (..) { $s = str_replace('b', 'ab', $s); }`: the text `bba`, which no run
-/// has, is derived, by all texts over `a` and `b` as one nonterminal behind the two of the system.
+/// Of `$s = 'ac'; while (..) { $s = str_replace('c', 'ac', $s); }`: the text `cca`, which no run
+/// has, is derived, by all texts over `a` and `c` as one nonterminal behind the two of the system;
+/// it has a production for each of them, since they are no neighbours.
 #[test]
 fn derived_in_a_cycle(rt: HostRuntime) -> Result<(), Fail> {
     let alloc = rt.alloc();
     let system = lengthened_in_a_loop(alloc)?.ok_or("a system")?;
     let grammar = resolve(alloc, &system, 0).map_err(|_| "a grammar")?;
-    let (a, b) = (one(b'a'), one(b'b'));
+    let (a, c) = (one(b'a'), one(b'c'));
     let (looped, any) = (Symbol::Nt(Nt(1)), Symbol::Nt(Nt(2)));
-    let bba = [
+    let cca = [
         production(0, Right::One(looped)),
         production(1, Right::One(any)),
-        production(2, Right::Two(b, any)),
-        production(2, Right::Two(b, any)),
+        production(2, Right::Two(c, any)),
+        production(2, Right::Two(c, any)),
         production(2, Right::Two(a, any)),
         production(2, Right::Empty),
     ];
-    let ab = [production(0, Right::Two(a, b))];
-    assert!(rt; derived(alloc, &grammar, &bba)?.as_deref() == Some(&b"bba"[..]));
-    assert!(rt; derived(alloc, &grammar, &ab)?.as_deref() == Some(&b"ab"[..]));
-    assert!(rt; derived(alloc, &grammar, &bba[..5])?.is_none());
-    let c = [production(0, Right::One(one(b'c')))];
-    assert!(rt; derived(alloc, &grammar, &c)?.is_none());
+    let ac = [production(0, Right::Two(a, c))];
+    assert!(rt; derived(alloc, &grammar, &cca)?.as_deref() == Some(&b"cca"[..]));
+    assert!(rt; derived(alloc, &grammar, &ac)?.as_deref() == Some(&b"ac"[..]));
+    assert!(rt; derived(alloc, &grammar, &cca[..5])?.is_none());
+    let b = [production(0, Right::One(one(b'b')))];
+    assert!(rt; derived(alloc, &grammar, &b)?.is_none());
     Ok(())
 }
 
