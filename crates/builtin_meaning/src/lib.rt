@@ -2,7 +2,7 @@
 //! with which fault (`builtin_value` of specs/Values).
 //! Promise: `Builtin::of` is the table of names (`builtin_named` of specs/Names), `arity` that of
 //! the numbers of arguments (`arity_of` of specs/Arity).
-//! Used by 13 crates, script_meaning, program_rules, program_sizes, function_rules and others.
+//! Used by script_meaning, program_rules, program_sizes, function_rules and others.
 #![tactic(auto)]
 
 mod builtin;

@@ -2,7 +2,7 @@
 //! grammar derives is `Derives` of specs/Derives.
 //! Promise: `Grammar::new` answers None exactly where a nonterminal is not below the count, which
 //! the type keeps (clause `variant`, over `AreBelow` of specs/Below).
-//! Used by 25 crates, useful_nonterminals, op_system, derivations, script_decision and others.
+//! Used by useful_nonterminals, op_system, derivations, script_decision and others.
 #![tactic(auto)]
 
 mod bytes;

@@ -2,7 +2,7 @@
 //! Promise: by `build`, children lead from the state of an element to an accepting one exactly
 //! where dtd_model's `matches` says so, and to a state exactly where a list that begins so matches
 //! (`Decides`, `GoesOn` of specs/Decides).
-//! Used by 8 crates, page_validator, page_automata, segment_summary, script_decision and others.
+//! Used by page_validator, page_automata, segment_summary, script_decision and others.
 #![tactic(auto)]
 
 mod contents;

@@ -2,7 +2,7 @@
 //! as text. Promise: what nodes are a derivation of (`IsDerivation` of specs/Stands), the
 //! productions derive; `yield_into` appends exactly the first bytes of the sentence of a prepared
 //! derivation (`ok`), `write_grammar` exactly `grammar_text` of specs/Text (`ok`).
-//! Used by 9 crates, script_decision, page_decision, summary_decision, grammar_image and others.
+//! Used by script_decision, page_decision, summary_decision, grammar_image and others.
 #![tactic(auto)]
 
 mod derivation;

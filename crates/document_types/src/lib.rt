@@ -2,7 +2,7 @@
 //! file), and their definitions. Promise: `DocumentType::definition` answers Ok only with a
 //! definition that has the table of the type (`ok`: `HasTable` of specs/DocumentTypes), and each
 //! refusal with its cause (`err`: `IsDefinitionRefusal`).
-//! Used by 7 crates, phpsa_texts, phpsa_tasks, phpsa_main, check_rows and others.
+//! Used by phpsa_texts, phpsa_tasks, phpsa_main, check_rows and others.
 #![tactic(auto)]
 
 mod built_in;

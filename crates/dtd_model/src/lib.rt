@@ -2,7 +2,7 @@
 //! an element may have is `matches` of specs/Matches.
 //! Promise: a `Dtd` keeps `is_lawful` of specs/Lawful, and `mini` has the table of the smallest
 //! document type (`mini_table` of specs/Mini).
-//! Used by 59 crates, number_kinds, dtd_index, content_automata, page_lexer and others.
+//! Used by number_kinds, dtd_index, content_automata, page_lexer and others.
 #![tactic(auto)]
 
 mod definition;

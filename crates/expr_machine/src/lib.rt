@@ -2,7 +2,7 @@
 //! whose actions make values in postfix order (specs/Machine, specs/Values).
 //! Promise: each move makes the weight less (`moves_get_lighter`, over `weight` of specs/Reading);
 //! that it reads the grammar are laws of expr_laws.
-//! Used by 7 crates, expr_laws, expr_builder, expr_parser, stmt_machine and others.
+//! Used by expr_laws, expr_builder, expr_parser, stmt_machine and others.
 #![tactic(auto)]
 
 pub mod frame;

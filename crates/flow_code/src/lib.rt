@@ -2,7 +2,7 @@
 //! branches, calls or ends. States: which points a program becomes (`flat` of specs/Flat), what a
 //! run of points that ends prints (`FlatRun` of specs/Runs), and what a program of points keeps
 //! (`IsFlow` of specs/Lawful). Types and definitions alone; no call stands here.
-//! Used by 16 crates, flow_graph, loose_sets, flow_runs, loose_soundness and others.
+//! Used by flow_graph, loose_sets, flow_runs, loose_soundness and others.
 #![tactic(auto)]
 
 pub mod point;

@@ -2,7 +2,7 @@
 //! the image of a grammar under one is. Promise: `applies` is true exactly where a table may put
 //! out the output over the input (`TableRelates` of specs/Tables); a `Machine` hands out, for each
 //! byte of a range, exactly its steps (`exact`: `Offers` of specs/Offers).
-//! Used by 13 crates, script_decision, page_decision, grammar_chart, chart_grammar and others.
+//! Used by script_decision, page_decision, grammar_chart, chart_grammar and others.
 #![tactic(auto)]
 
 mod indexed;

@@ -2,7 +2,7 @@
 //! exactly what the machine puts out over the texts of the grammar (`sentences`: `Outputs` of
 //! fst_core), and it is small (`small`: `IsSmall`); `source_of` leads a derivation in an image that
 //! copies texts back to one of the text in the grammar (`text_of` of specs/Echoes).
-//! Used by 7 crates, script_decision, page_decision, resolving, loose_grammar and others.
+//! Used by script_decision, page_decision, resolving, loose_grammar and others.
 #![tactic(auto)]
 
 mod ask;

@@ -2,7 +2,7 @@
 //! Promise: `Files::read` gives what is told of the name, or has a reason (`Tells` of specs/Told,
 //! `HasReason` of specs/Reasons); `Sink::put` appends the bytes, or a prefix of them where it fails
 //! (`AppendsPrefix` of specs/Taken).
-//! Used by 21 crates, program_rules, program_files, include_expansion, program_loader and others.
+//! Used by program_rules, program_files, include_expansion, program_loader and others.
 #![tactic(auto)]
 
 mod disk_files;

@@ -2,7 +2,7 @@
 //! file and the place where it first breaks the grammar; with laws, and tests of single bytes.
 //! Promise: a file has one token list or one fault, and never both (`one_token_list`, `one_fault`,
 //! `never_both` of `laws`, `cut_or_broken` of `text_laws`).
-//! Used by 10 crates, php_lexer, program_rules, spellable, php_writer and others.
+//! Used by php_lexer, program_rules, spellable, php_writer and others.
 #![tactic(auto)]
 
 mod byte_classes;

@@ -2,7 +2,7 @@
 //! variable is taken apart, and an operation in a cycle gives any text over its bytes. No code.
 //! States `Loose` (specs/Loose) over the rows of specs/Table, and the table by versions of slots
 //! (specs/Rows); law `versions_are_exact`, and `same_sets` of proofs/OfVersions.
-//! Used by 7 crates, loose_soundness, ssa_form, set_listing, point_listing and others.
+//! Used by loose_soundness, ssa_form, set_listing, point_listing and others.
 #![tactic(auto)]
 
 pub mod laws;

@@ -2,7 +2,7 @@
 //! `Rel` of specs/Rel.
 //! Promise: `bytes_of_outputs` says which bytes outputs may have (`OutputByte` of specs/OpBytes);
 //! `OpSystem::new` answers None exactly where its type would not hold (clause `variant`).
-//! Used by 22 crates, function_laws, flow_code, least_sets, op_bytes and others.
+//! Used by function_laws, flow_code, least_sets, op_bytes and others.
 #![tactic(auto)]
 
 pub mod laws;

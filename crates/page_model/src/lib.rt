@@ -2,7 +2,7 @@
 //! Promise: bytes have at most one cutting and one list of tokens (`one_cutting`,
 //! `one_token_list`), and a page is `Valid` (specs/Valid) exactly where its tokens are those of a
 //! tree (`valid_by_tokens`, over `TokenTree` of specs/TokenTree).
-//! Used by 52 crates, page_lexer, page_steps, reference_steps, remark_steps and others.
+//! Used by page_lexer, page_steps, reference_steps, remark_steps and others.
 #![tactic(auto)]
 
 mod laws;

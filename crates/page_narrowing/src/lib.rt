@@ -2,7 +2,7 @@
 //! by the test `can_end` of page_endings), and its laws. Promise: by each lawful definition it puts
 //! out, for all bytes, exactly the tokens of page_model (`NarrowTokensRead` of specs/Laws), and
 //! each state that it meets passes the test (`MetKept`). No code stands here.
-//! Used by 9 crates, front_laws, exact_fronts, state_testing, page_stepping and others.
+//! Used by front_laws, exact_fronts, state_testing, page_stepping and others.
 #![tactic(auto)]
 
 pub mod laws;

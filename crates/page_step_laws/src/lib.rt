@@ -2,7 +2,7 @@
 //! Promise: where the reader by characters reads the pieces of a page (`Reads` of piece_steps), the
 //! one by bytes puts out exactly the tokens of page_model (`tokens_by_reading`, over
 //! `TokensByReading` of specs/Laws).
-//! Used by 9 crates, page_reads, page_endings, page_narrowing, front_laws and others.
+//! Used by page_reads, page_endings, page_narrowing, front_laws and others.
 #![tactic(auto)]
 
 pub mod laws;

@@ -2,5 +2,5 @@
 //! kind of open piece of page_model (`page_step` of specs/PageSteps). No code and no promise stand
 //! here: nobody has to believe it, since laws above say of each form of piece that these steps read
 //! exactly the lawful ones.
-//! Used by 39 crates, reference_steps, attribute_steps, doctype_steps, page_step_laws and others.
+//! Used by reference_steps, attribute_steps, doctype_steps, page_step_laws and others.
 #![tactic(auto)]

@@ -2,7 +2,7 @@
 //! Promise: `write`, `read`, `member`, `get`, `put`, `push` and `append` answer what the
 //! definitions of plain_values give, with their faults (clauses `ok`, `err`), over `plain_of` of
 //! specs/View; nothing of the sharing shows.
-//! Used by 12 crates, value_operations, request_reading, flow_code, program_lowering and others.
+//! Used by value_operations, request_reading, flow_code, program_lowering and others.
 #![tactic(auto)]
 
 mod array;

@@ -2,7 +2,7 @@
 //! contracts above cite.
 //! Promise: `numeric_of` is `numeric` of specs/Numeric, which the law `numeric_texts` ties to the
 //! manual's grammar (specs/Grammar).
-//! Used by 24 crates, php_values, value_operations, builtin_meaning, script_meaning and others.
+//! Used by php_values, value_operations, builtin_meaning, script_meaning and others.
 #![tactic(auto)]
 
 mod fault;

@@ -1,7 +1,7 @@
 //! The files of a program: a script and all that it includes, each read once, with their trees.
 //! Promise: `read_files` gives them in the order of their includes, each asked for once (`ReadsAll`
 //! of specs/Causes), or the cause and the file at which reading stopped (`IsReadCause`).
-//! Used by 7 crates, include_expansion, program_sizes, function_rules, program_loader and others.
+//! Used by include_expansion, program_sizes, function_rules, program_loader and others.
 #![tactic(auto)]
 
 mod files;

@@ -2,7 +2,7 @@
 //! within the limit of a run.
 //! Promise: `lower` gives exactly the points of the program (`flat` of flow_code); their ended runs
 //! are those of the program (`runs`, `back`), and `LongText` has its cause (specs/Short).
-//! Used by 7 crates, script_decision, loose_grammar, phpsa_tasks, phpsa_main and others.
+//! Used by script_decision, loose_grammar, phpsa_tasks, phpsa_main and others.
 #![tactic(auto)]
 
 mod alone;

@@ -2,7 +2,7 @@
 //! in EBNF form (`SpellsTree` of specs/Grammar).
 //! Promise: calls such as `binary_of` and `keyword_named` answer what is defined (`binary_operator`
 //! of specs/Operators, `keyword_of` of specs/Terminals).
-//! Used by 17 crates, program_rules, expr_machine, expr_laws, expr_builder and others.
+//! Used by program_rules, expr_machine, expr_laws, expr_builder and others.
 #![tactic(auto)]
 
 pub mod keyword;

@@ -2,7 +2,7 @@
 //! (`meaning` of specs/Meaning).
 //! Promise: laws, as that more units change no run that ended, and print no less
 //! (`more_units_change_nothing`, `more_units_print_more`).
-//! Used by 19 crates, request_reading, program_rules, include_expansion, program_sizes and others.
+//! Used by request_reading, program_rules, include_expansion, program_sizes and others.
 #![tactic(auto)]
 
 mod laws;

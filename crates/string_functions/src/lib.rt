@@ -2,7 +2,7 @@
 //! Promise: pieces are the one way to cut a text at the leftmost occurrences of a separator
 //! (`laws::pieces`, over `AreLeftmost` of specs/Leftmost); `find` gives exactly the first place of
 //! a pattern (`first_place` of specs/Place).
-//! Used by 13 crates, builtin_meaning, op_system, function_laws, least_sets and others.
+//! Used by builtin_meaning, op_system, function_laws, least_sets and others.
 #![tactic(auto)]
 
 mod failure;

@@ -2,7 +2,7 @@
 //! their laws, and the trait `Summary` for a decision over a grammar.
 //! Promise: sums compose (`SumsCompose` of specs/Laws), one is whole exactly where the tokens are
 //! those of a page (`WholeIsPage`).
-//! Used by 9 crates, dyck_balance, page_automata, segment_summary, page_decision and others.
+//! Used by dyck_balance, page_automata, segment_summary, page_decision and others.
 #![tactic(auto)]
 
 mod laws;

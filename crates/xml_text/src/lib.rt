@@ -2,7 +2,7 @@
 //! pages, document type definitions and requests share.
 //! Promise: each call answers as the definition of its name, and `is_text` is true exactly where
 //! `IsText` of specs/Texts holds.
-//! Used by 45 crates, script_meaning, request_reading, dtd_model, number_kinds and others.
+//! Used by script_meaning, request_reading, dtd_model, number_kinds and others.
 #![tactic(auto)]
 
 mod classes;
