@@ -1,7 +1,7 @@
 -- The definitions of `specs/` on worked examples and on near misses.
-use Rattle.std.proofs.Common.{◌≡◌, [], ◌∷◌, None, Some, true, false, Ok, Err, ◌^◌, ◌-◌, refl, lit≤, codes, arith}
+use Rattle.std.proofs.Common.{◌≡◌, [], ◌∷◌, None, Some, true, false, inl, inr, Ok, Err, ◌^◌, ◌-◌, refl, lit≤, codes, arith}
 use Rattle.io_edge.specs.Counts.{one_more, Rises}
-use Rattle.io_edge.specs.Told.{Tells}
+use Rattle.io_edge.specs.Told.{Content, unasked, untold, known, Tells, Allows, HasAtLeast, Stays}
 use Rattle.io_edge.specs.Reasons.{HasReason}
 use Rattle.io_edge.specs.Taken.{AppendsPrefix}
 use Rattle.io_edge.specs.Planned.{file_named, is_planned, planned_answer}
@@ -25,17 +25,46 @@ stays_is_no_rise : Rises 7 7 → ⊥
 stays_is_no_rise h = omega (arith, h)
 
 -- a source that tells of a file does not tell that it is missing, and one that tells nothing allows any answer
-told : Tells (Some (Some (codes "<p>"))) (Some (codes "<p>"))
+told : Tells (known (Some (codes "<p>"))) (Some (codes "<p>"))
 told = refl
 
-told_is_not_missing : HasReason (Some (Some (codes "<p>"))) 0 0 0 1 Missing → ⊥
+told_is_not_missing : HasReason (known (Some (codes "<p>"))) 0 0 0 1 Missing → ⊥
 told_is_not_missing h = cc (h.1)
 
-untold_is_missing : HasReason None 0 0 0 1 Missing
+untold_is_missing : HasReason untold 0 0 0 1 Missing
 untold_is_missing = (lit≤ tt, tt)
 
-a_miss_is_counted : HasReason None 0 1 0 0 Missing → ⊥
+a_miss_is_counted : HasReason untold 0 1 0 0 Missing → ⊥
 a_miss_is_counted h = omega (arith, h.0)
+
+-- a name that was answered is one of which something is told, or of which nothing will be; before it is, nothing speaks against any answer
+no_answer_is_unasked : Tells unasked None → ⊥
+no_answer_is_unasked h = h
+
+unasked_allows_all : Allows unasked (Some (codes "<p>"))
+unasked_allows_all = tt
+
+no_file_is_long : HasAtLeast (known None) 1 → ⊥
+no_file_is_long h = h
+
+-- a name may become told, and stays so; what is told does not change, and what is never told stays untold
+before_any : Content
+before_any name = unasked
+
+page_is : Option (List ℕ) → Content
+page_is file name = known file
+
+becomes_told : Stays before_any (page_is None)
+becomes_told name = inl refl
+
+stays_told : Stays (page_is None) (page_is None)
+stays_told name = inr refl
+
+does_not_change : Stays (page_is None) (page_is (Some [])) → ⊥
+does_not_change stays = elim (stays (codes "a")) [ inl none ↦ cc | inr kept ↦ cc ]
+
+is_not_forgotten : Stays (page_is None) before_any → ⊥
+is_not_forgotten stays = elim (stays (codes "a")) [ inl none ↦ cc | inr kept ↦ cc ]
 
 -- the first file of a name, whole names only, and the calls that are to fail
 first_of_a_name : file_named (codes "a") ((codes "ab", codes "1") ∷ (codes "a", codes "2") ∷ (codes "a", codes "3") ∷ []) ≡ Some (codes "2")

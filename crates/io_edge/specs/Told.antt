@@ -1,16 +1,35 @@
 -- What a source of files tells of a name.
---     None                 it does not tell
---     Some None            there is no such name
---     Some (Some bytes)    the file has these bytes
-use Rattle.std.specs.Prelude.{◌≡◌, ◌≤◌, ℕ, List, length, Option, None, Some, ⊤}
+use Rattle.std.specs.Prelude.{◌≡◌, ◌≤◌, ◌⊎◌, ℕ, List, length, Option, None, Some, ⊤}
 
--- where it is told, it is this
-abbrev pub Tells : Option (Option (List ℕ)) → Option (List ℕ) → Type 0
-Tells None file = ⊤
-Tells (Some told) file = told ≡ file
+-- nothing so far; nothing, in whatever call; or that there is no such file, or that the file has these bytes
+pub data Told : Type 0 where
+  unasked : Told
+  untold : Told
+  known : (file : Option (List ℕ)) → Told
+
+-- what a source tells of each name
+abbrev pub Content : Type 0
+Content = List ℕ → Told
+
+-- a name was answered by this: where it is told, it is this
+abbrev pub Tells : Told → Option (List ℕ) → Type 0
+Tells unasked file = ⊥
+Tells untold file = ⊤
+Tells (known told) file = told ≡ file
+
+-- nothing that is told speaks against this
+abbrev pub Allows : Told → Option (List ℕ) → Type 0
+Allows unasked file = ⊤
+Allows untold file = ⊤
+Allows (known told) file = told ≡ file
 
 -- where it is told, there is a file of this many bytes or more
-abbrev pub HasAtLeast : Option (Option (List ℕ)) → ℕ → Type 0
-HasAtLeast None len = ⊤
-HasAtLeast (Some None) len = ⊥
-HasAtLeast (Some (Some bytes)) len = len ≤ length bytes
+abbrev pub HasAtLeast : Told → ℕ → Type 0
+HasAtLeast unasked len = ⊤
+HasAtLeast untold len = ⊤
+HasAtLeast (known None) len = ⊥
+HasAtLeast (known (Some bytes)) len = len ≤ length bytes
+
+-- what was told of a name, and that nothing will be, stays so; of a name of which nothing was told so far anything may come
+abbrev pub Stays : Content → Content → Type 0
+Stays before now = (name : List ℕ) → (before name ≡ unasked) ⊎ (now name ≡ before name)

@@ -1,8 +1,9 @@
 // The files of the system.
-ghost use Rattle.std.specs.Prelude.{◌≤◌, length, ◌≡◌, None, IfSome, IfOk, IfErr};
+ghost use Rattle.std.specs.Prelude.{◌≤◌, length, ◌≡◌, IfSome, IfOk, IfErr};
 ghost use Rattle.io_edge.specs.Reasons.{IsOverLimit};
+ghost use Rattle.io_edge.specs.Told.{untold};
 
-use crate::{FileFault, Files};
+use crate::{FileFault, FileKind, Files};
 use std::alloc::Global;
 use std::io::{ErrorKind, Read};
 use std::{fs, io, rt};
@@ -62,25 +63,48 @@ fn read_bytes<R: Read>(alloc: Global, reader: &mut R) -> Result<Bytes, FileFault
     Err(FileFault::Failed)
 }
 
-fn read_file<R: rt::Files>(alloc: Global, rt: &R, name: &str) -> Result<Bytes, FileFault>
+/// Why the system does not give a file.
+fn fault_of(e: &io::Error) -> FileFault
+    ensures { IsOverLimit result }
+{
+    match e.kind() {
+        ErrorKind::NotFound => FileFault::Missing,
+        ErrorKind::OutOfMemory => FileFault::Memory,
+        _ => FileFault::Failed,
+    }
+}
+
+/// Of what is no regular file, and is asked for as one, the system is asked nothing but that.
+fn read_file<R: rt::Files>(
+    alloc: Global,
+    rt: &R,
+    name: &str,
+    kind: FileKind,
+) -> Result<Bytes, FileFault>
     ensures limit { IfOk result (λ bytes. length bytes ≤ FILE_LIMIT) }
     ensures long { IfErr result IsOverLimit }
 {
+    if kind == FileKind::Regular {
+        match fs::metadata(rt, name) {
+            Ok(metadata) => {
+                if !metadata.is_file() {
+                    return Err(FileFault::Failed);
+                }
+            }
+            Err(e) => return Err(fault_of(&e)),
+        }
+    }
     match fs::open(rt, name) {
         Ok(file) => {
             let mut file = file;
             read_bytes(alloc, &mut file)
         }
-        Err(e) => match e.kind() {
-            ErrorKind::NotFound => Err(FileFault::Missing),
-            ErrorKind::OutOfMemory => Err(FileFault::Memory),
-            _ => Err(FileFault::Failed),
-        },
+        Err(e) => Err(fault_of(&e)),
     }
 }
 
 impl<R: rt::Files> Files for DiskFiles<'_, R> {
-    ghost content = { λ _ _. None };
+    ghost content = { λ _ _. untold };
 
     ghost faults = { λ d. d.faults };
 
@@ -88,8 +112,8 @@ impl<R: rt::Files> Files for DiskFiles<'_, R> {
 
     ghost reads = { λ d. d.reads };
 
-    fn read(&mut self, alloc: Global, name: &str) -> Result<Bytes, FileFault> {
-        let answer = read_file(alloc, self.rt, name);
+    fn read(&mut self, alloc: Global, name: &str, kind: FileKind) -> Result<Bytes, FileFault> {
+        let answer = read_file(alloc, self.rt, name, kind);
         self.reads = self.reads.saturating_add(1);
         match &answer {
             Err(FileFault::Missing) => self.misses = self.misses.saturating_add(1),
@@ -160,26 +184,36 @@ mod tests {
     }
 
     #[test]
-    fn reads_a_real_file(rt: HostRuntime) -> Result<(), Fail> {
+    fn reads_real_files(rt: HostRuntime) -> Result<(), Fail> {
         let alloc = rt.alloc();
         let folder = env::temp_dir(&rt)?;
-        let path = folder.join(alloc, "io_edge_reads_a_real_file")?;
+        let path = folder.join(alloc, "io_edge_reads_real_files")?;
         fs::write(&rt, path.as_str(), "<html/>\n")?;
+        let below_a_file = path.join(alloc, "page")?;
+        let missing = folder.join(alloc, "io_edge_missing")?;
         let mut files = DiskFiles::new(&rt);
-        let bytes = files.read(alloc, path.as_str())?;
+        for (name, kind, wanted) in [
+            (path.as_str(), FileKind::Regular, Ok(8)),
+            (path.as_str(), FileKind::Any, Ok(8)),
+            (missing.as_str(), FileKind::Regular, Err(FileFault::Missing)),
+            (missing.as_str(), FileKind::Any, Err(FileFault::Missing)),
+            (folder.as_str(), FileKind::Regular, Err(FileFault::Failed)),
+            (folder.as_str(), FileKind::Any, Err(FileFault::Failed)),
+            (
+                below_a_file.as_str(),
+                FileKind::Regular,
+                Err(FileFault::Failed),
+            ),
+            ("/dev/null", FileKind::Any, Ok(0)),
+            ("/dev/null", FileKind::Regular, Err(FileFault::Failed)),
+        ] {
+            let answer = files.read(alloc, name, kind).map(|bytes| bytes.len());
+            assert_eq!(rt; answer, wanted, "{name}");
+        }
+        let bytes = files.read(alloc, path.as_str(), FileKind::Regular)?;
         assert_eq!(rt; bytes.as_slice(), b"<html/>\n".as_slice());
         fs::remove_file(&rt, path.as_str())?;
-        assert_eq!(rt; (files.faults, files.misses), (0, 0));
-        let missing = files.read(alloc, path.as_str());
-        assert!(rt; matches!(missing, Err(FileFault::Missing)));
-        let is_folder = files.read(alloc, folder.as_str());
-        assert!(rt; matches!(is_folder, Err(FileFault::Failed)));
-        let below_a_file = path.join(alloc, "page")?;
-        fs::write(&rt, path.as_str(), "<html/>\n")?;
-        let none_below = files.read(alloc, below_a_file.as_str());
-        fs::remove_file(&rt, path.as_str())?;
-        assert!(rt; matches!(none_below, Err(FileFault::Failed)));
-        assert_eq!(rt; (files.faults, files.misses, files.reads), (2, 1, 4));
+        assert_eq!(rt; (files.faults, files.misses, files.reads), (4, 2, 10));
         Ok(())
     }
 }

@@ -1,7 +1,7 @@
 // Files by name.
-ghost use Rattle.std.specs.Prelude.{◌≡◌, ◌≢◌, ◌≤◌, ℕ, List, length, Option, Some, Err, IfOk, IfErr};
+ghost use Rattle.std.specs.Prelude.{◌≡◌, ◌≢◌, ◌≤◌, ℕ, length, Some, Err, IfOk, IfErr};
 ghost use Rattle.io_edge.specs.Counts.{one_more};
-ghost use Rattle.io_edge.specs.Told.{Tells};
+ghost use Rattle.io_edge.specs.Told.{Content, Tells, Stays};
 ghost use Rattle.io_edge.specs.Reasons.{HasReason};
 ghost use Rattle.io_edge.specs.declared.files.FileFault.TheVariants.{Memory};
 
@@ -35,13 +35,22 @@ impl From<NoMemory> for FileFault {
     }
 }
 
+/// Which files are read: those that are no regular file may be read but where that is asked for.
+#[derive(Clone, Copy, Debug, PartialEq, Eq)]
+pub enum FileKind {
+    /// A regular file, or a link to one. All else has failed, and is not opened.
+    Regular,
+    /// A file of any kind, as a pipe or a device.
+    Any,
+}
+
 /// A source of files.
 ///
-/// No call changes what the source tells of a name. Its three counts never fall, and stay at the
-/// largest `u64` once they reach it.
+/// What a source tells of a name stays told. Its three counts never fall, and stay at the largest
+/// `u64` once they reach it.
 pub trait Files {
-    /// What the source tells of a name.
-    ghost content: { Self → List ℕ → Option (Option (List ℕ)) };
+    /// What the source tells of each name.
+    ghost content: { Self → Content };
 
     /// How often the source has failed.
     ghost faults: { Self → ℕ };
@@ -56,17 +65,18 @@ pub trait Files {
     ///
     /// # Errors
     ///
-    /// `Missing` where there is no such name, `Failed` where the source failed, `TooLong` where
-    /// there are more bytes, and `Memory`, of which no clause says when it comes.
-    fn read(&mut self, alloc: Global, name: &str) -> Result<Bytes, FileFault>
-        ensures content { IfOk result (λ bytes. Tells (content self.old name.now) (Some bytes)) }
+    /// `Missing` where there is no such name, `Failed` where the source failed, or the file is none
+    /// of the kind that is asked for, `TooLong` where there are more bytes, and `Memory`, of which
+    /// no clause says when it comes.
+    fn read(&mut self, alloc: Global, name: &str, kind: FileKind) -> Result<Bytes, FileFault>
+        ensures content { IfOk result (λ bytes. Tells (content self.new name.now) (Some bytes)) }
         ensures limit { IfOk result (λ bytes. length bytes ≤ FILE_LIMIT) }
-        ensures reason { IfErr result (λ fault. HasReason (content self.old name.now)
+        ensures reason { IfErr result (λ fault. HasReason (content self.new name.now)
             (faults self.old) (faults self.new) (misses self.old) (misses self.new) fault) }
 
-        // No call changes what is told, and no count falls. A count stays where the answer is not
-        // its own.
-        ensures same { content self.new ≡ content self.old }
+        // What is told stays told, and no count falls. A count stays where the answer is not its
+        // own.
+        ensures stays { Stays (content self.old) (content self.new) }
         ensures faults { faults self.old ≤ faults self.new }
         ensures misses { misses self.old ≤ misses self.new }
         ensures unfailed { result ≢ Err FileFault.Failed → faults self.new ≡ faults self.old }
@@ -85,7 +95,7 @@ impl<F: Files> Files for &mut F {
 
     ghost reads = { λ f. F.reads f.now };
 
-    fn read(&mut self, alloc: Global, name: &str) -> Result<Bytes, FileFault> {
-        Files::read(&mut **self, alloc, name)
+    fn read(&mut self, alloc: Global, name: &str, kind: FileKind) -> Result<Bytes, FileFault> {
+        Files::read(&mut **self, alloc, name, kind)
     }
 }

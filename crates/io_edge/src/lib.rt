@@ -1,6 +1,6 @@
 //! The edge to the outside: files read by name, and sinks of bytes, of the system or in memory.
-//! Promise: `Files::read` gives what is told of the name, or has a reason (`Tells` of specs/Told,
-//! `HasReason` of specs/Reasons); `Sink::put` appends the bytes, or a prefix of them where it fails
+//! Promise: what `Files::read` gives is what is told of the name from then on, or it has a reason
+//! (`Tells`, `Stays` of specs/Told, `HasReason` of specs/Reasons); `Sink::put` appends the bytes, or a prefix of them where it fails
 //! (`AppendsPrefix` of specs/Taken).
 //! Used by program_rules, program_files, include_expansion, program_loader and others.
 #![tactic(auto)]
@@ -13,7 +13,7 @@ mod sink;
 mod std_sink;
 
 pub use disk_files::DiskFiles;
-pub use files::{FileFault, Files};
+pub use files::{FileFault, FileKind, Files};
 pub use mem_files::MemFiles;
 pub use mem_sink::MemSink;
 pub use sink::{Sink, SinkFault};

@@ -3,11 +3,11 @@ ghost use Rattle.std.specs.Prelude.{◌≡◌, ◌≢◌, ◌≤◌, [], Err, le
 ghost use Rattle.std.specs.Option.{option_copied};
 ghost use Rattle.io_edge.specs.Counts.{one_more};
 ghost use Rattle.io_edge.specs.Reasons.{HasReason};
-ghost use Rattle.io_edge.specs.Told.{Tells};
+ghost use Rattle.io_edge.specs.Told.{Tells, known};
 ghost use Rattle.io_edge.specs.Planned.{file_named, is_planned, planned_answer};
 ghost use Rattle.io_edge.specs.MemFiles.{held_files, planned_faults, calls_made, fault_count, miss_count};
 
-use crate::{FileFault, Files};
+use crate::{FileFault, FileKind, Files};
 use std::alloc::Global;
 use text_base::Bytes;
 use text_base::limits::FILE_LIMIT;
@@ -77,7 +77,7 @@ fn file_of<'a>(files: &'a [(Bytes, Bytes)], name: &[u8]) -> Option<&'a Bytes>
 }
 
 impl Files for MemFiles {
-    ghost content = { λ m name. Some (file_named name (held_files m)) };
+    ghost content = { λ m name. known (file_named name (held_files m)) };
 
     ghost faults = { λ m. fault_count m };
 
@@ -85,12 +85,12 @@ impl Files for MemFiles {
 
     ghost reads = { λ m. calls_made m };
 
-    fn read(&mut self, alloc: Global, name: &str) -> Result<Bytes, FileFault>
+    fn read(&mut self, alloc: Global, name: &str, _: FileKind) -> Result<Bytes, FileFault>
         ensures content { IfOk result
-            (λ bytes. Tells (Some (file_named name.now (held_files self.old))) (Some bytes)) }
+            (λ bytes. Tells (known (file_named name.now (held_files self.new))) (Some bytes)) }
         ensures limit { IfOk result (λ bytes. length bytes ≤ FILE_LIMIT) }
         ensures reason { IfErr result
-            (λ fault. HasReason (Some (file_named name.now (held_files self.old)))
+            (λ fault. HasReason (known (file_named name.now (held_files self.new)))
             (fault_count self.old) (fault_count self.new) (miss_count self.old)
             (miss_count self.new) fault) }
         ensures same { held_files self.new ≡ held_files self.old }
@@ -155,7 +155,9 @@ mod tests {
             ("long.php", Err(FileFault::TooLong { len: 1_048_577 })),
             ("t.php", Ok(3)),
         ] {
-            let answer = files.read(alloc, name).map(|bytes| bytes.len());
+            let answer = files
+                .read(alloc, name, FileKind::Regular)
+                .map(|bytes| bytes.len());
             assert_eq!(rt; answer, wanted, "{name}");
         }
         assert_eq!(rt; (files.faults, files.misses, files.calls), (1, 1, 5));
