@@ -1,5 +1,5 @@
 -- The definitions of `specs/` on worked examples and on near misses.
-use Rattle.std.proofs.Common.{◌≡◌, [], ◌∷◌, None, Some, true, false, inl, inr, Ok, Err, ◌^◌, ◌-◌, refl, lit≤, codes, arith}
+use Rattle.std.proofs.Common.{◌≡◌, ℕ, List, [], ◌∷◌, Option, None, Some, true, false, inl, inr, Ok, Err, ◌^◌, ◌-◌, refl, lit≤, codes, arith}
 use Rattle.io_edge.specs.Counts.{one_more, Rises}
 use Rattle.io_edge.specs.Told.{Content, unasked, untold, known, Tells, Allows, HasAtLeast, Stays}
 use Rattle.io_edge.specs.Reasons.{HasReason}
@@ -48,10 +48,10 @@ no_file_is_long : HasAtLeast (known None) 1 → ⊥
 no_file_is_long h = h
 
 -- a name may become told, and stays so; what is told does not change, and what is never told stays untold
-before_any : Content
+abbrev before_any : Content
 before_any name = unasked
 
-page_is : Option (List ℕ) → Content
+abbrev page_is : Option (List ℕ) → Content
 page_is file name = known file
 
 becomes_told : Stays before_any (page_is None)
@@ -61,10 +61,10 @@ stays_told : Stays (page_is None) (page_is None)
 stays_told name = inr refl
 
 does_not_change : Stays (page_is None) (page_is (Some [])) → ⊥
-does_not_change stays = elim (stays (codes "a")) [ inl none ↦ cc | inr kept ↦ cc ]
+does_not_change kept = elim (kept (codes "a")) [ inl none ↦ cc | inr same ↦ cc ]
 
 is_not_forgotten : Stays (page_is None) before_any → ⊥
-is_not_forgotten stays = elim (stays (codes "a")) [ inl none ↦ cc | inr kept ↦ cc ]
+is_not_forgotten kept = elim (kept (codes "a")) [ inl none ↦ cc | inr same ↦ cc ]
 
 -- the first file of a name, whole names only, and the calls that are to fail
 first_of_a_name : file_named (codes "a") ((codes "ab", codes "1") ∷ (codes "a", codes "2") ∷ (codes "a", codes "3") ∷ []) ≡ Some (codes "2")

@@ -4,18 +4,18 @@ use Rattle.io_edge.specs.Told.{Told, Content, unasked, Tells, Stays}
 
 -- where nothing changes, what is told stays
 pub stays_same : (before now : Content) → now ≡ before → Stays before now
-pub stays_same before now same name = inr (subst (λ (c : Content). c name ≡ before name) (sym same) refl)
+stays_same before now same name = inr (subst (λ (c : Content). c name ≡ before name) (sym same) refl)
 
 -- what stays in each of two calls stays in both
 pub stays_on : (first second third : Content) → Stays first second → Stays second third → Stays first third
-pub stays_on first second third before now name = elim (before name) [
+stays_on first second third before now name = elim (before name) [
   | inl none ↦ inl none
   | inr same ↦ elim (now name) [ inl none ↦ inl (sym same ∙ none) | inr still ↦ inr (still ∙ same) ]
 ]
 
 -- a name that was answered goes on to be so
 pub tells_stay : (before now : Content) (name : List ℕ) (file : Option (List ℕ)) → Stays before now → Tells (before name) file → Tells (now name) file
-pub tells_stay before now name file stays told = elim (stays name) [
+tells_stay before now name file stays told = elim (stays name) [
   | inl none ↦ absurd (subst (λ (t : Told). Tells t file) none told)
   | inr same ↦ subst (λ (t : Told). Tells t file) (sym same) told
 ]
