@@ -9,6 +9,7 @@ mod disk_files;
 mod files;
 mod mem_files;
 mod mem_sink;
+mod names;
 mod sink;
 mod std_sink;
 
@@ -16,5 +17,8 @@ pub use disk_files::DiskFiles;
 pub use files::{FileFault, FileKind, Files};
 pub use mem_files::MemFiles;
 pub use mem_sink::MemSink;
+pub use names::{
+    folder_of, is_dotted, is_inside, is_outside, name_beside, normal_name, root_for,
+};
 pub use sink::{Sink, SinkFault};
 pub use std_sink::StdSink;
