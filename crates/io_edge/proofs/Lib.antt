@@ -1,3 +1,4 @@
 pub mod Grown
 pub mod Staying
+pub mod NameLemmas
 mod Examples

@@ -1,6 +1,6 @@
 -- Names of files (POSIX.1-2017, 4.13 "Pathname Resolution"): parts between slashes. A name is taken by its text alone, whatever links there
 -- are (own).
-use Rattle.std.specs.Prelude.{◌==◌, ◌-◌, ◌++◌, ◌&&◌, ◌||◌, ℕ, List, [], ◌∷◌, length, take, Bool, true, false, not, Option, None, Some, if◌then◌else◌, bytes_eq, nat_eq, slice_index}
+use Rattle.std.specs.Prelude.{◌==◌, ◌-◌, ◌++◌, ◌&&◌, ◌||◌, ℕ, List, [], ◌∷◌, length, take, Bool, false, not, Option, None, Some, if◌then◌else◌, bytes_eq, nat_eq, slice_index}
 use Rattle.std.specs.List.{filter, fold, join_with_byte, last_or, list_any, slice_split, starts_with}
 use Rattle.std.specs.Path.{slash, dot, root_dir, cur_dir, parent_dir, is_name}
 
@@ -37,9 +37,9 @@ normal_parts name = with_parts (is_absolute name) [] name
 
 -- the name of these parts; of none it is the root of the system, or the folder of the call
 abbrev pub name_with : Bool → List (List ℕ) → List ℕ
-name_with true parts = root_dir ++ join_with_byte slash parts
-name_with false [] = cur_dir
-name_with false (part ∷ parts) = join_with_byte slash (part ∷ parts)
+name_with absolute parts =
+    if absolute then root_dir ++ join_with_byte slash parts
+    else (if length parts == 0 then cur_dir else join_with_byte slash parts)
 
 -- the normal form of a name
 unfoldable pub normal : List ℕ → List ℕ
@@ -59,12 +59,12 @@ beside file name =
     else name_with (is_absolute file) (with_parts (is_absolute file) (all_but_last (normal_parts file)) name)
 
 -- the name begins with `./` or `../` (PHP manual, "include": then it is looked for in one folder only)
-unfoldable pub is_dotted : List ℕ → Bool
+abbrev pub is_dotted : List ℕ → Bool
 is_dotted name = starts_with nat_eq name (dot ∷ slash ∷ []) || starts_with nat_eq name (dot ∷ dot ∷ slash ∷ [])
 
 -- the parts of a name go on behind those of a root, by parts that are no `..`
 abbrev pub goes_on : List (List ℕ) → List (List ℕ) → Bool
-goes_on [] parts = not (list_any (bytes_eq parent_dir) parts)
+goes_on [] parts = not (list_any (λ part. bytes_eq part parent_dir) parts)
 goes_on (part ∷ root) [] = false
 goes_on (part ∷ root) (other ∷ parts) = bytes_eq part other && goes_on root parts
 
@@ -72,7 +72,8 @@ goes_on (part ∷ root) (other ∷ parts) = bytes_eq part other && goes_on root 
 unfoldable pub is_inside : List ℕ → List ℕ → Bool
 unfolding normal_parts
 is_inside root name =
-    beq (is_absolute root) (is_absolute name) && goes_on (normal_parts root) (normal_parts name)
+    (if is_absolute root then is_absolute name else not (is_absolute name))
+    && goes_on (normal_parts root) (normal_parts name)
 
 -- the root of a program or a definition: the folder that is given, or else that of the call where the file lies in it, or else that of the
 -- file

@@ -1,10 +1,10 @@
 // Names of files, by their text alone.
-ghost use Rattle.std.specs.Prelude.{◌≡◌, [], Bool, IfOk, List, ℕ, OnOk, bytes_eq, map, option_map, string_bytes};
-ghost use Rattle.std.specs.List.{filter, list_any, slice_split};
+ghost use Rattle.std.specs.Prelude.{◌≡◌, ◌==◌, IfOk, OnOk, bytes_eq, map, option_map, string_bytes};
+ghost use Rattle.std.specs.List.{filter, fold, list_any, slice_split};
 ghost use Rattle.std.specs.Path.{is_name, parent_dir, slash};
 ghost use Rattle.io_edge.specs.Names as names;
 
-use std::alloc::Global;
+use std::alloc::{AllocError, Global};
 use text_base::NoMemory;
 
 /// A name as its parts.
@@ -16,6 +16,7 @@ struct Parts<'a> {
 
 impl<'a> Parts<'a> {
     /// Those of a name, in its normal form.
+    #[tactic(auto, unfolding(crate::specs::Names::normal_parts))]
     fn of(alloc: Global, name: &'a str) -> Result<Parts<'a>, NoMemory>
         ensures { IfOk result (λ p. (p.is_absolute ≡ names.is_absolute name.now)
             × (map (λ part. part.now) p.parts.items ≡ names.normal_parts name.now)) }
@@ -35,10 +36,22 @@ impl<'a> Parts<'a> {
             (map (λ part. part.now) self.old.parts.items) name.now)) }
     {
         let pieces = pieces_of(alloc, name)?;
-        for piece in pieces.as_slice() {
-            if !piece.is_empty() && *piece != "." {
+        self.put_pieces(pieces.as_slice())
+    }
+
+    // Puts those of these pieces behind these that are parts.
+    fn put_pieces(&mut self, pieces: &[&'a str]) -> Result<(), NoMemory>
+        ensures { OnOk result ((self.new.is_absolute ≡ self.old.is_absolute)
+            × (map (λ part. part.now) self.new.parts.items
+            ≡ fold (names.with_part self.old.is_absolute) (map (λ part. part.now) self.old.parts.items)
+            (filter is_name (map (λ piece. piece.now) pieces.now)))) }
+    {
+        let mut rest = pieces;
+        while let [piece, others @ ..] = rest {
+            if is_part(*piece) {
                 self.put(*piece)?;
             }
+            rest = others;
         }
         Ok(())
     }
@@ -106,17 +119,24 @@ impl<'a> Parts<'a> {
 }
 
 // What stands between the slashes of a name.
-fn pieces_of<'a>(alloc: Global, name: &'a str) -> Result<Vec<&'a str>, NoMemory>
+fn pieces_of<'a>(alloc: Global, name: &'a str) -> Result<Vec<&'a str>, AllocError>
     ensures { IfOk result (λ pieces. map (λ piece. piece.now) pieces.items
         ≡ slice_split (λ b. b == slash) name.now) }
 {
-    let pieces = name.split('/').collect(alloc)?;
-    Ok(pieces)
+    name.split('/').collect(alloc)
+}
+
+// Whether such a piece is a part: it is neither empty nor `.`.
+fn is_part(piece: &str) -> bool
+    ensures { result ≡ is_name piece.now }
+{
+    !(piece.is_empty() || piece == ".")
 }
 
 /// The normal form of a name: empty parts and `.` are dropped, and `..` takes the part before it
 /// away. A `..` at the head of a relative name stays; behind the root of the system it is dropped.
 /// A name of no parts is `.`, the folder of the call, or `/`.
+#[tactic(auto, unfolding(crate::specs::Names::normal))]
 pub fn normal_name(alloc: Global, name: &str) -> Result<String, NoMemory>
     ensures { IfOk result (λ normal. string_bytes normal ≡ names.normal name.now) }
 {
@@ -124,6 +144,7 @@ pub fn normal_name(alloc: Global, name: &str) -> Result<String, NoMemory>
 }
 
 /// The folder in which a file stands, in its normal form.
+#[tactic(auto, unfolding(crate::specs::Names::folder_of))]
 pub fn folder_of(alloc: Global, file: &str) -> Result<String, NoMemory>
     ensures { IfOk result (λ folder. string_bytes folder ≡ names.folder_of file.now) }
 {
@@ -134,6 +155,7 @@ pub fn folder_of(alloc: Global, file: &str) -> Result<String, NoMemory>
 
 /// A name that a file names, taken from the folder of that file, in its normal form. An absolute
 /// name is taken as it is.
+#[tactic(auto, unfolding(crate::specs::Names::beside))]
 pub fn name_beside(alloc: Global, file: &str, name: &str) -> Result<String, NoMemory>
     ensures { IfOk result (λ beside. string_bytes beside ≡ names.beside file.now name.now) }
 {
@@ -154,13 +176,17 @@ pub fn is_dotted(name: &str) -> bool
 }
 
 /// Whether a name lies in a folder, or below it.
+#[tactic(auto, unfolding(crate::specs::Names::is_inside))]
 pub fn is_inside(alloc: Global, root: &str, name: &str) -> Result<bool, NoMemory>
     ensures { IfOk result (λ inside. inside ≡ names.is_inside root.now name.now) }
 {
     let root = Parts::of(alloc, root)?;
     let name = Parts::of(alloc, name)?;
-    Ok(root.is_absolute == name.is_absolute
-        && goes_on(root.parts.as_slice(), name.parts.as_slice()))
+    let goes_on = goes_on(root.parts.as_slice(), name.parts.as_slice());
+    if root.is_absolute {
+        return Ok(name.is_absolute && goes_on);
+    }
+    Ok(!name.is_absolute && goes_on)
 }
 
 // Whether the parts of a name go on behind those of a root, by parts that are no `..`.
@@ -187,21 +213,25 @@ fn goes_on(root: &[&str], name: &[&str]) -> bool
 
 // Whether a part is `..`.
 fn has_parent(parts: &[&str]) -> bool
-    ensures { result ≡ list_any (bytes_eq parent_dir) (map (λ part. part.now) parts.now) }
+    ensures { result ≡ list_any (λ part. bytes_eq part parent_dir)
+        (map (λ part. part.now) parts.now) }
 {
-    for part in parts {
+    let mut rest = parts;
+    while let [part, others @ ..] = rest {
         if *part == ".." {
             return true;
         }
+        rest = others;
     }
     false
 }
 
 /// The root: the folder that is given, or else that of the call where the file lies in it or below
 /// it, or else that of the file. In its normal form.
+#[tactic(auto, unfolding(crate::specs::Names::root_for))]
 pub fn root_for(alloc: Global, option: Option<&str>, file: &str) -> Result<String, NoMemory>
     ensures { IfOk result (λ root. string_bytes root
-        ≡ names.root_for (option_map (λ o. o.now) option) file.now) }
+        ≡ names.root_for (option_map (λ root. root.now) option.entry) file.now) }
 {
     if let Some(root) = option {
         return normal_name(alloc, root);
@@ -213,6 +243,7 @@ pub fn root_for(alloc: Global, option: Option<&str>, file: &str) -> Result<Strin
 }
 
 /// Whether a name that a file names leads out of a root, or is absolute.
+#[tactic(auto, unfolding(crate::specs::Names::is_outside))]
 pub fn is_outside(alloc: Global, root: &str, file: &str, name: &str) -> Result<bool, NoMemory>
     ensures { IfOk result (λ outside. outside ≡ names.is_outside root.now file.now name.now) }
 {
