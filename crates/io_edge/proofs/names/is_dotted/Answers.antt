@@ -14,5 +14,5 @@ pub returns-else-starts_with : goal.returns-else-starts_with
 returns-else-starts_with c =
     let here : c.starts_with.result ≡ starts_with nat_eq c.args.name.now (dot ∷ slash ∷ []) = starts_text c.starts_with.result (dot ∷ slash ∷ []) c.args.name.now c.starts_with.ensures.cases in
     let above : c.starts_with-else-starts_with.result ≡ starts_with nat_eq c.args.name.now (dot ∷ dot ∷ slash ∷ []) =
-        starts_text c.starts_with-else-starts_with.result (dot ∷ dot ∷ slash ∷ []) c.args.name.now c.starts_with-else-starts_with.ensures.cases in
+    starts_text c.starts_with-else-starts_with.result (dot ∷ dot ∷ slash ∷ []) c.args.name.now c.starts_with-else-starts_with.ensures.cases in
     or_second c.starts_with.result c.starts_with-else-starts_with.result (starts_with nat_eq c.args.name.now (dot ∷ slash ∷ [])) (starts_with nat_eq c.args.name.now (dot ∷ dot ∷ slash ∷ [])) here c.if-starts_with.false above
