@@ -29,8 +29,8 @@ fn status_of(rt: &HostRuntime) -> u8 {
         return NO_WORDS;
     };
     let mut files = DiskFiles::new(rt);
-    let mut out = StdSink::new(rt.stdout());
-    let mut err = StdSink::new(rt.stderr());
+    let mut out = StdSink::new(rt, rt.stdout());
+    let mut err = StdSink::new(rt, rt.stderr());
     phpsa(rt.alloc(), &words, &mut files, &mut out, &mut err).code()
 }
 
