@@ -17,6 +17,8 @@ pub use disk_files::DiskFiles;
 pub use files::{FileFault, FileKind, Files};
 pub use mem_files::MemFiles;
 pub use mem_sink::MemSink;
-pub use names::{folder_of, is_dotted, is_inside, is_outside, name_beside, normal_name, root_for};
+pub use names::{
+    folder_of, is_dotted, is_inside, is_outside, name_beside, normal_name, normal_names, root_for,
+};
 pub use sink::{Sink, SinkFault};
 pub use std_sink::StdSink;

@@ -1,5 +1,5 @@
 // Names of files, by their text alone.
-ghost use Rattle.std.specs.Prelude.{◌≡◌, ◌==◌, IfOk, OnOk, bytes_eq, map, option_map, string_bytes};
+ghost use Rattle.std.specs.Prelude.{◌≡◌, ◌==◌, ◌∷◌, [], false, ℕ, List, IfOk, OnOk, bytes_eq, map, option_map, string_bytes};
 ghost use Rattle.std.specs.List.{filter, fold, list_any, slice_split};
 ghost use Rattle.std.specs.Path.{is_name, parent_dir, slash};
 ghost use Rattle.io_edge.specs.Names as names;
@@ -253,3 +253,12 @@ pub fn is_outside(alloc: Global, root: &str, file: &str, name: &str) -> Result<b
     let beside = name_beside(alloc, file, name)?;
     Ok(!is_inside(alloc, root, beside.as_str())?)
 }
+
+/// Laws of names: the normal form of a name is its own normal form, and a name of one part that is
+/// no `..` is itself.
+pub fn normal_names()
+    ensures again { (name : List ℕ) → names.normal (names.normal name) ≡ names.normal name }
+    ensures plain { (name : List ℕ) → names.parts_of name ≡ name ∷ []
+        → bytes_eq name parent_dir ≡ false → names.is_absolute name ≡ false
+        → names.normal name ≡ name }
+{}
