@@ -65,28 +65,23 @@ fn command<'a>(
 fn program<'a>(alloc: Global) -> Result<Command<'a>, AllocError>
     ensures app { IfOk result (λ c. app_of c ≡ spec.phpsa) }
 {
-    let check = command(
-        alloc,
-        "check",
-        "FILE",
-        &["dtd", "limit", "root"],
-        &["nesting", "json"],
-    )?;
-    let run = command(alloc, "run", "FILE", &["request", "steps", "root"], &[])?;
-    let page = command(alloc, "page", "FILE", &["dtd", "root"], &[])?;
-    let grammar = command(alloc, "grammar", "FILE", &["root"], &[])?;
-    let make = command(alloc, "make", "N", &[], &["check"])?;
     Command::new(alloc, "phpsa")
         .no_binary_name(true)
         .disable_help_flag(true)
         .disable_help_subcommand(true)
         .disable_version_flag(true)
         .subcommand_required(true)
-        .subcommand(check)?
-        .subcommand(run)?
-        .subcommand(page)?
-        .subcommand(grammar)?
-        .subcommand(make)
+        .subcommand(command(
+            alloc,
+            "check",
+            "FILE",
+            &["dtd", "limit", "root"],
+            &["nesting", "json"],
+        )?)?
+        .subcommand(command(alloc, "run", "FILE", &["request", "steps", "root"], &[])?)?
+        .subcommand(command(alloc, "page", "FILE", &["dtd", "root"], &[])?)?
+        .subcommand(command(alloc, "grammar", "FILE", &["root"], &[])?)?
+        .subcommand(command(alloc, "make", "N", &[], &["check"])?)
 }
 
 /// What `clap` makes of the words, or why it does not take them.
