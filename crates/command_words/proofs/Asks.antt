@@ -1,9 +1,12 @@
 -- Words ask for one thing or for nothing.
-use Rattle.std.proofs.Common.{◌≡◌, ◌∙◌, ◌∷◌, List, Option, Some, None, sym, subst, inl, inr}
+use Rattle.std.proofs.Common.{◌≡◌, ◌∙◌, ◌∷◌, List, Option, Some, None, refl, sym, subst, inl, inr}
 use Rattle.std.proofs.lemmas.Option.{same_Some}
 use Rattle.clap.specs.Words.{Text}
 use Rattle.command_words.specs.Asked.{Asked, AreTaken, Asks, AsksNothing, asked, asked_first}
 use Rattle.command_words.specs.Canonical.{IsCanonical, canonical}
+use Rattle.command_words.specs.Views.{IsRefused}
+use Rattle.command_words.specs.declared.refusal.WordsRefusal.{WordsRefusal}
+use Rattle.command_words.specs.declared.refusal.WordsRefusal.TheVariants.{Usage, Memory}
 use Rattle.command_words.proofs.Asking.{canonical_taken, canonical_asked, canonical_first}
 
 pub asks_first : (words : List Text) (for : Asked) → asked_first words ≡ Some for → Asks words for
@@ -42,3 +45,12 @@ pub canonical_asks : (words : List Text) (for : Asked) → IsCanonical words for
 canonical_asks words for (canonical row parts last is fits same for_is) =
     subst (λ w. Asks w for) (sym same) (asks_so (row.word ∷ _) for (canonical_first row parts last is fits) (inl (canonical_taken row parts last is fits))
     (canonical_asked row parts last is fits ∙ for_is))
+
+-- what `clap` does not take
+pub refused_by : (words : List Text) (refusal : WordsRefusal) → asked_first words ≡ None → ((refusal ≡ Memory → ⊥) → AreTaken words → ⊥) → IsRefused words refusal
+refused_by words (Usage reason) first never = let no = never (λ same. cc) in (refused_words words first no, λ taken. absurd (no taken))
+refused_by words Memory first never = tt
+
+-- what it takes, where a number is none
+pub refused_number : (words : List Text) → asked_first words ≡ None → asked words ≡ None → IsRefused words (Usage None)
+refused_number words first none = (no_number words first none, λ taken. refl)

@@ -30,5 +30,5 @@ pub use message::{Message, Refusal};
 pub use other_refusals::{file_refusal, long_text_refusal, request_refusal, size_refusal};
 pub use programs::load_refusal;
 pub use runs::{deep_message, fault_message, spent_message};
-pub use shown::{NAME_LIMIT, shown_name};
+pub use shown::{NAME_LIMIT, shown_name, shown_names_are_printable};
 pub use words::{help_message, usage_refusal, version_message, words_refusal};

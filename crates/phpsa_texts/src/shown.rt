@@ -1,6 +1,6 @@
 //! Names as they are written.
 
-ghost use Rattle.std.specs.Prelude.{◌≡◌, ◌++◌, IfOk, OnOk};
+ghost use Rattle.std.specs.Prelude.{◌≡◌, ◌<◌, ◌++◌, ℕ, List, All, IfOk, OnOk};
 ghost use Rattle.phpsa_texts.specs.Shown as spec;
 
 use byte_stepping::decoded;
@@ -50,8 +50,7 @@ fn begins_plain(bytes: &[u8]) -> bool
 /// A name as it is written: bytes that are no UTF-8, characters that control or end lines, and
 /// backslashes stand as `\xHH`, and what is behind `NAME_LIMIT` bytes is left out.
 pub fn shown_name(alloc: Global, name: &[u8]) -> Result<Bytes, NoMemory>
-    ensures value { IfOk result (λ text. text ≡ spec.shown_name name.now) }
-    ensures printable { spec.IsPrintable (spec.shown_name name.now) }
+    ensures { IfOk result (λ text. text ≡ spec.shown_name name.now) }
 {
     let mut text = Bytes::new(alloc);
     let mut rest = front(name, NAME_LIMIT);
@@ -70,6 +69,13 @@ pub fn shown_name(alloc: Global, name: &[u8]) -> Result<Bytes, NoMemory>
     }
     Ok(text)
 }
+
+/// A law: what is written of a name is the UTF-8 of characters none of which controls or ends a
+/// line.
+pub fn shown_names_are_printable()
+    ensures { (name : List ℕ) → All (λ byte. byte < 256) name
+        → spec.IsPrintable (spec.shown_name name) }
+{}
 
 fn append_escaped(alloc: Global, text: &mut Bytes, byte: u8) -> Result<(), NoMemory>
     ensures { OnOk result (text.new ≡ text.old ++ spec.escaped byte) }
