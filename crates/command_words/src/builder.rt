@@ -1,16 +1,43 @@
 //! The commands and their arguments, built for `clap`.
 
 ghost use Rattle.std.specs.Prelude.{◌≡◌, ◌≢◌, [], IfOk, IfErr, false, true, fold, map, string_bytes};
-ghost use Rattle.clap.specs.Words.{FailsBy, HasMatchesOf, app_of, fault_of, kind_of, rule_of, subcommand_of, subcommand_rows_of, takes, with_rule};
+ghost use Rattle.clap.specs.Words.{FailsBy, HasMatchesOf, app_of, fault_of, kind_of, rule_of, subcommand_of, subcommand_rows_of, takes, with_rule, with_subcommand};
 ghost use Rattle.command_words.specs.declared.refusal.WordsRefusal.TheVariants.{Memory};
 ghost use Rattle.command_words.specs.Asked.{AreTaken};
 ghost use Rattle.command_words.specs.Program as spec;
 ghost use Rattle.command_words.specs.Program.{row_of};
+ghost use Rattle.command_words.specs.RowViews.{row_as, texts};
 
 use crate::refusal::WordsRefusal;
 use clap::error::ErrorKind;
 use clap::{Arg, ArgAction, ArgMatches, Command, Error};
 use std::alloc::{AllocError, Global};
+
+/// A command: its word, the name of its one argument without a name, its options and its flags.
+#[derive(Clone, Copy)]
+pub(crate) struct Row<'a, 'r> {
+    word: &'a str,
+    place: &'a str,
+    options: &'r [&'a str],
+    flags: &'r [&'a str],
+}
+
+fn row_with<'a, 'r>(
+    word: &'a str,
+    place: &'a str,
+    options: &'r [&'a str],
+    flags: &'r [&'a str],
+) -> Row<'a, 'r>
+    ensures { row_as result ≡ row_of word.entry.now place.entry.now (texts options.entry.now)
+        (texts flags.entry.now) }
+{
+    Row {
+        word,
+        place,
+        options,
+        flags,
+    }
+}
 
 fn place<'a>(alloc: Global, name: &'a str) -> Arg<'a>
     ensures rule { rule_of result ≡ spec.place name.entry.now }
@@ -35,7 +62,7 @@ fn with_named<'a>(
 ) -> Result<Command<'a>, AllocError>
     ensures app { IfOk result
         (λ c. app_of c
-        ≡ fold with_rule (app_of command.entry) (map (λ name. spec.named action name.now) names.now)) }
+        ≡ fold with_rule (app_of command.entry) (map (spec.named action) (texts names.now))) }
 {
     let mut command = command;
     for name in names {
@@ -45,43 +72,52 @@ fn with_named<'a>(
 }
 
 /// A command by its word, its place, its options and its flags.
-fn command<'a>(
+fn command<'a>(alloc: Global, row: Row<'a, '_>) -> Result<Command<'a>, AllocError>
+    ensures app { IfOk result (λ c. app_of c ≡ spec.command (row_as row.entry)) }
+{
+    let bare = Command::new(alloc, row.word).arg(place(alloc, row.place))?;
+    let some = with_named(alloc, bare, ArgAction::Set, row.options)?;
+    with_named(alloc, some, ArgAction::SetTrue, row.flags)
+}
+
+/// The program with one command more.
+fn with_command<'a>(
     alloc: Global,
-    word: &'a str,
-    at: &'a str,
-    options: &[&'a str],
-    flags: &[&'a str],
+    program: Command<'a>,
+    row: Row<'a, '_>,
 ) -> Result<Command<'a>, AllocError>
     ensures app { IfOk result
-        (λ c. app_of c ≡ spec.command (row_of word.entry.now at.entry.now
-        (map (λ name. name.now) options.now) (map (λ name. name.now) flags.now))) }
+        (λ c. app_of c ≡ with_subcommand (app_of program.entry) (spec.command (row_as row.entry)).top) }
 {
-    let bare = Command::new(alloc, word).arg(place(alloc, at))?;
-    let some = with_named(alloc, bare, ArgAction::Set, options)?;
-    with_named(alloc, some, ArgAction::SetTrue, flags)
+    let command = command(alloc, row)?;
+    program.subcommand(command)
 }
 
 /// The program with its commands.
 fn program<'a>(alloc: Global) -> Result<Command<'a>, AllocError>
     ensures app { IfOk result (λ c. app_of c ≡ spec.phpsa) }
 {
-    Command::new(alloc, "phpsa")
+    let program = Command::new(alloc, "phpsa")
         .no_binary_name(true)
         .disable_help_flag(true)
         .disable_help_subcommand(true)
         .disable_version_flag(true)
-        .subcommand_required(true)
-        .subcommand(command(
-            alloc,
-            "check",
-            "FILE",
-            &["dtd", "limit", "root"],
-            &["nesting", "json"],
-        )?)?
-        .subcommand(command(alloc, "run", "FILE", &["request", "steps", "root"], &[])?)?
-        .subcommand(command(alloc, "page", "FILE", &["dtd", "root"], &[])?)?
-        .subcommand(command(alloc, "grammar", "FILE", &["root"], &[])?)?
-        .subcommand(command(alloc, "make", "N", &[], &["check"])?)
+        .subcommand_required(true);
+    let check = row_with(
+        "check",
+        "FILE",
+        &["dtd", "limit", "root"],
+        &["nesting", "json"],
+    );
+    let run = row_with("run", "FILE", &["request", "steps", "root"], &[]);
+    let page = row_with("page", "FILE", &["dtd", "root"], &[]);
+    let grammar = row_with("grammar", "FILE", &["root"], &[]);
+    let make = row_with("make", "N", &[], &["check"]);
+    let program = with_command(alloc, program, check)?;
+    let program = with_command(alloc, program, run)?;
+    let program = with_command(alloc, program, page)?;
+    let program = with_command(alloc, program, grammar)?;
+    with_command(alloc, program, make)
 }
 
 /// What `clap` makes of the words, or why it does not take them.

@@ -2,7 +2,7 @@
 //! JSON: one function for each text.
 //! Promise: each gives a `Message` of exactly its status and text (`Says` of specs/Texts) or a
 //! `Refusal` that tells them (`IsTold`); `yes_json` and its like give those of specs/JsonAnswers.
-//! Used by: phpsa_tasks, phpsa_main, check_rows.
+//! Used by: phpsa_tasks, phpsa_main, phpsa, check_rows.
 #![tactic(auto)]
 
 mod answers;
