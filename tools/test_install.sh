@@ -134,6 +134,13 @@ answers() {
   ends 0 "$phpsa" check small.php --dtd small.dtd
   ends 6 "$phpsa" check none.php
   ends 9 "$phpsa"
+  writes 'requires a subcommand' err
+  ends 0 "$phpsa" check --help
+  writes 'phpsa check FILE' out
+  ends 0 "$phpsa" --version
+  writes 'phpsa 0.1.0' out
+  ends 16 "$phpsa" check $'\xff.php'
+  writes 'phpsa: Words 2' err
 }
 installed=$room/root/usr/bin/phpsa
 answers "$installed"
@@ -212,10 +219,10 @@ completes() {
 }
 cd "$site/list" || exit 1
 completes check phpsa ch
-completes '--dtd --limit --nesting --json' phpsa check --
+completes '--dtd --limit --nesting --json --root --help' phpsa check --
 completes 'strict mini guests.php mended.php' phpsa check --dtd =
 completes guests.php phpsa run gu
-completes --check phpsa make --
+completes '--check --help' phpsa make --
 if command -v fish >/dev/null 2>&1; then
   said=$(HOME=$room fish --no-config -c ". $top/tools/completions/phpsa.fish; complete -C 'phpsa run --s'" 2>&1 | cut -f 1)
   [ "$said" = --steps ] || wrong "fish completes to '$said'"

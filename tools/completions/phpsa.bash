@@ -11,13 +11,18 @@ _phpsa() {
     before=${COMP_WORDS[at - 2]}
   fi
   if ((at == 1)); then
-    mapfile -t COMPREPLY < <(compgen -W 'check page make run grammar' -- "$word")
+    mapfile -t COMPREPLY < <(compgen -W 'check run page grammar make help --help --version' -- "$word")
     return
   fi
   case $before in
     --limit | --steps) return ;;
     --dtd)
       mapfile -t COMPREPLY < <({ compgen -W 'strict mini' -- "$word"; compgen -f -- "$word"; })
+      compopt -o filenames 2>/dev/null
+      return
+      ;;
+    --root)
+      mapfile -t COMPREPLY < <(compgen -d -- "$word")
       compopt -o filenames 2>/dev/null
       return
       ;;
@@ -28,15 +33,16 @@ _phpsa() {
       ;;
   esac
   case $command in
-    check) list='--dtd --limit --nesting --json' ;;
-    page) list='--dtd' ;;
-    make) list='--check' ;;
-    run) list='--request --steps' ;;
+    check) list='--dtd --limit --nesting --json --root --help' ;;
+    run) list='--request --steps --root --help' ;;
+    page) list='--dtd --root --help' ;;
+    grammar) list='--root --help' ;;
+    make) list='--check --help' ;;
     *) list= ;;
   esac
   if [[ $word == -* ]]; then
     mapfile -t COMPREPLY < <(compgen -W "$list" -- "$word")
-  elif [[ $command != make ]]; then
+  elif [[ $command == check || $command == run || $command == page || $command == grammar ]]; then
     mapfile -t COMPREPLY < <(compgen -f -- "$word")
     compopt -o filenames 2>/dev/null
   fi

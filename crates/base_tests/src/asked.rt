@@ -6,16 +6,17 @@ use std::test::Fail;
 const CHECK: CommandLine<'static> = CommandLine::Check {
     file: "t.php",
     definition: "strict",
+    root: None,
     limit: 10_000,
     by_nesting: false,
     as_json: false,
 };
 
-/// Whether the words, one behind each space, ask for this.
+/// Whether the words, one behind each space, ask for this, or for nothing with this reason.
 fn asks_for(
     alloc: Global,
     text: &str,
-    wanted: Result<CommandLine<'_>, WordsRefusal>,
+    wanted: Result<CommandLine<'_>, Option<&str>>,
 ) -> Result<bool, std::alloc::AllocError> {
     let mut words = Vec::new(alloc);
     for word in text.split(' ') {
@@ -23,7 +24,14 @@ fn asks_for(
             words.push(String::from_str(alloc, word)?)?;
         }
     }
-    Ok(read_words(alloc, words.as_slice()) == wanted)
+    Ok(match read_words(alloc, words.as_slice()) {
+        Ok(line) => wanted == Ok(line),
+        Err(WordsRefusal::Usage { reason: None }) => wanted == Err(None),
+        Err(WordsRefusal::Usage {
+            reason: Some(reason),
+        }) => wanted == Err(Some(reason.as_str())),
+        Err(WordsRefusal::Memory) => false,
+    })
 }
 
 #[test]
@@ -32,12 +40,14 @@ fn words(rt: HostRuntime) -> Result<(), Fail> {
     let all = CommandLine::Check {
         file: "t.php",
         definition: "d.dtd",
+        root: Some("site"),
         limit: 9,
         by_nesting: true,
         as_json: true,
     };
     let run = CommandLine::Run {
-        file: "t.php",
+        file: "-",
+        root: None,
         request: Some("r.json"),
         steps: 10_000_000,
     };
@@ -45,22 +55,29 @@ fn words(rt: HostRuntime) -> Result<(), Fail> {
         ("check t.php", Ok(CHECK)),
         ("check -- t.php", Ok(CHECK)),
         (
-            "check t.php --dtd d.dtd --limit 9 --nesting --json",
+            "check t.php --dtd d.dtd --limit 9 --nesting --json --root site",
             Ok(all),
         ),
         (
-            "check --json --limit=9 --nesting t.php --dtd=d.dtd",
+            "check --json --limit=9 --root=site --nesting t.php --dtd=d.dtd",
             Ok(all),
         ),
-        ("run --request r.json t.php", Ok(run)),
+        ("run --request r.json -", Ok(run)),
         (
             "page p.xhtml --dtd mini",
             Ok(CommandLine::Page {
                 file: "p.xhtml",
                 definition: "mini",
+                root: None,
             }),
         ),
-        ("grammar t.php", Ok(CommandLine::Grammar { file: "t.php" })),
+        (
+            "grammar --root . -- -t.php",
+            Ok(CommandLine::Grammar {
+                file: "-t.php",
+                root: Some("."),
+            }),
+        ),
         (
             "make 200 --check",
             Ok(CommandLine::Make {
@@ -75,19 +92,45 @@ fn words(rt: HostRuntime) -> Result<(), Fail> {
                 is_checked: false,
             }),
         ),
-        ("", Err(WordsRefusal::Usage)),
-        ("check", Err(WordsRefusal::Usage)),
-        ("check t.php --limit x", Err(WordsRefusal::Usage)),
-        ("check t.php --limit 0", Err(WordsRefusal::Usage)),
-        ("check t.php --limit 123456789", Err(WordsRefusal::Usage)),
-        ("check t.php u.php", Err(WordsRefusal::Usage)),
-        ("check t.php --json --json", Err(WordsRefusal::Usage)),
-        ("check t.php --dtd", Err(WordsRefusal::Usage)),
-        ("check t.php --steps 5", Err(WordsRefusal::Usage)),
-        ("help", Err(WordsRefusal::Usage)),
-        ("--version", Err(WordsRefusal::Usage)),
-        ("make 0", Err(WordsRefusal::Usage)),
-        ("make -1", Err(WordsRefusal::Usage)),
+        ("help", Ok(CommandLine::Help)),
+        ("help check", Ok(CommandLine::Help)),
+        ("-h", Ok(CommandLine::Help)),
+        ("check --limit x --help", Ok(CommandLine::Help)),
+        ("--version", Ok(CommandLine::Version)),
+        (
+            "",
+            Err(Some("'phpsa' requires a subcommand but one was not provided")),
+        ),
+        (
+            "check",
+            Err(Some("the following required arguments were not provided:")),
+        ),
+        ("chekc t.php", Err(Some("unrecognized subcommand 'chekc'"))),
+        ("check t.php --limit x", Err(None)),
+        ("check t.php --limit 0", Err(None)),
+        ("check t.php --limit 123456789", Err(None)),
+        (
+            "check t.php u.php",
+            Err(Some("unexpected argument 'u.php' found")),
+        ),
+        (
+            "check t.php --json --json",
+            Err(Some("the argument '--json' cannot be used multiple times")),
+        ),
+        (
+            "check t.php --dtd",
+            Err(Some("a value is required for '--dtd <dtd>' but none was supplied")),
+        ),
+        (
+            "check t.php --steps 5",
+            Err(Some("unexpected argument '--steps' found")),
+        ),
+        (
+            "check t.php --version",
+            Err(Some("unexpected argument '--version' found")),
+        ),
+        ("make 0", Err(None)),
+        ("make -1", Err(Some("unexpected argument '-1' found"))),
     ];
     for (text, wanted) in cases {
         assert!(rt; asks_for(alloc, text, wanted)?, "{text}");

@@ -1,20 +1,42 @@
--- What canonical words ask for.
-use Rattle.std.proofs.Common.{◌≡◌, ◌∙◌, ap, List, ◌∷◌, Option, Some, refl, inl, inr, codes}
+-- Canonical words are taken, and ask for what their parts say.
+use Rattle.std.proofs.Common.{◌≡◌, ◌∙◌, ap, true, List, [], ◌∷◌, Option, Some, None, refl}
 use Rattle.std.specs.Prelude.{fold, option_and_then}
-use Rattle.clap.specs.Walk.{Row, Rule, Text, with_default}
-use Rattle.clap.specs.Words.{subcommand_of}
-use Rattle.clap.proofs.OnLiterals.{clap_on_literals}
+use Rattle.clap.specs.Walk.{Row, Rule, Text, nothing_held, stop_after, with_default}
+use Rattle.clap.specs.Simple.{App, built, entered, names_of, subcommand_of, argument_words, is_simple}
+use Rattle.clap.specs.Takes.{takes, built_takes}
 use Rattle.command_words.specs.Program as program
-use Rattle.command_words.specs.Asked.{Values, asked, asked_by, asked_check, asked_run, asked_page, asked_grammar, asked_make, values_of, is_given}
-use Rattle.command_words.specs.Canonical.{Part, AreCanonical, all_words, given, check_names, run_names, page_names, grammar_names, make_names}
+use Rattle.command_words.specs.Program.{Row as Command, commands}
+use Rattle.command_words.specs.Asked.{asked, asked_by, asked_first, values_of, is_given}
+use Rattle.command_words.specs.Canonical.{Part, AreCanonical, IsAmong, all_words, given}
 use Rattle.command_words.proofs.Rows.{below, parts_rows}
-use Rattle.command_words.proofs.Steps.{first_finally, LeavesAlone}
+use Rattle.command_words.proofs.Steps.{enters_takes, level, level_rows, stops_at, parts_ask_no_help, first_finally, LeavesAlone}
 use Rattle.command_words.proofs.Given.{given_rows, flags_finally, GiveNone}
-use Rattle.command_words.proofs.Commands.{check_rows, run_rows, page_rows, grammar_rows, make_rows}
+use Rattle.command_words.proofs.Commands.{Known, known, phpsa_simple}
+
+phpsa_words : (ws : List Text) → argument_words program.phpsa ws ≡ ws
+unfolding program.phpsa
+phpsa_words ws = refl
+
+takes_by : (a : App) (words : List Text) → is_simple a ≡ true → argument_words a words ≡ words → built_takes (built a) nothing_held words ≡ true → takes a words ≡ true
+takes_by a words simple same e = rw (simple, same) e
+
+pub canonical_taken : (row : Command) (ps : List Part) (last : Option Text) → IsAmong row commands → AreCanonical row ps last → takes program.phpsa (row.word ∷ all_words ps last) ≡ true
+canonical_taken row ps last is fits =
+    let k = known row is in
+    takes_by program.phpsa (row.word ∷ all_words ps last) phpsa_simple (phpsa_words (row.word ∷ all_words ps last))
+    (enters_takes (built program.phpsa) row.word (below (program.command row)) k.enters (all_words ps last) (level (below (program.command row)) row k.table ps last fits))
 
 -- the rows of the words, with the defaults
 abbrev all_rows : Text → List Part → Option Text → List Rule → List Row
 all_rows at ps last rules = fold with_default (parts_rows at last ps) rules
+
+rows_are : (row : Command) → Known row → (ps : List Part) (last : Option Text) → AreCanonical row ps last
+    → subcommand_of program.phpsa (row.word ∷ all_words ps last) ≡ Some (row.word, all_rows row.place ps last (below (program.command row)).rules)
+rows_are row k ps last fits =
+    ap (λ (ws : List Text). entered (built program.phpsa) (stop_after (built program.phpsa).top.rules (names_of (built program.phpsa)) ws)) (phpsa_words (row.word ∷ all_words ps last))
+    ∙ ap (entered (built program.phpsa)) (stops_at (built program.phpsa) row.word (below (program.command row)) k.enters (all_words ps last))
+    ∙ k.entered_is (all_words ps last)
+    ∙ ap (λ (rows : List Row). Some (row.word, rows)) (level_rows (below (program.command row)) row k.table ps last fits)
 
 value_is : (at : Text) (ps : List Part) (last : Option Text) (rules : List Rule) (n : Text) → LeavesAlone n rules → values_of (all_rows at ps last rules) n ≡ given at ps last n
 value_is at ps last rules n alone = first_finally n rules (parts_rows at last ps) alone ∙ given_rows at last n ps
@@ -23,83 +45,22 @@ flag_is : (at : Text) (ps : List Part) (last : Option Text) (rules : List Rule) 
     → is_given (values_of (all_rows at ps last rules) n) ≡ is_given (given at ps last n)
 flag_is at ps last rules n none = flags_finally n rules (parts_rows at last ps) none ∙ ap is_given (given_rows at last n ps)
 
-asked_at : (name : Text) (words : List Text) (rows : List Row) → subcommand_of program.phpsa words ≡ Some (name, rows) → asked words ≡ asked_by name (values_of rows)
-asked_at name words rows e = ap (option_and_then (λ found. asked_by found.0 (values_of found.1))) e
+asked_at : (word : Text) (words : List Text) (rows : List Row) → subcommand_of program.phpsa words ≡ Some (word, rows) → asked words ≡ asked_by word (values_of rows)
+asked_at word words rows e = ap (option_and_then (λ found. asked_by found.0 (values_of found.1))) e
 
--- `check`
+pub canonical_asked : (row : Command) (ps : List Part) (last : Option Text) → IsAmong row commands → AreCanonical row ps last
+    → asked (row.word ∷ all_words ps last) ≡ asked_by row.word (given row.place ps last)
+canonical_asked row ps last is fits =
+    let k = known row is in
+    let rules = (below (program.command row)).rules in
+    asked_at row.word (row.word ∷ all_words ps last) (all_rows row.place ps last rules) (rows_are row k ps last fits)
+    ∙ k.alike (values_of (all_rows row.place ps last rules)) (given row.place ps last) (record {
+      texts = λ n e. value_is row.place ps last rules n (k.alone n e);
+      flags = λ n e. flag_is row.place ps last rules n k.none;
+    })
 
-check_alike : (v w : Values) → v (codes "FILE") ≡ w (codes "FILE") → v (codes "dtd") ≡ w (codes "dtd") → v (codes "limit") ≡ w (codes "limit") → is_given (v (codes "nesting")) ≡ is_given (w (codes "nesting")) → is_given (v (codes "json")) ≡ is_given (w (codes "json")) → asked_check v ≡ asked_check w
-check_alike v w e0 e1 e2 e3 e4 = rw (e0, e1, e2, e3, e4) refl
-
-pub check_asks : (ps : List Part) (last : Option Text) → AreCanonical check_names ps last
-    → asked (codes "check" ∷ all_words ps last) ≡ asked_check (given (codes "FILE") ps last)
-unfolding clap_on_literals
-check_asks ps last fits =
-    let rules = (below program.check).rules in
-    asked_at (codes "check") (codes "check" ∷ all_words ps last) (all_rows (codes "FILE") ps last rules) (check_rows ps last fits)
-    ∙ check_alike (values_of (all_rows (codes "FILE") ps last rules)) (given (codes "FILE") ps last)
-    (value_is (codes "FILE") ps last rules (codes "FILE") (inr refl, (inr refl, (inr refl, (inl refl, (inl refl, tt))))))
-    (value_is (codes "FILE") ps last rules (codes "dtd") (inr refl, (inr refl, (inr refl, (inl refl, (inl refl, tt))))))
-    (value_is (codes "FILE") ps last rules (codes "limit") (inr refl, (inr refl, (inr refl, (inl refl, (inl refl, tt))))))
-    (flag_is (codes "FILE") ps last rules (codes "nesting") (refl, (refl, (refl, (refl, (refl, tt))))))
-    (flag_is (codes "FILE") ps last rules (codes "json") (refl, (refl, (refl, (refl, (refl, tt))))))
-
--- `run`
-
-run_alike : (v w : Values) → v (codes "FILE") ≡ w (codes "FILE") → v (codes "request") ≡ w (codes "request") → v (codes "steps") ≡ w (codes "steps") → asked_run v ≡ asked_run w
-run_alike v w e0 e1 e2 = rw (e0, e1, e2) refl
-
-pub run_asks : (ps : List Part) (last : Option Text) → AreCanonical run_names ps last
-    → asked (codes "run" ∷ all_words ps last) ≡ asked_run (given (codes "FILE") ps last)
-unfolding clap_on_literals
-run_asks ps last fits =
-    let rules = (below program.run).rules in
-    asked_at (codes "run") (codes "run" ∷ all_words ps last) (all_rows (codes "FILE") ps last rules) (run_rows ps last fits)
-    ∙ run_alike (values_of (all_rows (codes "FILE") ps last rules)) (given (codes "FILE") ps last)
-    (value_is (codes "FILE") ps last rules (codes "FILE") (inr refl, (inr refl, (inr refl, tt))))
-    (value_is (codes "FILE") ps last rules (codes "request") (inr refl, (inr refl, (inr refl, tt))))
-    (value_is (codes "FILE") ps last rules (codes "steps") (inr refl, (inr refl, (inr refl, tt))))
-
--- `page`
-
-page_alike : (v w : Values) → v (codes "FILE") ≡ w (codes "FILE") → v (codes "dtd") ≡ w (codes "dtd") → asked_page v ≡ asked_page w
-page_alike v w e0 e1 = rw (e0, e1) refl
-
-pub page_asks : (ps : List Part) (last : Option Text) → AreCanonical page_names ps last
-    → asked (codes "page" ∷ all_words ps last) ≡ asked_page (given (codes "FILE") ps last)
-unfolding clap_on_literals
-page_asks ps last fits =
-    let rules = (below program.page).rules in
-    asked_at (codes "page") (codes "page" ∷ all_words ps last) (all_rows (codes "FILE") ps last rules) (page_rows ps last fits)
-    ∙ page_alike (values_of (all_rows (codes "FILE") ps last rules)) (given (codes "FILE") ps last)
-    (value_is (codes "FILE") ps last rules (codes "FILE") (inr refl, (inr refl, tt)))
-    (value_is (codes "FILE") ps last rules (codes "dtd") (inr refl, (inr refl, tt)))
-
--- `grammar`
-
-grammar_alike : (v w : Values) → v (codes "FILE") ≡ w (codes "FILE") → asked_grammar v ≡ asked_grammar w
-grammar_alike v w e0 = rw (e0) refl
-
-pub grammar_asks : (ps : List Part) (last : Option Text) → AreCanonical grammar_names ps last
-    → asked (codes "grammar" ∷ all_words ps last) ≡ asked_grammar (given (codes "FILE") ps last)
-unfolding clap_on_literals
-grammar_asks ps last fits =
-    let rules = (below program.grammar).rules in
-    asked_at (codes "grammar") (codes "grammar" ∷ all_words ps last) (all_rows (codes "FILE") ps last rules) (grammar_rows ps last fits)
-    ∙ grammar_alike (values_of (all_rows (codes "FILE") ps last rules)) (given (codes "FILE") ps last)
-    (value_is (codes "FILE") ps last rules (codes "FILE") (inr refl, tt))
-
--- `make`
-
-make_alike : (v w : Values) → v (codes "N") ≡ w (codes "N") → is_given (v (codes "check")) ≡ is_given (w (codes "check")) → asked_make v ≡ asked_make w
-make_alike v w e0 e1 = rw (e0, e1) refl
-
-pub make_asks : (ps : List Part) (last : Option Text) → AreCanonical make_names ps last
-    → asked (codes "make" ∷ all_words ps last) ≡ asked_make (given (codes "N") ps last)
-unfolding clap_on_literals
-make_asks ps last fits =
-    let rules = (below program.make).rules in
-    asked_at (codes "make") (codes "make" ∷ all_words ps last) (all_rows (codes "N") ps last rules) (make_rows ps last fits)
-    ∙ make_alike (values_of (all_rows (codes "N") ps last rules)) (given (codes "N") ps last)
-    (value_is (codes "N") ps last rules (codes "N") (inr refl, (inl refl, tt)))
-    (flag_is (codes "N") ps last rules (codes "check") (refl, (refl, tt)))
+pub canonical_first : (row : Command) (ps : List Part) (last : Option Text) → IsAmong row commands → AreCanonical row ps last → asked_first (row.word ∷ all_words ps last) ≡ None
+canonical_first row ps last is fits =
+    let k = known row is in
+    let none = parts_ask_no_help (below (program.command row)) row k.table ps last [] fits in
+    k.first (all_words ps last) ∙ (rw none refl)

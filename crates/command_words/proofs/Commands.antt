@@ -1,79 +1,75 @@
--- The table of each command, computed, and what canonical words of it ask for.
-use Rattle.std.proofs.Common.{◌≡◌, ◌∙◌, ◌++◌, ap, true, false, List, [], ◌∷◌, Option, Some, refl, sym, subst, inl, inr, codes}
-use Rattle.std.specs.Prelude.{fold}
-use Rattle.clap.specs.Walk.{Row, Text, nothing_held, rows_after, stop_after, with_default}
-use Rattle.clap.specs.Simple.{App, Shape, built, entered, names_of, subcommand_of, argument_words, is_simple}
-use Rattle.clap.specs.Takes.{takes, is_given, is_valid, built_takes, default_passes}
-use Rattle.std.specs.List.{list_all}
-use Rattle.clap.specs.Lexer.{long_of}
+-- The table of each command, computed.
+use Rattle.std.proofs.Common.{◌≡◌, ◌++◌, true, false, List, [], ◌∷◌, Some, None, refl, sym, subst, inl, inr, codes}
+use Rattle.std.specs.Prelude.{if◌then◌else◌}
 use Rattle.std.specs.Str.{bytes_eq}
+use Rattle.clap.specs.Walk.{Text, rows_after}
+use Rattle.clap.specs.Simple.{built, entered, is_simple}
+use Rattle.clap.specs.Lexer.{long_of}
 use Rattle.clap.proofs.OnLiterals.{clap_on_literals}
 use Rattle.command_words.specs.Program as program
-use Rattle.command_words.specs.Canonical.{Part, Names, AreCanonical, IsAmong, all_words, check_names, run_names, page_names, grammar_names, make_names}
-use Rattle.command_words.proofs.Rows.{below, parts_rows}
-use Rattle.command_words.proofs.Steps.{Table, Enters, level, enters_takes, level_rows, stops_at}
+use Rattle.command_words.specs.Program.{Row as Command, commands}
+use Rattle.command_words.specs.Asked.{Asked, Values, asked_by, asked_check, asked_run, asked_page, asked_grammar, asked_make, asked_first, has_help, help, is_given, is_help}
+use Rattle.command_words.specs.Canonical.{IsAmong}
+use Rattle.command_words.proofs.Rows.{below}
+use Rattle.command_words.proofs.Steps.{Table, Enters, LeavesAlone}
+use Rattle.command_words.proofs.Given.{GiveNone}
 
-by_none : (P : Text → Type 0) (n : Text) → IsAmong n [] → P n
-by_none P n e = absurd e
+-- it holds of each
+abbrev pub Each : {X : Type 0} → (X → Type 0) → List X → Type 0
+Each P [] = Unit {0}
+Each P (x ∷ xs) = P x × Each P xs
 
-by_one : (P : Text → Type 0) (a : Text) → P a → (n : Text) → IsAmong n (a ∷ []) → P n
-by_one P a p n (inl e) = subst P (sym e) p
-by_one P a p n (inr e) = absurd e
+pub among : {X : Type 0} (P : X → Type 0) (xs : List X) → Each P xs → (x : X) → IsAmong x xs → P x
+among P [] all x e = absurd e
+among P (y ∷ ys) all x (inl e) = subst P (sym e) all.0
+among P (y ∷ ys) all x (inr e) = among P ys all.1 x e
 
-by_two : (P : Text → Type 0) (a b : Text) → P a → P b → (n : Text) → IsAmong n (a ∷ b ∷ []) → P n
-by_two P a b p q n (inl e) = subst P (sym e) p
-by_two P a b p q n (inr (inl e)) = subst P (sym e) q
-by_two P a b p q n (inr (inr e)) = absurd e
+-- two values say the same of the arguments of a command
+pub record SameAt (row : Command) (v w : Values) : Type 0 where
+  pub texts : (n : Text) → IsAmong n (row.place ∷ row.options) → v n ≡ w n
+  pub flags : (n : Text) → IsAmong n row.flags → is_given (v n) ≡ is_given (w n)
+
+-- what is known of a command
+pub record Known (row : Command) : Type 0 where
+  pub enters : Enters (built program.phpsa) row.word (below (program.command row))
+  pub entered_is : (ws : List Text) → entered (built program.phpsa) (Some (row.word, ws)) ≡ Some (row.word, rows_after (below (program.command row)).rules [] ws)
+  pub table : Table (below (program.command row)) row
+  pub alike : (v w : Values) → SameAt row v w → asked_by row.word v ≡ asked_by row.word w
+  pub alone : (n : Text) → IsAmong n (row.place ∷ row.options) → LeavesAlone n (below (program.command row)).rules
+  pub none : GiveNone (below (program.command row)).rules
+  pub first : (ws : List Text) → asked_first (row.word ∷ ws) ≡ (if has_help ws then Some help else None)
 
 pub phpsa_simple : is_simple program.phpsa ≡ true
 unfolding program.phpsa clap_on_literals
 phpsa_simple = refl
 
-phpsa_words : (ws : List Text) → argument_words program.phpsa ws ≡ ws
-unfolding program.phpsa
-phpsa_words ws = refl
-
-takes_by : (a : App) (words : List Text) → is_simple a ≡ true → argument_words a words ≡ words → built_takes (built a) nothing_held words ≡ true → takes a words ≡ true
-takes_by a words simple same e = rw (simple, same) e
-
--- What holds of each command, once its table is computed.
-module _ (name : Text) (s : Shape) (names : Names) (enters : Enters (built program.phpsa) name s) (table : Table s names.place names.options names.flags)
-    (own : bytes_eq names.place names.place ≡ true) (valid : (rows : List Row) → is_given names.place rows ≡ true → is_valid s rows false ≡ true)
-    (defaults : list_all default_passes s.rules ≡ true) where
-  pub taken : (ps : List Part) (last : Option Text) → AreCanonical names ps last → takes program.phpsa (name ∷ all_words ps last) ≡ true
-  taken ps last fits = takes_by program.phpsa (name ∷ all_words ps last) phpsa_simple (phpsa_words (name ∷ all_words ps last))
-      (enters_takes (built program.phpsa) name s enters (all_words ps last) (level s names.place names.options names.flags table own last defaults valid ps fits))
-
-  pub rows : ((ws : List Text) → entered (built program.phpsa) (Some (name, ws)) ≡ Some (name, rows_after s.rules [] ws))
-      → (ps : List Part) (last : Option Text) → AreCanonical names ps last
-      → subcommand_of program.phpsa (name ∷ all_words ps last) ≡ Some (name, fold with_default (parts_rows names.place last ps) s.rules)
-  rows entered_is ps last fits =
-      ap (λ (ws : List Text). entered (built program.phpsa) (stop_after (built program.phpsa).top.rules (names_of (built program.phpsa)) ws)) (phpsa_words (name ∷ all_words ps last))
-      ∙ ap (entered (built program.phpsa)) (stops_at (built program.phpsa) name s enters (all_words ps last))
-      ∙ entered_is (all_words ps last)
-      ∙ ap (λ (rows : List Row). Some (name, rows)) (level_rows s names.place names.options names.flags table own last ps fits)
-
 -- `check`
 
-check_table : Table (below program.check) check_names.place check_names.options check_names.flags
+check_table : Table (below (program.command program.check)) program.check
 unfolding clap_on_literals
 check_table = record {
+  own = refl;
+  valid = λ rows e. rw e refl;
+  defaults = refl;
   sees = refl;
   by_index = refl;
   place_id = refl;
-  option_long = by_two _ _ _ refl refl;
-  option_id = by_two _ _ _ refl refl;
-  option_same = by_two _ _ _ refl refl;
-  flag_long = by_two _ _ _ refl refl;
-  joined_long = λ n v. by_two (λ m. long_of (45 ∷ 45 ∷ m ++ 61 ∷ v) ≡ Some (m, Some v)) _ _ refl refl n;
-  joined_bare = λ n v. by_two (λ m. bytes_eq (45 ∷ 45 ∷ m ++ 61 ∷ v) (45 ∷ 45 ∷ []) ≡ false) _ _ refl refl n;
-  option_text = by_two _ _ _ refl refl;
-  option_bare = by_two _ _ _ refl refl;
-  flag_text = by_two _ _ _ refl refl;
-  flag_bare = by_two _ _ _ refl refl;
+  option_long = among _ _ (refl, (refl, (refl, tt)));
+  option_id = among _ _ (refl, (refl, (refl, tt)));
+  option_same = among _ _ (refl, (refl, (refl, tt)));
+  flag_long = among _ _ (refl, (refl, tt));
+  joined_long = λ n v. among (λ m. long_of (45 ∷ 45 ∷ m ++ 61 ∷ v) ≡ Some (m, Some v)) _ (refl, (refl, (refl, tt))) n;
+  joined_bare = λ n v. among (λ m. bytes_eq (45 ∷ 45 ∷ m ++ 61 ∷ v) (45 ∷ 45 ∷ []) ≡ false) _ (refl, (refl, (refl, tt))) n;
+  option_text = among _ _ (refl, (refl, (refl, tt)));
+  option_bare = among _ _ (refl, (refl, (refl, tt)));
+  flag_text = among _ _ (refl, (refl, tt));
+  flag_bare = among _ _ (refl, (refl, tt));
+  joined_free = λ n v. among (λ m. is_help (45 ∷ 45 ∷ m ++ 61 ∷ v) ≡ false) _ (refl, (refl, (refl, tt))) n;
+  option_free = among _ _ (refl, (refl, (refl, tt)));
+  flag_free = among _ _ (refl, (refl, tt));
 }
 
-check_enters : Enters (built program.phpsa) (codes "check") (below program.check)
+check_enters : Enters (built program.phpsa) (codes "check") (below (program.command program.check))
 unfolding program.phpsa clap_on_literals
 check_enters = record {
   first = refl;
@@ -85,50 +81,48 @@ check_enters = record {
   valid = refl;
 }
 
-check_own : bytes_eq check_names.place check_names.place ≡ true
-unfolding clap_on_literals
-check_own = refl
+check_alike : (v w : Values) → v (codes "FILE") ≡ w (codes "FILE") → v (codes "dtd") ≡ w (codes "dtd") → v (codes "limit") ≡ w (codes "limit") → v (codes "root") ≡ w (codes "root") → is_given (v (codes "nesting")) ≡ is_given (w (codes "nesting")) → is_given (v (codes "json")) ≡ is_given (w (codes "json")) → asked_check v ≡ asked_check w
+check_alike v w e0 e1 e2 e3 e4 e5 = rw (e0, e1, e2, e3, e4, e5) refl
 
-check_valid : (rows : List Row) → is_given check_names.place rows ≡ true → is_valid (below program.check) rows false ≡ true
-unfolding clap_on_literals
-check_valid rows e = rw e refl
-
-check_defaults : list_all default_passes (below program.check).rules ≡ true
-unfolding clap_on_literals
-check_defaults = refl
-
-entered_check : (ws : List Text) → entered (built program.phpsa) (Some (codes "check", ws)) ≡ Some (codes "check", rows_after (below program.check).rules [] ws)
+check_known : Known program.check
 unfolding program.phpsa clap_on_literals
-entered_check ws = refl
-
-pub check_taken : (ps : List Part) (last : Option Text) → AreCanonical check_names ps last → takes program.phpsa (codes "check" ∷ all_words ps last) ≡ true
-check_taken = taken (codes "check") (below program.check) check_names check_enters check_table check_own check_valid check_defaults
-
-pub check_rows : (ps : List Part) (last : Option Text) → AreCanonical check_names ps last
-    → subcommand_of program.phpsa (codes "check" ∷ all_words ps last) ≡ Some (codes "check", fold with_default (parts_rows check_names.place last ps) (below program.check).rules)
-check_rows = rows (codes "check") (below program.check) check_names check_enters check_table check_own check_valid check_defaults entered_check
+check_known = record {
+  enters = check_enters;
+  entered_is = λ ws. refl;
+  table = check_table;
+  alike = λ v w e. check_alike v w (e.texts (codes "FILE") (inl refl)) (e.texts (codes "dtd") (inr (inl refl))) (e.texts (codes "limit") (inr (inr (inl refl)))) (e.texts (codes "root") (inr (inr (inr (inl refl))))) (e.flags (codes "nesting") (inl refl)) (e.flags (codes "json") (inr (inl refl)));
+  alone = among _ _ ((inr refl, (inr refl, (inr refl, (inr refl, (inl refl, (inl refl, tt)))))), ((inr refl, (inr refl, (inr refl, (inr refl, (inl refl, (inl refl, tt)))))), ((inr refl, (inr refl, (inr refl, (inr refl, (inl refl, (inl refl, tt)))))), ((inr refl, (inr refl, (inr refl, (inr refl, (inl refl, (inl refl, tt)))))), tt))));
+  none = (refl, (refl, (refl, (refl, (refl, (refl, tt))))));
+  first = λ ws. refl;
+}
 
 -- `run`
 
-run_table : Table (below program.run) run_names.place run_names.options run_names.flags
+run_table : Table (below (program.command program.run)) program.run
 unfolding clap_on_literals
 run_table = record {
+  own = refl;
+  valid = λ rows e. rw e refl;
+  defaults = refl;
   sees = refl;
   by_index = refl;
   place_id = refl;
-  option_long = by_two _ _ _ refl refl;
-  option_id = by_two _ _ _ refl refl;
-  option_same = by_two _ _ _ refl refl;
-  flag_long = by_none _;
-  joined_long = λ n v. by_two (λ m. long_of (45 ∷ 45 ∷ m ++ 61 ∷ v) ≡ Some (m, Some v)) _ _ refl refl n;
-  joined_bare = λ n v. by_two (λ m. bytes_eq (45 ∷ 45 ∷ m ++ 61 ∷ v) (45 ∷ 45 ∷ []) ≡ false) _ _ refl refl n;
-  option_text = by_two _ _ _ refl refl;
-  option_bare = by_two _ _ _ refl refl;
-  flag_text = by_none _;
-  flag_bare = by_none _;
+  option_long = among _ _ (refl, (refl, (refl, tt)));
+  option_id = among _ _ (refl, (refl, (refl, tt)));
+  option_same = among _ _ (refl, (refl, (refl, tt)));
+  flag_long = among _ _ tt;
+  joined_long = λ n v. among (λ m. long_of (45 ∷ 45 ∷ m ++ 61 ∷ v) ≡ Some (m, Some v)) _ (refl, (refl, (refl, tt))) n;
+  joined_bare = λ n v. among (λ m. bytes_eq (45 ∷ 45 ∷ m ++ 61 ∷ v) (45 ∷ 45 ∷ []) ≡ false) _ (refl, (refl, (refl, tt))) n;
+  option_text = among _ _ (refl, (refl, (refl, tt)));
+  option_bare = among _ _ (refl, (refl, (refl, tt)));
+  flag_text = among _ _ tt;
+  flag_bare = among _ _ tt;
+  joined_free = λ n v. among (λ m. is_help (45 ∷ 45 ∷ m ++ 61 ∷ v) ≡ false) _ (refl, (refl, (refl, tt))) n;
+  option_free = among _ _ (refl, (refl, (refl, tt)));
+  flag_free = among _ _ tt;
 }
 
-run_enters : Enters (built program.phpsa) (codes "run") (below program.run)
+run_enters : Enters (built program.phpsa) (codes "run") (below (program.command program.run))
 unfolding program.phpsa clap_on_literals
 run_enters = record {
   first = refl;
@@ -140,50 +134,48 @@ run_enters = record {
   valid = refl;
 }
 
-run_own : bytes_eq run_names.place run_names.place ≡ true
-unfolding clap_on_literals
-run_own = refl
+run_alike : (v w : Values) → v (codes "FILE") ≡ w (codes "FILE") → v (codes "request") ≡ w (codes "request") → v (codes "steps") ≡ w (codes "steps") → v (codes "root") ≡ w (codes "root") → asked_run v ≡ asked_run w
+run_alike v w e0 e1 e2 e3 = rw (e0, e1, e2, e3) refl
 
-run_valid : (rows : List Row) → is_given run_names.place rows ≡ true → is_valid (below program.run) rows false ≡ true
-unfolding clap_on_literals
-run_valid rows e = rw e refl
-
-run_defaults : list_all default_passes (below program.run).rules ≡ true
-unfolding clap_on_literals
-run_defaults = refl
-
-entered_run : (ws : List Text) → entered (built program.phpsa) (Some (codes "run", ws)) ≡ Some (codes "run", rows_after (below program.run).rules [] ws)
+run_known : Known program.run
 unfolding program.phpsa clap_on_literals
-entered_run ws = refl
-
-pub run_taken : (ps : List Part) (last : Option Text) → AreCanonical run_names ps last → takes program.phpsa (codes "run" ∷ all_words ps last) ≡ true
-run_taken = taken (codes "run") (below program.run) run_names run_enters run_table run_own run_valid run_defaults
-
-pub run_rows : (ps : List Part) (last : Option Text) → AreCanonical run_names ps last
-    → subcommand_of program.phpsa (codes "run" ∷ all_words ps last) ≡ Some (codes "run", fold with_default (parts_rows run_names.place last ps) (below program.run).rules)
-run_rows = rows (codes "run") (below program.run) run_names run_enters run_table run_own run_valid run_defaults entered_run
+run_known = record {
+  enters = run_enters;
+  entered_is = λ ws. refl;
+  table = run_table;
+  alike = λ v w e. run_alike v w (e.texts (codes "FILE") (inl refl)) (e.texts (codes "request") (inr (inl refl))) (e.texts (codes "steps") (inr (inr (inl refl)))) (e.texts (codes "root") (inr (inr (inr (inl refl)))));
+  alone = among _ _ ((inr refl, (inr refl, (inr refl, (inr refl, tt)))), ((inr refl, (inr refl, (inr refl, (inr refl, tt)))), ((inr refl, (inr refl, (inr refl, (inr refl, tt)))), ((inr refl, (inr refl, (inr refl, (inr refl, tt)))), tt))));
+  none = (refl, (refl, (refl, (refl, tt))));
+  first = λ ws. refl;
+}
 
 -- `page`
 
-page_table : Table (below program.page) page_names.place page_names.options page_names.flags
+page_table : Table (below (program.command program.page)) program.page
 unfolding clap_on_literals
 page_table = record {
+  own = refl;
+  valid = λ rows e. rw e refl;
+  defaults = refl;
   sees = refl;
   by_index = refl;
   place_id = refl;
-  option_long = by_one _ _ refl;
-  option_id = by_one _ _ refl;
-  option_same = by_one _ _ refl;
-  flag_long = by_none _;
-  joined_long = λ n v. by_one (λ m. long_of (45 ∷ 45 ∷ m ++ 61 ∷ v) ≡ Some (m, Some v)) _ refl n;
-  joined_bare = λ n v. by_one (λ m. bytes_eq (45 ∷ 45 ∷ m ++ 61 ∷ v) (45 ∷ 45 ∷ []) ≡ false) _ refl n;
-  option_text = by_one _ _ refl;
-  option_bare = by_one _ _ refl;
-  flag_text = by_none _;
-  flag_bare = by_none _;
+  option_long = among _ _ (refl, (refl, tt));
+  option_id = among _ _ (refl, (refl, tt));
+  option_same = among _ _ (refl, (refl, tt));
+  flag_long = among _ _ tt;
+  joined_long = λ n v. among (λ m. long_of (45 ∷ 45 ∷ m ++ 61 ∷ v) ≡ Some (m, Some v)) _ (refl, (refl, tt)) n;
+  joined_bare = λ n v. among (λ m. bytes_eq (45 ∷ 45 ∷ m ++ 61 ∷ v) (45 ∷ 45 ∷ []) ≡ false) _ (refl, (refl, tt)) n;
+  option_text = among _ _ (refl, (refl, tt));
+  option_bare = among _ _ (refl, (refl, tt));
+  flag_text = among _ _ tt;
+  flag_bare = among _ _ tt;
+  joined_free = λ n v. among (λ m. is_help (45 ∷ 45 ∷ m ++ 61 ∷ v) ≡ false) _ (refl, (refl, tt)) n;
+  option_free = among _ _ (refl, (refl, tt));
+  flag_free = among _ _ tt;
 }
 
-page_enters : Enters (built program.phpsa) (codes "page") (below program.page)
+page_enters : Enters (built program.phpsa) (codes "page") (below (program.command program.page))
 unfolding program.phpsa clap_on_literals
 page_enters = record {
   first = refl;
@@ -195,50 +187,48 @@ page_enters = record {
   valid = refl;
 }
 
-page_own : bytes_eq page_names.place page_names.place ≡ true
-unfolding clap_on_literals
-page_own = refl
+page_alike : (v w : Values) → v (codes "FILE") ≡ w (codes "FILE") → v (codes "dtd") ≡ w (codes "dtd") → v (codes "root") ≡ w (codes "root") → asked_page v ≡ asked_page w
+page_alike v w e0 e1 e2 = rw (e0, e1, e2) refl
 
-page_valid : (rows : List Row) → is_given page_names.place rows ≡ true → is_valid (below program.page) rows false ≡ true
-unfolding clap_on_literals
-page_valid rows e = rw e refl
-
-page_defaults : list_all default_passes (below program.page).rules ≡ true
-unfolding clap_on_literals
-page_defaults = refl
-
-entered_page : (ws : List Text) → entered (built program.phpsa) (Some (codes "page", ws)) ≡ Some (codes "page", rows_after (below program.page).rules [] ws)
+page_known : Known program.page
 unfolding program.phpsa clap_on_literals
-entered_page ws = refl
-
-pub page_taken : (ps : List Part) (last : Option Text) → AreCanonical page_names ps last → takes program.phpsa (codes "page" ∷ all_words ps last) ≡ true
-page_taken = taken (codes "page") (below program.page) page_names page_enters page_table page_own page_valid page_defaults
-
-pub page_rows : (ps : List Part) (last : Option Text) → AreCanonical page_names ps last
-    → subcommand_of program.phpsa (codes "page" ∷ all_words ps last) ≡ Some (codes "page", fold with_default (parts_rows page_names.place last ps) (below program.page).rules)
-page_rows = rows (codes "page") (below program.page) page_names page_enters page_table page_own page_valid page_defaults entered_page
+page_known = record {
+  enters = page_enters;
+  entered_is = λ ws. refl;
+  table = page_table;
+  alike = λ v w e. page_alike v w (e.texts (codes "FILE") (inl refl)) (e.texts (codes "dtd") (inr (inl refl))) (e.texts (codes "root") (inr (inr (inl refl))));
+  alone = among _ _ ((inr refl, (inr refl, (inr refl, tt))), ((inr refl, (inr refl, (inr refl, tt))), ((inr refl, (inr refl, (inr refl, tt))), tt)));
+  none = (refl, (refl, (refl, tt)));
+  first = λ ws. refl;
+}
 
 -- `grammar`
 
-grammar_table : Table (below program.grammar) grammar_names.place grammar_names.options grammar_names.flags
+grammar_table : Table (below (program.command program.grammar)) program.grammar
 unfolding clap_on_literals
 grammar_table = record {
+  own = refl;
+  valid = λ rows e. rw e refl;
+  defaults = refl;
   sees = refl;
   by_index = refl;
   place_id = refl;
-  option_long = by_none _;
-  option_id = by_none _;
-  option_same = by_none _;
-  flag_long = by_none _;
-  joined_long = λ n v. by_none (λ m. long_of (45 ∷ 45 ∷ m ++ 61 ∷ v) ≡ Some (m, Some v)) n;
-  joined_bare = λ n v. by_none (λ m. bytes_eq (45 ∷ 45 ∷ m ++ 61 ∷ v) (45 ∷ 45 ∷ []) ≡ false) n;
-  option_text = by_none _;
-  option_bare = by_none _;
-  flag_text = by_none _;
-  flag_bare = by_none _;
+  option_long = among _ _ (refl, tt);
+  option_id = among _ _ (refl, tt);
+  option_same = among _ _ (refl, tt);
+  flag_long = among _ _ tt;
+  joined_long = λ n v. among (λ m. long_of (45 ∷ 45 ∷ m ++ 61 ∷ v) ≡ Some (m, Some v)) _ (refl, tt) n;
+  joined_bare = λ n v. among (λ m. bytes_eq (45 ∷ 45 ∷ m ++ 61 ∷ v) (45 ∷ 45 ∷ []) ≡ false) _ (refl, tt) n;
+  option_text = among _ _ (refl, tt);
+  option_bare = among _ _ (refl, tt);
+  flag_text = among _ _ tt;
+  flag_bare = among _ _ tt;
+  joined_free = λ n v. among (λ m. is_help (45 ∷ 45 ∷ m ++ 61 ∷ v) ≡ false) _ (refl, tt) n;
+  option_free = among _ _ (refl, tt);
+  flag_free = among _ _ tt;
 }
 
-grammar_enters : Enters (built program.phpsa) (codes "grammar") (below program.grammar)
+grammar_enters : Enters (built program.phpsa) (codes "grammar") (below (program.command program.grammar))
 unfolding program.phpsa clap_on_literals
 grammar_enters = record {
   first = refl;
@@ -250,50 +240,48 @@ grammar_enters = record {
   valid = refl;
 }
 
-grammar_own : bytes_eq grammar_names.place grammar_names.place ≡ true
-unfolding clap_on_literals
-grammar_own = refl
+grammar_alike : (v w : Values) → v (codes "FILE") ≡ w (codes "FILE") → v (codes "root") ≡ w (codes "root") → asked_grammar v ≡ asked_grammar w
+grammar_alike v w e0 e1 = rw (e0, e1) refl
 
-grammar_valid : (rows : List Row) → is_given grammar_names.place rows ≡ true → is_valid (below program.grammar) rows false ≡ true
-unfolding clap_on_literals
-grammar_valid rows e = rw e refl
-
-grammar_defaults : list_all default_passes (below program.grammar).rules ≡ true
-unfolding clap_on_literals
-grammar_defaults = refl
-
-entered_grammar : (ws : List Text) → entered (built program.phpsa) (Some (codes "grammar", ws)) ≡ Some (codes "grammar", rows_after (below program.grammar).rules [] ws)
+grammar_known : Known program.grammar
 unfolding program.phpsa clap_on_literals
-entered_grammar ws = refl
-
-pub grammar_taken : (ps : List Part) (last : Option Text) → AreCanonical grammar_names ps last → takes program.phpsa (codes "grammar" ∷ all_words ps last) ≡ true
-grammar_taken = taken (codes "grammar") (below program.grammar) grammar_names grammar_enters grammar_table grammar_own grammar_valid grammar_defaults
-
-pub grammar_rows : (ps : List Part) (last : Option Text) → AreCanonical grammar_names ps last
-    → subcommand_of program.phpsa (codes "grammar" ∷ all_words ps last) ≡ Some (codes "grammar", fold with_default (parts_rows grammar_names.place last ps) (below program.grammar).rules)
-grammar_rows = rows (codes "grammar") (below program.grammar) grammar_names grammar_enters grammar_table grammar_own grammar_valid grammar_defaults entered_grammar
+grammar_known = record {
+  enters = grammar_enters;
+  entered_is = λ ws. refl;
+  table = grammar_table;
+  alike = λ v w e. grammar_alike v w (e.texts (codes "FILE") (inl refl)) (e.texts (codes "root") (inr (inl refl)));
+  alone = among _ _ ((inr refl, (inr refl, tt)), ((inr refl, (inr refl, tt)), tt));
+  none = (refl, (refl, tt));
+  first = λ ws. refl;
+}
 
 -- `make`
 
-make_table : Table (below program.make) make_names.place make_names.options make_names.flags
+make_table : Table (below (program.command program.make)) program.make
 unfolding clap_on_literals
 make_table = record {
+  own = refl;
+  valid = λ rows e. rw e refl;
+  defaults = refl;
   sees = refl;
   by_index = refl;
   place_id = refl;
-  option_long = by_none _;
-  option_id = by_none _;
-  option_same = by_none _;
-  flag_long = by_one _ _ refl;
-  joined_long = λ n v. by_none (λ m. long_of (45 ∷ 45 ∷ m ++ 61 ∷ v) ≡ Some (m, Some v)) n;
-  joined_bare = λ n v. by_none (λ m. bytes_eq (45 ∷ 45 ∷ m ++ 61 ∷ v) (45 ∷ 45 ∷ []) ≡ false) n;
-  option_text = by_none _;
-  option_bare = by_none _;
-  flag_text = by_one _ _ refl;
-  flag_bare = by_one _ _ refl;
+  option_long = among _ _ tt;
+  option_id = among _ _ tt;
+  option_same = among _ _ tt;
+  flag_long = among _ _ (refl, tt);
+  joined_long = λ n v. among (λ m. long_of (45 ∷ 45 ∷ m ++ 61 ∷ v) ≡ Some (m, Some v)) _ tt n;
+  joined_bare = λ n v. among (λ m. bytes_eq (45 ∷ 45 ∷ m ++ 61 ∷ v) (45 ∷ 45 ∷ []) ≡ false) _ tt n;
+  option_text = among _ _ tt;
+  option_bare = among _ _ tt;
+  flag_text = among _ _ (refl, tt);
+  flag_bare = among _ _ (refl, tt);
+  joined_free = λ n v. among (λ m. is_help (45 ∷ 45 ∷ m ++ 61 ∷ v) ≡ false) _ tt n;
+  option_free = among _ _ tt;
+  flag_free = among _ _ (refl, tt);
 }
 
-make_enters : Enters (built program.phpsa) (codes "make") (below program.make)
+make_enters : Enters (built program.phpsa) (codes "make") (below (program.command program.make))
 unfolding program.phpsa clap_on_literals
 make_enters = record {
   first = refl;
@@ -305,25 +293,21 @@ make_enters = record {
   valid = refl;
 }
 
-make_own : bytes_eq make_names.place make_names.place ≡ true
-unfolding clap_on_literals
-make_own = refl
+make_alike : (v w : Values) → v (codes "N") ≡ w (codes "N") → is_given (v (codes "check")) ≡ is_given (w (codes "check")) → asked_make v ≡ asked_make w
+make_alike v w e0 e1 = rw (e0, e1) refl
 
-make_valid : (rows : List Row) → is_given make_names.place rows ≡ true → is_valid (below program.make) rows false ≡ true
-unfolding clap_on_literals
-make_valid rows e = rw e refl
-
-make_defaults : list_all default_passes (below program.make).rules ≡ true
-unfolding clap_on_literals
-make_defaults = refl
-
-entered_make : (ws : List Text) → entered (built program.phpsa) (Some (codes "make", ws)) ≡ Some (codes "make", rows_after (below program.make).rules [] ws)
+make_known : Known program.make
 unfolding program.phpsa clap_on_literals
-entered_make ws = refl
+make_known = record {
+  enters = make_enters;
+  entered_is = λ ws. refl;
+  table = make_table;
+  alike = λ v w e. make_alike v w (e.texts (codes "N") (inl refl)) (e.flags (codes "check") (inl refl));
+  alone = among _ _ ((inr refl, (inl refl, tt)), tt);
+  none = (refl, (refl, tt));
+  first = λ ws. refl;
+}
 
-pub make_taken : (ps : List Part) (last : Option Text) → AreCanonical make_names ps last → takes program.phpsa (codes "make" ∷ all_words ps last) ≡ true
-make_taken = taken (codes "make") (below program.make) make_names make_enters make_table make_own make_valid make_defaults
-
-pub make_rows : (ps : List Part) (last : Option Text) → AreCanonical make_names ps last
-    → subcommand_of program.phpsa (codes "make" ∷ all_words ps last) ≡ Some (codes "make", fold with_default (parts_rows make_names.place last ps) (below program.make).rules)
-make_rows = rows (codes "make") (below program.make) make_names make_enters make_table make_own make_valid make_defaults entered_make
+-- each command is known
+pub known : (row : Command) → IsAmong row commands → Known row
+known = among Known commands (check_known, (run_known, (page_known, (grammar_known, (make_known, tt)))))

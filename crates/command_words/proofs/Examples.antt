@@ -1,6 +1,9 @@
--- Numbers, and near misses; what words that are not canonical ask for.
-use Rattle.std.proofs.Common.{◌≡◌, [], Some, None, refl, codes}
-use Rattle.command_words.specs.Asked.{number_of}
+-- Numbers, and near misses; help and the version; what canonical words are.
+use Rattle.std.proofs.Common.{◌≡◌, [], ◌∷◌, Some, None, true, refl, inl, inr, codes}
+use Rattle.command_words.specs.Program.{check, commands}
+use Rattle.command_words.specs.Asked.{number_of, asked_first, help, version}
+use Rattle.command_words.specs.Asked as asked
+use Rattle.command_words.specs.Canonical.{AreCanonical, IsCanonical, IsPlain, canonical, place, joined, apart, flag}
 
 one_digit : number_of (codes "7") ≡ Some 7
 one_digit = refl
@@ -22,3 +25,34 @@ signed = refl
 
 empty : number_of [] ≡ None
 empty = refl
+
+a_word_of_help : asked_first (codes "help" ∷ codes "check" ∷ []) ≡ Some help
+a_word_of_help = refl
+
+help_of_a_command : asked_first (codes "check" ∷ codes "--dtd" ∷ codes "-h" ∷ []) ≡ Some help
+help_of_a_command = refl
+
+help_before_the_version : asked_first (codes "--version" ∷ codes "--help" ∷ []) ≡ Some help
+help_before_the_version = refl
+
+the_version : asked_first (codes "--version" ∷ codes "more" ∷ []) ≡ Some version
+the_version = refl
+
+a_file_of_that_name : asked_first (codes "check" ∷ codes "--" ∷ codes "--help" ∷ []) ≡ None
+a_file_of_that_name = refl
+
+no_version_later : asked_first (codes "check" ∷ codes "--version" ∷ []) ≡ None
+no_version_later = refl
+
+no_words : asked_first [] ≡ None
+no_words = refl
+
+the_standard_input : IsPlain (codes "-")
+the_standard_input = tt
+
+an_option_is_not_plain : IsPlain (codes "-x") → ⊥
+an_option_is_not_plain = λ auto. elim auto [ ]
+
+a_check : IsCanonical (codes "check" ∷ codes "--json" ∷ codes "--root=pages" ∷ codes "--" ∷ codes "-" ∷ [])
+    (asked.check (codes "-") (codes "strict") (Some (codes "pages")) 10000 Bool.false Bool.true)
+a_check = canonical check (flag (codes "json") ∷ joined (codes "root") (codes "pages") ∷ []) (Some (codes "-")) (inl refl) ((inr (inl refl), refl), ((refl, inr (inr (inl refl)), refl), refl)) refl refl

@@ -5,6 +5,7 @@ use Rattle.clap.specs.Walk.{reading_by}
 use Rattle.clap.specs.Simple.{filled, with_index, built_leaf, inherited}
 use Rattle.clap.specs.declared.parser.matches.ValueSource.{ValueSource}
 use Rattle.clap.specs.declared.builder.value_parser.Reading.{Reading}
+use Rattle.clap.specs.declared.builder.action.ArgAction.TheVariants.{Set, SetTrue}
 use Rattle.command_words.specs.Program as program
 use Rattle.command_words.specs.Canonical.{Part, place, joined, apart, flag}
 
@@ -12,10 +13,10 @@ abbrev pub new_row : Text → Reading → List Text → Row
 new_row n how vs = record { id = n; values = vs; count = None; source = Some ValueSource.CommandLine; reading = how }
 
 abbrev pub option_rule : Text → Rule
-option_rule n = filled (program.option n)
+option_rule n = filled (program.named Set n)
 
 abbrev pub flag_rule : Text → Rule
-flag_rule n = filled (program.flag n)
+flag_rule n = filled (program.named SetTrue n)
 
 abbrev pub place_rule : Text → Rule
 place_rule n = with_index 1 (filled (program.place n))

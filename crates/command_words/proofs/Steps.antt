@@ -10,6 +10,8 @@ use Rattle.clap.specs.Takes.{settle_passes, turn_passes, walk_passes, is_given, 
 use Rattle.clap.specs.Lexer.{long_of, short_of}
 use Rattle.clap.specs.declared.parser.matches.ValueSource.{ValueSource}
 use Rattle.clap.specs.declared.builder.value_parser.Reading.{Reading}
+use Rattle.command_words.specs.Program.{Row as Command}
+use Rattle.command_words.specs.Asked.{is_help, has_help}
 use Rattle.command_words.specs.Canonical.{Part, place, joined, apart, flag, IsPlain, is_among, AreParts, IsAmong, IsEnd, last_words, all_words}
 use Rattle.command_words.proofs.Rows.{new_row, option_rule, flag_rule, place_rule, option_row, flag_row, place_row, parts_rows, end_rows}
 
@@ -134,20 +136,26 @@ grown c so_far rs h after n how vs ready new passes is =
     }
 
 -- what a command's table says, to be computed for each command
-pub record Table (s : Shape) (at : Text) (options flags : List Text) : Type 0 where
+pub record Table (s : Shape) (row : Command) : Type 0 where
+  pub own : bytes_eq row.place row.place ≡ true
+  pub valid : (rows : List Row) → is_given row.place rows ≡ true → is_valid s rows false ≡ true
+  pub defaults : list_all default_passes s.rules ≡ true
   pub sees : s.args_override_self ≡ false
-  pub by_index : arg_by_index s.rules 1 ≡ Some (place_rule at)
-  pub place_id : arg_by_id s.rules at ≡ Some (place_rule at)
-  pub option_long : (n : Text) → IsAmong n options → arg_by_long s.rules n ≡ Some (option_rule n)
-  pub option_id : (n : Text) → IsAmong n options → arg_by_id s.rules n ≡ Some (option_rule n)
-  pub option_same : (n : Text) → IsAmong n options → bytes_eq n n ≡ true
-  pub flag_long : (n : Text) → IsAmong n flags → arg_by_long s.rules n ≡ Some (flag_rule n)
-  pub joined_long : (n v : Text) → IsAmong n options → long_of (45 ∷ 45 ∷ n ++ 61 ∷ v) ≡ Some (n, Some v)
-  pub joined_bare : (n v : Text) → IsAmong n options → bytes_eq (45 ∷ 45 ∷ n ++ 61 ∷ v) (45 ∷ 45 ∷ []) ≡ false
-  pub option_text : (n : Text) → IsAmong n options → long_of (45 ∷ 45 ∷ n) ≡ Some (n, None)
-  pub option_bare : (n : Text) → IsAmong n options → bytes_eq (45 ∷ 45 ∷ n) (45 ∷ 45 ∷ []) ≡ false
-  pub flag_text : (n : Text) → IsAmong n flags → long_of (45 ∷ 45 ∷ n) ≡ Some (n, None)
-  pub flag_bare : (n : Text) → IsAmong n flags → bytes_eq (45 ∷ 45 ∷ n) (45 ∷ 45 ∷ []) ≡ false
+  pub by_index : arg_by_index s.rules 1 ≡ Some (place_rule row.place)
+  pub place_id : arg_by_id s.rules row.place ≡ Some (place_rule row.place)
+  pub option_long : (n : Text) → IsAmong n row.options → arg_by_long s.rules n ≡ Some (option_rule n)
+  pub option_id : (n : Text) → IsAmong n row.options → arg_by_id s.rules n ≡ Some (option_rule n)
+  pub option_same : (n : Text) → IsAmong n row.options → bytes_eq n n ≡ true
+  pub flag_long : (n : Text) → IsAmong n row.flags → arg_by_long s.rules n ≡ Some (flag_rule n)
+  pub joined_long : (n v : Text) → IsAmong n row.options → long_of (45 ∷ 45 ∷ n ++ 61 ∷ v) ≡ Some (n, Some v)
+  pub joined_bare : (n v : Text) → IsAmong n row.options → bytes_eq (45 ∷ 45 ∷ n ++ 61 ∷ v) (45 ∷ 45 ∷ []) ≡ false
+  pub option_text : (n : Text) → IsAmong n row.options → long_of (45 ∷ 45 ∷ n) ≡ Some (n, None)
+  pub option_bare : (n : Text) → IsAmong n row.options → bytes_eq (45 ∷ 45 ∷ n) (45 ∷ 45 ∷ []) ≡ false
+  pub flag_text : (n : Text) → IsAmong n row.flags → long_of (45 ∷ 45 ∷ n) ≡ Some (n, None)
+  pub flag_bare : (n : Text) → IsAmong n row.flags → bytes_eq (45 ∷ 45 ∷ n) (45 ∷ 45 ∷ []) ≡ false
+  pub joined_free : (n v : Text) → IsAmong n row.options → is_help (45 ∷ 45 ∷ n ++ 61 ∷ v) ≡ false
+  pub option_free : (n : Text) → IsAmong n row.options → is_help (45 ∷ 45 ∷ n) ≡ false
+  pub flag_free : (n : Text) → IsAmong n row.flags → is_help (45 ∷ 45 ∷ n) ≡ false
 
 module _ (s : Shape) (sees : s.args_override_self ≡ false) where
   abbrev c : List Rule
@@ -228,17 +236,54 @@ module _ (s : Shape) (sees : s.args_override_self ≡ false) where
     ),
   )
 
-plain_bare : (v : Text) → IsPlain v → bytes_eq v (45 ∷ 45 ∷ []) ≡ false
-plain_bare [] e = refl
-plain_bare (x ∷ xs) e = rw e refl
+-- a value that is plain holds one byte, or begins with another than `-`
+by_plain : (P : Text → Type 0) → ((x : ℕ) → P (x ∷ [])) → ((x : ℕ) (xs : Text) → (x == 45) ≡ false → P (x ∷ xs)) → (v : Text) → IsPlain v → P v
+by_plain P one many [] e = absurd e
+by_plain P one many (x ∷ []) e = one x
+by_plain P one many (x ∷ y ∷ xs) e = many x (y ∷ xs) e
+
+pub plain_bare : (v : Text) → IsPlain v → bytes_eq v (45 ∷ 45 ∷ []) ≡ false
+plain_bare = by_plain (λ v. bytes_eq v (45 ∷ 45 ∷ []) ≡ false) (λ x. and_false (x == 45)) (λ x xs e. rw e refl)
 
 plain_long : (v : Text) → IsPlain v → long_of v ≡ None
-plain_long [] e = refl
-plain_long (x ∷ xs) e = rw e refl
+plain_long = by_plain (λ v. long_of v ≡ None) (λ x. one (x == 45) refl) (λ x xs e. rw e refl)
+  where
+    one : {x : ℕ} (t : Bool) → (x == 45) ≡ t → long_of (x ∷ []) ≡ None
+    one true e = rw e refl
+    one false e = rw e refl
 
 plain_short : (v : Text) → IsPlain v → short_of v ≡ None
-plain_short [] e = refl
-plain_short (x ∷ xs) e = rw e refl
+plain_short = by_plain (λ v. short_of v ≡ None) (λ x. one (x == 45) refl) (λ x xs e. rw e refl)
+  where
+    one : {x : ℕ} (t : Bool) → (x == 45) ≡ t → short_of (x ∷ []) ≡ None
+    one true e = rw e refl
+    one false e = rw e refl
+
+plain_free : (v : Text) → IsPlain v → is_help v ≡ false
+plain_free = by_plain (λ v. is_help v ≡ false) (λ x. one (x == 45) refl) (λ x xs e. rw e refl)
+  where
+    one : {x : ℕ} (t : Bool) → (x == 45) ≡ t → is_help (x ∷ []) ≡ false
+    one true e = rw e refl
+    one false e = rw e refl
+
+-- ---- no part asks for help
+
+without_help : (word : Text) (rest : List Text) → is_help word ≡ false → has_help rest ≡ false → has_help (word ∷ rest) ≡ false
+without_help word rest free more = rw (free, more) (and_false _)
+
+pub parts_ask_no_help : (s : Shape) (row : Command) → Table s row → (ps : List Part) (last : Option Text) (so_far : List Text) → AreParts row so_far ps last
+    → has_help (all_words ps last) ≡ false
+parts_ask_no_help s row t [] None so_far fits = refl
+parts_ask_no_help s row t [] (Some v) so_far fits = refl
+parts_ask_no_help s row t (place v ∷ ps) last so_far fits =
+    without_help v (all_words ps last) (plain_free v fits.0.0) (parts_ask_no_help s row t ps last (row.place ∷ so_far) fits.1)
+parts_ask_no_help s row t (joined n v ∷ ps) last so_far fits =
+    without_help (45 ∷ 45 ∷ n ++ 61 ∷ v) (all_words ps last) (t.joined_free n v fits.0.1) (parts_ask_no_help s row t ps last (n ∷ so_far) fits.1)
+parts_ask_no_help s row t (apart n v ∷ ps) last so_far fits =
+    without_help (45 ∷ 45 ∷ n) (v ∷ all_words ps last) (t.option_free n fits.0.1)
+    (without_help v (all_words ps last) (plain_free v fits.0.0) (parts_ask_no_help s row t ps last (n ∷ so_far) fits.1))
+parts_ask_no_help s row t (flag n ∷ ps) last so_far fits =
+    without_help (45 ∷ 45 ∷ n) (all_words ps last) (t.flag_free n fits.0.0) (parts_ask_no_help s row t ps last (n ∷ so_far) fits.1)
 
 -- ---- all the parts
 
@@ -278,48 +323,48 @@ dashes_turn : (s : Shape) (h : Held) → (turn_passes s [] (stands h 1) (45 ∷ 
 unfolding walked
 dashes_turn s h = (refl, refl)
 
-ends_walk : (s : Shape) (at : Text) (options flags : List Text) (t : Table s at options flags) (own : bytes_eq at at ≡ true) (last : Option Text)
-    (h : Held) (p : ℕ) (so_far : List Text) (rs : List Row) → IsEnd at so_far last → Ready s.rules so_far rs h
-    → (is_among at so_far ≡ false → p ≡ 1) → Walks s (stands h p) (last_words last) at (rs ++ end_rows at last)
+ends_walk : (s : Shape) (row : Command) (t : Table s row) (last : Option Text)
+    (h : Held) (p : ℕ) (so_far : List Text) (rs : List Row) → IsEnd row.place so_far last → Ready s.rules so_far rs h
+    → (is_among row.place so_far ≡ false → p ≡ 1) → Walks s (stands h p) (last_words last) row.place (rs ++ end_rows row.place last)
 unfolding walk_passes
-ends_walk s at options flags t own None h p so_far rs fits ready place_is =
+ends_walk s row t None h p so_far rs fits ready place_is =
     (refl, (stands h p, so_far, refl, subst (λ (u : List Row). Ready s.rules so_far u h) (sym (append_nil rs)) ready, fits))
-ends_walk s at options flags t own (Some v) h p so_far rs fits ready place_is =
+ends_walk s row t (Some v) h p so_far rs fits ready place_is =
     let dashes = dashes_turn s h in
-    let turn = last_turn s at v h so_far rs t.by_index t.place_id ready fits.1 t.sees in
-    let rows = rs ++ place_row at v ∷ [] in
-    let done : Walks s turn.1.0 [] at rows = (refl, (turn.1.0, at ∷ so_far, refl, turn.1.2, rw own refl)) in
-    subst (λ (k : ℕ). Walks s (stands h k) ((45 ∷ 45 ∷ []) ∷ v ∷ []) at rows) (sym (place_is fits.1))
-    (one_more s (stands h 1) (record (stands h 1) { is_trailing = true }) (45 ∷ 45 ∷ []) (v ∷ []) at rows dashes.0 dashes.1
-    (one_more s (record (stands h 1) { is_trailing = true }) turn.1.0 v [] at rows turn.0 turn.1.1 done))
+    let turn = last_turn s row.place v h so_far rs t.by_index t.place_id ready fits t.sees in
+    let rows = rs ++ place_row row.place v ∷ [] in
+    let done : Walks s turn.1.0 [] row.place rows = (refl, (turn.1.0, row.place ∷ so_far, refl, turn.1.2, rw t.own refl)) in
+    subst (λ (k : ℕ). Walks s (stands h k) ((45 ∷ 45 ∷ []) ∷ v ∷ []) row.place rows) (sym (place_is fits))
+    (one_more s (stands h 1) (record (stands h 1) { is_trailing = true }) (45 ∷ 45 ∷ []) (v ∷ []) row.place rows dashes.0 dashes.1
+    (one_more s (record (stands h 1) { is_trailing = true }) turn.1.0 v [] row.place rows turn.0 turn.1.1 done))
 
-module _ (s : Shape) (at : Text) (options flags : List Text) (t : Table s at options flags) (own : bytes_eq at at ≡ true) (last : Option Text) where
-  pub parts_walk : (ps : List Part) (h : Held) (p : ℕ) (so_far : List Text) (rs : List Row) → AreParts (record { place = at; options = options; flags = flags }) so_far ps last → Ready s.rules so_far rs h
-      → (is_among at so_far ≡ false → p ≡ 1) → Walks s (stands h p) (all_words ps last) at (rs ++ parts_rows at last ps)
+module _ (s : Shape) (row : Command) (t : Table s row) (last : Option Text) where
+  pub parts_walk : (ps : List Part) (h : Held) (p : ℕ) (so_far : List Text) (rs : List Row) → AreParts row so_far ps last → Ready s.rules so_far rs h
+      → (is_among row.place so_far ≡ false → p ≡ 1) → Walks s (stands h p) (all_words ps last) row.place (rs ++ parts_rows row.place last ps)
   unfolding walk_passes
-  parts_walk [] h p so_far rs fits ready place_is = ends_walk s at options flags t own last h p so_far rs fits ready place_is
+  parts_walk [] h p so_far rs fits ready place_is = ends_walk s row t last h p so_far rs fits ready place_is
   parts_walk (place v ∷ ps) h p so_far rs fits ready place_is =
       let is_1 = place_is fits.0.1 in
-      let turn = place_turn s t.sees at v h so_far rs (plain_bare v fits.0.0) (plain_long v fits.0.0) (plain_short v fits.0.0) t.by_index t.place_id ready fits.0.1 in
-      let rest = subst (Walks s _ (all_words ps last) at) (join_rows rs (place_row at v) (parts_rows at last ps)) (parts_walk ps turn.1.0 2 (at ∷ so_far) (rs ++ place_row at v ∷ []) fits.1 turn.1.2 (λ e. absurd (true≢false (sym own ∙ (or_false (bytes_eq at at) _ e).0)))) in
-      subst (λ (k : ℕ). Walks s (stands h k) (v ∷ all_words ps last) at (rs ++ place_row at v ∷ parts_rows at last ps)) (sym is_1) (one_more s (stands h 1) (stands turn.1.0 2) v (all_words ps last) at (rs ++ place_row at v ∷ parts_rows at last ps) turn.0 turn.1.1 rest)
+      let turn = place_turn s t.sees row.place v h so_far rs (plain_bare v fits.0.0) (plain_long v fits.0.0) (plain_short v fits.0.0) t.by_index t.place_id ready fits.0.1 in
+      let rest = subst (Walks s _ (all_words ps last) row.place) (join_rows rs (place_row row.place v) (parts_rows row.place last ps)) (parts_walk ps turn.1.0 2 (row.place ∷ so_far) (rs ++ place_row row.place v ∷ []) fits.1 turn.1.2 (λ e. absurd (true≢false (sym t.own ∙ (or_false (bytes_eq row.place row.place) _ e).0)))) in
+      subst (λ (k : ℕ). Walks s (stands h k) (v ∷ all_words ps last) row.place (rs ++ place_row row.place v ∷ parts_rows row.place last ps)) (sym is_1) (one_more s (stands h 1) (stands turn.1.0 2) v (all_words ps last) row.place (rs ++ place_row row.place v ∷ parts_rows row.place last ps) turn.0 turn.1.1 rest)
   parts_walk (joined n v ∷ ps) h p so_far rs fits ready place_is =
       let is = fits.0.1 in
       let turn = joined_passes s t.sees (45 ∷ 45 ∷ n ++ 61 ∷ v) n v h p so_far rs (t.joined_long n v is) (t.joined_bare n v is) (t.option_long n is) ready fits.0.2 in
-      let rest = subst (Walks s _ (all_words ps last) at) (join_rows rs (option_row n v) (parts_rows at last ps)) (parts_walk ps turn.1.0 p (n ∷ so_far) (rs ++ option_row n v ∷ []) fits.1 turn.1.2 (is_new_place at n so_far p place_is)) in
-      one_more s (stands h p) (stands turn.1.0 p) (45 ∷ 45 ∷ n ++ 61 ∷ v) (all_words ps last) at (rs ++ option_row n v ∷ parts_rows at last ps) turn.0 turn.1.1 rest
+      let rest = subst (Walks s _ (all_words ps last) row.place) (join_rows rs (option_row n v) (parts_rows row.place last ps)) (parts_walk ps turn.1.0 p (n ∷ so_far) (rs ++ option_row n v ∷ []) fits.1 turn.1.2 (is_new_place row.place n so_far p place_is)) in
+      one_more s (stands h p) (stands turn.1.0 p) (45 ∷ 45 ∷ n ++ 61 ∷ v) (all_words ps last) row.place (rs ++ option_row n v ∷ parts_rows row.place last ps) turn.0 turn.1.1 rest
   parts_walk (apart n v ∷ ps) h p so_far rs fits ready place_is =
       let is = fits.0.1 in
       let first = name_turn s t.sees (45 ∷ 45 ∷ n) n h p so_far rs (t.option_text n is) (t.option_bare n is) (t.option_long n is) ready in
       let turn = value_turn s t.sees n v h p so_far rs (plain_bare v fits.0.0) (plain_long v fits.0.0) (plain_short v fits.0.0) (t.option_same n is) (t.option_id n is) ready fits.0.2 in
-      let rest = subst (Walks s _ (all_words ps last) at) (join_rows rs (option_row n v) (parts_rows at last ps)) (parts_walk ps turn.1.0 p (n ∷ so_far) (rs ++ option_row n v ∷ []) fits.1 turn.1.2 (is_new_place at n so_far p place_is)) in
-      one_more s (stands h p) (waiting_value s t.sees n h p) (45 ∷ 45 ∷ n) (v ∷ all_words ps last) at (rs ++ option_row n v ∷ parts_rows at last ps) first.0 first.1
-      (one_more s (waiting_value s t.sees n h p) (stands turn.1.0 p) v (all_words ps last) at (rs ++ option_row n v ∷ parts_rows at last ps) turn.0 turn.1.1 rest)
+      let rest = subst (Walks s _ (all_words ps last) row.place) (join_rows rs (option_row n v) (parts_rows row.place last ps)) (parts_walk ps turn.1.0 p (n ∷ so_far) (rs ++ option_row n v ∷ []) fits.1 turn.1.2 (is_new_place row.place n so_far p place_is)) in
+      one_more s (stands h p) (waiting_value s t.sees n h p) (45 ∷ 45 ∷ n) (v ∷ all_words ps last) row.place (rs ++ option_row n v ∷ parts_rows row.place last ps) first.0 first.1
+      (one_more s (waiting_value s t.sees n h p) (stands turn.1.0 p) v (all_words ps last) row.place (rs ++ option_row n v ∷ parts_rows row.place last ps) turn.0 turn.1.1 rest)
   parts_walk (flag n ∷ ps) h p so_far rs fits ready place_is =
       let is = fits.0.0 in
       let turn = flag_turn s t.sees (45 ∷ 45 ∷ n) n h p so_far rs (t.flag_text n is) (t.flag_bare n is) (t.flag_long n is) ready fits.0.1 in
-      let rest = subst (Walks s _ (all_words ps last) at) (join_rows rs (flag_row n) (parts_rows at last ps)) (parts_walk ps turn.1.0 p (n ∷ so_far) (rs ++ flag_row n ∷ []) fits.1 turn.1.2 (is_new_place at n so_far p place_is)) in
-      one_more s (stands h p) (stands turn.1.0 p) (45 ∷ 45 ∷ n) (all_words ps last) at (rs ++ flag_row n ∷ parts_rows at last ps) turn.0 turn.1.1 rest
+      let rest = subst (Walks s _ (all_words ps last) row.place) (join_rows rs (flag_row n) (parts_rows row.place last ps)) (parts_walk ps turn.1.0 p (n ∷ so_far) (rs ++ flag_row n ∷ []) fits.1 turn.1.2 (is_new_place row.place n so_far p place_is)) in
+      one_more s (stands h p) (stands turn.1.0 p) (45 ∷ 45 ∷ n) (all_words ps last) row.place (rs ++ flag_row n ∷ parts_rows row.place last ps) turn.0 turn.1.1 rest
 
 -- ---- the whole level
 
@@ -333,21 +378,21 @@ level_from : (s : Shape) (at : Text) (words : List Text) (end : Walk) (rows : Li
 level_from s at words end rows sees defaults valid passes is settles finish =
     rw (passes, is, sees, settles, defaults, finish, valid) refl
 
-pub level : (s : Shape) (at : Text) (options flags : List Text) → Table s at options flags → bytes_eq at at ≡ true → (last : Option Text) → list_all default_passes s.rules ≡ true
-    → ((rows : List Row) → is_given at rows ≡ true → is_valid s rows false ≡ true)
-    → (ps : List Part) → AreParts (record { place = at; options = options; flags = flags }) [] ps last → level_passes s [] nothing_held (all_words ps last) false ≡ true
-level s at options flags t own last defaults valid ps fits =
-    let walks = parts_walk s at options flags t own last ps nothing_held 1 [] [] fits (nothing_ready s.rules) (λ e. refl) in
+pub level : (s : Shape) (row : Command) → Table s row → (ps : List Part) (last : Option Text) → AreParts row [] ps last
+    → level_passes s [] nothing_held (all_words ps last) false ≡ true
+level s row t ps last fits =
+    let walks = parts_walk s row t last ps nothing_held 1 [] [] fits (nothing_ready s.rules) (λ e. refl) in
     let ready = walks.1.3 in
     let rows = (settled s.rules walks.1.0.held).rows in
-    let given = given_finally at s.rules rows (given_of at rows ready.explicit (ready.rows at ∙ walks.1.4)) in
-    level_from s at (all_words ps last) walks.1.0 (finished s.rules walks.1.0.held) t.sees defaults (valid (finished s.rules walks.1.0.held) given) walks.0 walks.1.2 ready.settles refl
+    let given = given_finally row.place s.rules rows (given_of row.place rows ready.explicit (ready.rows row.place ∙ walks.1.4)) in
+    level_from s row.place (all_words ps last) walks.1.0 (finished s.rules walks.1.0.held) t.sees t.defaults
+    (t.valid (finished s.rules walks.1.0.held) given) walks.0 walks.1.2 ready.settles refl
 
 -- the rows of the level
-pub level_rows : (s : Shape) (at : Text) (options flags : List Text) → Table s at options flags → bytes_eq at at ≡ true
-    → (last : Option Text) (ps : List Part) → AreParts (record { place = at; options = options; flags = flags }) [] ps last → rows_after s.rules [] (all_words ps last) ≡ fold with_default (parts_rows at last ps) s.rules
-level_rows s at options flags t own last ps fits =
-    let walks = parts_walk s at options flags t own last ps nothing_held 1 [] [] fits (nothing_ready s.rules) (λ e. refl) in
+pub level_rows : (s : Shape) (row : Command) → Table s row → (ps : List Part) (last : Option Text) → AreParts row [] ps last
+    → rows_after s.rules [] (all_words ps last) ≡ fold with_default (parts_rows row.place last ps) s.rules
+level_rows s row t ps last fits =
+    let walks = parts_walk s row t last ps nothing_held 1 [] [] fits (nothing_ready s.rules) (λ e. refl) in
     ap (λ (x : Walk). finished s.rules x.held) walks.1.2 ∙ ap (λ (rows : List Row). fold with_default rows s.rules) walks.1.3.exact
 
 -- ---- the command above

@@ -1,46 +1,57 @@
--- The five commands with their arguments, as `clap` knows them; `docs/command-line.md` lists them for users.
-use Rattle.std.specs.Prelude.{List, [], ◌∷◌, Some, true, codes, fold}
+-- The commands with their arguments, as rows of data, and as `clap` knows them; `docs/command-line.md` lists them for users.
+use Rattle.std.specs.Prelude.{List, [], ◌∷◌, ◌++◌, Some, true, codes, fold, map}
 use Rattle.clap.specs.Words.{App, Rule, Shape, Text, new_app, new_rule, with_rule, with_subcommand}
-use Rattle.clap.specs.declared.builder.ArgAction.TheVariants.{Set, SetTrue}
+use Rattle.clap.specs.declared.builder.action.ArgAction.{ArgAction}
+use Rattle.clap.specs.declared.builder.action.ArgAction.TheVariants.{Set, SetTrue}
+
+-- a command: its word, its one argument without a name, its options, which take a value, and its flags; own
+pub record Row : Type 0 where
+  pub word : Text
+  pub place : Text
+  pub options : List Text
+  pub flags : List Text
+
+-- a row by its parts
+abbrev pub row_of : (word place : Text) (options flags : List Text) → Row
+row_of word place options flags = record { word = word; place = place; options = options; flags = flags }
+
+-- `phpsa check`: a script is decided
+abbrev pub check : Row
+check = row_of (codes "check") (codes "FILE") (codes "dtd" ∷ codes "limit" ∷ codes "root" ∷ []) (codes "nesting" ∷ codes "json" ∷ [])
+
+-- `phpsa run`: a script is run
+abbrev pub run : Row
+run = row_of (codes "run") (codes "FILE") (codes "request" ∷ codes "steps" ∷ codes "root" ∷ []) []
+
+-- `phpsa page`: a page is judged
+abbrev pub page : Row
+page = row_of (codes "page") (codes "FILE") (codes "dtd" ∷ codes "root" ∷ []) []
+
+-- `phpsa grammar`: the grammar of a script is written
+abbrev pub grammar : Row
+grammar = row_of (codes "grammar") (codes "FILE") (codes "root" ∷ []) []
+
+-- `phpsa make`: a script is made
+abbrev pub make : Row
+make = row_of (codes "make") (codes "N") [] (codes "check" ∷ [])
+
+-- all commands
+abbrev pub commands : List Row
+commands = check ∷ run ∷ page ∷ grammar ∷ make ∷ []
 
 -- the one argument without a name, which a command wants
 abbrev pub place : Text → Rule
 place name = record (new_rule name) { required = true; action = Some Set }
 
--- `--NAME VALUE` or `--NAME=VALUE`
-abbrev pub option : Text → Rule
-option name = record (new_rule name) { long = Some name; action = Some Set }
+-- `--NAME VALUE` or `--NAME=VALUE` of an option, `--NAME` of a flag
+abbrev pub named : ArgAction → Text → Rule
+named action name = record (new_rule name) { long = Some name; action = Some action }
 
--- `--NAME`
-abbrev pub flag : Text → Rule
-flag name = record (new_rule name) { long = Some name; action = Some SetTrue }
+-- a command as `clap` knows it
+abbrev pub command : Row → App
+command row = fold with_rule (new_app row.word) (place row.place ∷ map (named Set) row.options ++ map (named SetTrue) row.flags)
 
--- a command with these arguments
-abbrev command : Text → List Rule → App
-command name arguments = fold with_rule (new_app name) arguments
-
--- `phpsa check`: the file, the document type, the limit on the grammar, and the flags for nesting alone and for JSON
-abbrev pub check : App
-check = command (codes "check")
-    (place (codes "FILE") ∷ option (codes "dtd") ∷ option (codes "limit") ∷ flag (codes "nesting") ∷ flag (codes "json") ∷ [])
-
--- `phpsa run`: the file, the file of the request, and the most steps
-abbrev pub run : App
-run = command (codes "run") (place (codes "FILE") ∷ option (codes "request") ∷ option (codes "steps") ∷ [])
-
--- `phpsa page`: the file and the document type
-abbrev pub page : App
-page = command (codes "page") (place (codes "FILE") ∷ option (codes "dtd") ∷ [])
-
--- `phpsa grammar`: the file
-abbrev pub grammar : App
-grammar = command (codes "grammar") (place (codes "FILE") ∷ [])
-
--- `phpsa make`: a number of functions, and the flag that asks for a check
-abbrev pub make : App
-make = command (codes "make") (place (codes "N") ∷ flag (codes "check") ∷ [])
-
--- a command is wanted, and no word stands for help or the version
+-- a command is wanted, and `clap` takes no word for help or the version
 abbrev settings : Shape → Shape
 settings shape = record shape {
   no_binary_name = true;
@@ -56,4 +67,4 @@ base = record { top = settings (new_app (codes "phpsa")).top; subs = [] }
 
 -- the program, whose words stand behind its own name
 unfoldable pub phpsa : App
-phpsa = fold with_subcommand base (check.top ∷ run.top ∷ page.top ∷ grammar.top ∷ make.top ∷ [])
+phpsa = fold with_subcommand base (map (λ row. (command row).top) commands)

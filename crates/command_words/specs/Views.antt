@@ -1,13 +1,28 @@
 -- The plain form of what the code gives.
-use Rattle.std.specs.Prelude.{option_map}
-use Rattle.command_words.specs.Asked.{Asked, check, run, page, grammar, make}
+use Rattle.std.specs.Prelude.{◌≡◌, List, Option, None, option_map}
+use Rattle.std.specs.Borrow.{Bor}
+use Rattle.clap.specs.Words.{Text}
+use Rattle.command_words.specs.Asked.{Asked, AreTaken, AsksNothing, help, version, check, run, page, grammar, make}
+use Rattle.command_words.specs.declared.refusal.WordsRefusal.{WordsRefusal}
+use Rattle.command_words.specs.declared.refusal.WordsRefusal.TheVariants.{Usage, Memory}
 use Rattle.command_words.specs.declared.command_line.CommandLine.{CommandLine}
-use Rattle.command_words.specs.declared.command_line.CommandLine.TheVariants.{Check, Run, Page, Grammar, Make}
+use Rattle.command_words.specs.declared.command_line.CommandLine.TheVariants.{Help, Version, Check, Run, Page, Grammar, Make}
+
+-- the bytes of a text that may be left out
+abbrev pub text_as : Option (Bor Text) → Option Text
+text_as text = option_map (λ one. one.now) text
 
 -- what is asked for, as the code has it: texts as their bytes
 abbrev pub asked_as : CommandLine → Asked
-asked_as (Check file definition limit by_nesting as_json) = check file.now definition.now limit by_nesting as_json
-asked_as (Run file request steps) = run file.now (option_map (λ text. text.now) request) steps
-asked_as (Page file definition) = page file.now definition.now
-asked_as (Grammar file) = grammar file.now
+asked_as Help = help
+asked_as Version = version
+asked_as (Check file definition root limit by_nesting as_json) = check file.now definition.now (text_as root) limit by_nesting as_json
+asked_as (Run file root request steps) = run file.now (text_as root) (text_as request) steps
+asked_as (Page file definition root) = page file.now definition.now (text_as root)
+asked_as (Grammar file root) = grammar file.now (text_as root)
 asked_as (Make functions is_checked) = make functions is_checked
+
+-- the words ask for nothing, and where `clap` takes them there is no line of its own; or memory was wanting
+abbrev pub IsRefused : List Text → WordsRefusal → Type 0
+IsRefused words (Usage reason) = AsksNothing words × (AreTaken words → reason ≡ None)
+IsRefused words Memory = Unit {0}

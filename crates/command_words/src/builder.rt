@@ -1,15 +1,43 @@
 //! The commands and their arguments, built for `clap`.
 
-ghost use Rattle.std.specs.Prelude.{◌≡◌, [], IfOk, IfErr, false, true, map, string_bytes};
-ghost use Rattle.clap.specs.Words.{FailsBy, HasMatchesOf, app_of, fault_of, kind_of, rule_of, subcommand_of, subcommand_rows_of, takes};
-ghost use Rattle.command_words.specs.declared.refusal.WordsRefusal.TheVariants.{Usage};
+ghost use Rattle.std.specs.Prelude.{◌≡◌, ◌≢◌, [], IfOk, IfErr, false, true, fold, map, string_bytes};
+ghost use Rattle.clap.specs.Words.{FailsBy, HasMatchesOf, app_of, fault_of, kind_of, rule_of, subcommand_of, subcommand_rows_of, takes, with_rule, with_subcommand};
+ghost use Rattle.command_words.specs.declared.refusal.WordsRefusal.TheVariants.{Memory};
 ghost use Rattle.command_words.specs.Asked.{AreTaken};
 ghost use Rattle.command_words.specs.Program as spec;
+ghost use Rattle.command_words.specs.Program.{row_of};
+ghost use Rattle.command_words.specs.RowViews.{row_as, texts};
 
 use crate::refusal::WordsRefusal;
 use clap::error::ErrorKind;
 use clap::{Arg, ArgAction, ArgMatches, Command, Error};
 use std::alloc::{AllocError, Global};
+
+/// A command: its word, the name of its one argument without a name, its options and its flags.
+#[derive(Clone, Copy)]
+pub(crate) struct Row<'a, 'r> {
+    word: &'a str,
+    place: &'a str,
+    options: &'r [&'a str],
+    flags: &'r [&'a str],
+}
+
+fn row_with<'a, 'r>(
+    word: &'a str,
+    place: &'a str,
+    options: &'r [&'a str],
+    flags: &'r [&'a str],
+) -> Row<'a, 'r>
+    ensures { row_as result ≡ row_of word.entry.now place.entry.now (texts options.entry.now)
+        (texts flags.entry.now) }
+{
+    Row {
+        word,
+        place,
+        options,
+        flags,
+    }
+}
 
 fn place<'a>(alloc: Global, name: &'a str) -> Arg<'a>
     ensures rule { rule_of result ≡ spec.place name.entry.now }
@@ -18,77 +46,78 @@ fn place<'a>(alloc: Global, name: &'a str) -> Arg<'a>
     Arg::new(alloc, name).required(true).action(ArgAction::Set)
 }
 
-fn option<'a>(alloc: Global, name: &'a str) -> Arg<'a>
-    ensures rule { rule_of result ≡ spec.option name.entry.now }
+fn named<'a>(alloc: Global, name: &'a str, action: ArgAction) -> Arg<'a>
+    ensures rule { rule_of result ≡ spec.named action name.entry.now }
     ensures local { result.global ≡ false }
 {
-    Arg::new(alloc, name).long(name).action(ArgAction::Set)
+    Arg::new(alloc, name).long(name).action(action)
 }
 
-fn flag<'a>(alloc: Global, name: &'a str) -> Arg<'a>
-    ensures rule { rule_of result ≡ spec.flag name.entry.now }
-    ensures local { result.global ≡ false }
+/// The command with arguments of these names more.
+fn with_named<'a>(
+    alloc: Global,
+    command: Command<'a>,
+    action: ArgAction,
+    names: &[&'a str],
+) -> Result<Command<'a>, AllocError>
+    ensures app { IfOk result
+        (λ c. app_of c
+        ≡ fold with_rule (app_of command.entry) (map (spec.named action) (texts names.now))) }
 {
-    Arg::new(alloc, name).long(name).action(ArgAction::SetTrue)
+    let mut command = command;
+    for name in names {
+        command = command.arg(named(alloc, name, action))?;
+    }
+    Ok(command)
 }
 
-fn check<'a>(alloc: Global) -> Result<Command<'a>, AllocError>
-    ensures app { IfOk result (λ c. app_of c ≡ spec.check) }
+/// A command by its word, its place, its options and its flags.
+fn command<'a>(alloc: Global, row: Row<'a, '_>) -> Result<Command<'a>, AllocError>
+    ensures app { IfOk result (λ c. app_of c ≡ spec.command (row_as row.entry)) }
 {
-    Command::new(alloc, "check")
-        .arg(place(alloc, "FILE"))?
-        .arg(option(alloc, "dtd"))?
-        .arg(option(alloc, "limit"))?
-        .arg(flag(alloc, "nesting"))?
-        .arg(flag(alloc, "json"))
+    let bare = Command::new(alloc, row.word).arg(place(alloc, row.place))?;
+    let some = with_named(alloc, bare, ArgAction::Set, row.options)?;
+    with_named(alloc, some, ArgAction::SetTrue, row.flags)
 }
 
-fn run<'a>(alloc: Global) -> Result<Command<'a>, AllocError>
-    ensures app { IfOk result (λ c. app_of c ≡ spec.run) }
+/// The program with one command more.
+fn with_command<'a>(
+    alloc: Global,
+    program: Command<'a>,
+    row: Row<'a, '_>,
+) -> Result<Command<'a>, AllocError>
+    ensures app { IfOk result
+        (λ c. app_of c ≡ with_subcommand (app_of program.entry) (spec.command (row_as row.entry)).top) }
 {
-    Command::new(alloc, "run")
-        .arg(place(alloc, "FILE"))?
-        .arg(option(alloc, "request"))?
-        .arg(option(alloc, "steps"))
+    let command = command(alloc, row)?;
+    program.subcommand(command)
 }
 
-fn page<'a>(alloc: Global) -> Result<Command<'a>, AllocError>
-    ensures app { IfOk result (λ c. app_of c ≡ spec.page) }
-{
-    Command::new(alloc, "page")
-        .arg(place(alloc, "FILE"))?
-        .arg(option(alloc, "dtd"))
-}
-
-fn grammar<'a>(alloc: Global) -> Result<Command<'a>, AllocError>
-    ensures app { IfOk result (λ c. app_of c ≡ spec.grammar) }
-{
-    Command::new(alloc, "grammar").arg(place(alloc, "FILE"))
-}
-
-fn make<'a>(alloc: Global) -> Result<Command<'a>, AllocError>
-    ensures app { IfOk result (λ c. app_of c ≡ spec.make) }
-{
-    Command::new(alloc, "make")
-        .arg(place(alloc, "N"))?
-        .arg(flag(alloc, "check"))
-}
-
-/// The program with its five commands.
+/// The program with its commands.
 fn program<'a>(alloc: Global) -> Result<Command<'a>, AllocError>
     ensures app { IfOk result (λ c. app_of c ≡ spec.phpsa) }
 {
-    Command::new(alloc, "phpsa")
+    let program = Command::new(alloc, "phpsa")
         .no_binary_name(true)
         .disable_help_flag(true)
         .disable_help_subcommand(true)
         .disable_version_flag(true)
-        .subcommand_required(true)
-        .subcommand(check(alloc)?)?
-        .subcommand(run(alloc)?)?
-        .subcommand(page(alloc)?)?
-        .subcommand(grammar(alloc)?)?
-        .subcommand(make(alloc)?)
+        .subcommand_required(true);
+    let check = row_with(
+        "check",
+        "FILE",
+        &["dtd", "limit", "root"],
+        &["nesting", "json"],
+    );
+    let run = row_with("run", "FILE", &["request", "steps", "root"], &[]);
+    let page = row_with("page", "FILE", &["dtd", "root"], &[]);
+    let grammar = row_with("grammar", "FILE", &["root"], &[]);
+    let make = row_with("make", "N", &[], &["check"]);
+    let program = with_command(alloc, program, check)?;
+    let program = with_command(alloc, program, run)?;
+    let program = with_command(alloc, program, page)?;
+    let program = with_command(alloc, program, grammar)?;
+    with_command(alloc, program, make)
 }
 
 /// What `clap` makes of the words, or why it does not take them.
@@ -102,6 +131,28 @@ fn parsed<'a>(alloc: Global, words: &'a [String]) -> Result<ArgMatches<'a>, Erro
     program(alloc)?.try_get_matches_from(words)
 }
 
+/// The first line of what `clap` says.
+fn reason_of(alloc: Global, error: &Error) -> Result<String, AllocError> {
+    let message = error.to_string(alloc)?;
+    let text = message.as_str();
+    let text = text.strip_prefix("error: ").unwrap_or(text);
+    String::from_str(alloc, text.lines().next().unwrap_or(text))
+}
+
+fn refusal_of(alloc: Global, error: &Error) -> WordsRefusal
+    ensures { result ≢ Memory → kind_of error.now ≢ ErrorKind.OutOfMemory }
+{
+    match error.kind() {
+        ErrorKind::OutOfMemory => WordsRefusal::Memory,
+        _ => match reason_of(alloc, error) {
+            Ok(reason) => WordsRefusal::Usage {
+                reason: Some(reason),
+            },
+            Err(AllocError) => WordsRefusal::Memory,
+        },
+    }
+}
+
 /// What `clap` makes of the words.
 pub(crate) fn matches_of<'a>(
     alloc: Global,
@@ -113,13 +164,10 @@ pub(crate) fn matches_of<'a>(
     ensures fault { IfOk result
         (λ matches. fault_of spec.phpsa (map string_bytes words.entry.now) ≡ []) }
     ensures usage { IfErr result
-        (λ refusal. refusal ≡ Usage → AreTaken (map string_bytes words.entry.now) → ⊥) }
+        (λ refusal. refusal ≢ Memory → AreTaken (map string_bytes words.entry.now) → ⊥) }
 {
     match parsed(alloc, words) {
         Ok(matches) => Ok(matches),
-        Err(error) => match error.kind() {
-            ErrorKind::OutOfMemory => Err(WordsRefusal::Memory),
-            _ => Err(WordsRefusal::Usage),
-        },
+        Err(error) => Err(refusal_of(alloc, &error)),
     }
 }

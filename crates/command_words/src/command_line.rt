@@ -1,13 +1,21 @@
 //! What words ask for.
 
-/// A command with the values of its arguments.
+/// A command with the values of its arguments, or what is told of all of them.
+///
+/// `root` is the folder that includes, and the files of a definition, may not leave; none where the
+/// words give none.
 #[derive(Clone, Copy, Debug, PartialEq, Eq)]
 pub enum CommandLine<'a> {
+    /// Tells what the commands and their options are.
+    Help,
+    /// Tells the version of the program.
+    Version,
     /// Decides a script: by the definition of this name, with at most so many pairs of one
     /// nonterminal, by nesting alone where that is asked for, and the answer as JSON where that is.
     Check {
         file: &'a str,
         definition: &'a str,
+        root: Option<&'a str>,
         limit: u32,
         by_nesting: bool,
         as_json: bool,
@@ -15,6 +23,7 @@ pub enum CommandLine<'a> {
     /// Runs a script for the request in a file, or for the empty one, with so many units.
     Run {
         file: &'a str,
+        root: Option<&'a str>,
         request: Option<&'a str>,
         steps: u32,
     },
@@ -22,10 +31,12 @@ pub enum CommandLine<'a> {
     Page {
         file: &'a str,
         definition: &'a str,
+        root: Option<&'a str>,
     },
     /// Writes the grammar of the pages of a script.
     Grammar {
         file: &'a str,
+        root: Option<&'a str>,
     },
     /// Writes a generated script with so many functions, or checks it.
     Make {

@@ -7,11 +7,12 @@ use std::alloc::AllocError;
 use thiserror::Error;
 
 /// Why words ask for nothing.
-#[derive(Clone, Copy, Debug, PartialEq, Eq, Error)]
+#[derive(Debug, PartialEq, Eq, Error, Drop)]
 pub enum WordsRefusal {
-    /// The words are none that the program takes.
+    /// The words are none that the program takes. `reason` is the first line of what `clap` says of
+    /// them; there is none where `clap` takes them, and a number in them is none.
     #[error("the words are none that the program takes")]
-    Usage,
+    Usage { reason: Option<String> },
     /// No memory was left.
     #[error("out of memory")]
     Memory,

@@ -5,35 +5,37 @@
 //! Used by: the command line.
 #![tactic(auto)]
 
-use io_edge::{DiskFiles, StdSink};
+mod words;
+
+use crate::words::{NoWords, words_of};
+use io_edge::{DiskFiles, Sink, StdSink};
 use phpsa_main::phpsa;
+use phpsa_texts::{Exit, Refusal, words_refusal};
+use site_check::ReadOnce;
 use std::process::ExitCode;
-use std::rt::Env;
-use std::{env, io};
 
-/// The status where the system does not give the words: one of them is not UTF-8, or no memory was
-/// left for them.
-const NO_WORDS: u8 = 16;
-
-/// The words after the program's name.
-fn words_of(rt: &(impl Env + AllocGlobal)) -> io::Result<Vec<String>> {
-    let mut words = Vec::new(rt.alloc());
-    for word in env::args(rt)?.skip(1) {
-        words.push(word)?;
+/// Says which word is no UTF-8; nothing, where no memory is left for that.
+fn refuse(rt: &HostRuntime, no_words: NoWords) -> Exit {
+    if let NoWords::NotUtf8 { place } = no_words {
+        if let Refusal::Told(message) = words_refusal(rt.alloc(), place) {
+            let mut err = StdSink::new(rt, rt.stderr());
+            let _ = err.put(message.text.as_slice());
+        }
     }
-    Ok(words)
+    Exit::Words
 }
 
-fn status_of(rt: &HostRuntime) -> u8 {
-    let Ok(words) = words_of(rt) else {
-        return NO_WORDS;
+fn status_of(rt: &HostRuntime) -> Exit {
+    let words = match words_of(rt) {
+        Ok(words) => words,
+        Err(no_words) => return refuse(rt, no_words),
     };
-    let mut files = DiskFiles::new(rt);
+    let mut files = ReadOnce::new(rt.alloc(), DiskFiles::new(rt));
     let mut out = StdSink::new(rt, rt.stdout());
     let mut err = StdSink::new(rt, rt.stderr());
-    phpsa(rt.alloc(), &words, &mut files, &mut out, &mut err).code()
+    phpsa(rt.alloc(), &words, &mut files, &mut out, &mut err)
 }
 
 fn main(rt: HostRuntime) -> ExitCode {
-    ExitCode::from(status_of(&rt))
+    ExitCode::from(status_of(&rt).code())
 }

@@ -1,6 +1,11 @@
 -- The statuses and texts on examples.
-use Rattle.std.proofs.Common.{◌≡◌, ◌++◌, [], ◌∷◌, true, false, codes, refl}
+use Rattle.std.proofs.Common.{◌≡◌, ◌++◌, [], ◌∷◌, true, false, None, Some, codes, refl}
 use Rattle.std.specs.Fmt.{digits}
+use Rattle.std.specs.Char.{encode_utf8}
+use Rattle.std.specs.Str.{chars}
+use Rattle.hex.specs.Hex.{encode_with}
+use Rattle.character_steps.specs.Bytes.{decoded}
+use Rattle.phpsa_texts.specs.Shown.{shown_name}
 use Rattle.phpsa_texts.specs.declared.exit.Exit.TheVariants.{Done, Undecided, Script, Spent, Missing, ReadFault, Usage, Dtd, Input}
 use Rattle.phpsa_texts.specs.declared.answers.AnswerForm.TheVariants.{Plain, Json}
 use Rattle.phpsa_texts.specs.declared.answers.Conclusion.TheVariants as conclusion
@@ -14,7 +19,7 @@ use Rattle.document_types.specs.declared.refusal.DefinitionRefusal.TheVariants a
 use Rattle.request_reading.specs.declared.refusal.RequestRefusal.TheVariants as request
 use Rattle.plain_values.specs.declared.fault.Fault.TheVariants as fault
 use Rattle.phpsa_texts.specs.Statuses.{status_of, conclusion_status, judgment_status, load_status, definition_status}
-use Rattle.phpsa_texts.specs.Texts.{yes_answer, no_answer, passed_answer, summary_text, long_text, judgment_text, load_text, file_text, definition_text, states_text, request_text, fault_text, spent_text, deep_text, size_text, usage_text, write_fault_text}
+use Rattle.phpsa_texts.specs.Texts.{yes_answer, no_answer, passed_answer, summary_text, long_text, judgment_text, load_text, file_text, definition_text, states_text, request_text, fault_text, spent_text, deep_text, size_text, reason_text, usage_text, words_text, write_fault_text}
 
 a_yes : yes_answer Plain ≡ 121 ∷ 101 ∷ 115 ∷ 10 ∷ []
 a_yes = refl
@@ -42,6 +47,7 @@ no_conclusion : conclusion_status conclusion.Undecided ≡ Undecided
 no_conclusion = refl
 
 a_long_text : long_text (codes "t.php") ≡ codes "phpsa: LongText t.php" ++ 10 ∷ []
+unfolding shown_name decoded chars encode_utf8
 a_long_text = refl
 
 an_invalid_page : judgment_text false ≡ codes "invalid" ++ 10 ∷ []
@@ -51,15 +57,16 @@ a_valid_page : judgment_status true ≡ Done
 a_valid_page = refl
 
 a_long_file : load_text (load.TooLong (codes "t.php") 1048577) ≡ codes "phpsa: TooLong t.php 1048577" ++ 10 ∷ []
-unfolding digits
+unfolding digits shown_name decoded chars encode_utf8
 a_long_file = refl
 
 a_deep_script : load_text (load.Script (codes "t.php") (Parse (parsed.TooDeep 211))) ≡ codes "phpsa: TooDeep t.php 211" ++ 10 ∷ []
-unfolding digits
+unfolding digits shown_name decoded chars encode_utf8
 a_deep_script = refl
 
 -- a rule on functions names the function, and a limit nothing
 a_double : load_text (load.DoubleFunction (codes "f")) ≡ codes "phpsa: DoubleFunction f" ++ 10 ∷ []
+unfolding shown_name decoded chars encode_utf8
 a_double = refl
 
 too_many_places : load_text (load.TooMany 257) ≡ codes "phpsa: TooMany 257" ++ 10 ∷ []
@@ -76,6 +83,7 @@ a_fault_status : load_status (load.ReadFault (codes "a.php")) ≡ ReadFault
 a_fault_status = refl
 
 a_missing_page : file_text reading.Missing (codes "p.xhtml") ≡ codes "phpsa: Missing p.xhtml" ++ 10 ∷ []
+unfolding shown_name decoded chars encode_utf8
 a_missing_page = refl
 
 no_definition : definition_text (definition.File (dtd.NotDtd 0)) ≡ codes "phpsa: Dtd NotDtd 0" ++ 10 ∷ []
@@ -83,9 +91,11 @@ unfolding digits
 no_definition = refl
 
 no_entity : definition_text (definition.File (dtd.Entity (codes "a"))) ≡ codes "phpsa: Dtd Entity a" ++ 10 ∷ []
+unfolding shown_name decoded chars encode_utf8
 no_entity = refl
 
 no_definition_file : definition_text (definition.File (dtd.Missing (codes "d.dtd"))) ≡ codes "phpsa: Missing d.dtd" ++ 10 ∷ []
+unfolding shown_name decoded chars encode_utf8
 no_definition_file = refl
 
 its_status : definition_status (definition.File (dtd.Missing (codes "d.dtd"))) ≡ Missing
@@ -99,6 +109,7 @@ unfolding digits
 many_states = refl
 
 a_stray_text : request_text (request.NotAdmitted (codes "get.q")) ≡ codes "phpsa: NotAdmitted get.q" ++ 10 ∷ []
+unfolding shown_name decoded chars encode_utf8
 a_stray_text = refl
 
 a_size : size_text 1001 ≡ codes "phpsa: Size 1001" ++ 10 ∷ []
@@ -126,6 +137,40 @@ a_fault = refl
 a_status : status_of Usage ≡ 9
 a_status = refl
 
-the_usage : usage_text
-    ≡ codes "phpsa: Usage\nphpsa check FILE [--dtd D] [--limit N] [--nesting] [--json]\nphpsa run FILE [--request FILE] [--steps N]\nphpsa page FILE [--dtd D]\nphpsa grammar FILE\nphpsa make N [--check]\n"
+the_usage : usage_text None
+    ≡ codes "phpsa: Usage\na number is one to eight decimal digits that are not all 0\nphpsa check FILE [--dtd D] [--limit N] [--nesting] [--json] [--root FOLDER]\nphpsa run FILE [--request FILE] [--steps N] [--root FOLDER]\nphpsa page FILE [--dtd D] [--root FOLDER]\nphpsa grammar FILE [--root FOLDER]\nphpsa make N [--check]\nphpsa --help\nphpsa --version\n"
 the_usage = refl
+
+a_reason : reason_text (Some (codes "unexpected argument 'x'")) ≡ codes "unexpected argument 'x'" ++ 10 ∷ []
+unfolding shown_name decoded chars encode_utf8
+a_reason = refl
+
+the_second_word : words_text 2 ≡ codes "phpsa: Words 2" ++ 10 ∷ []
+unfolding digits
+the_second_word = refl
+
+-- a letter of two bytes stays; a line end, a backslash, a byte that begins no character, one that is cut, a control character of two bytes
+-- and a separator of lines do not
+a_plain_name : shown_name (codes "é.php") ≡ 0xC3 ∷ 0xA9 ∷ codes ".php"
+unfolding shown_name decoded chars encode_utf8
+a_plain_name = refl
+
+a_line_end : shown_name (97 ∷ 10 ∷ 98 ∷ []) ≡ codes "a\\x0ab"
+unfolding shown_name decoded chars encode_utf8 encode_with
+a_line_end = refl
+
+a_backslash : shown_name (codes "a\\b") ≡ codes "a\\x5cb"
+unfolding shown_name decoded chars encode_utf8 encode_with
+a_backslash = refl
+
+no_character : shown_name (0xFF ∷ 97 ∷ 0xC3 ∷ []) ≡ codes "\\xffa\\xc3"
+unfolding shown_name decoded chars encode_utf8 encode_with
+no_character = refl
+
+a_control_character : shown_name (0xC2 ∷ 0x85 ∷ []) ≡ codes "\\xc2\\x85"
+unfolding shown_name decoded chars encode_utf8 encode_with
+a_control_character = refl
+
+a_separator : shown_name (0xE2 ∷ 0x80 ∷ 0xA8 ∷ []) ≡ codes "\\xe2\\x80\\xa8"
+unfolding shown_name decoded chars encode_utf8 encode_with
+a_separator = refl

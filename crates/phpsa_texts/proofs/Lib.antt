@@ -1,2 +1,3 @@
 mod Examples
 mod JsonExamples
+pub mod Printing

@@ -1,7 +1,7 @@
 -- The statuses that calls end with; this project's own.
 use Rattle.std.specs.Prelude.{ℕ, Bool, true, false}
 use Rattle.phpsa_texts.specs.declared.exit.Exit.{Exit}
-use Rattle.phpsa_texts.specs.declared.exit.Exit.TheVariants.{Done, No, Undecided, Script, Spent, Missing, ReadFault, WriteFault, Usage, Dtd, Input, Memory, Deep}
+use Rattle.phpsa_texts.specs.declared.exit.Exit.TheVariants.{Done, No, Undecided, Script, Spent, Missing, ReadFault, WriteFault, Usage, Dtd, Input, Memory, Deep, Words}
 use Rattle.phpsa_texts.specs.declared.exit.Exit.TheVariants as exit
 use Rattle.plain_values.specs.declared.fault.Fault.{Fault}
 use Rattle.plain_values.specs.declared.fault.Fault.TheVariants as fault
@@ -34,6 +34,7 @@ status_of Dtd = 10
 status_of Input = 11
 status_of Memory = 12
 status_of Deep = 13
+status_of Words = 16
 
 -- where a script is decided
 abbrev pub conclusion_status : Conclusion → Exit

@@ -1,5 +1,5 @@
 -- The texts that the program writes, each ended by one LF (10); this project's own.
-use Rattle.std.specs.Prelude.{◌≡◌, ℕ, Bool, true, false, List, [], ◌∷◌, ◌++◌, codes, ⊤}
+use Rattle.std.specs.Prelude.{◌≡◌, ℕ, Bool, true, false, List, [], ◌∷◌, ◌++◌, Option, None, Some, codes, ⊤}
 use Rattle.std.specs.Fmt.{decimal}
 use Rattle.text_base.specs.declared.limits.TheConstants.{CALL_LIMIT}
 use Rattle.lexical_grammar.specs.declared.fault.LexicalFault.{LexicalFault}
@@ -20,6 +20,8 @@ use Rattle.document_types.specs.declared.refusal.DefinitionRefusal.{DefinitionRe
 use Rattle.document_types.specs.declared.refusal.DefinitionRefusal.TheVariants as definition
 use Rattle.plain_values.specs.declared.fault.Fault.{Fault}
 use Rattle.plain_values.specs.declared.fault.Fault.TheVariants as fault
+use Rattle.phpsa_texts.specs.declared.words.TheConstants.{HELP}
+use Rattle.phpsa_texts.specs.Shown.{shown_name}
 use Rattle.phpsa_texts.specs.JsonAnswers.{yes_json, no_json, sums_json, items_json}
 use Rattle.phpsa_texts.specs.declared.exit.Exit.{Exit}
 use Rattle.phpsa_texts.specs.declared.message.Message.{Message}
@@ -96,17 +98,25 @@ abbrev pub judgment_text : Bool → List ℕ
 judgment_text true = codes "valid" ++ 10 ∷ []
 judgment_text false = codes "invalid" ++ 10 ∷ []
 
+-- `phpsa: KIND VALUE`
+abbrev pub kind_text : List ℕ → List ℕ → List ℕ
+kind_text kind value = codes "phpsa: " ++ kind ++ codes " " ++ value ++ 10 ∷ []
+
 -- `phpsa: KIND NAME`
 abbrev pub named_text : List ℕ → List ℕ → List ℕ
-named_text kind name = codes "phpsa: " ++ kind ++ codes " " ++ name ++ 10 ∷ []
+named_text kind name = kind_text kind (shown_name name)
+
+-- `phpsa: KIND NUMBER`
+abbrev pub number_text : List ℕ → ℕ → List ℕ
+number_text kind number = kind_text kind (decimal number)
 
 -- `phpsa: KIND NAME NUMBER`
 abbrev pub counted_text : List ℕ → List ℕ → ℕ → List ℕ
-counted_text kind name number = codes "phpsa: " ++ kind ++ codes " " ++ name ++ codes " " ++ decimal number ++ 10 ∷ []
+counted_text kind name number = kind_text kind (shown_name name ++ codes " " ++ decimal number)
 
--- `phpsa: Dtd KIND VALUE`
-abbrev pub dtd_text : List ℕ → List ℕ → List ℕ
-dtd_text kind value = codes "phpsa: Dtd " ++ kind ++ codes " " ++ value ++ 10 ∷ []
+-- `Dtd KIND`
+abbrev pub dtd_kind : List ℕ → List ℕ
+dtd_kind kind = codes "Dtd " ++ kind
 
 -- on `err`, where no memory was left
 abbrev pub memory_text : List ℕ
@@ -143,7 +153,7 @@ load_text (load.IncludeCycle name) = named_text (codes "IncludeCycle") name
 load_text (load.DoubleFunction name) = named_text (codes "DoubleFunction") name
 load_text (load.UnknownFunction name) = named_text (codes "UnknownFunction") name
 load_text (load.Arity name) = named_text (codes "Arity") name
-load_text (load.TooMany count) = named_text (codes "TooMany") (decimal count)
+load_text (load.TooMany count) = number_text (codes "TooMany") count
 load_text load.Memory = memory_text
 
 -- on `err`, where this file is not read
@@ -165,12 +175,12 @@ abbrev pub dtd_refusal_text : DtdRefusal → List ℕ
 dtd_refusal_text (dtd.Missing name) = named_text (codes "Missing") name
 dtd_refusal_text (dtd.ReadFault name) = named_text (codes "ReadFault") name
 dtd_refusal_text (dtd.TooLong name len) = counted_text (codes "TooLong") name len
-dtd_refusal_text (dtd.NotDtd at) = dtd_text (codes "NotDtd") (decimal at)
-dtd_refusal_text (dtd.Entity name) = dtd_text (codes "Entity") name
-dtd_refusal_text (dtd.Twice name) = dtd_text (codes "Twice") name
-dtd_refusal_text (dtd.Undeclared name) = dtd_text (codes "Undeclared") name
-dtd_refusal_text (dtd.LeftOut at) = dtd_text (codes "LeftOut") (decimal at)
-dtd_refusal_text (dtd.Limit count) = dtd_text (codes "Limit") (decimal count)
+dtd_refusal_text (dtd.NotDtd at) = number_text (dtd_kind (codes "NotDtd")) at
+dtd_refusal_text (dtd.Entity name) = named_text (dtd_kind (codes "Entity")) name
+dtd_refusal_text (dtd.Twice name) = named_text (dtd_kind (codes "Twice")) name
+dtd_refusal_text (dtd.Undeclared name) = named_text (dtd_kind (codes "Undeclared")) name
+dtd_refusal_text (dtd.LeftOut at) = number_text (dtd_kind (codes "LeftOut")) at
+dtd_refusal_text (dtd.Limit count) = number_text (dtd_kind (codes "Limit")) count
 dtd_refusal_text dtd.Memory = memory_text
 
 -- on `err`, for the built-in text
@@ -186,7 +196,7 @@ definition_text definition.Memory = memory_text
 
 -- on `err`, where the content models of a definition have so many states
 abbrev pub states_text : ℕ → List ℕ
-states_text count = dtd_text (codes "Limit") (decimal count)
+states_text count = number_text (dtd_kind (codes "Limit")) count
 
 -- on `err`, where a text in the script of this file is over the limit of a run
 abbrev pub long_text : List ℕ → List ℕ
@@ -229,36 +239,58 @@ fault_text other = numbered_fault (fault_number other) (fault_kind other)
 
 -- on `err`, where a run had none of so many units left
 abbrev pub spent_text : ℕ → List ℕ
-spent_text steps = named_text (codes "Spent") (decimal steps)
+spent_text steps = number_text (codes "Spent") steps
 
 -- on `err`, where a run would have had one more call open at once than may be
 abbrev pub deep_text : List ℕ
-deep_text = named_text (codes "Deep") (decimal CALL_LIMIT)
+deep_text = number_text (codes "Deep") CALL_LIMIT
 
 -- on `err`, where a script cannot have so many functions
 abbrev pub size_text : ℕ → List ℕ
-size_text functions = named_text (codes "Size") (decimal functions)
+size_text functions = number_text (codes "Size") functions
 
--- what each command takes
+-- on `err`, where the word of this place is no UTF-8, from 1
+abbrev pub words_text : ℕ → List ℕ
+words_text place = number_text (codes "Words") place
+
+-- on `out`, where help is asked for
+unfoldable pub help_text : List ℕ
+help_text = HELP.now
+
+-- on `out`, where the version is asked for
+abbrev pub version_text : List ℕ
+version_text = codes "phpsa 0.1.0" ++ 10 ∷ []
+
+-- what `check` takes
 abbrev pub check_usage : List ℕ
-check_usage = codes "phpsa check FILE [--dtd D] [--limit N] [--nesting] [--json]" ++ 10 ∷ []
+check_usage = codes "phpsa check FILE [--dtd D] [--limit N] [--nesting] [--json] [--root FOLDER]" ++ 10 ∷ []
 
 -- what `run` takes
 abbrev pub run_usage : List ℕ
-run_usage = codes "phpsa run FILE [--request FILE] [--steps N]" ++ 10 ∷ []
+run_usage = codes "phpsa run FILE [--request FILE] [--steps N] [--root FOLDER]" ++ 10 ∷ []
 
 -- what `page` takes
 abbrev pub page_usage : List ℕ
-page_usage = codes "phpsa page FILE [--dtd D]" ++ 10 ∷ []
+page_usage = codes "phpsa page FILE [--dtd D] [--root FOLDER]" ++ 10 ∷ []
 
 -- what `grammar` takes
 abbrev pub grammar_usage : List ℕ
-grammar_usage = codes "phpsa grammar FILE" ++ 10 ∷ []
+grammar_usage = codes "phpsa grammar FILE [--root FOLDER]" ++ 10 ∷ []
 
 -- what `make` takes
 abbrev pub make_usage : List ℕ
 make_usage = codes "phpsa make N [--check]" ++ 10 ∷ []
 
--- on `err`, where words ask for nothing: its name, and a line for each command
-abbrev pub usage_text : List ℕ
-usage_text = codes "phpsa: Usage" ++ 10 ∷ (check_usage ++ (run_usage ++ (page_usage ++ (grammar_usage ++ make_usage))))
+-- what else may be asked for
+abbrev pub help_usage : List ℕ
+help_usage = codes "phpsa --help" ++ 10 ∷ (codes "phpsa --version" ++ 10 ∷ [])
+
+-- what is wrong with the words: a line that is told of them, or, where there is none, what a number is
+abbrev pub reason_text : Option (List ℕ) → List ℕ
+reason_text None = codes "a number is one to eight decimal digits that are not all 0" ++ 10 ∷ []
+reason_text (Some line) = shown_name line ++ 10 ∷ []
+
+-- on `err`, where words ask for nothing: its name, what is wrong, and a line for each command
+abbrev pub usage_text : Option (List ℕ) → List ℕ
+usage_text reason = codes "phpsa: Usage" ++ 10
+    ∷ (reason_text reason ++ (check_usage ++ (run_usage ++ (page_usage ++ (grammar_usage ++ (make_usage ++ help_usage))))))

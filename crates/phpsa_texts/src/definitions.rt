@@ -6,7 +6,7 @@ ghost use Rattle.phpsa_texts.specs.Texts.{IsTold, built_in_text, definition_text
 ghost use Rattle.phpsa_texts.specs.declared.exit.Exit.TheVariants.{Dtd};
 
 use crate::exit::Exit;
-use crate::lines::{NO_MEMORY, counted_text, dtd_text, named_text, numbered_text};
+use crate::lines::{NO_MEMORY, counted_text, named_text, number_text};
 use crate::message::Refusal;
 use crate::telling::told;
 use document_types::DefinitionRefusal;
@@ -26,12 +26,12 @@ fn dtd_refusal_text(alloc: Global, refusal: &DtdRefusal) -> Result<Bytes, NoMemo
         DtdRefusal::TooLong { name, len } => {
             counted_text(alloc, b"TooLong", name.as_slice(), *len)
         }
-        DtdRefusal::NotDtd { at } => numbered_text(alloc, b"NotDtd", *at),
-        DtdRefusal::Entity { name } => dtd_text(alloc, b"Entity", name.as_slice()),
-        DtdRefusal::Twice { name } => dtd_text(alloc, b"Twice", name.as_slice()),
-        DtdRefusal::Undeclared { name } => dtd_text(alloc, b"Undeclared", name.as_slice()),
-        DtdRefusal::LeftOut { at } => numbered_text(alloc, b"LeftOut", *at),
-        DtdRefusal::Limit { count } => numbered_text(alloc, b"Limit", *count),
+        DtdRefusal::NotDtd { at } => number_text(alloc, b"Dtd NotDtd", *at),
+        DtdRefusal::Entity { name } => named_text(alloc, b"Dtd Entity", name.as_slice()),
+        DtdRefusal::Twice { name } => named_text(alloc, b"Dtd Twice", name.as_slice()),
+        DtdRefusal::Undeclared { name } => named_text(alloc, b"Dtd Undeclared", name.as_slice()),
+        DtdRefusal::LeftOut { at } => number_text(alloc, b"Dtd LeftOut", *at),
+        DtdRefusal::Limit { count } => number_text(alloc, b"Dtd Limit", *count),
         DtdRefusal::Memory => Bytes::from_slice(alloc, NO_MEMORY),
     }
 }
@@ -108,5 +108,5 @@ pub fn definition_refusal(alloc: Global, refusal: &DefinitionRefusal) -> Refusal
 pub fn states_refusal(alloc: Global, count: u64) -> Refusal
     ensures { IsTold result Dtd (states_text count) }
 {
-    told(Exit::Dtd, numbered_text(alloc, b"Limit", count))
+    told(Exit::Dtd, number_text(alloc, b"Dtd Limit", count))
 }

@@ -38,6 +38,8 @@ pub enum Exit {
     Memory,
     /// 13: the run would have had 257 calls open at once.
     Deep,
+    /// 16: the system does not give the words as UTF-8.
+    Words,
 }
 
 impl Exit {
@@ -60,6 +62,7 @@ impl Exit {
             Exit::Input => 11,
             Exit::Memory => 12,
             Exit::Deep => 13,
+            Exit::Words => 16,
         }
     }
 }

@@ -2,7 +2,7 @@
 //! JSON: one function for each text.
 //! Promise: each gives a `Message` of exactly its status and text (`Says` of specs/Texts) or a
 //! `Refusal` that tells them (`IsTold`); `yes_json` and its like give those of specs/JsonAnswers.
-//! Used by: phpsa_tasks, phpsa_main, check_rows.
+//! Used by: phpsa_tasks, phpsa_main, phpsa, check_rows.
 #![tactic(auto)]
 
 mod answers;
@@ -14,7 +14,9 @@ mod message;
 mod other_refusals;
 mod programs;
 mod runs;
+mod shown;
 mod telling;
+mod words;
 
 pub use answers::{
     AnswerForm, Conclusion, PassedCount, judgment_message, no_message, passed_message,
@@ -25,8 +27,8 @@ pub use exit::Exit;
 pub use json_answers::{items_json, no_json, sums_json, yes_json};
 pub use lines::{NO_MEMORY, WRITE_FAULT};
 pub use message::{Message, Refusal};
-pub use other_refusals::{
-    file_refusal, long_text_refusal, request_refusal, size_refusal, usage_refusal,
-};
+pub use other_refusals::{file_refusal, long_text_refusal, request_refusal, size_refusal};
 pub use programs::load_refusal;
 pub use runs::{deep_message, fault_message, spent_message};
+pub use shown::{NAME_LIMIT, shown_name, shown_names_are_printable};
+pub use words::{help_message, usage_refusal, version_message, words_refusal};

@@ -1,9 +1,10 @@
 //! The lines that texts are made of.
 
-ghost use Rattle.std.specs.Prelude.{◌≡◌, ◌++◌, ◌∷◌, [], codes, OnOk, IfOk};
+ghost use Rattle.std.specs.Prelude.{◌≡◌, ◌++◌, OnOk, IfOk};
 ghost use Rattle.std.specs.Fmt.{decimal};
-ghost use Rattle.phpsa_texts.specs.Texts.{counted_text, named_text, dtd_text};
+ghost use Rattle.phpsa_texts.specs.Texts.{counted_text, kind_text, named_text, number_text};
 
+use crate::shown::shown_name;
 use std::alloc::Global;
 use text_base::{Bytes, NoMemory};
 
@@ -21,11 +22,11 @@ pub(crate) fn append_number(alloc: Global, text: &mut Bytes, number: u64) -> Res
     Ok(())
 }
 
-/// A text, a kind, a space, a value and LF.
-fn line(alloc: Global, head: &[u8], kind: &[u8], value: &[u8]) -> Result<Bytes, NoMemory>
-    ensures { IfOk result (λ text. text ≡ head.now ++ kind.now ++ codes " " ++ value.now ++ 10 ∷ []) }
+/// `phpsa: KIND VALUE`.
+pub(crate) fn kind_text(alloc: Global, kind: &[u8], value: &[u8]) -> Result<Bytes, NoMemory>
+    ensures { IfOk result (λ text. text ≡ kind_text kind.now value.now) }
 {
-    let mut text = Bytes::from_slice(alloc, head)?;
+    let mut text = Bytes::from_slice(alloc, b"phpsa: ")?;
     text.append(kind)?;
     text.append(b" ")?;
     text.append(value)?;
@@ -37,15 +38,16 @@ fn line(alloc: Global, head: &[u8], kind: &[u8], value: &[u8]) -> Result<Bytes, 
 pub(crate) fn named_text(alloc: Global, kind: &[u8], name: &[u8]) -> Result<Bytes, NoMemory>
     ensures { IfOk result (λ text. text ≡ named_text kind.now name.now) }
 {
-    line(alloc, b"phpsa: ", kind, name)
+    let shown = shown_name(alloc, name)?;
+    kind_text(alloc, kind, shown.as_slice())
 }
 
-/// `phpsa: KIND COUNT`.
-pub(crate) fn count_text(alloc: Global, kind: &[u8], count: u64) -> Result<Bytes, NoMemory>
-    ensures { IfOk result (λ text. text ≡ named_text kind.now (decimal count)) }
+/// `phpsa: KIND NUMBER`.
+pub(crate) fn number_text(alloc: Global, kind: &[u8], number: u64) -> Result<Bytes, NoMemory>
+    ensures { IfOk result (λ text. text ≡ number_text kind.now number) }
 {
-    let digits = count.to_string(alloc)?;
-    named_text(alloc, kind, digits.as_bytes())
+    let digits = number.to_string(alloc)?;
+    kind_text(alloc, kind, digits.as_bytes())
 }
 
 /// `phpsa: KIND NAME NUMBER`.
@@ -57,27 +59,8 @@ pub(crate) fn counted_text(
 ) -> Result<Bytes, NoMemory>
     ensures { IfOk result (λ text. text ≡ counted_text kind.now name.now number) }
 {
-    let mut text = Bytes::from_slice(alloc, b"phpsa: ")?;
-    text.append(kind)?;
-    text.append(b" ")?;
-    text.append(name)?;
-    text.append(b" ")?;
-    append_number(alloc, &mut text, number)?;
-    text.append(b"\n")?;
-    Ok(text)
-}
-
-/// `phpsa: Dtd KIND VALUE`.
-pub(crate) fn dtd_text(alloc: Global, kind: &[u8], value: &[u8]) -> Result<Bytes, NoMemory>
-    ensures { IfOk result (λ text. text ≡ dtd_text kind.now value.now) }
-{
-    line(alloc, b"phpsa: Dtd ", kind, value)
-}
-
-/// `phpsa: Dtd KIND NUMBER`.
-pub(crate) fn numbered_text(alloc: Global, kind: &[u8], number: u64) -> Result<Bytes, NoMemory>
-    ensures { IfOk result (λ text. text ≡ dtd_text kind.now (decimal number)) }
-{
-    let digits = number.to_string(alloc)?;
-    dtd_text(alloc, kind, digits.as_bytes())
+    let mut value = shown_name(alloc, name)?;
+    value.append(b" ")?;
+    append_number(alloc, &mut value, number)?;
+    kind_text(alloc, kind, value.as_slice())
 }

@@ -1,13 +1,13 @@
-//! Of a page that is not read, of a script that has a long text or is not made, of a file that
-//! holds no request, and of words that ask for nothing.
+//! Of a page that is not read, of a script that has a long text or is not made, and of a file that
+//! holds no request.
 
 ghost use Rattle.std.specs.Prelude.{◌≡◌, IfOk};
 ghost use Rattle.phpsa_texts.specs.Statuses.{file_status, request_status};
-ghost use Rattle.phpsa_texts.specs.Texts.{IsTold, file_text, long_text, request_text, size_text, usage_text};
-ghost use Rattle.phpsa_texts.specs.declared.exit.Exit.TheVariants.{Input, Usage};
+ghost use Rattle.phpsa_texts.specs.Texts.{IsTold, file_text, long_text, request_text, size_text};
+ghost use Rattle.phpsa_texts.specs.declared.exit.Exit.TheVariants.{Input};
 
 use crate::exit::Exit;
-use crate::lines::{NO_MEMORY, count_text, counted_text, named_text};
+use crate::lines::{NO_MEMORY, counted_text, named_text, number_text};
 use crate::message::Refusal;
 use crate::telling::told;
 use io_edge::FileFault;
@@ -85,25 +85,6 @@ pub fn size_refusal(alloc: Global, functions: u32) -> Refusal
 {
     told(
         Exit::Input,
-        count_text(alloc, b"Size", u64::from(functions)),
+        number_text(alloc, b"Size", u64::from(functions)),
     )
-}
-
-fn usage_text(alloc: Global) -> Result<Bytes, NoMemory>
-    ensures { IfOk result (λ text. text ≡ usage_text) }
-{
-    let mut text = Bytes::from_slice(alloc, b"phpsa: Usage\n")?;
-    text.append(b"phpsa check FILE [--dtd D] [--limit N] [--nesting] [--json]\n")?;
-    text.append(b"phpsa run FILE [--request FILE] [--steps N]\n")?;
-    text.append(b"phpsa page FILE [--dtd D]\n")?;
-    text.append(b"phpsa grammar FILE\n")?;
-    text.append(b"phpsa make N [--check]\n")?;
-    Ok(text)
-}
-
-/// That words ask for nothing, and what they may ask for.
-pub fn usage_refusal(alloc: Global) -> Refusal
-    ensures { IsTold result Usage usage_text }
-{
-    told(Exit::Usage, usage_text(alloc))
 }

@@ -5,7 +5,7 @@ ghost use Rattle.phpsa_texts.specs.Statuses.{load_status};
 ghost use Rattle.phpsa_texts.specs.Texts.{IsTold, counted_text, fault_name, load_text, said_of};
 
 use crate::exit::Exit;
-use crate::lines::{NO_MEMORY, count_text, counted_text, named_text};
+use crate::lines::{NO_MEMORY, counted_text, named_text, number_text};
 use crate::message::Refusal;
 use crate::telling::told;
 use lexical_grammar::fault::LexicalFault;
@@ -87,7 +87,7 @@ fn load_text(alloc: Global, refusal: &LoadRefusal) -> Result<Bytes, NoMemory>
             named_text(alloc, b"UnknownFunction", name.as_slice())
         }
         LoadRefusal::Arity { name } => named_text(alloc, b"Arity", name.as_slice()),
-        LoadRefusal::TooMany { count } => count_text(alloc, b"TooMany", *count),
+        LoadRefusal::TooMany { count } => number_text(alloc, b"TooMany", *count),
         LoadRefusal::Memory => Bytes::from_slice(alloc, NO_MEMORY),
     }
 }

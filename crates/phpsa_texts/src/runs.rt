@@ -6,7 +6,7 @@ ghost use Rattle.phpsa_texts.specs.Texts.{Says, deep_text, fault_kind, fault_num
 ghost use Rattle.phpsa_texts.specs.declared.exit.Exit.TheVariants.{Deep, Spent};
 
 use crate::exit::Exit;
-use crate::lines::{NO_MEMORY, append_number, count_text};
+use crate::lines::{NO_MEMORY, append_number, number_text};
 use crate::message::Message;
 use plain_values::Fault;
 use std::alloc::Global;
@@ -99,7 +99,7 @@ pub fn fault_message(alloc: Global, fault: Fault) -> Result<Message, NoMemory>
 pub fn spent_message(alloc: Global, steps: u64) -> Result<Message, NoMemory>
     ensures { IfOk result (λ message. Says message Spent (spent_text steps)) }
 {
-    let text = count_text(alloc, b"Spent", steps)?;
+    let text = number_text(alloc, b"Spent", steps)?;
     Ok(Message {
         status: Exit::Spent,
         text,
@@ -110,7 +110,7 @@ pub fn spent_message(alloc: Global, steps: u64) -> Result<Message, NoMemory>
 pub fn deep_message(alloc: Global) -> Result<Message, NoMemory>
     ensures { IfOk result (λ message. Says message Deep deep_text) }
 {
-    let text = count_text(alloc, b"Deep", u64::from(CALL_LIMIT))?;
+    let text = number_text(alloc, b"Deep", u64::from(CALL_LIMIT))?;
     Ok(Message {
         status: Exit::Deep,
         text,

@@ -1,4 +1,4 @@
-use Rattle.std.proofs.Common.{◌∙◌, ◌≡◌, List, [], true, map, string_bytes, subst, inl, inr}
+use Rattle.std.proofs.Common.{◌∙◌, ◌≡◌, ◌≢◌, List, [], true, map, string_bytes, subst, inl, inr}
 use Rattle.clap.specs.Words.{Text, takes, fault_of, kind_of}
 use Rattle.clap.specs.Kinds.{Kinds, HasKind, IsAmong}
 use Rattle.clap.specs.declared.error.Error.{Error}
@@ -21,9 +21,6 @@ never : (words : List Text) (e : Error) → HasKind (fault_of spec.phpsa words) 
 never words e has passes other (inl taken) = other (passes taken)
 never words e has passes other (inr none) = no_fault (fault_of spec.phpsa words) e has other none
 
-pub returns : goal.returns
-returns c = record {
-  rows = tt;
-  fault = tt;
-  usage = λ e. never (map string_bytes c.args.words.now) c.in-Err.error c.in-Err.ensures.kinds c.in-Err.ensures.err (λ wants. c.in_default.not-OutOfMemory (c.kind.ensures ∙ wants));
-}
+pub returns-in-Err-clause-usage : goal.returns-in-Err-clause-usage
+returns-in-Err-clause-usage c =
+    λ kept. never (map string_bytes c.args.words.now) c.in-Err.error c.in-Err.ensures.kinds c.in-Err.ensures.err (c.refusal_of.ensures kept)

@@ -1,0 +1,110 @@
+//! Of words: help, the version, and words that ask for nothing.
+
+ghost use Rattle.std.specs.Prelude.{◌≡◌, IfOk, option_map};
+ghost use Rattle.phpsa_texts.specs.Texts.{IsTold, Says, help_text, reason_text, usage_text, version_text, words_text};
+ghost use Rattle.phpsa_texts.specs.declared.exit.Exit.TheVariants.{Done, Usage, Words};
+
+use crate::exit::Exit;
+use crate::lines::number_text;
+use crate::message::{Message, Refusal};
+use crate::shown::shown_name;
+use crate::telling::told;
+use std::alloc::Global;
+use text_base::{Bytes, NoMemory};
+
+/// What the commands and their options are.
+pub const HELP: &[u8] = b"phpsa says whether all pages that a PHP script can print are valid XHTML.
+
+  phpsa check FILE    Decides a script: yes, no with a bad page, or undecided.
+  phpsa run FILE      Runs a script for a request, and writes what it prints.
+  phpsa page FILE     Says whether one page is valid.
+  phpsa grammar FILE  Writes the grammar of the pages of a script.
+  phpsa make N        Writes a script with N functions, for tests.
+
+  --dtd TYPE          check, page: the document type, strict, mini or a file;
+                      strict where it is left out.
+  --limit N           check: gives up at over N sums, 10000 where it is left out.
+  --nesting           check: asks only that the tags of a page match.
+  --json              check: writes the answer as a line of JSON.
+  --root FOLDER       check, run, page, grammar: what a script includes and a
+                      definition asks for has to lie in this folder.
+  --request FILE      run: the request, as JSON; an empty one if left out.
+  --steps N           run: stops after N steps, 10000000 if left out.
+  --check             make: decides the script in place of writing it.
+  --help, --version   Writes this, or the version.
+
+Options stand in any order. A FILE that is - is the standard input.
+
+Example:  phpsa check guests.php --dtd strict
+";
+
+/// What the commands and their options are.
+pub fn help_message(alloc: Global) -> Result<Message, NoMemory>
+    ensures { IfOk result (λ message. Says message Done help_text) }
+{
+    let text = Bytes::from_slice(alloc, HELP)?;
+    Ok(Message {
+        status: Exit::Done,
+        text,
+    })
+}
+
+/// The version of the program.
+pub fn version_message(alloc: Global) -> Result<Message, NoMemory>
+    ensures { IfOk result (λ message. Says message Done version_text) }
+{
+    let text = Bytes::from_slice(alloc, b"phpsa 0.1.0\n")?;
+    Ok(Message {
+        status: Exit::Done,
+        text,
+    })
+}
+
+/// What is wrong with the words.
+fn reason_text(alloc: Global, reason: Option<&[u8]>) -> Result<Bytes, NoMemory>
+    ensures { IfOk result
+        (λ text. text ≡ reason_text (option_map (λ line. line.now) reason.entry)) }
+{
+    let mut text = match reason {
+        None => {
+            let what = b"a number is one to eight decimal digits that are not all 0";
+            Bytes::from_slice(alloc, what)?
+        }
+        Some(line) => shown_name(alloc, line)?,
+    };
+    text.push(b'\n')?;
+    Ok(text)
+}
+
+fn usage_text(alloc: Global, reason: Option<&[u8]>) -> Result<Bytes, NoMemory>
+    ensures { IfOk result
+        (λ text. text ≡ usage_text (option_map (λ line. line.now) reason.entry)) }
+{
+    let why = reason_text(alloc, reason)?;
+    let mut text = Bytes::from_slice(alloc, b"phpsa: Usage\n")?;
+    text.append(why.as_slice())?;
+    text.append(
+        b"phpsa check FILE [--dtd D] [--limit N] [--nesting] [--json] [--root FOLDER]\n",
+    )?;
+    text.append(b"phpsa run FILE [--request FILE] [--steps N] [--root FOLDER]\n")?;
+    text.append(b"phpsa page FILE [--dtd D] [--root FOLDER]\n")?;
+    text.append(b"phpsa grammar FILE [--root FOLDER]\n")?;
+    text.append(b"phpsa make N [--check]\n")?;
+    text.append(b"phpsa --help\nphpsa --version\n")?;
+    Ok(text)
+}
+
+/// That words ask for nothing, with a line that says why, or none where a number is none; and what
+/// they may ask for.
+pub fn usage_refusal(alloc: Global, reason: Option<&[u8]>) -> Refusal
+    ensures { IsTold result Usage (usage_text (option_map (λ line. line.now) reason.entry)) }
+{
+    told(Exit::Usage, usage_text(alloc, reason))
+}
+
+/// That the word of this place, from 1, is not UTF-8.
+pub fn words_refusal(alloc: Global, place: u64) -> Refusal
+    ensures { IsTold result Words (words_text place) }
+{
+    told(Exit::Words, number_text(alloc, b"Words", place))
+}
