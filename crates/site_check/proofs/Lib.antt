@@ -1,0 +1,4 @@
+pub mod Looking
+pub mod Staying
+pub mod Reasons
+mod Examples

@@ -1,0 +1,4 @@
+pub mod Kept
+pub mod Short
+pub mod Views
+pub mod Answers
