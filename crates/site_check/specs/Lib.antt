@@ -2,3 +2,4 @@ pub mod Kept
 pub mod Short
 pub mod Views
 pub mod Answers
+pub mod Site
