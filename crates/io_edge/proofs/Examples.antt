@@ -5,6 +5,7 @@ use Rattle.io_edge.specs.Told.{Content, unasked, untold, known, Tells, Allows, H
 use Rattle.io_edge.specs.Reasons.{HasReason}
 use Rattle.io_edge.specs.Taken.{AppendsPrefix}
 use Rattle.io_edge.specs.Planned.{file_named, is_planned, planned_answer}
+use Rattle.io_edge.specs.Names.{normal, normal_parts, folder_of, beside, is_dotted, is_inside, root_for, is_outside}
 use Rattle.io_edge.specs.Room.{fitting}
 use Rattle.io_edge.specs.declared.files.FileFault.TheVariants.{Missing, Failed}
 
@@ -98,3 +99,145 @@ fits_none = refl
 -- a prefix is a prefix: what stands further on is none
 takes_a_prefix : AppendsPrefix (Some (codes "x")) (Some (codes "xab")) (codes "abc")
 takes_a_prefix = (2, lit≤ tt, refl)
+
+-- names by their parts: `.`, empty parts and `..` go, but for `..` at the head of a relative name
+
+parts_that_say_nothing : normal (codes "a/./b//c") ≡ codes "a/b/c"
+unfolding normal normal_parts
+parts_that_say_nothing = refl
+
+goes_back : normal (codes "a/b/../c.php") ≡ codes "a/c.php"
+unfolding normal normal_parts
+goes_back = refl
+
+stays_at_the_head : normal (codes "../a.php") ≡ codes "../a.php"
+unfolding normal normal_parts
+stays_at_the_head = refl
+
+goes_back_over_the_head : normal (codes "a/../../b.php") ≡ codes "../b.php"
+unfolding normal normal_parts
+goes_back_over_the_head = refl
+
+no_folder_above_the_root : normal (codes "/../a.php") ≡ codes "/a.php"
+unfolding normal normal_parts
+no_folder_above_the_root = refl
+
+a_folder_and_back : normal (codes "a/..") ≡ codes "."
+unfolding normal normal_parts
+a_folder_and_back = refl
+
+two_dots_are_no_name : normal (codes "..a/b") ≡ codes "..a/b"
+unfolding normal normal_parts
+two_dots_are_no_name = refl
+
+the_root_itself : normal (codes "/") ≡ codes "/"
+unfolding normal normal_parts
+the_root_itself = refl
+
+-- the folder of a file, and names in it
+
+in_the_folder_of_the_call : folder_of (codes "a.php") ≡ codes "."
+unfolding folder_of normal_parts
+in_the_folder_of_the_call = refl
+
+in_a_folder : folder_of (codes "lib/a.php") ≡ codes "lib"
+unfolding folder_of normal_parts
+in_a_folder = refl
+
+below_the_root : folder_of (codes "/a.php") ≡ codes "/"
+unfolding folder_of normal_parts
+below_the_root = refl
+
+beside_a_file : beside (codes "lib/a.php") (codes "b.php") ≡ codes "lib/b.php"
+unfolding beside normal normal_parts
+beside_a_file = refl
+
+above_a_file : beside (codes "lib/a.php") (codes "../b.php") ≡ codes "b.php"
+unfolding beside normal normal_parts
+above_a_file = refl
+
+below_a_file : beside (codes "a.php") (codes "./lib/b.php") ≡ codes "lib/b.php"
+unfolding beside normal normal_parts
+below_a_file = refl
+
+absolute_is_itself : beside (codes "lib/a.php") (codes "/b.php") ≡ codes "/b.php"
+unfolding beside normal normal_parts
+absolute_is_itself = refl
+
+in_the_folder_of_an_absolute_file : beside (codes "/srv/a.php") (codes "b.php") ≡ codes "/srv/b.php"
+unfolding beside normal normal_parts
+in_the_folder_of_an_absolute_file = refl
+
+-- dots at the head
+
+dot_and_slash : is_dotted (codes "./a.php") ≡ true
+dot_and_slash = refl
+
+two_dots_and_slash : is_dotted (codes "../a.php") ≡ true
+two_dots_and_slash = refl
+
+a_name_with_a_dot : is_dotted (codes ".a.php") ≡ false
+a_name_with_a_dot = refl
+
+dots_later_on : is_dotted (codes "a/../b.php") ≡ false
+dots_later_on = refl
+
+-- inside a folder, part by part: no front of a part, and nothing above it
+
+inside_the_folder_of_the_call : is_inside (codes ".") (codes "lib/a.php") ≡ true
+unfolding is_inside normal_parts
+inside_the_folder_of_the_call = refl
+
+above_the_folder_of_the_call : is_inside (codes ".") (codes "../a.php") ≡ false
+unfolding is_inside normal_parts
+above_the_folder_of_the_call = refl
+
+inside_a_folder : is_inside (codes "lib") (codes "lib/sub/a.php") ≡ true
+unfolding is_inside normal_parts
+inside_a_folder = refl
+
+a_folder_that_begins_alike : is_inside (codes "lib") (codes "library/a.php") ≡ false
+unfolding is_inside normal_parts
+a_folder_that_begins_alike = refl
+
+in_and_out_again : is_inside (codes "lib") (codes "lib/../a.php") ≡ false
+unfolding is_inside normal_parts
+in_and_out_again = refl
+
+inside_the_folder_above : is_inside (codes "..") (codes "../a.php") ≡ true
+unfolding is_inside normal_parts
+inside_the_folder_above = refl
+
+above_the_folder_above : is_inside (codes "..") (codes "../../a.php") ≡ false
+unfolding is_inside normal_parts
+above_the_folder_above = refl
+
+a_relative_name_of_an_absolute_folder : is_inside (codes "/srv") (codes "srv/a.php") ≡ false
+unfolding is_inside normal_parts
+a_relative_name_of_an_absolute_folder = refl
+
+-- the root, and what leads out of it
+
+a_given_root : root_for (Some (codes "./site/")) (codes "a.php") ≡ codes "site"
+unfolding root_for normal normal_parts folder_of is_inside
+a_given_root = refl
+
+the_root_is_the_folder_of_the_call : root_for None (codes "lib/a.php") ≡ codes "."
+unfolding root_for normal normal_parts folder_of is_inside
+the_root_is_the_folder_of_the_call = refl
+
+the_root_is_the_folder_of_the_file : root_for None (codes "../lib/a.php") ≡ codes "../lib"
+unfolding root_for normal normal_parts folder_of is_inside
+the_root_is_the_folder_of_the_file = refl
+
+leads_to_a_folder_beside : is_outside (codes ".") (codes "lib/a.php") (codes "../b.php") ≡ false
+unfolding is_outside beside normal normal_parts is_inside
+leads_to_a_folder_beside = refl
+
+leads_above_the_root : is_outside (codes ".") (codes "lib/a.php") (codes "../../b.php") ≡ true
+unfolding is_outside beside normal normal_parts is_inside
+leads_above_the_root = refl
+
+an_absolute_name_is_outside : is_outside (codes "/srv") (codes "/srv/a.php") (codes "/srv/b.php") ≡ true
+unfolding is_outside beside normal normal_parts is_inside
+an_absolute_name_is_outside = refl

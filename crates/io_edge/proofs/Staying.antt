@@ -1,6 +1,6 @@
 -- What is told goes on to be told, over calls one behind another.
 use Rattle.std.proofs.Common.{◌≡◌, ◌⊎◌, inl, inr, List, ℕ, Option, refl, sym, ◌∙◌, subst}
-use Rattle.io_edge.specs.Told.{Told, Content, unasked, Tells, Stays}
+use Rattle.io_edge.specs.Told.{Told, Content, unasked, untold, known, Tells, Allows, Stays}
 
 -- where nothing changes, what is told stays
 pub stays_same : (before now : Content) → now ≡ before → Stays before now
@@ -19,3 +19,9 @@ tells_stay before now name file stays told = elim (stays name) [
   | inl none ↦ absurd (subst (λ (t : Told). Tells t file) none told)
   | inr same ↦ subst (λ (t : Told). Tells t file) (sym same) told
 ]
+
+-- nothing that is told speaks against an answer that came
+pub tells_allow : (told : Told) (file : Option (List ℕ)) → Tells told file → Allows told file
+tells_allow unasked file none = tt
+tells_allow untold file free = tt
+tells_allow (known told) file same = same

@@ -7,3 +7,4 @@ pub mod Room
 pub mod MemFiles
 pub mod MemSink
 pub mod Stream
+pub mod Names

@@ -1,7 +1,8 @@
 -- How reading goes on by one file.
-use Rattle.std.proofs.Common.{◌≡◌, ◌∙◌, ◌<◌, ℕ, suc, ◌+◌, Bool, true, false, List, [], ◌∷◌, ◌++◌, length, Option, Some, None, if◌then◌else◌, refl, sym, ap, subst, arith, length-append}
+use Rattle.std.proofs.Common.{◌≡◌, ◌∙◌, ◌<◌, ℕ, suc, ◌+◌, Bool, true, false, List, [], ◌∷◌, ◌++◌, length, Some, None, if◌then◌else◌, refl, sym, ap, subst, arith, length-append}
 use Rattle.io_edge.specs.Counts.{one_more, Rises}
-use Rattle.io_edge.specs.Told.{Tells, HasAtLeast}
+use Rattle.io_edge.specs.Told.{Content, Tells, HasAtLeast, Stays}
+use Rattle.io_edge.proofs.Staying.{tells_stay}
 use Rattle.program_files.specs.Scripts.{IsScriptFault}
 use Rattle.php_syntax.specs.Trees.{PlainFile}
 use Rattle.program_rules.specs.declared.limits.TheConstants.{PLACE_LIMIT}
@@ -29,12 +30,30 @@ skips has name files (path ∷ paths) r = by (is_read files path) refl (skips ha
     by true e go = go (again files path paths r e)
     by false e go = r
 
+-- what is reached by what was told is reached by what is told later
+pub reached_later : (before now : Content) → Stays before now → (name : List ℕ) (files : List ReadFile) (paths : List (List ℕ)) → Reached (HasTold before) name files paths
+    → Reached (HasTold now) name files paths
+reached_later before now stays name files paths begun = begun
+reached_later before now stays name files paths (again _ x _ r read) = again files x paths (reached_later before now stays name files (x ∷ paths) r) read
+reached_later before now stays name _ _ (next fs x ps tree r new told) =
+    next fs x ps tree (reached_later before now stays name fs (x ∷ ps) r) new (told.0, tells_stay before now x (Some told.0) stays told.1, told.2)
+
+pub has_later : (before now : Content) → Stays before now → (f f' m m' r r' : ℕ) (name : List ℕ) (files : List ReadFile) (paths : List (List ℕ))
+    → HasRead (source_call before f f' m m' r r') name files paths → HasRead (source_call now f f' m m' r r') name files paths
+has_later before now stays f f' m m' r r' name files paths has = record {
+  reached = reached_later before now stays name files paths has.reached;
+  counted = has.counted;
+  few = has.few;
+  unfailed = has.unfailed;
+  unmissed = has.unmissed;
+}
+
 -- before a file is looked at
-pub begins : (content : List ℕ → Option (Option (List ℕ))) (f m r : ℕ) (name : List ℕ) → HasRead (source_call content f f m m r r) name [] (name ∷ [])
+pub begins : (content : Content) (f m r : ℕ) (name : List ℕ) → HasRead (source_call content f f m m r r) name [] (name ∷ [])
 unfolding so_many_more
 begins content f m r name = record { reached = begun; counted = refl; few = omega arith; unfailed = refl; unmissed = refl }
 
-pub goes_on : (content : List ℕ → Option (Option (List ℕ))) (f f' f'' m m' m'' r r' r'' : ℕ) (name path : List ℕ) (files files' : List ReadFile) (old paths paths' : List (List ℕ))
+pub goes_on : (content : Content) (f f' f'' m m' m'' r r' r'' : ℕ) (name path : List ℕ) (files files' : List ReadFile) (old paths paths' : List (List ℕ))
     → HasRead (source_call content f f' m m' r r') name files old → skip files old ≡ path ∷ paths → is_read files path ≡ false → length files < PLACE_LIMIT + 1
     → ReadsOne (source_call content f' f'' m' m'' r' r'') path files paths files' paths' → HasRead (source_call content f f'' m m'' r r'') name files' paths'
 unfolding so_many_more
@@ -52,7 +71,7 @@ goes_on content f f' f'' m m' m'' r r' r'' name path files files' old paths path
     }
 
 -- where a file is refused, reading stopped there
-stops : (content : List ℕ → Option (Option (List ℕ))) (f f' f'' m m' m'' r r' r'' : ℕ) (name path file : List ℕ) (files : List ReadFile) (old paths : List (List ℕ))
+stops : (content : Content) (f f' f'' m m' m'' r r' r'' : ℕ) (name path file : List ℕ) (files : List ReadFile) (old paths : List (List ℕ))
     → HasRead (source_call content f f' m m' r r') name files old → skip files old ≡ path ∷ paths → is_read files path ≡ false → file ≡ path → r'' ≡ one_more r'
     → StopsAt (source_call content f f'' m m'' r r'') name file
 unfolding so_many_more
@@ -67,7 +86,7 @@ stops content f f' f'' m m' m'' r r' r'' name path file files old paths has skip
       counted = counted ∙ ap one_more has.counted;
     })
 
-pub refused : (content : List ℕ → Option (Option (List ℕ))) (f f' f'' m m' m'' r r' r'' : ℕ) (name path : List ℕ) (files : List ReadFile) (old paths : List (List ℕ))
+pub refused : (content : Content) (f f' f'' m m' m'' r r' r'' : ℕ) (name path : List ℕ) (files : List ReadFile) (old paths : List (List ℕ))
     → HasRead (source_call content f f' m m' r r') name files old → skip files old ≡ path ∷ paths → is_read files path ≡ false
     → (refusal : LoadRefusal) → IsOneCause (source_call content f' f'' m' m'' r' r'') path refusal → IsReadCause (source_call content f f'' m m'' r r'') name refusal
 refused content f f' f'' m m' m'' r r' r'' name path files old paths has skipped new (Missing file) (same, counted, rises, told, unfailed) = (
@@ -90,7 +109,7 @@ refused content f f' f'' m m' m'' r r' r'' name path files old paths has skipped
 refused content f f' f'' m m' m'' r r' r'' name path files old paths has skipped new Memory (unfailed, unmissed) = (unfailed ∙ has.unfailed, unmissed ∙ has.unmissed)
 
 -- a 257th included name
-pub too_many : (content : List ℕ → Option (Option (List ℕ))) (f f' m m' r r' : ℕ) (name path : List ℕ) (files : List ReadFile) (old paths : List (List ℕ))
+pub too_many : (content : Content) (f f' m m' r r' : ℕ) (name path : List ℕ) (files : List ReadFile) (old paths : List (List ℕ))
     → HasRead (source_call content f f' m m' r r') name files old → skip files old ≡ path ∷ paths → is_read files path ≡ false → PLACE_LIMIT < length files
     → IsReadCause (source_call content f f' m m' r r') name (TooMany (PLACE_LIMIT + 1))
 too_many content f f' m m' r r' name path files old paths has skipped new many =
@@ -109,7 +128,7 @@ too_many content f f' m m' r r' name path files old paths has skipped new many =
       has.unmissed,
     )
 
-pub all_read : (content : List ℕ → Option (Option (List ℕ))) (f f' m m' r r' : ℕ) (name : List ℕ) (files : List ReadFile) (old : List (List ℕ))
+pub all_read : (content : Content) (f f' m m' r r' : ℕ) (name : List ℕ) (files : List ReadFile) (old : List (List ℕ))
     → HasRead (source_call content f f' m m' r r') name files old → skip files old ≡ [] → ReadsAll (source_call content f f' m m' r r') name files
 all_read content f f' m m' r r' name files old has skipped =
     let R : List (List ℕ) → Type 0 = λ ps. Reached (HasTold content) name files ps in record {

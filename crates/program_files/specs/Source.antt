@@ -1,13 +1,14 @@
--- A source of files in a call: what it tells, and its counts of faults, of misses and of reads, before the call and after it.
-use Rattle.std.specs.Prelude.{ℕ, zero, suc, List, Option, Some}
+-- A source of files in a call: what it tells after the call, and its counts of faults, of misses and of reads, before the call and after
+-- it.
+use Rattle.std.specs.Prelude.{ℕ, zero, suc, List, Some}
 use Rattle.io_edge.specs.Counts.{one_more}
-use Rattle.io_edge.specs.Told.{Tells}
+use Rattle.io_edge.specs.Told.{Content, Tells}
 use Rattle.php_syntax.specs.Trees.{PlainFile}
 use Rattle.program_files.specs.Scripts.{IsScript}
 
--- a source's contents, and its counts of faults, misses and reads before the call and (with a prime) after it
+-- what a source tells after a call, and its counts of faults, misses and reads before the call and (with a prime) after it
 pub record SourceCall : Type 0 where
-  pub content : List ℕ → Option (Option (List ℕ))
+  pub content : Content
   pub faults : ℕ
   pub faults' : ℕ
   pub misses : ℕ
@@ -16,7 +17,7 @@ pub record SourceCall : Type 0 where
   pub reads' : ℕ
 
 -- such a call by its parts
-abbrev pub source_call : (List ℕ → Option (Option (List ℕ))) → ℕ → ℕ → ℕ → ℕ → ℕ → ℕ → SourceCall
+abbrev pub source_call : Content → ℕ → ℕ → ℕ → ℕ → ℕ → ℕ → SourceCall
 source_call content faults faults' misses misses' reads reads' =
     record { content = content; faults = faults; faults' = faults'; misses = misses; misses' = misses'; reads = reads; reads' = reads' }
 
@@ -25,6 +26,6 @@ unfoldable pub so_many_more : ℕ → ℕ → ℕ
 so_many_more zero count = count
 so_many_more (suc n) count = one_more (so_many_more n count)
 
--- where the source tells of a name, it holds a script with this tree
-abbrev pub HasTold : (List ℕ → Option (Option (List ℕ))) → List ℕ → PlainFile → Type 0
+-- a name was answered by the bytes of a script with this tree
+abbrev pub HasTold : Content → List ℕ → PlainFile → Type 0
 HasTold content path tree = (bytes : List ℕ) × Tells (content path) (Some bytes) × IsScript bytes tree

@@ -3,7 +3,7 @@
 ghost use Rattle.std.specs.Prelude.{◌≡◌, ◌++◌, [], ◌∷◌, true, false, IfOk, IfErr, OnOk, MatchOption, MatchResult, Some, length, ◌≤◌, Err, ◌≢◌};
 ghost use Rattle.text_base.specs.declared.limits.TheConstants.{FILE_LIMIT};
 ghost use Rattle.io_edge.specs.Counts.{one_more};
-ghost use Rattle.io_edge.specs.Told.{Tells};
+ghost use Rattle.io_edge.specs.Told.{Tells, Stays};
 ghost use Rattle.io_edge.specs.Reasons.{HasReason};
 ghost use Rattle.io_edge.specs.declared.files.FileFault.TheVariants as fault;
 ghost use Rattle.php_syntax.specs.Trees.{plain_file};
@@ -17,7 +17,7 @@ use crate::files::ScriptFiles;
 use crate::includes::find_includes;
 use crate::refusal::LoadRefusal;
 use crate::tree::{Unread, tree_of};
-use io_edge::{FileFault, Files};
+use io_edge::{FileFault, FileKind, Files};
 use php_syntax::tree::FileTree;
 use program_rules::limits::PLACE_LIMIT;
 use std::alloc::Global;
@@ -25,7 +25,8 @@ use text_base::{Bytes, NoMemory, Stack};
 
 /// Reads the file of a name and all that it includes, directly or through others, each once: a file
 /// where it is first included, depth first, the includes of its body before those of its functions.
-/// Takes time linear in the files.
+/// The file of the name may be of any kind, the others are regular ones. Takes time linear in the
+/// files.
 ///
 /// # Errors
 ///
@@ -37,16 +38,16 @@ pub fn read_files<F: Files>(
     name: &str,
 ) -> Result<ScriptFiles, LoadRefusal>
     ensures ok { IfOk result
-        (λ files. ReadsAll (source_call (F.content source.old) (F.faults source.old)
+        (λ files. ReadsAll (source_call (F.content source.new) (F.faults source.old)
         (F.faults source.new)
         (F.misses source.old) (F.misses source.new) (F.reads source.old) (F.reads source.new))
         name.now (files_of files)) }
     ensures err { IfErr result
         (λ refusal. IsReadCause
-        (source_call (F.content source.old) (F.faults source.old) (F.faults source.new)
+        (source_call (F.content source.new) (F.faults source.old) (F.faults source.new)
         (F.misses source.old) (F.misses source.new) (F.reads source.old) (F.reads source.new))
         name.now refusal) }
-    ensures same { F.content source.new ≡ F.content source.old }
+    ensures stays { Stays (F.content source.old) (F.content source.new) }
 {
     let mut files = ScriptFiles::new(alloc);
     let mut paths = first_path(alloc, name)?;
@@ -109,19 +110,24 @@ fn read_one<F: Files>(
     requires text { rules.is_utf8 path ≡ true }
     requires new { is_read (files_of files) path ≡ false }
     ensures ok { IfOk result
-        (λ more. ReadsOne (source_call (F.content source.old) (F.faults source.old)
+        (λ more. ReadsOne (source_call (F.content source.new) (F.faults source.old)
         (F.faults source.new)
         (F.misses source.old) (F.misses source.new) (F.reads source.old) (F.reads source.new)) path
         (files_of files) paths.old
         (files_of more) paths.new) }
     ensures err { IfErr result
         (λ refusal. IsOneCause
-        (source_call (F.content source.old) (F.faults source.old) (F.faults source.new)
+        (source_call (F.content source.new) (F.faults source.old) (F.faults source.new)
         (F.misses source.old) (F.misses source.new) (F.reads source.old) (F.reads source.new)) path
         refusal) }
-    ensures same { F.content source.new ≡ F.content source.old }
+    ensures stays { Stays (F.content source.old) (F.content source.new) }
 {
-    let (name, tree) = read_tree(alloc, source, path)?;
+    let kind = if files.len() == 0 {
+        FileKind::Any
+    } else {
+        FileKind::Regular
+    };
+    let (name, tree) = read_tree(alloc, source, path, kind)?;
     let mut found = Vec::new(alloc);
     find_includes(alloc, &tree, &mut found)?;
     push_all(found, paths)?;
@@ -134,21 +140,22 @@ fn read_tree<F: Files>(
     alloc: Global,
     source: &mut F,
     path: Bytes,
+    kind: FileKind,
 ) -> Result<(Bytes, FileTree), LoadRefusal>
     requires { rules.is_utf8 path ≡ true }
     ensures ok { IfOk result
-        (λ read. ReadsTree (source_call (F.content source.old) (F.faults source.old)
+        (λ read. ReadsTree (source_call (F.content source.new) (F.faults source.old)
         (F.faults source.new)
         (F.misses source.old) (F.misses source.new) (F.reads source.old) (F.reads source.new)) path
         read.0 (plain_file read.1)) }
     ensures err { IfErr result
         (λ refusal. IsOneCause
-        (source_call (F.content source.old) (F.faults source.old) (F.faults source.new)
+        (source_call (F.content source.new) (F.faults source.old) (F.faults source.new)
         (F.misses source.old) (F.misses source.new) (F.reads source.old) (F.reads source.new)) path
         refusal) }
-    ensures same { F.content source.new ≡ F.content source.old }
+    ensures stays { Stays (F.content source.old) (F.content source.new) }
 {
-    match read_bytes(alloc, source, &path) {
+    match read_bytes(alloc, source, &path, kind) {
         Ok(script) => match tree_of(alloc, script.as_slice()) {
             Ok(tree) => Ok((path, tree)),
             Err(Unread::Script(refusal)) => Err(LoadRefusal::Script {
@@ -165,20 +172,25 @@ fn read_tree<F: Files>(
 }
 
 // Asks the source for a path.
-fn read_bytes<F: Files>(alloc: Global, source: &mut F, path: &Bytes) -> Result<Bytes, FileFault>
+fn read_bytes<F: Files>(
+    alloc: Global,
+    source: &mut F,
+    path: &Bytes,
+    kind: FileKind,
+) -> Result<Bytes, FileFault>
     requires { rules.is_utf8 path.now ≡ true }
-    ensures content { IfOk result (λ bytes. Tells (F.content source.old path.now) (Some bytes)) }
+    ensures content { IfOk result (λ bytes. Tells (F.content source.new path.now) (Some bytes)) }
     ensures limit { IfOk result (λ bytes. length bytes ≤ FILE_LIMIT) }
-    ensures reason { IfErr result (λ fault. HasReason (F.content source.old path.now)
+    ensures reason { IfErr result (λ fault. HasReason (F.content source.new path.now)
         (F.faults source.old) (F.faults source.new) (F.misses source.old) (F.misses source.new)
         fault) }
-    ensures same { F.content source.new ≡ F.content source.old }
+    ensures stays { Stays (F.content source.old) (F.content source.new) }
     ensures unfailed { result ≢ Err fault.Failed → F.faults source.new ≡ F.faults source.old }
     ensures unmissed { result ≢ Err fault.Missing → F.misses source.new ≡ F.misses source.old }
     ensures asked { F.reads source.new ≡ one_more (F.reads source.old) }
 {
     match str::from_utf8(path.as_slice()) {
-        Ok(name) => source.read(alloc, name),
+        Ok(name) => source.read(alloc, name, kind),
         Err(_) => unreachable!(),
     }
 }

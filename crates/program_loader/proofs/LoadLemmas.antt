@@ -1,6 +1,7 @@
 -- From files that were read to the program of a name, or to the cause of a refusal, over the laws of include_expansion and program_sizes.
-use Rattle.std.proofs.Common.{◌≡◌, ℕ, true, List, [], ◌∷◌, length, Option, Result, Err, IfErr, inl, inr, refl, sym, subst, arith}
+use Rattle.std.proofs.Common.{◌≡◌, ℕ, true, List, [], ◌∷◌, length, Result, Err, IfErr, inl, inr, refl, sym, subst, arith}
 use Rattle.std.specs.List.{Contains}
+use Rattle.io_edge.specs.Told.{Content, Tells}
 use Rattle.script_meaning.specs.Programs.{PlainProgram}
 use Rattle.program_rules.specs.Files.{Held, Agrees, HasTree, HasOneTree}
 use Rattle.program_rules.specs.Includes.{Reads}
@@ -24,9 +25,12 @@ use Rattle.program_loader.specs.Making.{AreReady, Make, BreakRules, PassLimit, I
 abbrev pub OneTreeEach : Type 0
 OneTreeEach = (held : Held) → HasOneTree held
 
+abbrev pub HasAnswered : Content → Held → List ReadFile → Type 0
+HasAnswered content held files = (file : ReadFile) → Contains files file → Tells (content file.name) (held file.name)
+
 abbrev pub WasHeld : Type 0
-WasHeld = (content : List ℕ → Option (Option (List ℕ))) (name : List ℕ) (files : List ReadFile) (paths : List (List ℕ)) → Reached (HasTold content) name files paths
-    → (held : Held) × Agrees content held × Reached (HasTree held) name files paths
+WasHeld = (content : Content) (name : List ℕ) (files : List ReadFile) (paths : List (List ℕ)) → Reached (HasTold content) name files paths
+    → (held : Held) × Agrees content held × Reached (HasTree held) name files paths × HasAnswered content held files
 
 abbrev pub LookedAt : Type 0
 LookedAt = (held : Held) (name : List ℕ) (files : List ReadFile) (paths : List (List ℕ)) (path : List ℕ) → Reached (HasTree held) name files paths → Contains paths path → Reads held name path
@@ -44,10 +48,11 @@ abbrev pub Stand : Type 0
 Stand = OfOrder (λ held files order name. StandsForProgram held name files (program_places files (length order) (tree_named files name)) (program_within files (length order) (tree_named files name)))
 
 abbrev files_from : (call : SourceCall) (name : List ℕ) (files : List ReadFile) → ReadsAll call name files → (held : Held) → Agrees call.content held
-    → Reached (HasTree held) name files [] → AreRead held name files → HasFiles call name
-files_from call name files all held agrees reached read = record {
+    → Reached (HasTree held) name files [] → HasAnswered call.content held files → AreRead held name files → HasFiles call name
+files_from call name files all held agrees reached answered read = record {
   held = held;
   agrees = agrees;
+  answered = λ path reads. (let f = read.all path reads in answered (record { name = path; tree = f.0 }) f.1);
   files = files;
   read = read;
   in_order = reached;
@@ -96,7 +101,7 @@ loaded one was reading programs acyclic stand call name files program all make =
     let st = subst (λ (p : PlainProgram). StandsForProgram h.0 name files (program_places files (length make.0) (tree_named files name)) p) (sym make.1.program_is)
     (stand h.0 name files make.0 (one h.0) h.2 make.1.sorted) in
     let p = program_of_files h.0 name files make.0 program read (acyclic h.0 name files make.0 (one h.0) h.2 make.1.sorted) st make.1 (programs h.0 files make.0 name program (one h.0) h.2 make.1) in
-    record { source = files_from call name files all h.0 h.1 h.2 read; is_program = p.0; its_files = p.1 }
+    record { source = files_from call name files all h.0 h.1 h.2 h.3 read; is_program = p.0; its_files = p.1 }
 
 by_order : OneTreeEach → WasHeld → ReadsTheProgram → OfFiles (λ held files name. AreHeld held files) → (call : SourceCall) (name : List ℕ) (files : List ReadFile) → ReadsAll call name files
     → (refusal : LoadRefusal) → IsOrderCause files refusal → IsLoadCause call name refusal
@@ -105,7 +110,7 @@ by_order one was reading has call name files all (IncludeCycle path) (there, lea
     let read = reading h.0 name files (one h.0) h.2 in
     let t = tree_there files path there in
     record {
-      source = files_from call name files all h.0 h.1 h.2 read;
+      source = files_from call name files all h.0 h.1 h.2 h.3 read;
       reads = (read.each (record { name = path; tree = t.0 }) t.1).0;
       leads = leads h.0 (has h.0 name files (one h.0) h.2);
     }
@@ -123,7 +128,7 @@ broken : OneTreeEach → WasHeld → ReadsTheProgram → OfOrder (λ held files 
     → (refusal : LoadRefusal) → BreakRules files refusal → BreaksRule call name refusal
 broken one was reading acyclic call name files all refusal b =
     let h = was call.content name files [] all.reached in record {
-      source = files_from call name files all h.0 h.1 h.2 (reading h.0 name files (one h.0) h.2);
+      source = files_from call name files all h.0 h.1 h.2 h.3 (reading h.0 name files (one h.0) h.2);
       acyclic = acyclic h.0 name files b.order (one h.0) h.2 b.sorted;
       cause = b.cause;
     }
@@ -146,7 +151,7 @@ by_size : OneTreeEach → WasHeld → ReadsTheProgram → OfOrder (λ held files
 by_size one was reading acyclic stand call name files all (TooMany count) p =
     let h = was call.content name files [] all.reached in
     inr (record {
-      source = files_from call name files all h.0 h.1 h.2 (reading h.0 name files (one h.0) h.2);
+      source = files_from call name files all h.0 h.1 h.2 h.3 (reading h.0 name files (one h.0) h.2);
       acyclic = acyclic h.0 name files p.order (one h.0) h.2 p.sorted;
       rules = p.rules;
       places = program_places files (length p.order) (tree_named files name);

@@ -11,7 +11,8 @@ use Rattle.lexical_grammar.specs.Cuts.{Cuts, Breaks}
 use Rattle.script_grammar.specs.Grammar.{SpellsTree, IsTooDeep}
 use Rattle.php_parser.specs.declared.refusal.ParseRefusal.TheVariants as parsed
 use Rattle.io_edge.specs.Counts.{Rises}
-use Rattle.io_edge.specs.Told.{Tells, HasAtLeast}
+use Rattle.io_edge.specs.Told.{Told, Content, known, Tells, HasAtLeast, Stays}
+use Rattle.io_edge.proofs.Staying.{tells_stay}
 use Rattle.script_meaning.specs.Programs.{PlainProgram}
 use Rattle.program_rules.specs.Files.{Held, Agrees, HasTree, HasOneTree}
 use Rattle.program_rules.specs.Includes.{Reads, itself}
@@ -33,7 +34,8 @@ use Rattle.program_sizes.specs.FileRules.{KeepFunctionRules}
 use Rattle.program_sizes.specs.Loaded.{StandsForProgram}
 use Rattle.function_rules.specs.Causes.{is_unknown, is_misused, IsFunctionCause}
 use Rattle.program_loader.specs.Causes.{HasFiles, Loads, IncludesItself, BreaksRule, IsTooLarge, IsLoadCause}
-use Rattle.program_loader.specs.Told.{Content, IsLoaded, AreShort, HoldsProgram}
+use Rattle.program_loader.specs.Told.{IsLoaded, AreShort, HoldsProgram}
+use Rattle.program_loader.proofs.LoadLemmas.{HasAnswered}
 use Rattle.program_loader.proofs.Same.{AreSame, reads_here, leads_here, reached_here, stands_here, places_here, table_here, counts_here, functions_read, body_read, tree_here}
 use Rattle.program_loader.proofs.Walk.{one_order, one_more_file}
 use Rattle.program_loader.proofs.OneProgram.{Laws, agreed, one_table, one_sum, same_program}
@@ -43,7 +45,7 @@ pub record ReadingLaws : Type 0 where
   pub one_tokens : (file : List ℕ) (tokens others : List PlainToken) → Cuts file tokens → Cuts file others → tokens ≡ others
   pub never : (file : List ℕ) (tokens : List PlainToken) (fault : LexicalFault) (place : ℕ) → Cuts file tokens → Breaks file fault place → ⊥
   pub was_held : (content : Content) (name : List ℕ) (files : List ReadFile) (paths : List (List ℕ)) → Reached (HasTold content) name files paths
-      → (held : Held) × Agrees content held × Reached (HasTree held) name files paths
+      → (held : Held) × Agrees content held × Reached (HasTree held) name files paths × HasAnswered content held files
 
 -- a script has no fault
 pub no_fault : ReadingLaws → (script : List ℕ) (fault : ScriptRefusal) (tokens : List PlainToken) (tree : PlainFile) → Cuts script tokens → SpellsTree tokens tree → (IsTooDeep tokens → ⊥)
@@ -58,13 +60,13 @@ no_fault laws script (Parse parsed.Memory) tokens tree cut spelled within none =
 record ScriptAt (content : Content) (held : Held) (path : List ℕ) : Type 0 where
   pub tree : PlainFile
   pub has : HasTree held path tree
-  pub told : content path ≡ Some (Some has.bytes)
+  pub told : content path ≡ known (Some has.bytes)
 
 script_at : (content : Content) (name : List ℕ) (p : PlainProgram) (h : HoldsProgram content name p) (path : List ℕ) → Reads h.held name path → ScriptAt content h.held path
 script_at content name p h path reads =
     let found = h.is_program.is_program.read.all path reads in
     let has : HasTree h.held path found.0 = (h.is_program.is_program.read.each (record { name = path; tree = found.0 }) found.1).1 in
-    record { tree = found.0; has = has; told = h.told path reads ∙ ap (λ (x : Option (List ℕ)). Some x) has.is_held }
+    record { tree = found.0; has = has; told = h.told path reads ∙ ap (λ (x : Option (List ℕ)). known x) has.is_held }
 
 named_here : (content : Content) (name path : List ℕ) (p : PlainProgram) (h : HoldsProgram content name p) (other : Held) → Agrees content other → Reads other name path → Reads h.held name path
 named_here content name path p h other agrees reads = reads_here h.held other name (agreed content h.held other name h.told agrees) path reads
@@ -74,16 +76,16 @@ some_same e = cc
 
 not_missing : (content : Content) (held : Held) (path : List ℕ) → ScriptAt content held path → Tells (content path) None → ⊥
 not_missing content held path s none =
-    let same : Tells (Some (Some s.has.bytes)) None = subst (λ (x : Option (Option (List ℕ))). Tells x None) s.told none in cc
+    let same : Tells (known (Some s.has.bytes)) None = subst (λ (x : Told). Tells x None) s.told none in cc
 
 not_long : (content : Content) (held : Held) (path : List ℕ) (len : ℕ) → (s : ScriptAt content held path) → length s.has.bytes ≤ FILE_LIMIT → FILE_LIMIT < len → HasAtLeast (content path) len → ⊥
 not_long content held path len s short over least =
-    let at : HasAtLeast (Some (Some s.has.bytes)) len = subst (λ (x : Option (Option (List ℕ))). HasAtLeast x len) s.told least in
+    let at : HasAtLeast (known (Some s.has.bytes)) len = subst (λ (x : Told). HasAtLeast x len) s.told least in
     omega (arith, at, over, short)
 
 not_none : ReadingLaws → (content : Content) (held : Held) (path bytes : List ℕ) (fault : ScriptRefusal) → ScriptAt content held path → Tells (content path) (Some bytes) → IsScriptFault bytes fault → ⊥
 not_none laws content held path bytes fault s told broken =
-    let same : Tells (Some (Some s.has.bytes)) (Some bytes) = subst (λ (x : Option (Option (List ℕ))). Tells x (Some bytes)) s.told told in
+    let same : Tells (known (Some s.has.bytes)) (Some bytes) = subst (λ (x : Told). Tells x (Some bytes)) s.told told in
     no_fault laws s.has.bytes fault s.has.tokens s.tree s.has.cut s.has.spelled s.has.within (subst (λ (bs : List ℕ). IsScriptFault bs fault) (sym (some_same same)) broken)
 
 -- the files that were read are those of the program
@@ -209,6 +211,14 @@ not_refused laws reading call name p Memory h short calm counts = refl
 pub loaded_so : (call : SourceCall) (name : List ℕ) (p : PlainProgram) → Loads call name p → IsLoaded call.content name p
 loaded_so call name p l = record {
   held = l.source.held;
-  agrees = l.source.agrees;
+  answered = l.source.answered;
   is_program = record { is_program = l.is_program; in_order = subst (λ (fs : List ReadFile). Reached (HasTree l.source.held) name fs []) (sym l.its_files) l.source.in_order };
+}
+
+-- and stays so
+pub loaded_later : (before now : Content) (name : List ℕ) (p : PlainProgram) → Stays before now → IsLoaded before name p → IsLoaded now name p
+loaded_later before now name p stays l = record {
+  held = l.held;
+  answered = λ path reads. tells_stay before now path (l.held path) stays (l.answered path reads);
+  is_program = l.is_program;
 }

@@ -1,18 +1,18 @@
 -- A source that tells of each name that a program reads holds one program of the name.
-use Rattle.std.proofs.Common.{◌≡◌, ◌∙◌, ◌+◌, ℕ, List, [], ◌∷◌, Option, Some, refl, sym, ap, subst}
+use Rattle.std.proofs.Common.{◌≡◌, ◌∙◌, ◌+◌, ℕ, List, [], ◌∷◌, refl, sym, ap, subst}
 use Rattle.std.specs.List.{Contains}
 use Rattle.php_syntax.specs.Trees.{PlainStmts, PlainParam, PlainFunction, PlainFile}
-use Rattle.io_edge.specs.Told.{Tells}
+use Rattle.io_edge.specs.Told.{Told, Content, known, Tells, Allows}
 use Rattle.script_meaning.specs.Programs.{PlainProgram}
 use Rattle.program_rules.specs.Files.{Held, Agrees, HasTree, HasOneTree}
-use Rattle.program_rules.specs.Includes.{Reads, itself, LeadsTo}
+use Rattle.program_rules.specs.Includes.{Reads, itself, included, LeadsTo}
 use Rattle.program_rules.specs.Expansion.{StandsFor, FunctionStandsFor}
 use Rattle.program_rules.specs.Limits.{HasPlaces, HavePlaces}
 use Rattle.program_rules.specs.Limits as limits
 use Rattle.program_rules.specs.Programs.{ReadFile, AreRead, functions_in, TableStandsFor}
 use Rattle.program_rules.specs.Programs as programs
 use Rattle.program_files.specs.Order.{Reached}
-use Rattle.program_loader.specs.Told.{Content, IsProgramInOrder, IsLoaded, TellsAll, HoldsProgram}
+use Rattle.program_loader.specs.Told.{IsProgramInOrder, AreAnswered, IsLoaded, TellsAll, HoldsProgram}
 use Rattle.program_loader.proofs.Same.{AreSame, tree_here, reads_here, same_back, leads_here, reached_here, stands_here, places_here, table_here, counts_here, functions_read, body_read}
 use Rattle.program_loader.proofs.Walk.{one_order}
 
@@ -118,10 +118,26 @@ program_here laws held other name p same a =
 -- what agrees with what is told is what is told
 pub agreed : (content : Content) (held other : Held) (name : List ℕ) → TellsAll content held name → Agrees content other → AreSame held other name
 agreed content held other name told agrees path reads =
-    let same : Tells (Some (held path)) (other path) = subst (λ (x : Option (Option (List ℕ))). Tells x (other path)) (told path reads) (agrees path) in
+    let same : Allows (known (held path)) (other path) = subst (λ (t : Told). Allows t (other path)) (told path reads) (agrees path) in
     sym same
+
+-- what was answered is what is told
+answer_is : (content : Content) (held other : Held) (name path : List ℕ) → TellsAll content held name → AreAnswered content other name → Reads held name path → Reads other name path → other path ≡ held path
+answer_is content held other name path told answered reads also =
+    let same : Tells (known (held path)) (other path) = subst (λ (t : Told). Tells t (other path)) (told path reads) (answered path also) in
+    sym same
+
+also_read : (content : Content) (held other : Held) (name : List ℕ) → TellsAll content held name → AreAnswered content other name → (path : List ℕ) → Reads held name path → Reads other name path
+also_read content held other name told answered path itself = itself
+also_read content held other name told answered path (included file _ tree reads has own) =
+    let r = also_read content held other name told answered file reads in
+    included file path tree r (tree_here other held file tree (sym (answer_is content held other name file told answered reads r)) has) own
+
+pub answered_so : (content : Content) (held other : Held) (name : List ℕ) → TellsAll content held name → AreAnswered content other name → AreSame held other name
+answered_so content held other name told answered path reads =
+    answer_is content held other name path told answered reads (also_read content held other name told answered path reads)
 
 pub one_program : Laws → (content : Content) (name : List ℕ) (p q : PlainProgram) → HoldsProgram content name p → IsLoaded content name q → p ≡ q
 one_program laws content name p q h l =
     programs_agree laws h.held name p q h.is_program
-    (program_here laws h.held l.held name q (agreed content h.held l.held name h.told l.agrees) l.is_program)
+    (program_here laws h.held l.held name q (answered_so content h.held l.held name h.told l.answered) l.is_program)

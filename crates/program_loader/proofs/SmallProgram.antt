@@ -19,6 +19,7 @@ use Rattle.lexical_grammar.specs.Heredocs.{heredoc_step, nowdoc_step}
 use Rattle.script_grammar.specs.Statements.{inline_form, include_form, stmt_part, end_of_file, stmt_terminals, stmt_trees, nearest}
 use Rattle.script_grammar.specs.Rules.{stmt_fits}
 use Rattle.script_grammar.specs.Grammar.{SpellsTree, IsTooDeep}
+use Rattle.io_edge.specs.Told.{Content, untold, known}
 use Rattle.script_meaning.specs.Programs.{PlainProgram}
 use Rattle.program_rules.specs.Files.{Held, HasTree, HasOneTree}
 use Rattle.program_rules.specs.Includes.{Reads, itself, included, LeadsTo, directly, through, includes_in, includes_of_file}
@@ -32,7 +33,7 @@ use Rattle.program_rules.specs.Programs as programs
 use Rattle.program_files.specs.Order.{Reached, begun, next}
 use Rattle.include_expansion.specs.FileCalls.{calls_in_files}
 use Rattle.include_expansion.proofs.ReadLemmas.{are_read}
-use Rattle.program_loader.specs.Told.{Content, TellsAll, AreShort, HoldsProgram}
+use Rattle.program_loader.specs.Told.{TellsAll, AreShort, HoldsProgram}
 
 -- what the two files hold
 abbrev outer : List ℕ
@@ -83,7 +84,7 @@ has_inner within = record { bytes = inner; tokens = inner_tokens; is_held = refl
 
 -- the source tells all of it
 abbrev pub content : Content
-content path = Some (held path)
+content path = known (held path)
 
 -- what the parser says of both token lists, and that each file has one tree
 pub record Premises : Type 0 where
@@ -221,7 +222,7 @@ are_short ps path bytes reads is = subst (λ (x : Option (List ℕ)). length (or
 
 -- a source that does not tell of the included file does not hold the program so
 abbrev silent : Content
-silent path = if bytes_eq path (codes "a.php") then None else Some (held path)
+silent path = if bytes_eq path (codes "a.php") then untold else known (held path)
 
 not_told : (other : Held) → (told : TellsAll silent other (codes "t.php")) → Reads other (codes "t.php") (codes "a.php") → ⊥
-not_told other told reads = let same : None ≡ Some (other (codes "a.php")) = told (codes "a.php") reads in cc
+not_told other told reads = let same : untold ≡ known (other (codes "a.php")) = told (codes "a.php") reads in cc

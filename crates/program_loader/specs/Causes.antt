@@ -14,13 +14,14 @@ use Rattle.program_sizes.specs.Limits.{PassesLimit}
 use Rattle.program_sizes.specs.FileRules.{KeepFunctionRules}
 use Rattle.program_sizes.specs.Loaded.{StandsForProgram}
 use Rattle.function_rules.specs.Causes.{IsFunctionCause}
+use Rattle.program_loader.specs.Told.{AreAnswered}
 
--- what the source held agrees with all that it tells; these are the files that the program of the name reads, in the order of first
--- include, at most 256 beside
--- its own, and each was asked for once; no count of faults or misses rose
+-- what the source held agrees with all that it tells, and is what it answered in this call; these are the files that the program of the
+-- name reads, in the order of first include, at most 256 beside its own, and each was asked for once; no count of faults or misses rose
 pub record HasFiles (call : SourceCall) (name : List ℕ) : Type 0 where
   pub held : Held
   pub agrees : Agrees call.content held
+  pub answered : AreAnswered call.content held name
   pub files : List ReadFile
   pub read : AreRead held name files
   pub in_order : Reached (HasTree held) name files []

@@ -1,3 +1,3 @@
 pub mod Making
-pub mod Causes
 pub mod Told
+pub mod Causes

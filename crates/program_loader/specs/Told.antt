@@ -1,32 +1,33 @@
 -- Which program a source of files holds under a name, where it tells of each name that the program reads.
-use Rattle.std.specs.Prelude.{◌≡◌, ◌≤◌, ℕ, ◌+◌, List, [], length, Option, Some}
+use Rattle.std.specs.Prelude.{◌≡◌, ◌≤◌, ℕ, ◌+◌, List, [], length, Some}
+use Rattle.io_edge.specs.Told.{Content, known, Tells}
 use Rattle.text_base.specs.declared.limits.TheConstants.{FILE_LIMIT}
 use Rattle.script_meaning.specs.Programs.{PlainProgram}
 use Rattle.program_rules.specs.declared.limits.TheConstants.{PLACE_LIMIT}
-use Rattle.program_rules.specs.Files.{Held, Agrees, HasTree}
+use Rattle.program_rules.specs.Files.{Held, HasTree}
 use Rattle.program_rules.specs.Includes.{Reads}
 use Rattle.program_rules.specs.Programs.{IsProgram}
 use Rattle.program_files.specs.Order.{Reached}
 use Rattle.program_sizes.specs.FileRules.{KeepFunctionRules}
-
--- what a source tells of each name
-abbrev pub Content : Type 0
-Content = List ℕ → Option (Option (List ℕ))
 
 -- the program of a name, with the functions of its files in the order of first include
 pub record IsProgramInOrder (held : Held) (name : List ℕ) (program : PlainProgram) : Type 0 where
   pub is_program : IsProgram held name program
   pub in_order : Reached (HasTree held) name is_program.files []
 
--- whatever the source tells: it held what agrees with all that it tells, and under the name this program
+-- each name that the program of a name reads was answered by what was held
+abbrev pub AreAnswered : Content → Held → List ℕ → Type 0
+AreAnswered content held name = (path : List ℕ) → Reads held name path → Tells (content path) (held path)
+
+-- whatever the source tells: each name that the program reads was answered, and the answers make this program of the name
 pub record IsLoaded (content : Content) (name : List ℕ) (program : PlainProgram) : Type 0 where
   pub held : Held
-  pub agrees : Agrees content held
+  pub answered : AreAnswered content held name
   pub is_program : IsProgramInOrder held name program
 
 -- the source tells of each name that the program of a name reads, and this was held
 abbrev pub TellsAll : Content → Held → List ℕ → Type 0
-TellsAll content held name = (path : List ℕ) → Reads held name path → content path ≡ Some (held path)
+TellsAll content held name = (path : List ℕ) → Reads held name path → content path ≡ known (held path)
 
 -- what those names hold is within the limit of a file
 abbrev pub AreShort : Held → List ℕ → Type 0

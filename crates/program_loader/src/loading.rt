@@ -1,6 +1,7 @@
 //! The program of a name.
 
-ghost use Rattle.std.specs.Prelude.{◌≡◌, IfOk, IfErr};
+ghost use Rattle.std.specs.Prelude.{IfOk, IfErr};
+ghost use Rattle.io_edge.specs.Told.{Stays};
 ghost use Rattle.program_rules.specs.View.{program_of};
 ghost use Rattle.program_files.specs.Source.{source_call};
 ghost use Rattle.program_loader.specs.Causes.{Loads, IsLoadCause};
@@ -15,8 +16,9 @@ use text_base::Bytes;
 
 /// The program of a name (PHP manual, "include"): its file and all that it includes, directly or
 /// through others, each read once, where it is first included, with every include replaced by the
-/// statements of its file and the functions of all files in one table. Takes time linear in the
-/// files and in the program.
+/// statements of its file and the functions of all files in one table. It is the program of the
+/// bytes that the source gave in this call, whatever it tells. The file of the name may be of any
+/// kind, the others are regular ones. Takes time linear in the files and in the program.
 ///
 /// # Errors
 ///
@@ -28,15 +30,15 @@ use text_base::Bytes;
 /// 1,000, in this order. `Memory` may come at any time.
 pub fn load<F: Files>(alloc: Global, source: &mut F, name: &str) -> Result<Program, LoadRefusal>
     ensures ok { IfOk result
-        (λ program. Loads (source_call (F.content source.old) (F.faults source.old)
+        (λ program. Loads (source_call (F.content source.new) (F.faults source.old)
         (F.faults source.new)
         (F.misses source.old) (F.misses source.new) (F.reads source.old) (F.reads source.new))
         name.now (program_of program)) }
     ensures err { IfErr result
-        (IsLoadCause (source_call (F.content source.old) (F.faults source.old) (F.faults source.new)
+        (IsLoadCause (source_call (F.content source.new) (F.faults source.old) (F.faults source.new)
         (F.misses source.old) (F.misses source.new) (F.reads source.old) (F.reads source.new))
         name.now) }
-    ensures same { F.content source.new ≡ F.content source.old }
+    ensures stays { Stays (F.content source.old) (F.content source.new) }
 {
     what_is_made_is_loaded();
     let files = read_files(alloc, source, name)?;

@@ -1,15 +1,16 @@
-//! Where a source of files tells of each name that a program reads, there is one program of the
-//! name, and `load` is refused for want of memory alone. Each function stands for the law that its
-//! contract states.
+//! What `load` gives stays loaded, whatever the source tells later. Where it tells of each name that
+//! a program reads, there is one program of the name, and `load` is refused for want of memory
+//! alone. Each function stands for the law that its contract states.
 
 ghost use Rattle.std.specs.Prelude.{◌≡◌, ℕ, List};
 ghost use Rattle.script_meaning.specs.Programs.{PlainProgram};
 ghost use Rattle.io_edge.specs.Counts.{Rises};
+ghost use Rattle.io_edge.specs.Told.{Content, Stays};
 ghost use Rattle.program_files.specs.Source.{SourceCall};
 ghost use Rattle.program_files.specs.declared.refusal.LoadRefusal.{LoadRefusal};
 ghost use Rattle.program_files.specs.declared.refusal.LoadRefusal.TheVariants.{Memory};
 ghost use Rattle.program_loader.specs.Causes.{Loads, IsLoadCause};
-ghost use Rattle.program_loader.specs.Told.{Content, IsLoaded, HoldsProgram, AreShort};
+ghost use Rattle.program_loader.specs.Told.{IsLoaded, HoldsProgram, AreShort};
 
 use include_expansion::{names_looked_at, what_was_held};
 use lexical_grammar::laws::{never_both, one_token_list};
@@ -21,6 +22,12 @@ use program_sizes::each_has_one_tree;
 pub fn loads_are_loaded()
     ensures { (call : SourceCall) (name : List ℕ) (program : PlainProgram) → Loads call name program
         → IsLoaded call.content name program }
+{}
+
+/// It stays so where more becomes told later.
+pub fn loaded_programs_stay()
+    ensures { (before now : Content) (name : List ℕ) (program : PlainProgram) → Stays before now
+        → IsLoaded before name program → IsLoaded now name program }
 {}
 
 /// And where the source tells of each name that the program reads, no other program is loaded.

@@ -1,6 +1,6 @@
 -- The files of a program, and the trees that they spell.
 use Rattle.std.specs.Prelude.{◌≡◌, ℕ, List, Option, Some}
-use Rattle.io_edge.specs.Told.{Tells}
+use Rattle.io_edge.specs.Told.{Content, Allows}
 use Rattle.php_syntax.specs.Tokens.{PlainToken}
 use Rattle.php_syntax.specs.Trees.{PlainFile}
 use Rattle.lexical_grammar.specs.Cuts.{Cuts}
@@ -11,8 +11,8 @@ abbrev pub Held : Type 0
 Held = List ℕ → Option (List ℕ)
 
 -- what was held is what the source tells, of each name of which it tells
-abbrev pub Agrees : (List ℕ → Option (Option (List ℕ))) → Held → Type 0
-Agrees content held = (name : List ℕ) → Tells (content name) (held name)
+abbrev pub Agrees : Content → Held → Type 0
+Agrees content held = (name : List ℕ) → Allows (content name) (held name)
 
 -- the file of a name is held, its bytes are cut into tokens, and these spell a tree and are not too deep
 pub record HasTree (held : Held) (name : List ℕ) (tree : PlainFile) : Type 0 where
