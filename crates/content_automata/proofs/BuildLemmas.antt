@@ -9,7 +9,7 @@ use Rattle.content_automata.specs.declared.refusal.ContentRefusal.TheVariants.{L
 use Rattle.content_automata.specs.Shapes.{Shape, shape, first_state, state_behind, states_walk, then_some, IsSized}
 use Rattle.content_automata.specs.Tables.{Table, IsTable, Row, Key, key_eq, Keeps, CellFits, RowsFit, FirstsFit, AreElements, AllReached, AreSized, run, ends, first_at, next_at, row_at, owner_at}
 use Rattle.content_automata.specs.Refusals.{AreTooMany, IsCause, many_states, many_moves}
-use Rattle.content_automata.specs.Counts.{pairs_in}
+use Rattle.content_automata.specs.Counts.{pairs_in, moves_in, HaveFewMoves}
 use Rattle.dtd_model.specs.Matches.{matches}
 use Rattle.dtd_model.specs.Lawful.{is_lawful, is_lawful_rule, is_lawful_holding, are_lawful_attributes, are_names, element_limit}
 use Rattle.std.specs.Cmp.{first_so, second_so}
@@ -90,6 +90,10 @@ table_apart d t i e f r q es fs m n at_e at_f below_es below_fs run_e run_f =
 pub table_is : (models : List Model) (old new : List Key) (firsts : List ℕ) (rows : List Row) (owners : List ℕ) → owners ≡ map (λ (k : Key). k.0) new → IsDistinct key_eq new → AllReached (shapes_of models) new → Keeps old new → FirstsFit (shapes_of models) old firsts (length models) → RowsFit (shapes_of models) new rows (length new) → IsTable (shapes_of models) (firsts, rows, owners)
 table_is models old new firsts rows owners own apart all keeps f r =
     record { keys = new; apart = apart; reached = all; firsts = subst (FirstsFit (shapes_of models) new firsts) (sym (shapes_length models)) (firsts_kept (shapes_of models) old new firsts (length models) keeps f); rows = r; owners = own }
+
+-- the moves of the states of the table
+pub few_moves : (shapes : List Shape) (keys : List Key) (rows : List Row) (most : ℕ) → IsDistinct key_eq keys → AllReached shapes keys → RowsFit shapes keys rows (length keys) → moves_in shapes keys ≤ most → HaveFewMoves shapes (length rows) most
+few_moves shapes keys rows most apart all fit few = record { keys = keys; as_many = sym fit.long; apart = apart; reached = λ k has. led_reached shapes k (all k has); few = few }
 
 -- the state at a number, and its row
 at_some : {X : Type 0} (xs : List X) (n : ℕ) → n < length xs → (x : X) × (slice_get xs n ≡ Some x)

@@ -1,5 +1,5 @@
 -- How large content models are, and how much is looked at where their states are built.
-use Rattle.std.specs.Prelude.{◌≤◌, ℕ, ◌+◌, Bool, if◌then◌else◌, List, [], ◌∷◌, length, Contains, slice_index_or}
+use Rattle.std.specs.Prelude.{◌≡◌, ◌≤◌, ℕ, ◌+◌, Bool, if◌then◌else◌, List, [], ◌∷◌, length, Contains, slice_index_or}
 use Rattle.std.specs.List.{IsDistinct}
 use Rattle.dtd_model.specs.Table.{Model, one, sequence, choice, optional, any_number, at_least_one, Models, no_models, more_models}
 use Rattle.dtd_model.specs.Matches.{may_be_empty}
@@ -52,7 +52,15 @@ moves_in shapes (k ∷ ks) = moves_at shapes k + moves_in shapes ks
 abbrev pub HasMoves : List Shape → ℕ → Type 0
 HasMoves shapes n = (keys : List Key) × IsDistinct key_eq keys × ((k : Key) → Contains keys k → IsReached shapes k) × (n ≤ moves_in shapes keys)
 
--- the same number of pairs without the positions, as it is counted
+-- the states of a table, which has so many of them: as many different ones, each behind some children, with at most so many moves together (own)
+pub record HaveFewMoves (shapes : List Shape) (count most : ℕ) : Type 0 where
+  pub keys : List Key
+  pub as_many : length keys ≡ count
+  pub apart : IsDistinct key_eq keys
+  pub reached : (k : Key) → Contains keys k → IsReached shapes k
+  pub few : moves_in shapes keys ≤ most
+
+-- The same number of pairs without the positions, as it is counted. No public clause cites this.
 unfoldable mutual
   -- how many positions a match of the model may begin with
   pub beginnings : Model → ℕ
@@ -73,11 +81,11 @@ unfoldable mutual
   beginnings_of_each no_models = 0
   beginnings_of_each (more_models m ms) = beginnings m + beginnings_of_each ms
 
--- how many positions may come next where the model is to come, and behind it one of so many
+-- how many positions may come next where the model is to come, and behind it one of so many; no public clause cites this
 abbrev pub before_it : Model → ℕ → ℕ
 before_it m behind = beginnings m + (if may_be_empty m then behind else 0)
 
--- how many pairs a model has where one of so many positions may come behind it
+-- How many pairs a model has where one of so many positions may come behind it. No public clause cites this.
 unfoldable mutual
   -- how many pairs the positions of the model have, where one of so many positions may come behind the model
   pub pairs : Model → ℕ → ℕ

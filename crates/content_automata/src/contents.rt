@@ -3,13 +3,13 @@
 ghost use Rattle.std.specs.Prelude.{◌≡◌, ◌≤◌, ◌<◌, ◌↔◌, IsTrue, length, map, IfOk, IfErr, OnOk};
 ghost use Rattle.dtd_model.specs.declared.dtd.ElementRule.{ElementRule};
 ghost use Rattle.dtd_model.specs.Table.{holding_of};
-ghost use Rattle.content_automata.specs.declared.limits.TheConstants.{STATE_LIMIT, PAIR_LIMIT};
+ghost use Rattle.content_automata.specs.declared.limits.TheConstants.{STATE_LIMIT, PAIR_LIMIT, MOVE_LIMIT};
 ghost use Rattle.content_automata.specs.Shapes.{shape};
 ghost use Rattle.dtd_model.specs.TableOf.{table_of};
 ghost use Rattle.content_automata.specs.Tables as spec;
 ghost use Rattle.content_automata.specs.Tables.{AreSized, IsTable, Key};
 ghost use Rattle.content_automata.specs.Refusals.{IsCause};
-ghost use Rattle.content_automata.specs.Counts.{pairs_in};
+ghost use Rattle.content_automata.specs.Counts.{pairs_in, HaveFewMoves};
 ghost use Rattle.content_automata.specs.Decides.{shapes_in, Decides, TellsApart, HasOwners, GoesOn, ReachesAll};
 ghost use Rattle.content_automata.specs.Views.{shapes_of};
 
@@ -75,6 +75,8 @@ fn tabled(alloc: Global, models: &[Allowed]) -> Result<Contents, ContentRefusal>
     requires { AreSized (shapes_of models.now) }
     ensures table { IfOk result (λ c. IsTable (shapes_of models.now) c) }
     ensures few { IfOk result (λ c. length c.1 ≤ STATE_LIMIT) }
+    ensures moves { IfOk result
+        (λ c. HaveFewMoves (shapes_of models.now) (length c.1) MOVE_LIMIT) }
     ensures limit { IfErr result (IsCause (shapes_of models.now)) }
 {
     let mut keys = IndexSet::new(alloc);
@@ -145,6 +147,8 @@ pub fn build(alloc: Global, dtd: &Dtd) -> Result<Contents, ContentRefusal>
     ensures few { IfOk result (λ c. length c.1 ≤ STATE_LIMIT) }
     ensures elements { IfOk result (λ c. length c.0 ≡ length (table_of dtd.now).elements) }
     ensures pairs { OnOk result (pairs_in (shapes_in (table_of dtd.now)) ≤ PAIR_LIMIT) }
+    ensures moves { IfOk result
+        (λ c. HaveFewMoves (shapes_in (table_of dtd.now)) (length c.1) MOVE_LIMIT) }
     ensures limit { IfErr result (IsCause (shapes_in (table_of dtd.now))) }
 {
     let models = match limited(alloc, dtd.elements.as_slice()) {

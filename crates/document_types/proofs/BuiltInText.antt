@@ -2,6 +2,7 @@
 use Rattle.std.proofs.Common.{◌≡◌, ◌≤◌, ℕ, List, true, false, Bool, Option, Some, None, length, refl, subst}
 use Rattle.std.specs.Prelude.{if◌then◌else◌, bytes_eq}
 use Rattle.text_base.specs.declared.limits.TheConstants.{FILE_LIMIT}
+use Rattle.io_edge.specs.Told.{known}
 use Rattle.dtd_reader.specs.Certain.{AreTold, AreShort}
 use Rattle.document_types.specs.Strict.{file_name, only_file, strict_bytes}
 use Rattle.document_types.proofs.Length.{is_short}
@@ -9,8 +10,8 @@ use Rattle.document_types.proofs.Length.{is_short}
 pub only_told : (text : List ℕ) → AreTold (only_file text) file_name
 only_told text path asked = (_, refl)
 
-some_some : {a : Option (List ℕ)} {b : List ℕ} → Some a ≡ Some (Some b) → a ≡ Some b
-some_some e = cc
+known_some : {a : Option (List ℕ)} {b : List ℕ} → known a ≡ known (Some b) → a ≡ Some b
+known_some e = cc
 
 of_some : {a b : List ℕ} → Some a ≡ Some b → a ≡ b
 of_some e = cc
@@ -20,4 +21,4 @@ short_by true bytes e = subst (λ (x : List ℕ). length x ≤ FILE_LIMIT) (of_s
 short_by false bytes e = absurd cc
 
 pub only_short : AreShort (only_file strict_bytes) file_name
-only_short path bytes asked e = short_by (bytes_eq path file_name) bytes (some_some e)
+only_short path bytes asked e = short_by (bytes_eq path file_name) bytes (known_some e)

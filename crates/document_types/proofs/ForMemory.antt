@@ -2,7 +2,7 @@
 use Rattle.std.proofs.Common.{◌≡◌, ◌≤◌, ℕ, List, refl, subst, arith}
 use Rattle.dtd_model.specs.Table.{Table}
 use Rattle.io_edge.specs.Counts.{Rises}
-use Rattle.dtd_texts.specs.Reading.{Content}
+use Rattle.io_edge.specs.Told.{Content}
 use Rattle.dtd_reader.specs.Source.{SourceCall, source_call}
 use Rattle.dtd_reader.specs.Refusals.{IsCause}
 use Rattle.dtd_reader.specs.declared.refusal.DtdRefusal.{DtdRefusal}

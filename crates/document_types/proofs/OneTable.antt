@@ -2,7 +2,7 @@
 use Rattle.std.proofs.Common.{◌≡◌, ◌∙◌, ℕ, List, sym, ap}
 use Rattle.dtd_model.specs.Table.{Table}
 use Rattle.dtd_model.specs.declared.dtd.DoctypeRule.TheVariants.{Free}
-use Rattle.dtd_texts.specs.Reading.{Content}
+use Rattle.io_edge.specs.Told.{Content}
 use Rattle.dtd_reader.proofs.OneTable as laws
 use Rattle.document_types.specs.Strict.{file_name, only_file, strict_bytes, IsStrict}
 use Rattle.document_types.specs.DocumentTypes.{NamedType, strict_type, mini_type, file_type, HasTable, NamesAreTold}

@@ -2,7 +2,7 @@
 use Rattle.std.specs.Prelude.{◌≡◌, ℕ, List, if◌then◌else◌, bytes_eq, codes, ⊤}
 use Rattle.dtd_model.specs.Table.{Table}
 use Rattle.dtd_model.specs.Mini.{mini_table}
-use Rattle.dtd_texts.specs.Reading.{Content}
+use Rattle.io_edge.specs.Told.{Content}
 use Rattle.dtd_texts.specs.Spells.{DtdSpells}
 use Rattle.dtd_reader.specs.Source.{SourceCall, IsCalm}
 use Rattle.dtd_reader.specs.Refusals.{IsCause}

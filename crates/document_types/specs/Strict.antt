@@ -2,7 +2,7 @@
 use Rattle.std.specs.Prelude.{◌≡◌, ℕ, List, ◌++◌, codes}
 use Rattle.dtd_model.specs.Table.{Table}
 use Rattle.dtd_model.specs.declared.dtd.DoctypeRule.TheVariants.{Strict, Free}
-use Rattle.dtd_texts.specs.Reading.{Content}
+use Rattle.io_edge.specs.Told.{Content}
 use Rattle.dtd_texts.specs.Spells.{DtdSpells}
 use Rattle.dtd_reader.specs.Source.{source_call}
 use Rattle.dtd_reader.specs.Refusals.{IsCause}

@@ -1,6 +1,7 @@
 //! The document types that words may name: this module alone knows their definitions.
 
 ghost use Rattle.std.specs.Prelude.{◌≡◌, IfOk, IfErr};
+ghost use Rattle.io_edge.specs.Told.{Stays};
 ghost use Rattle.dtd_model.specs.TableOf.{table_of};
 ghost use Rattle.dtd_reader.specs.Source.{source_call, IsCalm};
 ghost use Rattle.document_types.specs.DocumentTypes.{HasTable, IsBuiltIn, IsDefinitionRefusal, named_type, type_of};
@@ -49,16 +50,16 @@ impl<'a> DocumentType<'a> {
         files: &mut F,
     ) -> Result<Dtd, DefinitionRefusal>
         ensures ok { IfOk result
-            (λ dtd. HasTable (F.content files.old) (type_of self.entry) (table_of dtd)) }
+            (λ dtd. HasTable (F.content files.new) (type_of self.entry) (table_of dtd)) }
         ensures err { IfErr result
-            (IsDefinitionRefusal (source_call (F.content files.old) (F.faults files.old)
+            (IsDefinitionRefusal (source_call (F.content files.new) (F.faults files.old)
             (F.faults files.new) (F.misses files.old) (F.misses files.new)) (type_of self.entry)) }
         ensures reads { IsBuiltIn (type_of self.entry) → F.reads files.new ≡ F.reads files.old }
         ensures calm { IfOk result
-            (λ _. IsCalm (source_call (F.content files.old) (F.faults files.old)
+            (λ _. IsCalm (source_call (F.content files.new) (F.faults files.old)
             (F.faults files.new)
             (F.misses files.old) (F.misses files.new))) }
-        ensures same { F.content files.new ≡ F.content files.old }
+        ensures stays { Stays (F.content files.old) (F.content files.new) }
     {
         match self {
             DocumentType::Strict => match strict(alloc) {

@@ -2,7 +2,7 @@
 
 ghost use Rattle.document_types.specs.OneFile.{file_alone};
 
-use io_edge::{FileFault, Files};
+use io_edge::{FileFault, FileKind, Files};
 use std::alloc::Global;
 use text_base::Bytes;
 use text_base::limits::FILE_LIMIT;
@@ -29,7 +29,7 @@ impl Files for OneFile {
 
     ghost reads = { λ f. f.reads };
 
-    fn read(&mut self, alloc: Global, name: &str) -> Result<Bytes, FileFault> {
+    fn read(&mut self, alloc: Global, name: &str, _: FileKind) -> Result<Bytes, FileFault> {
         self.reads = self.reads.saturating_add(1);
         if name != self.name {
             self.misses = self.misses.saturating_add(1);

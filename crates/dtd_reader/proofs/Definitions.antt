@@ -2,7 +2,8 @@
 use Rattle.std.proofs.Common.{◌≡◌, ℕ, true, List, sym, subst, inl, inr}
 use Rattle.dtd_model.specs.Table.{Table}
 use Rattle.dtd_model.specs.Lawful.{are_names}
-use Rattle.dtd_texts.specs.Reading.{State, Content}
+use Rattle.io_edge.specs.Told.{Content}
+use Rattle.dtd_texts.specs.Reading.{State}
 use Rattle.dtd_texts.specs.Spells.{DtdSpells}
 use Rattle.dtd_texts.proofs.Entities.{entities_named}
 use Rattle.dtd_tables.specs.Spelled.{IsTable}

@@ -1,5 +1,6 @@
 pub mod SoFar
 pub mod Stack
+pub mod Later
 pub mod Steps
 pub mod Definitions
 pub mod NothingWrong

@@ -2,10 +2,10 @@
 use Rattle.std.proofs.Common.{◌≡◌, ◌≢◌, ◌∙◌, ◌<◌, ◌≤◌, ℕ, true, false, List, [], ◌∷◌, length, Option, Some, None, refl, sym, ap, subst, inl, inr, arith}
 use Rattle.text_base.specs.declared.limits.TheConstants.{FILE_LIMIT}
 use Rattle.io_edge.specs.Counts.{Rises}
-use Rattle.io_edge.specs.Told.{Tells, HasAtLeast}
+use Rattle.io_edge.specs.Told.{Told, unasked, untold, known, Content, Tells, HasAtLeast}
 use Rattle.dtd_model.specs.Table.{Table}
 use Rattle.dtd_texts.specs.Places.{between, external}
-use Rattle.dtd_texts.specs.Reading.{State, Content, Holds, Stands, start, Written, Reads, move, opens, omits, stuck, is_among, source_of}
+use Rattle.dtd_texts.specs.Reading.{State, Holds, Stands, start, Written, Reads, move, opens, omits, stuck, is_among, source_of}
 use Rattle.dtd_texts.specs.Causes.{Meets, Breaks, unlawful, unended, Omits, Refers, Misses, circular, undeclared, Asks, asks}
 use Rattle.dtd_texts.specs.Spells.{ReadsAll, Says, DtdSpells}
 use Rattle.dtd_texts.specs.Tables.{Said, element_names}
@@ -65,24 +65,25 @@ file_held : {content : Content} {name path : List ℕ} {table : Table} → AreTo
 file_held {content = content} told p (inl e) = (p.held.whole, subst (λ x. Tells (content x) (Some p.held.whole)) (sym e) p.held.told)
 file_held {content = content} {path = path} told p (inr f) = asked_held (tells told p.held) p.read (in_file {Holding = λ file. Asks content file path} told p f)
 
-tells_file : (t : Option (Option (List ℕ))) (file : Option (List ℕ)) (whole : List ℕ) → t ≡ Some file → Tells t (Some whole) → t ≡ Some (Some whole)
-tells_file None file whole e told = absurd (grind arith)
-tells_file (Some f) file whole e told = ap Some told
+tells_file : (t : Told) (file : Option (List ℕ)) (whole : List ℕ) → t ≡ known file → Tells t (Some whole) → t ≡ known (Some whole)
+tells_file unasked file whole e told = absurd told
+tells_file untold file whole e told = absurd (grind arith)
+tells_file (known f) file whole e told = ap known told
 
 content_is : {content : Content} {name path : List ℕ} {table : Table} → AreTold content name → DtdSpells content name table → IsAskedFor content name path →
-    (whole : List ℕ) × (content path ≡ Some (Some whole))
+    (whole : List ℕ) × (content path ≡ known (Some whole))
 content_is {content = content} {path = path} told p asked =
     let (whole, held) = file_held told p asked in
     (whole, tells_file (content path) (told path asked).0 whole (told path asked).1 held)
 
-not_missing : (t : Option (Option (List ℕ))) (whole : List ℕ) → t ≡ Some (Some whole) → Tells t None → ⊥
+not_missing : (t : Told) (whole : List ℕ) → t ≡ known (Some whole) → Tells t None → ⊥
 not_missing t whole is told =
-    let same : Tells (Some (Some whole)) None = subst (λ x. Tells x None) is told in
+    let same : Tells (known (Some whole)) None = subst (λ x. Tells x None) is told in
     cc
 
-not_long : (t : Option (Option (List ℕ))) (whole : List ℕ) (len : ℕ) → t ≡ Some (Some whole) → length whole ≤ FILE_LIMIT → FILE_LIMIT < len → HasAtLeast t len → ⊥
+not_long : (t : Told) (whole : List ℕ) (len : ℕ) → t ≡ known (Some whole) → length whole ≤ FILE_LIMIT → FILE_LIMIT < len → HasAtLeast t len → ⊥
 not_long t whole len is short over least =
-    let at : HasAtLeast (Some (Some whole)) len = subst (λ x. HasAtLeast x len) is least in
+    let at : HasAtLeast (known (Some whole)) len = subst (λ x. HasAtLeast x len) is least in
     omega (arith, at, over, short)
 
 not_wrong : {written : List Written} {says : List Said} {at : ℕ} {how : went.Went Said} → Says written says → GoesWrong written at how → ((s : Said) → how ≡ went.leads s → ⊥) → ⊥

@@ -2,7 +2,8 @@
 use Rattle.std.proofs.Common.{◌≡◌, ◌∙◌, ℕ, List, [], ◌∷◌, map, refl, sym, ap, subst, inl, inr, arith}
 use Rattle.dtd_model.specs.Table.{Table, Rule}
 use Rattle.dtd_model.specs.declared.dtd.DoctypeRule.{DoctypeRule}
-use Rattle.dtd_texts.specs.Reading.{State, Content, Holds, start}
+use Rattle.io_edge.specs.Told.{Content}
+use Rattle.dtd_texts.specs.Reading.{State, Holds, start}
 use Rattle.dtd_texts.specs.Causes.{asks}
 use Rattle.dtd_texts.specs.Spells.{ReadsAll, Says, DtdSpells}
 use Rattle.dtd_texts.specs.Tables.{Said, rules_of}

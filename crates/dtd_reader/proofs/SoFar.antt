@@ -2,7 +2,8 @@
 use Rattle.std.proofs.Common.{◌≡◌, ◌∙◌, ℕ, ◌+◌, ◌<◌, true, false, ◌⊎◌, inl, inr, List, [], ◌∷◌, length, drop, sym, ap, subst, arith, Some, None}
 use Rattle.std.proofs.lemmas.List.{drop-drop}
 use Rattle.dtd_texts.specs.Places.{external}
-use Rattle.dtd_texts.specs.Reading.{State, Content, Stands, start, on, opens, omits, stuck, move, is_among, source_of, enter, leave, Reads, at_end, takes, replaces}
+use Rattle.io_edge.specs.Told.{Content}
+use Rattle.dtd_texts.specs.Reading.{State, Stands, start, on, opens, omits, stuck, move, is_among, source_of, enter, leave, Reads, at_end, takes, replaces}
 use Rattle.dtd_texts.specs.Causes.{Meets, here, later, within, behind, Breaks, unlawful, Omits, Refers, Misses, circular, undeclared, Asks, asks}
 use Rattle.dtd_reader.specs.SoFar.{Frame, names, Position, first, RestMeets, SoFar}
 

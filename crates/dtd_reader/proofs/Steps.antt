@@ -1,6 +1,7 @@
 -- From a step of the reading to the answer of the whole.
 use Rattle.std.proofs.Common.{◌≡◌, ◌<◌, ◌≤◌, ◌⊎◌, ℕ, List, [], refl, sym, ap, subst, inl, inr}
-use Rattle.dtd_texts.specs.Reading.{State, Content, Holds, start, Reads, at_end, takes, replaces}
+use Rattle.io_edge.specs.Told.{Content}
+use Rattle.dtd_texts.specs.Reading.{State, Holds, start, Reads, at_end, takes, replaces}
 use Rattle.dtd_texts.specs.Causes.{Meets, here, later, behind, Breaks, Comes}
 use Rattle.dtd_tables.specs.Causes.{FirstRefused, NoneRefused}
 use Rattle.std.specs.Prelude.{Result, Ok, Err, Option, Some, None, MatchOption}
@@ -17,10 +18,10 @@ use Rattle.dtd_reader.specs.declared.refusal.DtdRefusal.{DtdRefusal}
 use Rattle.dtd_reader.specs.declared.refusal.DtdRefusal.TheVariants.{Missing, ReadFault, TooLong, NotDtd, Entity, Twice, Undeclared, LeftOut, Limit, Memory}
 use Rattle.dtd_reader.proofs.SoFar.{here_met}
 
--- what holds of a later part of a call, before which nothing changed, holds of the whole
-pub same_call : (P : SourceCall → Type 0) (k k' : Content) (f f' f'' m m' m'' : ℕ) → k' ≡ k → f' ≡ f → m' ≡ m → P (source_call k' f' f'' m' m'') → P (source_call k f f'' m m'')
-same_call P k k' f f' f'' m m' m'' a b e p =
-    subst (λ x. P (source_call x f f'' m m'')) a (subst (λ x. P (source_call k' x f'' m m'')) b (subst (λ x. P (source_call k' f' f'' x m'')) e p))
+-- what holds of a later part of a call, before which no count rose, holds of the whole
+pub same_call : (P : SourceCall → Type 0) (k : Content) (f f' f'' m m' m'' : ℕ) → f' ≡ f → m' ≡ m → P (source_call k f' f'' m' m'') → P (source_call k f f'' m m'')
+same_call P k f f' f'' m m' m'' b e p =
+    subst (λ x. P (source_call k x f'' m m'')) b (subst (λ x. P (source_call k f' f'' x m'')) e p)
 
 -- what is read is come to
 reads_meets : (content : Content) (outer : List (List ℕ)) (s last : State) (text : List ℕ) → Reads content outer s text last → Meets content outer s text outer last []

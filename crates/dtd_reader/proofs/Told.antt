@@ -1,16 +1,17 @@
 -- Where it is told what the names of a text hold, it is read in one way, and whatever is met in reading it is read on.
 use Rattle.std.proofs.Common.{◌≡◌, ◌∙◌, ℕ, false, List, [], ◌∷◌, drop, refl, sym, ap, subst, arith, Option, Some, None}
-use Rattle.io_edge.specs.Told.{Tells}
+use Rattle.io_edge.specs.Told.{Told, unasked, untold, known, Content, Tells}
 use Rattle.dtd_texts.specs.Tokens.{behind_declaration}
 use Rattle.dtd_texts.specs.Places.{Source, internal, external}
-use Rattle.dtd_texts.specs.Reading.{State, Content, Holds, Stands, on, opens, move, is_among, source_of, enter, leave, Reads, at_end, takes, replaces}
+use Rattle.dtd_texts.specs.Reading.{State, Holds, Stands, on, opens, move, is_among, source_of, enter, leave, Reads, at_end, takes, replaces}
 use Rattle.dtd_texts.specs.Causes.{Meets, here, later, within, behind}
 use Rattle.dtd_texts.proofs.Once.{Replaced, reads_at}
 use Rattle.dtd_reader.specs.Certain.{IsToldOf}
 
-told_same : (t : Option (Option (List ℕ))) (file : Option (List ℕ)) (x y : List ℕ) → t ≡ Some file → Tells t (Some x) → Tells t (Some y) → x ≡ y
-told_same None file x y e a b = absurd (grind arith)
-told_same (Some t) file x y e a b = some_same a b
+told_same : (t : Told) (file : Option (List ℕ)) (x y : List ℕ) → t ≡ known file → Tells t (Some x) → Tells t (Some y) → x ≡ y
+told_same unasked file x y e a b = absurd a
+told_same untold file x y e a b = absurd (grind arith)
+told_same (known t) file x y e a b = some_same a b
   where
     some_same : {o : Option (List ℕ)} {v w : List ℕ} → o ≡ Some v → o ≡ Some w → v ≡ w
     some_same f g = cc

@@ -1,7 +1,8 @@
 -- What the reading of a definition text comes to, and why it is refused.
 use Rattle.std.specs.Prelude.{◌≡◌, ◌<◌, ◌≤◌, ◌⊎◌, ℕ, List}
 use Rattle.io_edge.specs.declared.files.FileFault.TheVariants as fault
-use Rattle.dtd_texts.specs.Reading.{State, Content, Holds}
+use Rattle.io_edge.specs.Told.{Content}
+use Rattle.dtd_texts.specs.Reading.{State, Holds}
 use Rattle.dtd_texts.specs.Causes.{Breaks, Omits, Misses, Asks, Comes}
 use Rattle.dtd_texts.specs.Spells.{ReadsAll}
 use Rattle.dtd_tables.specs.Causes.{IsFirstFault}

@@ -1,7 +1,7 @@
 -- What makes it certain what the file of a document type definition declares.
 use Rattle.std.specs.Prelude.{◌≡◌, ◌≤◌, ◌⊎◌, ℕ, List, length, Option, Some, ⊤}
 use Rattle.text_base.specs.declared.limits.TheConstants.{FILE_LIMIT}
-use Rattle.dtd_texts.specs.Reading.{Content}
+use Rattle.io_edge.specs.Told.{Content, known}
 use Rattle.dtd_tables.specs.Causes.{IsTooMany}
 use Rattle.dtd_reader.specs.Causes.{InFile, IsOver, IsAskedFor}
 use Rattle.dtd_reader.specs.Refusals.{InDeclarations}
@@ -10,7 +10,7 @@ use Rattle.dtd_reader.specs.declared.refusal.DtdRefusal.TheVariants.{Limit, Memo
 
 -- the source tells what this name holds
 abbrev pub IsToldOf : Content → List ℕ → Type 0
-IsToldOf content path = (file : Option (List ℕ)) × (content path ≡ Some file)
+IsToldOf content path = (file : Option (List ℕ)) × (content path ≡ known file)
 
 -- the names that the file asks for, its own among them, are told of
 abbrev pub AreTold : Content → List ℕ → Type 0
@@ -18,7 +18,7 @@ AreTold content name = (path : List ℕ) → IsAskedFor content name path → Is
 
 -- what they hold is within the limit of a file
 abbrev pub AreShort : Content → List ℕ → Type 0
-AreShort content name = (path bytes : List ℕ) → IsAskedFor content name path → content path ≡ Some (Some bytes) → length bytes ≤ FILE_LIMIT
+AreShort content name = (path bytes : List ℕ) → IsAskedFor content name path → content path ≡ known (Some bytes) → length bytes ≤ FILE_LIMIT
 
 -- there are so many bytes or references in the text, or elements, attributes of an element or open brackets in its declarations,
 -- and these are too many

@@ -1,7 +1,8 @@
 -- Why a document type definition is refused.
 use Rattle.std.specs.Prelude.{◌≡◌, ◌⊎◌, ℕ, List}
 use Rattle.io_edge.specs.declared.files.FileFault.TheVariants as fault
-use Rattle.dtd_texts.specs.Reading.{State, Content, Written}
+use Rattle.io_edge.specs.Told.{Content}
+use Rattle.dtd_texts.specs.Reading.{State, Written}
 use Rattle.dtd_texts.specs.Causes.{Omits, Misses}
 use Rattle.dtd_texts.specs.Tables.{element_names}
 use Rattle.dtd_texts.specs.Went.{refused, left_out, undeclared}

@@ -1,6 +1,7 @@
 -- Reading in a loop, with a stack of what is left of each open entity: whatever the rest leads to, so does the file.
 use Rattle.std.specs.Prelude.{ℕ, ◌⊎◌, List, [], ◌∷◌, map}
-use Rattle.dtd_texts.specs.Reading.{State, Content, start, leave, Reads}
+use Rattle.io_edge.specs.Told.{Content}
+use Rattle.dtd_texts.specs.Reading.{State, start, leave, Reads}
 use Rattle.dtd_texts.specs.Causes.{Meets}
 
 -- an entity that is open, and the text behind the reference that opened it

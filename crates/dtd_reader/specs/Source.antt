@@ -1,14 +1,13 @@
--- A source of files in a call: what it tells, and its counts of faults and of misses, before the call and after it.
+-- A source of files in a call: what it tells behind the call, and its counts of faults and of misses, before the call and after it.
 use Rattle.std.specs.Prelude.{◌≡◌, ◌<◌, ℕ, List, None, Result, Ok, Err}
 use Rattle.text_base.specs.declared.memory.NoMemory.{NoMemory}
 use Rattle.text_base.specs.declared.limits.TheConstants.{FILE_LIMIT}
 use Rattle.io_edge.specs.Counts.{Rises}
-use Rattle.io_edge.specs.Told.{Tells, HasAtLeast}
+use Rattle.io_edge.specs.Told.{Content, Tells, HasAtLeast}
 use Rattle.io_edge.specs.declared.files.FileFault.{FileFault}
 use Rattle.io_edge.specs.declared.files.FileFault.TheVariants.{Memory, Missing, Failed, TooLong}
-use Rattle.dtd_texts.specs.Reading.{Content}
 
--- a source's contents, and its counts of faults and of misses before the call and (with a prime) after it
+-- what a source tells behind a call, and its counts of faults and of misses before the call and (with a prime) after it
 pub record SourceCall : Type 0 where
   pub content : Content
   pub faults : ℕ

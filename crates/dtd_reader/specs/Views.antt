@@ -1,7 +1,8 @@
 -- What the reader stands for.
 use Rattle.std.specs.Prelude.{◌≡◌, ◌⊎◌, ◌<◌, ◌+◌, ◌*◌, ◌-◌, length, ℕ, List, [], ◌∷◌, map, reverse, drop, true, false, Some, None}
 use Rattle.dtd_texts.specs.Places.{external}
-use Rattle.dtd_texts.specs.Reading.{State, Content, Holds, Stands, start, enter, is_among, source_of, Reads}
+use Rattle.io_edge.specs.Told.{Content}
+use Rattle.dtd_texts.specs.Reading.{State, Holds, Stands, start, enter, is_among, source_of, Reads}
 use Rattle.dtd_texts.specs.Causes.{Breaks, Omits, Misses, Asks}
 use Rattle.dtd_entities.specs.Positions.{state_of}
 use Rattle.dtd_reader.specs.SoFar.{Frame, names, Position, SoFar}

@@ -1,6 +1,7 @@
 //! Document type definitions from files.
 
 ghost use Rattle.std.specs.Prelude.{◌≡◌, IfOk, IfErr};
+ghost use Rattle.io_edge.specs.Told.{Stays};
 ghost use Rattle.dtd_model.specs.TableOf as tables;
 ghost use Rattle.dtd_texts.specs.Spells.{DtdSpells};
 ghost use Rattle.dtd_reader.specs.Source.{source_call, IsCalm};
@@ -38,14 +39,14 @@ fn refusal_of(refusal: TableRefusal) -> DtdRefusal
 /// that are declared up to there.
 pub fn read_dtd<F: Files>(alloc: Global, files: &mut F, name: &str) -> Result<Dtd, DtdRefusal>
     ensures spelled { IfOk result
-        (λ dtd. DtdSpells (F.content files.old) name.now (tables.table_of dtd)) }
+        (λ dtd. DtdSpells (F.content files.new) name.now (tables.table_of dtd)) }
     ensures calm { IfOk result
-        (λ dtd. IsCalm (source_call (F.content files.old) (F.faults files.old) (F.faults files.new)
+        (λ dtd. IsCalm (source_call (F.content files.new) (F.faults files.old) (F.faults files.new)
         (F.misses files.old) (F.misses files.new))) }
     ensures refused { IfErr result
-        (IsCause (source_call (F.content files.old) (F.faults files.old) (F.faults files.new)
+        (IsCause (source_call (F.content files.new) (F.faults files.old) (F.faults files.new)
         (F.misses files.old) (F.misses files.new)) name.now) }
-    ensures same { F.content files.new ≡ F.content files.old }
+    ensures stays { Stays (F.content files.old) (F.content files.new) }
 {
     let reading = read_text(alloc, files, name)?;
     match table_of(alloc, reading.written.as_slice(), &reading.generals) {

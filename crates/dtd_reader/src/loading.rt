@@ -1,13 +1,14 @@
 //! The texts of entities outside.
 
 ghost use Rattle.std.specs.Prelude.{◌≡◌, IfOk};
+ghost use Rattle.io_edge.specs.Told.{Stays};
 ghost use Rattle.dtd_texts.specs.Tokens as spec;
 ghost use Rattle.dtd_reader.specs.Source.{source_call, Counted};
 ghost use Rattle.dtd_reader.specs.Views.{IsLoaded, FoundCounts};
 
 use crate::outcome::Found;
 use dtd_declarations::behind_declaration;
-use io_edge::{FileFault, Files};
+use io_edge::{FileFault, FileKind, Files};
 use std::alloc::Global;
 use text_base::{Bytes, NoMemory};
 
@@ -20,14 +21,14 @@ fn text_behind(alloc: Global, whole: &[u8]) -> Result<Bytes, NoMemory>
 
 /// The text of this file behind its text declaration, or why it was not read.
 pub fn load<F: Files>(alloc: Global, files: &mut F, system: &str) -> Result<Found, NoMemory>
-    ensures loaded { IfOk result (IsLoaded (F.content files.old) system.now) }
+    ensures loaded { IfOk result (IsLoaded (F.content files.new) system.now) }
     ensures counted { Counted FoundCounts
-        (source_call (F.content files.old) (F.faults files.old) (F.faults files.new)
+        (source_call (F.content files.new) (F.faults files.old) (F.faults files.new)
         (F.misses files.old) (F.misses files.new)) result }
-    ensures same { F.content files.new ≡ F.content files.old }
+    ensures stays { Stays (F.content files.old) (F.content files.new) }
 {
     let name = Bytes::from_slice(alloc, system.as_bytes())?;
-    match files.read(alloc, system) {
+    match files.read(alloc, system, FileKind::Regular) {
         Ok(whole) => {
             let text = text_behind(alloc, whole.as_slice())?;
             Ok(Found::Text(text))

@@ -1,7 +1,8 @@
 //! The reading of a text, step by step.
 
 ghost use Rattle.std.specs.Prelude.{◌≡◌, ◌<◌, ◌≤◌, ◌+◌, ◌^◌, ℕ, List, length, drop, take, IfOk, false};
-ghost use Rattle.dtd_texts.specs.Reading.{Content, is_among, move, opens};
+ghost use Rattle.io_edge.specs.Told.{Content, Stays};
+ghost use Rattle.dtd_texts.specs.Reading.{is_among, move, opens};
 ghost use Rattle.dtd_entities.specs.Positions.{state_of};
 ghost use Rattle.dtd_reader.specs.SoFar.{first, names, SoFar};
 ghost use Rattle.dtd_reader.specs.Source.{SourceCall, source_call, IsCalm, Counted};
@@ -81,13 +82,12 @@ impl Reader {
 
     // The text of an entity that is declared so far and is not open.
     fn find<F: Files>(&self, alloc: Global, files: &mut F, name: &Bytes) -> Result<Found, NoMemory>
-        ensures found { IfOk result
-            (IsFound (F.content files.old) (state_of self.now.reading) (frames_of self.now.frames)
-            name.now) }
+        ensures found { (content : Content) → Stays (F.content files.new) content → IfOk result
+            (IsFound content (state_of self.now.reading) (frames_of self.now.frames) name.now) }
         ensures counted { Counted FoundCounts
-            (source_call (F.content files.old) (F.faults files.old) (F.faults files.new)
+            (source_call (F.content files.new) (F.faults files.old) (F.faults files.new)
             (F.misses files.old) (F.misses files.new)) result }
-        ensures same { F.content files.new ≡ F.content files.old }
+        ensures stays { Stays (F.content files.old) (F.content files.new) }
     {
         if self.frames.is_open(name) {
             return Ok(Found::Nowhere);
@@ -111,14 +111,14 @@ impl Reader {
         requires some { self.old.at + (2 + n) ≤ length self.old.text }
         requires opens { move (state_of self.old.reading) (drop self.old.at self.old.text)
             ≡ opens (take n (drop 1 (drop self.old.at self.old.text))) (2 + n) }
-        ensures told { (file : List ℕ) → SoFar (F.content files.old) file (position_of self.old) →
-            IfOk result (λ o. Told (F.content files.old) file o (position_of self.old)
-            (position_of self.new)) }
+        ensures told { (content : Content) (file : List ℕ) → Stays (F.content files.new) content →
+            SoFar content file (position_of self.old) →
+            IfOk result (λ o. Told content file o (position_of self.old) (position_of self.new)) }
         ensures nearer { IfOk result (λ o. IsNearer o (position_of self.old) (position_of self.new)) }
         ensures counted { Counted OutcomeCounts
-            (source_call (F.content files.old) (F.faults files.old) (F.faults files.new)
+            (source_call (F.content files.new) (F.faults files.old) (F.faults files.new)
             (F.misses files.old) (F.misses files.new)) result }
-        ensures same { F.content files.new ≡ F.content files.old }
+        ensures stays { Stays (F.content files.old) (F.content files.new) }
     {
         let name = Bytes::from_slice(
             alloc,
@@ -139,14 +139,14 @@ impl Reader {
         requires small { (self.old.reading.length ≤ REPLACED_LIMIT)
             × (self.old.reading.references ≤ REPLACED_LIMIT) }
         requires at { self.old.at < length self.old.text }
-        ensures told { (file : List ℕ) → SoFar (F.content files.old) file (position_of self.old) →
-            IfOk result (λ o. Told (F.content files.old) file o (position_of self.old)
-            (position_of self.new)) }
+        ensures told { (content : Content) (file : List ℕ) → Stays (F.content files.new) content →
+            SoFar content file (position_of self.old) →
+            IfOk result (λ o. Told content file o (position_of self.old) (position_of self.new)) }
         ensures nearer { IfOk result (λ o. IsNearer o (position_of self.old) (position_of self.new)) }
         ensures counted { Counted OutcomeCounts
-            (source_call (F.content files.old) (F.faults files.old) (F.faults files.new)
+            (source_call (F.content files.new) (F.faults files.old) (F.faults files.new)
             (F.misses files.old) (F.misses files.new)) result }
-        ensures same { F.content files.new ≡ F.content files.old }
+        ensures stays { Stays (F.content files.old) (F.content files.new) }
     {
         match self
             .reading
@@ -166,14 +166,14 @@ impl Reader {
     pub fn advance<F: Files>(&mut self, alloc: Global, files: &mut F) -> Result<Outcome, NoMemory>
         requires small { (self.old.reading.length ≤ REPLACED_LIMIT)
             × (self.old.reading.references ≤ REPLACED_LIMIT) }
-        ensures told { (file : List ℕ) → SoFar (F.content files.old) file (position_of self.old) →
-            IfOk result (λ o. Told (F.content files.old) file o (position_of self.old)
-            (position_of self.new)) }
+        ensures told { (content : Content) (file : List ℕ) → Stays (F.content files.new) content →
+            SoFar content file (position_of self.old) →
+            IfOk result (λ o. Told content file o (position_of self.old) (position_of self.new)) }
         ensures nearer { IfOk result (λ o. IsNearer o (position_of self.old) (position_of self.new)) }
         ensures counted { Counted OutcomeCounts
-            (source_call (F.content files.old) (F.faults files.old) (F.faults files.new)
+            (source_call (F.content files.new) (F.faults files.old) (F.faults files.new)
             (F.misses files.old) (F.misses files.new)) result }
-        ensures same { F.content files.new ≡ F.content files.old }
+        ensures stays { Stays (F.content files.old) (F.content files.new) }
     {
         if self.at < self.text.len() {
             self.take(alloc, files)

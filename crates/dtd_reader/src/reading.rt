@@ -1,6 +1,7 @@
 //! The reading of a whole text.
 
 ghost use Rattle.std.specs.Prelude.{◌≡◌, ◌≢◌, ◌<◌, ◌≤◌, ◌⊎◌, List, ℕ, [], true, false};
+ghost use Rattle.io_edge.specs.Told.{Stays};
 ghost use Rattle.dtd_texts.specs.Places as places;
 ghost use Rattle.dtd_texts.specs.Reading.{Reads, start};
 ghost use Rattle.dtd_texts.specs.Causes.{Asks, Breaks, Comes};
@@ -99,9 +100,9 @@ fn ended(alloc: Global, reading: Reading) -> Result<Reading, DtdRefusal>
 // Reads a text to its end.
 fn read_from<F: Files>(alloc: Global, files: &mut F, text: Bytes) -> Result<Reading, DtdRefusal>
     ensures answer { IsTextAnswer
-        (source_call (F.content files.old) (F.faults files.old) (F.faults files.new)
+        (source_call (F.content files.new) (F.faults files.old) (F.faults files.new)
         (F.misses files.old) (F.misses files.new)) text result }
-    ensures same { F.content files.new ≡ F.content files.old }
+    ensures stays { Stays (F.content files.old) (F.content files.new) }
 {
     let mut reader = Reader::new(alloc, text);
     'steps: while is_within_limits(&reader.reading) {
@@ -134,9 +135,9 @@ fn read_from<F: Files>(alloc: Global, files: &mut F, text: Bytes) -> Result<Read
 /// as many references were replaced, and `Memory`.
 pub fn read_text<F: Files>(alloc: Global, files: &mut F, name: &str) -> Result<Reading, DtdRefusal>
     ensures answer { IsAnswer
-        (source_call (F.content files.old) (F.faults files.old) (F.faults files.new)
+        (source_call (F.content files.new) (F.faults files.old) (F.faults files.new)
         (F.misses files.old) (F.misses files.new)) name.now result }
-    ensures same { F.content files.new ≡ F.content files.old }
+    ensures stays { Stays (F.content files.old) (F.content files.new) }
 {
     match load(alloc, files, name)? {
         Found::Text(text) => read_from(alloc, files, text),

@@ -6,7 +6,8 @@
 ghost use Rattle.std.specs.Prelude.{◌≡◌, ℕ, List};
 ghost use Rattle.io_edge.specs.Counts.{Rises};
 ghost use Rattle.dtd_model.specs.Table.{Table};
-ghost use Rattle.dtd_texts.specs.Reading.{Content, Written};
+ghost use Rattle.io_edge.specs.Told.{Content};
+ghost use Rattle.dtd_texts.specs.Reading.{Written};
 ghost use Rattle.dtd_texts.specs.Spells.{DtdSpells, Says};
 ghost use Rattle.dtd_texts.specs.Tables.{Said, element_names};
 ghost use Rattle.dtd_texts.specs.Went.{Went, leads};

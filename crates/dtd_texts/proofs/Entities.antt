@@ -12,7 +12,8 @@ use Rattle.dtd_texts.specs.Heads.{is_quote, same, begins, head_is, reference_len
 use Rattle.dtd_texts.specs.Tokens.{Token, tokens, behind, is_gap, is_percent, first_word, next_word, next_literal, is_end, are_none}
 use Rattle.dtd_texts.specs.Places as places
 use Rattle.dtd_texts.specs.Places.{Place, between, in_comment, behind_target, in_instruction, inside, in_literal, in_value, behind_value, Entity, parameter, general, Step, goes, declares_parameter, declares_general, declares, leaves_out, refers, refuses, step}
-use Rattle.dtd_texts.specs.Reading.{State, Content, Move, on, opens, omits, stuck, moved, move, is_among, with_name, enter, leave, opened, closed, Reads, at_end, takes, replaces, start}
+use Rattle.io_edge.specs.Told.{Content}
+use Rattle.dtd_texts.specs.Reading.{State, Move, on, opens, omits, stuck, moved, move, is_among, with_name, enter, leave, opened, closed, Reads, at_end, takes, replaces, start}
 
 -- a general entity has a name
 abbrev IsNamed : Entity → Type 0

@@ -1,7 +1,8 @@
 -- The bytes and the references of the replaced text never grow fewer.
 use Rattle.std.proofs.Common.{◌≡◌, ℕ, ◌≤◌, List, subst, arith}
 use Rattle.dtd_texts.specs.Places.{Step, goes, declares_parameter, declares_general, declares, leaves_out, refers, refuses, step}
-use Rattle.dtd_texts.specs.Reading.{State, Content, Move, on, opens, omits, stuck, moved, move, enter, leave, Reads, at_end, takes, replaces}
+use Rattle.io_edge.specs.Told.{Content}
+use Rattle.dtd_texts.specs.Reading.{State, Move, on, opens, omits, stuck, moved, move, enter, leave, Reads, at_end, takes, replaces}
 
 -- neither is fewer
 pub record UpTo (s next : State) : Type 0 where

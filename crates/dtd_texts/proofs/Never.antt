@@ -1,8 +1,8 @@
 -- A text that is read is read from each state that its reading comes to.
 use Rattle.std.proofs.Common.{◌≡◌, ℕ, Bool, true, false, List, [], ◌∷◌, drop, sym, subst, arith, Option, Some, None}
-use Rattle.io_edge.specs.Told.{Tells}
+use Rattle.io_edge.specs.Told.{Told, unasked, untold, known, Content, Tells}
 use Rattle.dtd_texts.specs.Places.{between, external}
-use Rattle.dtd_texts.specs.Reading.{State, Content, IsTold, Stands, start, source_of, enter, leave, Reads}
+use Rattle.dtd_texts.specs.Reading.{State, IsTold, Stands, start, source_of, enter, leave, Reads}
 use Rattle.dtd_texts.specs.Causes.{Meets, here, later, within, behind, Breaks, unlawful, unended, Omits, Refers, Misses, circular, undeclared, Asks, asks, Comes}
 use Rattle.dtd_texts.proofs.Once.{Replaced, reads_at, reads_once, stands_once}
 use Rattle.dtd_texts.proofs.Grows.{UpTo, reads_up, leave_up, and_up}
@@ -53,9 +53,10 @@ never_misses content file name last told r (undeclared outer s f is) =
     let there = replaced_there content file name last outer s told r f in
     subst (λ o. Stands content o there.1.text) is there.1.is
 
-none_told : (t : Option (Option (List ℕ))) (file : Option (List ℕ)) (x : List ℕ) → t ≡ Some file → Tells t (Some x) → Tells t None → ⊥
-none_told None file x e a b = absurd (grind arith)
-none_told (Some t) file x e a b = no_some a b where
+none_told : (t : Told) (file : Option (List ℕ)) (x : List ℕ) → t ≡ known file → Tells t (Some x) → Tells t None → ⊥
+none_told unasked file x e a b = a
+none_told untold file x e a b = absurd (grind arith)
+none_told (known t) file x e a b = no_some a b where
   no_some : {o : Option (List ℕ)} {v : List ℕ} → o ≡ Some v → o ≡ None → ⊥
   no_some f g = grind arith
 

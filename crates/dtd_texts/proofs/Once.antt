@@ -1,13 +1,14 @@
 -- A text leads from one state to one other at most, where what its names hold is told.
 use Rattle.std.proofs.Common.{◌≡◌, ◌∙◌, ℕ, false, List, [], ◌∷◌, drop, refl, sym, ap, subst, arith, Option, Some, None}
-use Rattle.io_edge.specs.Told.{Tells}
+use Rattle.io_edge.specs.Told.{Told, unasked, untold, known, Content, Tells}
 use Rattle.dtd_texts.specs.Tokens.{behind_declaration}
 use Rattle.dtd_texts.specs.Places.{Source, internal, external}
-use Rattle.dtd_texts.specs.Reading.{State, Content, IsTold, Holds, Stands, Move, on, opens, omits, stuck, move, is_among, source_of, enter, leave, Reads, at_end, takes, replaces}
+use Rattle.dtd_texts.specs.Reading.{State, IsTold, Holds, Stands, Move, on, opens, omits, stuck, move, is_among, source_of, enter, leave, Reads, at_end, takes, replaces}
 
-told_once : (t : Option (Option (List ℕ))) (file : Option (List ℕ)) (x y : List ℕ) → t ≡ Some file → Tells t (Some x) → Tells t (Some y) → x ≡ y
-told_once None file x y e a b = absurd (grind arith)
-told_once (Some t) file x y e a b = some_once a b where
+told_once : (t : Told) (file : Option (List ℕ)) (x y : List ℕ) → t ≡ known file → Tells t (Some x) → Tells t (Some y) → x ≡ y
+told_once unasked file x y e a b = absurd a
+told_once untold file x y e a b = absurd (grind arith)
+told_once (known t) file x y e a b = some_once a b where
   some_once : {o : Option (List ℕ)} {v w : List ℕ} → o ≡ Some v → o ≡ Some w → v ≡ w
   some_once f g = cc
 

@@ -1,9 +1,10 @@
 -- The reading as a computation of so many moves at most, so that examples are found by computing.
 use Rattle.std.proofs.Common.{◌≡◌, ℕ, zero, suc, Bool, true, false, List, [], ◌∷◌, drop, refl, arith, Option, Some, None}
+use Rattle.io_edge.specs.Told.{Content, known}
 use Rattle.dtd_model.specs.Table.{Rule}
 use Rattle.dtd_texts.specs.Tokens.{behind_declaration}
 use Rattle.dtd_texts.specs.Places.{Place, between, Source, internal, external}
-use Rattle.dtd_texts.specs.Reading.{State, Content, Holds, Stands, Written, Move, on, opens, omits, stuck, move, is_among, source_of, enter, leave, Reads, at_end, takes, replaces}
+use Rattle.dtd_texts.specs.Reading.{State, Holds, Stands, Written, Move, on, opens, omits, stuck, move, is_among, source_of, enter, leave, Reads, at_end, takes, replaces}
 use Rattle.dtd_texts.specs.Causes.{Meets, here, later, within, behind}
 use Rattle.dtd_texts.specs.Went.{Went, leads, refused, left_out, too_deep, undeclared}
 use Rattle.dtd_texts.specs.Tables.{Said, said, element_names, rules_of}
@@ -13,7 +14,7 @@ abbrev pub Files : Type 0
 Files = List ℕ → Option (List ℕ)
 
 abbrev pub content_of : Files → Content
-content_of files name = Some (files name)
+content_of files name = known (files name)
 
 abbrev text_of : Option (List ℕ) → Option (List ℕ)
 text_of None = None

@@ -1,7 +1,8 @@
 -- What a reading comes to on its way, and why a text is not read.
 use Rattle.std.specs.Prelude.{◌≡◌, ◌≢◌, ℕ, true, false, List, [], ◌∷◌, drop, Some, None}
 use Rattle.dtd_texts.specs.Places.{between, external}
-use Rattle.dtd_texts.specs.Reading.{State, Content, Stands, start, Reads, move, on, opens, omits, stuck, is_among, source_of, enter, leave}
+use Rattle.io_edge.specs.Told.{Content}
+use Rattle.dtd_texts.specs.Reading.{State, Stands, start, Reads, move, on, opens, omits, stuck, is_among, source_of, enter, leave}
 
 -- In reading the text from this state, while these entities are open, one comes to a state in which other entities are
 -- open and some of the text of the last one is left.

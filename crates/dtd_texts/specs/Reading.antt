@@ -2,7 +2,7 @@
 use Rattle.std.specs.Prelude.{◌≡◌, ℕ, zero, suc, ◌+◌, Bool, false, if◌then◌else◌, List, [], ◌∷◌, ◌++◌, drop, Option, Some, None, bytes_eq}
 use Rattle.std.specs.Option.{is_some}
 use Rattle.std.specs.List.{list_any}
-use Rattle.io_edge.specs.Told.{Tells}
+use Rattle.io_edge.specs.Told.{Content, known, Tells}
 use Rattle.dtd_texts.specs.Heads.{same}
 use Rattle.dtd_texts.specs.Tokens.{behind_declaration}
 use Rattle.dtd_texts.specs.Places.{Place, between, in_comment, behind_target, in_instruction, inside, in_literal, in_value, behind_value, Source, internal, external, Step, goes, declares_parameter, declares_general, declares, leaves_out, refers, refuses, step}
@@ -51,13 +51,9 @@ is_among names name = list_any (bytes_eq name) names
 abbrev pub with_name : List (List ℕ) → List ℕ → List (List ℕ)
 with_name names name = if is_among names name then names else names ++ name ∷ []
 
--- what the source of files tells of each name
-abbrev pub Content : Type 0
-Content = List ℕ → Option (Option (List ℕ))
-
 -- each name is told of
 abbrev pub IsTold : Content → Type 0
-IsTold content = (name : List ℕ) → (file : Option (List ℕ)) × (content name ≡ Some file)
+IsTold content = (name : List ℕ) → (file : Option (List ℕ)) × (content name ≡ known file)
 
 -- this is the text of a file, behind its text declaration
 pub record Holds (content : Content) (name text : List ℕ) : Type 0 where

@@ -4,7 +4,8 @@ use Rattle.dtd_model.specs.Table.{Table}
 use Rattle.dtd_model.specs.Lawful.{is_distinct}
 use Rattle.dtd_model.specs.declared.dtd.DoctypeRule.TheVariants.{Free}
 use Rattle.dtd_texts.specs.Places.{between}
-use Rattle.dtd_texts.specs.Reading.{State, Content, Holds, Written, Reads, start}
+use Rattle.io_edge.specs.Told.{Content}
+use Rattle.dtd_texts.specs.Reading.{State, Holds, Written, Reads, start}
 use Rattle.dtd_texts.specs.Went.{leads}
 use Rattle.dtd_texts.specs.Tables.{Said, said, element_names, rules_of}
 

@@ -2,8 +2,8 @@
 //! states. Each speaks of a source that tells what it holds.
 
 ghost use Rattle.std.specs.Prelude.{◌≡◌, ◌≤◌, ℕ, List, None};
-ghost use Rattle.io_edge.specs.Told.{Tells};
-ghost use Rattle.dtd_texts.specs.Reading.{State, Content, IsTold};
+ghost use Rattle.io_edge.specs.Told.{Content, Tells};
+ghost use Rattle.dtd_texts.specs.Reading.{State, IsTold};
 ghost use Rattle.dtd_texts.specs.Causes.{Breaks, Omits, Misses, Asks, Comes};
 ghost use Rattle.dtd_texts.specs.Spells.{ReadsAll};
 

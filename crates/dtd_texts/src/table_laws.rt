@@ -4,7 +4,8 @@
 
 ghost use Rattle.std.specs.Prelude.{◌≡◌, ℕ, List, [], true};
 ghost use Rattle.dtd_model.specs.Lawful.{are_names};
-ghost use Rattle.dtd_texts.specs.Reading.{State, Content, Reads, start};
+ghost use Rattle.io_edge.specs.Told.{Content};
+ghost use Rattle.dtd_texts.specs.Reading.{State, Reads, start};
 ghost use Rattle.dtd_texts.specs.Tables.{Said, said};
 ghost use Rattle.dtd_texts.specs.Went.{leads};
 ghost use Rattle.dtd_texts.specs.Lawful.{IsLawfulSaid};

@@ -1,5 +1,8 @@
 use Rattle.std.proofs.Common.{subst}
 use Rattle.dtd_model.specs.TableOf.{table_of}
+use Rattle.std.specs.Prelude.{length}
+use Rattle.content_automata.specs.declared.limits.TheConstants.{MOVE_LIMIT}
+use Rattle.content_automata.specs.Counts.{HaveFewMoves}
 use Rattle.content_automata.specs.Refusals.{IsCause}
 use Rattle.content_automata.proofs.BuildLemmas.{shapes_same, sized_as, table_as, table_decides, table_apart, table_owners, table_goes, table_reaches, rules_lawful, all_begin, cause_as, pairs_as}
 use Rattle.content_automata.proofs.contents.build.Goals as goal
@@ -40,3 +43,7 @@ returns-in-Err-clause-limit c = cause_as _ _ _ c.as_slice.ensures.value c.in-Err
 
 pub returns-in-Ok-tabled-clause-pairs : goal.returns-in-Ok-tabled-clause-pairs
 returns-in-Ok-tabled-clause-pairs c = pairs_as _ _ _ c.as_slice.ensures.value c.in-Ok.ensures.pairs
+
+pub returns-in-Ok-tabled-clause-moves : goal.returns-in-Ok-tabled-clause-moves
+returns-in-Ok-tabled-clause-moves c =
+    subst (λ ss. HaveFewMoves ss (length c.in-Ok-tabled.contents.1) MOVE_LIMIT) (shapes_same _ _ _ _ c.as_slice-2.ensures.value c.in-Ok.ensures.models c.as_slice.ensures.value) c.in-Ok-tabled.ensures.moves

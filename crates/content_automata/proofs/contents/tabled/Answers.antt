@@ -1,5 +1,5 @@
 use Rattle.content_automata.specs.Views.{shapes_of}
-use Rattle.content_automata.proofs.BuildLemmas.{cause, table_is}
+use Rattle.content_automata.proofs.BuildLemmas.{cause, table_is, few_moves}
 use Rattle.content_automata.proofs.MoveLemmas.{over_too_many}
 use Rattle.content_automata.proofs.contents.tabled.Goals as goal
 
@@ -12,3 +12,6 @@ returns-in-Err-explore-clause-limit c = cause _ _ _ c.in-Err-explore.ensures.rea
 pub returns-clause-table : goal.returns-clause-table
 returns-clause-table c =
     table_is _ _ _ _ _ _ c.in_ok-owners.ensures c.in-Ok-explore.ensures.apart c.in-Ok-explore.ensures.reached c.in-Ok-explore.ensures.keeps c.in-Ok.ensures.firsts c.in-Ok-explore.ensures.rows
+
+pub returns-clause-moves : goal.returns-clause-moves
+returns-clause-moves c = few_moves _ _ _ _ c.in-Ok-explore.ensures.apart c.in-Ok-explore.ensures.reached c.in-Ok-explore.ensures.rows c.in-Ok-explore.ensures.moves

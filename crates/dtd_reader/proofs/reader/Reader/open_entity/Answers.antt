@@ -6,20 +6,20 @@ use Rattle.dtd_reader.proofs.SoFar.{missed_to, asked_to, opened_to}
 use Rattle.dtd_reader.proofs.reader.Reader.open_entity.Goals as goal
 
 pub returns-in-Nowhere-clause-told : goal.returns-in-Nowhere-clause-told
-returns-in-Nowhere-clause-told g c = λ file so_far. missed_to (g.F.Files.content c.args.files.now) file (state_of c.args.self.now.reading) (2 + c.args.n) (drop c.args.self.now.at c.args.self.now.text) c.in_ok-name.name (take c.args.n (drop 1 (drop c.args.self.now.at c.args.self.now.text))) (frames_of c.args.self.now.frames) (omega (arith, length-drop c.args.self.now.at c.args.self.now.text, c.requires.some)) c.requires.opens
+returns-in-Nowhere-clause-told g c = λ content file stays so_far. missed_to content file (state_of c.args.self.now.reading) (2 + c.args.n) (drop c.args.self.now.at c.args.self.now.text) c.in_ok-name.name (take c.args.n (drop 1 (drop c.args.self.now.at c.args.self.now.text))) (frames_of c.args.self.now.frames) (omega (arith, length-drop c.args.self.now.at c.args.self.now.text, c.requires.some)) c.requires.opens
     (c.in_ok-name.ensures ∙ c.front.ensures.value ∙ ap (take c.args.n) (c.behind-2.ensures.value ∙ ap (drop 1) (c.behind.ensures.value ∙ ap (drop c.args.self.now.at) c.as_slice.ensures)))
-    (subst (λ o. IsFound (g.F.Files.content c.args.files.now) (state_of c.args.self.now.reading) (frames_of c.args.self.now.frames) c.in_ok-name.name o) c.in-Nowhere.is c.in_ok-find.ensures.found) so_far
+    (subst (λ o. IsFound content (state_of c.args.self.now.reading) (frames_of c.args.self.now.frames) c.in_ok-name.name o) c.in-Nowhere.is (c.in_ok-find.ensures.found content stays)) so_far
 
 pub returns-in-NotRead-clause-told : goal.returns-in-NotRead-clause-told
-returns-in-NotRead-clause-told g c = λ file so_far.
-    let there = (subst (λ o. IsFound (g.F.Files.content c.args.files.now) (state_of c.args.self.now.reading) (frames_of c.args.self.now.frames) c.in_ok-name.name o) c.in-NotRead.is c.in_ok-find.ensures.found) in
-    asked_to (g.F.Files.content c.args.files.now) file (state_of c.args.self.now.reading) (2 + c.args.n) (drop c.args.self.now.at c.args.self.now.text) c.in_ok-name.name (take c.args.n (drop 1 (drop c.args.self.now.at c.args.self.now.text))) c.in-NotRead.system (frames_of c.args.self.now.frames) (omega (arith, length-drop c.args.self.now.at c.args.self.now.text, c.requires.some)) c.requires.opens
+returns-in-NotRead-clause-told g c = λ content file stays so_far.
+    let there = (subst (λ o. IsFound content (state_of c.args.self.now.reading) (frames_of c.args.self.now.frames) c.in_ok-name.name o) c.in-NotRead.is (c.in_ok-find.ensures.found content stays)) in
+    asked_to content file (state_of c.args.self.now.reading) (2 + c.args.n) (drop c.args.self.now.at c.args.self.now.text) c.in_ok-name.name (take c.args.n (drop 1 (drop c.args.self.now.at c.args.self.now.text))) c.in-NotRead.system (frames_of c.args.self.now.frames) (omega (arith, length-drop c.args.self.now.at c.args.self.now.text, c.requires.some)) c.requires.opens
     (c.in_ok-name.ensures ∙ c.front.ensures.value ∙ ap (take c.args.n) (c.behind-2.ensures.value ∙ ap (drop 1) (c.behind.ensures.value ∙ ap (drop c.args.self.now.at) c.as_slice.ensures)))
     there.0 there.1 so_far
 
 pub returns-in_ok-enter-in-Text-clause-told : goal.returns-in_ok-enter-in-Text-clause-told
-returns-in_ok-enter-in-Text-clause-told g c = λ file so_far.
-    let there = (subst (λ o. IsFound (g.F.Files.content c.args.files.now) (state_of c.args.self.now.reading) (frames_of c.args.self.now.frames) c.in_ok-name.name o) c.in-Text.is c.in_ok-find.ensures.found) in
-    opened_to (g.F.Files.content c.args.files.now) file (state_of c.args.self.now.reading) (2 + c.args.n) (drop c.args.self.now.at c.args.self.now.text) c.in_ok-name.name (take c.args.n (drop 1 (drop c.args.self.now.at c.args.self.now.text))) c.in-Text.text (frames_of c.args.self.now.frames) (position_of c.enter.new.self) (omega (arith, length-drop c.args.self.now.at c.args.self.now.text, c.requires.some)) c.requires.opens
+returns-in_ok-enter-in-Text-clause-told g c = λ content file stays so_far.
+    let there = (subst (λ o. IsFound content (state_of c.args.self.now.reading) (frames_of c.args.self.now.frames) c.in_ok-name.name o) c.in-Text.is (c.in_ok-find.ensures.found content stays)) in
+    opened_to content file (state_of c.args.self.now.reading) (2 + c.args.n) (drop c.args.self.now.at c.args.self.now.text) c.in_ok-name.name (take c.args.n (drop 1 (drop c.args.self.now.at c.args.self.now.text))) c.in-Text.text (frames_of c.args.self.now.frames) (position_of c.enter.new.self) (omega (arith, length-drop c.args.self.now.at c.args.self.now.text, c.requires.some)) c.requires.opens
     (c.in_ok-name.ensures ∙ c.front.ensures.value ∙ ap (take c.args.n) (c.behind-2.ensures.value ∙ ap (drop 1) (c.behind.ensures.value ∙ ap (drop c.args.self.now.at) c.as_slice.ensures)))
     there.0 there.1 c.in_ok-enter-in-Text.ensures so_far
