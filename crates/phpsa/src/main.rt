@@ -7,6 +7,7 @@
 
 use io_edge::{DiskFiles, StdSink};
 use phpsa_main::phpsa;
+use site_check::ReadOnce;
 use std::process::ExitCode;
 use std::rt::Env;
 use std::{env, io};
@@ -28,7 +29,7 @@ fn status_of(rt: &HostRuntime) -> u8 {
     let Ok(words) = words_of(rt) else {
         return NO_WORDS;
     };
-    let mut files = DiskFiles::new(rt);
+    let mut files = ReadOnce::new(rt.alloc(), DiskFiles::new(rt));
     let mut out = StdSink::new(rt.stdout());
     let mut err = StdSink::new(rt.stderr());
     phpsa(rt.alloc(), &words, &mut files, &mut out, &mut err).code()

@@ -138,18 +138,17 @@ run_reads files file None program content faults misses reads stays l counted =
       read = l.source.read;
       counted = counted ∙ l.source.counted;
     }
-run_reads files file (Some name) program content faults misses reads stays l counted =
-    (
-      reads,
-      record {
-        held = l.source.held;
-        answered = answers_stay content files.content l.source.held file stays l.source.answered;
-        own = l.source.files;
-        read = l.source.read;
-        counted = l.source.counted;
-      },
-      counted,
-    )
+run_reads files file (Some name) program content faults misses reads stays l counted = (
+  reads,
+  record {
+    held = l.source.held;
+    answered = answers_stay content files.content l.source.held file stays l.source.answered;
+    own = l.source.files;
+    read = l.source.read;
+    counted = l.source.counted;
+  },
+  counted,
+)
 
 -- there is no request
 pub lacks_request : (files : SourceCall) (file : List ℕ) (request : Option (List ℕ)) (steps : ℕ) (content : Content) (faults misses reads : ℕ) (program : PlainProgram) (refusal : Refusal)

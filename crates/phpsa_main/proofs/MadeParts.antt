@@ -28,6 +28,7 @@ same_alone file text now stays = λ i. λ name. (same name) i
   where
     asked : (told : Option (List ℕ)) → known told ≡ unasked → ⊥
     asked told e = cc
+
     same : (name : List ℕ) → now name ≡ file_alone file text name
     same name = elim (stays name) [ inl none ↦ absurd (asked _ none) | inr is ↦ is ]
 

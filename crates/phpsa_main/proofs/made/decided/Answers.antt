@@ -18,5 +18,5 @@ returns c =
       files.misses,
       files.reads,
       subst (λ (content : Content). Decides (source_call content 0 0 0 files.misses 0 files.reads) made_name strict_type Valid PAIR_LIMIT c.decide_script.result) same
-      (subst (λ (limit : ℕ). Decides (source_call told 0 0 0 files.misses 0 files.reads) made_name strict_type Valid limit c.decide_script.result) c.from.ensures c.decide_script.ensures.decides),
+          (subst (λ (limit : ℕ). Decides (source_call told 0 0 0 files.misses 0 files.reads) made_name strict_type Valid limit c.decide_script.result) c.from.ensures c.decide_script.ensures.decides),
     )
