@@ -2,7 +2,7 @@
 use Rattle.std.proofs.Common.{◌≡◌, ◌∙◌, ℕ, List, Contains, Option, None, Some, inl, inr, refl, sym, subst, lit<}
 use Rattle.std.specs.Prelude.{◌⊎◌, Result, Ok, Err}
 use Rattle.io_edge.specs.Counts.{one_more}
-use Rattle.io_edge.specs.Told.{Tells}
+use Rattle.io_edge.specs.Told.{Content, Tells, Stays}
 use Rattle.io_edge.specs.Reasons.{HasReason}
 use Rattle.io_edge.specs.declared.files.FileFault.{FileFault}
 use Rattle.io_edge.specs.declared.files.FileFault.TheVariants as reading
@@ -15,7 +15,7 @@ use Rattle.request_reading.specs.Outcome.{outcome}
 use Rattle.request_reading.specs.Causes.{IsCause}
 use Rattle.request_reading.specs.declared.refusal.RequestRefusal.{RequestRefusal}
 use Rattle.request_reading.specs.declared.refusal.RequestRefusal.TheVariants as asking
-use Rattle.program_loader.specs.Told.{Content, IsLoaded}
+use Rattle.program_loader.specs.Told.{IsLoaded}
 use Rattle.phpsa_texts.specs.declared.exit.Exit.{Exit}
 use Rattle.phpsa_texts.specs.declared.exit.Exit.TheVariants.{ReadFault}
 use Rattle.phpsa_texts.specs.declared.message.Refusal.{Refusal}
@@ -29,12 +29,12 @@ use Rattle.phpsa_tasks.specs.Counted.{uncounted, ReadsItsFiles, ReadsForRun}
 use Rattle.phpsa_tasks.specs.Results.{TaskResult, Does}
 use Rattle.phpsa_tasks.proofs.Faults.{told_faults, wanted_faults}
 use Rattle.phpsa_main.specs.Loaded.{ReadsRequest, HasRequest, IsReplyOfRun, HasGrammarReply}
-use Rattle.phpsa_main.proofs.ScriptParts.{load_uncounted, load_faults}
+use Rattle.phpsa_main.proofs.ScriptParts.{load_uncounted, load_faults, answers_stay}
 
 -- what was loaded read its files
 own_files : (files : SourceCall) (file : List ℕ) (program : PlainProgram) → Loads files file program → ReadsItsFiles files file
 own_files files file program l =
-    record { held = l.source.held; agrees = l.source.agrees; own = l.source.files; read = l.source.read; counted = l.source.counted }
+    record { held = l.source.held; answered = l.source.answered; own = l.source.files; read = l.source.read; counted = l.source.counted }
 
 -- no memory was left
 pub wanting_grammar : (files : SourceCall) (file : List ℕ) → Does files (grammar_making file) (Err Refusal.Memory)
@@ -110,14 +110,13 @@ file_refused files name bytes cause (Refusal.Told message) told why counted calm
     (no_request_in bytes cause told why status_is text_is, counted, subst (Contains uncounted) (sym status_is) (asking_among cause), inr calm)
 file_refused files name bytes cause Refusal.Memory told why counted calm says = tt
 
--- what the source tells, and its counts of faults and misses, are as they were before the program was loaded
-pub moved : (files : SourceCall) (content : Content) (faults misses reads : ℕ) (request : Option (List ℕ)) (found : Result PlainRequest Refusal) → content ≡ files.content
-    → faults ≡ files.faults → misses ≡ files.misses → HasRequest (source_call content faults files.faults' misses files.misses' reads files.reads') request found
+-- the counts of faults and misses are as they were before the program was loaded
+pub moved : (files : SourceCall) (faults misses reads : ℕ) (request : Option (List ℕ)) (found : Result PlainRequest Refusal)
+    → faults ≡ files.faults → misses ≡ files.misses → HasRequest (source_call files.content faults files.faults' misses files.misses' reads files.reads') request found
     → HasRequest (source_call files.content files.faults files.faults' files.misses files.misses' reads files.reads') request found
-moved files content faults misses reads request found a b e has =
-    subst (λ (c : Content). HasRequest (source_call c files.faults files.faults' files.misses files.misses' reads files.reads') request found) a
-    (subst (λ (k : ℕ). HasRequest (source_call content k files.faults' files.misses files.misses' reads files.reads') request found) b
-    (subst (λ (k : ℕ). HasRequest (source_call content faults files.faults' k files.misses' reads files.reads') request found) e has))
+moved files faults misses reads request found b e has =
+    subst (λ (k : ℕ). HasRequest (source_call files.content k files.faults' files.misses files.misses' reads files.reads') request found) b
+    (subst (λ (k : ℕ). HasRequest (source_call files.content faults files.faults' k files.misses' reads files.reads') request found) e has)
 
 -- why there is no request says nothing of how often names were asked for
 refuses : (files : SourceCall) (reads : ℕ) (request : Option (List ℕ)) (status : Exit) (text : List ℕ)
@@ -127,49 +126,64 @@ refuses files reads None status text why = why
 refuses files reads (Some name) status text (unread fault why status_is text_is) = unread fault why status_is text_is
 refuses files reads (Some name) status text (no_request_in bytes cause told why status_is text_is) = no_request_in bytes cause told why status_is text_is
 
--- the files of the program, and that of the request
-run_reads : (files : SourceCall) (file : List ℕ) (request : Option (List ℕ)) (program : PlainProgram) (faults misses reads : ℕ)
-    → Loads (source_call files.content files.faults faults files.misses misses files.reads reads) file program
+-- the files of the program, which were answered before the request was read, and that of the request
+run_reads : (files : SourceCall) (file : List ℕ) (request : Option (List ℕ)) (program : PlainProgram) (content : Content) (faults misses reads : ℕ)
+    → Stays content files.content → Loads (source_call content files.faults faults files.misses misses files.reads reads) file program
     → ReadsRequest (source_call files.content files.faults files.faults' files.misses files.misses' reads files.reads') request → ReadsForRun files file request
-run_reads files file None program faults misses reads l counted =
-    record { held = l.source.held; agrees = l.source.agrees; own = l.source.files; read = l.source.read; counted = counted ∙ l.source.counted }
-run_reads files file (Some name) program faults misses reads l counted =
-    (reads, record { held = l.source.held; agrees = l.source.agrees; own = l.source.files; read = l.source.read; counted = l.source.counted }, counted)
+run_reads files file None program content faults misses reads stays l counted =
+    record {
+      held = l.source.held;
+      answered = answers_stay content files.content l.source.held file stays l.source.answered;
+      own = l.source.files;
+      read = l.source.read;
+      counted = counted ∙ l.source.counted;
+    }
+run_reads files file (Some name) program content faults misses reads stays l counted = (
+  reads,
+  record {
+    held = l.source.held;
+    answered = answers_stay content files.content l.source.held file stays l.source.answered;
+    own = l.source.files;
+    read = l.source.read;
+    counted = l.source.counted;
+  },
+  counted,
+)
 
 -- there is no request
-pub lacks_request : (files : SourceCall) (file : List ℕ) (request : Option (List ℕ)) (steps faults misses reads : ℕ) (program : PlainProgram) (refusal : Refusal)
-    → Loads (source_call files.content files.faults faults files.misses misses files.reads reads) file program → IsLoaded files.content file program
+pub lacks_request : (files : SourceCall) (file : List ℕ) (request : Option (List ℕ)) (steps : ℕ) (content : Content) (faults misses reads : ℕ) (program : PlainProgram) (refusal : Refusal)
+    → Stays content files.content → Loads (source_call content files.faults faults files.misses misses files.reads reads) file program → IsLoaded files.content file program
     → HasRequest (source_call files.content files.faults files.faults' files.misses files.misses' reads files.reads') request (Err refusal)
     → Does files (script_run file request steps) (Err refusal)
-lacks_request files file request steps faults misses reads program (Refusal.Told message) l loaded (why, counted, among, told) = record {
-  due = inr (program, loaded, refuses files reads request message.status message.text why, run_reads files file request program faults misses reads l counted);
+lacks_request files file request steps content faults misses reads program (Refusal.Told message) stays l loaded (why, counted, among, told) = record {
+  due = inr (program, loaded, refuses files reads request message.status message.text why, run_reads files file request program content faults misses reads stays l counted);
   read = inl among;
   faults = told;
 }
-lacks_request files file request steps faults misses reads program Refusal.Memory l loaded has = wanting_run files file request steps
+lacks_request files file request steps content faults misses reads program Refusal.Memory stays l loaded has = wanting_run files file request steps
 
 -- the program was run
-pub run_does : (files : SourceCall) (file : List ℕ) (request : Option (List ℕ)) (steps faults misses reads : ℕ) (program : PlainProgram) (asked : PlainRequest) (own : Reply)
-    → Loads (source_call files.content files.faults faults files.misses misses files.reads reads) file program → IsLoaded files.content file program
+pub run_does : (files : SourceCall) (file : List ℕ) (request : Option (List ℕ)) (steps : ℕ) (content : Content) (faults misses reads : ℕ) (program : PlainProgram) (asked : PlainRequest) (own : Reply)
+    → Stays content files.content → Loads (source_call content files.faults faults files.misses misses files.reads reads) file program → IsLoaded files.content file program
     → HasRequest (source_call files.content files.faults files.faults' files.misses files.misses' reads files.reads') request (Ok asked) → Admitted asked
     → IsReplyOfRun program asked steps own → Does files (script_run file request steps) (Ok own)
-run_does files file request steps faults misses reads program asked (reply.Text message) l loaded (finds, counted, calm) admitted (ended, (status_is, text_is)) = record {
+run_does files file request steps content faults misses reads program asked (reply.Text message) stays l loaded (finds, counted, calm) admitted (ended, (status_is, text_is)) = record {
   due = record {
     subject = record { program = program; request = asked };
     found = (loaded, finds, admitted);
     says = (ended, status_is, text_is);
   };
-  read = inr (run_reads files file request program faults misses reads l counted);
+  read = inr (run_reads files file request program content faults misses reads stays l counted);
   faults = inr calm;
 }
-run_does files file request steps faults misses reads program asked (reply.Grammar grammar) l loaded has admitted says = absurd says
-run_does files file request steps faults misses reads program asked (reply.Halted printed message) l loaded (finds, counted, calm) admitted (early, (status_is, text_is), printed_is) =
+run_does files file request steps content faults misses reads program asked (reply.Grammar grammar) stays l loaded has admitted says = absurd says
+run_does files file request steps content faults misses reads program asked (reply.Halted printed message) stays l loaded (finds, counted, calm) admitted (early, (status_is, text_is), printed_is) =
     record {
       due = record {
         subject = record { program = program; request = asked };
         found = (loaded, finds, admitted);
         says = (early, status_is, printed_is, text_is);
       };
-      read = inr (run_reads files file request program faults misses reads l counted);
+      read = inr (run_reads files file request program content faults misses reads stays l counted);
       faults = inr calm;
     }

@@ -1,8 +1,10 @@
 -- A made script, its answer, and a size that is refused, are what doing the tasks comes to.
-use Rattle.std.proofs.Common.{◌≡◌, ℕ, List, length, inr, subst}
+use Rattle.std.proofs.Common.{◌≡◌, ℕ, List, Option, length, inl, inr, subst}
 use Rattle.std.specs.Prelude.{Ok, Err}
+use Rattle.io_edge.specs.Told.{Content, known, unasked, Stays}
 use Rattle.program_files.specs.Source.{SourceCall, source_call}
 use Rattle.document_types.specs.DocumentTypes.{strict_type}
+use Rattle.document_types.specs.OneFile.{file_alone}
 use Rattle.page_decision.specs.declared.goal.Goal.{Goal}
 use Rattle.script_decision.specs.declared.shown.ShownAnswer.{ShownAnswer}
 use Rattle.script_maker.specs.Made.{made, IsSize}
@@ -19,6 +21,16 @@ use Rattle.phpsa_tasks.specs.Causes.{no_size, made_refused}
 use Rattle.phpsa_tasks.specs.Counted.{ReadsNothing}
 use Rattle.phpsa_tasks.specs.Results.{Does}
 use Rattle.phpsa_main.specs.Decided.{Decision, IsDecidedAs, Decides}
+
+-- a source of one file tells of each name, so it tells the same later
+pub same_alone : (file text : List ℕ) (now : Content) → Stays (file_alone file text) now → now ≡ file_alone file text
+same_alone file text now stays = λ i. λ name. (same name) i
+  where
+    asked : (told : Option (List ℕ)) → known told ≡ unasked → ⊥
+    asked told e = cc
+
+    same : (name : List ℕ) → now name ≡ file_alone file text name
+    same name = elim (stays name) [ inl none ↦ absurd (asked _ none) | inr is ↦ is ]
 
 pub made_does : (files : SourceCall) (n : ℕ) (message : Message) → ReadsNothing files → files.faults' ≡ files.faults → IsSize n → Says message Done (made n)
     → Does files (script_making n) (Ok (reply.Text message))

@@ -1,12 +1,15 @@
 -- What the parts of the command find makes what doing the task comes to.
 use Rattle.std.proofs.Common.{◌≡◌, ℕ, List, length, Contains, inl, inr, refl, sym, subst, lit<}
 use Rattle.std.specs.Prelude.{◌⊎◌, Ok, Err}
+use Rattle.io_edge.specs.Told.{Content, Stays}
+use Rattle.io_edge.proofs.Staying.{tells_stay}
 use Rattle.script_meaning.specs.Programs.{PlainProgram}
+use Rattle.program_rules.specs.Files.{Held}
 use Rattle.program_files.specs.Source.{SourceCall, source_call, so_many_more}
 use Rattle.program_files.specs.declared.refusal.LoadRefusal.{LoadRefusal}
 use Rattle.program_files.specs.declared.refusal.LoadRefusal.TheVariants as load
 use Rattle.program_loader.specs.Causes.{Loads, IsLoadCause}
-use Rattle.program_loader.specs.Told.{IsLoaded}
+use Rattle.program_loader.specs.Told.{IsLoaded, AreAnswered}
 use Rattle.dtd_model.specs.Table.{Table}
 use Rattle.document_types.specs.DocumentTypes.{NamedType, HasTable, IsBuiltIn, IsDefinitionRefusal}
 use Rattle.document_types.specs.declared.refusal.DefinitionRefusal.{DefinitionRefusal}
@@ -92,12 +95,16 @@ program_decides files file d goal limit table program (Err (Refusal.Told message
 }
 program_decides files file d goal limit table program (Err Refusal.Memory) has loaded read calm says = tt
 
+-- what was answered goes on to be so
+pub answers_stay : (before now : Content) (held : Held) (name : List ℕ) → Stays before now → AreAnswered before held name → AreAnswered now held name
+answers_stay before now held name stays answered path reads = tells_stay before now path (held path) stays (answered path reads)
+
 -- the files of what was loaded are all that was read
-pub reads_its_files : (call : SourceCall) (faults misses reads : ℕ) (name : List ℕ) (p : PlainProgram) → Loads call name p → reads ≡ call.reads'
-    → ReadsItsFiles (source_call call.content call.faults faults call.misses misses call.reads reads) name
-reads_its_files call faults misses reads name p l same = record {
+pub reads_its_files : (call : SourceCall) (content : Content) (faults misses reads : ℕ) (name : List ℕ) (p : PlainProgram) → Stays call.content content → Loads call name p → reads ≡ call.reads'
+    → ReadsItsFiles (source_call content call.faults faults call.misses misses call.reads reads) name
+reads_its_files call content faults misses reads name p stays l same = record {
   held = l.source.held;
-  agrees = l.source.agrees;
+  answered = answers_stay call.content content l.source.held name stays l.source.answered;
   own = l.source.files;
   read = l.source.read;
   counted = subst (λ (n : ℕ). n ≡ so_many_more (length l.source.files) call.reads) (sym same) l.source.counted;

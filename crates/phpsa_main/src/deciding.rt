@@ -1,5 +1,6 @@
 //! The answer for the script of a file.
 
+ghost use Rattle.io_edge.specs.Told.{Stays};
 ghost use Rattle.dtd_model.specs.TableOf.{table_of};
 ghost use Rattle.document_types.specs.DocumentTypes.{type_of};
 ghost use Rattle.program_rules.specs.View.{program_of};
@@ -11,7 +12,7 @@ use dtd_model::Dtd;
 use io_edge::Files;
 use page_decision::Goal;
 use phpsa_texts::{Refusal, definition_refusal, load_refusal, long_text_refusal, states_refusal};
-use program_loader::{load, loads_are_loaded};
+use program_loader::{load, loaded_programs_stay, loads_are_loaded};
 use program_rules::Program;
 use script_decision::{CheckRefusal, ShownAnswer, check_shown};
 use std::alloc::Global;
@@ -53,11 +54,13 @@ pub(crate) fn decide_script<F: Files>(
     limit: u64,
     files: &mut F,
 ) -> Result<ShownAnswer, Refusal>
-    ensures { Decides (source_call (F.content files.old) (F.faults files.old) (F.faults files.new)
+    ensures decides { Decides (source_call (F.content files.new) (F.faults files.old) (F.faults files.new)
         (F.misses files.old) (F.misses files.new) (F.reads files.old) (F.reads files.new))
         file.now (type_of document_type.entry) goal limit result }
+    ensures stays { Stays (F.content files.old) (F.content files.new) }
 {
     loads_are_loaded();
+    loaded_programs_stay();
     let program = match load(alloc, files, file) {
         Ok(program) => program,
         Err(refusal) => return Err(load_refusal(alloc, &refusal)),

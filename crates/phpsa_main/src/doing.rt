@@ -21,7 +21,7 @@ pub(crate) fn result_of<F: Files>(
     task: Task<'_>,
     files: &mut F,
 ) -> Result<Reply, Refusal>
-    ensures { Does (source_call (F.content files.old) (F.faults files.old) (F.faults files.new)
+    ensures { Does (source_call (F.content files.new) (F.faults files.old) (F.faults files.new)
         (F.misses files.old) (F.misses files.new) (F.reads files.old) (F.reads files.new))
         (task_as task.entry) result }
 {

@@ -46,7 +46,7 @@ pub(crate) fn make_grammar<F: Files>(
     file: &str,
     files: &mut F,
 ) -> Result<Reply, Refusal>
-    ensures { Does (source_call (F.content files.old) (F.faults files.old) (F.faults files.new)
+    ensures { Does (source_call (F.content files.new) (F.faults files.old) (F.faults files.new)
         (F.misses files.old) (F.misses files.new) (F.reads files.old) (F.reads files.new))
         (grammar_making file.now) result }
 {

@@ -54,7 +54,7 @@ pub fn phpsa<F: Files, O: Sink, E: Sink>(
     err: &mut E,
 ) -> Exit
     ensures { Keeps (call_of (map string_bytes words.now.items)
-        (source_call (F.content files.old) (F.faults files.old) (F.faults files.new)
+        (source_call (F.content files.new) (F.faults files.old) (F.faults files.new)
         (F.misses files.old) (F.misses files.new)
         (F.reads files.old) (F.reads files.new))
         (output_of (O.written out.old) (O.written out.new) (O.faults out.old) (O.faults out.new))
@@ -76,14 +76,14 @@ fn run<F: Files, O: Sink, E: Sink>(
     err: &mut E,
 ) -> Exit
     ensures ends { Ends (call_of (map string_bytes words.now.items)
-        (source_call (F.content files.old) (F.faults files.old) (F.faults files.new)
+        (source_call (F.content files.new) (F.faults files.old) (F.faults files.new)
         (F.misses files.old) (F.misses files.new)
         (F.reads files.old) (F.reads files.new))
         (output_of (O.written out.old) (O.written out.new) (O.faults out.old) (O.faults out.new))
         (output_of (E.written err.old) (E.written err.new) (E.faults err.old) (E.faults err.new)))
         result }
     ensures counted { IsCounted (call_of (map string_bytes words.now.items)
-        (source_call (F.content files.old) (F.faults files.old) (F.faults files.new)
+        (source_call (F.content files.new) (F.faults files.old) (F.faults files.new)
         (F.misses files.old) (F.misses files.new)
         (F.reads files.old) (F.reads files.new))
         (output_of (O.written out.old) (O.written out.new) (O.faults out.old) (O.faults out.new))

@@ -9,7 +9,7 @@ ghost use Rattle.phpsa_main.specs.Judged.{IsJudgedAs};
 
 use document_types::DocumentType;
 use dtd_model::Dtd;
-use io_edge::Files;
+use io_edge::{FileKind, Files};
 use page_validator::{PageRefusal, check_page};
 use phpsa_tasks::Reply;
 use phpsa_texts::{Refusal, definition_refusal, file_refusal, judgment_message, states_refusal};
@@ -39,11 +39,11 @@ pub(crate) fn judge_page<F: Files>(
     document_type: DocumentType<'_>,
     files: &mut F,
 ) -> Result<Reply, Refusal>
-    ensures { Does (source_call (F.content files.old) (F.faults files.old) (F.faults files.new)
+    ensures { Does (source_call (F.content files.new) (F.faults files.old) (F.faults files.new)
         (F.misses files.old) (F.misses files.new) (F.reads files.old) (F.reads files.new))
         (page_check file.now (type_of document_type.entry)) result }
 {
-    let page = match files.read(alloc, file) {
+    let page = match files.read(alloc, file, FileKind::Any) {
         Ok(page) => page,
         Err(fault) => return Err(file_refusal(alloc, fault, file.as_bytes())),
     };

@@ -1,6 +1,7 @@
 //! The script of a file is run.
 
 ghost use Rattle.std.specs.Prelude.{◌≡◌, ℕ, Some, IfOk, option_map};
+ghost use Rattle.io_edge.specs.Told.{Stays};
 ghost use Rattle.program_rules.specs.View.{program_of};
 ghost use Rattle.script_meaning.specs.Requests.{Admitted};
 ghost use Rattle.program_files.specs.Source.{source_call};
@@ -9,14 +10,14 @@ ghost use Rattle.phpsa_tasks.specs.Tasks.{script_run};
 ghost use Rattle.phpsa_tasks.specs.Results.{Does};
 ghost use Rattle.phpsa_main.specs.Loaded.{HasRequest, IsRunReply, IsReplyOfRun};
 
-use io_edge::Files;
+use io_edge::{FileKind, Files};
 use php_syntax::tree::SuperName;
 use phpsa_tasks::Reply;
 use phpsa_texts::{
     Exit, Message, Refusal, deep_message, fault_message, file_refusal, load_refusal,
     request_refusal, spent_message,
 };
-use program_loader::{load, loads_are_loaded};
+use program_loader::{load, loaded_programs_stay, loads_are_loaded};
 use program_rules::Program;
 use request_reading::{Request, read_request};
 use script_runs::{End, Ended, run};
@@ -25,12 +26,13 @@ use text_base::NoMemory;
 
 /// The request of the file of this name.
 fn read_file<F: Files>(alloc: Global, name: &str, files: &mut F) -> Result<Request, Refusal>
-    ensures { HasRequest
-        (source_call (F.content files.old) (F.faults files.old) (F.faults files.new)
+    ensures request { HasRequest
+        (source_call (F.content files.new) (F.faults files.old) (F.faults files.new)
         (F.misses files.old) (F.misses files.new) (F.reads files.old) (F.reads files.new))
         (Some name.now) result }
+    ensures stays { Stays (F.content files.old) (F.content files.new) }
 {
-    let bytes = match files.read(alloc, name) {
+    let bytes = match files.read(alloc, name, FileKind::Any) {
         Ok(bytes) => bytes,
         Err(fault) => return Err(file_refusal(alloc, fault, name.as_bytes())),
     };
@@ -46,10 +48,11 @@ fn request_of<F: Files>(
     name: Option<&str>,
     files: &mut F,
 ) -> Result<Request, Refusal>
-    ensures { HasRequest
-        (source_call (F.content files.old) (F.faults files.old) (F.faults files.new)
+    ensures request { HasRequest
+        (source_call (F.content files.new) (F.faults files.old) (F.faults files.new)
         (F.misses files.old) (F.misses files.new) (F.reads files.old) (F.reads files.new))
         (option_map (λ text. text.now) name.entry) result }
+    ensures stays { Stays (F.content files.old) (F.content files.new) }
 {
     match name {
         None => Ok(Request::empty(alloc)?),
@@ -121,11 +124,12 @@ pub(crate) fn run_script<F: Files>(
     steps: u64,
     files: &mut F,
 ) -> Result<Reply, Refusal>
-    ensures { Does (source_call (F.content files.old) (F.faults files.old) (F.faults files.new)
+    ensures { Does (source_call (F.content files.new) (F.faults files.old) (F.faults files.new)
         (F.misses files.old) (F.misses files.new) (F.reads files.old) (F.reads files.new))
         (script_run file.now (option_map (λ text. text.now) request.entry) steps) result }
 {
     loads_are_loaded();
+    loaded_programs_stay();
     let program = match load(alloc, files, file) {
         Ok(program) => program,
         Err(refusal) => return Err(load_refusal(alloc, &refusal)),

@@ -30,7 +30,7 @@ pub(crate) fn check_script<F: Files>(
     form: AnswerForm,
     files: &mut F,
 ) -> Result<Reply, Refusal>
-    ensures { Does (source_call (F.content files.old) (F.faults files.old) (F.faults files.new)
+    ensures { Does (source_call (F.content files.new) (F.faults files.old) (F.faults files.new)
         (F.misses files.old) (F.misses files.new) (F.reads files.old) (F.reads files.new))
         (script_check file.now (type_of document_type.entry) goal limit form) result }
 {

@@ -1,7 +1,7 @@
 -- How a call ends says how it is answered.
 use Rattle.std.proofs.Common.{◌≡◌, ◌∙◌, ℕ, List, [], ◌∷◌, Some, Contains, refl, sym, subst, inl, inr, lit<}
 use Rattle.std.specs.Prelude.{◌⊎◌}
-use Rattle.program_loader.specs.Told.{Content}
+use Rattle.io_edge.specs.Told.{Content}
 use Rattle.request_reading.specs.declared.refusal.RequestRefusal.{RequestRefusal}
 use Rattle.command_words.specs.Asked.{Asked, Asks, AsksNothing}
 use Rattle.command_words.specs.Canonical.{IsCanonical}

@@ -2,34 +2,28 @@
 use Rattle.std.proofs.Common.{◌≡◌, ℕ, List, refl, subst, inl, inr}
 use Rattle.std.specs.Prelude.{◌⊎◌}
 use Rattle.program_files.specs.Source.{SourceCall}
-use Rattle.program_loader.specs.Told.{Content}
-use Rattle.dtd_model.specs.Table.{Table}
+use Rattle.io_edge.specs.Told.{Content}
 use Rattle.dtd_reader.specs.Source as dtd_source
 use Rattle.dtd_reader.specs.Refusals.{IsCause}
 use Rattle.dtd_reader.specs.declared.refusal.DtdRefusal.{DtdRefusal}
 use Rattle.dtd_reader.specs.declared.refusal.DtdRefusal.TheVariants as dtd
-use Rattle.document_types.specs.DocumentTypes.{NamedType, HasTable, IsDefinitionRefusal}
+use Rattle.document_types.specs.DocumentTypes.{NamedType, IsDefinitionRefusal}
 use Rattle.document_types.specs.declared.refusal.DefinitionRefusal.{DefinitionRefusal}
 use Rattle.document_types.specs.declared.refusal.DefinitionRefusal.TheVariants as definition
 use Rattle.phpsa_texts.specs.declared.exit.Exit.TheVariants.{ReadFault}
 use Rattle.phpsa_texts.specs.Statuses.{dtd_status, definition_status}
 use Rattle.phpsa_tasks.specs.Causes.{definition_call}
 
--- its table, in what the source told before
-pub has_table : (content content' : Content) (d : NamedType) (table : Table) → content' ≡ content → HasTable content' d table → HasTable content d table
-has_table content content' d table same has = subst (λ (c : Content). HasTable c d table) same has
+-- the counts of faults and misses are as they were before the file was read
+moved : (content : Content) (f f' g m m' n : ℕ) (d : NamedType) (r : DefinitionRefusal) → f' ≡ f → m' ≡ m
+    → IsDefinitionRefusal (dtd_source.source_call content f' g m' n) d r → IsDefinitionRefusal (dtd_source.source_call content f g m n) d r
+moved content f f' g m m' n d r b e why =
+    subst (λ (k : ℕ). IsDefinitionRefusal (dtd_source.source_call content k g m n) d r) b
+    (subst (λ (k : ℕ). IsDefinitionRefusal (dtd_source.source_call content f' g k n) d r) e why)
 
--- what the source tells and its counts of faults and misses are as they were before the file was read
-moved : (content content' : Content) (f f' g m m' n : ℕ) (d : NamedType) (r : DefinitionRefusal) → content' ≡ content → f' ≡ f → m' ≡ m
-    → IsDefinitionRefusal (dtd_source.source_call content' f' g m' n) d r → IsDefinitionRefusal (dtd_source.source_call content f g m n) d r
-moved content content' f f' g m m' n d r a b e why =
-    subst (λ (c : Content). IsDefinitionRefusal (dtd_source.source_call c f g m n) d r) a
-    (subst (λ (k : ℕ). IsDefinitionRefusal (dtd_source.source_call content' k g m n) d r) b
-    (subst (λ (k : ℕ). IsDefinitionRefusal (dtd_source.source_call content' f' g k n) d r) e why))
-
-pub definition_cause : (files : SourceCall) (d : NamedType) (content : Content) (faults misses : ℕ) (r : DefinitionRefusal) → content ≡ files.content → faults ≡ files.faults
-    → misses ≡ files.misses → IsDefinitionRefusal (dtd_source.source_call content faults files.faults' misses files.misses') d r → IsDefinitionRefusal (definition_call files) d r
-definition_cause files d content faults misses r a b e why = moved files.content content files.faults faults files.faults' files.misses misses files.misses' d r a b e why
+pub definition_cause : (files : SourceCall) (d : NamedType) (faults misses : ℕ) (r : DefinitionRefusal) → faults ≡ files.faults → misses ≡ files.misses
+    → IsDefinitionRefusal (dtd_source.source_call files.content faults files.faults' misses files.misses') d r → IsDefinitionRefusal (definition_call files) d r
+definition_cause files d faults misses r b e why = moved files.content files.faults faults files.faults' files.misses misses files.misses' d r b e why
 
 -- no fault is counted but that of a file that is not read
 faults_told : (call : dtd_source.SourceCall) (name : List ℕ) (fault : DtdRefusal) → IsCause call name fault → (dtd_status fault ≡ ReadFault) ⊎ (call.faults' ≡ call.faults)

@@ -4,7 +4,7 @@ use Rattle.std.specs.Prelude.{◌⊎◌}
 use Rattle.std.proofs.lemmas.Option.{same_Some}
 use Rattle.text_base.specs.declared.limits.TheConstants.{FILE_LIMIT}
 use Rattle.io_edge.specs.Counts.{Rises}
-use Rattle.io_edge.specs.Told.{Tells, HasAtLeast}
+use Rattle.io_edge.specs.Told.{Told, Content, known, Tells, HasAtLeast}
 use Rattle.io_edge.specs.Reasons.{HasReason}
 use Rattle.io_edge.specs.declared.files.FileFault.{FileFault}
 use Rattle.io_edge.specs.declared.files.FileFault.TheVariants as reading
@@ -16,7 +16,7 @@ use Rattle.program_files.specs.Source.{SourceCall, source_call}
 use Rattle.program_files.specs.declared.refusal.LoadRefusal.{LoadRefusal}
 use Rattle.program_files.specs.declared.refusal.LoadRefusal.TheVariants as load
 use Rattle.program_loader.specs.Causes.{IsLoadCause}
-use Rattle.program_loader.specs.Told.{Content, IsLoaded, HoldsProgram, AreShort}
+use Rattle.program_loader.specs.Told.{IsLoaded, HoldsProgram, AreShort}
 use Rattle.dtd_model.specs.Table.{Table}
 use Rattle.request_reading.specs.Outcome.{Outcome, not_json, not_request, not_admitted, stands_for, outcome}
 use Rattle.request_reading.specs.Causes.{IsCause}
@@ -54,9 +54,9 @@ pub record ProgramLaws : Type 0 where
 abbrev pub OneProgram : Type 0
 OneProgram = (content : Content) (name : List ℕ) (program other : PlainProgram) → HoldsProgram content name program → IsLoaded content name other → program ≡ other
 
-pub one_content : (content : Content) (file bytes other : List ℕ) → content file ≡ Some (Some bytes) → Tells (content file) (Some other) → bytes ≡ other
+pub one_content : (content : Content) (file bytes other : List ℕ) → content file ≡ known (Some bytes) → Tells (content file) (Some other) → bytes ≡ other
 one_content content file bytes other held told =
-    let same : Tells (Some (Some bytes)) (Some other) = subst (λ (x : Option (Option (List ℕ))). Tells x (Some other)) held told in
+    let same : Tells (known (Some bytes)) (Some other) = subst (λ (x : Told). Tells x (Some other)) held told in
     same_Some bytes other same
 
 -- the status of an answer is the verdict of the program, or says that a count was passed
@@ -153,14 +153,14 @@ held_halt one content (grammar_making file) x y status printed text h f r = absu
 held_halt one content usage x y status printed text h f r = absurd r
 
 -- a page that is told of and short is read
-not_missing : (content : Content) (file page : List ℕ) → content file ≡ Some (Some page) → Tells (content file) None → ⊥
+not_missing : (content : Content) (file page : List ℕ) → content file ≡ known (Some page) → Tells (content file) None → ⊥
 not_missing content file page told none =
-    let same : Tells (Some (Some page)) None = subst (λ (x : Option (Option (List ℕ))). Tells x None) told none in
+    let same : Tells (known (Some page)) None = subst (λ (x : Told). Tells x None) told none in
     cc
 
-not_long : (content : Content) (file page : List ℕ) (len : ℕ) → content file ≡ Some (Some page) → length page ≤ FILE_LIMIT → FILE_LIMIT < len → HasAtLeast (content file) len → ⊥
+not_long : (content : Content) (file page : List ℕ) (len : ℕ) → content file ≡ known (Some page) → length page ≤ FILE_LIMIT → FILE_LIMIT < len → HasAtLeast (content file) len → ⊥
 not_long content file page len told short over least =
-    let at : HasAtLeast (Some (Some page)) len = subst (λ (x : Option (Option (List ℕ))). HasAtLeast x len) told least in
+    let at : HasAtLeast (known (Some page)) len = subst (λ (x : Told). HasAtLeast x len) told least in
     omega (arith, at, over, short)
 
 pub file_memory : (files : SourceCall) (file page : List ℕ) (f : FileFault) → HoldsShortFile files.content file page → (Rises files.faults files.faults' → ⊥)

@@ -9,10 +9,11 @@ use Rattle.script_decision.specs.Answers.{RunsAreGood}
 use Rattle.phpsa_texts.specs.declared.exit.Exit.TheVariants.{Done}
 use Rattle.phpsa_texts.specs.declared.answers.AnswerForm.{AnswerForm}
 use Rattle.phpsa_tasks.specs.Tasks.{script_check, script_run, AsksFor}
-use Rattle.phpsa_tasks.specs.Call.{Call}
+use Rattle.phpsa_tasks.specs.Call.{Call, Gains}
 use Rattle.phpsa_tasks.specs.Subjects.{ProgramBy, ProgramFor, Holds}
 use Rattle.phpsa_tasks.specs.Replies.{outcome_for, Replies, Halts}
 use Rattle.phpsa_tasks.specs.Endings.{Ends, replied, refused, halted, by_out, by_err, no_memory}
+use Rattle.phpsa_tasks.specs.Written.{Writes, writes_reply, writes_halt}
 use Rattle.phpsa_tasks.specs.Joined.{IsChecked, HasRun, CheckedRunsPrintGoodPages}
 use Rattle.phpsa_tasks.proofs.Held.{own_request}
 use Rattle.phpsa_tasks.proofs.Soundness.{refused_done, halted_done}
@@ -40,8 +41,14 @@ good one checked ran file other d goal limit form request steps x y same c r =
     let own : RunsAreGood goal x.table y.program = subst (λ (p : PlainProgram). RunsAreGood goal x.table p) same runs in
     own y.request steps (admitted one ran other request steps y r.keeps.ends r.asked r.held) (r.keeps.sound refl (script_run other request steps) y r.asked r.held)
 
+-- what a run that came to its end has written is what it printed
+run_gains : (call : Call) (file : List ℕ) (request : Option (List ℕ)) (steps : ℕ) (y : ProgramFor) → Writes call Done (script_run file request steps) y
+    → Gains call.out (outcome_for y steps).printed
+run_gains call file request steps y (writes_reply text (ended, is, text_is) out err) = subst (Gains call.out) text_is out
+run_gains call file request steps y (writes_halt printed text is out err) = absurd (halted_done (script_run file request steps) y printed text is)
+
 pub joined : OneTask → CheckedRunsPrintGoodPages
 joined one = λ checked ran file other d goal limit form request steps x y same c r. record {
-  gains = r.keeps.written tt (script_run other request steps) y r.asked r.held;
+  gains = run_gains ran other request steps y (r.keeps.written tt (script_run other request steps) y r.asked r.held);
   good = good one checked ran file other d goal limit form request steps x y same c r;
 }

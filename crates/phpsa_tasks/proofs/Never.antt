@@ -28,9 +28,11 @@ use Rattle.phpsa_tasks.specs.Replies.{answer_status, end_status, IsReplyOf, IsHa
 use Rattle.phpsa_tasks.specs.Written.{HasAllWritten}
 use Rattle.phpsa_tasks.specs.Causes.{RefusesDefinition, not_defined, large_models, RefusesScript, not_loaded, lacks_definition, has_long_text, RefusesPage, not_read, page_lacks_definition, RefusesMade, no_size, made_refused, Refuses}
 
--- neither status of a task that is done, nor that of the usage
+-- neither a status of a reply or of a run, nor that of the usage
 abbrev pub IsOther : Exit → Type 0
 IsOther Done = ⊥
+IsOther exit.No = ⊥
+IsOther exit.Undecided = ⊥
 IsOther exit.Fault = ⊥
 IsOther exit.Spent = ⊥
 IsOther exit.Deep = ⊥
@@ -106,6 +108,8 @@ of_request files (Some name) status text (no_request_in bytes refusal told why i
 
 not_done : (status : Exit) → IsOther status → HasAllWritten status → ⊥
 not_done Done other done = other
+not_done exit.No other done = other
+not_done exit.Undecided other done = other
 not_done exit.Fault other done = other
 not_done exit.Spent other done = other
 not_done exit.Deep other done = other

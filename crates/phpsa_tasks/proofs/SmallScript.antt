@@ -71,7 +71,7 @@ abbrev page_words : List (List ℕ)
 page_words = codes "page" ∷ codes "p" ∷ codes "--dtd" ∷ codes "mini" ∷ []
 
 abbrev page_call : Call
-page_call = call_of page_words (source_call (λ name. Some (Some inner)) 0 0 0 0 0 1)
+page_call = call_of page_words (source_call (λ name. known (Some inner)) 0 0 0 0 0 1)
     (output_of (Some []) (Some (codes "valid" ++ 10 ∷ [])) 0 0) (output_of (Some []) (Some []) 0 0)
 
 judged : AsksFor page_words (page_check (codes "p") mini_type) → EndsReplied page_call Done

@@ -12,7 +12,7 @@ use Rattle.page_decision.specs.declared.goal.Goal.{Goal}
 use Rattle.script_decision.specs.Answers.{RunsAreGood}
 use Rattle.script_decision.specs.declared.shown.ShownAnswer.{ShownAnswer}
 use Rattle.script_decision.specs.Shown.{ShownSaysOfRuns}
-use Rattle.program_loader.specs.Told.{Content}
+use Rattle.io_edge.specs.Told.{Content}
 use Rattle.document_types.specs.DocumentTypes.{strict_type}
 use Rattle.phpsa_texts.specs.declared.exit.Exit.{Exit}
 use Rattle.phpsa_texts.specs.declared.exit.Exit.TheVariants.{Done}

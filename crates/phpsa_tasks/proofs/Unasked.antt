@@ -3,7 +3,7 @@ use Rattle.std.proofs.Common.{◌≡◌, ◌∙◌, ℕ, List, Some, refl, sym, 
 use Rattle.std.specs.Prelude.{◌⊎◌}
 use Rattle.io_edge.specs.Counts.{Rises}
 use Rattle.script_meaning.specs.Requests.{PlainRequest}
-use Rattle.program_loader.specs.Told.{Content}
+use Rattle.io_edge.specs.Told.{Content}
 use Rattle.request_reading.specs.Outcome.{Outcome, not_json, not_request, not_admitted, stands_for, outcome}
 use Rattle.request_reading.specs.Causes.{IsCause}
 use Rattle.request_reading.specs.declared.refusal.RequestRefusal.{RequestRefusal}

@@ -1,78 +1,62 @@
--- What stands on `out` says of what is held what a reply says of what is found.
-use Rattle.std.proofs.Common.{◌≡◌, ◌∙◌, ℕ, List, Bool, true, false, length, inl, inr, refl, sym, ap, subst}
+-- What stands on the outputs says of what is held what a reply says of what is found.
+use Rattle.std.proofs.Common.{◌≡◌, ℕ, List, Bool, length, inl, inr, refl, sym, subst}
 use Rattle.script_meaning.specs.Programs.{PlainProgram}
 use Rattle.script_meaning.specs.Requests.{PlainRequest}
-use Rattle.script_meaning.specs.Meaning.{meaning}
-use Rattle.script_maker.specs.Made.{made}
-use Rattle.script_decision.specs.declared.shown.ShownAnswer.{ShownAnswer}
-use Rattle.program_loader.specs.Told.{Content}
+use Rattle.dtd_model.specs.Table.{Table}
+use Rattle.document_types.specs.DocumentTypes.{strict_type}
+use Rattle.io_edge.specs.Told.{Content}
 use Rattle.phpsa_texts.specs.declared.exit.Exit.{Exit}
-use Rattle.phpsa_texts.specs.Statuses.{judgment_status}
-use Rattle.phpsa_texts.specs.Texts.{judgment_text, summary_text}
 use Rattle.phpsa_tasks.specs.Tasks.{Task, script_check, page_check, script_making, made_check, script_run, grammar_making, usage, AsksFor}
-use Rattle.phpsa_tasks.specs.Call.{Output, Call, Gains}
-use Rattle.phpsa_tasks.specs.Subjects.{Subject, Finds, Holds}
-use Rattle.phpsa_tasks.specs.Replies.{answer_status, answer_text, conclusion_of, IsReplyOf, IsHaltOf, Replies, Halts}
+use Rattle.phpsa_tasks.specs.Call.{Call}
+use Rattle.phpsa_tasks.specs.Subjects.{Subject, made_name, only_made, Finds, Holds}
+use Rattle.phpsa_tasks.specs.Replies.{IsReplyOf, IsHaltOf, Replies, Halts}
 use Rattle.phpsa_tasks.specs.Endings.{OwesRefusal, of_task, wants_memory, Ends, replied, refused, halted, by_out, by_err, no_memory}
-use Rattle.phpsa_tasks.specs.Written.{HasAllWritten, Writes, IsWritten}
-use Rattle.phpsa_tasks.proofs.Held.{OneProgram, own_run}
+use Rattle.phpsa_tasks.specs.Written.{HasAllWritten, Writes, writes_reply, writes_halt, IsWritten}
+use Rattle.phpsa_tasks.proofs.Held.{OneProgram, own_program, own_page, own_run}
 use Rattle.phpsa_tasks.proofs.Never.{never_done}
 use Rattle.phpsa_tasks.proofs.Answers.{OneTask, the_reply, the_halt}
 
--- an answer with status 0 is yes
-is_yes : (answer : ShownAnswer) → HasAllWritten (answer_status answer) → answer ≡ ShownAnswer.Yes
-is_yes ShownAnswer.Yes done = refl
-is_yes (ShownAnswer.No shown) done = absurd done
-is_yes (ShownAnswer.Pairs count height) done = absurd done
-is_yes (ShownAnswer.Tags count height) done = absurd done
-is_yes (ShownAnswer.Items count) done = absurd done
+-- a reply to what is found is one to what is held
+own_reply : OneProgram → (content : Content) (task : Task) (x y : Subject task) (status : Exit) (text : List ℕ) → Holds content task x → Finds content task y
+    → IsReplyOf task y status text → IsReplyOf task x status text
+own_reply one content (script_check file d goal limit form) x y status text (h, t) (found, has) is =
+    own_program one content file d x y h t found has (λ (p : PlainProgram) (s : Table). IsReplyOf (script_check file d goal limit form) (record { program = p; table = s }) status text) is
+own_reply one content (page_check file d) x y status text (h, t) (found, has) is =
+    own_page content file d x y h t found has (λ (p : List ℕ) (s : Table). IsReplyOf (page_check file d) (record { page = p; table = s }) status text) is
+own_reply one content (script_making n) x y status text h f is = is
+own_reply one content (made_check n) x y status text (size, h, t) (size', found, has) is =
+    own_program one (only_made n) made_name strict_type x y h t found has (λ (p : PlainProgram) (s : Table). IsReplyOf (made_check n) (record { program = p; table = s }) status text) is
+own_reply one content (script_run file request steps) x y status text (h, r) (found, finds, admitted) is =
+    own_run one content file request x y h r found finds (λ (p : PlainProgram) (q : PlainRequest). IsReplyOf (script_run file request steps) (record { program = p; request = q }) status text) is
+own_reply one content (grammar_making file) x y status text h found is =
+    subst (λ (p : PlainProgram). IsReplyOf (grammar_making file) p status text) (sym (one content file x y h.holds found)) is
+own_reply one content usage x y status text h f is = is
 
-is_valid : (valid : Bool) → HasAllWritten (judgment_status valid) → valid ≡ true
-is_valid true done = refl
-is_valid false done = absurd done
-
--- a reply
-reply_writes : OneProgram → (content : Content) (task : Task) (x y : Subject task) (status : Exit) (text : List ℕ) (out : Output) → HasAllWritten status → Holds content task x
-    → Finds content task y → IsReplyOf task y status text → Gains out text → Writes task x out
-reply_writes one content (script_check file d goal limit form) x y status text out done h f (answer, is, status_is, text_is) gains =
-    subst (Gains out) (text_is ∙ ap (λ (a : ShownAnswer). answer_text form a) (is_yes answer (subst HasAllWritten status_is done))) gains
-reply_writes one content (page_check file d) x y status text out done h f (valid, is, status_is, text_is) gains =
-    subst (Gains out) (text_is ∙ ap judgment_text (is_valid valid (subst HasAllWritten status_is done))) gains
-reply_writes one content (script_making n) x y status text out done h f (size, status_is, text_is) gains = subst (Gains out) text_is gains
-reply_writes one content (made_check n) x y status text out done h f (answer, is, status_is, text_is) gains =
-    subst (Gains out) (text_is ∙ ap (λ (a : ShownAnswer). summary_text n (length (made n)) (conclusion_of a)) (is_yes answer (subst HasAllWritten status_is done))) gains
-reply_writes one content (script_run file request steps) x y status text out done (h, r) (found, finds, admitted) (ended, status_is, text_is) gains =
-    own_run one content file request x y h r found finds (λ (p : PlainProgram) (q : PlainRequest). Gains out (meaning p q steps).printed) (subst (Gains out) text_is gains)
-reply_writes one content (grammar_making file) x y status text out done h found (inl ((productions, start, derive, text_is), status_is)) gains =
-    subst (λ (p : PlainProgram). Writes (grammar_making file) p out) (sym (one content file x y h.holds found)) (productions, start, derive, subst (Gains out) text_is gains)
-reply_writes one content (grammar_making file) x y status text out done h found (inr (count, many, status_is, text_is)) gains = absurd (subst HasAllWritten status_is done)
-reply_writes one content usage x y status text out done h f r gains = absurd r
-
--- what a run leaves that does not come to its end
-halt_writes : OneProgram → (content : Content) (task : Task) (x y : Subject task) (status : Exit) (printed text : List ℕ) (out : Output) → Holds content task x
-    → Finds content task y → IsHaltOf task y status printed text → Gains out printed → Writes task x out
-halt_writes one content (script_check file d goal limit form) x y status printed text out h f r gains = absurd r
-halt_writes one content (page_check file d) x y status printed text out h f r gains = absurd r
-halt_writes one content (script_making n) x y status printed text out h f r gains = absurd r
-halt_writes one content (made_check n) x y status printed text out h f r gains = absurd r
-halt_writes one content (script_run file request steps) x y status printed text out (h, r) (found, finds, admitted) (early, status_is, printed_is, text_is) gains =
-    own_run one content file request x y h r found finds (λ (p : PlainProgram) (q : PlainRequest). Gains out (meaning p q steps).printed) (subst (Gains out) printed_is gains)
-halt_writes one content (grammar_making file) x y status printed text out h f r gains = absurd r
-halt_writes one content usage x y status printed text out h f r gains = absurd r
+-- and what a run leaves that does not come to its end
+own_halt : OneProgram → (content : Content) (task : Task) (x y : Subject task) (status : Exit) (printed text : List ℕ) → Holds content task x → Finds content task y
+    → IsHaltOf task y status printed text → IsHaltOf task x status printed text
+own_halt one content (script_check file d goal limit form) x y status printed text h f is = absurd is
+own_halt one content (page_check file d) x y status printed text h f is = absurd is
+own_halt one content (script_making n) x y status printed text h f is = absurd is
+own_halt one content (made_check n) x y status printed text h f is = absurd is
+own_halt one content (script_run file request steps) x y status printed text (h, r) (found, finds, admitted) is =
+    own_run one content file request x y h r found finds (λ (p : PlainProgram) (q : PlainRequest). IsHaltOf (script_run file request steps) (record { program = p; request = q }) status printed text) is
+own_halt one content (grammar_making file) x y status printed text h f is = absurd is
+own_halt one content usage x y status printed text h f is = absurd is
 
 refused_writes : (call : Call) (status : Exit) (text : List ℕ) → HasAllWritten status → OwesRefusal call status text → ⊥
 refused_writes call status text done (of_task task asked refuses) = never_done call.files task status text refuses done
 refused_writes call status text done (wants_memory is text_is) = subst HasAllWritten is done
 
 writes : OneTask → OneProgram → (call : Call) (status : Exit) → Ends call status → HasAllWritten status → (task : Task) (x : Subject task) → AsksFor call.words task
-    → Holds call.files.content task x → Writes task x call.out
+    → Holds call.files.content task x → Writes call status task x
 writes one_task one_program call status (replied e) done task x asked h =
     let r : Replies call.files task status e.text = the_reply one_task call status e.text e.owed task asked in
-    reply_writes one_program call.files.content task x r.subject status e.text call.out done h r.found r.says e.out
+    writes_reply e.text (own_reply one_program call.files.content task x r.subject status e.text h r.found r.says) e.out e.err
 writes one_task one_program call status (refused e) done task x asked h = absurd (refused_writes call status e.text done e.owed)
 writes one_task one_program call status (halted e) done task x asked h =
     let r : Halts call.files task status e.printed e.text = the_halt one_task call status e.printed e.text e.owed task asked in
-    halt_writes one_program call.files.content task x r.subject status e.printed e.text call.out h r.found r.says e.out
+    writes_halt e.printed e.text (own_halt one_program call.files.content task x r.subject status e.printed e.text h r.found r.says) e.out e.err
 writes one_task one_program call status (by_out is e) done task x asked h = absurd (subst HasAllWritten is done)
 writes one_task one_program call status (by_err is e) done task x asked h = absurd (subst HasAllWritten is done)
 writes one_task one_program call status (no_memory is e) done task x asked h = absurd (subst HasAllWritten is done)

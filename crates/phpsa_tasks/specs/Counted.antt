@@ -1,19 +1,20 @@
 -- What the counts of the source and of the outputs say after a call.
 use Rattle.std.specs.Prelude.{◌≡◌, ◌⊎◌, ℕ, List, [], ◌∷◌, length, Option, None, Some, Contains}
 use Rattle.io_edge.specs.Counts.{one_more}
-use Rattle.program_rules.specs.Files.{Held, Agrees}
+use Rattle.program_rules.specs.Files.{Held}
 use Rattle.program_rules.specs.Programs.{ReadFile, AreRead}
 use Rattle.program_files.specs.Source.{SourceCall, so_many_more}
+use Rattle.program_loader.specs.Told.{AreAnswered}
 use Rattle.document_types.specs.DocumentTypes.{IsBuiltIn}
 use Rattle.phpsa_texts.specs.declared.exit.Exit.{Exit}
 use Rattle.phpsa_texts.specs.declared.exit.Exit.TheVariants.{Script, Missing, ReadFault, WriteFault, Input, Memory}
 use Rattle.phpsa_tasks.specs.Tasks.{Task, script_check, page_check, script_making, made_check, script_run, grammar_making, usage, AsksFor}
 use Rattle.phpsa_tasks.specs.Call.{Output, Call, IsUnfailed}
 
--- so many names were asked for as the program has files
+-- so many names were asked for as the program has files, each of which was answered
 pub record ReadsItsFiles (files : SourceCall) (file : List ℕ) : Type 0 where
   pub held : Held
-  pub agrees : Agrees files.content held
+  pub answered : AreAnswered files.content held file
   pub own : List ReadFile
   pub read : AreRead held file own
   pub counted : files.reads' ≡ so_many_more (length own) files.reads

@@ -1,6 +1,6 @@
 -- The request that a script is run for: that of a file, or one of five empty arrays.
 use Rattle.std.specs.Prelude.{◌≡◌, ℕ, List, Option, None, Some}
-use Rattle.io_edge.specs.Told.{Tells}
+use Rattle.io_edge.specs.Told.{Content, Tells}
 use Rattle.io_edge.specs.Reasons.{HasReason}
 use Rattle.io_edge.specs.declared.files.FileFault.{FileFault}
 use Rattle.plain_values.specs.Plain.{empty}
@@ -9,7 +9,6 @@ use Rattle.program_files.specs.Source.{SourceCall}
 use Rattle.request_reading.specs.Outcome.{outcome, stands_for}
 use Rattle.request_reading.specs.Causes.{IsCause}
 use Rattle.request_reading.specs.declared.refusal.RequestRefusal.{RequestRefusal}
-use Rattle.program_loader.specs.Told.{Content}
 use Rattle.phpsa_texts.specs.declared.exit.Exit.{Exit}
 use Rattle.phpsa_texts.specs.Statuses.{file_status, request_status}
 use Rattle.phpsa_texts.specs.Texts.{file_text, request_text}

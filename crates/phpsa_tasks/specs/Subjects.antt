@@ -1,9 +1,9 @@
 -- What a task speaks of: a program, or a page, that stands under the name of a file, and the table of a definition.
 use Rattle.std.specs.Prelude.{◌⊎◌, ℕ, List, Some, codes, ⊤}
-use Rattle.io_edge.specs.Told.{Tells}
+use Rattle.io_edge.specs.Told.{Content, Tells}
 use Rattle.script_meaning.specs.Programs.{PlainProgram}
 use Rattle.script_meaning.specs.Requests.{PlainRequest, Admitted}
-use Rattle.program_loader.specs.Told.{Content, IsLoaded, HoldsProgram, AreShort}
+use Rattle.program_loader.specs.Told.{IsLoaded, HoldsProgram, AreShort}
 use Rattle.dtd_model.specs.Table.{Table}
 use Rattle.document_types.specs.OneFile.{file_alone}
 use Rattle.document_types.specs.DocumentTypes.{NamedType, strict_type, HasTable, NamesAreTold, NamesAreShort, IsTooLarge}

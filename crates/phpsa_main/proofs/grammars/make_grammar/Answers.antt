@@ -6,12 +6,12 @@ use Rattle.phpsa_main.proofs.grammars.make_grammar.Goals as goal
 pub returns-in-Err : goal.returns-in-Err
 returns-in-Err g c =
     unloaded_grammar
-    (source_call (g.F.Files.content c.args.files.now) (g.F.Files.faults c.args.files.now) (g.F.Files.faults c.load.new.source) (g.F.Files.misses c.args.files.now) (g.F.Files.misses c.load.new.source) (g.F.Files.reads c.args.files.now) (g.F.Files.reads c.load.new.source))
+    (source_call (g.F.Files.content c.load.new.source) (g.F.Files.faults c.args.files.now) (g.F.Files.faults c.load.new.source) (g.F.Files.misses c.args.files.now) (g.F.Files.misses c.load.new.source) (g.F.Files.reads c.args.files.now) (g.F.Files.reads c.load.new.source))
     c.args.file.now c.in-Err.refusal c.load_refusal.result c.in-Err.ensures.err c.load_refusal.ensures
 
 pub returns : goal.returns
 returns g c =
     let files =
-    source_call (g.F.Files.content c.args.files.now) (g.F.Files.faults c.args.files.now) (g.F.Files.faults c.load.new.source) (g.F.Files.misses c.args.files.now) (g.F.Files.misses c.load.new.source) (g.F.Files.reads c.args.files.now) (g.F.Files.reads c.load.new.source) in
+    source_call (g.F.Files.content c.load.new.source) (g.F.Files.faults c.args.files.now) (g.F.Files.faults c.load.new.source) (g.F.Files.misses c.args.files.now) (g.F.Files.misses c.load.new.source) (g.F.Files.reads c.args.files.now) (g.F.Files.reads c.load.new.source) in
     grammar_does files c.args.file.now (program_of c.in-Ok.program) c.grammar_reply.result c.in-Ok.ensures.ok
     (c.loads_are_loaded.ensures files c.args.file.now (program_of c.in-Ok.program) c.in-Ok.ensures.ok) c.grammar_reply.ensures

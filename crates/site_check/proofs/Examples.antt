@@ -1,0 +1,39 @@
+-- The definitions of `specs/` on worked examples and on near misses.
+use Rattle.std.proofs.Common.{◌≡◌, [], ◌∷◌, None, Some, false, refl, codes}
+use Rattle.io_edge.specs.Told.{Content, unasked, untold, known}
+use Rattle.site_check.specs.Kept.{Kept, nothing_kept, kept_behind, keep, total_size, told_with}
+
+-- a source that tells nothing
+abbrev tells_nothing : Content
+tells_nothing name = untold
+
+-- before a read nothing is told, and behind it what it gave, that a file is missing too
+before : told_with nothing_kept tells_nothing (codes "a") ≡ unasked
+before = refl
+
+after : told_with (keep nothing_kept (codes "a") (Some (codes "x"))) tells_nothing (codes "a") ≡ known (Some (codes "x"))
+after = refl
+
+missing_after : told_with (keep nothing_kept (codes "a") None) tells_nothing (codes "a") ≡ known None
+missing_after = refl
+
+-- of another name nothing is told yet
+other_after : told_with (keep nothing_kept (codes "a") (Some (codes "x"))) tells_nothing (codes "b") ≡ unasked
+other_after = refl
+
+-- the first file of a name is the one that is kept
+first_stays : told_with (keep (keep nothing_kept (codes "a") (Some (codes "x"))) (codes "a") (Some (codes "y"))) tells_nothing (codes "a") ≡ known (Some (codes "x"))
+first_stays = refl
+
+-- behind a file for which there is no room no more is kept, and what is not kept is not told
+abbrev full : Kept
+full = kept_behind [] false false (codes "a") (Some (codes "x"))
+
+no_room : told_with full tells_nothing (codes "a") ≡ untold
+no_room = refl
+
+no_more : told_with (keep full (codes "b") None) tells_nothing (codes "b") ≡ untold
+no_more = refl
+
+sizes : total_size ((codes "a", Some (codes "xyz")) ∷ (codes "b", None) ∷ (codes "c", Some (codes "u")) ∷ []) ≡ 4
+sizes = refl

@@ -1,0 +1,5 @@
+pub mod Kept
+pub mod Short
+pub mod Views
+pub mod Answers
+pub mod Site

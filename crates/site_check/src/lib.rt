@@ -1,0 +1,19 @@
+//! Files that are asked for once each and kept, and the answers for the scripts of a site, one after another.
+//! Promise: `ReadOnce` is a `Files` that tells what it was given (`told_with` of specs/Kept): its `read` keeps the first answer for a name
+//! (`first`), and answers by it the next times (`again`). Each line of `site` is an answer for its name alone (`AreAnswered` of specs/Site).
+//! Used by: phpsa.
+#![tactic(auto)]
+
+mod answers;
+mod keeping;
+mod kept_files;
+mod line;
+mod read_once;
+mod reading;
+mod sites;
+
+pub use answers::Answers;
+pub use kept_files::{KEPT_LIMIT, KeptFiles};
+pub use line::{FAULT_STATUS, Line, MISSING_STATUS};
+pub use read_once::ReadOnce;
+pub use sites::site;
