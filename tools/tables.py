@@ -12,7 +12,7 @@ A grammar's text has these lines, and comments behind '#':
     %start x                    what a whole input is
     left: X Y Z | X             rules; a line that begins with '|' has the left side of the line before
                                 !A in a right side: the rule does not stand before A
-                                !=A: the rule has the level of A; !loose: it has none
+                                !=A: the rule has the level of A; !loose: it has none; !closed: it stands before each token
 
 The tables are LALR(1). What is written needs no trust but for rules.rt, which is the grammar: lr_tables checks the rest.
 """
@@ -89,7 +89,7 @@ class Grammar:
         self.before, self.behind = [MOST] * len(self.rules), [MOST] * len(self.rules)
         for place, (left, side) in enumerate(self.rules):
             named = [number[mark[1:]] for mark in marks[place] if mark[0] == '=']
-            refused = [number[mark] for mark in marks[place] if mark[0] != '=' and mark != 'loose']
+            refused = [number[mark] for mark in marks[place] if mark[0] != '=' and mark not in ('loose', 'closed')]
             leveled = named or [x for x in side if x in level]
             if 'loose' in marks[place]:
                 continue
@@ -99,6 +99,8 @@ class Grammar:
                 self.before[place] = power if kind[symbol] in ('left', 'prefix') else power - 1
                 if side[0] == left:
                     self.behind[place] = power if kind[symbol] == 'right' else power - 1
+            if 'closed' in marks[place]:
+                self.before[place] = MOST
             for token in refused:
                 assert self.lefts[token] in (0, 1), self.names[token]
                 self.lefts[token], self.before[place] = 1, 0
@@ -320,20 +322,28 @@ def code(step):
     return 1 if step[0] == 'accept' else 2 * step[1] + 2 + (step[0] == 'reduce')
 
 
+def row_text(row, symbols):
+    return '    [' + ', '.join(str(code(row[x])) if x in row else '0' for x in symbols) + '],'
+
+
 def rows_text(tables):
-    count = len(tables.grammar.names)
-    lines = ['//! What each state does at each symbol. Made by tools/tables.py.', '', '/// The rows, as numbers.',
-             f'pub const ROWS: [[u16; {count}]; {len(tables.rows)}] = [']
-    for row in tables.rows:
-        lines.append('    [' + ', '.join(str(code(row[x])) if x in row else '0' for x in range(count)) + '],')
-    return '\n'.join(lines + ['];', '', '/// The symbol that leads to each state.',
-                              f'pub const ACCESSES: [u16; {len(tables.rows)}] = {tables.accesses};', ''])
+    terminals, count = tables.grammar.terminals, len(tables.grammar.names)
+    gotos = [row_text(row, range(terminals, count)) for row in tables.rows]
+    rows = list(dict.fromkeys(gotos))
+    return '\n'.join([
+        '//! What each state does at each symbol. Made by tools/tables.py.', '', '/// The rows at terminals, as numbers.',
+        f'pub const ROWS: [[u16; {terminals}]; {len(tables.rows)}] = [', *(row_text(row, range(terminals)) for row in tables.rows), '];',
+        '', '/// The rows at nonterminals, each once.', f'pub const GOTOS: [[u16; {count - terminals}]; {len(rows)}] = [', *rows, '];',
+        '', '/// Which of these is that of each state.', f'pub const GOTO_OF: [u16; {len(gotos)}] = {[rows.index(row) for row in gotos]};',
+        '', '/// The symbol that leads to each state.', f'pub const ACCESSES: [u16; {len(tables.rows)}] = {tables.accesses};', ''])
 
 
 def rules_text(grammar):
     count = len(grammar.names)
     lines = ['//! The grammar. Made by tools/tables.py.', '', 'use lr_tables::Rule;', '']
-    lines += [f'const {constant(grammar, x)}: u16 = {x};' for x in range(count)]
+    for x in range(count):
+        lines += [f'/// The terminal {grammar.names[x]}.', f'pub const {constant(grammar, x)}: u16 = {x};'] if 0 < x < grammar.terminals else [
+            f'const {constant(grammar, x)}: u16 = {x};']
     lines += ['', '/// The rules.', f'pub const RULES: [Rule; {len(grammar.rules)}] = [']
     for place, (left, side) in enumerate(grammar.rules):
         back = [constant(grammar, x) for x in reversed(side)] + ['0'] * (WIDTH - len(side))
@@ -359,8 +369,11 @@ def certificate_text(tables):
     lines = ['-- What lr_tables checks the tables by. Made by tools/tables.py.',
              'use Rattle.std.specs.Prelude.{ℕ, Bool, true, false, List, [], ◌∷◌}',
              'use Rattle.lr_tables.specs.Certificates.{State, Certificate}', '',
+             '-- of each nonterminal: the terminals that it may begin with, as bits, whether it may be empty, and a weight',
              'abbrev pub facts : List (ℕ × Bool × ℕ)', 'facts = ' + listed(facts), '',
+             '-- of each nonterminal a rule, and tokens that it derives by this rule',
              'abbrev pub samples : List (ℕ × ℕ × List ℕ)', 'samples = ' + listed(samples), '',
+             '-- of each state its items behind a first symbol, and the nonterminals that begin there, each with what may follow',
              'abbrev pub states : List State', 'states =']
     for state in range(len(tables.kernels)):
         kernel = [f'({rule}, {place}, {ahead})' for (rule, place), ahead in sorted(tables.aheads[state].items())
@@ -368,7 +381,7 @@ def certificate_text(tables):
         closed = [f'({x}, {tables.closed[state][x]}, {rule}, {place})'
                   for x, (rule, place) in reversed(tables.opened[state].items())]
         lines.append(f'    record {{ kernel = {listed(kernel)}; closed = {listed(closed)} }} ∷')
-    return '\n'.join(lines + ['    []', '', 'abbrev pub certificate : Certificate',
+    return '\n'.join(lines + ['    []', '', '-- all of it, with one less than the turns that a token pays for', 'abbrev pub certificate : Certificate',
                               f'certificate = record {{ most = {grammar.most}; facts = facts; samples = samples; states = states }}', ''])
 
 

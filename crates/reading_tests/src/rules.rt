@@ -3,38 +3,38 @@
 use lr_tables::Rule;
 
 const END: u16 = 0;
-
-const ECHO: u16 = 1;
-
-const IF: u16 = 2;
-
-const ELSE: u16 = 3;
-
-const SEMI: u16 = 4;
-
-const OPEN: u16 = 5;
-
-const CLOSE: u16 = 6;
-
-const BEGIN: u16 = 7;
-
-const FINISH: u16 = 8;
-
-const COMMA: u16 = 9;
-
-const ASSIGN: u16 = 10;
-
-const EQUALS: u16 = 11;
-
-const PLUS: u16 = 12;
-
-const STAR: u16 = 13;
-
-const NOT: u16 = 14;
-
-const NAME: u16 = 15;
-
-const NUMBER: u16 = 16;
+/// The terminal ECHO.
+pub const ECHO: u16 = 1;
+/// The terminal IF.
+pub const IF: u16 = 2;
+/// The terminal ELSE.
+pub const ELSE: u16 = 3;
+/// The terminal SEMI.
+pub const SEMI: u16 = 4;
+/// The terminal OPEN.
+pub const OPEN: u16 = 5;
+/// The terminal CLOSE.
+pub const CLOSE: u16 = 6;
+/// The terminal BEGIN.
+pub const BEGIN: u16 = 7;
+/// The terminal FINISH.
+pub const FINISH: u16 = 8;
+/// The terminal COMMA.
+pub const COMMA: u16 = 9;
+/// The terminal ASSIGN.
+pub const ASSIGN: u16 = 10;
+/// The terminal EQUALS.
+pub const EQUALS: u16 = 11;
+/// The terminal PLUS.
+pub const PLUS: u16 = 12;
+/// The terminal STAR.
+pub const STAR: u16 = 13;
+/// The terminal NOT.
+pub const NOT: u16 = 14;
+/// The terminal NAME.
+pub const NAME: u16 = 15;
+/// The terminal NUMBER.
+pub const NUMBER: u16 = 16;
 
 const PROGRAM_: u16 = 17;
 
