@@ -81,11 +81,12 @@ fn code_at<const T: usize, const N: usize>(tables: &Tables<T, N>, state: u16, sy
 {
     match tables.rows.get(state as usize) {
         Some(row) => {
+            let codes: &[u16] = row;
             let place = symbol as usize;
-            if place < row.len() {
-                code_in(row, place)
+            if place < codes.len() {
+                code_in(codes, place)
             } else {
-                code_in(gotos_at(tables, state), place - row.len())
+                code_in(gotos_at(tables, state), place - codes.len())
             }
         }
         None => 0,

@@ -1,4 +1,4 @@
--- The grammar of php.txt, and its tables.
+-- The grammar of src/text.rt, and its tables.
 use Rattle.lr_tables.specs.Machine.{Tables}
 use Rattle.lr_machine.specs.Shown.{rows_of, steps_of}
 use Rattle.php_grammar.specs.declared.rows.TheConstants.{ROWS, GOTOS, GOTO_OF, ACCESSES}

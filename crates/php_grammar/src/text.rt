@@ -1,7 +1,10 @@
-# The grammar of PHP 8.2, by the PHP manual (Language Reference). The language of phpsa is a part of it.
-#
-# A terminal stands for all tokens that the grammar treats alike: README.md says which. Operators that stand in one row of the manual's
-# table "Operator Precedence" are one terminal.
+//! The grammar of PHP 8.2 by the PHP manual, "Language Reference", in the notation of tools/tables.py.
+
+/// The grammar. The language that is read is a part of it: the rules that end in `=` and the name of
+/// what they make.
+pub const TEXT: &str = r"
+# A terminal stands for all tokens that the grammar treats alike; README.md says which. Operators of one row of the manual's table of
+# operator precedence are one terminal.
 %token ECHO PRINT IF ELSEIF ELSE ENDIF WHILE ENDWHILE DO FOR ENDFOR FOREACH ENDFOREACH AS SWITCH ENDSWITCH CASE DEFAULT BREAK CONTINUE
 %token RETURN GOTO DECLARE ENDDECLARE TRY CATCH FINALLY THROW GLOBAL UNSET ISSET EMPTY EVAL EXIT INCLUDE ARRAY LIST MATCH FUNCTION FN
 %token YIELD YIELD_FROM CLASS INTERFACE TRAIT ENUM EXTENDS IMPLEMENTS INSTEADOF CALLABLE CONST VAR STATIC VISIBILITY ABSTRACT READONLY
@@ -41,10 +44,10 @@
 %prefix +CLONE
 %start file
 
-file: top_statements
-top_statements:
- | top_statements statement
- | top_statements declaration
+file: top_statements = pass
+top_statements: = no_parts
+ | top_statements statement = next_part
+ | top_statements declaration = next_function
  | top_statements NAMESPACE new_namespace SEMI
  | top_statements NAMESPACE new_namespace BEGIN top_statements FINISH
  | top_statements NAMESPACE BEGIN top_statements FINISH
@@ -75,55 +78,55 @@ group_import: namespace_name
 constants: constant_item
  | constants COMMA constant_item
 constant_item: NAME given expression
-possible_comma:
+possible_comma: = absent
  | COMMA
 
 # Statements.
-statements:
- | statements statement
+statements: = no_statements
+ | statements statement = next_statement
  | statements declaration
-statement: BEGIN statements FINISH
- | INLINE
- | ECHO expressions SEMI
- | whole SEMI
- | SEMI
+statement: BEGIN statements FINISH = block
+ | INLINE = inline
+ | ECHO expressions SEMI = echo
+ | whole SEMI = run
+ | SEMI = empty_statement
  | NAME COLON
  | GOTO NAME SEMI
- | IF OPEN whole CLOSE statement rest
- | IF OPEN whole CLOSE COLON statements colon_rest
- | WHILE OPEN whole CLOSE statement
- | WHILE OPEN whole CLOSE COLON statements ENDWHILE SEMI
- | DO statement WHILE OPEN whole CLOSE SEMI
- | FOR OPEN any_expressions SEMI any_expressions SEMI any_expressions CLOSE statement
- | FOR OPEN any_expressions SEMI any_expressions SEMI any_expressions CLOSE colon_for
- | FOREACH OPEN expression AS target CLOSE statement
- | FOREACH OPEN expression AS target DOUBLE_ARROW target CLOSE statement
- | FOREACH OPEN expression AS target CLOSE COLON statements ENDFOREACH SEMI
- | FOREACH OPEN expression AS target DOUBLE_ARROW target CLOSE colon_each
+ | IF OPEN whole CLOSE statement rest = branch
+ | IF OPEN whole CLOSE COLON statements colon_rest = colon_branch
+ | WHILE OPEN whole CLOSE statement = while_loop
+ | WHILE OPEN whole CLOSE COLON statements ENDWHILE SEMI = colon_while_loop
+ | DO statement WHILE OPEN whole CLOSE SEMI = do_loop
+ | FOR OPEN any_expressions SEMI any_expressions SEMI any_expressions CLOSE statement = for_loop
+ | FOR OPEN any_expressions SEMI any_expressions SEMI any_expressions CLOSE colon_for = for_loop
+ | FOREACH OPEN expression AS target CLOSE statement = each_loop
+ | FOREACH OPEN expression AS target DOUBLE_ARROW target CLOSE statement = keyed_each_loop
+ | FOREACH OPEN expression AS target CLOSE COLON statements ENDFOREACH SEMI = colon_each_loop
+ | FOREACH OPEN expression AS target DOUBLE_ARROW target CLOSE colon_each = keyed_each_loop
  | SWITCH OPEN whole CLOSE BEGIN possible_semi cases FINISH
  | SWITCH OPEN whole CLOSE COLON possible_semi cases ENDSWITCH SEMI
- | BREAK SEMI
+ | BREAK SEMI = leave
  | BREAK expression SEMI
- | CONTINUE SEMI
+ | CONTINUE SEMI = turn
  | CONTINUE expression SEMI
- | RETURN SEMI
- | RETURN whole SEMI
+ | RETURN SEMI = return_nothing
+ | RETURN whole SEMI = return_value
  | GLOBAL globals SEMI
  | STATIC static_variables SEMI
- | UNSET OPEN variables possible_comma CLOSE SEMI
+ | UNSET OPEN variables possible_comma CLOSE SEMI = unset
  | TRY BEGIN statements FINISH catches finally
  | DECLARE OPEN constants CLOSE statement
  | DECLARE OPEN constants CLOSE COLON statements ENDDECLARE SEMI
 # An else belongs to the nearest if.
-rest: !ELSE !ELSEIF
- | ELSE statement
- | ELSEIF OPEN whole CLOSE statement rest
-colon_rest: ENDIF SEMI
- | ELSE COLON statements ENDIF SEMI
- | ELSEIF OPEN whole CLOSE COLON statements colon_rest
-colon_for: COLON statements ENDFOR SEMI
-colon_each: COLON statements ENDFOREACH SEMI
-target: variable
+rest: !ELSE !ELSEIF = no_rest
+ | ELSE statement = other
+ | ELSEIF OPEN whole CLOSE statement rest = branch
+colon_rest: ENDIF SEMI = no_rest
+ | ELSE COLON statements ENDIF SEMI = colon_other
+ | ELSEIF OPEN whole CLOSE COLON statements colon_rest = colon_arm
+colon_for: COLON statements ENDFOR SEMI = second
+colon_each: COLON statements ENDFOREACH SEMI = second
+target: variable = pass
  | ampersand variable
  | LIST OPEN elements CLOSE
  | FROM elements TO
@@ -139,8 +142,8 @@ globals: simple
 static_variables: static_variable
  | static_variables COMMA static_variable
 static_variable: VARIABLE initial
-variables: variable
- | variables COMMA variable
+variables: variable = first_expression
+ | variables COMMA variable = next_expression
 catches:
  | catches CATCH OPEN caught catch_variable CLOSE BEGIN statements FINISH
 caught: name
@@ -149,21 +152,21 @@ catch_variable:
  | VARIABLE
 finally:
  | FINALLY BEGIN statements FINISH
-initial:
- | given expression
+initial: = absent
+ | given expression = second
 # What stands behind these is no operand: `or` may stand in it without brackets.
-given: ASSIGN
+given: ASSIGN = pass
 named: word COLON
 
 # Functions and classes.
-declaration: declared
+declaration: declared = pass
  | attributes declared
-declared: FUNCTION possible_ampersand function_name OPEN parameters CLOSE return_type BEGIN statements FINISH
+declared: FUNCTION possible_ampersand function_name OPEN parameters CLOSE return_type BEGIN statements FINISH = function
  | class_modifiers CLASS NAME extends implements BEGIN members FINISH
  | INTERFACE NAME interface_extends BEGIN members FINISH
  | TRAIT NAME BEGIN members FINISH
  | ENUM NAME enum_type implements BEGIN members FINISH
-function_name: NAME
+function_name: NAME = pass
  | READONLY
 attributes: ATTRIBUTE attribute_list possible_comma TO
  | attributes ATTRIBUTE attribute_list possible_comma TO
@@ -171,25 +174,25 @@ attribute_list: attribute
  | attribute_list COMMA attribute
 attribute: class_name
  | class_name arguments
-possible_ampersand:
+possible_ampersand: = absent
  | ampersand
 ampersand: AMPERSAND
  | REFERENCE
-parameters:
- | some_parameters possible_comma
-some_parameters: parameter
- | some_parameters COMMA parameter
-parameter: plain_parameter
+parameters: = no_parameters
+ | some_parameters possible_comma = pass
+some_parameters: parameter = pass
+ | some_parameters COMMA parameter = next_parameter
+parameter: plain_parameter = pass
  | attributes plain_parameter
-plain_parameter: promotions possible_type passing VARIABLE initial
-promotions:
+plain_parameter: promotions possible_type passing VARIABLE initial = parameter
+promotions: = absent
  | promotions VISIBILITY
  | promotions READONLY
-passing:
+passing: = absent
  | REFERENCE
  | ELLIPSIS
  | REFERENCE ELLIPSIS
-possible_type:
+possible_type: = absent
  | type
 type: single_type
  | QUESTION single_type
@@ -207,7 +210,7 @@ intersection: NAME AMPERSAND name
  | QUALIFIED AMPERSAND name
  | ROOTED AMPERSAND name
  | intersection AMPERSAND name
-return_type:
+return_type: = absent
  | COLON type
  | COLON STATIC
  | COLON QUESTION STATIC
@@ -266,76 +269,76 @@ adapted: word
  | name SCOPE word
 
 # Expressions. Within them `yield a => b` is `yield` with a key only at the end of a whole one.
-whole: expression
+whole: expression = pass
  | keyed
 keyed: YIELD expression DOUBLE_ARROW expression !loose
  | variable ASSIGN keyed !loose
  | variable UPDATE keyed !loose
-expressions: expression
- | expressions COMMA expression
-any_expressions:
- | expressions
-expression: variable
- | bracketed
- | literal
- | constant
+expressions: expression = first_expression
+ | expressions COMMA expression = next_expression
+any_expressions: = no_expressions
+ | expressions = pass
+expression: variable = pass
+ | bracketed = pass
+ | literal = pass
+ | constant = pass
  | class_constant
- | NUMBER
+ | NUMBER = literal
  | HEREDOC pieces HEREDOC_END
  | HEREDOC HEREDOC_END
  | BACKQUOTE pieces BACKQUOTE
  | BACKQUOTE BACKQUOTE
- | variable ASSIGN expression
+ | variable ASSIGN expression = assign
  | variable ASSIGN ampersand variable !loose
  | LIST OPEN elements CLOSE ASSIGN expression
  | FROM elements TO ASSIGN expression
- | variable UPDATE expression
- | variable STEP
- | STEP variable
+ | variable UPDATE expression = update
+ | variable STEP = step_after
+ | STEP variable = step_before
  | expression OR expression
  | expression XOR expression
  | expression AND expression
- | expression BOOL_OR expression
- | expression BOOL_AND expression
+ | expression BOOL_OR expression = operate
+ | expression BOOL_AND expression = operate
  | expression BAR expression
  | expression CARET expression
  | expression AMPERSAND expression
  | expression REFERENCE expression
- | expression EQUALITY expression
- | expression COMPARISON expression
- | expression DOT expression
+ | expression EQUALITY expression = operate
+ | expression COMPARISON expression = operate
+ | expression DOT expression = operate
  | expression SHIFT expression
- | expression SUM expression
- | expression PRODUCT expression
+ | expression SUM expression = operate
+ | expression PRODUCT expression = operate
  | expression POWER expression
- | expression COALESCE expression
- | expression QUESTION expression COLON expression
- | expression QUESTION COLON expression
+ | expression COALESCE expression = coalesce
+ | expression QUESTION expression COLON expression = choice
+ | expression QUESTION COLON expression = short_choice
  | expression INSTANCEOF class_reference !=INSTANCEOF !closed
- | NOT expression
- | sign expression
+ | NOT expression = prefix
+ | sign expression = prefix
  | CLONE expression
- | PRINT expression
- | INCLUDE expression
+ | PRINT expression = print
+ | INCLUDE expression = include
  | THROW expression
  | YIELD !=YIELD
  | YIELD expression
  | YIELD_FROM expression
- | EXIT
- | EXIT OPEN CLOSE
- | EXIT OPEN whole CLOSE
- | ISSET OPEN expressions possible_comma CLOSE
- | EMPTY OPEN expression CLOSE
- | EVAL OPEN expression CLOSE
+ | EXIT = exit
+ | EXIT OPEN CLOSE = exit
+ | EXIT OPEN whole CLOSE = exit_value
+ | ISSET OPEN expressions possible_comma CLOSE = isset
+ | EMPTY OPEN expression CLOSE = empty
+ | EVAL OPEN expression CLOSE = eval
  | created
  | closure
  | STATIC closure
  | attributes closure
  | attributes STATIC closure
  | MATCH OPEN whole CLOSE BEGIN arms FINISH
-sign: SUM
- | UNARY
-bracketed: OPEN whole CLOSE
+sign: SUM = pass
+ | UNARY = pass
+bracketed: OPEN whole CLOSE = bracket
 closure: FUNCTION possible_ampersand OPEN parameters CLOSE uses return_type BEGIN statements FINISH
  | FN possible_ampersand OPEN parameters CLOSE return_type DOUBLE_ARROW expression !=FN
 uses:
@@ -366,20 +369,20 @@ new_variable: simple
  | new_variable ARROW property
  | class_name SCOPE simple
  | new_variable SCOPE simple
-arguments: OPEN CLOSE
- | OPEN some_arguments possible_comma CLOSE
+arguments: OPEN CLOSE = no_arguments
+ | OPEN some_arguments possible_comma CLOSE = second
  | OPEN ELLIPSIS CLOSE
-some_arguments: argument
- | some_arguments COMMA argument
-argument: whole
+some_arguments: argument = first_argument
+ | some_arguments COMMA argument = next_argument
+argument: whole = pass
  | named expression
  | ELLIPSIS expression
 # Of elements one may be left out, in a list or at the end.
-elements: element
- | elements COMMA element
-element:
- | expression
- | expression DOUBLE_ARROW expression
+elements: element = pass
+ | elements COMMA element = next_element
+element: = hole
+ | expression = element
+ | expression DOUBLE_ARROW expression = keyed_element
  | ampersand variable
  | expression DOUBLE_ARROW ampersand variable
  | LIST OPEN elements CLOSE
@@ -387,27 +390,27 @@ element:
  | ELLIPSIS expression
 
 # Variables: what may be called, what may be written, what has members.
-callable_variable: VARIABLE
+callable_variable: VARIABLE = variable
  | DOLLAR simple
  | DOLLAR BEGIN whole FINISH
- | container FROM whole TO
- | container FROM TO
+ | container FROM whole TO = member
+ | container FROM TO = open_member
  | container ARROW property arguments
- | name arguments
+ | name arguments = call
  | class_name SCOPE method arguments
  | object SCOPE method arguments
  | callable_variable arguments
  | bracketed arguments
  | literal arguments
-variable: callable_variable
+variable: callable_variable = pass
  | container ARROW property
  | class_name SCOPE simple
  | object SCOPE simple
-object: variable
- | bracketed
+object: variable = pass
+ | bracketed = pass
  | literal
  | class_constant
-container: object
+container: object = pass
  | constant
 simple: VARIABLE
  | DOLLAR simple
@@ -418,20 +421,20 @@ property: NAME
 method: word
  | BEGIN whole FINISH
  | simple
-constant: name
+constant: name = constant
  | MAGIC
 class_constant: class_name SCOPE word
  | object SCOPE word
 class_name: name
  | STATIC
-name: NAME
+name: NAME = pass
  | QUALIFIED
  | ROOTED
-literal: TEXT
- | TEMPLATE
+literal: TEXT = literal
+ | TEMPLATE = literal
  | QUOTE pieces QUOTE
- | ARRAY OPEN elements CLOSE
- | FROM elements TO
+ | ARRAY OPEN elements CLOSE = named_array
+ | FROM elements TO = array
 pieces: piece
  | pieces piece
 piece: PIECE
@@ -513,3 +516,4 @@ plain_word: NAME
  | AND
  | OR
  | XOR
+";
