@@ -1,7 +1,7 @@
 -- Small scripts and their trees, and scripts of PHP that are outside of the language, by computation.
 use Rattle.std.proofs.Common.{◌≡◌, ℕ, ◌+◌, ◌<◌, ℤ, pos, true, List, [], ◌∷◌, Option, Some, None, refl, sym, ap, ◌∙◌, subst, arith}
 use Rattle.std.specs.Prelude.{codes}
-use Rattle.php_syntax.specs.declared.token.Sign.TheVariants as sign
+use Rattle.php_syntax.specs.declared.token.Sign.TheVariants as signs
 use Rattle.php_syntax.specs.declared.tree.ArithSign.TheVariants as arith_sign
 use Rattle.php_syntax.specs.Tokens.{PlainKind, variable, name, integer, sign, PlainToken}
 use Rattle.php_syntax.specs.Trees.{PlainExpr, int_expr, var_expr, join_expr, arith_expr, assign_expr, call_expr, no_exprs, more_exprs, no_keys, PlainStmts, run_stmt, if_stmt, no_stmts, more_stmts, no_arms, more_arms, PlainFile}
@@ -16,7 +16,7 @@ use Rattle.lr_tables.proofs.Making.{are_made, are_meant}
 use Rattle.php_grammar.specs.Certificate.{certificate}
 use Rattle.php_grammar.specs.Php.{php}
 use Rattle.php_grammar.proofs.AreGood.{are_good}
-use Rattle.script_grammar.specs.Rules.{file_fits}
+use Rattle.script_grammar.specs.Rules.{stmts_fit, stmt_fits, expr_fits, path_fits}
 use Rattle.php_trees.specs.Values.{Value, file}
 use Rattle.php_trees.specs.Reads.{language, parts, ReadAs}
 
@@ -61,8 +61,8 @@ body ss = record { body_of = ss; functions_of = [] }
 
 -- $x = 1 + 2 * 3;
 abbrev sum : List PlainKind
-sum = variable (codes "x") ∷ sign sign.Assign ∷ integer (pos 1) ∷ sign sign.Plus ∷ integer (pos 2) ∷ sign sign.Star ∷ integer (pos 3) ∷ sign sign.Semicolon ∷ []
+sum = variable (codes "x") ∷ sign signs.Assign ∷ integer (pos 1) ∷ sign signs.Plus ∷ integer (pos 2) ∷ sign signs.Star ∷ integer (pos 3) ∷ sign signs.Semicolon ∷ []
 
 sum_is_read : ReadAs (spelled sum) (body (more_stmts (run_stmt (assign_expr (codes "x") no_keys (arith_expr arith_sign.Add (int_expr (pos 1)) (arith_expr arith_sign.Mul (int_expr (pos 2)) (int_expr (pos 3)))))) no_stmts))
-unfolding run make php file_fits
+unfolding run make php stmts_fit stmt_fits expr_fits path_fits
 sum_is_read = record { derived = has_value _ 60 sum _ refl refl; fits = refl }

@@ -162,17 +162,17 @@ open_member_of _ = None
 -- the expressions of arguments, if all are
 abbrev pub given_exprs : List Argument → Option PlainExprs
 given_exprs [] = Some no_exprs
-given_exprs (given s e ∷ as) = option_map (more_exprs e) (given_exprs as)
-given_exprs (quotes_flag ∷ as) = None
+given_exprs (given s e ∷ gs) = option_map (more_exprs e) (given_exprs gs)
+given_exprs (quotes_flag ∷ gs) = None
 
 -- `htmlspecialchars` may have two more arguments that say what is so anyway: `ENT_QUOTES` and a text that is UTF-8 in any case
 abbrev pub escaped_expr : List Argument → Option PlainExprs
 escaped_expr (given s e ∷ quotes_flag ∷ []) = Some (more_exprs e no_exprs)
 escaped_expr (given s e ∷ quotes_flag ∷ given quoted (text_expr t) ∷ []) = if str_eq_ignore_ascii_case t (codes "UTF-8") then Some (more_exprs e no_exprs) else None
-escaped_expr as = given_exprs as
+escaped_expr gs = given_exprs gs
 
 abbrev pub called : List ℕ → List Argument → Option Value
-called f as = option_map (λ es. expr usual (call_expr f es)) (if is_escape f then escaped_expr as else given_exprs as)
+called f gs = option_map (λ es. expr usual (call_expr f es)) (if is_escape f then escaped_expr gs else given_exprs gs)
 
 -- a text, as an include names it
 abbrev pub path_text : Value → Option (List ℕ)
@@ -258,8 +258,8 @@ act_by action.NoExpressions vs = Some (exprs no_exprs)
 act_by action.FirstExpression vs = option_map (λ e. exprs (more_exprs e no_exprs)) (whole_of (at 0 vs))
 act_by action.NextExpression vs = of_two (λ es e. exprs (exprs_and es (more_exprs e no_exprs))) (exprs_of (at 0 vs)) (whole_of (at 2 vs))
 act_by action.NoArguments vs = Some (arguments [])
-act_by action.FirstArgument vs = option_map (λ a. arguments (a ∷ [])) (argument_of (at 0 vs))
-act_by action.NextArgument vs = of_two (λ as a. arguments (as ++ a ∷ [])) (arguments_of (at 0 vs)) (argument_of (at 2 vs))
+act_by action.FirstArgument vs = option_map (λ g. arguments (g ∷ [])) (argument_of (at 0 vs))
+act_by action.NextArgument vs = of_two (λ gs g. arguments (gs ++ g ∷ [])) (arguments_of (at 0 vs)) (argument_of (at 2 vs))
 act_by action.Hole vs = Some (items no_items true)
 act_by action.Element vs = option_map (λ e. items (more_items no_expr e no_items) false) (whole_of (at 0 vs))
 act_by action.KeyedElement vs = of_two (λ k e. items (more_items (some_expr k) e no_items) false) (whole_of (at 0 vs)) (whole_of (at 2 vs))

@@ -3,7 +3,7 @@
 use Rattle.std.specs.Prelude.{ℕ, List, [], ◌∷◌, ◌++◌, codes, if◌then◌else◌}
 use Rattle.std.specs.Str.{str_eq_ignore_ascii_case}
 use Rattle.php_syntax.specs.declared.token.Sign.{Sign}
-use Rattle.php_syntax.specs.declared.token.Sign.TheVariants as sign
+use Rattle.php_syntax.specs.declared.token.Sign.TheVariants as signs
 use Rattle.php_syntax.specs.Tokens.{PlainKind, inline, variable, name, integer, text, template, sign}
 use Rattle.php_grammar.specs.declared.rules.TheConstants as terminal
 
@@ -49,46 +49,46 @@ class_words =
 
 -- the terminal of a sign; operators of one precedence are one terminal
 abbrev pub sign_kind : Sign → ℕ
-sign_kind sign.Identical = terminal.EQUALITY
-sign_kind sign.NotIdentical = terminal.EQUALITY
-sign_kind sign.CoalesceAssign = terminal.UPDATE
-sign_kind sign.Equal = terminal.EQUALITY
-sign_kind sign.NotEqual = terminal.EQUALITY
-sign_kind sign.LessGreater = terminal.EQUALITY
-sign_kind sign.LessEqual = terminal.COMPARISON
-sign_kind sign.GreaterEqual = terminal.COMPARISON
-sign_kind sign.DoubleArrow = terminal.DOUBLE_ARROW
-sign_kind sign.And = terminal.BOOL_AND
-sign_kind sign.Or = terminal.BOOL_OR
-sign_kind sign.Coalesce = terminal.COALESCE
-sign_kind sign.JoinAssign = terminal.UPDATE
-sign_kind sign.AddAssign = terminal.UPDATE
-sign_kind sign.SubAssign = terminal.UPDATE
-sign_kind sign.MulAssign = terminal.UPDATE
-sign_kind sign.RemAssign = terminal.UPDATE
-sign_kind sign.Increment = terminal.STEP
-sign_kind sign.Decrement = terminal.STEP
-sign_kind sign.Assign = terminal.ASSIGN
-sign_kind sign.Less = terminal.COMPARISON
-sign_kind sign.Greater = terminal.COMPARISON
-sign_kind sign.Not = terminal.NOT
-sign_kind sign.Dot = terminal.DOT
-sign_kind sign.Plus = terminal.SUM
-sign_kind sign.Minus = terminal.SUM
-sign_kind sign.Star = terminal.PRODUCT
-sign_kind sign.Percent = terminal.PRODUCT
-sign_kind sign.Question = terminal.QUESTION
-sign_kind sign.Colon = terminal.COLON
-sign_kind sign.Comma = terminal.COMMA
-sign_kind sign.Semicolon = terminal.SEMI
-sign_kind sign.OpenParen = terminal.OPEN
-sign_kind sign.CloseParen = terminal.CLOSE
-sign_kind sign.OpenBracket = terminal.FROM
-sign_kind sign.CloseBracket = terminal.TO
-sign_kind sign.OpenBrace = terminal.BEGIN
-sign_kind sign.CloseBrace = terminal.FINISH
-sign_kind sign.CastInt = terminal.UNARY
-sign_kind sign.CastString = terminal.UNARY
+sign_kind signs.Identical = terminal.EQUALITY
+sign_kind signs.NotIdentical = terminal.EQUALITY
+sign_kind signs.CoalesceAssign = terminal.UPDATE
+sign_kind signs.Equal = terminal.EQUALITY
+sign_kind signs.NotEqual = terminal.EQUALITY
+sign_kind signs.LessGreater = terminal.EQUALITY
+sign_kind signs.LessEqual = terminal.COMPARISON
+sign_kind signs.GreaterEqual = terminal.COMPARISON
+sign_kind signs.DoubleArrow = terminal.DOUBLE_ARROW
+sign_kind signs.And = terminal.BOOL_AND
+sign_kind signs.Or = terminal.BOOL_OR
+sign_kind signs.Coalesce = terminal.COALESCE
+sign_kind signs.JoinAssign = terminal.UPDATE
+sign_kind signs.AddAssign = terminal.UPDATE
+sign_kind signs.SubAssign = terminal.UPDATE
+sign_kind signs.MulAssign = terminal.UPDATE
+sign_kind signs.RemAssign = terminal.UPDATE
+sign_kind signs.Increment = terminal.STEP
+sign_kind signs.Decrement = terminal.STEP
+sign_kind signs.Assign = terminal.ASSIGN
+sign_kind signs.Less = terminal.COMPARISON
+sign_kind signs.Greater = terminal.COMPARISON
+sign_kind signs.Not = terminal.NOT
+sign_kind signs.Dot = terminal.DOT
+sign_kind signs.Plus = terminal.SUM
+sign_kind signs.Minus = terminal.SUM
+sign_kind signs.Star = terminal.PRODUCT
+sign_kind signs.Percent = terminal.PRODUCT
+sign_kind signs.Question = terminal.QUESTION
+sign_kind signs.Colon = terminal.COLON
+sign_kind signs.Comma = terminal.COMMA
+sign_kind signs.Semicolon = terminal.SEMI
+sign_kind signs.OpenParen = terminal.OPEN
+sign_kind signs.CloseParen = terminal.CLOSE
+sign_kind signs.OpenBracket = terminal.FROM
+sign_kind signs.CloseBracket = terminal.TO
+sign_kind signs.OpenBrace = terminal.BEGIN
+sign_kind signs.CloseBrace = terminal.FINISH
+sign_kind signs.CastInt = terminal.UNARY
+sign_kind signs.CastString = terminal.UNARY
 
 -- the terminal of what a token is
 abbrev pub kind_of : PlainKind → ℕ

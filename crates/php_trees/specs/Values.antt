@@ -1,5 +1,6 @@
 -- The values of the parts of a script: what its tokens and the symbols of PHP's grammar stand for, as far as the language has them.
 use Rattle.std.specs.Prelude.{ℕ, Bool, List, [], ◌∷◌, Option, Some, None, slice_index_or}
+use Rattle.std.specs.Option.{option_map}
 use Rattle.php_syntax.specs.declared.token.Sign.{Sign}
 use Rattle.php_syntax.specs.Tokens.{PlainKind, inline, variable, name, sign}
 use Rattle.php_syntax.specs.Trees.{PlainExpr, member_expr, if_stmt, MaybeExpr, no_expr, some_expr, PlainExprs, no_exprs, more_exprs, PlainItems, no_items, more_items, PlainPath, no_keys, more_keys, PlainStmts, no_stmts, more_stmts, PlainArms, PlainParam, PlainFunction, PlainFile}
@@ -101,15 +102,11 @@ condition_of _ = None
 abbrev pub argument_of : Value → Option Argument
 argument_of quotes = Some quotes_flag
 argument_of (expr s e) = Some (given s e)
-argument_of (place x ks) = argument_read (member_read (variable_tree x) ks)
-  where
-    argument_read : Option PlainExpr → Option Argument
-    argument_read None = None
-    argument_read (Some e) = Some (given usual e)
+argument_of (place x ks) = option_map (given usual) (member_read (variable_tree x) ks)
 argument_of _ = None
 
 abbrev pub arguments_of : Value → Option (List Argument)
-arguments_of (arguments as) = Some as
+arguments_of (arguments gs) = Some gs
 arguments_of _ = None
 
 -- the statements that a value is
