@@ -4,7 +4,7 @@
     tables.py GRAMMAR           prints figures and conflicts
     tables.py GRAMMAR CRATE     writes src/rows.rt, src/rules.rt and specs/Certificate.antt of the crate
 
-A grammar's text has these lines, and comments behind '#':
+A grammar's text, which may stand in a file of code as r"..", has these lines, and comments behind '#':
 
     %token A B ..               its terminals, in the order of their numbers; 0 is the end of the input
     %left A .., %right A ..     a level of operators, from the loosest to the tightest; so %none and %prefix;
@@ -12,7 +12,8 @@ A grammar's text has these lines, and comments behind '#':
     %start x                    what a whole input is
     left: X Y Z | X             rules; a line that begins with '|' has the left side of the line before
                                 !A in a right side: the rule does not stand before A
-                                !=A: the rule has the level of A; !loose: it has none
+                                !=A: the rule has the level of A; !loose: it has none; !closed: it stands before each token
+                = name, at the end: what the rule makes; of a grammar with such names src/actions.rt has an enum and a table
 
 The tables are LALR(1). What is written needs no trust but for rules.rt, which is the grammar: lr_tables checks the rest.
 """
@@ -26,7 +27,7 @@ WIDTH = 10  # symbols of a right side at most
 
 
 def parse(text):
-    """The tokens, the start, the rules with their marks, and the levels, as names."""
+    """The tokens, the start, the rules with their marks and actions, and the levels, as names."""
     tokens, start, rules, levels, left = [], None, [], [], None
     for line in text.splitlines():
         line = line.split('#')[0].rstrip()
@@ -46,9 +47,10 @@ def parse(text):
             else:
                 line = line.strip()[1:]
             for side in line.split('|'):
+                side, _, action = side.partition(' = ')
                 symbols = [word for word in side.split() if word[0] != '!']
                 marks = [word[1:] for word in side.split() if word[0] == '!']
-                rules.append((left, symbols, marks))
+                rules.append((left, symbols, marks, action.strip()))
     return tokens, start, rules, levels
 
 
@@ -59,17 +61,18 @@ class Grammar:
         tokens, start, rules, levels = parse(text)
         self.names = ['END'] + tokens
         self.terminals = len(self.names)
-        for left, _, _ in rules:
+        for left, *_ in rules:
             if left not in self.names:
                 self.names.append(left)
         number = {name: place for place, name in enumerate(self.names)}
         self.start = number[start]
-        self.rules = [(number[left], [number[x] for x in side]) for left, side, _ in rules]
+        self.rules = [(number[left], [number[x] for x in side]) for left, side, *_ in rules]
+        self.actions = [action for *_, action in rules]
         self.rules_of = defaultdict(list)
         for place, (left, side) in enumerate(self.rules):
             assert len(side) <= WIDTH, self.names[left]
             self.rules_of[left].append(place)
-        self.set_powers(number, levels, [marks for _, _, marks in rules])
+        self.set_powers(number, levels, [marks for _, _, marks, _ in rules])
         self.find_firsts()
         self.find_weights()
         self.find_samples()
@@ -89,7 +92,7 @@ class Grammar:
         self.before, self.behind = [MOST] * len(self.rules), [MOST] * len(self.rules)
         for place, (left, side) in enumerate(self.rules):
             named = [number[mark[1:]] for mark in marks[place] if mark[0] == '=']
-            refused = [number[mark] for mark in marks[place] if mark[0] != '=' and mark != 'loose']
+            refused = [number[mark] for mark in marks[place] if mark[0] != '=' and mark not in ('loose', 'closed')]
             leveled = named or [x for x in side if x in level]
             if 'loose' in marks[place]:
                 continue
@@ -99,6 +102,8 @@ class Grammar:
                 self.before[place] = power if kind[symbol] in ('left', 'prefix') else power - 1
                 if side[0] == left:
                     self.behind[place] = power if kind[symbol] == 'right' else power - 1
+            if 'closed' in marks[place]:
+                self.before[place] = MOST
             for token in refused:
                 assert self.lefts[token] in (0, 1), self.names[token]
                 self.lefts[token], self.before[place] = 1, 0
@@ -320,24 +325,33 @@ def code(step):
     return 1 if step[0] == 'accept' else 2 * step[1] + 2 + (step[0] == 'reduce')
 
 
+def row_text(row, symbols):
+    return '    [' + ', '.join(str(code(row[x])) if x in row else '0' for x in symbols) + '],'
+
+
 def rows_text(tables):
-    count = len(tables.grammar.names)
-    lines = ['//! What each state does at each symbol. Made by tools/tables.py.', '', '/// The rows, as numbers.',
-             f'pub const ROWS: [[u16; {count}]; {len(tables.rows)}] = [']
-    for row in tables.rows:
-        lines.append('    [' + ', '.join(str(code(row[x])) if x in row else '0' for x in range(count)) + '],')
-    return '\n'.join(lines + ['];', '', '/// The symbol that leads to each state.',
-                              f'pub const ACCESSES: [u16; {len(tables.rows)}] = {tables.accesses};', ''])
+    terminals, count = tables.grammar.terminals, len(tables.grammar.names)
+    gotos = [row_text(row, range(terminals, count)) for row in tables.rows]
+    rows = list(dict.fromkeys(gotos))
+    return '\n'.join([
+        '//! What each state does at each symbol. Made by tools/tables.py.', '', '/// The rows at terminals, as numbers.',
+        f'pub const ROWS: [[u16; {terminals}]; {len(tables.rows)}] = [', *(row_text(row, range(terminals)) for row in tables.rows), '];',
+        '', '/// The rows at nonterminals, each once.', f'pub const GOTOS: [[u16; {count - terminals}]; {len(rows)}] = [', *rows, '];',
+        '', '/// Which of these is that of each state.', f'pub const GOTO_OF: [u16; {len(gotos)}] = {[rows.index(row) for row in gotos]};',
+        '', '/// The symbol that leads to each state.', f'pub const ACCESSES: [u16; {len(tables.rows)}] = {tables.accesses};', ''])
 
 
 def rules_text(grammar):
     count = len(grammar.names)
     lines = ['//! The grammar. Made by tools/tables.py.', '', 'use lr_tables::Rule;', '']
-    lines += [f'const {constant(grammar, x)}: u16 = {x};' for x in range(count)]
-    lines += ['', '/// The rules.', f'pub const RULES: [Rule; {len(grammar.rules)}] = [']
+    for x in range(count):
+        lines += [f'/// The terminal {grammar.names[x]}.', f'pub const {constant(grammar, x)}: u16 = {x};'] if 0 < x < grammar.terminals else [
+            f'const {constant(grammar, x)}: u16 = {x};']
+    lines += ['', '/// The names of the symbols.', f'pub const NAMES: [&str; {count}] = [', *(f'    "{name}",' for name in grammar.names), '];',
+              '', '/// The rules.', f'pub const RULES: [Rule; {len(grammar.rules)}] = [']
     for place, (left, side) in enumerate(grammar.rules):
         back = [constant(grammar, x) for x in reversed(side)] + ['0'] * (WIDTH - len(side))
-        lines.append(f'    // {grammar.names[left]}: {" ".join(grammar.names[x] for x in side)}'.rstrip())
+        lines.append(f'    // {spelled(grammar, place)}')
         lines.append(f'    Rule {{ left: {constant(grammar, left)}, back: [{", ".join(back)}], '
                      f'before: {grammar.before[place]}, behind: {grammar.behind[place]} }},')
     return '\n'.join(lines + [
@@ -345,6 +359,24 @@ def rules_text(grammar):
         '', '/// The powers of the symbols to the right.', f'pub const RIGHTS: [u16; {count}] = {grammar.rights};',
         '', '/// How many terminals there are, with the end.', f'pub const TERMINALS: u16 = {grammar.terminals};',
         '', '/// What a whole input is.', f'pub const START: u16 = {constant(grammar, grammar.start)};', ''])
+
+
+def spelled(grammar, rule):
+    left, side = grammar.rules[rule]
+    return f'{grammar.names[left]}: {" ".join(grammar.names[x] for x in side)}'.rstrip()
+
+
+def actions_text(grammar):
+    def variant(action):
+        return ''.join(word.capitalize() for word in action.split('_')) or 'Outside'
+
+    lines = ['//! What each rule makes. Made by tools/tables.py.', '', '/// What a rule makes of the values of its right side.',
+             '#[derive(Clone, Copy)]', 'pub enum Action {', '    /// It makes nothing that the language has.', '    Outside,']
+    for action in dict.fromkeys(filter(None, grammar.actions)):
+        rules = [f'`{spelled(grammar, rule)}`' for rule, name in enumerate(grammar.actions) if name == action]
+        lines += [f'    /// {rules[0]}', *(f'    /// and {rule}' for rule in rules[1:]), f'    {variant(action)},']
+    return '\n'.join([*lines, '}', '', '/// What each rule makes.', f'pub const ACTIONS: [Action; {len(grammar.rules)}] = [',
+                      *(f'    Action::{variant(action)},' for action in grammar.actions), '];', ''])
 
 
 def listed(items):
@@ -359,8 +391,11 @@ def certificate_text(tables):
     lines = ['-- What lr_tables checks the tables by. Made by tools/tables.py.',
              'use Rattle.std.specs.Prelude.{ℕ, Bool, true, false, List, [], ◌∷◌}',
              'use Rattle.lr_tables.specs.Certificates.{State, Certificate}', '',
+             '-- of each nonterminal: the terminals that it may begin with, as bits, whether it may be empty, and a weight',
              'abbrev pub facts : List (ℕ × Bool × ℕ)', 'facts = ' + listed(facts), '',
+             '-- of each nonterminal a rule, and tokens that it derives by this rule',
              'abbrev pub samples : List (ℕ × ℕ × List ℕ)', 'samples = ' + listed(samples), '',
+             '-- of each state its items behind a first symbol, and the nonterminals that begin there, each with what may follow',
              'abbrev pub states : List State', 'states =']
     for state in range(len(tables.kernels)):
         kernel = [f'({rule}, {place}, {ahead})' for (rule, place), ahead in sorted(tables.aheads[state].items())
@@ -368,19 +403,21 @@ def certificate_text(tables):
         closed = [f'({x}, {tables.closed[state][x]}, {rule}, {place})'
                   for x, (rule, place) in reversed(tables.opened[state].items())]
         lines.append(f'    record {{ kernel = {listed(kernel)}; closed = {listed(closed)} }} ∷')
-    return '\n'.join(lines + ['    []', '', 'abbrev pub certificate : Certificate',
+    return '\n'.join(lines + ['    []', '', '-- all of it, with one less than the turns that a token pays for', 'abbrev pub certificate : Certificate',
                               f'certificate = record {{ most = {grammar.most}; facts = facts; samples = samples; states = states }}', ''])
 
 
 def write(tables, crate):
-    for name, text in [('src/rows.rt', rows_text(tables)), ('src/rules.rt', rules_text(tables.grammar)),
+    actions = [('src/actions.rt', actions_text(tables.grammar))] if any(tables.grammar.actions) else []
+    for name, text in [('src/rows.rt', rows_text(tables)), ('src/rules.rt', rules_text(tables.grammar)), *actions,
                        ('specs/Certificate.antt', certificate_text(tables))]:
         with open(f'{crate}/{name}', 'w') as file:
             file.write(text)
 
 
 def main(words):
-    tables = Tables(Grammar(open(words[0]).read()))
+    text = open(words[0]).read()
+    tables = Tables(Grammar(text[text.index('r"') + 2:text.rindex('"')] if words[0].endswith('.rt') else text))
     for conflict in tables.conflicts:
         print('conflict', conflict, file=sys.stderr)
     for lack in tables.missing():

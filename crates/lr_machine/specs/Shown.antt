@@ -1,5 +1,5 @@
 -- Tables in memory as those of lr_tables.
-use Rattle.std.specs.Prelude.{ℕ, ◌-◌, ◌/◌, ◌%◌, nat_eq, if◌then◌else◌, List, [], ◌∷◌}
+use Rattle.std.specs.Prelude.{ℕ, zero, suc, ◌-◌, ◌/◌, ◌%◌, nat_eq, if◌then◌else◌, List, [], ◌∷◌, ◌++◌, slice_index_or}
 use Rattle.lr_tables.specs.declared.step.Step.{Step}
 use Rattle.lr_tables.specs.declared.step.Step.TheVariants.{Fail, Go, Reduce, Accept}
 use Rattle.lr_tables.specs.Machine as machine
@@ -19,10 +19,22 @@ abbrev pub steps_of : List (List ℕ) → List (List Step)
 steps_of [] = []
 steps_of (ns ∷ rows) = row_of ns ∷ steps_of rows
 
+-- what the state of this number does at each nonterminal: a row of some, by its place there
+abbrev pub gotos_of : List (List ℕ) → List ℕ → ℕ → List ℕ
+gotos_of gotos [] s = []
+gotos_of gotos (p ∷ places) zero = slice_index_or gotos p []
+gotos_of gotos (p ∷ places) (suc s) = gotos_of gotos places s
+
+-- what each state does at each symbol: at the terminals, and behind them at the nonterminals
+abbrev pub rows_of : List (List ℕ) → List (List ℕ) → List ℕ → List (List ℕ)
+rows_of [] gotos places = []
+rows_of (row ∷ rows) gotos [] = row ∷ rows_of rows gotos []
+rows_of (row ∷ rows) gotos (p ∷ places) = (row ++ slice_index_or gotos p []) ∷ rows_of rows gotos places
+
 -- the tables in memory as those of the definitions
-abbrev pub shown : {C : ℕ} → Tables C → machine.Tables
+abbrev pub shown : {T : ℕ} {N : ℕ} → Tables T N → machine.Tables
 shown t = record {
   grammar = record { terminals = t.terminals; start = t.start; rules = t.rules.now; lefts = t.lefts.now; rights = t.rights.now };
-  rows = steps_of t.rows.now;
+  rows = steps_of (rows_of t.rows.now t.gotos.now t.goto_of.now);
   accesses = t.accesses.now;
 }

@@ -1,6 +1,6 @@
 //! The whole of the machine.
 
-ghost use Rattle.std.specs.Prelude.{◌≡◌, ◌<◌, [], MatchResult};
+ghost use Rattle.std.specs.Prelude.{◌≡◌, ◌<◌, ◌+◌, [], MatchResult};
 ghost use Rattle.lr_tables.specs.Grammars.{IsOnly, IsFirstWrong};
 ghost use Rattle.lr_tables.specs.Laws.{AreChecked};
 ghost use Rattle.lr_tables.specs.Machine.{Read, run};
@@ -30,12 +30,12 @@ pub enum ReadError {
 }
 
 /// What the machine comes to, whatever the tables are.
-pub fn read<const C: usize>(
+pub fn read<const T: usize, const N: usize>(
     alloc: Global,
-    tables: &Tables<C>,
+    tables: &Tables<T, N>,
     kinds: &[u16],
 ) -> Result<Vec<Event>, ReadError>
-    requires { C < 65536 }
+    requires { T + N < 65536 }
     ensures { MatchResult result
         (λ events. run (shown tables.now) TURNS [] kinds.now ≡ Read events.items)
         (λ error. IsRefused error (StopsAt (run (shown tables.now) TURNS [] kinds.now) kinds.now)) }
@@ -62,12 +62,12 @@ pub fn read<const C: usize>(
 
 /// What is told of the only derivation of the tokens, or the place of the first one that no
 /// sentence goes on with, where the tables pass their check.
-pub fn parse<const C: usize>(
+pub fn parse<const T: usize, const N: usize>(
     alloc: Global,
-    tables: &Tables<C>,
+    tables: &Tables<T, N>,
     kinds: &[u16],
 ) -> Result<Vec<Event>, ReadError>
-    requires columns { C < 65536 }
+    requires symbols { T + N < 65536 }
     requires checked { AreChecked (shown tables.now) }
     ensures { MatchResult result
         (λ events. IsOnly (shown tables.now).grammar kinds.now events.items)

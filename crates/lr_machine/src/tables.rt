@@ -1,17 +1,21 @@
 //! Tables in memory.
 
-ghost use Rattle.std.specs.Prelude.{◌≡◌, ◌<◌, [], slice_index_or};
+ghost use Rattle.std.specs.Prelude.{◌≡◌, ◌<◌, ◌+◌, [], slice_index_or};
 ghost use Rattle.lr_tables.specs.Grammars as grammars;
 ghost use Rattle.lr_tables.specs.Machine as machine;
-ghost use Rattle.lr_machine.specs.Shown.{shown, step_for};
+ghost use Rattle.lr_machine.specs.Shown.{shown, gotos_of, rows_of, step_for};
 
 use lr_tables::{Rule, Step};
 
-/// The tables of a grammar of so many symbols.
+/// The tables of a grammar of so many terminals and nonterminals.
 #[derive(Clone, Copy)]
-pub struct Tables<'a, const C: usize> {
-    /// What each state does at each symbol, as a number: see `step_of`.
-    pub rows: &'a [[u16; C]],
+pub struct Tables<'a, const T: usize, const N: usize> {
+    /// What each state does at each terminal, as a number: see `step_of`.
+    pub rows: &'a [[u16; T]],
+    /// What some states do at each nonterminal, each row once.
+    pub gotos: &'a [[u16; N]],
+    /// Which of these rows is that of each state.
+    pub goto_of: &'a [u16],
     /// The symbol that leads to each state.
     pub accesses: &'a [u16],
     /// The rules of the grammar.
@@ -45,30 +49,64 @@ pub fn step_of(code: u16) -> Step
     }
 }
 
+// The number of what a row says at a place, and 0 behind its end.
+fn code_in(row: &[u16], place: usize) -> u16
+    ensures { result ≡ slice_index_or row.now place 0 }
+{
+    match row.get(place) {
+        Some(code) => *code,
+        None => 0,
+    }
+}
+
+// What a state does at each nonterminal, and nothing where no row says so.
+fn gotos_at<'a, const T: usize, const N: usize>(tables: &Tables<'a, T, N>, state: u16) -> &'a [u16]
+    requires { T + N < 65536 }
+    ensures { result.now ≡ gotos_of tables.now.gotos.now tables.now.goto_of.now state }
+{
+    match tables.goto_of.get(state as usize) {
+        Some(place) => match tables.gotos.get(*place as usize) {
+            Some(row) => row,
+            None => &[],
+        },
+        None => &[],
+    }
+}
+
 // The number of what a state does at a symbol.
-fn code_at<const C: usize>(tables: &Tables<C>, state: u16, symbol: u16) -> u16
-    requires { C < 65536 }
-    ensures { result ≡ slice_index_or (slice_index_or tables.now.rows.now state []) symbol 0 }
+fn code_at<const T: usize, const N: usize>(tables: &Tables<T, N>, state: u16, symbol: u16) -> u16
+    requires { T + N < 65536 }
+    ensures { result ≡ slice_index_or (slice_index_or (rows_of tables.now.rows.now
+        tables.now.gotos.now tables.now.goto_of.now) state []) symbol 0 }
 {
     match tables.rows.get(state as usize) {
-        Some(row) => match row.get(symbol as usize) {
-            Some(code) => *code,
-            None => 0,
-        },
+        Some(row) => {
+            let codes: &[u16] = row;
+            let place = symbol as usize;
+            if place < codes.len() {
+                code_in(codes, place)
+            } else {
+                code_in(gotos_at(tables, state), place - codes.len())
+            }
+        }
         None => 0,
     }
 }
 
 /// What a state does at a symbol.
-pub fn entry<const C: usize>(tables: &Tables<C>, state: u16, symbol: u16) -> Step
-    requires { C < 65536 }
+pub fn entry<const T: usize, const N: usize>(tables: &Tables<T, N>, state: u16, symbol: u16) -> Step
+    requires { T + N < 65536 }
     ensures { result ≡ machine.entry (shown tables.now) state symbol }
 {
     step_of(code_at(tables, state, symbol))
 }
 
 /// Whether the rule does not stand behind this symbol.
-pub fn is_barred<const C: usize>(tables: &Tables<C>, rule: &Rule, symbol: u16) -> bool
+pub fn is_barred<const T: usize, const N: usize>(
+    tables: &Tables<T, N>,
+    rule: &Rule,
+    symbol: u16,
+) -> bool
     ensures { result ≡ grammars.is_barred (shown tables.now).grammar rule.now symbol }
 {
     let power = match tables.rights.get(symbol as usize) {
@@ -79,7 +117,7 @@ pub fn is_barred<const C: usize>(tables: &Tables<C>, rule: &Rule, symbol: u16) -
 }
 
 /// The symbol that leads to a state.
-pub fn access<const C: usize>(tables: &Tables<C>, state: u16) -> u16
+pub fn access<const T: usize, const N: usize>(tables: &Tables<T, N>, state: u16) -> u16
     ensures { result ≡ machine.access (shown tables.now) state }
 {
     match tables.accesses.get(state as usize) {

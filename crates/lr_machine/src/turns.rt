@@ -1,6 +1,6 @@
 //! The turns of the machine.
 
-ghost use Rattle.std.specs.Prelude.{◌≡◌, ◌<◌, ◌∷◌, IfOk, if◌then◌else◌, List, ℕ, Some, None};
+ghost use Rattle.std.specs.Prelude.{◌≡◌, ◌<◌, ◌+◌, ◌∷◌, IfOk, if◌then◌else◌, List, ℕ, Some, None};
 ghost use Rattle.lr_tables.specs.Grammars.{named};
 ghost use Rattle.lr_tables.specs.Machine as machine;
 ghost use Rattle.lr_tables.specs.declared.event.Event.{Event};
@@ -53,7 +53,11 @@ fn top(states: &Stack<u16>) -> u16
 }
 
 // One symbol that stands on the stack.
-fn pop_one<const C: usize>(tables: &Tables<C>, symbol: u16, states: &mut Stack<u16>) -> bool
+fn pop_one<const T: usize, const N: usize>(
+    tables: &Tables<T, N>,
+    symbol: u16,
+    states: &mut Stack<u16>,
+) -> bool
     ensures { (xs : List ℕ) → machine.pops (shown tables.now) (symbol ∷ xs) states.old
         ≡ (if result then machine.pops (shown tables.now) xs states.new else None) }
 {
@@ -64,7 +68,11 @@ fn pop_one<const C: usize>(tables: &Tables<C>, symbol: u16, states: &mut Stack<u
 }
 
 // Takes symbols that stand on the stack.
-fn pops<const C: usize>(tables: &Tables<C>, back: &[u16], states: &mut Stack<u16>) -> bool
+fn pops<const T: usize, const N: usize>(
+    tables: &Tables<T, N>,
+    back: &[u16],
+    states: &mut Stack<u16>,
+) -> bool
     ensures { machine.pops (shown tables.now) (named back.now) states.old
         ≡ (if result then Some states.new else None) }
 {
@@ -80,8 +88,8 @@ fn pops<const C: usize>(tables: &Tables<C>, back: &[u16], states: &mut Stack<u16
 }
 
 // The state goes onto the stack, and the next token is read.
-fn shift<'a, const C: usize>(
-    tables: &Tables<C>,
+fn shift<'a, const T: usize, const N: usize>(
+    tables: &Tables<T, N>,
     state: u16,
     rest: &'a [u16],
     reader: &mut Reader,
@@ -104,14 +112,14 @@ fn shift<'a, const C: usize>(
 }
 
 // The left side of a rule goes onto the stack, whose right side is off it.
-fn put<'a, const C: usize>(
-    tables: &Tables<C>,
+fn put<'a, const T: usize, const N: usize>(
+    tables: &Tables<T, N>,
     rule: u16,
     found: &Rule,
     rest: &'a [u16],
     reader: &mut Reader,
 ) -> Result<Turn<'a>, NoMemory>
-    requires { C < 65536 }
+    requires { T + N < 65536 }
     ensures { IfOk result (λ turn. Turns turn rest.now reader.old reader.new (λ next.
         machine.replaced (shown tables.now) next rule found.now (Some reader.old.states) rest.now)) }
 {
@@ -129,13 +137,13 @@ fn put<'a, const C: usize>(
 }
 
 // The right side of a rule goes from the stack, and its left side onto it.
-fn reduce<'a, const C: usize>(
-    tables: &Tables<C>,
+fn reduce<'a, const T: usize, const N: usize>(
+    tables: &Tables<T, N>,
     rule: u16,
     rest: &'a [u16],
     reader: &mut Reader,
 ) -> Result<Turn<'a>, NoMemory>
-    requires { C < 65536 }
+    requires { T + N < 65536 }
     ensures { IfOk result (λ turn. Turns turn rest.now reader.old reader.new (λ next.
         machine.acted (shown tables.now) next (Reduce rule) reader.old.states rest.now)) }
 {
@@ -151,7 +159,11 @@ fn reduce<'a, const C: usize>(
 }
 
 // All is read, where nothing is left and the start alone stands on the stack.
-fn accept<'a, const C: usize>(tables: &Tables<C>, rest: &'a [u16], reader: &mut Reader) -> Turn<'a>
+fn accept<'a, const T: usize, const N: usize>(
+    tables: &Tables<T, N>,
+    rest: &'a [u16],
+    reader: &mut Reader,
+) -> Turn<'a>
     ensures { Turns result rest.now reader.old reader.new
         (λ next. machine.accepted (shown tables.now) next reader.old.states rest.now) }
 {
@@ -174,12 +186,12 @@ fn accept<'a, const C: usize>(tables: &Tables<C>, rest: &'a [u16], reader: &mut 
 }
 
 /// One turn.
-pub fn go_on<'a, const C: usize>(
-    tables: &Tables<C>,
+pub fn go_on<'a, const T: usize, const N: usize>(
+    tables: &Tables<T, N>,
     rest: &'a [u16],
     reader: &mut Reader,
 ) -> Result<Turn<'a>, NoMemory>
-    requires { C < 65536 }
+    requires { T + N < 65536 }
     ensures { IfOk result (λ turn. Turns turn rest.now reader.old reader.new
         (λ next. machine.acted (shown tables.now) next (machine.entry (shown tables.now)
         (machine.top reader.old.states) (machine.head rest.now)) reader.old.states rest.now)) }

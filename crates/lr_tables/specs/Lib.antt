@@ -4,3 +4,4 @@ pub mod Certificates
 pub mod Checks
 pub mod FrontChecks
 pub mod Laws
+pub mod Values

@@ -2,12 +2,15 @@
 use Rattle.std.specs.Prelude.{ℕ, Bool, true, false, List, [], ◌∷◌}
 use Rattle.lr_tables.specs.Certificates.{State, Certificate}
 
+-- of each nonterminal: the terminals that it may begin with, as bits, whether it may be empty, and a weight
 abbrev pub facts : List (ℕ × Bool × ℕ)
 facts = (114854, true, 6) ∷ (114854, true, 5) ∷ (114854, false, 0) ∷ (8, true, 5) ∷ (114720, false, 2) ∷ (114720, false, 1) ∷ (114720, true, 5) ∷ []
 
+-- of each nonterminal a rule, and tokens that it derives by this rule
 abbrev pub samples : List (ℕ × ℕ × List ℕ)
 samples = (21, 9, 15 ∷ []) ∷ (17, 0, []) ∷ (23, 20, []) ∷ (22, 16, 15 ∷ []) ∷ (20, 7, []) ∷ (19, 6, 7 ∷ 8 ∷ []) ∷ (18, 1, []) ∷ []
 
+-- of each state its items behind a first symbol, and the nonterminals that begin there, each with what may follow
 abbrev pub states : List State
 states =
     record { kernel = []; closed = (18, 114855, 0, 0) ∷ (17, 1, 22, 0) ∷ [] } ∷
@@ -54,5 +57,6 @@ states =
     record { kernel = (8, 2, 115119) ∷ []; closed = [] } ∷
     []
 
+-- all of it, with one less than the turns that a token pays for
 abbrev pub certificate : Certificate
 certificate = record { most = 4; facts = facts; samples = samples; states = states }

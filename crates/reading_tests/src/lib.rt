@@ -7,6 +7,8 @@
 
 #[cfg(test)]
 mod forms;
+#[cfg(test)]
+mod grammar_text;
 mod reading;
 mod rows;
 mod rules;

@@ -6,18 +6,20 @@ ghost use Rattle.lr_machine.specs.Refusals.{IsRefused};
 ghost use Rattle.lr_machine.specs.Shown.{shown};
 ghost use Rattle.reading_tests.specs.Small.{small};
 
-use crate::rows::{ACCESSES, ROWS};
+use crate::rows::{ACCESSES, GOTO_OF, GOTOS, ROWS};
 use crate::rules::{LEFTS, RIGHTS, RULES, START, TERMINALS};
 use lr_machine::{ReadError, Tables, parse};
 use lr_tables::Event;
 use std::alloc::Global;
 
 /// The tables.
-pub fn tables() -> Tables<'static, 24>
+pub fn tables() -> Tables<'static, 17, 7>
     ensures { shown result ≡ small }
 {
     Tables {
         rows: &ROWS,
+        gotos: &GOTOS,
+        goto_of: &GOTO_OF,
         accesses: &ACCESSES,
         rules: &RULES,
         lefts: &LEFTS,
