@@ -1,0 +1,9 @@
+pub mod Spelling
+pub mod Classes
+pub mod NameForms
+pub mod Characters
+pub mod OneCharacter
+pub mod UpTo
+pub mod Comments
+pub mod Sections
+pub mod Instructions

@@ -1,0 +1,9 @@
+//! The pieces of a page as expressions over bytes.
+//! Promise: the form of a kind of piece matches exactly the bytes of the lawful pieces of that kind
+//! (`IsFormOf` of specs/Laws).
+//! Used by: none yet.
+#![tactic(auto)]
+
+mod laws;
+
+pub use laws::{comments_are_spelled, instructions_are_spelled, sections_are_spelled};
