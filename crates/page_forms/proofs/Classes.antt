@@ -163,6 +163,7 @@ made_below test (suc n) (Some last) e {w} l f =
     at false h g k = k (closed h f)
 
 pub spells_ascii : (test : ℕ → Bool) → Spells (ascii test) (One (λ c. nat_lt c 128 && test c))
+unfolding ascii
 spells_ascii test = record { shown = λ w d. shown_at (shown_below test 128 None nothing d); made = λ cs o. made_at cs o }
   where
     shown_at : {w : List ℕ} → Found test 128 None nothing w → Spelled (One (λ c. nat_lt c 128 && test c)) w

@@ -7,3 +7,10 @@ pub mod UpTo
 pub mod Comments
 pub mod Sections
 pub mod Instructions
+pub mod Numbers
+pub mod CharacterNumbers
+pub mod WordForms
+pub mod ReferenceForms
+pub mod DoctypeForms
+pub mod SimpleForms
+pub mod GoingOn

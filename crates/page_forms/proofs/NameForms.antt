@@ -9,6 +9,7 @@ use Rattle.xml_text.specs.Characters.{is_blank}
 use Rattle.xml_text.specs.Names.{begins_name, in_name, is_name}
 use Rattle.derivatives.specs.Expressions.{Expr, empty, star, Matches, is_empty}
 use Rattle.derivatives.specs.Derivatives.{chain_of}
+use Rattle.page_model.specs.Prolog.{IsSpace}
 use Rattle.page_forms.specs.Words.{ascii, blanks, gap, name_form}
 use Rattle.page_forms.proofs.Classes.{spells_ascii}
 use Rattle.page_forms.proofs.Spelling.{Spells, Spelled, One, Chained, spells_chain, spells_all, spells_as}
@@ -70,21 +71,16 @@ begins_in c p = grind (arith, nat_tests)
 pub spells_blanks : Spells blanks (λ cs. list_all is_blank cs ≡ true)
 spells_blanks = spells_all spells_blank
 
--- some white space
-pub record Gap (cs : List ℕ) : Type 0 where
-  pub some : cs ≡ [] → ⊥
-  pub blank : list_all is_blank cs ≡ true
-
-pub spells_gap : Spells gap Gap
+pub spells_gap : Spells gap IsSpace
 spells_gap = spells_as (spells_first_and spells_blank spells_blank) into from
   where
     some : (c : ℕ) (cs : List ℕ) → c ∷ cs ≡ [] → ⊥
     some c cs e = cc
 
-    into : (cs : List ℕ) → FirstAnd is_blank is_blank cs → Gap cs
-    into cs f = subst Gap f.is (record { some = some f.head f.tail; blank = and_from (is_blank f.head) (list_all is_blank f.tail) f.head_passes f.tail_passes })
+    into : (cs : List ℕ) → FirstAnd is_blank is_blank cs → IsSpace cs
+    into cs f = subst IsSpace f.is (record { some = some f.head f.tail; blank = and_from (is_blank f.head) (list_all is_blank f.tail) f.head_passes f.tail_passes })
 
-    from : (cs : List ℕ) → Gap cs → FirstAnd is_blank is_blank cs
+    from : (cs : List ℕ) → IsSpace cs → FirstAnd is_blank is_blank cs
     from [] g = absurd (g.some refl)
     from (c ∷ cs) g = let p = and_parts (is_blank c) (list_all is_blank cs) g.blank in record { head = c; tail = cs; head_passes = p.0; tail_passes = p.1; is = refl }
 

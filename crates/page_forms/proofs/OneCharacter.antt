@@ -15,7 +15,7 @@ use Rattle.page_forms.proofs.Classes.{Between, range_shown, spells_ascii}
 use Rattle.page_forms.proofs.Spelling.{Spells, Spelled, One, joins_is, spells_as, spells_either}
 
 -- the bytes lie in these ranges, one in each
-abbrev AreIn : List (ℕ × ℕ) → List ℕ → Type 0
+abbrev pub AreIn : List (ℕ × ℕ) → List ℕ → Type 0
 AreIn [] [] = Unit {0}
 AreIn [] (b ∷ bs) = ⊥
 AreIn (r ∷ rs) [] = ⊥
@@ -38,11 +38,11 @@ turn_made (r ∷ rs) (b ∷ bs) p =
     (is_chain (on at_once) (is_byte (and_from (nat_le r.0 b) (nat_le b r.1) (le-leb r.0 b p.0) (le-leb b r.1 p.1))) (turn_made rs bs p.2))
 
 -- by one of the rows
-abbrev InRows : List (List (ℕ × ℕ)) → List ℕ → Type 0
+abbrev pub InRows : List (List (ℕ × ℕ)) → List ℕ → Type 0
 InRows [] w = ⊥
 InRows (row ∷ rows) w = AreIn row w ⊎ InRows rows w
 
-rows_shown : (rows : List (List (ℕ × ℕ))) {w : List ℕ} → Matches (by_rows rows) w → InRows rows w
+pub rows_shown : (rows : List (List (ℕ × ℕ))) {w : List ℕ} → Matches (by_rows rows) w → InRows rows w
 rows_shown [] d = elim d [ ]
 rows_shown (row ∷ rows) d = at (either_shown (in_turn row) (by_rows rows) d) (λ v f. rows_shown rows f)
   where
@@ -50,7 +50,7 @@ rows_shown (row ∷ rows) d = at (either_shown (in_turn row) (by_rows rows) d) (
     at (is_left d) rest = inl (turn_shown row d)
     at (is_right {w = w} d) rest = inr (rest w d)
 
-rows_made : (rows : List (List (ℕ × ℕ))) (w : List ℕ) → InRows rows w → Matches (by_rows rows) w
+pub rows_made : (rows : List (List (ℕ × ℕ))) (w : List ℕ) → InRows rows w → Matches (by_rows rows) w
 rows_made [] w p = absurd p
 rows_made (row ∷ rows) w (inl p) = either_made (in_turn row) (by_rows rows) (is_left (turn_made row w p))
 rows_made (row ∷ rows) w (inr p) = either_made (in_turn row) (by_rows rows) (is_right (rows_made rows w p))
@@ -58,11 +58,11 @@ rows_made (row ∷ rows) w (inr p) = either_made (in_turn row) (by_rows rows) (i
 -- From bytes to a character.
 
 -- the bytes of a character beyond ASCII
-record IsBeyond (w : List ℕ) : Type 0 where
-  code : ℕ
-  beyond : 128 ≤ code
-  is : is_character code ≡ true
-  bytes : encode_utf8 code ≡ w
+pub record IsBeyond (w : List ℕ) : Type 0 where
+  pub code : ℕ
+  pub beyond : 128 ≤ code
+  pub is : is_character code ≡ true
+  pub bytes : encode_utf8 code ≡ w
 
 several : {b c : ℕ} {w : List ℕ} → IsOfCharacter (b ∷ c ∷ w) → IsBeyond (b ∷ c ∷ w)
 several {b} {c} {w} p = record { code = p.code; beyond = at (cases_lt p.code 128); is = p.is; bytes = p.bytes }
@@ -71,13 +71,13 @@ several {b} {c} {w} p = record { code = p.code; beyond = at (cases_lt p.code 128
     at (inl l) = let z : p.code ∷ [] ≡ b ∷ c ∷ w = sym (encode_ascii p.code l) ∙ p.bytes in cc
     at (inr l) = l
 
-in_two : (r s : ℕ × ℕ) → ((b c : ℕ) → r.0 ≤ b → b ≤ r.1 → s.0 ≤ c → c ≤ s.1 → IsOfCharacter (b ∷ c ∷ [])) → (w : List ℕ) → AreIn (r ∷ s ∷ []) w → IsBeyond w
+pub in_two : (r s : ℕ × ℕ) → ((b c : ℕ) → r.0 ≤ b → b ≤ r.1 → s.0 ≤ c → c ≤ s.1 → IsOfCharacter (b ∷ c ∷ [])) → (w : List ℕ) → AreIn (r ∷ s ∷ []) w → IsBeyond w
 in_two r s f [] p = absurd p
 in_two r s f (b ∷ []) p = absurd p.2
 in_two r s f (b ∷ c ∷ []) p = several (f b c p.0 p.1 p.2.0 p.2.1)
 in_two r s f (b ∷ c ∷ d ∷ w) p = absurd p.2.2
 
-in_three : (r s t : ℕ × ℕ) → ((b c d : ℕ) → r.0 ≤ b → b ≤ r.1 → s.0 ≤ c → c ≤ s.1 → t.0 ≤ d → d ≤ t.1 → IsOfCharacter (b ∷ c ∷ d ∷ [])) → (w : List ℕ) → AreIn (r ∷ s ∷ t ∷ []) w → IsBeyond w
+pub in_three : (r s t : ℕ × ℕ) → ((b c d : ℕ) → r.0 ≤ b → b ≤ r.1 → s.0 ≤ c → c ≤ s.1 → t.0 ≤ d → d ≤ t.1 → IsOfCharacter (b ∷ c ∷ d ∷ [])) → (w : List ℕ) → AreIn (r ∷ s ∷ t ∷ []) w → IsBeyond w
 in_three r s t f [] p = absurd p
 in_three r s t f (b ∷ []) p = absurd p.2
 in_three r s t f (b ∷ c ∷ []) p = absurd p.2.2
@@ -93,7 +93,7 @@ in_four r s t u f (b ∷ c ∷ d ∷ []) p = absurd p.2.2.2
 in_four r s t u f (b ∷ c ∷ d ∷ e ∷ []) p = several (f b c d e p.0 p.1 p.2.0 p.2.1 p.2.2.0 p.2.2.1 p.2.2.2.0 p.2.2.2.1)
 in_four r s t u f (b ∷ c ∷ d ∷ e ∷ g ∷ w) p = absurd p.2.2.2.2
 
-high_shown : (w : List ℕ) → InRows high_rows w → IsBeyond w
+pub high_shown : (w : List ℕ) → InRows high_rows w → IsBeyond w
 high_shown w (inl p) = in_four (0xF0, 0xF0) (0x90, 0xBF) later_byte later_byte of_f0 w p
 high_shown w (inr (inl p)) = in_four (0xF1, 0xF3) later_byte later_byte later_byte of_f1 w p
 high_shown w (inr (inr (inl p))) = in_four (0xF4, 0xF4) (0x80, 0x8F) later_byte later_byte of_f4 w p
@@ -117,13 +117,13 @@ All w = InRows (low_rows ++ (middle_rows ++ high_rows)) w
 two_made : (c : ℕ) → 128 ≤ c → c < 2048 → All ((192 + c / 64) ∷ (128 + c % 64) ∷ [])
 two_made c l h = inl (omega arith, omega arith, (omega arith, omega arith, tt))
 
-no_surrogate : (c : ℕ) → is_character c ≡ true → 0xD800 ≤ c → 0xE000 ≤ c
+pub no_surrogate : (c : ℕ) → is_character c ≡ true → 0xD800 ≤ c → 0xE000 ≤ c
 no_surrogate c h l = grind (arith, nat_tests)
 
-no_last : (c : ℕ) → is_character c ≡ true → c < 65536 → c ≤ 0xFFFD
+pub no_last : (c : ℕ) → is_character c ≡ true → c < 65536 → c ≤ 0xFFFD
 no_last c h l = grind (arith, nat_tests)
 
-at_most : (c : ℕ) → is_character c ≡ true → c ≤ 0x10FFFF
+pub at_most : (c : ℕ) → is_character c ≡ true → c ≤ 0x10FFFF
 at_most c h = grind (arith, nat_tests)
 
 below_surrogates : (c b x : ℕ) → is_character c ≡ true → b ≡ 224 + c / 4096 → x ≡ 128 + c / 64 % 64 → 0xED ≤ b → b < 0xEE → x ≤ 0x9F
@@ -175,7 +175,7 @@ four_made c b x d e least most bi xi di ei =
       ]
     ]
 
-beyond_made : (c : ℕ) → 128 ≤ c → is_character c ≡ true → All (encode_utf8 c)
+pub beyond_made : (c : ℕ) → 128 ≤ c → is_character c ≡ true → All (encode_utf8 c)
 unfolding encode_utf8
 beyond_made c least is =
     cond_both (nat_lt c 128) _ _ All

@@ -47,6 +47,10 @@ pub record Chained (A B : List ℕ → Type 0) (cs : List ℕ) : Type 0 where
   pub goes_on : B second
   pub is : first ++ second ≡ cs
 
+-- both parts are told by what they are
+pub put_together : {a b c d w : List ℕ} → a ≡ c → b ≡ d → c ++ d ≡ w → a ++ b ≡ w
+put_together p q r = ap2 (λ (x y : List ℕ). x ++ y) p q ∙ r
+
 joined : {A B : List ℕ → Type 0} {u v w : List ℕ} → Joins u v w → Spelled A u → Spelled B v → Spelled (Chained A B) w
 joined j p q = record {
   characters = p.characters ++ q.characters;
@@ -117,6 +121,13 @@ run_all test (c ∷ cs) h = let p = and_parts (test c) (list_all test cs) h in f
 pub spells_all : {x : Expr} {test : ℕ → Bool} → Spells x (One test) → Spells (star x) (λ cs. list_all test cs ≡ true)
 spells_all {test = test} s = spells_as (spells_star s) (λ cs r. all_run test r) (λ cs h. run_all test cs h)
 
+-- a character before others, taken apart and put together
+pub led_into : {test : ℕ → Bool} {L : List ℕ → Type 0} (Q : List ℕ → Type 0) → ((c : ℕ) (rest : List ℕ) → test c ≡ true → L rest → Q (c ∷ rest)) → (cs : List ℕ) → Chained (One test) L cs → Q cs
+led_into Q f cs k = let o = k.begins in subst Q (ap (λ (z : List ℕ). z ++ k.second) o.is ∙ k.is) (f o.character k.second o.passes k.goes_on)
+
+pub led : {test : ℕ → Bool} {L : List ℕ → Type 0} (c : ℕ) (cs : List ℕ) → test c ≡ true → L cs → Chained (One test) L (c ∷ cs)
+led c cs h l = record { first = c ∷ []; second = cs; begins = record { character = c; passes = h; is = refl }; goes_on = l; is = refl }
+
 -- Words.
 
 byte_shown : (b : ℕ) {w : List ℕ} → Matches (range b b) w → w ≡ b ∷ []
@@ -128,14 +139,14 @@ byte_shown b (is_byte {b = c} h) = let p : c ≡ b = same b c h in ap (λ (z : �
 own : (b : ℕ) → lies b b b ≡ true
 own b = and_from (nat_le b b) (nat_le b b) (le-leb b b (omega arith)) (le-leb b b (omega arith))
 
-word_shown : (bs : List ℕ) {w : List ℕ} → Matches (word bs) w → w ≡ bs
+pub word_shown : (bs : List ℕ) {w : List ℕ} → Matches (word bs) w → w ≡ bs
 word_shown [] is_empty = refl
 word_shown (b ∷ bs) d = at (chain_shown (range b b) (word bs) d) (λ v e. word_shown bs e)
   where
     at : {w : List ℕ} → Matches (chain (range b b) (word bs)) w → ((v : List ℕ) → Matches (word bs) v → v ≡ bs) → w ≡ b ∷ bs
     at (is_chain {v = v} j d f) rest = sym (joins_is j) ∙ ap2 (λ (x y : List ℕ). x ++ y) (byte_shown b d) (rest v f)
 
-word_made : (bs : List ℕ) → Matches (word bs) bs
+pub word_made : (bs : List ℕ) → Matches (word bs) bs
 word_made [] = is_empty
 word_made (b ∷ bs) = chain_made (range b b) (word bs) (is_chain (on at_once) (is_byte (own b)) (word_made bs))
 

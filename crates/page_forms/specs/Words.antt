@@ -24,7 +24,7 @@ ranges_below test (suc n) (Some last) e =
     if test n then ranges_below test n (Some last) e else ranges_below test n None (either_of (range (suc n) last) e)
 
 -- a byte of ASCII that passes a test
-abbrev pub ascii : (ℕ → Bool) → Expr
+unfoldable pub ascii : (ℕ → Bool) → Expr
 ascii test = ranges_below test 128 None nothing
 
 -- from each of these ranges one byte, in their order

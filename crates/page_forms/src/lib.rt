@@ -6,4 +6,8 @@
 
 mod laws;
 
-pub use laws::{comments_are_spelled, instructions_are_spelled, sections_are_spelled};
+pub use laws::{
+    blanks_are_spelled, comments_are_spelled, doctypes_are_spelled, end_tags_are_spelled,
+    instructions_are_spelled, mark_is_spelled, none_goes_on, references_are_spelled,
+    sections_are_spelled, text_is_spelled,
+};
