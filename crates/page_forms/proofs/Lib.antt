@@ -1,0 +1,16 @@
+pub mod Spelling
+pub mod Classes
+pub mod NameForms
+pub mod Characters
+pub mod OneCharacter
+pub mod UpTo
+pub mod Comments
+pub mod Sections
+pub mod Instructions
+pub mod Numbers
+pub mod CharacterNumbers
+pub mod WordForms
+pub mod ReferenceForms
+pub mod DoctypeForms
+pub mod SimpleForms
+pub mod GoingOn

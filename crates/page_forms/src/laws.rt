@@ -1,0 +1,53 @@
+//! The laws. Each function does nothing, and stands for the law that its contract states.
+
+ghost use Rattle.page_forms.specs.Laws.{BlanksAreSpelled, CommentsAreSpelled, DoctypesAreSpelled, EndTagsAreSpelled, InstructionsAreSpelled, MarkIsSpelled, NoneGoesOn, ReferencesAreSpelled, SectionsAreSpelled, TextIsSpelled};
+
+/// Comments (XML 1.0, 2.5).
+pub fn comments_are_spelled()
+    ensures { CommentsAreSpelled }
+{}
+
+/// CDATA sections (XML 1.0, 2.7).
+pub fn sections_are_spelled()
+    ensures { SectionsAreSpelled }
+{}
+
+/// Instructions (XML 1.0, 2.6).
+pub fn instructions_are_spelled()
+    ensures { InstructionsAreSpelled }
+{}
+
+/// References (XML 1.0, 4.1).
+pub fn references_are_spelled()
+    ensures { ReferencesAreSpelled }
+{}
+
+/// Document type declarations (XML 1.0, 2.8).
+pub fn doctypes_are_spelled()
+    ensures { DoctypesAreSpelled }
+{}
+
+/// White space (XML 1.0, 2.3).
+pub fn blanks_are_spelled()
+    ensures { BlanksAreSpelled }
+{}
+
+/// Other characters of text (XML 1.0, 2.4).
+pub fn text_is_spelled()
+    ensures { TextIsSpelled }
+{}
+
+/// The byte order mark (XML 1.0, 4.3.3).
+pub fn mark_is_spelled()
+    ensures { MarkIsSpelled }
+{}
+
+/// End tags (XML 1.0, 3.1).
+pub fn end_tags_are_spelled()
+    ensures { EndTagsAreSpelled }
+{}
+
+/// Where a form has ended, none goes on.
+pub fn none_goes_on()
+    ensures { NoneGoesOn }
+{}

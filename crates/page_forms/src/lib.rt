@@ -1,0 +1,13 @@
+//! The pieces of a page as expressions over bytes.
+//! Promise: the form of a kind of piece matches exactly the bytes of the lawful pieces of that kind
+//! (`IsFormOf` of specs/Laws).
+//! Used by: none yet.
+#![tactic(auto)]
+
+mod laws;
+
+pub use laws::{
+    blanks_are_spelled, comments_are_spelled, doctypes_are_spelled, end_tags_are_spelled,
+    instructions_are_spelled, mark_is_spelled, none_goes_on, references_are_spelled,
+    sections_are_spelled, text_is_spelled,
+};
