@@ -41,21 +41,21 @@ writes() { grep -qF -- "$1" "$room/$2" || wrong "$2 has no '$1'"; }
 
 # The program in the repository. The first call may build it, and says so; the second answers in under a second.
 
-cd "$site/form" || exit 1
-"$top/phpsa" check mended.php || wrong 'the first call'
+cd "$site" || exit 1
+"$top/phpsa" check form/mended/order.php || wrong 'the first call'
 began=$(date +%s%N)
-ends 0 "$top/phpsa" check mended.php
+ends 0 "$top/phpsa" check form/mended/order.php
 took=$((($(date +%s%N) - began) / 1000000))
 echo "a later call: $took ms"
 [ "$took" -lt 1000 ] || wrong 'a later call takes over a second'
 [ -s "$room/err" ] && wrong 'a later call writes to the error stream'
-ends 1 "$top/phpsa" check order.php
+ends 1 "$top/phpsa" check form/bug/order.php
 program=$("$top/phpsa" --program) || exit 1
 
 ln -s "$top/phpsa" "$room/by_link"
 ln -s by_link "$room/by_two"
-ends 0 "$room/by_two" check mended.php
-ends 0 sh "$top/phpsa" check mended.php
+ends 0 "$room/by_two" check form/mended/order.php
+ends 0 sh "$top/phpsa" check form/mended/order.php
 cd "$room" || exit 1
 
 # Where it cannot run it says why.
@@ -114,19 +114,19 @@ cat "$room/root/usr/lib/phpsa/PROVED"
 # answers PHPSA: asks this program for the answers of the examples
 answers() {
   local phpsa=$1
-  cd "$site/list" || exit 1
-  ends 1 "$phpsa" check guests.php
+  cd "$site" || exit 1
+  ends 1 "$phpsa" check list/bug/guests.php
   writes 'page 239' out
-  ends 0 "$phpsa" check mended.php
-  cd "$site/board" || exit 1
-  ends 1 "$phpsa" check board.php
-  ends 0 "$phpsa" check mended.php
-  cd "$site/form" || exit 1
-  ends 1 "$phpsa" check order.php
-  ends 0 "$phpsa" check mended.php
+  for page in */bug/*.php; do
+    case $page in first/*) continue ;; esac
+    ends 1 "$phpsa" check "$page"
+    ends 0 "$phpsa" check "${page/bug/mended}"
+  done
+  ends 1 "$phpsa" check first/bug/t.php --dtd mini
+  ends 0 "$phpsa" check first/mended/t.php --dtd mini
   cd "$room" || exit 1
   echo '{"get":{"guest":["Ann","B & C"]}}' >r.json
-  cp "$site/list/mended.php" here.php
+  cp "$site/list/mended/guests.php" here.php
   ends 0 "$phpsa" run here.php --request r.json
   writes '<li>B &amp; C</li>' out
   echo '<!ELEMENT html (#PCDATA)>' >small.dtd
@@ -188,11 +188,11 @@ jail=$room/jail
 libc=$(ldd "$inner" | awk '$1 == "libc.so.6" { print $3 }')
 loader=/lib64/ld-linux-x86-64.so.2
 mkdir -p "$jail/lib64" "$jail/$(dirname "$libc")" "$jail/pages"
-cp -L "$loader" "$jail/lib64/" && cp -L "$libc" "$jail/$libc" && cp "$inner" "$jail/phpsa" && cp "$site/list/"*.php "$jail/pages/"
+cp -L "$loader" "$jail/lib64/" && cp -L "$libc" "$jail/$libc" && cp "$inner" "$jail/phpsa" && cp -r "$site/list/." "$jail/pages/"
 if chroot "$jail" /phpsa make 1 >/dev/null 2>&1; then
-  ends 1 chroot "$jail" /phpsa check /pages/guests.php
+  ends 1 chroot "$jail" /phpsa check /pages/bug/guests.php
   writes 'page 239' out
-  ends 0 chroot "$jail" /phpsa check /pages/mended.php
+  ends 0 chroot "$jail" /phpsa check /pages/mended/guests.php
 else
   chroot / true 2>/dev/null && wrong 'the program does not run beside the C library alone'
   chroot / true 2>/dev/null || echo 'left out: chroot, which is not allowed here'
@@ -217,10 +217,10 @@ completes() {
   _phpsa 2>/dev/null
   [ "${COMPREPLY[*]}" = "$wanted" ] || wrong "bash completes '$*' to '${COMPREPLY[*]}'"
 }
-cd "$site/list" || exit 1
+cd "$site/list/mended" || exit 1
 completes check phpsa ch
 completes '--dtd --limit --nesting --json --root --help' phpsa check --
-completes 'strict mini guests.php mended.php' phpsa check --dtd =
+completes 'strict mini guests.php' phpsa check --dtd =
 completes guests.php phpsa run gu
 completes '--check --help' phpsa make --
 if command -v fish >/dev/null 2>&1; then
@@ -252,13 +252,30 @@ for number in 1 2; do
   pages=$room/pages$number
   mkdir -p "$pages/tools" "$room/temp$number"
   cp "$archive" "$pages/tools/"
-  cp "$site/list/mended.php" "$pages/list.php"
-  cp "$site/board/mended.php" "$pages/board.php"
+  cp "$site/list/mended/guests.php" "$pages/list.php"
+  cp -r "$site/board/mended/." "$site/form/mended/." "$pages/"
   cd "$pages" || exit 1
   RUNNER_TEMP=$room/temp$number ends 0 bash -eo pipefail "$room/step"
-  cp "$site/list/guests.php" "$pages/guests.php"
+  cp "$site/list/bug/guests.php" "$pages/guests.php"
   RUNNER_TEMP=$room/temp$number ends 1 bash -eo pipefail "$room/step"
   writes 'guests.php: no' out
+done
+
+# The commands of README: each answers as the comment beside it says, and the loop for a host passes over the mended sites.
+
+PATH=$(dirname "$installed"):$PATH
+cd "$top" || exit 1
+sed -n 's/^    \(phpsa check [^#]*\) *# \(yes\|no\)\b.*/\2 \1/p' README.md >"$room/said"
+[ "$(wc -l <"$room/said")" -gt 2 ] || wrong 'README has few commands'
+while read -r answer words; do
+  [ "$($words | head -n 1)" = "$answer" ] || wrong "README says '$answer' of '$words'"
+done <"$room/said"
+awk '/^    for page in/ { is_in = 1 } is_in { print substr($0, 5) } /^    done/ { is_in = 0 }' README.md >"$room/loop"
+for folder in "$site"/list "$site"/form "$site"/board; do
+  cd "$folder/mended" || exit 1
+  ends 0 bash -e "$room/loop"
+  cd "$folder/bug" || exit 1
+  ends 1 bash -e "$room/loop"
 done
 
 # The hook, with the installed program and with that of the repository.
@@ -274,7 +291,7 @@ ends 0 "$top/tools/check_pages" list.php
 if docker image inspect debian:bookworm-slim >/dev/null 2>&1; then
   mkdir "$room/image" && cp "$archive" "$top/Dockerfile" "$room/image/"
   ends 0 docker build -q -t phpsa-test "$room/image"
-  ends 1 docker run --rm --network none -v "$site/list:/pages:ro" phpsa-test check guests.php
+  ends 1 docker run --rm --network none -v "$site/list:/pages:ro" phpsa-test check bug/guests.php
   docker image rm phpsa-test >/dev/null
 else
   echo 'left out: the image, since docker or the image debian:bookworm-slim is not here'
