@@ -13,10 +13,10 @@ returns-in_err-dtd-clause-refused c =
     let is : c.from_residual.result ≡ Err c.in_err-dtd.field-0.0 = search rules in
     let same = alone_stays file_name c.args.text _ c.in_err-dtd.ensures.stays in
     subst (λ r. IfErr r (IsRefused c.args.text)) (sym is)
-    (_, subst (λ k. IsCause (source_call k 0 0 0 _) file_name c.in_err-dtd.field-0.0) same c.in_err-dtd.ensures.refused)
+    (c.read_dtd.new.files.misses, subst (λ k. IsCause (source_call k 0 0 0 c.read_dtd.new.files.misses) file_name c.in_err-dtd.field-0.0) same c.in_err-dtd.ensures.refused)
 
-pub returns-in_ok-dtd-clause-strict : goal.returns-in_ok-dtd-clause-strict
-returns-in_ok-dtd-clause-strict c =
+pub returns-clause-strict : goal.returns-clause-strict
+returns-clause-strict c =
     let same = alone_stays file_name c.args.text _ c.in_ok-dtd.ensures.stays in
     let p = subst (λ k. DtdSpells k file_name (table_of c.in_ok-dtd.dtd)) same c.in_ok-dtd.ensures.spelled in
     record {
