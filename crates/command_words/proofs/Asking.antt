@@ -56,7 +56,7 @@ canonical_asked row ps last is fits =
     asked_at row.word (row.word ∷ all_words ps last) (all_rows row.place ps last rules) (rows_are row k ps last fits)
     ∙ k.alike (values_of (all_rows row.place ps last rules)) (given row.place ps last) (record {
       texts = λ n e. value_is row.place ps last rules n (k.alone n e);
-      flags = λ n e. flag_is row.place ps last rules n k.none;
+      flags = λ n e. flag_is row.place ps last rules n k.unset;
     })
 
 pub canonical_first : (row : Command) (ps : List Part) (last : Option Text) → IsAmong row commands → AreCanonical row ps last → asked_first (row.word ∷ all_words ps last) ≡ None

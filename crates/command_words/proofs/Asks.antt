@@ -15,7 +15,7 @@ asks_first words for is = inl is
 
 pub asks_so : (words : List Text) (for : Asked) → asked_first words ≡ None → AreTaken words → asked words ≡ Some for → Asks words for
 unfolding Asks
-asks_so words for first taken is = inr (first, (taken, is))
+asks_so words for first taken is = inr (first, taken, is)
 
 pub refused_words : (words : List Text) → asked_first words ≡ None → (AreTaken words → ⊥) → AsksNothing words
 unfolding AsksNothing
@@ -31,15 +31,15 @@ both o for some none = let same : None ≡ Some for = sym none ∙ some in cc
 pub same_asked : (words : List Text) (for other : Asked) → Asks words for → Asks words other → for ≡ other
 unfolding Asks
 same_asked words for other (inl is) (inl is') = same_Some for other (sym is ∙ is')
-same_asked words for other (inl is) (inr (first, more)) = both (asked_first words) for is first
-same_asked words for other (inr (first, more)) (inl is) = both (asked_first words) other is first
-same_asked words for other (inr (first, (taken, is))) (inr (first', (taken', is'))) = same_Some for other (sym is ∙ is')
+same_asked words for other (inl is) (inr (first, taken, said)) = both (asked_first words) for is first
+same_asked words for other (inr (first, taken, said)) (inl is) = both (asked_first words) other is first
+same_asked words for other (inr (first, taken, is)) (inr (first', taken', is')) = same_Some for other (sym is ∙ is')
 
 pub never_both : (words : List Text) (for : Asked) → Asks words for → AsksNothing words → ⊥
 unfolding Asks AsksNothing
 never_both words for (inl is) (first, nothing) = both (asked_first words) for is first
-never_both words for (inr (first, (taken, is))) (first', inl never) = never taken
-never_both words for (inr (first, (taken, is))) (first', inr none) = both (asked words) for is none
+never_both words for (inr (first, taken, is)) (first', inl never) = never taken
+never_both words for (inr (first, taken, is)) (first', inr none) = both (asked words) for is none
 
 pub canonical_asks : (words : List Text) (for : Asked) → IsCanonical words for → Asks words for
 canonical_asks words for (canonical row parts last is fits same for_is) =

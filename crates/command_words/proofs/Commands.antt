@@ -2,27 +2,27 @@
 use Rattle.std.proofs.Common.{◌≡◌, ◌++◌, true, false, List, [], ◌∷◌, Some, None, refl, sym, subst, inl, inr, codes}
 use Rattle.std.specs.Prelude.{if◌then◌else◌}
 use Rattle.std.specs.Str.{bytes_eq}
-use Rattle.clap.specs.Walk.{Text, rows_after}
+use Rattle.clap.specs.Walk.{Text, rows_after, arg_by_id, arg_by_long}
 use Rattle.clap.specs.Simple.{built, entered, is_simple}
 use Rattle.clap.specs.Lexer.{long_of}
 use Rattle.clap.proofs.OnLiterals.{clap_on_literals}
 use Rattle.command_words.specs.Program as program
 use Rattle.command_words.specs.Program.{Row as Command, commands}
-use Rattle.command_words.specs.Asked.{Asked, Values, asked_by, asked_check, asked_run, asked_page, asked_grammar, asked_make, asked_first, has_help, help, is_given, is_help}
+use Rattle.command_words.specs.Asked.{Values, asked_by, asked_check, asked_run, asked_page, asked_grammar, asked_make, asked_first, has_help, help, is_given, is_help}
 use Rattle.command_words.specs.Canonical.{IsAmong}
-use Rattle.command_words.proofs.Rows.{below}
+use Rattle.command_words.proofs.Rows.{below, option_rule, flag_rule}
 use Rattle.command_words.proofs.Steps.{Table, Enters, LeavesAlone}
 use Rattle.command_words.proofs.Given.{GiveNone}
 
 -- it holds of each
-abbrev pub Each : {X : Type 0} → (X → Type 0) → List X → Type 0
+abbrev Each : {X : Type 0} → (X → Type 0) → List X → Type 0
 Each P [] = Unit {0}
 Each P (x ∷ xs) = P x × Each P xs
 
-pub among : {X : Type 0} (P : X → Type 0) (xs : List X) → Each P xs → (x : X) → IsAmong x xs → P x
-among P [] all x e = absurd e
-among P (y ∷ ys) all x (inl e) = subst P (sym e) all.0
-among P (y ∷ ys) all x (inr e) = among P ys all.1 x e
+each : {X : Type 0} (P : X → Type 0) (xs : List X) → Each P xs → (x : X) → IsAmong x xs → P x
+each P [] all x e = absurd e
+each P (y ∷ ys) all x (inl e) = subst P (sym e) all.0
+each P (y ∷ ys) all x (inr e) = each P ys all.1 x e
 
 -- two values say the same of the arguments of a command
 pub record SameAt (row : Command) (v w : Values) : Type 0 where
@@ -36,7 +36,7 @@ pub record Known (row : Command) : Type 0 where
   pub table : Table (below (program.command row)) row
   pub alike : (v w : Values) → SameAt row v w → asked_by row.word v ≡ asked_by row.word w
   pub alone : (n : Text) → IsAmong n (row.place ∷ row.options) → LeavesAlone n (below (program.command row)).rules
-  pub none : GiveNone (below (program.command row)).rules
+  pub unset : GiveNone (below (program.command row)).rules
   pub first : (ws : List Text) → asked_first (row.word ∷ ws) ≡ (if has_help ws then Some help else None)
 
 pub phpsa_simple : is_simple program.phpsa ≡ true
@@ -54,19 +54,19 @@ check_table = record {
   sees = refl;
   by_index = refl;
   place_id = refl;
-  option_long = among _ _ (refl, (refl, (refl, tt)));
-  option_id = among _ _ (refl, (refl, (refl, tt)));
-  option_same = among _ _ (refl, (refl, (refl, tt)));
-  flag_long = among _ _ (refl, (refl, tt));
-  joined_long = λ n v. among (λ m. long_of (45 ∷ 45 ∷ m ++ 61 ∷ v) ≡ Some (m, Some v)) _ (refl, (refl, (refl, tt))) n;
-  joined_bare = λ n v. among (λ m. bytes_eq (45 ∷ 45 ∷ m ++ 61 ∷ v) (45 ∷ 45 ∷ []) ≡ false) _ (refl, (refl, (refl, tt))) n;
-  option_text = among _ _ (refl, (refl, (refl, tt)));
-  option_bare = among _ _ (refl, (refl, (refl, tt)));
-  flag_text = among _ _ (refl, (refl, tt));
-  flag_bare = among _ _ (refl, (refl, tt));
-  joined_free = λ n v. among (λ m. is_help (45 ∷ 45 ∷ m ++ 61 ∷ v) ≡ false) _ (refl, (refl, (refl, tt))) n;
-  option_free = among _ _ (refl, (refl, (refl, tt)));
-  flag_free = among _ _ (refl, (refl, tt));
+  option_long = each (λ n. arg_by_long (below (program.command program.check)).rules n ≡ Some (option_rule n)) program.check.options (refl, (refl, (refl, tt)));
+  option_id = each (λ n. arg_by_id (below (program.command program.check)).rules n ≡ Some (option_rule n)) program.check.options (refl, (refl, (refl, tt)));
+  option_same = each (λ n. bytes_eq n n ≡ true) program.check.options (refl, (refl, (refl, tt)));
+  flag_long = each (λ n. arg_by_long (below (program.command program.check)).rules n ≡ Some (flag_rule n)) program.check.flags (refl, (refl, tt));
+  joined_long = λ n v. each (λ m. long_of (45 ∷ 45 ∷ m ++ 61 ∷ v) ≡ Some (m, Some v)) program.check.options (refl, (refl, (refl, tt))) n;
+  joined_bare = λ n v. each (λ m. bytes_eq (45 ∷ 45 ∷ m ++ 61 ∷ v) (45 ∷ 45 ∷ []) ≡ false) program.check.options (refl, (refl, (refl, tt))) n;
+  joined_free = λ n v. each (λ m. is_help (45 ∷ 45 ∷ m ++ 61 ∷ v) ≡ false) program.check.options (refl, (refl, (refl, tt))) n;
+  option_text = each (λ n. long_of (45 ∷ 45 ∷ n) ≡ Some (n, None)) program.check.options (refl, (refl, (refl, tt)));
+  option_bare = each (λ n. bytes_eq (45 ∷ 45 ∷ n) (45 ∷ 45 ∷ []) ≡ false) program.check.options (refl, (refl, (refl, tt)));
+  option_free = each (λ n. is_help (45 ∷ 45 ∷ n) ≡ false) program.check.options (refl, (refl, (refl, tt)));
+  flag_text = each (λ n. long_of (45 ∷ 45 ∷ n) ≡ Some (n, None)) program.check.flags (refl, (refl, tt));
+  flag_bare = each (λ n. bytes_eq (45 ∷ 45 ∷ n) (45 ∷ 45 ∷ []) ≡ false) program.check.flags (refl, (refl, tt));
+  flag_free = each (λ n. is_help (45 ∷ 45 ∷ n) ≡ false) program.check.flags (refl, (refl, tt));
 }
 
 check_enters : Enters (built program.phpsa) (codes "check") (below (program.command program.check))
@@ -91,8 +91,8 @@ check_known = record {
   entered_is = λ ws. refl;
   table = check_table;
   alike = λ v w e. check_alike v w (e.texts (codes "FILE") (inl refl)) (e.texts (codes "dtd") (inr (inl refl))) (e.texts (codes "limit") (inr (inr (inl refl)))) (e.texts (codes "root") (inr (inr (inr (inl refl))))) (e.flags (codes "nesting") (inl refl)) (e.flags (codes "json") (inr (inl refl)));
-  alone = among _ _ ((inr refl, (inr refl, (inr refl, (inr refl, (inl refl, (inl refl, tt)))))), ((inr refl, (inr refl, (inr refl, (inr refl, (inl refl, (inl refl, tt)))))), ((inr refl, (inr refl, (inr refl, (inr refl, (inl refl, (inl refl, tt)))))), ((inr refl, (inr refl, (inr refl, (inr refl, (inl refl, (inl refl, tt)))))), tt))));
-  none = (refl, (refl, (refl, (refl, (refl, (refl, tt))))));
+  alone = each (λ n. LeavesAlone n (below (program.command program.check)).rules) (program.check.place ∷ program.check.options) ((inr refl, (inr refl, (inr refl, (inr refl, (inl refl, (inl refl, tt)))))), ((inr refl, (inr refl, (inr refl, (inr refl, (inl refl, (inl refl, tt)))))), ((inr refl, (inr refl, (inr refl, (inr refl, (inl refl, (inl refl, tt)))))), ((inr refl, (inr refl, (inr refl, (inr refl, (inl refl, (inl refl, tt)))))), tt))));
+  unset = (refl, (refl, (refl, (refl, (refl, (refl, tt))))));
   first = λ ws. refl;
 }
 
@@ -107,19 +107,19 @@ run_table = record {
   sees = refl;
   by_index = refl;
   place_id = refl;
-  option_long = among _ _ (refl, (refl, (refl, tt)));
-  option_id = among _ _ (refl, (refl, (refl, tt)));
-  option_same = among _ _ (refl, (refl, (refl, tt)));
-  flag_long = among _ _ tt;
-  joined_long = λ n v. among (λ m. long_of (45 ∷ 45 ∷ m ++ 61 ∷ v) ≡ Some (m, Some v)) _ (refl, (refl, (refl, tt))) n;
-  joined_bare = λ n v. among (λ m. bytes_eq (45 ∷ 45 ∷ m ++ 61 ∷ v) (45 ∷ 45 ∷ []) ≡ false) _ (refl, (refl, (refl, tt))) n;
-  option_text = among _ _ (refl, (refl, (refl, tt)));
-  option_bare = among _ _ (refl, (refl, (refl, tt)));
-  flag_text = among _ _ tt;
-  flag_bare = among _ _ tt;
-  joined_free = λ n v. among (λ m. is_help (45 ∷ 45 ∷ m ++ 61 ∷ v) ≡ false) _ (refl, (refl, (refl, tt))) n;
-  option_free = among _ _ (refl, (refl, (refl, tt)));
-  flag_free = among _ _ tt;
+  option_long = each (λ n. arg_by_long (below (program.command program.run)).rules n ≡ Some (option_rule n)) program.run.options (refl, (refl, (refl, tt)));
+  option_id = each (λ n. arg_by_id (below (program.command program.run)).rules n ≡ Some (option_rule n)) program.run.options (refl, (refl, (refl, tt)));
+  option_same = each (λ n. bytes_eq n n ≡ true) program.run.options (refl, (refl, (refl, tt)));
+  flag_long = each (λ n. arg_by_long (below (program.command program.run)).rules n ≡ Some (flag_rule n)) program.run.flags tt;
+  joined_long = λ n v. each (λ m. long_of (45 ∷ 45 ∷ m ++ 61 ∷ v) ≡ Some (m, Some v)) program.run.options (refl, (refl, (refl, tt))) n;
+  joined_bare = λ n v. each (λ m. bytes_eq (45 ∷ 45 ∷ m ++ 61 ∷ v) (45 ∷ 45 ∷ []) ≡ false) program.run.options (refl, (refl, (refl, tt))) n;
+  joined_free = λ n v. each (λ m. is_help (45 ∷ 45 ∷ m ++ 61 ∷ v) ≡ false) program.run.options (refl, (refl, (refl, tt))) n;
+  option_text = each (λ n. long_of (45 ∷ 45 ∷ n) ≡ Some (n, None)) program.run.options (refl, (refl, (refl, tt)));
+  option_bare = each (λ n. bytes_eq (45 ∷ 45 ∷ n) (45 ∷ 45 ∷ []) ≡ false) program.run.options (refl, (refl, (refl, tt)));
+  option_free = each (λ n. is_help (45 ∷ 45 ∷ n) ≡ false) program.run.options (refl, (refl, (refl, tt)));
+  flag_text = each (λ n. long_of (45 ∷ 45 ∷ n) ≡ Some (n, None)) program.run.flags tt;
+  flag_bare = each (λ n. bytes_eq (45 ∷ 45 ∷ n) (45 ∷ 45 ∷ []) ≡ false) program.run.flags tt;
+  flag_free = each (λ n. is_help (45 ∷ 45 ∷ n) ≡ false) program.run.flags tt;
 }
 
 run_enters : Enters (built program.phpsa) (codes "run") (below (program.command program.run))
@@ -144,8 +144,8 @@ run_known = record {
   entered_is = λ ws. refl;
   table = run_table;
   alike = λ v w e. run_alike v w (e.texts (codes "FILE") (inl refl)) (e.texts (codes "request") (inr (inl refl))) (e.texts (codes "steps") (inr (inr (inl refl)))) (e.texts (codes "root") (inr (inr (inr (inl refl)))));
-  alone = among _ _ ((inr refl, (inr refl, (inr refl, (inr refl, tt)))), ((inr refl, (inr refl, (inr refl, (inr refl, tt)))), ((inr refl, (inr refl, (inr refl, (inr refl, tt)))), ((inr refl, (inr refl, (inr refl, (inr refl, tt)))), tt))));
-  none = (refl, (refl, (refl, (refl, tt))));
+  alone = each (λ n. LeavesAlone n (below (program.command program.run)).rules) (program.run.place ∷ program.run.options) ((inr refl, (inr refl, (inr refl, (inr refl, tt)))), ((inr refl, (inr refl, (inr refl, (inr refl, tt)))), ((inr refl, (inr refl, (inr refl, (inr refl, tt)))), ((inr refl, (inr refl, (inr refl, (inr refl, tt)))), tt))));
+  unset = (refl, (refl, (refl, (refl, tt))));
   first = λ ws. refl;
 }
 
@@ -160,19 +160,19 @@ page_table = record {
   sees = refl;
   by_index = refl;
   place_id = refl;
-  option_long = among _ _ (refl, (refl, tt));
-  option_id = among _ _ (refl, (refl, tt));
-  option_same = among _ _ (refl, (refl, tt));
-  flag_long = among _ _ tt;
-  joined_long = λ n v. among (λ m. long_of (45 ∷ 45 ∷ m ++ 61 ∷ v) ≡ Some (m, Some v)) _ (refl, (refl, tt)) n;
-  joined_bare = λ n v. among (λ m. bytes_eq (45 ∷ 45 ∷ m ++ 61 ∷ v) (45 ∷ 45 ∷ []) ≡ false) _ (refl, (refl, tt)) n;
-  option_text = among _ _ (refl, (refl, tt));
-  option_bare = among _ _ (refl, (refl, tt));
-  flag_text = among _ _ tt;
-  flag_bare = among _ _ tt;
-  joined_free = λ n v. among (λ m. is_help (45 ∷ 45 ∷ m ++ 61 ∷ v) ≡ false) _ (refl, (refl, tt)) n;
-  option_free = among _ _ (refl, (refl, tt));
-  flag_free = among _ _ tt;
+  option_long = each (λ n. arg_by_long (below (program.command program.page)).rules n ≡ Some (option_rule n)) program.page.options (refl, (refl, tt));
+  option_id = each (λ n. arg_by_id (below (program.command program.page)).rules n ≡ Some (option_rule n)) program.page.options (refl, (refl, tt));
+  option_same = each (λ n. bytes_eq n n ≡ true) program.page.options (refl, (refl, tt));
+  flag_long = each (λ n. arg_by_long (below (program.command program.page)).rules n ≡ Some (flag_rule n)) program.page.flags tt;
+  joined_long = λ n v. each (λ m. long_of (45 ∷ 45 ∷ m ++ 61 ∷ v) ≡ Some (m, Some v)) program.page.options (refl, (refl, tt)) n;
+  joined_bare = λ n v. each (λ m. bytes_eq (45 ∷ 45 ∷ m ++ 61 ∷ v) (45 ∷ 45 ∷ []) ≡ false) program.page.options (refl, (refl, tt)) n;
+  joined_free = λ n v. each (λ m. is_help (45 ∷ 45 ∷ m ++ 61 ∷ v) ≡ false) program.page.options (refl, (refl, tt)) n;
+  option_text = each (λ n. long_of (45 ∷ 45 ∷ n) ≡ Some (n, None)) program.page.options (refl, (refl, tt));
+  option_bare = each (λ n. bytes_eq (45 ∷ 45 ∷ n) (45 ∷ 45 ∷ []) ≡ false) program.page.options (refl, (refl, tt));
+  option_free = each (λ n. is_help (45 ∷ 45 ∷ n) ≡ false) program.page.options (refl, (refl, tt));
+  flag_text = each (λ n. long_of (45 ∷ 45 ∷ n) ≡ Some (n, None)) program.page.flags tt;
+  flag_bare = each (λ n. bytes_eq (45 ∷ 45 ∷ n) (45 ∷ 45 ∷ []) ≡ false) program.page.flags tt;
+  flag_free = each (λ n. is_help (45 ∷ 45 ∷ n) ≡ false) program.page.flags tt;
 }
 
 page_enters : Enters (built program.phpsa) (codes "page") (below (program.command program.page))
@@ -197,8 +197,8 @@ page_known = record {
   entered_is = λ ws. refl;
   table = page_table;
   alike = λ v w e. page_alike v w (e.texts (codes "FILE") (inl refl)) (e.texts (codes "dtd") (inr (inl refl))) (e.texts (codes "root") (inr (inr (inl refl))));
-  alone = among _ _ ((inr refl, (inr refl, (inr refl, tt))), ((inr refl, (inr refl, (inr refl, tt))), ((inr refl, (inr refl, (inr refl, tt))), tt)));
-  none = (refl, (refl, (refl, tt)));
+  alone = each (λ n. LeavesAlone n (below (program.command program.page)).rules) (program.page.place ∷ program.page.options) ((inr refl, (inr refl, (inr refl, tt))), ((inr refl, (inr refl, (inr refl, tt))), ((inr refl, (inr refl, (inr refl, tt))), tt)));
+  unset = (refl, (refl, (refl, tt)));
   first = λ ws. refl;
 }
 
@@ -213,19 +213,19 @@ grammar_table = record {
   sees = refl;
   by_index = refl;
   place_id = refl;
-  option_long = among _ _ (refl, tt);
-  option_id = among _ _ (refl, tt);
-  option_same = among _ _ (refl, tt);
-  flag_long = among _ _ tt;
-  joined_long = λ n v. among (λ m. long_of (45 ∷ 45 ∷ m ++ 61 ∷ v) ≡ Some (m, Some v)) _ (refl, tt) n;
-  joined_bare = λ n v. among (λ m. bytes_eq (45 ∷ 45 ∷ m ++ 61 ∷ v) (45 ∷ 45 ∷ []) ≡ false) _ (refl, tt) n;
-  option_text = among _ _ (refl, tt);
-  option_bare = among _ _ (refl, tt);
-  flag_text = among _ _ tt;
-  flag_bare = among _ _ tt;
-  joined_free = λ n v. among (λ m. is_help (45 ∷ 45 ∷ m ++ 61 ∷ v) ≡ false) _ (refl, tt) n;
-  option_free = among _ _ (refl, tt);
-  flag_free = among _ _ tt;
+  option_long = each (λ n. arg_by_long (below (program.command program.grammar)).rules n ≡ Some (option_rule n)) program.grammar.options (refl, tt);
+  option_id = each (λ n. arg_by_id (below (program.command program.grammar)).rules n ≡ Some (option_rule n)) program.grammar.options (refl, tt);
+  option_same = each (λ n. bytes_eq n n ≡ true) program.grammar.options (refl, tt);
+  flag_long = each (λ n. arg_by_long (below (program.command program.grammar)).rules n ≡ Some (flag_rule n)) program.grammar.flags tt;
+  joined_long = λ n v. each (λ m. long_of (45 ∷ 45 ∷ m ++ 61 ∷ v) ≡ Some (m, Some v)) program.grammar.options (refl, tt) n;
+  joined_bare = λ n v. each (λ m. bytes_eq (45 ∷ 45 ∷ m ++ 61 ∷ v) (45 ∷ 45 ∷ []) ≡ false) program.grammar.options (refl, tt) n;
+  joined_free = λ n v. each (λ m. is_help (45 ∷ 45 ∷ m ++ 61 ∷ v) ≡ false) program.grammar.options (refl, tt) n;
+  option_text = each (λ n. long_of (45 ∷ 45 ∷ n) ≡ Some (n, None)) program.grammar.options (refl, tt);
+  option_bare = each (λ n. bytes_eq (45 ∷ 45 ∷ n) (45 ∷ 45 ∷ []) ≡ false) program.grammar.options (refl, tt);
+  option_free = each (λ n. is_help (45 ∷ 45 ∷ n) ≡ false) program.grammar.options (refl, tt);
+  flag_text = each (λ n. long_of (45 ∷ 45 ∷ n) ≡ Some (n, None)) program.grammar.flags tt;
+  flag_bare = each (λ n. bytes_eq (45 ∷ 45 ∷ n) (45 ∷ 45 ∷ []) ≡ false) program.grammar.flags tt;
+  flag_free = each (λ n. is_help (45 ∷ 45 ∷ n) ≡ false) program.grammar.flags tt;
 }
 
 grammar_enters : Enters (built program.phpsa) (codes "grammar") (below (program.command program.grammar))
@@ -250,8 +250,8 @@ grammar_known = record {
   entered_is = λ ws. refl;
   table = grammar_table;
   alike = λ v w e. grammar_alike v w (e.texts (codes "FILE") (inl refl)) (e.texts (codes "root") (inr (inl refl)));
-  alone = among _ _ ((inr refl, (inr refl, tt)), ((inr refl, (inr refl, tt)), tt));
-  none = (refl, (refl, tt));
+  alone = each (λ n. LeavesAlone n (below (program.command program.grammar)).rules) (program.grammar.place ∷ program.grammar.options) ((inr refl, (inr refl, tt)), ((inr refl, (inr refl, tt)), tt));
+  unset = (refl, (refl, tt));
   first = λ ws. refl;
 }
 
@@ -266,19 +266,19 @@ make_table = record {
   sees = refl;
   by_index = refl;
   place_id = refl;
-  option_long = among _ _ tt;
-  option_id = among _ _ tt;
-  option_same = among _ _ tt;
-  flag_long = among _ _ (refl, tt);
-  joined_long = λ n v. among (λ m. long_of (45 ∷ 45 ∷ m ++ 61 ∷ v) ≡ Some (m, Some v)) _ tt n;
-  joined_bare = λ n v. among (λ m. bytes_eq (45 ∷ 45 ∷ m ++ 61 ∷ v) (45 ∷ 45 ∷ []) ≡ false) _ tt n;
-  option_text = among _ _ tt;
-  option_bare = among _ _ tt;
-  flag_text = among _ _ (refl, tt);
-  flag_bare = among _ _ (refl, tt);
-  joined_free = λ n v. among (λ m. is_help (45 ∷ 45 ∷ m ++ 61 ∷ v) ≡ false) _ tt n;
-  option_free = among _ _ tt;
-  flag_free = among _ _ (refl, tt);
+  option_long = each (λ n. arg_by_long (below (program.command program.make)).rules n ≡ Some (option_rule n)) program.make.options tt;
+  option_id = each (λ n. arg_by_id (below (program.command program.make)).rules n ≡ Some (option_rule n)) program.make.options tt;
+  option_same = each (λ n. bytes_eq n n ≡ true) program.make.options tt;
+  flag_long = each (λ n. arg_by_long (below (program.command program.make)).rules n ≡ Some (flag_rule n)) program.make.flags (refl, tt);
+  joined_long = λ n v. each (λ m. long_of (45 ∷ 45 ∷ m ++ 61 ∷ v) ≡ Some (m, Some v)) program.make.options tt n;
+  joined_bare = λ n v. each (λ m. bytes_eq (45 ∷ 45 ∷ m ++ 61 ∷ v) (45 ∷ 45 ∷ []) ≡ false) program.make.options tt n;
+  joined_free = λ n v. each (λ m. is_help (45 ∷ 45 ∷ m ++ 61 ∷ v) ≡ false) program.make.options tt n;
+  option_text = each (λ n. long_of (45 ∷ 45 ∷ n) ≡ Some (n, None)) program.make.options tt;
+  option_bare = each (λ n. bytes_eq (45 ∷ 45 ∷ n) (45 ∷ 45 ∷ []) ≡ false) program.make.options tt;
+  option_free = each (λ n. is_help (45 ∷ 45 ∷ n) ≡ false) program.make.options tt;
+  flag_text = each (λ n. long_of (45 ∷ 45 ∷ n) ≡ Some (n, None)) program.make.flags (refl, tt);
+  flag_bare = each (λ n. bytes_eq (45 ∷ 45 ∷ n) (45 ∷ 45 ∷ []) ≡ false) program.make.flags (refl, tt);
+  flag_free = each (λ n. is_help (45 ∷ 45 ∷ n) ≡ false) program.make.flags (refl, tt);
 }
 
 make_enters : Enters (built program.phpsa) (codes "make") (below (program.command program.make))
@@ -303,11 +303,11 @@ make_known = record {
   entered_is = λ ws. refl;
   table = make_table;
   alike = λ v w e. make_alike v w (e.texts (codes "N") (inl refl)) (e.flags (codes "check") (inl refl));
-  alone = among _ _ ((inr refl, (inl refl, tt)), tt);
-  none = (refl, (refl, tt));
+  alone = each (λ n. LeavesAlone n (below (program.command program.make)).rules) (program.make.place ∷ program.make.options) ((inr refl, (inl refl, tt)), tt);
+  unset = (refl, (refl, tt));
   first = λ ws. refl;
 }
 
 -- each command is known
 pub known : (row : Command) → IsAmong row commands → Known row
-known = among Known commands (check_known, (run_known, (page_known, (grammar_known, (make_known, tt)))))
+known = each Known commands (check_known, (run_known, (page_known, (grammar_known, (make_known, tt)))))

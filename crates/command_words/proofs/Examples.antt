@@ -1,9 +1,9 @@
 -- Numbers, and near misses; help and the version; what canonical words are.
-use Rattle.std.proofs.Common.{◌≡◌, [], ◌∷◌, Some, None, true, refl, inl, inr, codes}
-use Rattle.command_words.specs.Program.{check, commands}
+use Rattle.std.proofs.Common.{◌≡◌, [], ◌∷◌, Some, None, true, false, true≢false, refl, inl, inr, codes}
+use Rattle.command_words.specs.Program.{check}
 use Rattle.command_words.specs.Asked.{number_of, asked_first, help, version}
 use Rattle.command_words.specs.Asked as asked
-use Rattle.command_words.specs.Canonical.{AreCanonical, IsCanonical, IsPlain, canonical, place, joined, apart, flag}
+use Rattle.command_words.specs.Canonical.{IsCanonical, IsPlain, canonical, joined, flag}
 
 one_digit : number_of (codes "7") ≡ Some 7
 one_digit = refl
@@ -51,8 +51,8 @@ the_standard_input : IsPlain (codes "-")
 the_standard_input = tt
 
 an_option_is_not_plain : IsPlain (codes "-x") → ⊥
-an_option_is_not_plain = λ auto. elim auto [ ]
+an_option_is_not_plain e = absurd (true≢false e)
 
 a_check : IsCanonical (codes "check" ∷ codes "--json" ∷ codes "--root=pages" ∷ codes "--" ∷ codes "-" ∷ [])
-    (asked.check (codes "-") (codes "strict") (Some (codes "pages")) 10000 Bool.false Bool.true)
+    (asked.check (codes "-") (codes "strict") (Some (codes "pages")) 10000 false true)
 a_check = canonical check (flag (codes "json") ∷ joined (codes "root") (codes "pages") ∷ []) (Some (codes "-")) (inl refl) ((inr (inl refl), refl), ((refl, inr (inr (inl refl)), refl), refl)) refl refl

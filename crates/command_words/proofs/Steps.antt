@@ -1,5 +1,5 @@
 -- How a walk over canonical words goes on, part by part.
-use Rattle.std.proofs.Common.{◌≡◌, ◌⊎◌, ◌∙◌, ◌++◌, ◌||◌, ◌&&◌, ap, ℕ, Bool, true, false, List, [], ◌∷◌, Option, Some, None, refl, sym, subst, inl, inr, codes, true≢false}
+use Rattle.std.proofs.Common.{◌≡◌, ◌==◌, ◌⊎◌, ◌∙◌, ◌++◌, ◌||◌, ◌&&◌, ap, ℕ, Bool, true, false, List, [], ◌∷◌, Option, Some, None, refl, sym, subst, inl, inr, codes, true≢false}
 use Rattle.std.specs.Prelude.{fold, is_some, cond}
 use Rattle.std.specs.List.{list_all}
 use Rattle.std.specs.Str.{bytes_eq}
@@ -246,25 +246,25 @@ pub plain_bare : (v : Text) → IsPlain v → bytes_eq v (45 ∷ 45 ∷ []) ≡ 
 plain_bare = by_plain (λ v. bytes_eq v (45 ∷ 45 ∷ []) ≡ false) (λ x. and_false (x == 45)) (λ x xs e. rw e refl)
 
 plain_long : (v : Text) → IsPlain v → long_of v ≡ None
-plain_long = by_plain (λ v. long_of v ≡ None) (λ x. one (x == 45) refl) (λ x xs e. rw e refl)
+plain_long = by_plain (λ v. long_of v ≡ None) (λ x. one x (x == 45) refl) (λ x xs e. rw e refl)
   where
-    one : {x : ℕ} (t : Bool) → (x == 45) ≡ t → long_of (x ∷ []) ≡ None
-    one true e = rw e refl
-    one false e = rw e refl
+    one : (x : ℕ) (t : Bool) → (x == 45) ≡ t → long_of (x ∷ []) ≡ None
+    one x true e = rw e refl
+    one x false e = rw e refl
 
 plain_short : (v : Text) → IsPlain v → short_of v ≡ None
-plain_short = by_plain (λ v. short_of v ≡ None) (λ x. one (x == 45) refl) (λ x xs e. rw e refl)
+plain_short = by_plain (λ v. short_of v ≡ None) (λ x. one x (x == 45) refl) (λ x xs e. rw e refl)
   where
-    one : {x : ℕ} (t : Bool) → (x == 45) ≡ t → short_of (x ∷ []) ≡ None
-    one true e = rw e refl
-    one false e = rw e refl
+    one : (x : ℕ) (t : Bool) → (x == 45) ≡ t → short_of (x ∷ []) ≡ None
+    one x true e = rw e refl
+    one x false e = rw e refl
 
 plain_free : (v : Text) → IsPlain v → is_help v ≡ false
-plain_free = by_plain (λ v. is_help v ≡ false) (λ x. one (x == 45) refl) (λ x xs e. rw e refl)
+plain_free = by_plain (λ v. is_help v ≡ false) (λ x. one x (x == 45) refl) (λ x xs e. rw e refl)
   where
-    one : {x : ℕ} (t : Bool) → (x == 45) ≡ t → is_help (x ∷ []) ≡ false
-    one true e = rw e refl
-    one false e = rw e refl
+    one : (x : ℕ) (t : Bool) → (x == 45) ≡ t → is_help (x ∷ []) ≡ false
+    one x true e = rw e refl
+    one x false e = rw e refl
 
 -- ---- no part asks for help
 

@@ -87,14 +87,18 @@ values_of rows name = first_of name rows
 abbrev pub asked : List Text → Option Asked
 asked words = option_and_then (λ found. asked_by found.0 (values_of found.1)) (subcommand_of phpsa words)
 
+-- `--`, behind which words are names
+abbrev pub ends_options : Text → Bool
+ends_options word = bytes_eq word (codes "--")
+
 -- `--help` or `-h`
 abbrev pub is_help : Text → Bool
 is_help word = bytes_eq word (codes "--help") || bytes_eq word (codes "-h")
 
--- such a word stands ahead of `--`, behind which words are names
+-- such a word stands ahead of `--`
 abbrev pub has_help : List Text → Bool
 has_help [] = false
-has_help (word ∷ words) = not (bytes_eq word (codes "--")) && (is_help word || has_help words)
+has_help (word ∷ words) = not (ends_options word) && (is_help word || has_help words)
 
 -- `--help` and `-h` anywhere ahead of `--`, `help` and `--version` as the first word: they come before all that is wrong with the words
 abbrev pub asked_first : List Text → Option Asked

@@ -93,16 +93,22 @@ fn with_command<'a>(
     program.subcommand(command)
 }
 
-/// The program with its commands.
-fn program<'a>(alloc: Global) -> Result<Command<'a>, AllocError>
-    ensures app { IfOk result (λ c. app_of c ≡ spec.phpsa) }
+/// The program before its commands are added.
+fn bare_program<'a>(alloc: Global) -> Command<'a>
+    ensures { app_of result ≡ spec.base }
 {
-    let program = Command::new(alloc, "phpsa")
+    Command::new(alloc, "phpsa")
         .no_binary_name(true)
         .disable_help_flag(true)
         .disable_help_subcommand(true)
         .disable_version_flag(true)
-        .subcommand_required(true);
+        .subcommand_required(true)
+}
+
+/// The program with its commands.
+fn program<'a>(alloc: Global) -> Result<Command<'a>, AllocError>
+    ensures app { IfOk result (λ c. app_of c ≡ spec.phpsa) }
+{
     let check = row_with(
         "check",
         "FILE",
@@ -113,7 +119,7 @@ fn program<'a>(alloc: Global) -> Result<Command<'a>, AllocError>
     let page = row_with("page", "FILE", &["dtd", "root"], &[]);
     let grammar = row_with("grammar", "FILE", &["root"], &[]);
     let make = row_with("make", "N", &[], &["check"]);
-    let program = with_command(alloc, program, check)?;
+    let program = with_command(alloc, bare_program(alloc), check)?;
     let program = with_command(alloc, program, run)?;
     let program = with_command(alloc, program, page)?;
     let program = with_command(alloc, program, grammar)?;

@@ -6,18 +6,33 @@ ghost use Rattle.command_words.specs.Views.{asked_as};
 
 use crate::command_line::CommandLine;
 
+/// Whether all words behind this one are names.
+fn ends_options(word: &str) -> bool
+    ensures { result ≡ spec.ends_options word.now }
+{
+    word == "--"
+}
+
+fn is_help(word: &str) -> bool
+    ensures { result ≡ spec.is_help word.now }
+{
+    word == "--help" || word == "-h"
+}
+
 /// Whether a word ahead of `--` asks for help.
 fn has_help(words: &[String]) -> bool
     ensures { result ≡ spec.has_help (map string_bytes words.now) }
 {
-    for word in words {
+    let mut rest = words;
+    while let Some((word, others)) = rest.split_first() {
         let word = word.as_str();
-        if word == "--" {
+        if ends_options(word) {
             return false;
         }
-        if word == "--help" || word == "-h" {
+        if is_help(word) {
             return true;
         }
+        rest = others;
     }
     false
 }

@@ -18,12 +18,6 @@ returns-in_err-matches-clause-refused c =
     subst (λ r. IfErr r (IsRefused (map string_bytes c.args.words.now))) (sym is)
     (refused_by (map string_bytes c.args.words.now) c.in_err-matches.field-0.0 first c.in_err-matches.ensures.usage)
 
-pub returns-in_default-clause-refused : goal.returns-in_default-clause-refused
-returns-in_default-clause-refused c =
-    let first : asked_first (map string_bytes c.args.words.now) ≡ None = search rules in
-    let none : asked (map string_bytes c.args.words.now) ≡ None = search rules in
-    refused_number (map string_bytes c.args.words.now) first none
-
 pub returns-in-None-clause-refused : goal.returns-in-None-clause-refused
 returns-in-None-clause-refused c =
     let first : asked_first (map string_bytes c.args.words.now) ≡ None = search rules in
@@ -36,3 +30,9 @@ returns-clause-ok c =
     let clear : fault_of phpsa (map string_bytes c.args.words.now) ≡ [] = search rules in
     let is : asked (map string_bytes c.args.words.now) ≡ Some (asked_as c.in-Some-line_by.line) = search rules in
     asks_so (map string_bytes c.args.words.now) (asked_as c.in-Some-line_by.line) first (inr clear) is
+
+pub returns-in_default-subcommand-clause-refused : goal.returns-in_default-subcommand-clause-refused
+returns-in_default-subcommand-clause-refused c =
+    let first : asked_first (map string_bytes c.args.words.now) ≡ None = search rules in
+    let none : asked (map string_bytes c.args.words.now) ≡ None = search rules in
+    refused_number (map string_bytes c.args.words.now) first none

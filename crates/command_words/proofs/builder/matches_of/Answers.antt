@@ -1,4 +1,4 @@
-use Rattle.std.proofs.Common.{◌∙◌, ◌≡◌, ◌≢◌, List, [], true, map, string_bytes, subst, inl, inr}
+use Rattle.std.proofs.Common.{◌≡◌, List, [], true, map, string_bytes, subst, inl, inr}
 use Rattle.clap.specs.Words.{Text, takes, fault_of, kind_of}
 use Rattle.clap.specs.Kinds.{Kinds, HasKind, IsAmong}
 use Rattle.clap.specs.declared.error.Error.{Error}
