@@ -3,6 +3,7 @@ use anyhow::Result;
 use io_edge::{MemFiles, MemSink};
 use phpsa_main::phpsa;
 use phpsa_texts::Exit;
+use site_check::ReadOnce;
 use std::alloc::Global;
 use text_base::Bytes;
 
@@ -62,7 +63,7 @@ fn copied(alloc: Global, files: &[(Bytes, Bytes)], front: Option<usize>) -> Resu
     Ok(held)
 }
 
-/// Calls the program with these words over these files.
+/// Calls the program with these words over these files, each of which is asked for once.
 pub fn call(
     alloc: Global,
     words: &Vec<String>,
@@ -73,7 +74,8 @@ pub fn call(
     if let Some(call) = outside.fails {
         fail.push(call)?;
     }
-    let mut source = MemFiles::new(copied(alloc, files, outside.front)?, fail);
+    let held = MemFiles::new(copied(alloc, files, outside.front)?, fail);
+    let mut source = ReadOnce::new(alloc, held);
     let mut out = MemSink::new(alloc, outside.out);
     let mut err = MemSink::new(alloc, outside.err);
     let exit = phpsa(alloc, words, &mut source, &mut out, &mut err);

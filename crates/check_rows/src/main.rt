@@ -16,7 +16,7 @@ mod wishes;
 
 use crate::table::Table;
 use anyhow::{Context, Result};
-use io_edge::{DiskFiles, Files};
+use io_edge::{DiskFiles, FileKind, Files};
 use std::{env, rt};
 
 // Adds a line of its own to the text of the line before it.
@@ -37,7 +37,7 @@ fn take_file(
 ) -> Result<()> {
     let alloc = rt.alloc();
     let bytes = DiskFiles::new(rt)
-        .read(alloc, name)
+        .read(alloc, name, FileKind::Any)
         .context("a file of rows")?;
     let text = str::from_utf8(bytes.as_slice()).context("a file in UTF-8")?;
     let (passed, failed) = (table.passed, table.failed);

@@ -1,5 +1,7 @@
 -- The headline's own definitions on a script whose text comes from an included file.
-use Rattle.std.proofs.Common.{◌≡◌, ◌++◌, ap, ℕ, List, [], ◌∷◌, true, Some, codes, refl, subst}
+use Rattle.std.proofs.Common.{◌≡◌, ◌++◌, ap, ℕ, List, [], ◌∷◌, true, Some, codes, lit≤, refl, subst}
+use Rattle.io_edge.specs.Told.{untold}
+use Rattle.site_check.specs.Kept.{nothing_kept, keep, told_with}
 use Rattle.script_meaning.specs.Requests.{PlainRequest}
 use Rattle.script_meaning.specs.Runs.{◌then_do◌, Ended}
 use Rattle.script_meaning.specs.Programs.{function_named, arguments_of}
@@ -26,6 +28,7 @@ use Rattle.phpsa_tasks.proofs.EmptyRequest.{no_request_admitted}
 use Rattle.phpsa_tasks.specs.Replies.{IsAnswer}
 use Rattle.phpsa_tasks.specs.Endings.{OwesReply, EndsReplied}
 use Rattle.phpsa_tasks.specs.Sound.{IsSound}
+use Rattle.phpsa_tasks.specs.Written.{Writes, IsWritten}
 
 -- a run with one unit prints the text, on every request
 runs : (request : PlainRequest) → meaning program request 1 ≡ record { printed = inner; end = Ended }
@@ -66,12 +69,12 @@ says asked held sound =
     subst (λ (o : List ℕ). Valid mini_table o) (ap (λ o. o.printed) (runs no_request))
     (sound refl task subject asked held no_request 1 no_request_admitted (ap (λ o. o.end) (runs no_request)))
 
--- a text as a page
+-- a text as a page, over files that told nothing before the call, and tell after it what they gave in it
 abbrev page_words : List (List ℕ)
 page_words = codes "page" ∷ codes "p" ∷ codes "--dtd" ∷ codes "mini" ∷ []
 
 abbrev page_call : Call
-page_call = call_of page_words (source_call (λ name. known (Some inner)) 0 0 0 0 0 1)
+page_call = call_of page_words (source_call (told_with (keep nothing_kept (codes "p") (Some inner)) (λ name. untold)) 0 0 0 0 0 1)
     (output_of (Some []) (Some (codes "valid" ++ 10 ∷ [])) 0 0) (output_of (Some []) (Some []) 0 0)
 
 judged : AsksFor page_words (page_check (codes "p") mini_type) → EndsReplied page_call Done
@@ -85,3 +88,14 @@ judged asked = record {
   out = refl;
   err = refl;
 }
+
+-- so the page is held, and what status 0 means of it is met
+page_held : Holds page_call.files.content (page_check (codes "p") mini_type) (record { page = inner; table = mini_table })
+page_held = (record { told = refl; short = lit≤ tt }, record { has = refl; told = tt })
+
+page_said : AsksFor page_words (page_check (codes "p") mini_type) → IsSound page_call Done → Valid mini_table inner
+page_said asked sound = sound refl (page_check (codes "p") mini_type) (record { page = inner; table = mini_table }) asked page_held
+
+page_written : AsksFor page_words (page_check (codes "p") mini_type) → IsWritten page_call Done
+    → Writes page_call Done (page_check (codes "p") mini_type) (record { page = inner; table = mini_table })
+page_written asked written = written tt (page_check (codes "p") mini_type) (record { page = inner; table = mini_table }) asked page_held

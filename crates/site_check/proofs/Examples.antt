@@ -1,6 +1,10 @@
 -- The definitions of `specs/` on worked examples and on near misses.
-use Rattle.std.proofs.Common.{◌≡◌, [], ◌∷◌, None, Some, false, refl, codes}
+use Rattle.std.proofs.Common.{arith, ◌≡◌, ℕ, List, [], ◌∷◌, None, Some, false, refl, codes}
 use Rattle.io_edge.specs.Told.{Content, unasked, untold, known}
+use Rattle.site_check.specs.declared.line.Line.{Line}
+use Rattle.site_check.specs.declared.line.Line.TheVariants.{Yes, No, Refused}
+use Rattle.site_check.specs.declared.line.TheConstants.{MISSING_STATUS}
+use Rattle.site_check.specs.Site.{Moment, moment, IsAnswered, AreAnswered, refused_by}
 use Rattle.site_check.specs.Kept.{Kept, nothing_kept, kept_behind, keep, total_size, told_with}
 
 -- a source that tells nothing
@@ -37,3 +41,24 @@ no_more = refl
 
 sizes : total_size ((codes "a", Some (codes "xyz")) ∷ (codes "b", None) ∷ (codes "c", Some (codes "u")) ∷ []) ≡ 4
 sizes = refl
+
+-- of a site: which lines may be answered for two names
+abbrev may : Content → List ℕ → Line → Type 0
+may content name line = (name ≡ codes "a" → line ≡ Yes) × (name ≡ codes "b" → line ≡ No 0)
+
+abbrev start : Moment
+start = moment tells_nothing 0 0
+
+-- the line of the first name is none for the second, each name has one, and none is left out
+not_again : AreAnswered may start start (codes "a" ∷ codes "b" ∷ []) (Yes ∷ Yes ∷ []) → ⊥
+not_again (between, first, (end, second, leads)) = let same : Yes ≡ No 0 = second.may.1 refl in cc
+
+none_left_out : AreAnswered may start start (codes "a" ∷ codes "b" ∷ []) (Yes ∷ []) → ⊥
+none_left_out (between, first, none) = none
+
+-- no count falls, and none of a missing file is told where none was counted
+not_missing : IsAnswered (λ content name line. may content name line) start start (codes "c") (Refused MISSING_STATUS []) → ⊥
+not_missing is = let rises = is.missing refl in omega (arith, rises)
+
+how_many : refused_by MISSING_STATUS (Refused 6 [] ∷ Yes ∷ Refused 7 [] ∷ Refused 6 (codes "x") ∷ []) ≡ 2
+how_many = refl
