@@ -1,14 +1,13 @@
 #!/usr/bin/env bash
-# Runs the built program on five rows, a script, a run, a generated script, a site of three files and a page, and refuses
-# each of its requests for memory in turn: the Nth call of malloc or realloc gives none. The status has to be 12 then, with
-# the front of the usual output, or 16 with none where the words of the call had no memory, or everything is as usual. Needs the built program (./phpsa --build) and a C compiler; no
-# test of the gate runs this.
+# Runs the program on six calls, with a script, a run, a generated script, a site of three files and a page, and refuses each
+# of their requests for memory in turn: the Nth call of malloc or realloc gives none. The status has to be 12 then, with the
+# front of the usual output, or 16 with none where the words of the call had no memory, or everything is as usual. The program
+# is the one that ./phpsa would run, built first where there is none. Needs a C compiler; no test of the gate runs this.
 #
 # usage: refuse_memory.sh [STEP]    only each STEPth request is refused (1 by default)
 
 top=$(cd -- "$(dirname -- "$0")/../.." && pwd)
-program=$top/crates/phpsa/out/phpsa
-[ -x "$program" ] || { echo 'build the program first: ./phpsa --build' >&2; exit 1; }
+program=$("$top/phpsa" --program) || exit
 step=${1:-1}
 room=$(mktemp -d)
 trap 'rm -rf "$room"' EXIT

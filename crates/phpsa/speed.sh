@@ -1,11 +1,10 @@
 #!/usr/bin/env bash
 # Prints how long `phpsa check` takes for generated scripts of each kind, for a size and for its double, and the ratio of
-# the two, in processor seconds of one run; and for a page of text the ratio to `phpsa page` on the same page. Needs the
-# built program: ./phpsa --build. No test of the gate runs this.
+# the two, in processor seconds of one run; and for a page of text the ratio to `phpsa page` on the same page. Runs
+# the program that ./phpsa would run, and builds it where there is none. No test of the gate runs this.
 
 top=$(cd -- "$(dirname -- "$0")/../.." && pwd)
-program=$top/crates/phpsa/out/phpsa
-[ -x "$program" ] || { echo 'build the program first: ./phpsa --build' >&2; exit 1; }
+program=$("$top/phpsa" --program) || exit
 room=$(mktemp -d)
 trap 'rm -rf "$room"' EXIT
 cd "$room" || exit 1
