@@ -4,7 +4,7 @@ use Rattle.std.specs.Prelude.{codes}
 use Rattle.php_syntax.specs.declared.token.Sign.TheVariants as signs
 use Rattle.php_syntax.specs.declared.tree.ArithSign.TheVariants as arith_sign
 use Rattle.php_syntax.specs.Tokens.{PlainKind, variable, name, integer, sign, PlainToken}
-use Rattle.php_syntax.specs.Trees.{PlainExpr, int_expr, var_expr, join_expr, arith_expr, assign_expr, call_expr, no_exprs, more_exprs, no_keys, PlainStmts, run_stmt, if_stmt, no_stmts, more_stmts, no_arms, more_arms, PlainFile}
+use Rattle.php_syntax.specs.Trees.{PlainExpr, int_expr, var_expr, join_expr, arith_expr, assign_expr, call_expr, no_exprs, more_exprs, no_keys, PlainStmt, PlainStmts, run_stmt, if_stmt, no_stmts, more_stmts, no_arms, more_arms, PlainFile}
 use Rattle.lr_tables.specs.declared.event.Event as event
 use Rattle.lr_tables.specs.Machine.{Answer, Read, Wrong, Going, run}
 use Rattle.lr_tables.specs.Checks.{paid, weight_of}
@@ -16,7 +16,7 @@ use Rattle.lr_tables.proofs.Making.{are_made, are_meant}
 use Rattle.php_grammar.specs.Certificate.{certificate}
 use Rattle.php_grammar.specs.Php.{php}
 use Rattle.php_grammar.proofs.AreGood.{are_good}
-use Rattle.script_grammar.specs.Rules.{stmts_fit, stmt_fits, expr_fits, path_fits}
+use Rattle.script_grammar.specs.Rules.{stmts_fit, stmt_fits, arms_fit, expr_fits, exprs_fit, path_fits}
 use Rattle.php_trees.specs.Values.{Value, file}
 use Rattle.php_trees.specs.Reads.{language, parts, ReadAs}
 
@@ -66,3 +66,38 @@ sum = variable (codes "x") ∷ sign signs.Assign ∷ integer (pos 1) ∷ sign si
 sum_is_read : ReadAs (spelled sum) (body (more_stmts (run_stmt (assign_expr (codes "x") no_keys (arith_expr arith_sign.Add (int_expr (pos 1)) (arith_expr arith_sign.Mul (int_expr (pos 2)) (int_expr (pos 3)))))) no_stmts))
 unfolding run make php stmts_fit stmt_fits expr_fits path_fits
 sum_is_read = record { derived = has_value _ 60 sum _ refl refl; fits = refl }
+
+abbrev only_stmt : PlainStmt → PlainStmts
+only_stmt s = more_stmts s no_stmts
+
+abbrev called : List ℕ → PlainStmts
+called f = only_stmt (run_stmt (call_expr f no_exprs))
+
+-- if ($a) if ($b) c(); else d();
+abbrev nested : List PlainKind
+nested = name (codes "if") ∷ sign signs.OpenParen ∷ variable (codes "a") ∷ sign signs.CloseParen
+    ∷ name (codes "IF") ∷ sign signs.OpenParen ∷ variable (codes "b") ∷ sign signs.CloseParen
+    ∷ name (codes "c") ∷ sign signs.OpenParen ∷ sign signs.CloseParen ∷ sign signs.Semicolon
+    ∷ name (codes "else") ∷ name (codes "D") ∷ sign signs.OpenParen ∷ sign signs.CloseParen ∷ sign signs.Semicolon ∷ []
+
+-- the else belongs to the inner if, and names of functions are kept in lower case
+nested_is_read : ReadAs (spelled nested) (body (only_stmt (if_stmt (more_arms (var_expr (codes "a"))
+    (only_stmt (if_stmt (more_arms (var_expr (codes "b")) (called (codes "c")) no_arms) (called (codes "d")))) no_arms) no_stmts)))
+unfolding run make php stmts_fit stmt_fits arms_fit expr_fits exprs_fit
+nested_is_read = record { derived = has_value _ 90 nested _ refl refl; fits = refl }
+
+-- $a . $b . $c; is one flat join
+abbrev joins : List PlainKind
+joins = variable (codes "a") ∷ sign signs.Dot ∷ variable (codes "b") ∷ sign signs.Dot ∷ variable (codes "c") ∷ sign signs.Semicolon ∷ []
+
+joins_are_read : ReadAs (spelled joins) (body (only_stmt (run_stmt (join_expr (more_exprs (var_expr (codes "a")) (more_exprs (var_expr (codes "b")) (more_exprs (var_expr (codes "c")) no_exprs)))))))
+unfolding run make php stmts_fit stmt_fits expr_fits exprs_fit
+joins_are_read = record { derived = has_value _ 60 joins _ refl refl; fits = refl }
+
+-- !$x = 1; is PHP, and outside of the language
+abbrev operand : List PlainKind
+operand = sign signs.Not ∷ variable (codes "x") ∷ sign signs.Assign ∷ integer (pos 1) ∷ sign signs.Semicolon ∷ []
+
+operand_has_no_value : (v : Value) → HasValue php.grammar language operand v → ⊥
+unfolding run make php
+operand_has_no_value v h = no_value _ 40 operand v refl (omega arith) refl h
