@@ -14,55 +14,13 @@ use Rattle.page_model.specs.Parts.{is_quote}
 use Rattle.page_model.specs.Pieces.{Piece, doctype, piece_then}
 use Rattle.page_model.specs.Prolog.{Literal, literal_then, IsLiteral, Identifier, no_identifier, system, public, identifier_then, IsSpace, IsIdentifier, Doctype, doctype_then, IsDoctype, is_strict}
 use Rattle.page_model.proofs.Names.{same_bytes, equal_bytes}
-use Rattle.page_forms.specs.Doctypes.{quoted, system_literal, public_literal, strict_literal, public_form, system_form, identifier_form, doctype_form}
+use Rattle.page_forms.specs.Doctypes.{system_literal, public_literal, strict_literal, public_form, system_form, identifier_form, doctype_form}
 use Rattle.page_forms.specs.Words.{word, ascii, other_than, gap}
 use Rattle.page_forms.specs.Laws.{DoctypesAreSpelled}
 use Rattle.page_forms.proofs.NameForms.{spells_class, spells_empty, spells_blanks, spells_gap}
 use Rattle.page_forms.proofs.OneCharacter.{Other, spells_other}
+use Rattle.page_forms.proofs.QuotedForms.{Quoted, spells_quoted, either_quote, quote_small}
 use Rattle.page_forms.proofs.Spelling.{Spells, One, Chained, put_together, spells_chain, spells_either, spells_all, spells_word, spells_as, is_form_of}
-
--- Texts in quotes.
-
-pub record Quoted (L : ℕ → List ℕ → Type 0) (cs : List ℕ) : Type 0 where
-  pub quote : ℕ
-  pub text : List ℕ
-  pub quoted : is_quote quote ≡ true
-  pub between : L quote text
-  pub is : quote ∷ (text ++ quote ∷ []) ≡ cs
-
-abbrev In : (ℕ → List ℕ → Type 0) → ℕ → List ℕ → Type 0
-In L q = Chained (λ cs. q ∷ [] ≡ cs) (Chained (L q) (λ cs. q ∷ [] ≡ cs))
-
-quoted_into : (L : ℕ → List ℕ → Type 0) (q : ℕ) → is_quote q ≡ true → (cs : List ℕ) → In L q cs → Quoted L cs
-quoted_into L q h cs k = let c = k.goes_on in record { quote = q; text = c.first; quoted = h; between = c.begins; is = put_together k.begins (put_together refl c.goes_on c.is) k.is }
-
-either_quote : (q : ℕ) → is_quote q ≡ true → (q ≡ 34) ⊎ (q ≡ 39)
-either_quote q h = by (or_cases (q == 34) (q == 39) h)
-  where
-    by : ((q == 34) ≡ true) ⊎ ((q == 39) ≡ true) → (q ≡ 34) ⊎ (q ≡ 39)
-    by (inl e) = inl (eqb-true q 34 e)
-    by (inr e) = inr (eqb-true q 39 e)
-
-in_quotes : (L : ℕ → List ℕ → Type 0) (q : ℕ) (text : List ℕ) → L q text → In L q (q ∷ (text ++ q ∷ []))
-in_quotes L q text l = record { first = q ∷ []; second = text ++ q ∷ []; begins = refl; goes_on = record { first = text; second = q ∷ []; begins = l; goes_on = refl; is = refl }; is = refl }
-
-quoted_from : (L : ℕ → List ℕ → Type 0) (cs : List ℕ) → Quoted L cs → In L 34 cs ⊎ In L 39 cs
-quoted_from L cs k = subst (λ (z : List ℕ). In L 34 z ⊎ In L 39 z) k.is (by (either_quote k.quote k.quoted))
-  where
-    by : (k.quote ≡ 34) ⊎ (k.quote ≡ 39) → In L 34 (k.quote ∷ (k.text ++ k.quote ∷ [])) ⊎ In L 39 (k.quote ∷ (k.text ++ k.quote ∷ []))
-    by (inl e) = inl (subst (λ (q : ℕ). In L q (k.quote ∷ (k.text ++ k.quote ∷ []))) e (in_quotes L k.quote k.text k.between))
-    by (inr e) = inr (subst (λ (q : ℕ). In L q (k.quote ∷ (k.text ++ k.quote ∷ []))) e (in_quotes L k.quote k.text k.between))
-
-pub spells_quoted : (between : ℕ → Expr) (L : ℕ → List ℕ → Type 0) → ((q : ℕ) → is_quote q ≡ true → Spells (between q) (L q)) → Spells (quoted between) (Quoted L)
-spells_quoted between L s =
-    spells_as
-    (spells_either (spells_chain (spells_word (34 ∷ []) refl) (spells_chain (s 34 refl) (spells_word (34 ∷ []) refl)))
-    (spells_chain (spells_word (39 ∷ []) refl) (spells_chain (s 39 refl) (spells_word (39 ∷ []) refl))))
-    into (quoted_from L)
-  where
-    into : (cs : List ℕ) → In L 34 cs ⊎ In L 39 cs → Quoted L cs
-    into cs (inl k) = quoted_into L 34 refl cs k
-    into cs (inr k) = quoted_into L 39 refl cs k
 
 -- a literal of characters that pass
 pub record IsLiteralOf (test : ℕ → Bool) (good : List ℕ → Bool) (cs : List ℕ) : Type 0 where
@@ -82,9 +40,6 @@ literal_into test cs k = record { literal = record { quote = k.quote; text = k.t
 
 literal_from : (test : ℕ → Bool) (cs : List ℕ) → IsLiteralOf test any cs → Quoted (Passing test) cs
 literal_from test cs i = record { quote = i.literal.quote; text = i.literal.text; quoted = i.are.quoted; between = i.are.pass; is = i.is }
-
-pub quote_small : (q : ℕ) → is_quote q ≡ true → q < 128
-quote_small q h = grind (arith, nat_tests)
 
 pub spells_system : Spells system_literal (IsLiteralOf is_character any)
 spells_system = spells_as (spells_quoted (λ q. star (other_than q)) (Passing is_character) (λ q h. spells_all (spells_other q (quote_small q h)))) (literal_into is_character) (literal_from is_character)

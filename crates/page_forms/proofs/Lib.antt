@@ -11,6 +11,14 @@ pub mod Numbers
 pub mod CharacterNumbers
 pub mod WordForms
 pub mod ReferenceForms
+pub mod QuotedForms
 pub mod DoctypeForms
 pub mod SimpleForms
 pub mod GoingOn
+pub mod ValueWords
+pub mod ValueTexts
+pub mod ValueForms
+pub mod AttributeForms
+pub mod Picking
+pub mod TagForms
+pub mod DeclarationForms

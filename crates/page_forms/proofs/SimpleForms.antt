@@ -14,8 +14,8 @@ use Rattle.page_model.specs.PageTokens.{piece_bytes}
 use Rattle.page_model.specs.Parts.{character, is_plain}
 use Rattle.page_model.specs.Pieces.{Piece, mark, end_tag, leaf, piece_then, may_follow}
 use Rattle.page_model.specs.Places.{Place, at_beginning, behind_mark, behind}
-use Rattle.page_forms.specs.Laws.{BlanksAreSpelled, TextIsSpelled, MarkIsSpelled, EndTagsAreSpelled}
-use Rattle.page_forms.specs.Simple.{is_text, text_form, beyond_but_mark, mark_form, end_tag_form}
+use Rattle.page_forms.specs.Laws.{BlanksAreSpelled, BracketIsSpelled, TextIsSpelled, MarkIsSpelled, EndTagsAreSpelled}
+use Rattle.page_forms.specs.Simple.{is_mark, bracket_form, is_text, text_form, beyond_but_mark, mark_form, end_tag_form}
 use Rattle.page_forms.specs.Words.{character_of, by_rows, low_rows, middle_rows, rows_but_mark, high_rows, later_byte}
 use Rattle.page_forms.proofs.Characters.{of_two, of_e0, of_e1, of_ed, of_ee, of_ef, of_ef_bf}
 use Rattle.page_forms.proofs.Classes.{spells_ascii}
@@ -38,26 +38,35 @@ blanks_are_spelled = is_form_of (spells_as spells_blank into from)
     from : (cs : List ℕ) → ((p : Piece) × ((c : ℕ) × (p ≡ leaf (character c)) × (is_blank c ≡ true)) × (piece_then p [] ≡ cs)) → One is_blank cs
     from cs q = record { character = q.1.0; passes = q.1.2; is = sym (ap (λ (z : Piece). piece_then z []) q.1.1) ∙ q.2 }
 
+-- The bracket.
+
+pub bracket_is_spelled : BracketIsSpelled
+unfolding encode_utf8
+bracket_is_spelled bytes = (
+  λ d. (leaf (character 93), refl, sym (word_shown (93 ∷ []) d)),
+  λ q. subst (λ (z : List ℕ). Matches bracket_form z) (ap piece_bytes (sym q.1) ∙ q.2) (word_made (93 ∷ [])),
+)
+
 -- Text.
 
 -- a character of text at a place
 abbrev IsText : Place → ℕ → Bool
 IsText place c = is_character c && is_text place c
 
-text_parts : (place : Place) (c : ℕ) → IsText place c ≡ true → (is_plain c ≡ true) × (is_blank c ≡ false) × (may_follow place (character c) ≡ true)
+text_parts : (place : Place) (c : ℕ) → IsText place c ≡ true → (is_plain c ≡ true) × (is_mark c ≡ false) × (may_follow place (character c) ≡ true)
 text_parts place c h =
     let p = and_parts (is_character c) (is_text place c) h in
-    let q = and_parts (not (c == 60 || c == 38 || is_blank c)) (may_follow place (character c)) p.1 in
-    let r = or_parts (c == 60 || c == 38) (is_blank c) (not-true (c == 60 || c == 38 || is_blank c) q.0) in
+    let q = and_parts (not (c == 60 || c == 38 || is_mark c)) (may_follow place (character c)) p.1 in
+    let r = or_parts (c == 60 || c == 38) (is_mark c) (not-true (c == 60 || c == 38 || is_mark c) q.0) in
     (and_from (is_character c) (not (c == 60 || c == 38)) p.0 (not_from_false (c == 60 || c == 38) r.0), r.1, q.1)
 
-parts_text : (place : Place) (c : ℕ) → is_plain c ≡ true → is_blank c ≡ false → may_follow place (character c) ≡ true → IsText place c ≡ true
+parts_text : (place : Place) (c : ℕ) → is_plain c ≡ true → is_mark c ≡ false → may_follow place (character c) ≡ true → IsText place c ≡ true
 parts_text place c h b m =
     let p = and_parts (is_character c) (not (c == 60 || c == 38)) h in
     and_from (is_character c) (is_text place c) p.0
-    (and_from (not (c == 60 || c == 38 || is_blank c)) (may_follow place (character c)) (not_from_false (c == 60 || c == 38 || is_blank c) (or_from (c == 60 || c == 38) (is_blank c) (not-true (c == 60 || c == 38) p.1) b)) m)
+    (and_from (not (c == 60 || c == 38 || is_mark c)) (may_follow place (character c)) (not_from_false (c == 60 || c == 38 || is_mark c) (or_from (c == 60 || c == 38) (is_mark c) (not-true (c == 60 || c == 38) p.1) b)) m)
 
-beyond_is : (c : ℕ) → 128 ≤ c → (c == 60 || c == 38 || is_blank c) ≡ false
+beyond_is : (c : ℕ) → 128 ≤ c → (c == 60 || c == 38 || is_mark c) ≡ false
 beyond_is c l = grind (arith, nat_tests)
 
 beyond_follows : (k c : ℕ) → 128 ≤ c → may_follow (behind k) (character c) ≡ true
@@ -227,7 +236,7 @@ beginning_into cs (inr o) =
     record {
       character = o.character;
       passes = and_from (is_character o.character) (is_text at_beginning o.character) q.0
-          (and_from (not (o.character == 60 || o.character == 38 || is_blank o.character)) (not (o.character == 0xFEFF)) (not_from_false (o.character == 60 || o.character == 38 || is_blank o.character) (beyond_is o.character l)) q.1);
+          (and_from (not (o.character == 60 || o.character == 38 || is_mark o.character)) (not (o.character == 0xFEFF)) (not_from_false (o.character == 60 || o.character == 38 || is_mark o.character) (beyond_is o.character l)) q.1);
       is = o.is;
     }
 
@@ -238,11 +247,11 @@ beginning_from cs o = at (cases_lt o.character 128)
     at (inl l) = inl (record { character = o.character; passes = and_from (nat_lt o.character 128) (IsText at_beginning o.character) (lt-ltb o.character 128 l) o.passes; is = o.is })
     at (inr l) =
         let p = and_parts (is_character o.character) (is_text at_beginning o.character) o.passes in
-        let q = and_parts (not (o.character == 60 || o.character == 38 || is_blank o.character)) (not (o.character == 0xFEFF)) p.1 in
+        let q = and_parts (not (o.character == 60 || o.character == 38 || is_mark o.character)) (not (o.character == 0xFEFF)) p.1 in
         inr (record { character = o.character; passes = and_from (nat_le 128 o.character) (is_character o.character && not (o.character == 0xFEFF)) (le-leb 128 o.character l) (and_from (is_character o.character) (not (o.character == 0xFEFF)) p.0 q.1); is = o.is })
 
 text_beyond : (place : Place) (c : ℕ) → 128 ≤ c → may_follow place (character c) ≡ true → is_text place c ≡ true
-text_beyond place c l m = and_from (not (c == 60 || c == 38 || is_blank c)) (may_follow place (character c)) (not_from_false (c == 60 || c == 38 || is_blank c) (beyond_is c l)) m
+text_beyond place c l m = and_from (not (c == 60 || c == 38 || is_mark c)) (may_follow place (character c)) (not_from_false (c == 60 || c == 38 || is_mark c) (beyond_is c l)) m
 
 spells_text : (place : Place) → Spells (text_form place) (One (IsText place))
 spells_text at_beginning = spells_as (spells_either (spells_ascii (IsText at_beginning)) spells_but_mark) beginning_into beginning_from
@@ -250,7 +259,7 @@ spells_text behind_mark = spells_character (is_text behind_mark) (λ c l. text_b
 spells_text (behind k) = spells_character (is_text (behind k)) (λ c l. text_beyond (behind k) c l (beyond_follows k c l))
 
 abbrev IsOne : Place → Piece → Type 0
-IsOne place p = (c : ℕ) × (p ≡ leaf (character c)) × (is_plain c ≡ true) × (is_blank c ≡ false) × (may_follow place (character c) ≡ true)
+IsOne place p = (c : ℕ) × (p ≡ leaf (character c)) × (is_plain c ≡ true) × (is_mark c ≡ false) × (may_follow place (character c) ≡ true)
 
 pub text_is_spelled : TextIsSpelled
 text_is_spelled place = is_form_of (spells_as (spells_text place) into from)

@@ -3,13 +3,10 @@ use Rattle.std.specs.Prelude.{ℕ, not, ◌==◌, ◌&&◌, List, codes}
 use Rattle.xml_text.specs.Names.{in_public_identifier}
 use Rattle.dtd_model.specs.declared.dtd.DoctypeRule.{DoctypeRule}
 use Rattle.dtd_model.specs.declared.dtd.DoctypeRule.TheVariants.{Strict, Free}
-use Rattle.derivatives.specs.Expressions.{Expr, empty, range, star}
+use Rattle.derivatives.specs.Expressions.{Expr, empty, star}
 use Rattle.derivatives.specs.Derivatives.{chain_of, either_of}
+use Rattle.page_forms.specs.Quotes.{quoted}
 use Rattle.page_forms.specs.Words.{word, ascii, other_than, blanks, gap}
-
--- a text in either quote, by what may stand between two such quotes
-abbrev pub quoted : (ℕ → Expr) → Expr
-quoted between = either_of (chain_of (range 34 34) (chain_of (between 34) (range 34 34))) (chain_of (range 39 39) (chain_of (between 39) (range 39 39)))
 
 -- a system literal: any characters
 abbrev pub system_literal : Expr

@@ -3,19 +3,23 @@ use Rattle.std.specs.Prelude.{◌≡◌, ◌↔◌, ℕ, true, false, List, []}
 use Rattle.std.specs.List.{list_all}
 use Rattle.xml_text.specs.Characters.{is_blank}
 use Rattle.xml_text.specs.Names.{is_name}
+use Rattle.dtd_model.specs.Lawful.{are_lawful_attributes}
+use Rattle.dtd_model.specs.Table.{Rule}
 use Rattle.dtd_model.specs.References.{Reference, is_reference, is_known}
 use Rattle.dtd_model.specs.declared.dtd.DoctypeRule.{DoctypeRule}
 use Rattle.derivatives.specs.Expressions.{Expr, Matches, Joins}
-use Rattle.page_model.specs.Attributes.{doctype_fits}
+use Rattle.page_model.specs.Attributes.{doctype_fits, attributes_fit}
 use Rattle.page_model.specs.PageTokens.{piece_bytes}
-use Rattle.page_model.specs.Parts.{character, reference, section, comment, instruction, IsSection, IsComment, IsInstruction, is_plain}
-use Rattle.page_model.specs.Pieces.{Piece, mark, doctype, end_tag, leaf, may_follow, IsPiece}
+use Rattle.page_model.specs.Parts.{Tag, IsTag, character, reference, section, comment, instruction, IsSection, IsComment, IsInstruction, is_plain}
+use Rattle.page_model.specs.Pieces.{Piece, mark, declaration, doctype, start_tag, empty_tag, end_tag, leaf, may_follow, IsPiece}
 use Rattle.page_model.specs.Places.{Place}
-use Rattle.page_model.specs.Prolog.{Doctype, IsDoctype}
+use Rattle.page_model.specs.Prolog.{Declaration, IsDeclaration, Doctype, IsDoctype}
+use Rattle.page_forms.specs.Declarations.{declaration_form}
 use Rattle.page_forms.specs.Doctypes.{doctype_form}
 use Rattle.page_forms.specs.References.{reference_form}
 use Rattle.page_forms.specs.Remarks.{comment_form, section_form, instruction_form}
-use Rattle.page_forms.specs.Simple.{blank_form, text_form, mark_form, end_tag_form}
+use Rattle.page_forms.specs.Tags.{start_tag_form, empty_tag_form}
+use Rattle.page_forms.specs.Simple.{blank_form, bracket_form, is_mark, text_form, mark_form, end_tag_form}
 
 -- the expression matches exactly the bytes of these pieces
 abbrev pub IsFormOf : Expr → (Piece → Type 0) → Type 0
@@ -44,15 +48,23 @@ abbrev pub DoctypesAreSpelled : Type 0
 DoctypesAreSpelled =
     (rule : DoctypeRule) → IsFormOf (doctype_form rule) (λ p. (d : Doctype) × (p ≡ doctype d) × IsDoctype d × (doctype_fits rule d ≡ true))
 
+-- the XML declarations (XML 1.0, 2.8)
+abbrev pub DeclarationsAreSpelled : Type 0
+DeclarationsAreSpelled = IsFormOf declaration_form (λ p. (d : Declaration) × (p ≡ declaration d) × IsDeclaration d)
+
 -- the characters of white space (XML 1.0, 2.3)
 abbrev pub BlanksAreSpelled : Type 0
 BlanksAreSpelled = IsFormOf blank_form (λ p. (c : ℕ) × (p ≡ leaf (character c)) × (is_blank c ≡ true))
+
+-- the character `]`
+abbrev pub BracketIsSpelled : Type 0
+BracketIsSpelled = (bytes : List ℕ) → Matches bracket_form bytes ↔ ((p : Piece) × (p ≡ leaf (character 93)) × (piece_bytes p ≡ bytes))
 
 -- the other characters of text that may stand at a place (XML 1.0, 2.4)
 abbrev pub TextIsSpelled : Type 0
 TextIsSpelled = (place : Place)
     → IsFormOf (text_form place)
-    (λ p. (c : ℕ) × (p ≡ leaf (character c)) × (is_plain c ≡ true) × (is_blank c ≡ false) × (may_follow place (character c) ≡ true))
+    (λ p. (c : ℕ) × (p ≡ leaf (character c)) × (is_plain c ≡ true) × (is_mark c ≡ false) × (may_follow place (character c) ≡ true))
 
 -- the byte order mark (XML 1.0, 4.3.3)
 abbrev pub MarkIsSpelled : Type 0
@@ -62,6 +74,20 @@ MarkIsSpelled = (bytes : List ℕ) → Matches mark_form bytes ↔ ((p : Piece) 
 abbrev pub EndTagsAreSpelled : Type 0
 EndTagsAreSpelled = (name : List ℕ) → is_name name ≡ true
     → IsFormOf (end_tag_form name) (λ p. (space : List ℕ) × (p ≡ end_tag name space) × (list_all is_blank space ≡ true))
+
+-- the start tags of an element, by its declaration and by the entities that are declared (XML 1.0, 3.1 and 3.3)
+abbrev pub StartTagsAreSpelled : Type 0
+StartTagsAreSpelled = (entities : List (List ℕ)) (rule : Rule) → is_name rule.name ≡ true → are_lawful_attributes rule.attributes ≡ true
+    → IsFormOf (start_tag_form entities rule)
+    (λ p. (tag : Tag) × (p ≡ start_tag tag) × IsTag tag × (tag.name ≡ rule.name)
+    × (attributes_fit entities rule.name rule.attributes tag.attributes ≡ true))
+
+-- and the tags of empty elements
+abbrev pub EmptyTagsAreSpelled : Type 0
+EmptyTagsAreSpelled = (entities : List (List ℕ)) (rule : Rule) → is_name rule.name ≡ true → are_lawful_attributes rule.attributes ≡ true
+    → IsFormOf (empty_tag_form entities rule)
+    (λ p. (tag : Tag) × (p ≡ empty_tag tag) × IsTag tag × (tag.name ≡ rule.name)
+    × (attributes_fit entities rule.name rule.attributes tag.attributes ≡ true))
 
 -- each text of the expression is that of a piece that may stand at this place
 abbrev pub AreOfPieces : Place → Expr → Type 0

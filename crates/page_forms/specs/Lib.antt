@@ -1,6 +1,9 @@
 pub mod Words
 pub mod Remarks
 pub mod References
+pub mod Quotes
 pub mod Doctypes
+pub mod Declarations
 pub mod Simple
+pub mod Tags
 pub mod Laws

@@ -12,15 +12,23 @@ use Rattle.page_forms.specs.Words.{word, ascii, character_of, blanks, by_rows, l
 abbrev pub blank_form : Expr
 blank_form = ascii is_blank
 
--- text, at a place: no white space, no `<`, no `&`, and what may follow there
+-- `]`, of which it matters how many are the last before a `>` (XML 1.0, 2.4)
+abbrev pub bracket_form : Expr
+bracket_form = word (codes "]")
+
+-- white space or `]`
+abbrev pub is_mark : ℕ → Bool
+is_mark c = c == 93 || is_blank c
+
+-- text, at a place: no `<`, no `&`, no `]` and no white space, and what may follow there
 abbrev pub is_text : Place → ℕ → Bool
-is_text place c = not (c == 60 || c == 38 || is_blank c) && may_follow place (character c)
+is_text place c = not (c == 60 || c == 38 || is_mark c) && may_follow place (character c)
 
 -- the characters beyond ASCII but for U+FEFF
 unfoldable pub beyond_but_mark : Expr
 beyond_but_mark = by_rows (low_rows ++ (rows_but_mark ++ high_rows))
 
--- a character of text that is no white space
+-- a character of text that is neither white space nor `]`
 abbrev pub text_form : Place → Expr
 text_form at_beginning = either_of (ascii (λ c. is_character c && is_text at_beginning c)) beyond_but_mark
 text_form behind_mark = character_of (is_text behind_mark)

@@ -1,6 +1,6 @@
 //! The laws. Each function does nothing, and stands for the law that its contract states.
 
-ghost use Rattle.page_forms.specs.Laws.{BlanksAreSpelled, CommentsAreSpelled, DoctypesAreSpelled, EndTagsAreSpelled, InstructionsAreSpelled, MarkIsSpelled, NoneGoesOn, ReferencesAreSpelled, SectionsAreSpelled, TextIsSpelled};
+ghost use Rattle.page_forms.specs.Laws.{BlanksAreSpelled, BracketIsSpelled, CommentsAreSpelled, DeclarationsAreSpelled, DoctypesAreSpelled, EmptyTagsAreSpelled, EndTagsAreSpelled, InstructionsAreSpelled, MarkIsSpelled, NoneGoesOn, ReferencesAreSpelled, SectionsAreSpelled, StartTagsAreSpelled, TextIsSpelled};
 
 /// Comments (XML 1.0, 2.5).
 pub fn comments_are_spelled()
@@ -27,9 +27,19 @@ pub fn doctypes_are_spelled()
     ensures { DoctypesAreSpelled }
 {}
 
+/// XML declarations (XML 1.0, 2.8).
+pub fn declarations_are_spelled()
+    ensures { DeclarationsAreSpelled }
+{}
+
 /// White space (XML 1.0, 2.3).
 pub fn blanks_are_spelled()
     ensures { BlanksAreSpelled }
+{}
+
+/// The character `]` (XML 1.0, 2.4).
+pub fn bracket_is_spelled()
+    ensures { BracketIsSpelled }
 {}
 
 /// Other characters of text (XML 1.0, 2.4).
@@ -45,6 +55,16 @@ pub fn mark_is_spelled()
 /// End tags (XML 1.0, 3.1).
 pub fn end_tags_are_spelled()
     ensures { EndTagsAreSpelled }
+{}
+
+/// Start tags (XML 1.0, 3.1 and 3.3).
+pub fn start_tags_are_spelled()
+    ensures { StartTagsAreSpelled }
+{}
+
+/// Tags of empty elements (XML 1.0, 3.1 and 3.3).
+pub fn empty_tags_are_spelled()
+    ensures { EmptyTagsAreSpelled }
 {}
 
 /// Where a form has ended, none goes on.

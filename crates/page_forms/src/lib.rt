@@ -7,7 +7,8 @@
 mod laws;
 
 pub use laws::{
-    blanks_are_spelled, comments_are_spelled, doctypes_are_spelled, end_tags_are_spelled,
-    instructions_are_spelled, mark_is_spelled, none_goes_on, references_are_spelled,
-    sections_are_spelled, text_is_spelled,
+    blanks_are_spelled, bracket_is_spelled, comments_are_spelled, declarations_are_spelled,
+    doctypes_are_spelled, empty_tags_are_spelled, end_tags_are_spelled, instructions_are_spelled,
+    mark_is_spelled, none_goes_on, references_are_spelled, sections_are_spelled,
+    start_tags_are_spelled, text_is_spelled,
 };
