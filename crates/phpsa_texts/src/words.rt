@@ -26,14 +26,12 @@ pub const HELP: &[u8] = b"phpsa says whether all pages that a PHP script can pri
   --limit N           check: gives up at over N sums, 10000 where it is left out.
   --nesting           check: asks only that the tags of a page match.
   --json              check: writes the answer as a line of JSON.
-  --root FOLDER       check, run, page, grammar: what a script includes and a
-                      definition asks for has to lie in this folder.
   --request FILE      run: the request, as JSON; an empty one if left out.
   --steps N           run: stops after N steps, 10000000 if left out.
   --check             make: decides the script in place of writing it.
   --help, --version   Writes this, or the version.
 
-Options stand in any order. A FILE that is - is the standard input.
+Options stand in any order.
 
 Example:  phpsa check guests.php --dtd strict
 ";
@@ -83,12 +81,10 @@ fn usage_text(alloc: Global, reason: Option<&[u8]>) -> Result<Bytes, NoMemory>
     let why = reason_text(alloc, reason)?;
     let mut text = Bytes::from_slice(alloc, b"phpsa: Usage\n")?;
     text.append(why.as_slice())?;
-    text.append(
-        b"phpsa check FILE [--dtd D] [--limit N] [--nesting] [--json] [--root FOLDER]\n",
-    )?;
-    text.append(b"phpsa run FILE [--request FILE] [--steps N] [--root FOLDER]\n")?;
-    text.append(b"phpsa page FILE [--dtd D] [--root FOLDER]\n")?;
-    text.append(b"phpsa grammar FILE [--root FOLDER]\n")?;
+    text.append(b"phpsa check FILE [--dtd D] [--limit N] [--nesting] [--json]\n")?;
+    text.append(b"phpsa run FILE [--request FILE] [--steps N]\n")?;
+    text.append(b"phpsa page FILE [--dtd D]\n")?;
+    text.append(b"phpsa grammar FILE\n")?;
     text.append(b"phpsa make N [--check]\n")?;
     text.append(b"phpsa --help\nphpsa --version\n")?;
     Ok(text)
