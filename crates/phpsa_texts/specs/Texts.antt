@@ -194,7 +194,7 @@ definition_text (definition.File fault) = dtd_refusal_text fault
 definition_text (definition.BuiltIn fault) = built_in_text fault
 definition_text definition.Memory = memory_text
 
--- on `err`, where the content models of a definition have so many states
+-- on `err`, where the content models of a definition have so many pairs, states or moves of states
 abbrev pub states_text : ℕ → List ℕ
 states_text count = number_text (dtd_kind (codes "Limit")) count
 

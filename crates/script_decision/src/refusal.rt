@@ -10,7 +10,7 @@ use thiserror::Error;
 #[derive(Clone, Copy, Debug, PartialEq, Eq, Error)]
 pub enum CheckRefusal {
     /// The content models of the definition pass a limit (`PassLimit` of content_automata).
-    #[error("the content models have over {count} states")]
+    #[error("the content models come to {count} pairs, states or moves, over the limit")]
     Limit { count: u64 },
     /// A text literal of the program has over 16,777,216 bytes, and so is no text of a run.
     #[error("a text has more than 16,777,216 bytes")]
