@@ -1,4 +1,5 @@
 pub mod ScriptParts
+pub mod TellingParts
 pub mod PageParts
 pub mod MadeParts
 pub mod LoadedParts

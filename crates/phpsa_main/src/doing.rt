@@ -12,7 +12,7 @@ use crate::running::run_script;
 use crate::script::check_script;
 use io_edge::Files;
 use phpsa_tasks::{Reply, Task};
-use phpsa_texts::{Refusal, usage_refusal};
+use phpsa_texts::{Refusal, help_message, usage_refusal, version_message};
 use std::alloc::Global;
 
 /// Does the task: what is written of it, or why it is refused.
@@ -45,6 +45,9 @@ pub(crate) fn result_of<F: Files>(
             steps,
         } => run_script(alloc, file, request, steps, files),
         Task::GrammarMaking { file } => make_grammar(alloc, file, files),
-        Task::Usage => Err(usage_refusal(alloc)),
+        Task::Help => Ok(Reply::Text(help_message(alloc)?)),
+        Task::Version => Ok(Reply::Text(version_message(alloc)?)),
+        Task::Usage { reason: None } => Err(usage_refusal(alloc, None)),
+        Task::Usage { reason: Some(line) } => Err(usage_refusal(alloc, Some(line.as_bytes()))),
     }
 }

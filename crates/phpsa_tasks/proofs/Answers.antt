@@ -7,7 +7,7 @@ use Rattle.command_words.specs.Asked.{Asked, Asks, AsksNothing}
 use Rattle.command_words.specs.Canonical.{IsCanonical}
 use Rattle.phpsa_texts.specs.declared.exit.Exit.{Exit}
 use Rattle.phpsa_texts.specs.declared.exit.Exit.TheVariants.{WriteFault, Usage, Memory}
-use Rattle.phpsa_tasks.specs.Tasks.{Task, script_check, page_check, script_making, made_check, script_run, grammar_making, usage, task_of, AsksFor, asks, asks_nothing}
+use Rattle.phpsa_tasks.specs.Tasks.{Task, script_check, page_check, script_making, made_check, script_run, grammar_making, help_telling, version_telling, usage, task_of, AsksFor, asks, asks_nothing}
 use Rattle.phpsa_tasks.specs.Call.{Call, Gains, GainsNothing}
 use Rattle.phpsa_tasks.specs.Subjects.{Subject, Finds, Holds, IsWithin, LacksFile}
 use Rattle.phpsa_tasks.specs.Replies.{Replies, Halts}
@@ -77,6 +77,8 @@ found_nothing content (made_check n) x lacks (size, found, has) = lacks size
 found_nothing content (script_run file request steps) x (inl none) (found, finds, admitted) = none x.program found
 found_nothing content (script_run file request steps) x (inr none) (found, finds, admitted) = none x.request finds
 found_nothing content (grammar_making file) x lacks found = lacks x found
+found_nothing content help_telling x lacks found = lacks
+found_nothing content version_telling x lacks found = lacks
 found_nothing content usage x lacks found = lacks
 
 nothing_of : (call : Call) (status : Exit) (text : List ℕ) (task : Task) → IsUndisturbed call → LacksFile call.files.content task → Refuses call.files task status text ⊎ (status ≡ Memory)

@@ -36,7 +36,7 @@ use Rattle.script_decision.specs.Shown.{IsShownAnswer}
 use Rattle.phpsa_texts.specs.declared.exit.Exit.{Exit}
 use Rattle.phpsa_texts.specs.declared.exit.Exit.TheVariants.{Memory}
 use Rattle.phpsa_texts.specs.Statuses.{judgment_status, load_status, file_status, request_status, definition_status}
-use Rattle.phpsa_tasks.specs.Tasks.{Task, script_check, page_check, script_making, made_check, script_run, grammar_making, usage}
+use Rattle.phpsa_tasks.specs.Tasks.{Task, script_check, page_check, script_making, made_check, script_run, grammar_making, help_telling, version_telling, usage}
 use Rattle.phpsa_tasks.specs.Files.{HoldsShortFile}
 use Rattle.phpsa_tasks.specs.Requests.{no_request, FindsRequest, HoldsRequest, unread, no_request_in, RefusesRequest}
 use Rattle.phpsa_tasks.specs.Subjects.{ProgramBy, PageBy, ProgramFor, Subject, made_name, only_made, Finds, HoldsShortProgram, HoldsTable, Holds, IsSmall, IsWithin}
@@ -138,6 +138,8 @@ held_reply one content (grammar_making file) x y status text h found (inl (writt
 held_reply one content (grammar_making file) x y status text h found (inr (count, many, status_is, text_is)) =
     let own : HasManyItems x count = subst (λ (p : PlainProgram). HasManyItems p count) (sym (one content file x y h.holds found)) many in
     inr (inl (subst (PassesGrammarLimit x) (sym status_is) (count, own)))
+held_reply one content help_telling x y status text h f (status_is, text_is) = inl status_is
+held_reply one content version_telling x y status text h f (status_is, text_is) = inl status_is
 held_reply one content usage x y status text h f r = absurd r
 
 -- and so does a run that does not come to its end
@@ -150,6 +152,8 @@ held_halt one content (made_check n) x y status printed text h f r = absurd r
 held_halt one content (script_run file request steps) x y status printed text (h, r) (found, finds, admitted) (early, status_is, printed_is, text_is) =
     inl (own_run one content file request x y h r found finds (λ (p : PlainProgram) (q : PlainRequest). status ≡ end_status (meaning p q steps).end) status_is)
 held_halt one content (grammar_making file) x y status printed text h f r = absurd r
+held_halt one content help_telling x y status printed text h f r = absurd r
+held_halt one content version_telling x y status printed text h f r = absurd r
 held_halt one content usage x y status printed text h f r = absurd r
 
 -- a page that is told of and short is read
@@ -234,4 +238,6 @@ held_refusal laws files (grammar_making file) x status text calm h w (inl (cause
 held_refusal laws files (grammar_making file) x status text calm h w (inr (program, found, long, status_is, text_is)) =
     let own : HasLongText x = subst HasLongText (sym (laws.one_program files.content file x program h.holds found)) long in
     inr (inl (subst (PassesGrammarLimit x) (sym status_is) own))
+held_refusal laws files help_telling x status text calm h w why = absurd why
+held_refusal laws files version_telling x status text calm h w why = absurd why
 held_refusal laws files usage x status text calm h w (status_is, text_is) = inl (subst (IsVerdict usage tt) (sym status_is) tt)

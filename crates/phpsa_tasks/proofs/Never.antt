@@ -16,12 +16,12 @@ use Rattle.document_types.specs.DocumentTypes.{NamedType, strict_type}
 use Rattle.document_types.specs.declared.refusal.DefinitionRefusal.{DefinitionRefusal}
 use Rattle.document_types.specs.declared.refusal.DefinitionRefusal.TheVariants as definition
 use Rattle.script_decision.specs.declared.shown.ShownAnswer.{ShownAnswer}
-use Rattle.command_words.specs.Asked.{Asked, check, run, page, grammar, make}
+use Rattle.command_words.specs.Asked.{Asked, help, version, check, run, page, grammar, make}
 use Rattle.phpsa_texts.specs.declared.exit.Exit.{Exit}
 use Rattle.phpsa_texts.specs.declared.exit.Exit.TheVariants.{Done, Usage}
 use Rattle.phpsa_texts.specs.declared.exit.Exit.TheVariants as exit
 use Rattle.phpsa_texts.specs.Statuses.{judgment_status, fault_status, load_status, file_status, request_status, dtd_status, built_in_status, definition_status}
-use Rattle.phpsa_tasks.specs.Tasks.{Task, script_check, page_check, script_making, made_check, script_run, grammar_making, usage, task_of}
+use Rattle.phpsa_tasks.specs.Tasks.{Task, script_check, page_check, script_making, made_check, script_run, grammar_making, help_telling, version_telling, usage, task_of}
 use Rattle.phpsa_tasks.specs.Requests.{unread, no_request_in, RefusesRequest}
 use Rattle.phpsa_tasks.specs.Subjects.{Subject, made_name, only_made}
 use Rattle.phpsa_tasks.specs.Replies.{answer_status, end_status, IsReplyOf, IsHaltOf}
@@ -127,6 +127,8 @@ never_done files (script_run file request steps) status text (inl (cause, why, i
 never_done files (script_run file request steps) status text (inr (program, found, why, read)) e = not_done status (of_request files request status text why) e
 never_done files (grammar_making file) status text (inl (cause, why, is, text_is)) e = not_done status (subst IsOther (sym is) (of_load cause)) e
 never_done files (grammar_making file) status text (inr (program, found, long, is, text_is)) e = subst HasAllWritten is e
+never_done files help_telling status text why e = why
+never_done files version_telling status text why e = why
 never_done files usage status text (is, text_is) e = subst HasAllWritten is e
 
 pub told_usage : (files : SourceCall) (task : Task) (status : Exit) (text : List ℕ) → Refuses files task status text → status ≡ Usage → task ≡ usage
@@ -138,6 +140,8 @@ told_usage files (script_run file request steps) status text (inl (cause, why, i
 told_usage files (script_run file request steps) status text (inr (program, found, why, read)) e = absurd (not_usage status (of_request files request status text why) e)
 told_usage files (grammar_making file) status text (inl (cause, why, is, text_is)) e = absurd (not_usage status (subst IsOther (sym is) (of_load cause)) e)
 told_usage files (grammar_making file) status text (inr (program, found, long, is, text_is)) e = let same : exit.Input ≡ Usage = sym is ∙ e in absurd cc
+told_usage files help_telling status text why e = absurd why
+told_usage files version_telling status text why e = absurd why
 told_usage files usage status text why e = refl
 
 no_answer : (answer : ShownAnswer) → answer_status answer ≡ Usage → ⊥
@@ -159,6 +163,8 @@ no_reply (made_check n) x status text (answer, says, is, text_is) e = no_answer 
 no_reply (script_run file request steps) x status text (ended, is, text_is) e = let same : Done ≡ Usage = sym is ∙ e in cc
 no_reply (grammar_making file) x status text (inl (written, is)) e = let same : Done ≡ Usage = sym is ∙ e in cc
 no_reply (grammar_making file) x status text (inr (count, many, is, text_is)) e = let same : exit.Undecided ≡ Usage = sym is ∙ e in cc
+no_reply help_telling x status text (is, text_is) e = let same : Done ≡ Usage = sym is ∙ e in cc
+no_reply version_telling x status text (is, text_is) e = let same : Done ≡ Usage = sym is ∙ e in cc
 no_reply usage x status text r e = r
 
 no_fault : (f : Fault) → fault_status f ≡ Usage → ⊥
@@ -186,6 +192,8 @@ no_halt (script_making n) x status printed text r e = r
 no_halt (made_check n) x status printed text r e = r
 no_halt (script_run file request steps) x status printed text (early, is, printed_is, text_is) e = no_end _ (sym is ∙ e)
 no_halt (grammar_making file) x status printed text r e = r
+no_halt help_telling x status printed text r e = r
+no_halt version_telling x status printed text r e = r
 no_halt usage x status printed text r e = r
 
 -- what words ask for is more than the usage
@@ -196,3 +204,5 @@ asks_more (page file definition) e = cc
 asks_more (grammar file) e = cc
 asks_more (make functions true) e = cc
 asks_more (make functions false) e = cc
+asks_more help e = cc
+asks_more version e = cc

@@ -14,7 +14,7 @@ use Rattle.document_types.specs.DocumentTypes.{NamedType}
 use Rattle.phpsa_texts.specs.declared.exit.Exit.{Exit}
 use Rattle.phpsa_texts.specs.declared.exit.Exit.TheVariants.{Missing, Script, Input, Memory}
 use Rattle.phpsa_texts.specs.Statuses.{load_status, file_status, request_status}
-use Rattle.phpsa_tasks.specs.Tasks.{Task, script_check, page_check, script_making, made_check, script_run, grammar_making, usage}
+use Rattle.phpsa_tasks.specs.Tasks.{Task, script_check, page_check, script_making, made_check, script_run, grammar_making, help_telling, version_telling, usage}
 use Rattle.phpsa_tasks.specs.Requests.{unread, no_request_in, RefusesRequest}
 use Rattle.phpsa_tasks.specs.Subjects.{LacksFile}
 use Rattle.phpsa_tasks.specs.Causes.{not_loaded, lacks_definition, has_long_text, not_read, page_lacks_definition, no_size, made_refused, Refuses}
@@ -74,6 +74,8 @@ of_memory files (script_making n) status lacks is = absurd lacks
 of_memory files (made_check n) status lacks is = subst (Among (made_check n)) (sym is) (1, lit< tt, refl)
 of_memory files (script_run file request steps) status lacks is = subst (Among (script_run file request steps)) (sym is) (3, lit< tt, refl)
 of_memory files (grammar_making file) status lacks is = subst (Among (grammar_making file)) (sym is) (3, lit< tt, refl)
+of_memory files help_telling status lacks is = absurd lacks
+of_memory files version_telling status lacks is = absurd lacks
 of_memory files usage status lacks is = absurd lacks
 
 pub of_refusal : (files : SourceCall) (task : Task) (status : Exit) (text : List ℕ) → (Rises files.faults files.faults' → ⊥) → LacksFile files.content task → Refuses files task status text
@@ -92,4 +94,6 @@ of_refusal files (script_run file request steps) status text calm lacks (inl (ca
 of_refusal files (script_run file request steps) status text calm lacks (inr (program, found, why, read)) = of_request files file request steps status text calm why
 of_refusal files (grammar_making file) status text calm lacks (inl (cause, why, is, text_is)) = subst (Among (grammar_making file)) (sym is) (of_load files file cause calm why)
 of_refusal files (grammar_making file) status text calm lacks (inr (program, found, long, is, text_is)) = absurd (lacks program found)
+of_refusal files help_telling status text calm lacks why = absurd lacks
+of_refusal files version_telling status text calm lacks why = absurd lacks
 of_refusal files usage status text calm lacks why = absurd lacks

@@ -17,7 +17,7 @@ use Rattle.document_types.specs.DocumentTypes.{strict_type}
 use Rattle.phpsa_texts.specs.declared.exit.Exit.{Exit}
 use Rattle.phpsa_texts.specs.declared.exit.Exit.TheVariants.{Done}
 use Rattle.phpsa_texts.specs.Statuses.{judgment_status, fault_status}
-use Rattle.phpsa_tasks.specs.Tasks.{Task, script_check, page_check, script_making, made_check, script_run, grammar_making, usage, AsksFor}
+use Rattle.phpsa_tasks.specs.Tasks.{Task, script_check, page_check, script_making, made_check, script_run, grammar_making, help_telling, version_telling, usage, AsksFor}
 use Rattle.phpsa_tasks.specs.Call.{Call}
 use Rattle.phpsa_tasks.specs.Subjects.{Subject, made_name, only_made, Finds, Holds}
 use Rattle.phpsa_tasks.specs.Replies.{answer_status, end_status, IsEarly, IsJudged, IsReplyOf, IsHaltOf, Replies, Halts}
@@ -54,6 +54,8 @@ reply_means one content (made_check n) x y text (size, h, t) (size', found, has)
 reply_means one content (script_run file request steps) x y text (h, r) (found, finds, admitted) (ended, status_is, text_is) =
     own_run one content file request x y h r found finds (λ (p : PlainProgram) (q : PlainRequest). (meaning p q steps).end ≡ runs.Ended) ended
 reply_means one content (grammar_making file) x y text h f r = tt
+reply_means one content help_telling x y text h f r = tt
+reply_means one content version_telling x y text h f r = tt
 reply_means one content usage x y text h f r = absurd r
 
 pub refused_done : (call : Call) (text : List ℕ) → OwesRefusal call Done text → ⊥
@@ -86,6 +88,8 @@ halted_done (script_making n) x printed text r = r
 halted_done (made_check n) x printed text r = r
 halted_done (script_run file request steps) x printed text (early, is, printed_is, text_is) = early_done _ early is
 halted_done (grammar_making file) x printed text r = r
+halted_done help_telling x printed text r = r
+halted_done version_telling x printed text r = r
 halted_done usage x printed text r = r
 
 done_means : OneTask → OneProgram → (call : Call) → Ends call Done → (task : Task) (x : Subject task) → AsksFor call.words task → Holds call.files.content task x → Means task x

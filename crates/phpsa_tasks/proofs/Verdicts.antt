@@ -6,7 +6,7 @@ use Rattle.document_types.specs.DocumentTypes.{NamedType}
 use Rattle.page_decision.specs.declared.goal.Goal.{Goal}
 use Rattle.phpsa_texts.specs.declared.exit.Exit.{Exit}
 use Rattle.phpsa_texts.specs.declared.exit.Exit.TheVariants.{Done, No, Usage, Input}
-use Rattle.phpsa_tasks.specs.Tasks.{Task, script_check, page_check, script_making, made_check, script_run, grammar_making, usage}
+use Rattle.phpsa_tasks.specs.Tasks.{Task, script_check, page_check, script_making, made_check, script_run, grammar_making, help_telling, version_telling, usage}
 use Rattle.phpsa_tasks.specs.Subjects.{PageBy, Subject}
 use Rattle.phpsa_tasks.specs.Answered.{IsScriptVerdict, IsVerdict}
 
@@ -55,4 +55,6 @@ one_verdict (script_making n) x s t a b = making_once n s t a b
 one_verdict (made_check n) x s t a b = script_once Goal.Valid x.table x.program s t a b
 one_verdict (script_run file request steps) x s t a b = a ∙ sym b
 one_verdict (grammar_making file) x s t a b = grammar_once file x s t a b
+one_verdict help_telling x s t a b = a ∙ sym b
+one_verdict version_telling x s t a b = a ∙ sym b
 one_verdict usage x s t a b = usage_once s t a b

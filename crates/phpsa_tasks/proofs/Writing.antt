@@ -6,7 +6,7 @@ use Rattle.dtd_model.specs.Table.{Table}
 use Rattle.document_types.specs.DocumentTypes.{strict_type}
 use Rattle.io_edge.specs.Told.{Content}
 use Rattle.phpsa_texts.specs.declared.exit.Exit.{Exit}
-use Rattle.phpsa_tasks.specs.Tasks.{Task, script_check, page_check, script_making, made_check, script_run, grammar_making, usage, AsksFor}
+use Rattle.phpsa_tasks.specs.Tasks.{Task, script_check, page_check, script_making, made_check, script_run, grammar_making, help_telling, version_telling, usage, AsksFor}
 use Rattle.phpsa_tasks.specs.Call.{Call}
 use Rattle.phpsa_tasks.specs.Subjects.{Subject, made_name, only_made, Finds, Holds}
 use Rattle.phpsa_tasks.specs.Replies.{IsReplyOf, IsHaltOf, Replies, Halts}
@@ -30,6 +30,8 @@ own_reply one content (script_run file request steps) x y status text (h, r) (fo
     own_run one content file request x y h r found finds (λ (p : PlainProgram) (q : PlainRequest). IsReplyOf (script_run file request steps) (record { program = p; request = q }) status text) is
 own_reply one content (grammar_making file) x y status text h found is =
     subst (λ (p : PlainProgram). IsReplyOf (grammar_making file) p status text) (sym (one content file x y h.holds found)) is
+own_reply one content help_telling x y status text h f is = is
+own_reply one content version_telling x y status text h f is = is
 own_reply one content usage x y status text h f is = is
 
 -- and what a run leaves that does not come to its end
@@ -42,6 +44,8 @@ own_halt one content (made_check n) x y status printed text h f is = absurd is
 own_halt one content (script_run file request steps) x y status printed text (h, r) (found, finds, admitted) is =
     own_run one content file request x y h r found finds (λ (p : PlainProgram) (q : PlainRequest). IsHaltOf (script_run file request steps) (record { program = p; request = q }) status printed text) is
 own_halt one content (grammar_making file) x y status printed text h f is = absurd is
+own_halt one content help_telling x y status printed text h f is = absurd is
+own_halt one content version_telling x y status printed text h f is = absurd is
 own_halt one content usage x y status printed text h f is = absurd is
 
 refused_writes : (call : Call) (status : Exit) (text : List ℕ) → HasAllWritten status → OwesRefusal call status text → ⊥

@@ -19,7 +19,7 @@ use Rattle.phpsa_texts.specs.declared.exit.Exit.{Exit}
 use Rattle.phpsa_texts.specs.declared.exit.Exit.TheVariants.{Done, No, Undecided, Script, Missing, Input, WriteFault, Usage, Memory}
 use Rattle.phpsa_texts.specs.Statuses.{request_status}
 use Rattle.phpsa_texts.specs.Texts.{request_text}
-use Rattle.phpsa_tasks.specs.Tasks.{Task, script_check, page_check, script_making, made_check, script_run, grammar_making, usage, AsksFor}
+use Rattle.phpsa_tasks.specs.Tasks.{Task, script_check, page_check, script_making, made_check, script_run, grammar_making, help_telling, version_telling, usage, AsksFor}
 use Rattle.command_words.specs.declared.values.TheConstants.{PAIR_LIMIT}
 use Rattle.phpsa_tasks.specs.Requests.{HoldsNoRequest}
 use Rattle.phpsa_tasks.specs.Subjects.{Subject, HoldsShortProgram, Holds, IsWithin, LacksFile}
@@ -61,6 +61,8 @@ IsVerdict (script_making functions) subject Input = IsSize functions → ⊥
 IsVerdict (made_check functions) subject status = IsScriptVerdict Goal.Valid subject.table subject.program status
 IsVerdict (script_run file request steps) subject status = status ≡ end_status (outcome_for subject steps).end
 IsVerdict (grammar_making file) subject Done = ⊤
+IsVerdict help_telling subject status = status ≡ Done
+IsVerdict version_telling subject status = status ≡ Done
 IsVerdict usage subject Usage = ⊤
 IsVerdict task subject status = ⊥
 
@@ -85,6 +87,8 @@ statuses_of_nothing (script_making functions) = []
 statuses_of_nothing (made_check functions) = Input ∷ Memory ∷ []
 statuses_of_nothing (script_run file request steps) = Missing ∷ Script ∷ Input ∷ Memory ∷ []
 statuses_of_nothing (grammar_making file) = Missing ∷ Script ∷ Input ∷ Memory ∷ []
+statuses_of_nothing help_telling = []
+statuses_of_nothing version_telling = []
 statuses_of_nothing usage = []
 
 -- a program is held, and a file that stands for no request of it, for a cause that is not want of memory

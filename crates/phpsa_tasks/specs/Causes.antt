@@ -19,7 +19,7 @@ use Rattle.phpsa_texts.specs.declared.exit.Exit.{Exit}
 use Rattle.phpsa_texts.specs.declared.exit.Exit.TheVariants.{Usage, Dtd, Input}
 use Rattle.phpsa_texts.specs.Statuses.{load_status, file_status, definition_status}
 use Rattle.phpsa_texts.specs.Texts.{load_text, file_text, definition_text, states_text, long_text, size_text, usage_text}
-use Rattle.phpsa_tasks.specs.Tasks.{Task, script_check, page_check, script_making, made_check, script_run, grammar_making, usage}
+use Rattle.phpsa_tasks.specs.Tasks.{Task, script_check, page_check, script_making, made_check, script_run, grammar_making, help_telling, version_telling, usage}
 use Rattle.phpsa_tasks.specs.Subjects.{made_name, only_made}
 use Rattle.phpsa_tasks.specs.Requests.{RefusesRequest}
 use Rattle.phpsa_tasks.specs.Counted.{ReadsForRun}
@@ -74,7 +74,8 @@ abbrev pub RefusesLongText : SourceCall → List ℕ → Exit → List ℕ → T
 RefusesLongText files file status text =
     (program : PlainProgram) × IsLoaded files.content file program × HasLongText program × (status ≡ Input) × (text ≡ long_text file)
 
--- why each task is refused; want of memory may come at any place beside
+-- why each task is refused; want of memory may come at any place beside. Of what stands in the line that says what is wrong with words
+-- nothing is said here.
 abbrev pub Refuses : SourceCall → Task → Exit → List ℕ → Type 0
 Refuses files (script_check file document_type goal limit form) status text = RefusesScript files file document_type status text
 Refuses files (page_check file document_type) status text = RefusesPage files file document_type status text
@@ -83,4 +84,6 @@ Refuses files (made_check functions) status text = RefusesMade functions status 
 Refuses files (script_run file request steps) status text =
     RefusesProgram files file status text ⊎ LacksRequest files file request status text
 Refuses files (grammar_making file) status text = RefusesProgram files file status text ⊎ RefusesLongText files file status text
-Refuses files usage status text = (status ≡ Usage) × (text ≡ usage_text)
+Refuses files help_telling status text = ⊥
+Refuses files version_telling status text = ⊥
+Refuses files usage status text = (status ≡ Usage) × ((reason : Option (List ℕ)) × (text ≡ usage_text reason))

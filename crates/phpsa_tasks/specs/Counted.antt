@@ -8,7 +8,7 @@ use Rattle.program_loader.specs.Told.{AreAnswered}
 use Rattle.document_types.specs.DocumentTypes.{IsBuiltIn}
 use Rattle.phpsa_texts.specs.declared.exit.Exit.{Exit}
 use Rattle.phpsa_texts.specs.declared.exit.Exit.TheVariants.{Script, Missing, ReadFault, WriteFault, Input, Memory}
-use Rattle.phpsa_tasks.specs.Tasks.{Task, script_check, page_check, script_making, made_check, script_run, grammar_making, usage, AsksFor}
+use Rattle.phpsa_tasks.specs.Tasks.{Task, script_check, page_check, script_making, made_check, script_run, grammar_making, help_telling, version_telling, usage, AsksFor}
 use Rattle.phpsa_tasks.specs.Call.{Output, Call, IsUnfailed}
 
 -- so many names were asked for as the program has files, each of which was answered
@@ -49,6 +49,8 @@ ReadsFor (script_making functions) files status = ReadsNothing files
 ReadsFor (made_check functions) files status = ReadsNothing files
 ReadsFor (script_run file request steps) files status = Contains uncounted status ⊎ ReadsForRun files file request
 ReadsFor (grammar_making file) files status = Contains uncounted status ⊎ ReadsItsFiles files file
+ReadsFor help_telling files status = ReadsNothing files
+ReadsFor version_telling files status = ReadsNothing files
 ReadsFor usage files status = ReadsNothing files
 
 -- a fault of the source is told by the status, but where its text itself could not be made or written

@@ -24,9 +24,9 @@ use Rattle.phpsa_texts.specs.declared.answers.Conclusion.{Conclusion}
 use Rattle.phpsa_texts.specs.declared.answers.Conclusion.TheVariants as conclusion
 use Rattle.phpsa_texts.specs.declared.answers.PassedCount.TheVariants as passed
 use Rattle.phpsa_texts.specs.Statuses.{conclusion_status, judgment_status, fault_status}
-use Rattle.phpsa_texts.specs.Texts.{yes_answer, no_answer, passed_answer, passed_text, summary_text, judgment_text, fault_text, spent_text, deep_text}
+use Rattle.phpsa_texts.specs.Texts.{yes_answer, no_answer, passed_answer, passed_text, summary_text, judgment_text, fault_text, spent_text, deep_text, help_text, version_text}
 use Rattle.command_words.specs.declared.values.TheConstants.{PAIR_LIMIT}
-use Rattle.phpsa_tasks.specs.Tasks.{Task, script_check, page_check, script_making, made_check, script_run, grammar_making, usage}
+use Rattle.phpsa_tasks.specs.Tasks.{Task, script_check, page_check, script_making, made_check, script_run, grammar_making, help_telling, version_telling, usage}
 use Rattle.phpsa_tasks.specs.Subjects.{ProgramFor, Subject, Finds}
 
 -- how a script is decided by each answer for its program
@@ -110,6 +110,8 @@ IsReplyOf (made_check functions) subject status text =
 IsReplyOf (script_run file request steps) subject status text =
     ((outcome_for subject steps).end ≡ runs.Ended) × (status ≡ Done) × (text ≡ (outcome_for subject steps).printed)
 IsReplyOf (grammar_making file) subject status text = IsGrammarReply subject status text
+IsReplyOf help_telling subject status text = (status ≡ Done) × (text ≡ help_text)
+IsReplyOf version_telling subject status text = (status ≡ Done) × (text ≡ version_text)
 IsReplyOf usage subject status text = ⊥
 
 -- what a run leaves that does not come to the end of the script: its status, what it printed, and the text on `err`

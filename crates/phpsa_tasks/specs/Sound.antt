@@ -7,7 +7,7 @@ use Rattle.script_decision.specs.Answers.{RunsAreGood}
 use Rattle.script_maker.specs.Made.{IsSize}
 use Rattle.phpsa_texts.specs.declared.exit.Exit.{Exit}
 use Rattle.phpsa_texts.specs.declared.exit.Exit.TheVariants.{Done}
-use Rattle.phpsa_tasks.specs.Tasks.{Task, script_check, page_check, script_making, made_check, script_run, grammar_making, usage, AsksFor}
+use Rattle.phpsa_tasks.specs.Tasks.{Task, script_check, page_check, script_making, made_check, script_run, grammar_making, help_telling, version_telling, usage, AsksFor}
 use Rattle.phpsa_tasks.specs.Replies.{outcome_for}
 use Rattle.phpsa_tasks.specs.Subjects.{Subject, Holds}
 use Rattle.phpsa_tasks.specs.Call.{Call}
@@ -22,6 +22,8 @@ Means (script_making functions) subject = IsSize functions
 Means (made_check functions) subject = RunsAreGood Goal.Valid subject.table subject.program
 Means (script_run file request steps) subject = (outcome_for subject steps).end ≡ Ended
 Means (grammar_making file) subject = ⊤
+Means help_telling subject = ⊤
+Means version_telling subject = ⊤
 Means usage subject = ⊥
 
 -- After status 0 so it is of the program, or the page, that the source holds under the file that the words ask for, by the document type

@@ -11,7 +11,7 @@ use Rattle.script_decision.specs.Decision.{HasLargeModels}
 use Rattle.script_maker.specs.Made.{made, IsSize}
 use Rattle.phpsa_tasks.specs.Files.{HoldsShortFile}
 use Rattle.phpsa_tasks.specs.Requests.{FindsRequest, HoldsRequest}
-use Rattle.phpsa_tasks.specs.Tasks.{Task, script_check, page_check, script_making, made_check, script_run, grammar_making, usage}
+use Rattle.phpsa_tasks.specs.Tasks.{Task, script_check, page_check, script_making, made_check, script_run, grammar_making, help_telling, version_telling, usage}
 
 -- a program, and the table of the definition that its pages are held against
 pub record ProgramBy : Type 0 where
@@ -48,6 +48,8 @@ Subject (script_making functions) = ⊤
 Subject (made_check functions) = ProgramBy
 Subject (script_run file request steps) = ProgramFor
 Subject (grammar_making file) = PlainProgram
+Subject help_telling = ⊤
+Subject version_telling = ⊤
 Subject usage = ⊤
 
 -- what a task finds, whatever the source tells: under the file's name its program, with all that it includes, or its bytes, and a table of
@@ -64,6 +66,8 @@ Finds content (made_check functions) subject =
 Finds content (script_run file request steps) subject =
     IsLoaded content file subject.program × FindsRequest content request subject.request × Admitted subject.request
 Finds content (grammar_making file) subject = IsLoaded content file subject
+Finds content help_telling subject = ⊤
+Finds content version_telling subject = ⊤
 Finds content usage subject = ⊤
 
 -- the source tells of each name that the program reads, and each is within the limit of a file
@@ -89,6 +93,8 @@ Holds content (made_check functions) subject =
 Holds content (script_run file request steps) subject =
     HoldsShortProgram content file subject.program × HoldsRequest content request subject.request
 Holds content (grammar_making file) subject = HoldsShortProgram content file subject
+Holds content help_telling subject = ⊤
+Holds content version_telling subject = ⊤
 Holds content usage subject = ⊤
 
 -- the names that a definition asks for are within the limit of a file, and the definition and its content models within theirs
@@ -105,6 +111,8 @@ IsWithin content (script_making functions) subject = ⊤
 IsWithin content (made_check functions) subject = IsSmall (only_made functions) strict_type subject.table
 IsWithin content (script_run file request steps) subject = ⊤
 IsWithin content (grammar_making file) subject = ⊤
+IsWithin content help_telling subject = ⊤
+IsWithin content version_telling subject = ⊤
 IsWithin content usage subject = ⊤
 
 -- under the file's name nothing is found, or no request under its own; or there is no generated script of this size
@@ -116,4 +124,6 @@ LacksFile content (made_check functions) = IsSize functions → ⊥
 LacksFile content (script_run file request steps) =
     ((program : PlainProgram) → IsLoaded content file program → ⊥) ⊎ ((found : PlainRequest) → FindsRequest content request found → ⊥)
 LacksFile content (grammar_making file) = (program : PlainProgram) → IsLoaded content file program → ⊥
+LacksFile content help_telling = ⊥
+LacksFile content version_telling = ⊥
 LacksFile content usage = ⊥

@@ -11,7 +11,7 @@ use page_decision::Goal;
 use phpsa_texts::AnswerForm;
 
 /// What is to be done.
-#[derive(Clone, Copy, Debug)]
+#[derive(Debug, Drop)]
 pub enum Task<'a> {
     /// The script of a file is decided, with all that it includes: by this goal, and with at most
     /// so many different sums of the sentences of one nonterminal.
@@ -46,8 +46,15 @@ pub enum Task<'a> {
     GrammarMaking {
         file: &'a str,
     },
-    /// The words ask for nothing: the usage is told.
-    Usage,
+    /// The commands and their options are told.
+    Help,
+    /// The version of the program is told.
+    Version,
+    /// The words ask for nothing: the usage is told, and a line that says what is wrong with them,
+    /// or none where a number in them is none.
+    Usage {
+        reason: Option<String>,
+    },
 }
 
 /// The form of an answer, by whether JSON is asked for.
@@ -109,5 +116,7 @@ pub(crate) fn task_of<'a>(line: CommandLine<'a>) -> Task<'a>
             is_checked: true,
         } => Task::MadeCheck { functions },
         CommandLine::Make { functions, .. } => Task::ScriptMaking { functions },
+        CommandLine::Help => Task::Help,
+        CommandLine::Version => Task::Version,
     }
 }
