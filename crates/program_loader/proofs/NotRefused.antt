@@ -116,7 +116,7 @@ no_rule_broken files (DoubleFunction name) rules twice = absurd (rules.once name
 no_rule_broken files (UnknownFunction name) rules (once, (call, is, named)) =
     let f = found (is_unknown (functions_in files)) (calls_in_files files) call is in
     absurd (not_true (is_known (functions_in files) call) (rules.known call f.0) f.1)
-no_rule_broken files (Arity name) rules (once, known, (call, is, named)) =
+no_rule_broken files (Arity name) rules (once, each, (call, is, named)) =
     let f = found (is_misused (functions_in files)) (calls_in_files files) call is in
     absurd (not_true (serves_call (functions_in files) call) (rules.served call f.0) f.1)
 no_rule_broken files Memory rules free = refl

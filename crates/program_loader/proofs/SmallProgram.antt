@@ -99,8 +99,8 @@ only_member x y (suc i, lt, is) = absurd (omega (arith, lt))
 no_member : {X : Type 0} (x : X) → Contains [] x → ⊥
 no_member x c = let h = c.1 in omega arith
 
-the_tree : Premises → (file path : List ℕ) (tree known : PlainFile) → file ≡ path → HasTree held path known → HasTree held file tree → tree ≡ known
-the_tree ps file path tree known same has other = ps.one path tree known (subst (λ (n : List ℕ). HasTree held n tree) same other) has
+the_tree : Premises → (file path : List ℕ) (tree own : PlainFile) → file ≡ path → HasTree held path own → HasTree held file tree → tree ≡ own
+the_tree ps file path tree own same has other = ps.one path tree own (subst (λ (n : List ℕ). HasTree held n tree) same other) has
 
 outer_includes : Premises → (file path : List ℕ) (tree : PlainFile) → file ≡ codes "t.php" → HasTree held file tree → Contains (includes_of_file tree) path → path ≡ codes "a.php"
 unfolding includes_of_file includes_in
