@@ -1,3 +1,4 @@
+pub mod Alone
 pub mod BuiltInText
 pub mod OneTable
 pub mod ForMemory

@@ -1,7 +1,7 @@
 //! Document type definitions from files, in one pass with a stack of what is left of each open
 //! entity. Promise: `read_dtd` answers Ok only with a table that the file spells (`spelled`:
 //! `DtdSpells` of dtd_texts), and each refusal with its cause (`refused`: `IsCause` of
-//! specs/Refusals); no count of the source rises but that of a file that was not read.
+//! specs/Refusals), by what is told behind the call; no count of the source rises but that of a file not read.
 //! Used by: document_types, phpsa_texts, phpsa_tasks, dtd_tests, page_reader_tests.
 #![tactic(auto)]
 

@@ -1,5 +1,5 @@
-use Rattle.std.proofs.Common.{[], refl, sym, subst}
-use Rattle.io_edge.proofs.Staying.{stays_same}
+use Rattle.std.proofs.Common.{◌∙◌, [], refl, sym, subst}
+use Rattle.io_edge.proofs.Staying.{stays_same, stays_on}
 use Rattle.dtd_texts.specs.Reading.{Reads, start}
 use Rattle.dtd_reader.specs.Source.{SourceCall, source_call}
 use Rattle.dtd_reader.specs.Causes.{IsWithinLimits, IsTextCause}
@@ -66,3 +66,27 @@ returns-clause-answer g c =
     let at = c.steps in
     let many = c.most.ensures (c.is_within_limits.ensures.over c.steps-test.false) in
     (over (g.F.Files.content at.files) c.args.text (position_of at.reader) c.most.result (at.invariant.0 _ (stays_same _ _ refl)) many.0 many.1, (at.invariant.2, at.invariant.3))
+
+pub steps-preserved : goal.steps-preserved
+steps-preserved g c =
+    let at = c.steps in
+    let call : SourceCall = source_call (g.F.Files.content c.advance.new.files) (g.F.Files.faults at.files) (g.F.Files.faults c.advance.new.files) (g.F.Files.misses at.files) (g.F.Files.misses c.advance.new.files) in
+    let counts = subst (λ o. OutcomeCounts call o) c.in-Goes.is c.in_ok-advance.ensures.counted in (
+      (λ content later. subst (λ o. Told content c.args.text o (position_of at.reader) (position_of c.advance.new.self)) c.in-Goes.is
+          (c.in_ok-advance.ensures.told content c.args.text later (at.invariant.0 content (stays_on _ _ _ c.in_ok-advance.ensures.stays later)))),
+      stays_on _ _ _ at.invariant.1 c.in_ok-advance.ensures.stays,
+      counts.0 ∙ at.invariant.2,
+      counts.1 ∙ at.invariant.3,
+    )
+
+pub returns-in-Breaks-clause-stays : goal.returns-in-Breaks-clause-stays
+returns-in-Breaks-clause-stays g c = stays_on _ _ _ c.steps.invariant.1 c.in_ok-advance.ensures.stays
+
+pub returns-in-Omits-clause-stays : goal.returns-in-Omits-clause-stays
+returns-in-Omits-clause-stays g c = stays_on _ _ _ c.steps.invariant.1 c.in_ok-advance.ensures.stays
+
+pub returns-in-Misses-clause-stays : goal.returns-in-Misses-clause-stays
+returns-in-Misses-clause-stays g c = stays_on _ _ _ c.steps.invariant.1 c.in_ok-advance.ensures.stays
+
+pub returns-in-Unread-clause-stays : goal.returns-in-Unread-clause-stays
+returns-in-Unread-clause-stays g c = stays_on _ _ _ c.steps.invariant.1 c.in_ok-advance.ensures.stays
