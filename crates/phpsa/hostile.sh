@@ -120,16 +120,16 @@ row 0 run calls256.php
 cat >arrays.php <<'PHP'
 <?php
 $a = [];
-for ($i = 0; $i < 998; $i++) {
+for ($i = 0; $i < 999; $i++) {
   $a = [$a];
 }
 $b = $a;
-echo $a === $b ? 'same' : 'other', $a == $b ? 'equal' : 'other';
+echo $a === $b ? 'same' : 'other';
 $b[0][0][0] = 'x';
 echo $a === $b ? 'same' : 'other', count($a);
 $a = 1;
 PHP
-row 0,4 run arrays.php
+row 0 run arrays.php
 printf '<?php $x = $_GET; $y = $_POST; echo $x === $y ? "same" : "other"; $x["a"]["a"] = 1; echo count($x);' >request.php
 printf '{"get":%s{}%s,"post":%s{}%s}' "$(times 125 '{"a":')" "$(times 125 '}')" "$(times 125 '{"a":')" "$(times 125 '}')" >request.json
 row 0 run request.php --request request.json
