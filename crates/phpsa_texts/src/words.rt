@@ -37,11 +37,10 @@ Example:  phpsa check guests.php --dtd strict
 ";
 
 /// A line for each command.
-const USAGE_LINES: &[u8] =
-    b"phpsa check FILE [--dtd D] [--limit N] [--nesting] [--json] [--root FOLDER]
-phpsa run FILE [--request FILE] [--steps N] [--root FOLDER]
-phpsa page FILE [--dtd D] [--root FOLDER]
-phpsa grammar FILE [--root FOLDER]
+const USAGE_LINES: &[u8] = b"phpsa check FILE [--dtd D] [--limit N] [--nesting] [--json]
+phpsa run FILE [--request FILE] [--steps N]
+phpsa page FILE [--dtd D]
+phpsa grammar FILE
 phpsa make N [--check]
 phpsa --help
 phpsa --version
@@ -93,16 +92,7 @@ fn usage_text(alloc: Global, reason: Option<&[u8]>) -> Result<Bytes, NoMemory>
     let why = reason_text(alloc, reason)?;
     let mut text = Bytes::from_slice(alloc, b"phpsa: Usage\n")?;
     text.append(why.as_slice())?;
-<<<<<<< HEAD
-    text.append(b"phpsa check FILE [--dtd D] [--limit N] [--nesting] [--json]\n")?;
-    text.append(b"phpsa run FILE [--request FILE] [--steps N]\n")?;
-    text.append(b"phpsa page FILE [--dtd D]\n")?;
-    text.append(b"phpsa grammar FILE\n")?;
-    text.append(b"phpsa make N [--check]\n")?;
-    text.append(b"phpsa --help\nphpsa --version\n")?;
-=======
     text.append(USAGE_LINES)?;
->>>>>>> c57e9482c340118e945385bccd15671544ff80bd
     Ok(text)
 }
 
