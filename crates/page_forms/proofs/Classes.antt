@@ -95,7 +95,7 @@ shown_below test (suc n) (Some last) e {w} d =
     at false h d f g = closed (g d)
 
 -- the open range is not empty
-abbrev IsWide : ℕ → Option ℕ → Type 0
+abbrev pub IsWide : ℕ → Option ℕ → Type 0
 IsWide n None = Unit {0}
 IsWide n (Some last) = n ≤ last
 

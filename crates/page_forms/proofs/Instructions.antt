@@ -190,7 +190,7 @@ rest_from cs b = at b.text b.apart b.characters b.no_end b.is
       is = i;
     })
 
-question : IsMark 63
+pub question : IsMark 63
 question = record { small = omega arith; ascii = refl; character = refl; other = refl }
 
 abbrev Parts : List ℕ → Type 0

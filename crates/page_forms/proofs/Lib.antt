@@ -22,3 +22,4 @@ pub mod AttributeForms
 pub mod Picking
 pub mod TagForms
 pub mod DeclarationForms
+pub mod PageForms

@@ -1,6 +1,6 @@
 -- Attributes in any order, each declaration at most once.
 use Rattle.std.proofs.Common.{◌≡◌, ◌⊎◌, inl, inr, ℕ, Bool, true, false, List, [], ◌∷◌, ◌++◌, refl, sym, ◌∙◌, ap, subst, append_assoc}
-use Rattle.std.specs.Prelude.{not, ◌&&◌, ◌||◌, bytes_eq, if◌then◌else◌, map}
+use Rattle.std.specs.Prelude.{not, ◌&&◌, ◌||◌, bytes_eq, if◌then◌else◌, map, Option, Some, None}
 use Rattle.std.specs.List.{list_all, list_any}
 use Rattle.std.specs.Str.{encode_utf8_all}
 use Rattle.std.proofs.lemmas.Bool.{and_parts, and_from, or_cases, or_left, or_right, or_parts, or_from, not-true, not_from_false}
@@ -9,13 +9,13 @@ use Rattle.xml_text.specs.Names.{is_name}
 use Rattle.dtd_model.specs.Lawful.{is_distinct, is_lawful_kind}
 use Rattle.dtd_model.specs.References.{is_known}
 use Rattle.dtd_model.specs.Table.{Declared}
-use Rattle.derivatives.specs.Expressions.{Expr, among, Members, none, member, Matches, Joins, Takes, here, later, Optional, no_more, optional, is_done, is_taken}
+use Rattle.derivatives.specs.Expressions.{Expr, nothing, among, Members, none, member, Matches, Joins, Takes, here, later, Optional, no_more, optional, is_done, is_taken}
 use Rattle.derivatives.specs.Derivatives.{among_of}
 use Rattle.derivatives.proofs.NormalForms.{among_shown, among_made, ap2}
 use Rattle.page_model.specs.Attributes.{has_kind, has_fixed, is_declared, stands, is_once, must_stand, all_there}
 use Rattle.page_model.specs.Parts.{Attribute, attribute_then, attributes_then, AreAttributes, refers_by}
 use Rattle.page_model.proofs.Names.{same_bytes, equal_bytes}
-use Rattle.page_forms.specs.Tags.{attribute_form, attribute_members}
+use Rattle.page_forms.specs.Tags.{attribute_form, attribute_members, with_member, any_order}
 use Rattle.page_forms.proofs.AttributeForms.{IsAttributeBy, spells_attribute}
 use Rattle.page_forms.proofs.Spelling.{Spells, Spelled, joins_is, joins_all, spells_as}
 
@@ -41,23 +41,49 @@ data Picked (entities : List (List ℕ)) (tag : List ℕ) : List Declared → Li
   over : {ds : List Declared} → NoneMust tag ds → Picked entities tag ds []
   picked : {ds others : List Declared} {d : Declared} {u v : List ℕ} → TakesOne ds d others → IsAttributeBy entities d u → Picked entities tag others v → Picked entities tag ds (u ++ v)
 
--- these members stand for these declarations
-data AreMembers (entities : List (List ℕ)) (tag : List ℕ) : List Declared → Members → Type 0 where
-  no_members : AreMembers entities tag [] none
-  one_more : {d : Declared} {ds : List Declared} {e : Expr} {b : Bool} {ms : Members} → e ≡ attribute_form entities d → b ≡ must_stand tag d → AreMembers entities tag ds ms → AreMembers entities tag (d ∷ ds) (member e b ms)
+-- the expression is not `nothing`
+abbrev pub is_something : Expr → Bool
+is_something nothing = false
+is_something e = true
 
-are_members : (entities : List (List ℕ)) (tag : List ℕ) (ds : List Declared) → AreMembers entities tag ds (attribute_members entities tag ds)
+-- these members stand for these declarations; those are left out whose form is `nothing`
+pub data AreMembers (entities : List (List ℕ)) (tag : List ℕ) : List Declared → Members → Type 0 where
+  no_members : AreMembers entities tag [] none
+  left_out : {d : Declared} {ds : List Declared} {ms : Members} → attribute_form entities d ≡ nothing → must_stand tag d ≡ false → AreMembers entities tag ds ms → AreMembers entities tag (d ∷ ds) ms
+  one_more : {d : Declared} {ds : List Declared} {e : Expr} {b : Bool} {ms : Members} → e ≡ attribute_form entities d → b ≡ must_stand tag d → is_something e ≡ true → AreMembers entities tag ds ms
+      → AreMembers entities tag (d ∷ ds) (member e b ms)
+
+-- one that has to stand has `nothing` as its form
+pub data Hopeless (entities : List (List ℕ)) (tag : List ℕ) : List Declared → Type 0 where
+  hopeless : {d : Declared} {ds : List Declared} → attribute_form entities d ≡ nothing → must_stand tag d ≡ true → Hopeless entities tag (d ∷ ds)
+  hopeless_later : {d : Declared} {ds : List Declared} → Hopeless entities tag ds → Hopeless entities tag (d ∷ ds)
+
+abbrev pub StandFor : List (List ℕ) → List ℕ → List Declared → Option Members → Type 0
+StandFor entities tag ds None = Hopeless entities tag ds
+StandFor entities tag ds (Some ms) = AreMembers entities tag ds ms
+
+with_one : (entities : List (List ℕ)) (tag : List ℕ) (d : Declared) (ds : List Declared) (e : Expr) → attribute_form entities d ≡ e → (b : Bool) → must_stand tag d ≡ b → (o : Option Members) → StandFor entities tag ds o
+    → StandFor entities tag (d ∷ ds) (with_member e b o)
+with_one entities tag d ds nothing p true q o s = hopeless p q
+with_one entities tag d ds nothing p false q None s = hopeless_later s
+with_one entities tag d ds nothing p false q (Some ms) s = left_out p q s
+with_one entities tag d ds e p b q None s = hopeless_later s
+with_one entities tag d ds e p b q (Some ms) s = one_more (sym p) (sym q) refl s
+
+pub are_members : (entities : List (List ℕ)) (tag : List ℕ) (ds : List Declared) → StandFor entities tag ds (attribute_members entities tag ds)
 are_members entities tag [] = no_members
-are_members entities tag (d ∷ ds) = one_more refl refl (are_members entities tag ds)
+are_members entities tag (d ∷ ds) = with_one entities tag d ds (attribute_form entities d) refl (must_stand tag d) refl (attribute_members entities tag ds) (are_members entities tag ds)
 
 optional_none : {entities : List (List ℕ)} {tag : List ℕ} {ds : List Declared} {ms : Members} → Optional ms → AreMembers entities tag ds ms → NoneMust tag ds
-optional_none no_more no_members = refl
-optional_none {tag = tag} (optional o) (one_more {d = d} {ds = ds} e b m) =
+optional_none o no_members = refl
+optional_none {tag = tag} o (left_out {d = d} {ds = ds} p q m) = and_from (not (must_stand tag d)) (list_all (λ (d : Declared). not (must_stand tag d)) ds) (ap not q) (optional_none o m)
+optional_none {tag = tag} (optional o) (one_more {d = d} {ds = ds} e b i m) =
     and_from (not (must_stand tag d)) (list_all (λ (d : Declared). not (must_stand tag d)) ds) (ap not (sym b)) (optional_none o m)
 
 none_optional : {entities : List (List ℕ)} {tag : List ℕ} {ds : List Declared} {ms : Members} → NoneMust tag ds → AreMembers entities tag ds ms → Optional ms
 none_optional h no_members = no_more
-none_optional {tag = tag} h (one_more {d = d} {ds = ds} {e = x} {b = c} {ms = ms} e b m) =
+none_optional {tag = tag} h (left_out {d = d} {ds = ds} p q m) = none_optional (and_parts (not (must_stand tag d)) (list_all (λ (d : Declared). not (must_stand tag d)) ds) h).1 m
+none_optional {tag = tag} h (one_more {d = d} {ds = ds} {e = x} {b = c} {ms = ms} e b i m) =
     let p = and_parts (not (must_stand tag d)) (list_all (λ (d : Declared). not (must_stand tag d)) ds) h in
     let f : c ≡ false = b ∙ not-true (must_stand tag d) p.0 in
     subst (λ (z : Bool). Optional (member x z ms)) (sym f) (optional (none_optional p.1 m))
@@ -70,9 +96,12 @@ record Taken (entities : List (List ℕ)) (tag : List ℕ) (ds : List Declared) 
   are : AreMembers entities tag others rest
 
 take_member : {entities : List (List ℕ)} {tag : List ℕ} {ds : List Declared} {ms rest : Members} {e : Expr} {q : Bool} → Takes ms e q rest → AreMembers entities tag ds ms → Taken entities tag ds e rest
-take_member here (one_more {d = d} {ds = ds} e b m) = record { declaration = d; others = ds; takes = first; is = e; are = m }
-take_member (later t) (one_more {d = d} e b m) =
-    let k = take_member t m in record { declaration = k.declaration; others = d ∷ k.others; takes = further k.takes; is = k.is; are = one_more e b k.are }
+take_member t no_members = elim t [ ]
+take_member t (left_out {d = d} p q m) =
+    let k = take_member t m in record { declaration = k.declaration; others = d ∷ k.others; takes = further k.takes; is = k.is; are = left_out p q k.are }
+take_member here (one_more {d = d} {ds = ds} e b i m) = record { declaration = d; others = ds; takes = first; is = e; are = m }
+take_member (later t) (one_more {d = d} e b i m) =
+    let k = take_member t m in record { declaration = k.declaration; others = d ∷ k.others; takes = further k.takes; is = k.is; are = one_more e b i k.are }
 
 record Given (entities : List (List ℕ)) (tag : List ℕ) (ms : Members) (d : Declared) (others : List Declared) : Type 0 where
   form : Expr
@@ -82,10 +111,13 @@ record Given (entities : List (List ℕ)) (tag : List ℕ) (ms : Members) (d : D
   is : form ≡ attribute_form entities d
   are : AreMembers entities tag others rest
 
-give_member : {entities : List (List ℕ)} {tag : List ℕ} {ds others : List Declared} {d : Declared} {ms : Members} → TakesOne ds d others → AreMembers entities tag ds ms → Given entities tag ms d others
-give_member first (one_more {e = x} {b = c} {ms = ms} e b m) = record { form = x; must = c; rest = ms; takes = here; is = e; are = m }
-give_member (further t) (one_more {e = x} {b = c} e b m) =
-    let k = give_member t m in record { form = k.form; must = k.must; rest = member x c k.rest; takes = later k.takes; is = k.is; are = one_more e b k.are }
+give_member : {entities : List (List ℕ)} {tag : List ℕ} {ds others : List Declared} {d : Declared} {ms : Members} → (attribute_form entities d ≡ nothing → ⊥) → TakesOne ds d others → AreMembers entities tag ds ms → Given entities tag ms d others
+give_member n first (left_out p q m) = absurd (n p)
+give_member n (further t) (left_out p q m) =
+    let k = give_member n t m in record { form = k.form; must = k.must; rest = k.rest; takes = k.takes; is = k.is; are = left_out p q k.are }
+give_member n first (one_more {e = x} {b = c} {ms = ms} e b i m) = record { form = x; must = c; rest = ms; takes = here; is = e; are = m }
+give_member n (further t) (one_more {e = x} {b = c} e b i m) =
+    let k = give_member n t m in record { form = k.form; must = k.must; rest = member x c k.rest; takes = later k.takes; is = k.is; are = one_more e b i k.are }
 
 lawful_one : {ds others : List Declared} {d : Declared} → TakesOne ds d others → AreLawfulEach ds → (is_name d.name ≡ true) × (is_lawful_kind d.kind ≡ true) × AreLawfulEach others
 lawful_one first l = l
@@ -107,19 +139,52 @@ picked_shown {entities} {tag} (is_taken {e = e} {rest = rest} {u = u} {v = v} {w
         let o = lawful_one k.takes l in
         put k.takes ((spells_attribute entities k.declaration o.0 o.1).shown u (subst (λ (z : Expr). Matches z u) k.is d)) (r k.others o.2 k.are)
 
+-- the form of an attribute that stands is not `nothing`
+some_form : (entities : List (List ℕ)) (d : Declared) → is_name d.name ≡ true → is_lawful_kind d.kind ≡ true → (u : List ℕ) → IsAttributeBy entities d u → attribute_form entities d ≡ nothing → ⊥
+some_form entities d h l u a e = none (subst (λ (z : Expr). Matches z (encode_utf8_all u)) e ((spells_attribute entities d h l).made u a))
+  where
+    none : {w : List ℕ} → Matches nothing w → ⊥
+    none d = elim d [ ]
+
 picked_made : {entities : List (List ℕ)} {tag : List ℕ} {ds : List Declared} {cs : List ℕ} → Picked entities tag ds cs → (ms : Members) → AreLawfulEach ds → AreMembers entities tag ds ms → Matches (among ms) (encode_utf8_all cs)
 picked_made (over h) ms l m = is_done (none_optional h m)
 picked_made {entities} {tag} (picked {others = others} {d = d} {u = u} {v = v} t a p) ms l m =
-    let k = give_member t m in
     let o = lawful_one t l in
+    let k = give_member (some_form entities d o.0 o.1 u a) t m in
     subst (λ (z : List ℕ). Matches (among ms) z) (sym (encodes-append u v))
     (is_taken k.takes (joins_all (encode_utf8_all u) (encode_utf8_all v)) (subst (λ (z : Expr). Matches z (encode_utf8_all u)) (sym k.is) ((spells_attribute entities d o.0 o.1).made u a)) (picked_made p k.rest o.2 k.are))
 
-spells_picked : (entities : List (List ℕ)) (tag : List ℕ) (ds : List Declared) → AreLawfulEach ds → Spells (among_of (attribute_members entities tag ds)) (Picked entities tag ds)
-spells_picked entities tag ds l = record {
-  shown = λ w d. picked_shown (among_shown (attribute_members entities tag ds) d) ds l (are_members entities tag ds);
-  made = λ cs p. among_made (attribute_members entities tag ds) (picked_made p (attribute_members entities tag ds) l (are_members entities tag ds));
+-- where one that has to stand can not, no attributes are as asked
+must_not : (b : Bool) → b ≡ true → not b ≡ true → ⊥
+must_not true e h = cc
+must_not false e h = cc
+
+hopeless_must : {entities : List (List ℕ)} {tag : List ℕ} {ds : List Declared} → Hopeless entities tag ds → NoneMust tag ds → ⊥
+hopeless_must {tag = tag} (hopeless {d = d} {ds = ds} p q) h = must_not (must_stand tag d) q (and_parts (not (must_stand tag d)) (list_all (λ (d : Declared). not (must_stand tag d)) ds) h).0
+hopeless_must {tag = tag} (hopeless_later {d = d} {ds = ds} k) h = hopeless_must k (and_parts (not (must_stand tag d)) (list_all (λ (d : Declared). not (must_stand tag d)) ds) h).1
+
+hopeless_others : {entities : List (List ℕ)} {tag : List ℕ} {ds others : List Declared} {d : Declared} → (attribute_form entities d ≡ nothing → ⊥) → TakesOne ds d others → Hopeless entities tag ds → Hopeless entities tag others
+hopeless_others n first (hopeless p q) = absurd (n p)
+hopeless_others n first (hopeless_later k) = k
+hopeless_others n (further t) (hopeless p q) = hopeless p q
+hopeless_others n (further t) (hopeless_later k) = hopeless_later (hopeless_others n t k)
+
+hopeless_none : {entities : List (List ℕ)} {tag : List ℕ} {ds : List Declared} {cs : List ℕ} → Picked entities tag ds cs → AreLawfulEach ds → Hopeless entities tag ds → ⊥
+hopeless_none (over h) l k = hopeless_must k h
+hopeless_none {entities} (picked {d = d} {u = u} t a p) l k = let o = lawful_one t l in hopeless_none p o.2 (hopeless_others (some_form entities d o.0 o.1 u a) t k)
+
+spells_by : (entities : List (List ℕ)) (tag : List ℕ) (ds : List Declared) → AreLawfulEach ds → (o : Option Members) → StandFor entities tag ds o → Spells (any_order o) (Picked entities tag ds)
+spells_by entities tag ds l None k = record { shown = λ w d. shown_at d; made = λ cs p. absurd (hopeless_none p l k) }
+  where
+    shown_at : {w : List ℕ} → Matches nothing w → Spelled (Picked entities tag ds) w
+    shown_at d = elim d [ ]
+spells_by entities tag ds l (Some ms) m = record {
+  shown = λ w d. picked_shown (among_shown ms d) ds l m;
+  made = λ cs p. among_made ms (picked_made p ms l m);
 }
+
+spells_picked : (entities : List (List ℕ)) (tag : List ℕ) (ds : List Declared) → AreLawfulEach ds → Spells (any_order (attribute_members entities tag ds)) (Picked entities tag ds)
+spells_picked entities tag ds l = spells_by entities tag ds l (attribute_members entities tag ds) (are_members entities tag ds)
 
 both : (x : Bool) → x ≡ true → x ≡ false → ⊥
 both x t f = cc
@@ -350,7 +415,7 @@ picked_of entities tag (x ∷ xs) ds k w g h o t = at (find_one ds x p.0) (λ ot
         (there_less tag x xs f.others absent (of_others (Must tag (x ∷ xs)) f.takes t))))
 
 -- each of the declarations is lawful, and none stands twice
-pub spells_attributes : (entities : List (List ℕ)) (tag : List ℕ) (ds : List Declared) → AreLawfulEach ds → Distinct ds → Spells (among_of (attribute_members entities tag ds)) (AreFit entities tag ds)
+pub spells_attributes : (entities : List (List ℕ)) (tag : List ℕ) (ds : List Declared) → AreLawfulEach ds → Distinct ds → Spells (any_order (attribute_members entities tag ds)) (AreFit entities tag ds)
 spells_attributes entities tag ds l k =
     spells_as (spells_picked entities tag ds l) (λ cs p. fit_of p k) (λ cs f. subst (Picked entities tag ds) f.is (picked_of entities tag f.attributes ds k f.written f.known f.declared f.once f.there))
 

@@ -31,7 +31,7 @@ from cs q = at q.0 q.1.0 q.1.1 q.1.2 q.2
       is = sym (ap (λ (z : Piece). piece_then z []) e) ∙ i;
     }
 
-bracket : IsMark 93
+pub bracket : IsMark 93
 bracket = record { small = omega arith; ascii = refl; character = refl; other = refl }
 
 pub sections_are_spelled : SectionsAreSpelled

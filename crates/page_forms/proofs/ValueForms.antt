@@ -120,7 +120,7 @@ pub record IsKindOf (entities : List (List ℕ)) (k : Kind) (q : ℕ) (cs : List
   pub value : IsValue entities q cs
   pub kind : has_kind k cs ≡ true
 
-spells_token : Spells token_form (λ cs. is_name_token cs ≡ true)
+pub spells_token : Spells token_form (λ cs. is_name_token cs ≡ true)
 spells_token = spells_as (spells_first_and spells_in_name spells_in_name) into from
   where
     into : (cs : List ℕ) → FirstAnd in_name in_name cs → is_name_token cs ≡ true

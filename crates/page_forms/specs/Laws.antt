@@ -3,19 +3,21 @@ use Rattle.std.specs.Prelude.{◌≡◌, ◌↔◌, ℕ, true, false, List, []}
 use Rattle.std.specs.List.{list_all}
 use Rattle.xml_text.specs.Characters.{is_blank}
 use Rattle.xml_text.specs.Names.{is_name}
-use Rattle.dtd_model.specs.Lawful.{are_lawful_attributes}
-use Rattle.dtd_model.specs.Table.{Rule}
+use Rattle.text_base.specs.declared.page_token.PageToken.{PageToken}
+use Rattle.dtd_model.specs.Lawful.{are_lawful_attributes, is_lawful}
+use Rattle.dtd_model.specs.Table.{Rule, Table}
 use Rattle.dtd_model.specs.References.{Reference, is_reference, is_known}
 use Rattle.dtd_model.specs.declared.dtd.DoctypeRule.{DoctypeRule}
 use Rattle.derivatives.specs.Expressions.{Expr, Matches, Joins}
 use Rattle.page_model.specs.Attributes.{doctype_fits, attributes_fit}
-use Rattle.page_model.specs.PageTokens.{piece_bytes}
+use Rattle.page_model.specs.PageTokens.{piece_bytes, piece_tokens, IsLawful}
 use Rattle.page_model.specs.Parts.{Tag, IsTag, character, reference, section, comment, instruction, IsSection, IsComment, IsInstruction, is_plain}
-use Rattle.page_model.specs.Pieces.{Piece, mark, declaration, doctype, start_tag, empty_tag, end_tag, leaf, may_follow, IsPiece}
+use Rattle.page_model.specs.Pieces.{Piece, mark, declaration, doctype, start_tag, empty_tag, end_tag, leaf, may_follow, IsPiece, after}
 use Rattle.page_model.specs.Places.{Place}
 use Rattle.page_model.specs.Prolog.{Declaration, IsDeclaration, Doctype, IsDoctype}
 use Rattle.page_forms.specs.Declarations.{declaration_form}
 use Rattle.page_forms.specs.Doctypes.{doctype_form}
+use Rattle.page_forms.specs.Forms.{forms, IsOfOne}
 use Rattle.page_forms.specs.References.{reference_form}
 use Rattle.page_forms.specs.Remarks.{comment_form, section_form, instruction_form}
 use Rattle.page_forms.specs.Tags.{start_tag_form, empty_tag_form}
@@ -97,3 +99,10 @@ AreOfPieces place e = (bytes : List ℕ) → Matches e bytes → (p : Piece) × 
 abbrev pub NoneGoesOn : Type 0
 NoneGoesOn = (place : Place) (e f : Expr) → AreOfPieces place e → AreOfPieces place f
     → (u v w : List ℕ) → Joins u v w → Matches e u → Matches f w → v ≡ []
+
+-- by each lawful definition, the texts of the forms at a place are the lawful pieces there, with their tokens and the place behind them
+abbrev pub PiecesAreSpelled : Type 0
+PiecesAreSpelled = (table : Table) → is_lawful table.elements table.entities ≡ true
+    → (place : Place) (bytes : List ℕ) (tokens : List PageToken) (to : Place)
+    → IsOfOne (forms table place) bytes tokens to
+    ↔ ((p : Piece) × IsLawful table place p × (piece_bytes p ≡ bytes) × (piece_tokens table p ≡ tokens) × (after place p ≡ to))

@@ -6,4 +6,5 @@ pub mod Doctypes
 pub mod Declarations
 pub mod Simple
 pub mod Tags
+pub mod Forms
 pub mod Laws

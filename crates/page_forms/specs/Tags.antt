@@ -1,11 +1,11 @@
 -- Start tags and tags of empty elements as expressions, by what is declared (XML 1.0, 3.1 and 3.3).
-use Rattle.std.specs.Prelude.{ℕ, Bool, not, ◌==◌, ◌&&◌, ◌||◌, List, [], ◌∷◌, bytes_eq, codes}
+use Rattle.std.specs.Prelude.{ℕ, Bool, true, false, not, ◌==◌, ◌&&◌, ◌||◌, List, [], ◌∷◌, bytes_eq, codes, Option, Some, None}
 use Rattle.std.specs.List.{list_all}
 use Rattle.std.specs.Str.{chars, encode_utf8_all}
 use Rattle.xml_text.specs.Names.{in_name, is_name, is_name_token}
 use Rattle.dtd_model.specs.References.{is_reference, is_known}
 use Rattle.dtd_model.specs.Table.{Kind, cdata, id, idref, idrefs, nmtoken, nmtokens, one_of, Presence, implied, required, with_default, fixed, Declared, Rule}
-use Rattle.derivatives.specs.Expressions.{Expr, star, Members, none, member}
+use Rattle.derivatives.specs.Expressions.{Expr, nothing, star, Members, none, member}
 use Rattle.derivatives.specs.Derivatives.{chain_of, either_of, among_of, when}
 use Rattle.page_model.specs.Attributes.{has_kind, must_stand}
 use Rattle.page_model.specs.Parts.{may_be_quoted, refers_by}
@@ -61,16 +61,28 @@ value_form entities d q = presence_form entities d.kind d.presence q
 unfoldable pub attribute_form : List (List ℕ) → Declared → Expr
 attribute_form entities d = when (is_name d.name) (attribute_of d.name (value_form entities d))
 
+-- members and one more, which is left out where it is nothing and does not have to stand; none, where it is nothing and has to
+abbrev pub with_member : Expr → Bool → Option Members → Option Members
+with_member nothing true ms = None
+with_member nothing false ms = ms
+with_member e must None = None
+with_member e must (Some ms) = Some (member e must ms)
+
 -- the declared attributes, each with whether it has to stand in the tag of this name
-abbrev pub attribute_members : List (List ℕ) → List ℕ → List Declared → Members
-attribute_members entities tag_name [] = none
-attribute_members entities tag_name (d ∷ ds) = member (attribute_form entities d) (must_stand tag_name d) (attribute_members entities tag_name ds)
+abbrev pub attribute_members : List (List ℕ) → List ℕ → List Declared → Option Members
+attribute_members entities tag_name [] = Some none
+attribute_members entities tag_name (d ∷ ds) = with_member (attribute_form entities d) (must_stand tag_name d) (attribute_members entities tag_name ds)
+
+-- some of the members, in any order
+abbrev pub any_order : Option Members → Expr
+any_order None = nothing
+any_order (Some ms) = among_of ms
 
 -- `<`, the name, the attributes in any order, maybe white space, and `>` or `/>`
 abbrev pub tag_form : List ℕ → List (List ℕ) → Rule → Expr
 tag_form closer entities rule =
     chain_of (word (codes "<"))
-    (chain_of (word rule.name) (chain_of (among_of (attribute_members entities rule.name rule.attributes)) (chain_of blanks (word closer))))
+    (chain_of (word rule.name) (chain_of (any_order (attribute_members entities rule.name rule.attributes)) (chain_of blanks (word closer))))
 
 unfoldable pub start_tag_form : List (List ℕ) → Rule → Expr
 start_tag_form entities rule = tag_form (codes ">") entities rule

@@ -1,6 +1,6 @@
 //! The laws. Each function does nothing, and stands for the law that its contract states.
 
-ghost use Rattle.page_forms.specs.Laws.{BlanksAreSpelled, BracketIsSpelled, CommentsAreSpelled, DeclarationsAreSpelled, DoctypesAreSpelled, EmptyTagsAreSpelled, EndTagsAreSpelled, InstructionsAreSpelled, MarkIsSpelled, NoneGoesOn, ReferencesAreSpelled, SectionsAreSpelled, StartTagsAreSpelled, TextIsSpelled};
+ghost use Rattle.page_forms.specs.Laws.{BlanksAreSpelled, BracketIsSpelled, CommentsAreSpelled, DeclarationsAreSpelled, DoctypesAreSpelled, EmptyTagsAreSpelled, EndTagsAreSpelled, InstructionsAreSpelled, MarkIsSpelled, NoneGoesOn, PiecesAreSpelled, ReferencesAreSpelled, SectionsAreSpelled, StartTagsAreSpelled, TextIsSpelled};
 
 /// Comments (XML 1.0, 2.5).
 pub fn comments_are_spelled()
@@ -65,6 +65,11 @@ pub fn start_tags_are_spelled()
 /// Tags of empty elements (XML 1.0, 3.1 and 3.3).
 pub fn empty_tags_are_spelled()
     ensures { EmptyTagsAreSpelled }
+{}
+
+/// All pieces that may stand at a place.
+pub fn pieces_are_spelled()
+    ensures { PiecesAreSpelled }
 {}
 
 /// Where a form has ended, none goes on.

@@ -1,7 +1,7 @@
 //! The pieces of a page as expressions over bytes.
 //! Promise: the form of a kind of piece matches exactly the bytes of the lawful pieces of that kind
-//! (`IsFormOf` of specs/Laws).
-//! Used by: none yet.
+//! (`IsFormOf` of specs/Laws), all together those of the pieces at a place (`PiecesAreSpelled`).
+//! Used by: form_reader.
 #![tactic(auto)]
 
 mod laws;
@@ -9,6 +9,6 @@ mod laws;
 pub use laws::{
     blanks_are_spelled, bracket_is_spelled, comments_are_spelled, declarations_are_spelled,
     doctypes_are_spelled, empty_tags_are_spelled, end_tags_are_spelled, instructions_are_spelled,
-    mark_is_spelled, none_goes_on, references_are_spelled, sections_are_spelled,
-    start_tags_are_spelled, text_is_spelled,
+    mark_is_spelled, none_goes_on, pieces_are_spelled, references_are_spelled,
+    sections_are_spelled, start_tags_are_spelled, text_is_spelled,
 };

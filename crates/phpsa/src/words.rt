@@ -15,6 +15,7 @@ pub(crate) enum NoWords {
 }
 
 /// One word of another environment, as the only one.
+#[derive(Drop)]
 struct OneWord<'a, R> {
     rt: &'a R,
     place: usize,

@@ -151,7 +151,7 @@ the_second_word = refl
 
 -- a letter of two bytes stays; a line end, a backslash, a byte that begins no character, one that is cut, a control character of two bytes
 -- and a separator of lines do not
-a_plain_name : shown_name (codes "é.php") ≡ 0xC3 ∷ 0xA9 ∷ codes ".php"
+a_plain_name : shown_name (0xC3 ∷ 0xA9 ∷ codes ".php") ≡ 0xC3 ∷ 0xA9 ∷ codes ".php"
 unfolding shown_name decoded chars encode_utf8
 a_plain_name = refl
 

@@ -5,8 +5,7 @@ ghost use Rattle.phpsa_texts.specs.Shown as spec;
 
 use byte_stepping::decoded;
 use std::alloc::Global;
-use text_base::slices::front;
-use text_base::{Bytes, NoMemory};
+use text_base::{Bytes, NoMemory, front};
 
 /// How many bytes of a name are written at most.
 pub const NAME_LIMIT: usize = 4096;
@@ -49,6 +48,7 @@ fn begins_plain(bytes: &[u8]) -> bool
 
 /// A name as it is written: bytes that are no UTF-8, characters that control or end lines, and
 /// backslashes stand as `\xHH`, and what is behind `NAME_LIMIT` bytes is left out.
+#[tactic(auto, unfolding(crate::specs::Shown::shown_name))]
 pub fn shown_name(alloc: Global, name: &[u8]) -> Result<Bytes, NoMemory>
     ensures { IfOk result (λ text. text ≡ spec.shown_name name.now) }
 {

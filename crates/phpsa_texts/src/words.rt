@@ -36,7 +36,18 @@ Options stand in any order.
 Example:  phpsa check guests.php --dtd strict
 ";
 
+/// A line for each command.
+const USAGE_LINES: &[u8] = b"phpsa check FILE [--dtd D] [--limit N] [--nesting] [--json]
+phpsa run FILE [--request FILE] [--steps N]
+phpsa page FILE [--dtd D]
+phpsa grammar FILE
+phpsa make N [--check]
+phpsa --help
+phpsa --version
+";
+
 /// What the commands and their options are.
+#[tactic(auto, unfolding(crate::specs::Texts::help_text))]
 pub fn help_message(alloc: Global) -> Result<Message, NoMemory>
     ensures { IfOk result (λ message. Says message Done help_text) }
 {
@@ -81,12 +92,7 @@ fn usage_text(alloc: Global, reason: Option<&[u8]>) -> Result<Bytes, NoMemory>
     let why = reason_text(alloc, reason)?;
     let mut text = Bytes::from_slice(alloc, b"phpsa: Usage\n")?;
     text.append(why.as_slice())?;
-    text.append(b"phpsa check FILE [--dtd D] [--limit N] [--nesting] [--json]\n")?;
-    text.append(b"phpsa run FILE [--request FILE] [--steps N]\n")?;
-    text.append(b"phpsa page FILE [--dtd D]\n")?;
-    text.append(b"phpsa grammar FILE\n")?;
-    text.append(b"phpsa make N [--check]\n")?;
-    text.append(b"phpsa --help\nphpsa --version\n")?;
+    text.append(USAGE_LINES)?;
     Ok(text)
 }
 
