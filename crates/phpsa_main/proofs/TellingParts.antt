@@ -26,5 +26,5 @@ wanting_told files task result is read calm = subst (Does files task) (sym is) (
 
 pub usage_does : (files : SourceCall) (reason : Option (List ℕ)) (refusal : Refusal) → ReadsNothing files → files.faults' ≡ files.faults
     → IsTold refusal Usage (usage_text reason) → Does files usage (Err refusal)
-usage_does files reason (Refusal.Told message) read calm (status_is, text_is) = record { due = (status_is, reason, text_is); read = read; faults = inr calm }
+usage_does files reason (Refusal.Told message) read calm (status_is, text_is) = record { due = (status_is, (reason, text_is)); read = read; faults = inr calm }
 usage_does files reason Refusal.Memory read calm says = record { due = tt; read = read; faults = inr calm }

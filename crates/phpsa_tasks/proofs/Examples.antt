@@ -68,7 +68,7 @@ help_asks_for_none files before after none = let same : files.reads' ≡ files.r
 
 -- words that ask for nothing are refused with the usage alone, behind any line
 refused_by_a_number : (files : SourceCall) → Refuses files usage Usage (usage_text None)
-refused_by_a_number files = (refl, None, refl)
+refused_by_a_number files = (refl, (None, refl))
 
 -- a page that is not valid has the verdict No, and no other
 invalid_verdict : (x : PageBy) → (model.Valid x.table x.page → ⊥) → IsVerdict (page_check (codes "p") mini_type) x No

@@ -1,9 +1,10 @@
 use Rattle.std.proofs.Common.{rules, ◌≡◌, refl, sym, subst}
-use Rattle.std.specs.Prelude.{Err}
+use Rattle.std.specs.Prelude.{Ok, Err}
 use Rattle.program_files.specs.Source.{source_call}
 use Rattle.phpsa_tasks.specs.Results.{Does}
 use Rattle.phpsa_tasks.specs.Views.{task_as}
 use Rattle.phpsa_texts.specs.declared.message.Refusal.{Refusal}
+use Rattle.phpsa_tasks.specs.declared.reply.Reply.TheVariants as reply
 use Rattle.phpsa_tasks.specs.Tasks.{help_telling, version_telling}
 use Rattle.phpsa_main.proofs.TellingParts.{help_does, version_does, wanting_told, usage_does}
 use Rattle.phpsa_main.proofs.doing.result_of.Goals as goal
@@ -24,7 +25,7 @@ pub returns-in_ok-help_message-in-Help : goal.returns-in_ok-help_message-in-Help
 returns-in_ok-help_message-in-Help g c =
     let files =
     source_call (g.F.Files.content c.args.files.now) (g.F.Files.faults c.args.files.now) (g.F.Files.faults c.args.files.now) (g.F.Files.misses c.args.files.now) (g.F.Files.misses c.args.files.now) (g.F.Files.reads c.args.files.now) (g.F.Files.reads c.args.files.now) in
-    subst (λ task. Does files (task_as task) _) (sym c.in-Help.is) (help_does files _ refl refl c.in_ok-help_message-in-Help.ensures)
+    subst (λ task. Does files (task_as task) (Ok (reply.Text c.in_ok-help_message-in-Help.field-0))) (sym c.in-Help.is) (help_does files _ refl refl c.in_ok-help_message-in-Help.ensures)
 
 pub returns-in_err-help_message-in-Help : goal.returns-in_err-help_message-in-Help
 returns-in_err-help_message-in-Help g c =
@@ -37,7 +38,7 @@ pub returns-in_ok-version_message-in-Version : goal.returns-in_ok-version_messag
 returns-in_ok-version_message-in-Version g c =
     let files =
     source_call (g.F.Files.content c.args.files.now) (g.F.Files.faults c.args.files.now) (g.F.Files.faults c.args.files.now) (g.F.Files.misses c.args.files.now) (g.F.Files.misses c.args.files.now) (g.F.Files.reads c.args.files.now) (g.F.Files.reads c.args.files.now) in
-    subst (λ task. Does files (task_as task) _) (sym c.in-Version.is) (version_does files _ refl refl c.in_ok-version_message-in-Version.ensures)
+    subst (λ task. Does files (task_as task) (Ok (reply.Text c.in_ok-version_message-in-Version.field-0))) (sym c.in-Version.is) (version_does files _ refl refl c.in_ok-version_message-in-Version.ensures)
 
 pub returns-in_err-version_message-in-Version : goal.returns-in_err-version_message-in-Version
 returns-in_err-version_message-in-Version g c =
