@@ -45,7 +45,7 @@ row() {
   [ "$status" != 124 ] || said='no end in two minutes'
   awk -v spent="$spent" -v most="$seconds" 'BEGIN { exit spent <= most }' && said="over $seconds seconds"
   [ "$most" -le "$kilobytes" ] || said="over $kilobytes kilobytes"
-  printf '%-52s status %3d %7.2f s %6d MB  %s\n' "$*" "$status" "$spent" $((most / 1024)) "$said"
+  printf '%-52.52s status %3d %7.2f s %6d MB  %s\n' "$*" "$status" "$spent" $((most / 1024)) "$said"
   [ "$said" = ok ] || bad=$((bad + 1))
 }
 
