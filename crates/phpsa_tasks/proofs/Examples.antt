@@ -2,13 +2,18 @@
 use Rattle.std.proofs.Common.{◌≡◌, ◌≤◌, [], true, false, None, Some, codes, refl, lit≤, arith}
 use Rattle.page_model.specs.Valid as model
 use Rattle.page_decision.specs.declared.goal.Goal.TheVariants.{Valid, Nested}
-use Rattle.command_words.specs.Asked.{check, run, page, grammar, make}
+use Rattle.program_files.specs.Source.{SourceCall}
+use Rattle.command_words.specs.Asked.{help, version, check, run, page, grammar, make}
 use Rattle.document_types.specs.DocumentTypes.{strict_type, mini_type, file_type}
-use Rattle.phpsa_texts.specs.declared.exit.Exit.TheVariants.{No, Undecided, Input}
+use Rattle.phpsa_texts.specs.declared.exit.Exit.TheVariants.{Done, No, Undecided, Input, Usage}
 use Rattle.phpsa_texts.specs.declared.answers.AnswerForm.TheVariants.{Plain, Json}
-use Rattle.phpsa_tasks.specs.Tasks.{script_check, page_check, script_making, made_check, script_run, grammar_making, task_of}
+use Rattle.phpsa_texts.specs.Texts.{help_text, version_text, usage_text}
+use Rattle.phpsa_tasks.specs.Tasks.{script_check, page_check, script_making, made_check, script_run, grammar_making, help_telling, version_telling, usage, task_of}
 use Rattle.phpsa_tasks.specs.Call.{output_of, Gains, GainsPrefix, GainsNothing, Fails}
 use Rattle.phpsa_tasks.specs.Subjects.{PageBy}
+use Rattle.phpsa_tasks.specs.Replies.{IsReplyOf}
+use Rattle.phpsa_tasks.specs.Causes.{Refuses}
+use Rattle.phpsa_tasks.specs.Counted.{ReadsFor}
 use Rattle.phpsa_tasks.specs.Answered.{IsVerdict}
 
 -- a script is decided by the strict type, the smallest one, or that of a file, which may have any name
@@ -38,6 +43,32 @@ runs = refl
 
 writes_a_grammar : task_of (grammar (codes "t.php")) ≡ grammar_making (codes "t.php")
 writes_a_grammar = refl
+
+tells_help : task_of help ≡ help_telling
+tells_help = refl
+
+tells_the_version : task_of version ≡ version_telling
+tells_the_version = refl
+
+-- help is told with status 0 and its text alone, no other status is its verdict, nothing refuses it, and no name is asked for
+help_is_told : IsReplyOf help_telling tt Done help_text
+help_is_told = (refl, refl)
+
+no_empty_version : IsReplyOf version_telling tt Done [] → ⊥
+no_empty_version (is, text_is) = let same : [] ≡ version_text = text_is in cc
+
+no_help_is_refused : IsVerdict help_telling tt Usage → ⊥
+no_help_is_refused verdict = cc
+
+none_refuses_help : (files : SourceCall) → Refuses files help_telling Usage (usage_text None) → ⊥
+none_refuses_help files why = why
+
+help_asks_for_none : (files : SourceCall) → files.reads ≡ 0 → files.reads' ≡ 1 → ReadsFor help_telling files Done → ⊥
+help_asks_for_none files before after none = let same : files.reads' ≡ files.reads = none in cc
+
+-- words that ask for nothing are refused with the usage alone, behind any line
+refused_by_a_number : (files : SourceCall) → Refuses files usage Usage (usage_text None)
+refused_by_a_number files = (refl, None, refl)
 
 -- a page that is not valid has the verdict No, and no other
 invalid_verdict : (x : PageBy) → (model.Valid x.table x.page → ⊥) → IsVerdict (page_check (codes "p") mini_type) x No

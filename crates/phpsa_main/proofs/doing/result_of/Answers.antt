@@ -15,3 +15,9 @@ returns-in-MadeCheck g c =
     let files =
     source_call (g.F.Files.content c.args.files.now) (g.F.Files.faults c.args.files.now) (g.F.Files.faults c.args.files.now) (g.F.Files.misses c.args.files.now) (g.F.Files.misses c.args.files.now) (g.F.Files.reads c.args.files.now) (g.F.Files.reads c.args.files.now) in
     subst (λ task. Does files (task_as task) c.check_made.result) (sym c.in-MadeCheck.is) (c.check_made.ensures files refl refl)
+
+pub returns-in-Help : goal.returns-in-Help
+returns-in-Help g c =
+    let files =
+    source_call (g.F.Files.content c.args.files.now) (g.F.Files.faults c.args.files.now) (g.F.Files.faults c.args.files.now) (g.F.Files.misses c.args.files.now) (g.F.Files.misses c.args.files.now) (g.F.Files.reads c.args.files.now) (g.F.Files.reads c.args.files.now) in
+    subst (λ task. Does files (task_as task) c.result) (sym c.in-Help.is) (help_does files _ refl refl c.in_ok.ensures)
