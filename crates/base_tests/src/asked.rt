@@ -27,9 +27,11 @@ fn asks_for(
     Ok(match read_words(alloc, words.as_slice()) {
         Ok(line) => wanted == Ok(line),
         Err(WordsRefusal::Usage { reason: None }) => wanted == Err(None),
-        Err(WordsRefusal::Usage {
-            reason: Some(reason),
-        }) => wanted == Err(Some(reason.as_str())),
+        Err(
+            WordsRefusal::Usage {
+                reason: Some(reason),
+            },
+        ) => wanted == Err(Some(reason.as_str())),
         Err(WordsRefusal::Memory) => false,
     })
 }
