@@ -14,50 +14,64 @@ use Rattle.php_grammar.proofs.Parts.{front, past, both, states_in_parts, rows_in
 -- what is left behind so many parts of 115 states each: their symbols, rows and states
 abbrev accesses_1 : List ℕ
 accesses_1 = behind 115 php.accesses
+
 abbrev rows_1 : List (List Step)
 rows_1 = past 115 php.rows
+
 abbrev states_1 : List State
 states_1 = past 115 certificate.states
 
 abbrev accesses_2 : List ℕ
 accesses_2 = behind 115 accesses_1
+
 abbrev rows_2 : List (List Step)
 rows_2 = past 115 rows_1
+
 abbrev states_2 : List State
 states_2 = past 115 states_1
 
 abbrev accesses_3 : List ℕ
 accesses_3 = behind 115 accesses_2
+
 abbrev rows_3 : List (List Step)
 rows_3 = past 115 rows_2
+
 abbrev states_3 : List State
 states_3 = past 115 states_2
 
 abbrev accesses_4 : List ℕ
 accesses_4 = behind 115 accesses_3
+
 abbrev rows_4 : List (List Step)
 rows_4 = past 115 rows_3
+
 abbrev states_4 : List State
 states_4 = past 115 states_3
 
 abbrev accesses_5 : List ℕ
 accesses_5 = behind 115 accesses_4
+
 abbrev rows_5 : List (List Step)
 rows_5 = past 115 rows_4
+
 abbrev states_5 : List State
 states_5 = past 115 states_4
 
 abbrev accesses_6 : List ℕ
 accesses_6 = behind 115 accesses_5
+
 abbrev rows_6 : List (List Step)
 rows_6 = past 115 rows_5
+
 abbrev states_6 : List State
 states_6 = past 115 states_5
 
 abbrev accesses_7 : List ℕ
 accesses_7 = behind 115 accesses_6
+
 abbrev rows_7 : List (List Step)
 rows_7 = past 115 rows_6
+
 abbrev states_7 : List State
 states_7 = past 115 states_6
 

@@ -39,7 +39,7 @@ module _ (lefts rights : List ℕ) (terminals : ℕ) (facts : List (ℕ × Bool 
   states_in_parts (suc n) accesses (row ∷ rows) (state ∷ states) h k =
       let parts = and_parts (state_ok lefts rights terminals facts rules all (slice_index_or accesses 0 0) row state) (okay (behind 1 accesses) rows (front n states)) h in
       both parts.0 (states_in_parts n (behind 1 accesses) rows states parts.1
-        (subst (λ (xs : List ℕ). okay xs (past n rows) (past n states) ≡ true) (sym (past_one n accesses)) k))
+      (subst (λ (xs : List ℕ). okay xs (past n rows) (past n states) ≡ true) (sym (past_one n accesses)) k))
 
 module _ (terminals : ℕ) (lefts rights : List ℕ) (rules : List (ℕ × List ℕ × ℕ × ℕ)) (samples : List (ℕ × ℕ × List ℕ)) (all : List State) where
   abbrev enter : List ℕ → List State → List (List Step) → Bool
@@ -53,4 +53,4 @@ module _ (terminals : ℕ) (lefts rights : List ℕ) (rules : List (ℕ × List 
   rows_in_parts (suc n) accesses (state ∷ states) (row ∷ rows) h k =
       let parts = and_parts (row_enters terminals lefts rights rules samples all (slice_index_or accesses 0 0) state 0 row) (enter (behind 1 accesses) states (front n rows)) h in
       both parts.0 (rows_in_parts n (behind 1 accesses) states rows parts.1
-        (subst (λ (xs : List ℕ). enter xs (past n states) (past n rows) ≡ true) (sym (past_one n accesses)) k))
+      (subst (λ (xs : List ℕ). enter xs (past n states) (past n rows) ≡ true) (sym (past_one n accesses)) k))
