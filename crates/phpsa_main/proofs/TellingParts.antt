@@ -9,7 +9,7 @@ use Rattle.phpsa_texts.specs.Texts.{Says, IsTold, help_text, version_text, usage
 use Rattle.phpsa_tasks.specs.declared.reply.Reply.TheVariants as reply
 use Rattle.phpsa_tasks.specs.Tasks.{Task, help_telling, version_telling, usage}
 use Rattle.phpsa_tasks.specs.Counted.{ReadsNothing, ReadsFor}
-use Rattle.phpsa_tasks.specs.Results.{Does}
+use Rattle.phpsa_tasks.specs.Results.{TaskResult, Does}
 
 pub help_does : (files : SourceCall) (message : Message) → ReadsNothing files → files.faults' ≡ files.faults → Says message Done help_text
     → Does files help_telling (Ok (reply.Text message))
@@ -20,9 +20,9 @@ pub version_does : (files : SourceCall) (message : Message) → ReadsNothing fil
 version_does files message read calm says = record { due = record { subject = tt; found = tt; says = says }; read = read; faults = inr calm }
 
 -- no memory was left for a task that reads nothing
-pub wanting_told : (files : SourceCall) (task : Task) (refusal : Refusal) → ReadsFor task files Memory → files.faults' ≡ files.faults → refusal ≡ Refusal.Memory
-    → Does files task (Err refusal)
-wanting_told files task refusal read calm is = subst (λ (r : Refusal). Does files task (Err r)) (sym is) (record { due = tt; read = read; faults = inr calm })
+pub wanting_told : (files : SourceCall) (task : Task) (result : TaskResult) → result ≡ Err Refusal.Memory → ReadsFor task files Memory → files.faults' ≡ files.faults
+    → Does files task result
+wanting_told files task result is read calm = subst (Does files task) (sym is) (record { due = tt; read = read; faults = inr calm })
 
 pub usage_does : (files : SourceCall) (reason : Option (List ℕ)) (refusal : Refusal) → ReadsNothing files → files.faults' ≡ files.faults
     → IsTold refusal Usage (usage_text reason) → Does files usage (Err refusal)
