@@ -137,6 +137,14 @@ answers() {
   echo '<html>x</html>' >small.php
   ends 0 "$phpsa" check small.php --dtd small.dtd
   ends 6 "$phpsa" check none.php
+  # FILE may be a pipe, and what it gave is not asked for again; what a script includes may not.
+  mkfifo both
+  (echo '{}' >both) &
+  ends 0 timeout 9 "$phpsa" run both --request both
+  writes '{}' out
+  echo "<?php include 'both';" >in.php
+  ends 7 timeout 9 "$phpsa" check in.php
+  rm both
   ends 9 "$phpsa"
   writes 'requires a subcommand' err
   ends 0 "$phpsa" check --help

@@ -2,14 +2,14 @@
 # Runs the program on inputs that are made to want much of it: definitions whose content models want many states, pairs or
 # references, nests at every limit, files that are no files, and names that are no words. Prints for each call its status, its
 # processor seconds and the most memory that it took. A call fails where its status is none of those that are named with it,
-# where it takes over 10 seconds or over 1 GB, or where it does not end within 1 MiB of stack. The program is the one that
+# where it takes over 10 seconds or over 1 GB, or where it does not end within 8 MiB of stack. The program is the one that
 # ./phpsa would run, built first where there is none. No test of the gate runs this.
 #
-# usage: hostile.sh [STACK]    each call has STACK kilobytes of stack (1024 by default)
+# usage: hostile.sh [STACK]    each call has STACK kilobytes of stack (8192 by default)
 
 top=$(cd -- "$(dirname -- "$0")/../.." && pwd)
 program=$("$top/phpsa" --program) || exit
-stack=${1:-1024}
+stack=${1:-8192}
 seconds=10
 kilobytes=1048576
 room=$(mktemp -d)
@@ -45,7 +45,7 @@ row() {
   [ "$status" != 124 ] || said='no end in two minutes'
   awk -v spent="$spent" -v most="$seconds" 'BEGIN { exit spent <= most }' && said="over $seconds seconds"
   [ "$most" -le "$kilobytes" ] || said="over $kilobytes kilobytes"
-  printf '%-52s status %3d %7.2f s %6d MB  %s\n' "$*" "$status" "$spent" $((most / 1024)) "$said"
+  printf '%-52.52s status %3d %7.2f s %6d MB  %s\n' "$*" "$status" "$spent" $((most / 1024)) "$said"
   [ "$said" = ok ] || bad=$((bad + 1))
 }
 

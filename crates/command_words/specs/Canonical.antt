@@ -6,7 +6,7 @@ use Rattle.clap.specs.Words.{Text}
 use Rattle.command_words.specs.Program.{Row, commands}
 use Rattle.command_words.specs.Asked.{Asked, asked_by}
 
--- not empty, and with `-` in front only where it is that alone, as the name of the standard input
+-- not empty, and with `-` in front only where it is that alone, which is a name like others
 abbrev pub IsPlain : Text → Type 0
 IsPlain [] = ⊥
 IsPlain (byte ∷ []) = Unit {0}

@@ -23,3 +23,4 @@ pub mod Picking
 pub mod TagForms
 pub mod DeclarationForms
 pub mod PageForms
+pub mod Normality

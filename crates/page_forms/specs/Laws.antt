@@ -1,5 +1,5 @@
 -- The laws of the forms, as statements.
-use Rattle.std.specs.Prelude.{◌≡◌, ◌↔◌, ℕ, true, false, List, []}
+use Rattle.std.specs.Prelude.{◌≡◌, ◌↔◌, ℕ, true, false, List, [], ◌∷◌}
 use Rattle.std.specs.List.{list_all}
 use Rattle.xml_text.specs.Characters.{is_blank}
 use Rattle.xml_text.specs.Names.{is_name}
@@ -9,6 +9,7 @@ use Rattle.dtd_model.specs.Table.{Rule, Table}
 use Rattle.dtd_model.specs.References.{Reference, is_reference, is_known}
 use Rattle.dtd_model.specs.declared.dtd.DoctypeRule.{DoctypeRule}
 use Rattle.derivatives.specs.Expressions.{Expr, Matches, Joins}
+use Rattle.derivatives.specs.Derivatives.{Normal}
 use Rattle.page_model.specs.Attributes.{doctype_fits, attributes_fit}
 use Rattle.page_model.specs.PageTokens.{piece_bytes, piece_tokens, IsLawful}
 use Rattle.page_model.specs.Parts.{Tag, IsTag, character, reference, section, comment, instruction, IsSection, IsComment, IsInstruction, is_plain}
@@ -17,7 +18,7 @@ use Rattle.page_model.specs.Places.{Place}
 use Rattle.page_model.specs.Prolog.{Declaration, IsDeclaration, Doctype, IsDoctype}
 use Rattle.page_forms.specs.Declarations.{declaration_form}
 use Rattle.page_forms.specs.Doctypes.{doctype_form}
-use Rattle.page_forms.specs.Forms.{forms, IsOfOne}
+use Rattle.page_forms.specs.Forms.{Form, forms, IsOfOne}
 use Rattle.page_forms.specs.References.{reference_form}
 use Rattle.page_forms.specs.Remarks.{comment_form, section_form, instruction_form}
 use Rattle.page_forms.specs.Tags.{start_tag_form, empty_tag_form}
@@ -106,3 +107,12 @@ PiecesAreSpelled = (table : Table) → is_lawful table.elements table.entities �
     → (place : Place) (bytes : List ℕ) (tokens : List PageToken) (to : Place)
     → IsOfOne (forms table place) bytes tokens to
     ↔ ((p : Piece) × IsLawful table place p × (piece_bytes p ≡ bytes) × (piece_tokens table p ≡ tokens) × (after place p ≡ to))
+
+-- each of the forms is in normal form
+abbrev pub AreNormal : List Form → Type 0
+AreNormal [] = Unit {0}
+AreNormal (f ∷ fs) = Normal f.expression × AreNormal fs
+
+-- and so are all at a place, so that a text with which no piece begins leaves `nothing` of each
+abbrev pub FormsAreNormal : Type 0
+FormsAreNormal = (table : Table) (place : Place) → AreNormal (forms table place)

@@ -1,6 +1,6 @@
 //! The laws. Each function does nothing, and stands for the law that its contract states.
 
-ghost use Rattle.page_forms.specs.Laws.{BlanksAreSpelled, BracketIsSpelled, CommentsAreSpelled, DeclarationsAreSpelled, DoctypesAreSpelled, EmptyTagsAreSpelled, EndTagsAreSpelled, InstructionsAreSpelled, MarkIsSpelled, NoneGoesOn, PiecesAreSpelled, ReferencesAreSpelled, SectionsAreSpelled, StartTagsAreSpelled, TextIsSpelled};
+ghost use Rattle.page_forms.specs.Laws.{BlanksAreSpelled, BracketIsSpelled, CommentsAreSpelled, DeclarationsAreSpelled, DoctypesAreSpelled, EmptyTagsAreSpelled, EndTagsAreSpelled, FormsAreNormal, InstructionsAreSpelled, MarkIsSpelled, NoneGoesOn, PiecesAreSpelled, ReferencesAreSpelled, SectionsAreSpelled, StartTagsAreSpelled, TextIsSpelled};
 
 /// Comments (XML 1.0, 2.5).
 pub fn comments_are_spelled()
@@ -75,4 +75,9 @@ pub fn pieces_are_spelled()
 /// Where a form has ended, none goes on.
 pub fn none_goes_on()
     ensures { NoneGoesOn }
+{}
+
+/// The forms are in normal form.
+pub fn forms_are_normal()
+    ensures { FormsAreNormal }
 {}

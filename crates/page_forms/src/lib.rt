@@ -8,7 +8,7 @@ mod laws;
 
 pub use laws::{
     blanks_are_spelled, bracket_is_spelled, comments_are_spelled, declarations_are_spelled,
-    doctypes_are_spelled, empty_tags_are_spelled, end_tags_are_spelled, instructions_are_spelled,
-    mark_is_spelled, none_goes_on, pieces_are_spelled, references_are_spelled,
-    sections_are_spelled, start_tags_are_spelled, text_is_spelled,
+    doctypes_are_spelled, empty_tags_are_spelled, end_tags_are_spelled, forms_are_normal,
+    instructions_are_spelled, mark_is_spelled, none_goes_on, pieces_are_spelled,
+    references_are_spelled, sections_are_spelled, start_tags_are_spelled, text_is_spelled,
 };

@@ -22,11 +22,12 @@ use Rattle.php_grammar.specs.declared.actions.Action.TheVariants as action
 use Rattle.php_grammar.specs.declared.actions.TheConstants.{ACTIONS}
 use Rattle.php_trees.specs.Values.{Spelling, digits, quoted, literal, bracketed, chain, choice, loose, usual, Argument, given, quotes_flag, Value, leaf, absent, expr, place, quotes, printing, including, quitting, exprs, arguments, items, stmts, branch, params, function, file, exprs_and, items_and, path_and, stmts_and, at, whole_of, operand_of, subject_of, exprs_of, condition_of, argument_of, arguments_of, stmts_of, branch_of, params_of, file_of, variable_of, name_of_token, sign_of}
 
--- what is made of two values, or of three, where all are there
+-- what is made of two values, where both are there
 abbrev pub of_two : {A : Type 0} {B : Type 0} {C : Type 0} → (A → B → C) → Option A → Option B → Option C
 of_two f None b = None
 of_two f (Some a) b = option_map (f a) b
 
+-- the same of three
 abbrev pub of_three : {A : Type 0} {B : Type 0} {C : Type 0} {D : Type 0} → (A → B → C → D) → Option A → Option B → Option C → Option D
 of_three f None b c = None
 of_three f (Some a) b c = of_two (f a) b c
@@ -88,6 +89,7 @@ free_name (Some k) w = None
 abbrev pub function_name : Value → Option (List ℕ)
 function_name v = and_then (name_of_token v) (λ w. free_name (keyword_of w) w)
 
+-- a function by its name, parameters and statements
 abbrev pub function_of : List ℕ → List PlainParam → PlainStmts → Value
 function_of f ps ss = function (record { name_of = f; params_of = ps; body_of = ss })
 
@@ -99,6 +101,7 @@ default_of_value (expr quoted e) = Some (some_expr e)
 default_of_value (expr literal e) = Some (some_expr e)
 default_of_value _ = None
 
+-- a parameter by its name and default
 abbrev pub parameter_of : List ℕ → MaybeExpr → Value
 parameter_of x e = params (record { name_of = x; default_of = e } ∷ [])
 
@@ -123,6 +126,7 @@ abbrev pub operated : Operator → Value → PlainExpr → PlainExpr → Value
 operated operator.Join v a b = joined v a b
 operated o v a b = expr usual (operator_tree o a b)
 
+-- two operands by the operator of a sign
 abbrev pub operate : Option (Level × Operator) → Value → Value → Option Value
 operate None v w = None
 operate (Some o) v w = of_two (operated o.1 v) (operand_of v) (operand_of w)
@@ -137,6 +141,7 @@ abbrev pub assigned : Value → Option PlainExpr → Option Value
 assigned (place x ks) e = option_map (λ f. expr loose (assign_expr x ks f)) e
 assigned v e = None
 
+-- the same where the old value is read first
 abbrev pub updated : Value → Option Sign → Option PlainExpr → Option Value
 updated (place x ks) s e = of_two (λ u f. expr loose (update_expr u x ks f)) (and_then s update_sign) e
 updated v s e = None
@@ -149,12 +154,13 @@ stepped before v s = of_two (λ x up. expr usual (step_expr x up before)) (varia
 abbrev pub choosing : PlainExpr → MaybeExpr → PlainExpr → Value
 choosing a m b = expr choice (choice_expr a m b)
 
--- a member by a key, and a place for a new one
+-- a member by a key
 abbrev pub member_of : Value → PlainExpr → Option Value
 member_of (place x ks) k = Some (place x (path_and ks (more_keys (some_expr k) no_keys)))
 member_of (expr s e) k = Some (expr usual (member_expr e k))
 member_of _ k = None
 
+-- a place for a new member
 abbrev pub open_member_of : Value → Option Value
 open_member_of (place x ks) = Some (place x (path_and ks (more_keys no_expr no_keys)))
 open_member_of _ = None
@@ -171,6 +177,7 @@ escaped_expr (given s e ∷ quotes_flag ∷ []) = Some (more_exprs e no_exprs)
 escaped_expr (given s e ∷ quotes_flag ∷ given quoted (text_expr t) ∷ []) = if str_eq_ignore_ascii_case t (codes "UTF-8") then Some (more_exprs e no_exprs) else None
 escaped_expr gs = given_exprs gs
 
+-- a call of a function
 abbrev pub called : List ℕ → List Argument → Option Value
 called f gs = option_map (λ es. expr usual (call_expr f es)) (if is_escape f then escaped_expr gs else given_exprs gs)
 
@@ -180,6 +187,7 @@ path_text (expr quoted (text_expr t)) = Some t
 path_text (expr bracketed (text_expr t)) = Some t
 path_text _ = None
 
+-- an include by its word and its text
 abbrev pub include_of : Option Keyword → Value → Option Value
 include_of None v = None
 include_of (Some k) v = if is_include k then option_map including (path_text v) else None
@@ -191,6 +199,7 @@ constant_spelling word.False = literal
 constant_spelling word.Null = literal
 constant_spelling _ = usual
 
+-- a constant by its name
 abbrev pub constant_value : Option Keyword → List ℕ → Option Value
 constant_value (Some k) w = option_map (expr (constant_spelling k)) (constant_of k)
 constant_value None w = if same_bytes w (codes "ENT_QUOTES") then Some quotes else None
@@ -212,6 +221,7 @@ abbrev pub next_items : Value → Value → Option Value
 next_items (items is false) (items js hole) = Some (items (items_and is js) hole)
 next_items v w = None
 
+-- an array by its items
 abbrev pub array_of : Value → Option Value
 array_of (items is hole) = Some (expr usual (array_expr is))
 array_of _ = None

@@ -44,19 +44,22 @@ pub data Value : Type 0 where
   function : PlainFunction → Value
   file : PlainFile → Value
 
--- the first and then the second
+-- expressions, and then others
 abbrev pub exprs_and : PlainExprs → PlainExprs → PlainExprs
 exprs_and no_exprs fs = fs
 exprs_and (more_exprs e es) fs = more_exprs e (exprs_and es fs)
 
+-- the same of items
 abbrev pub items_and : PlainItems → PlainItems → PlainItems
 items_and no_items js = js
 items_and (more_items k e is) js = more_items k e (items_and is js)
 
+-- the same of keys
 abbrev pub path_and : PlainPath → PlainPath → PlainPath
 path_and no_keys ks = ks
 path_and (more_keys j js) ks = more_keys j (path_and js ks)
 
+-- the same of statements
 abbrev pub stmts_and : PlainStmts → PlainStmts → PlainStmts
 stmts_and no_stmts ts = ts
 stmts_and (more_stmts s ss) ts = more_stmts s (stmts_and ss ts)
@@ -105,6 +108,7 @@ argument_of (expr s e) = Some (given s e)
 argument_of (place x ks) = option_map (given usual) (member_read (variable_tree x) ks)
 argument_of _ = None
 
+-- the arguments that a value is
 abbrev pub arguments_of : Value → Option (List Argument)
 arguments_of (arguments gs) = Some gs
 arguments_of _ = None
@@ -120,10 +124,12 @@ abbrev pub branch_of : Value → Option (PlainArms × PlainStmts)
 branch_of (branch arms others) = Some (arms, others)
 branch_of _ = None
 
+-- the parameters that a value is
 abbrev pub params_of : Value → Option (List PlainParam)
 params_of (params ps) = Some ps
 params_of _ = None
 
+-- the file that a value is
 abbrev pub file_of : Value → Option PlainFile
 file_of (file f) = Some f
 file_of _ = None
@@ -134,11 +140,12 @@ variable_of (place x no_keys) = Some x
 variable_of (leaf (variable x)) = Some x
 variable_of _ = None
 
--- what a token says
+-- the name that a token is
 abbrev pub name_of_token : Value → Option (List ℕ)
 name_of_token (leaf (name w)) = Some w
 name_of_token _ = None
 
+-- the sign that a token is
 abbrev pub sign_of : Value → Option Sign
 sign_of (leaf (sign s)) = Some s
 sign_of _ = None

@@ -15,7 +15,7 @@ pub record IsProgramInOrder (held : Held) (name : List ℕ) (program : PlainProg
   pub is_program : IsProgram held name program
   pub in_order : Reached (HasTree held) name is_program.files []
 
--- each name that the program of a name reads was answered by what was held
+-- each name that the program of a name reads was answered, and by what was held where that is told
 abbrev pub AreAnswered : Content → Held → List ℕ → Type 0
 AreAnswered content held name = (path : List ℕ) → Reads held name path → Tells (content path) (held path)
 

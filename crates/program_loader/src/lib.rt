@@ -1,6 +1,6 @@
 //! Programs from files: `load` reads a file and all that it includes, and puts them together.
-//! Promise: it gives the program of the name, of the bytes that the source gave in the call (`Loads`
-//! of specs/Causes), and each refusal has its cause (`IsLoadCause`); one that a source holds in files
+//! Promise: it gives the program of the name, of what the source tells that it gave (`Loads` of
+//! specs/Causes), and each refusal has its cause (`IsLoadCause`); one that a source holds in files
 //! within their limit is refused for want of memory alone (`held_programs_are_loaded`).
 //! Used by: phpsa_tasks, phpsa_main, lowering_tests, extraction_tests, run_bench, extraction_bench.
 #![tactic(auto)]

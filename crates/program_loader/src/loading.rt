@@ -16,9 +16,10 @@ use text_base::Bytes;
 
 /// The program of a name (PHP manual, "include"): its file and all that it includes, directly or
 /// through others, each read once, where it is first included, with every include replaced by the
-/// statements of its file and the functions of all files in one table. It is the program of the
-/// bytes that the source gave in this call, whatever it tells. The file of the name may be of any
-/// kind, the others are regular ones. Takes time linear in the files and in the program.
+/// statements of its file and the functions of all files in one table. Where the
+/// source tells after the call what it gave in it, it is the program of those bytes; of a source
+/// that never tells, of some bytes that it could hold. The file of the name may be of any kind, the
+/// others are regular ones. Takes time linear in the files and in the program.
 ///
 /// # Errors
 ///

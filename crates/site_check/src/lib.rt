@@ -1,4 +1,4 @@
-//! Files that are asked for once each and kept, and the answers for the scripts of a site, one after another.
+//! Files that are kept once they are read, and the answers for the scripts of a site, one by one.
 //! Promise: `ReadOnce` is a `Files` that tells what it was given (`told_with` of specs/Kept): its `read` keeps the first answer for a name
 //! (`first`), and answers by it the next times (`again`). Each line of `site` is an answer for its name alone (`AreAnswered` of specs/Site).
 //! Used by: phpsa_tasks, phpsa, check_rows.

@@ -1,4 +1,4 @@
-//! A source of files that asks another once for each name.
+//! A source of files that keeps what another one gave.
 
 use crate::kept_files::KeptFiles;
 

@@ -127,7 +127,9 @@ impl<F: Files> Files for ReadOnce<F> {
 #[cfg(test)]
 mod tests {
     use super::*;
+    use io_edge::DiskFiles;
     use std::test::Fail;
+    use std::{env, fs};
 
     /// Gives the number of the call, but at the third, at which there is no file.
     #[derive(Drop)]
@@ -183,6 +185,27 @@ mod tests {
             files.reads,
         );
         assert_eq!(rt; counts, (3, 1, 1, 6));
+        Ok(())
+    }
+
+    #[test]
+    fn files_of_the_disk(rt: HostRuntime) -> Result<(), Fail> {
+        let alloc = rt.alloc();
+        let folder = env::temp_dir(&rt)?;
+        let page = folder.join(alloc, "site_check_page")?;
+        let other = folder.join(alloc, "site_check_other")?;
+        fs::write(&rt, page.as_str(), "<html/>")?;
+        fs::write(&rt, other.as_str(), "<p>")?;
+        let mut files = ReadOnce::new(alloc, DiskFiles::new(&rt));
+        let first = files.read(alloc, page.as_str(), FileKind::Regular)?;
+        let second = files.read(alloc, other.as_str(), FileKind::Any)?;
+        fs::write(&rt, page.as_str(), "changed")?;
+        let again = files.read(alloc, page.as_str(), FileKind::Regular)?;
+        fs::remove_file(&rt, page.as_str())?;
+        fs::remove_file(&rt, other.as_str())?;
+        assert_eq!(rt; first.as_slice(), b"<html/>".as_slice());
+        assert_eq!(rt; second.as_slice(), b"<p>".as_slice());
+        assert_eq!(rt; again.as_slice(), b"<html/>".as_slice());
         Ok(())
     }
 }

@@ -1,0 +1,2 @@
+pub mod FormReader
+pub mod Laws
