@@ -1,4 +1,4 @@
-use Rattle.std.proofs.Common.{rules, ◌≡◌, refl, sym, subst}
+use Rattle.std.proofs.Common.{rules, ◌≡◌, None, Some, refl, sym, subst}
 use Rattle.std.specs.Prelude.{Ok, Err}
 use Rattle.program_files.specs.Source.{source_call}
 use Rattle.phpsa_tasks.specs.Results.{Does}
@@ -51,10 +51,10 @@ pub returns-in-Usage-None : goal.returns-in-Usage-None
 returns-in-Usage-None g c =
     let files =
     source_call (g.F.Files.content c.args.files.now) (g.F.Files.faults c.args.files.now) (g.F.Files.faults c.args.files.now) (g.F.Files.misses c.args.files.now) (g.F.Files.misses c.args.files.now) (g.F.Files.reads c.args.files.now) (g.F.Files.reads c.args.files.now) in
-    subst (λ task. Does files (task_as task) (Err c.usage_refusal.result)) (sym c.in-Usage-None.is) (usage_does files _ c.usage_refusal.result refl refl c.usage_refusal.ensures)
+    subst (λ task. Does files (task_as task) (Err c.usage_refusal.result)) (sym c.in-Usage-None.is) (usage_does files None c.usage_refusal.result refl refl c.usage_refusal.ensures)
 
 pub returns-in-Usage-Some : goal.returns-in-Usage-Some
 returns-in-Usage-Some g c =
     let files =
     source_call (g.F.Files.content c.args.files.now) (g.F.Files.faults c.args.files.now) (g.F.Files.faults c.args.files.now) (g.F.Files.misses c.args.files.now) (g.F.Files.misses c.args.files.now) (g.F.Files.reads c.args.files.now) (g.F.Files.reads c.args.files.now) in
-    subst (λ task. Does files (task_as task) (Err c.usage_refusal-in-Usage-Some.result)) (sym c.in-Usage-Some.is) (usage_does files _ c.usage_refusal-in-Usage-Some.result refl refl c.usage_refusal-in-Usage-Some.ensures)
+    subst (λ task. Does files (task_as task) (Err c.usage_refusal-in-Usage-Some.result)) (sym c.in-Usage-Some.is) (usage_does files (Some c.as_bytes.result.now) c.usage_refusal-in-Usage-Some.result refl refl c.usage_refusal-in-Usage-Some.ensures)
