@@ -38,7 +38,9 @@ fn level_of(name: &str) -> Option<Level> {
         }
         power = power.saturating_add(2);
         for word in names.split(' ') {
-            let bare = word.strip_prefix("+").unwrap_or(word.strip_prefix("-").unwrap_or(word));
+            let bare = word
+                .strip_prefix("+")
+                .unwrap_or(word.strip_prefix("-").unwrap_or(word));
             if bare == name {
                 return Some(Level {
                     power,
@@ -110,9 +112,17 @@ fn powers_of(left: &str, side: &str) -> (u16, u16) {
     }
     let (mut before, mut behind) = (MOST, MOST);
     if let Some(level) = named {
-        before = if level.leans_left { level.power } else { level.power.saturating_sub(1) };
+        before = if level.leans_left {
+            level.power
+        } else {
+            level.power.saturating_sub(1)
+        };
         if first == left {
-            behind = if level.leans_right { level.power } else { level.power.saturating_sub(1) };
+            behind = if level.leans_right {
+                level.power
+            } else {
+                level.power.saturating_sub(1)
+            };
         }
     }
     if mark == "!closed" {
@@ -167,9 +177,11 @@ fn first_other() -> Option<usize> {
 // stand has one at least.
 fn are_powers() -> bool {
     for number in 0..NAMES.len() {
-        let (Some(name), Some(before), Some(behind)) =
-            (NAMES.get(number), LEFTS.get(number), RIGHTS.get(number))
-        else {
+        let (Some(name), Some(before), Some(behind)) = (
+            NAMES.get(number),
+            LEFTS.get(number),
+            RIGHTS.get(number),
+        ) else {
             return false;
         };
         let (left, right) = match level_of(name) {
