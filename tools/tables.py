@@ -11,11 +11,12 @@ A grammar's text, which may stand in a file of code as r"..", has these lines, a
                                 +A has a power to the right alone, -A one to the left alone
     %start x                    what a whole input is
     left: X Y Z | X             rules; a line that begins with '|' has the left side of the line before
-                                !A in a right side: the rule does not stand before A
+                                !A in a right side: the rule does not stand before A, which has no level; no more does one that has a level
                                 !=A: the rule has the level of A; !loose: it has none; !closed: it stands before each token
                 = name, at the end: what the rule makes; of a grammar with such names src/actions.rt has an enum and a table
 
-The tables are LALR(1). What is written needs no trust but for rules.rt, which is the grammar: lr_tables checks the rest.
+The tables are LALR(1). Of what is written rules.rt, which is the grammar, and actions.rt are trusted, as far as no test compares them with
+the text; lr_tables checks the rest. Each rule that takes its level from a symbol behind its first three is printed: maybe it is loose.
 """
 
 import re
@@ -80,7 +81,8 @@ class Grammar:
     def set_powers(self, number, levels, marks):
         count = len(self.names)
         self.lefts, self.rights = [0] * count, [0] * count
-        level, kind = {}, {}
+        level, kind, self.far = {}, {}, []
+        top = 2 * (len(levels) + 2)  # more than any operator's
         for place, (how, names) in enumerate(levels):
             for name in names:
                 symbol = number[name.lstrip('+-')]
@@ -98,6 +100,8 @@ class Grammar:
                 continue
             if named or (leveled and left == side[-1]):
                 symbol = leveled[0]
+                if not named and side.index(symbol) > 2:
+                    self.far.append((place, symbol))
                 power = 2 * level[symbol]
                 self.before[place] = power if kind[symbol] in ('left', 'prefix') else power - 1
                 if side[0] == left:
@@ -105,8 +109,8 @@ class Grammar:
             if 'closed' in marks[place]:
                 self.before[place] = MOST
             for token in refused:
-                assert self.lefts[token] in (0, 1), self.names[token]
-                self.lefts[token], self.before[place] = 1, 0
+                assert token not in level, self.names[token]
+                self.lefts[token], self.before[place] = top, top - 1
 
     def is_blocked(self, rule, token):
         return self.before[rule] < self.lefts[token]
@@ -371,7 +375,7 @@ def actions_text(grammar):
         return ''.join(word.capitalize() for word in action.split('_')) or 'Outside'
 
     lines = ['//! What each rule makes. Made by tools/tables.py.', '', '/// What a rule makes of the values of its right side.',
-             '#[derive(Clone, Copy)]', 'pub enum Action {', '    /// It makes nothing that the language has.', '    Outside,']
+             '#[derive(Clone, Copy, PartialEq, Eq)]', 'pub enum Action {', '    /// It makes nothing that the language has.', '    Outside,']
     for action in dict.fromkeys(filter(None, grammar.actions)):
         rules = [f'`{spelled(grammar, rule)}`' for rule, name in enumerate(grammar.actions) if name == action]
         lines += [f'    /// {rules[0]}', *(f'    /// and {rule}' for rule in rules[1:]), f'    {variant(action)},']
@@ -418,6 +422,8 @@ def write(tables, crate):
 def main(words):
     text = open(words[0]).read()
     tables = Tables(Grammar(text[text.index('r"') + 2:text.rindex('"')] if words[0].endswith('.rt') else text))
+    for rule, symbol in tables.grammar.far:
+        print(f'the level of {tables.grammar.names[symbol]}: {spelled(tables.grammar, rule)}', file=sys.stderr)
     for conflict in tables.conflicts:
         print('conflict', conflict, file=sys.stderr)
     for lack in tables.missing():

@@ -48,11 +48,12 @@ from_to is_digit (d ∷ ds) (e ∷ es) = if digit_value d == digit_value e
 abbrev pub Rows : Type 0
 Rows = List (List ℕ × List ℕ)
 
--- a number of one of these rows, maybe behind zeros
+-- a number of one of these rows
 abbrev pub one_of_rows : (ℕ → Bool) → Rows → Expr
 one_of_rows is_digit [] = nothing
 one_of_rows is_digit (row ∷ rows) = either_of (from_to is_digit row.0 row.1) (one_of_rows is_digit rows)
 
+-- the same, maybe behind zeros
 abbrev pub number_form : (ℕ → Bool) → Rows → Expr
 number_form is_digit rows = chain_of (star (range 48 48)) (one_of_rows is_digit rows)
 

@@ -7,8 +7,6 @@
 
 #[cfg(test)]
 mod forms;
-#[cfg(test)]
-mod grammar_text;
 mod reading;
 mod rows;
 mod rules;

@@ -133,7 +133,7 @@ pub const RULES: [Rule; 22] = [
     Rule {
         left: REST_,
         back: [0, 0, 0, 0, 0, 0, 0, 0, 0, 0],
-        before: 0,
+        before: 13,
         behind: 65535,
     },
     // rest: ELSE statement
@@ -238,7 +238,7 @@ pub const RULES: [Rule; 22] = [
 
 /// The powers of the symbols to the left.
 pub const LEFTS: [u16; 24] = [
-    0, 0, 0, 1, 0, 0, 0, 0, 0, 0, 0, 6, 8, 10, 0, 0, 0, 0, 0, 0, 0, 0, 0, 0,
+    0, 0, 0, 14, 0, 0, 0, 0, 0, 0, 0, 6, 8, 10, 0, 0, 0, 0, 0, 0, 0, 0, 0, 0,
 ];
 
 /// The powers of the symbols to the right.

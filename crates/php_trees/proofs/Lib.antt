@@ -1,2 +1,0 @@
-pub mod OneTree
-pub mod Examples

@@ -1,4 +1,0 @@
-pub mod Kinds
-pub mod Values
-pub mod Actions
-pub mod Reads
