@@ -54,17 +54,17 @@ tells_the_version = refl
 help_is_told : IsReplyOf help_telling tt Done help_text
 help_is_told = (refl, refl)
 
-no_empty_version : IsReplyOf version_telling tt Done [] → ⊥
-no_empty_version (is, text_is) = let same : [] ≡ version_text = text_is in cc
+no_version_with_a_no : IsReplyOf version_telling tt No version_text → ⊥
+no_version_with_a_no (is, text_is) = let same : No ≡ Done = is in cc
 
 no_help_is_refused : IsVerdict help_telling tt Usage → ⊥
-no_help_is_refused verdict = cc
+no_help_is_refused verdict = let same : Usage ≡ Done = verdict in cc
 
 none_refuses_help : (files : SourceCall) → Refuses files help_telling Usage (usage_text None) → ⊥
 none_refuses_help files why = why
 
 help_asks_for_none : (files : SourceCall) → files.reads ≡ 0 → files.reads' ≡ 1 → ReadsFor help_telling files Done → ⊥
-help_asks_for_none files before after none = let same : files.reads' ≡ files.reads = none in cc
+help_asks_for_none files before after none = let same : files.reads' ≡ files.reads = none in omega (arith, before, after, same)
 
 -- words that ask for nothing are refused with the usage alone, behind any line
 refused_by_a_number : (files : SourceCall) → Refuses files usage Usage (usage_text None)
