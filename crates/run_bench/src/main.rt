@@ -5,7 +5,7 @@
 #![tactic(auto)]
 
 use anyhow::{Context, Result};
-use io_edge::{DiskFiles, Files, MemFiles};
+use io_edge::{DiskFiles, FileKind, Files, MemFiles};
 use program_loader::load;
 use program_rules::Program;
 use request_reading::Request;
@@ -123,7 +123,7 @@ fn main(rt: HostRuntime) -> Result<()> {
     let asked = asked(&rt)?;
     let mut files = DiskFiles::new(&rt);
     let held = files
-        .read(rt.alloc(), "scripts.txt")
+        .read(rt.alloc(), "scripts.txt", FileKind::Any)
         .context("the file of scripts")?;
     let text = str::from_utf8(held.as_slice()).context("a text")?;
     for line in text.lines() {
