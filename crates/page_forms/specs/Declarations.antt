@@ -11,13 +11,15 @@ abbrev pub any_case : List ℕ → Expr
 any_case [] = empty
 any_case (w ∷ ws) = chain_of (ascii (is_letter w)) (any_case ws)
 
--- the version, the encoding, and whether the page stands alone
+-- the version
 abbrev pub version_form : Expr
 version_form = attribute_of (codes "version") (λ q. word (codes "1.0"))
 
+-- the encoding, in letters of any case
 abbrev pub encoding_form : Expr
 encoding_form = attribute_of (codes "encoding") (λ q. any_case (codes "UTF-8"))
 
+-- whether the page stands alone
 abbrev pub standalone_form : Expr
 standalone_form = attribute_of (codes "standalone") (λ q. either_of (word (codes "yes")) (word (codes "no")))
 

@@ -7,16 +7,19 @@ use Rattle.derivatives.specs.Expressions.{Expr, nothing, empty, range, star}
 use Rattle.derivatives.specs.Derivatives.{chain_of, either_of}
 use Rattle.page_forms.specs.Words.{word, one_of_words, ascii}
 
--- digits of the value of this one, of a higher or of a lower value
+-- a digit of the value of this one
 abbrev pub equal_to : (ℕ → Bool) → ℕ → Expr
 equal_to is_digit d = ascii (λ c. is_digit c && digit_value c == digit_value d)
 
+-- a digit of a higher value
 abbrev pub above : (ℕ → Bool) → ℕ → Expr
 above is_digit d = ascii (λ c. is_digit c && nat_lt (digit_value d) (digit_value c))
 
+-- a digit of a lower value
 abbrev pub below : (ℕ → Bool) → ℕ → Expr
 below is_digit d = ascii (λ c. is_digit c && nat_lt (digit_value c) (digit_value d))
 
+-- a digit of a value between those of two
 abbrev pub inside : (ℕ → Bool) → ℕ → ℕ → Expr
 inside is_digit d e = ascii (λ c. is_digit c && (nat_lt (digit_value d) (digit_value c) && nat_lt (digit_value c) (digit_value e)))
 
@@ -64,15 +67,17 @@ decimal_rows =
     ∷ (codes "1000", codes "9999") ∷ (codes "10000", codes "55295") ∷ (codes "57344", codes "65533") ∷ (codes "65536", codes "99999")
     ∷ (codes "100000", codes "999999") ∷ (codes "1000000", codes "1114111") ∷ []
 
+-- the same by hexadecimal digits
 abbrev pub hexadecimal_rows : Rows
 hexadecimal_rows =
     (codes "9", codes "A") ∷ (codes "D", codes "D") ∷ (codes "20", codes "FF") ∷ (codes "100", codes "FFF") ∷ (codes "1000", codes "D7FF")
     ∷ (codes "E000", codes "FFFD") ∷ (codes "10000", codes "FFFFF") ∷ (codes "100000", codes "10FFFF") ∷ []
 
--- decimal digits, and `x` and hexadecimal ones, of a character
+-- the number of a character in decimal digits
 unfoldable pub decimal_form : Expr
 decimal_form = number_form is_ascii_digit decimal_rows
 
+-- the same in hexadecimal digits
 unfoldable pub hexadecimal_form : Expr
 hexadecimal_form = number_form is_ascii_hexdigit hexadecimal_rows
 

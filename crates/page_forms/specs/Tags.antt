@@ -13,10 +13,11 @@ use Rattle.page_forms.specs.Quotes.{attribute_of}
 use Rattle.page_forms.specs.References.{reference_form}
 use Rattle.page_forms.specs.Words.{word, one_of_words, ascii, character_of, blanks, gap, name_form}
 
--- one word with white space round it if need be, and some of them with white space between them too
+-- one word, maybe with white space round it
 abbrev pub one_word : Expr → Expr
 one_word e = chain_of blanks (chain_of e blanks)
 
+-- one word or more with white space between them, maybe with white space round them
 abbrev pub some_words : Expr → Expr
 some_words e = chain_of blanks (chain_of e (chain_of (star (chain_of gap e)) blanks))
 
@@ -54,6 +55,7 @@ presence_form entities kind required q = kind_form entities kind q
 presence_form entities kind with_default q = kind_form entities kind q
 presence_form entities kind (fixed wanted) q = when (is_fixed_value entities kind q wanted) (word wanted)
 
+-- a value of a declared attribute in these quotes
 unfoldable pub value_form : List (List ℕ) → Declared → ℕ → Expr
 value_form entities d q = presence_form entities d.kind d.presence q
 
@@ -84,8 +86,10 @@ tag_form closer entities rule =
     chain_of (word (codes "<"))
     (chain_of (word rule.name) (chain_of (any_order (attribute_members entities rule.name rule.attributes)) (chain_of blanks (word closer))))
 
+-- a start tag by its declarations (XML 1.0, 3.1)
 unfoldable pub start_tag_form : List (List ℕ) → Rule → Expr
 start_tag_form entities rule = tag_form (codes ">") entities rule
 
+-- a tag of an empty element by its declarations (XML 1.0, 3.1)
 unfoldable pub empty_tag_form : List (List ℕ) → Rule → Expr
 empty_tag_form entities rule = tag_form (codes "/>") entities rule

@@ -37,27 +37,29 @@ abbrev pub by_rows : List (List (ℕ × ℕ)) → Expr
 by_rows [] = nothing
 by_rows (row ∷ rows) = either_of (in_turn row) (by_rows rows)
 
--- The characters of XML beyond ASCII, by their bytes (XML 1.0, 2.2; RFC 3629, 4): those up to U+DFFF, those from U+E000 to U+FFFD, and
--- those behind them.
+-- The characters of XML beyond ASCII, by their bytes (XML 1.0, 2.2; RFC 3629, 4).
 
 -- a byte behind the first of a character
 abbrev pub later_byte : ℕ × ℕ
 later_byte = (0x80, 0xBF)
 
+-- U+0080 to U+EFFF, without surrogates
 abbrev pub low_rows : List (List (ℕ × ℕ))
 low_rows =
     ((0xC2, 0xDF) ∷ later_byte ∷ []) ∷ ((0xE0, 0xE0) ∷ (0xA0, 0xBF) ∷ later_byte ∷ []) ∷ ((0xE1, 0xEC) ∷ later_byte ∷ later_byte ∷ [])
     ∷ ((0xED, 0xED) ∷ (0x80, 0x9F) ∷ later_byte ∷ []) ∷ ((0xEE, 0xEE) ∷ later_byte ∷ later_byte ∷ []) ∷ []
 
+-- U+F000 to U+FFFD
 abbrev pub middle_rows : List (List (ℕ × ℕ))
 middle_rows = ((0xEF, 0xEF) ∷ (0x80, 0xBE) ∷ later_byte ∷ []) ∷ ((0xEF, 0xEF) ∷ (0xBF, 0xBF) ∷ (0x80, 0xBD) ∷ []) ∷ []
 
--- the same but for U+FEFF
+-- U+F000 to U+FFFD but for U+FEFF
 abbrev pub rows_but_mark : List (List (ℕ × ℕ))
 rows_but_mark =
     ((0xEF, 0xEF) ∷ (0x80, 0xBA) ∷ later_byte ∷ []) ∷ ((0xEF, 0xEF) ∷ (0xBB, 0xBB) ∷ (0x80, 0xBE) ∷ [])
     ∷ ((0xEF, 0xEF) ∷ (0xBC, 0xBE) ∷ later_byte ∷ []) ∷ ((0xEF, 0xEF) ∷ (0xBF, 0xBF) ∷ (0x80, 0xBD) ∷ []) ∷ []
 
+-- U+10000 to U+10FFFF
 abbrev pub high_rows : List (List (ℕ × ℕ))
 high_rows =
     ((0xF0, 0xF0) ∷ (0x90, 0xBF) ∷ later_byte ∷ later_byte ∷ []) ∷ ((0xF1, 0xF3) ∷ later_byte ∷ later_byte ∷ later_byte ∷ [])
@@ -75,10 +77,11 @@ character_of test = either_of (ascii (λ c. is_character c && test c)) beyond_as
 abbrev pub other_than : ℕ → Expr
 other_than c = character_of (λ d. not (d == c))
 
--- white space, and some white space (XML 1.0, 2.3)
+-- white space, maybe none (XML 1.0, 2.3)
 abbrev pub blanks : Expr
 blanks = star (ascii is_blank)
 
+-- some white space
 abbrev pub gap : Expr
 gap = chain_of (ascii is_blank) blanks
 
