@@ -1,5 +1,5 @@
 -- Answers for names, one behind another.
-use Rattle.std.proofs.Common.{◌≡◌, ◌∙◌, ◌≤◌, ◌<◌, ◌+◌, ◌-◌, ◌^◌, ℕ, Bool, true, false, List, [], ◌∷◌, ◌++◌, length, take, map, get_or, refl, sym, ap, arith}
+use Rattle.std.proofs.Common.{◌≡◌, ◌∙◌, ◌≤◌, ◌<◌, ◌+◌, ◌-◌, ◌^◌, ℕ, Bool, true, false, List, [], ◌∷◌, ◌++◌, length, take, map, get_or, refl, sym, ap, subst, arith}
 use Rattle.std.proofs.lemmas.List.{take_more, map-append}
 use Rattle.std.specs.Prelude.{IsTrue, if◌then◌else◌}
 use Rattle.io_edge.specs.Counts.{Rises}
@@ -25,19 +25,7 @@ module _ (May : Content → List ℕ → Line → Type 0) where
   -- one more answer behind others
   pub answered_behind : (a b c : Moment) (names : List (List ℕ)) (lines : List Line) (name : List ℕ) (line : Line)
       → AreAnswered May a b names lines → IsAnswered May b c name line → AreAnswered May a c (names ++ name ∷ []) (lines ++ line ∷ [])
-  answered_behind a b c [] [] name line leads last = (
-    c,
-    record {
-      leads = leads_on a b c leads last.leads;
-      may = last.may;
-      missing = λ h. rises_from a.misses b.misses c.misses leads.misses (last.missing h);
-      failed = λ h. rises_from a.faults b.faults c.faults leads.faults (last.failed h);
-    },
-    leads_same c,
-  )
-    where
-      rises_from : (x y z : ℕ) → x ≤ y → Rises y z → Rises x z
-      rises_from x y z le rises = omega (arith, le, rises)
+  answered_behind a b c [] [] name line same last = (c, subst (λ (m : Moment). IsAnswered May m c name line) same last, refl)
   answered_behind a b c [] (l ∷ ls) name line none last = absurd none
   answered_behind a b c (n ∷ ns) [] name line none last = absurd none
   answered_behind a b c (n ∷ ns) (l ∷ ls) name line (between, first, rest) last = (between, first, answered_behind between b c ns ls name line rest last)
@@ -47,7 +35,7 @@ module _ (May : Content → List ℕ → Line → Type 0) where
       (counted : (a b : Moment) (name : List ℕ) (line : Line) → IsAnswered May a b name line → IsTrue (is_refused_by status line) → Rises (count a) (count b)) where
     pub refused_are_counted : (a b : Moment) (names : List (List ℕ)) (lines : List Line) → AreAnswered May a b names lines → count b < 2 ^ 64 - 1
         → refused_by status lines + count a ≤ count b
-    refused_are_counted a b [] [] leads small = let le : count a ≤ count b = grows a b leads in omega (arith, le)
+    refused_are_counted a b [] [] same small = let at : count b ≡ count a = ap count same in omega (arith, at)
     refused_are_counted a b [] (l ∷ ls) none small = absurd none
     refused_are_counted a b (n ∷ ns) [] none small = absurd none
     refused_are_counted a b (n ∷ ns) (l ∷ ls) (between, first, rest) small =
@@ -67,10 +55,23 @@ module _ (May : Content → List ℕ → Line → Type 0) where
 
 -- so each line leads on
 pub answered_leads : (May : Content → List ℕ → Line → Type 0) (a b : Moment) (names : List (List ℕ)) (lines : List Line) → AreAnswered May a b names lines → Leads a b
-answered_leads May a b [] [] leads = leads
+answered_leads May a b [] [] same = subst (λ (m : Moment). Leads a m) (sym same) (leads_same a)
 answered_leads May a b [] (l ∷ ls) none = absurd none
 answered_leads May a b (n ∷ ns) [] none = absurd none
 answered_leads May a b (n ∷ ns) (l ∷ ls) (between, first, rest) = leads_on a between b first.leads (answered_leads May between b ns ls rest)
+
+-- where no line tells a fault, none came
+pub calm_throughout : (May : Content → List ℕ → Line → Type 0) (a b : Moment) (names : List (List ℕ)) (lines : List Line) → AreAnswered May a b names lines
+    → refused_by FAULT_STATUS lines ≡ 0 → b.faults ≡ a.faults
+calm_throughout May a b [] [] same none = ap (λ (m : Moment). m.faults) same
+calm_throughout May a b [] (l ∷ ls) never none = absurd never
+calm_throughout May a b (n ∷ ns) [] never none = absurd never
+calm_throughout May a b (n ∷ ns) (l ∷ ls) (between, first, rest) none = by (is_refused_by FAULT_STATUS l) refl none (calm_throughout May between b ns ls rest)
+  where
+    by : (is : Bool) → is_refused_by FAULT_STATUS l ≡ is → (if is then 1 else 0) + refused_by FAULT_STATUS ls ≡ 0
+        → (refused_by FAULT_STATUS ls ≡ 0 → b.faults ≡ between.faults) → b.faults ≡ a.faults
+    by true e more behind = absurd (omega (arith, more))
+    by false e more behind = behind (omega (arith, more)) ∙ first.calm e
 
 -- one more name
 pub names_more : {X : Type 0} (f : X → List ℕ) (xs : List X) (i : ℕ) (x : X) → i < length xs → x ≡ get_or xs i x → map f (take (i + 1) xs) ≡ map f (take i xs) ++ f x ∷ []

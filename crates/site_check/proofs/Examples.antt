@@ -1,10 +1,15 @@
 -- The definitions of `specs/` on worked examples and on near misses.
-use Rattle.std.proofs.Common.{arith, ◌≡◌, ℕ, List, [], ◌∷◌, None, Some, false, refl, codes}
+use Rattle.std.proofs.Common.{arith, ◌≡◌, ◌≤◌, ◌++◌, ℕ, List, [], ◌∷◌, None, Some, false, refl, codes}
+use Rattle.std.specs.Fmt.{digits}
+use Rattle.std.specs.Str.Lossy.{utf8_lossy}
+use Rattle.json.specs.Print.{escape_byte}
 use Rattle.io_edge.specs.Told.{Content, unasked, untold, known}
 use Rattle.site_check.specs.declared.line.Line.{Line}
 use Rattle.site_check.specs.declared.line.Line.TheVariants.{Yes, No, Refused}
 use Rattle.site_check.specs.declared.line.TheConstants.{MISSING_STATUS}
 use Rattle.site_check.specs.Site.{Moment, moment, IsAnswered, AreAnswered, refused_by}
+use Rattle.site_check.specs.Listed.{names_in, IsList}
+use Rattle.site_check.specs.Report.{report}
 use Rattle.site_check.specs.Kept.{Kept, nothing_kept, kept_behind, keep, total_size, told_with}
 
 -- a source that tells nothing
@@ -62,3 +67,16 @@ not_missing is = let rises = is.missing refl in omega (arith, rises)
 
 how_many : refused_by MISSING_STATUS (Refused 6 [] ∷ Yes ∷ Refused 7 [] ∷ Refused 6 (codes "x") ∷ []) ≡ 2
 how_many = refl
+
+-- lines end with LF or CR LF, the last may end without, and empty lines are passed over; a CR within a line is a byte of the name
+a_list : names_in (codes "a.php" ++ 13 ∷ 10 ∷ 10 ∷ (codes "b" ++ 13 ∷ codes "c" ++ 10 ∷ 13 ∷ 10 ∷ codes "d.php")) ≡ codes "a.php" ∷ (codes "b" ++ 13 ∷ codes "c") ∷ codes "d.php" ∷ []
+a_list = refl
+
+no_names : IsList (10 ∷ 13 ∷ 10 ∷ []) → ⊥
+no_names (utf8, (least, most)) = let at : 1 ≤ 0 = least in omega (arith, at)
+
+-- two lines as they are written
+a_report : report (codes "a.php" ∷ codes "b.php" ∷ []) (Yes ∷ Refused 3 (codes "Float b.php 11") ∷ [])
+    ≡ codes "{\"answer\":\"yes\",\"file\":\"a.php\"}\n{\"answer\":\"refused\",\"file\":\"b.php\",\"status\":3,\"text\":\"Float b.php 11\"}\n"
+unfolding digits escape_byte utf8_lossy
+a_report = refl

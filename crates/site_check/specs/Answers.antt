@@ -1,5 +1,5 @@
 -- How a source that asks another once for each name answers; this project's own.
-use Rattle.std.specs.Prelude.{◌≡◌, ℕ, List, Option, None, Some, Result, Ok, Err}
+use Rattle.std.specs.Prelude.{◌≡◌, ◌⊎◌, ℕ, List, Option, None, Some, Result, Ok, Err}
 use Rattle.io_edge.specs.Counts.{one_more}
 use Rattle.io_edge.specs.declared.files.FileFault.{FileFault}
 use Rattle.io_edge.specs.declared.files.FileFault.TheVariants.{Missing, Memory}
@@ -17,3 +17,7 @@ AnswersAgain (Some bytes) missed missed' (Ok given) = (given ≡ bytes) × (miss
 AnswersAgain None missed missed' (Err Missing) = missed' ≡ one_more missed
 AnswersAgain file missed missed' (Err Memory) = missed' ≡ missed
 AnswersAgain file missed missed' other = ⊥
+
+-- the other source was asked once, unless memory was wanting before: then it is as it was
+abbrev pub AsksOnce : {F : Type 0} → (F → ℕ) → (before now : F) → Result (List ℕ) FileFault → Type 0
+AsksOnce reads before now result = (reads now ≡ one_more (reads before)) ⊎ ((result ≡ Err Memory) × (now ≡ before))

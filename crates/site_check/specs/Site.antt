@@ -1,5 +1,5 @@
 -- The answers for the scripts of a site; this project's own.
-use Rattle.std.specs.Prelude.{◌≤◌, ◌+◌, ℕ, List, [], ◌∷◌, Bool, false, nat_eq, if◌then◌else◌, IsTrue}
+use Rattle.std.specs.Prelude.{◌≡◌, ◌≤◌, ◌+◌, ℕ, List, [], ◌∷◌, Bool, false, nat_eq, if◌then◌else◌, IsTrue}
 use Rattle.io_edge.specs.Counts.{Rises}
 use Rattle.io_edge.specs.Told.{Content, Stays}
 use Rattle.site_check.specs.declared.line.Line.{Line}
@@ -32,17 +32,18 @@ abbrev pub refused_by : ℕ → List Line → ℕ
 refused_by status [] = 0
 refused_by status (line ∷ lines) = (if is_refused_by status line then 1 else 0) + refused_by status lines
 
--- the line may be answered for the name by what is told behind the call, and tells that a file is missing or could not be read only where
--- that was counted in the call
+-- the line may be answered for the name by what is told behind the call; it tells that a file is missing or could not be read only where
+-- that was counted in the call, and each fault of the source is told by it
 pub record IsAnswered (May : Content → List ℕ → Line → Type 0) (before now : Moment) (name : List ℕ) (line : Line) : Type 0 where
   pub leads : Leads before now
   pub may : May now.content name line
   pub missing : IsTrue (is_refused_by MISSING_STATUS line) → Rises before.misses now.misses
   pub failed : IsTrue (is_refused_by FAULT_STATUS line) → Rises before.faults now.faults
+  pub calm : is_refused_by FAULT_STATUS line ≡ false → now.faults ≡ before.faults
 
 -- the lines are answers for the names, one for each, in their order, one call behind another
 abbrev pub AreAnswered : (Content → List ℕ → Line → Type 0) → Moment → Moment → List (List ℕ) → List Line → Type 0
-AreAnswered May before now [] [] = Leads before now
+AreAnswered May before now [] [] = now ≡ before
 AreAnswered May before now (name ∷ names) (line ∷ lines) =
     (between : Moment) × IsAnswered May before between name line × AreAnswered May between now names lines
 AreAnswered May before now names lines = ⊥

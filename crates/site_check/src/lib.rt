@@ -8,12 +8,18 @@ mod answers;
 mod keeping;
 mod kept_files;
 mod line;
+mod list_refusal;
+mod listing;
 mod read_once;
 mod reading;
+mod reporting;
 mod sites;
 
 pub use answers::Answers;
 pub use kept_files::{KEPT_LIMIT, KeptFiles};
 pub use line::{FAULT_STATUS, Line, MISSING_STATUS};
+pub use list_refusal::{ListRefusal, NAMES_LIMIT};
+pub use listing::read_list;
 pub use read_once::ReadOnce;
+pub use reporting::report;
 pub use sites::site;

@@ -8,7 +8,7 @@ ghost use Rattle.io_edge.specs.Told.{Tells, Stays, untold};
 ghost use Rattle.io_edge.specs.Reasons.{HasReason};
 ghost use Rattle.site_check.specs.declared.kept_files.TheConstants.{KEPT_LIMIT};
 ghost use Rattle.site_check.specs.Kept.{nothing_kept, told_with, total_size};
-ghost use Rattle.site_check.specs.Answers.{KeepsAnswer, AnswersAgain};
+ghost use Rattle.site_check.specs.Answers.{KeepsAnswer, AnswersAgain, AsksOnce};
 ghost use Rattle.site_check.specs.Views.{kept_by, inner_of, read_count, missed_count, kept_of};
 
 use crate::kept_files::KeptFiles;
@@ -53,6 +53,7 @@ fn ask<F: Files>(
     ensures misses { F.misses inner.old ≤ F.misses inner.new }
     ensures unfailed { result ≢ Err FileFault.Failed → F.faults inner.new ≡ F.faults inner.old }
     ensures unmissed { result ≢ Err FileFault.Missing → F.misses inner.new ≡ F.misses inner.old }
+    ensures asked { AsksOnce F.reads inner.old inner.new result }
 {
     let key = Bytes::from_slice(alloc, name.as_bytes())?;
     kept.reserve()?;
@@ -99,11 +100,12 @@ impl<F: Files> Files for ReadOnce<F> {
             + missed_count self.new ≡ F.misses (inner_of self.old) + missed_count self.old }
         ensures asked { read_count self.new ≡ one_more (read_count self.old) }
 
-        // What comes of the first question for a name is kept; the next ones are answered by it,
-        // and the other source is not asked.
+        // What comes of the first question for a name is kept, for which the other source is asked
+        // once; the next ones are answered by it, and the other source is not asked.
         ensures first { lookup (bytes_eq name.now) (kept_by self.old).files ≡ None
             → KeepsAnswer (kept_by self.old) (kept_by self.new) name.now result
-            × (missed_count self.new ≡ missed_count self.old) }
+            × (missed_count self.new ≡ missed_count self.old)
+            × AsksOnce F.reads (inner_of self.old) (inner_of self.new) result }
         ensures again { (file : Option (List ℕ))
             → lookup (bytes_eq name.now) (kept_by self.old).files ≡ Some file
             → AnswersAgain file (missed_count self.old) (missed_count self.new) result
