@@ -8,7 +8,7 @@ use Rattle.clap.specs.Lexer.{long_of}
 use Rattle.clap.proofs.OnLiterals.{clap_on_literals}
 use Rattle.command_words.specs.Program as program
 use Rattle.command_words.specs.Program.{Row as Command, commands}
-use Rattle.command_words.specs.Asked.{Values, asked_by, asked_check, asked_run, asked_page, asked_grammar, asked_make, asked_first, has_help, help, is_given, is_help}
+use Rattle.command_words.specs.Asked.{Values, asked_by, asked_check, asked_run, asked_page, asked_grammar, asked_make, asked_site, asked_first, has_help, help, is_given, is_help}
 use Rattle.command_words.specs.Canonical.{IsAmong}
 use Rattle.command_words.proofs.Rows.{below, option_rule, flag_rule}
 use Rattle.command_words.proofs.Steps.{Table, Enters, LeavesAlone}
@@ -308,6 +308,59 @@ make_known = record {
   first = λ ws. refl;
 }
 
+-- `site`
+
+site_table : Table (below (program.command program.site)) program.site
+unfolding clap_on_literals
+site_table = record {
+  own = refl;
+  valid = λ rows e. rw e refl;
+  defaults = refl;
+  sees = refl;
+  by_index = refl;
+  place_id = refl;
+  option_long = each (λ n. arg_by_long (below (program.command program.site)).rules n ≡ Some (option_rule n)) program.site.options (refl, (refl, tt));
+  option_id = each (λ n. arg_by_id (below (program.command program.site)).rules n ≡ Some (option_rule n)) program.site.options (refl, (refl, tt));
+  option_same = each (λ n. bytes_eq n n ≡ true) program.site.options (refl, (refl, tt));
+  flag_long = each (λ n. arg_by_long (below (program.command program.site)).rules n ≡ Some (flag_rule n)) program.site.flags (refl, tt);
+  joined_long = λ n v. each (λ m. long_of (45 ∷ 45 ∷ m ++ 61 ∷ v) ≡ Some (m, Some v)) program.site.options (refl, (refl, tt)) n;
+  joined_bare = λ n v. each (λ m. bytes_eq (45 ∷ 45 ∷ m ++ 61 ∷ v) (45 ∷ 45 ∷ []) ≡ false) program.site.options (refl, (refl, tt)) n;
+  joined_free = λ n v. each (λ m. is_help (45 ∷ 45 ∷ m ++ 61 ∷ v) ≡ false) program.site.options (refl, (refl, tt)) n;
+  option_text = each (λ n. long_of (45 ∷ 45 ∷ n) ≡ Some (n, None)) program.site.options (refl, (refl, tt));
+  option_bare = each (λ n. bytes_eq (45 ∷ 45 ∷ n) (45 ∷ 45 ∷ []) ≡ false) program.site.options (refl, (refl, tt));
+  option_free = each (λ n. is_help (45 ∷ 45 ∷ n) ≡ false) program.site.options (refl, (refl, tt));
+  flag_text = each (λ n. long_of (45 ∷ 45 ∷ n) ≡ Some (n, None)) program.site.flags (refl, tt);
+  flag_bare = each (λ n. bytes_eq (45 ∷ 45 ∷ n) (45 ∷ 45 ∷ []) ≡ false) program.site.flags (refl, tt);
+  flag_free = each (λ n. is_help (45 ∷ 45 ∷ n) ≡ false) program.site.flags (refl, tt);
+}
+
+site_enters : Enters (built program.phpsa) (codes "site") (below (program.command program.site))
+unfolding program.phpsa clap_on_literals
+site_enters = record {
+  first = refl;
+  turn = refl;
+  enters = λ ws. refl;
+  is_met = λ ws. refl;
+  settles = refl;
+  defaults = refl;
+  valid = refl;
+}
+
+site_alike : (v w : Values) → v (codes "FILE") ≡ w (codes "FILE") → v (codes "dtd") ≡ w (codes "dtd") → v (codes "limit") ≡ w (codes "limit") → is_given (v (codes "nesting")) ≡ is_given (w (codes "nesting")) → asked_site v ≡ asked_site w
+site_alike v w e0 e1 e2 e3 = rw (e0, e1, e2, e3) refl
+
+site_known : Known program.site
+unfolding program.phpsa clap_on_literals
+site_known = record {
+  enters = site_enters;
+  entered_is = λ ws. refl;
+  table = site_table;
+  alike = λ v w e. site_alike v w (e.texts (codes "FILE") (inl refl)) (e.texts (codes "dtd") (inr (inl refl))) (e.texts (codes "limit") (inr (inr (inl refl)))) (e.flags (codes "nesting") (inl refl));
+  alone = each (λ n. LeavesAlone n (below (program.command program.site)).rules) (program.site.place ∷ program.site.options) ((inr refl, (inr refl, (inr refl, (inl refl, tt)))), ((inr refl, (inr refl, (inr refl, (inl refl, tt)))), ((inr refl, (inr refl, (inr refl, (inl refl, tt)))), tt)));
+  unset = (refl, (refl, (refl, (refl, tt))));
+  first = λ ws. refl;
+}
+
 -- each command is known
 pub known : (row : Command) → IsAmong row commands → Known row
-known = each Known commands (check_known, (run_known, (page_known, (grammar_known, (make_known, tt)))))
+known = each Known commands (check_known, (run_known, (page_known, (grammar_known, (make_known, (site_known, tt))))))

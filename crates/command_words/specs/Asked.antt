@@ -18,6 +18,7 @@ pub data Asked : Type 0 where
   page : (file definition : Text) → Asked
   grammar : (file : Text) → Asked
   make : (functions : ℕ) (is_checked : Bool) → Asked
+  site : (file definition : Text) (limit : ℕ) (by_nesting : Bool) → Asked
 
 -- what words say of each argument, by its name
 abbrev pub Values : Type 0
@@ -70,6 +71,12 @@ abbrev pub asked_make : Values → Option Asked
 asked_make values = option_map (λ functions. make functions (is_given (values (codes "check"))))
     (option_and_then number_of (values (codes "N")))
 
+-- what `site` asks for; None where the file is missing or the limit is no number
+abbrev pub asked_site : Values → Option Asked
+asked_site values = option_and_then (λ file. option_map
+    (λ limit. site file (definition_of values) limit (is_given (values (codes "nesting"))))
+    (number_or PAIR_LIMIT (values (codes "limit")))) (values (codes "FILE"))
+
 -- what the command of this word asks for
 abbrev pub asked_by : Text → Values → Option Asked
 asked_by word values =
@@ -77,7 +84,8 @@ asked_by word values =
     else (if bytes_eq word (codes "run") then asked_run values
     else (if bytes_eq word (codes "page") then asked_page values
     else (if bytes_eq word (codes "grammar") then asked_grammar values
-    else (if bytes_eq word (codes "make") then asked_make values else None))))
+    else (if bytes_eq word (codes "make") then asked_make values
+    else (if bytes_eq word (codes "site") then asked_site values else None)))))
 
 -- what stands in the rows that `clap` makes of words
 abbrev pub values_of : List clap.Row → Values

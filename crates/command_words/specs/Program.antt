@@ -35,9 +35,13 @@ grammar = row_of (codes "grammar") (codes "FILE") [] []
 abbrev pub make : Row
 make = row_of (codes "make") (codes "N") [] (codes "check" ∷ [])
 
+-- `phpsa site`: each script of a list is decided
+abbrev pub site : Row
+site = row_of (codes "site") (codes "FILE") (codes "dtd" ∷ codes "limit" ∷ []) (codes "nesting" ∷ [])
+
 -- all commands
 abbrev pub commands : List Row
-commands = check ∷ run ∷ page ∷ grammar ∷ make ∷ []
+commands = check ∷ run ∷ page ∷ grammar ∷ make ∷ site ∷ []
 
 -- the one argument without a name, which a command wants
 abbrev pub place : Text → Rule

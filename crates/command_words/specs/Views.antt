@@ -2,11 +2,11 @@
 use Rattle.std.specs.Prelude.{◌≡◌, List, Option, None, option_map}
 use Rattle.std.specs.Borrow.{Bor}
 use Rattle.clap.specs.Words.{Text}
-use Rattle.command_words.specs.Asked.{Asked, AreTaken, AsksNothing, help, version, check, run, page, grammar, make}
+use Rattle.command_words.specs.Asked.{Asked, AreTaken, AsksNothing, help, version, check, run, page, grammar, make, site}
 use Rattle.command_words.specs.declared.refusal.WordsRefusal.{WordsRefusal}
 use Rattle.command_words.specs.declared.refusal.WordsRefusal.TheVariants.{Usage, Memory}
 use Rattle.command_words.specs.declared.command_line.CommandLine.{CommandLine}
-use Rattle.command_words.specs.declared.command_line.CommandLine.TheVariants.{Help, Version, Check, Run, Page, Grammar, Make}
+use Rattle.command_words.specs.declared.command_line.CommandLine.TheVariants.{Help, Version, Check, Run, Page, Grammar, Make, Site}
 
 -- the bytes of a text that may be left out
 abbrev pub text_as : Option (Bor Text) → Option Text
@@ -21,6 +21,7 @@ asked_as (Run file request steps) = run file.now (text_as request) steps
 asked_as (Page file definition) = page file.now definition.now
 asked_as (Grammar file) = grammar file.now
 asked_as (Make functions is_checked) = make functions is_checked
+asked_as (Site file definition limit by_nesting) = site file.now definition.now limit by_nesting
 
 -- the words ask for nothing, and where `clap` takes them there is no line of its own; or memory was wanting
 abbrev pub IsRefused : List Text → WordsRefusal → Type 0

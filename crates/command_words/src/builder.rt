@@ -125,11 +125,13 @@ fn program<'a>(alloc: Global) -> Result<Command<'a>, AllocError>
     let page = row_with("page", "FILE", &["dtd"], &[]);
     let grammar = bare_row("grammar", "FILE");
     let make = row_with("make", "N", &[], &["check"]);
+    let site = row_with("site", "FILE", &["dtd", "limit"], &["nesting"]);
     let program = with_command(alloc, bare_program(alloc), check)?;
     let program = with_command(alloc, program, run)?;
     let program = with_command(alloc, program, page)?;
     let program = with_command(alloc, program, grammar)?;
-    with_command(alloc, program, make)
+    let program = with_command(alloc, program, make)?;
+    with_command(alloc, program, site)
 }
 
 /// What `clap` makes of the words, or why it does not take them.

@@ -36,4 +36,12 @@ pub enum CommandLine<'a> {
         functions: u32,
         is_checked: bool,
     },
+    /// Decides each script of a list: by the definition of this name, with at most so many pairs of
+    /// one nonterminal, and by nesting alone where that is asked for.
+    Site {
+        file: &'a str,
+        definition: &'a str,
+        limit: u32,
+        by_nesting: bool,
+    },
 }

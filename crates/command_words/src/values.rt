@@ -97,6 +97,20 @@ fn make_line<'a>(matches: &ArgMatches<'a>) -> Option<CommandLine<'a>>
     })
 }
 
+fn site_line<'a>(matches: &ArgMatches<'a>) -> Option<CommandLine<'a>>
+    ensures { option_map asked_as result
+        ≡ spec.asked_site (spec.values_of (rows_of (found_of matches.now))) }
+{
+    let file = value(matches, "FILE")?;
+    let limit = number_or(PAIR_LIMIT, value(matches, "limit"))?;
+    Some(CommandLine::Site {
+        file,
+        definition: definition_of(matches),
+        limit,
+        by_nesting: is_given(matches, "nesting"),
+    })
+}
+
 /// What the command of this word asks for.
 pub(crate) fn line_by<'a>(name: &str, matches: &ArgMatches<'a>) -> Option<CommandLine<'a>>
     ensures { option_map asked_as result
@@ -108,6 +122,7 @@ pub(crate) fn line_by<'a>(name: &str, matches: &ArgMatches<'a>) -> Option<Comman
         "page" => page_line(matches),
         "grammar" => grammar_line(matches),
         "make" => make_line(matches),
+        "site" => site_line(matches),
         _ => None,
     }
 }

@@ -1,7 +1,8 @@
 -- The statuses that calls end with; this project's own.
-use Rattle.std.specs.Prelude.{ℕ, Bool, true, false}
+use Rattle.std.specs.Prelude.{ℕ, Bool, true, false, List, if◌then◌else◌}
+use Rattle.std.specs.List.{list_any}
 use Rattle.phpsa_texts.specs.declared.exit.Exit.{Exit}
-use Rattle.phpsa_texts.specs.declared.exit.Exit.TheVariants.{Done, No, Undecided, Script, Spent, Missing, ReadFault, WriteFault, Usage, Dtd, Input, Memory, Deep, Words}
+use Rattle.phpsa_texts.specs.declared.exit.Exit.TheVariants.{Done, No, Undecided, Script, Spent, Missing, ReadFault, WriteFault, Usage, Dtd, Input, Memory, Deep, Site, Words}
 use Rattle.phpsa_texts.specs.declared.exit.Exit.TheVariants as exit
 use Rattle.plain_values.specs.declared.fault.Fault.{Fault}
 use Rattle.plain_values.specs.declared.fault.Fault.TheVariants as fault
@@ -9,6 +10,11 @@ use Rattle.phpsa_texts.specs.declared.answers.Conclusion.{Conclusion}
 use Rattle.phpsa_texts.specs.declared.answers.Conclusion.TheVariants as conclusion
 use Rattle.program_files.specs.declared.refusal.LoadRefusal.{LoadRefusal}
 use Rattle.program_files.specs.declared.refusal.LoadRefusal.TheVariants as load
+use Rattle.site_check.specs.declared.line.Line.{Line}
+use Rattle.site_check.specs.declared.line.TheConstants.{MISSING_STATUS, FAULT_STATUS}
+use Rattle.site_check.specs.declared.list_refusal.ListRefusal.{ListRefusal}
+use Rattle.site_check.specs.declared.list_refusal.ListRefusal.TheVariants as listing
+use Rattle.site_check.specs.Report.{is_no, is_undecided, is_refused}
 use Rattle.io_edge.specs.declared.files.FileFault.{FileFault}
 use Rattle.io_edge.specs.declared.files.FileFault.TheVariants as file
 use Rattle.request_reading.specs.declared.refusal.RequestRefusal.{RequestRefusal}
@@ -26,14 +32,15 @@ status_of Undecided = 2
 status_of Script = 3
 status_of exit.Fault = 4
 status_of Spent = 5
-status_of Missing = 6
-status_of ReadFault = 7
+status_of Missing = MISSING_STATUS
+status_of ReadFault = FAULT_STATUS
 status_of WriteFault = 8
 status_of Usage = 9
 status_of Dtd = 10
 status_of Input = 11
 status_of Memory = 12
 status_of Deep = 13
+status_of Site = 15
 status_of Words = 16
 
 -- where a script is decided
@@ -95,3 +102,14 @@ abbrev pub definition_status : DefinitionRefusal → Exit
 definition_status (definition.File fault) = dtd_status fault
 definition_status (definition.BuiltIn fault) = built_in_status fault
 definition_status definition.Memory = Memory
+
+-- where a text is no list of scripts
+abbrev pub list_status : ListRefusal → Exit
+list_status (listing.NotUtf8 line) = Input
+list_status (listing.Names count) = Input
+list_status listing.Memory = Memory
+
+-- of a report: a page that is not good goes before a script that is not decided, and that before one that is refused
+abbrev pub site_status : List Line → Exit
+site_status lines =
+    if list_any is_no lines then No else (if list_any is_undecided lines then Undecided else (if list_any is_refused lines then Site else Done))

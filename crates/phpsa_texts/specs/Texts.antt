@@ -12,6 +12,8 @@ use Rattle.program_files.specs.declared.refusal.LoadRefusal.{LoadRefusal}
 use Rattle.program_files.specs.declared.refusal.LoadRefusal.TheVariants as load
 use Rattle.io_edge.specs.declared.files.FileFault.{FileFault}
 use Rattle.io_edge.specs.declared.files.FileFault.TheVariants as file
+use Rattle.site_check.specs.declared.list_refusal.ListRefusal.{ListRefusal}
+use Rattle.site_check.specs.declared.list_refusal.ListRefusal.TheVariants as listing
 use Rattle.request_reading.specs.declared.refusal.RequestRefusal.{RequestRefusal}
 use Rattle.request_reading.specs.declared.refusal.RequestRefusal.TheVariants as request
 use Rattle.dtd_reader.specs.declared.refusal.DtdRefusal.{DtdRefusal}
@@ -249,6 +251,12 @@ deep_text = number_text (codes "Deep") CALL_LIMIT
 abbrev pub size_text : ℕ → List ℕ
 size_text functions = number_text (codes "Size") functions
 
+-- on `err`, where a text is no list of scripts: the line that is no UTF-8, from 1, or how many names there are
+abbrev pub list_text : ListRefusal → List ℕ
+list_text (listing.NotUtf8 line) = number_text (codes "NotUtf8") line
+list_text (listing.Names count) = number_text (codes "Names") count
+list_text listing.Memory = memory_text
+
 -- on `err`, where the word of this place is no UTF-8, from 1
 abbrev pub words_text : ℕ → List ℕ
 words_text place = number_text (codes "Words") place
@@ -281,6 +289,10 @@ grammar_usage = codes "phpsa grammar FILE" ++ 10 ∷ []
 abbrev pub make_usage : List ℕ
 make_usage = codes "phpsa make N [--check]" ++ 10 ∷ []
 
+-- what `site` takes
+abbrev pub site_usage : List ℕ
+site_usage = codes "phpsa site FILE [--dtd D] [--limit N] [--nesting]" ++ 10 ∷ []
+
 -- what else may be asked for
 abbrev pub help_usage : List ℕ
 help_usage = codes "phpsa --help" ++ 10 ∷ (codes "phpsa --version" ++ 10 ∷ [])
@@ -293,4 +305,4 @@ reason_text (Some line) = shown_name line ++ 10 ∷ []
 -- on `err`, where words ask for nothing: its name, what is wrong, and a line for each command
 abbrev pub usage_text : Option (List ℕ) → List ℕ
 usage_text reason = codes "phpsa: Usage" ++ 10
-    ∷ (reason_text reason ++ (check_usage ++ (run_usage ++ (page_usage ++ (grammar_usage ++ (make_usage ++ help_usage))))))
+    ∷ (reason_text reason ++ (check_usage ++ (run_usage ++ (page_usage ++ (grammar_usage ++ (make_usage ++ (site_usage ++ help_usage)))))))

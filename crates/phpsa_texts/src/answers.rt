@@ -1,7 +1,8 @@
-//! Of what is answered: for a script, for a page.
+//! Of what is answered: for a script, for the scripts of a list, for a page.
 
-ghost use Rattle.std.specs.Prelude.{◌≡◌, ◌++◌, IfOk};
-ghost use Rattle.phpsa_texts.specs.Statuses.{conclusion_status, judgment_status};
+ghost use Rattle.std.specs.Prelude.{◌≡◌, ◌++◌, IfOk, map, string_bytes};
+ghost use Rattle.site_check.specs.Report.{report};
+ghost use Rattle.phpsa_texts.specs.Statuses.{conclusion_status, judgment_status, site_status};
 ghost use Rattle.phpsa_texts.specs.Texts.{Says, conclusion_word, judgment_text, no_answer, no_text, passed_answer, passed_json, passed_text, sums_text, summary_text, yes_answer};
 ghost use Rattle.phpsa_texts.specs.declared.exit.Exit.TheVariants.{Done, No, Undecided};
 
@@ -9,6 +10,7 @@ use crate::exit::Exit;
 use crate::lines::append_number;
 use crate::message::Message;
 use crate::{items_json, no_json, sums_json, yes_json};
+use site_check::{Line, report};
 use std::alloc::Global;
 use text_base::{Bytes, NoMemory};
 
@@ -214,4 +216,35 @@ pub fn judgment_message(alloc: Global, is_valid: bool) -> Result<Message, NoMemo
     };
     let text = Bytes::from_slice(alloc, text)?;
     Ok(Message { status, text })
+}
+
+/// The status of a report with these lines.
+fn site_status(lines: &[Line]) -> Exit
+    ensures { result ≡ site_status lines.now }
+{
+    if lines.iter().any(|line| line.is_no()) {
+        Exit::No
+    } else if lines.iter().any(|line| line.is_undecided()) {
+        Exit::Undecided
+    } else if lines.iter().any(|line| line.is_refused()) {
+        Exit::Site
+    } else {
+        Exit::Done
+    }
+}
+
+/// How the scripts of these names were decided, each by its line.
+pub fn site_message(
+    alloc: Global,
+    names: &[String],
+    lines: &[Line],
+) -> Result<Message, NoMemory>
+    ensures { IfOk result (λ message. Says message (site_status lines.now)
+        (report (map string_bytes names.now) lines.now)) }
+{
+    let text = report(alloc, names, lines)?;
+    Ok(Message {
+        status: site_status(lines),
+        text,
+    })
 }

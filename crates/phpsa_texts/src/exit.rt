@@ -3,6 +3,8 @@
 ghost use Rattle.std.specs.Prelude.{◌≡◌};
 ghost use Rattle.phpsa_texts.specs.Statuses.{status_of};
 
+use site_check::{FAULT_STATUS, MISSING_STATUS};
+
 /// How a call ended: a variant for each status.
 #[derive(Clone, Copy, Debug, PartialEq, Eq)]
 pub enum Exit {
@@ -32,12 +34,15 @@ pub enum Exit {
     /// 10: there is no document type definition, or it is over a limit.
     Dtd,
     /// 11: a file is over the limit of 1,048,576 bytes, the program is too large, a text in it is
-    /// too long, a file holds no request, or a script cannot have so many functions.
+    /// too long, a file holds no request or no list, or a script cannot have so many functions.
     Input,
     /// 12: no memory was left.
     Memory,
     /// 13: the run would have had 257 calls open at once.
     Deep,
+    /// 15: a script of a list is refused, and none of the others may print a page that is not good or
+    /// is not decided.
+    Site,
     /// 16: the system does not give the words as UTF-8.
     Words,
 }
@@ -54,14 +59,15 @@ impl Exit {
             Exit::Script => 3,
             Exit::Fault => 4,
             Exit::Spent => 5,
-            Exit::Missing => 6,
-            Exit::ReadFault => 7,
+            Exit::Missing => MISSING_STATUS,
+            Exit::ReadFault => FAULT_STATUS,
             Exit::WriteFault => 8,
             Exit::Usage => 9,
             Exit::Dtd => 10,
             Exit::Input => 11,
             Exit::Memory => 12,
             Exit::Deep => 13,
+            Exit::Site => 15,
             Exit::Words => 16,
         }
     }

@@ -1,9 +1,9 @@
 //! Of a page that is not read, of a script that has a long text or is not made, and of a file that
-//! holds no request.
+//! holds no request or no list.
 
 ghost use Rattle.std.specs.Prelude.{◌≡◌, IfOk};
-ghost use Rattle.phpsa_texts.specs.Statuses.{file_status, request_status};
-ghost use Rattle.phpsa_texts.specs.Texts.{IsTold, file_text, long_text, request_text, size_text};
+ghost use Rattle.phpsa_texts.specs.Statuses.{file_status, list_status, request_status};
+ghost use Rattle.phpsa_texts.specs.Texts.{IsTold, file_text, list_text, long_text, request_text, size_text};
 ghost use Rattle.phpsa_texts.specs.declared.exit.Exit.TheVariants.{Input};
 
 use crate::exit::Exit;
@@ -12,6 +12,7 @@ use crate::message::Refusal;
 use crate::telling::told;
 use io_edge::FileFault;
 use request_reading::RequestRefusal;
+use site_check::ListRefusal;
 use std::alloc::Global;
 use text_base::{Bytes, NoMemory};
 
@@ -77,6 +78,19 @@ pub fn request_refusal(alloc: Global, refusal: &RequestRefusal) -> Refusal
     ensures { IsTold result (request_status refusal.now) (request_text refusal.now) }
 {
     told(request_status(refusal), request_text(alloc, refusal))
+}
+
+/// Why the text of a file is no list of scripts.
+pub fn list_refusal(alloc: Global, refusal: ListRefusal) -> Refusal
+    ensures { IsTold result (list_status refusal) (list_text refusal) }
+{
+    match refusal {
+        ListRefusal::NotUtf8 { line } => {
+            told(Exit::Input, number_text(alloc, b"NotUtf8", line))
+        }
+        ListRefusal::Names { count } => told(Exit::Input, number_text(alloc, b"Names", count)),
+        ListRefusal::Memory => Refusal::Memory,
+    }
 }
 
 /// That a script cannot have so many functions.

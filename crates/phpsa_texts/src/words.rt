@@ -20,11 +20,12 @@ pub const HELP: &[u8] = b"phpsa says whether all pages that a PHP script can pri
   phpsa page FILE     Says whether one page is valid.
   phpsa grammar FILE  Writes the grammar of the pages of a script.
   phpsa make N        Writes a script with N functions, for tests.
+  phpsa site FILE     Decides each script of a list, with a line of JSON for each.
 
-  --dtd TYPE          check, page: the document type, strict, mini or a file;
-                      strict where it is left out.
-  --limit N           check: gives up at over N sums, 10000 where it is left out.
-  --nesting           check: asks only that the tags of a page match.
+  --dtd TYPE          check, page, site: the document type, strict, mini or a
+                      file; strict where it is left out.
+  --limit N           check, site: gives up at over N sums, 10000 if left out.
+  --nesting           check, site: asks only that the tags of a page match.
   --json              check: writes the answer as a line of JSON.
   --request FILE      run: the request, as JSON; an empty one if left out.
   --steps N           run: stops after N steps, 10000000 if left out.
@@ -42,6 +43,7 @@ phpsa run FILE [--request FILE] [--steps N]
 phpsa page FILE [--dtd D]
 phpsa grammar FILE
 phpsa make N [--check]
+phpsa site FILE [--dtd D] [--limit N] [--nesting]
 phpsa --help
 phpsa --version
 ";

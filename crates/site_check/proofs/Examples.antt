@@ -1,7 +1,9 @@
 -- The definitions of `specs/` on worked examples and on near misses.
 use Rattle.std.proofs.Common.{arith, ◌≡◌, ◌≤◌, ◌++◌, ℕ, List, [], ◌∷◌, None, Some, false, refl, codes}
 use Rattle.std.specs.Fmt.{digits}
-use Rattle.std.specs.Str.Lossy.{utf8_lossy}
+use Rattle.std.specs.Char.{encode_utf8}
+use Rattle.std.specs.Str.{is_utf8, chars}
+use Rattle.std.specs.Str.Lossy.{utf8_lossy, utf8_valid_len}
 use Rattle.json.specs.Print.{escape_byte}
 use Rattle.io_edge.specs.Told.{Content, unasked, untold, known}
 use Rattle.site_check.specs.declared.line.Line.{Line}
@@ -78,5 +80,5 @@ no_names (utf8, (least, most)) = let at : 1 ≤ 0 = least in omega (arith, at)
 -- two lines as they are written
 a_report : report (codes "a.php" ∷ codes "b.php" ∷ []) (Yes ∷ Refused 3 (codes "Float b.php 11") ∷ [])
     ≡ codes "{\"answer\":\"yes\",\"file\":\"a.php\"}\n{\"answer\":\"refused\",\"file\":\"b.php\",\"status\":3,\"text\":\"Float b.php 11\"}\n"
-unfolding digits escape_byte utf8_lossy
+unfolding digits escape_byte utf8_lossy utf8_valid_len is_utf8 chars encode_utf8
 a_report = refl
