@@ -8,7 +8,7 @@ use Rattle.phpsa_texts.specs.declared.exit.Exit.TheVariants.{Done, ReadFault, Wr
 use Rattle.phpsa_texts.specs.declared.message.Refusal.{Refusal}
 use Rattle.phpsa_tasks.specs.declared.reply.Reply.{Reply}
 use Rattle.phpsa_tasks.specs.declared.reply.Reply.TheVariants as reply
-use Rattle.phpsa_tasks.specs.Tasks.{Task, script_check, page_check, script_making, made_check, script_run, grammar_making, help_telling, version_telling, usage, AsksFor}
+use Rattle.phpsa_tasks.specs.Tasks.{Task, script_check, page_check, script_making, made_check, script_run, grammar_making, list_check, help_telling, version_telling, usage, AsksFor}
 use Rattle.phpsa_tasks.specs.Call.{Call, Output, IsUnfailed}
 use Rattle.phpsa_tasks.specs.Counted.{uncounted, ReadsNothing, IsWanting, ReadsFor, TellsFaults, TellsFault, IsCounted}
 use Rattle.phpsa_tasks.specs.Results.{reply_status, reply_text, Does}

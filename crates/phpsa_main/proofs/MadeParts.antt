@@ -16,7 +16,7 @@ use Rattle.command_words.specs.declared.values.TheConstants.{PAIR_LIMIT}
 use Rattle.phpsa_tasks.specs.declared.reply.Reply.TheVariants as reply
 use Rattle.phpsa_tasks.specs.Tasks.{script_making, made_check}
 use Rattle.phpsa_tasks.specs.Subjects.{made_name, only_script, only_made}
-use Rattle.phpsa_tasks.specs.Replies.{answer_status, conclusion_of}
+use Rattle.phpsa_tasks.specs.ScriptAnswers.{answer_status, conclusion_of}
 use Rattle.phpsa_tasks.specs.Causes.{no_size, made_refused}
 use Rattle.phpsa_tasks.specs.Counted.{ReadsNothing}
 use Rattle.phpsa_tasks.specs.Results.{Does}

@@ -23,7 +23,7 @@ use Rattle.phpsa_texts.specs.Statuses.{load_status, definition_status}
 use Rattle.phpsa_texts.specs.Texts.{Says, IsTold, load_text, definition_text}
 use Rattle.phpsa_tasks.specs.declared.reply.Reply.TheVariants as reply
 use Rattle.phpsa_tasks.specs.Tasks.{script_check}
-use Rattle.phpsa_tasks.specs.Replies.{answer_status, answer_text}
+use Rattle.phpsa_tasks.specs.ScriptAnswers.{answer_status, answer_text}
 use Rattle.phpsa_tasks.specs.Causes.{definition_call, RefusesScript, not_defined, large_models, not_loaded, lacks_definition, has_long_text}
 use Rattle.phpsa_tasks.specs.Counted.{uncounted, ReadsItsFiles}
 use Rattle.phpsa_tasks.specs.Results.{Does}

@@ -13,7 +13,7 @@ use Rattle.phpsa_texts.specs.declared.exit.Exit.TheVariants.{Dtd, Input}
 use Rattle.phpsa_texts.specs.declared.message.Message.{Message}
 use Rattle.phpsa_texts.specs.declared.message.Refusal.{Refusal}
 use Rattle.phpsa_texts.specs.Texts.{Says, long_text, states_text}
-use Rattle.phpsa_tasks.specs.Replies.{IsAnswer}
+use Rattle.phpsa_tasks.specs.ScriptAnswers.{IsAnswer}
 use Rattle.phpsa_tasks.specs.Causes.{RefusesScript}
 use Rattle.phpsa_tasks.specs.Counted.{uncounted, ReadsItsFiles, TellsFaults}
 

@@ -2,7 +2,7 @@
 
 ghost use Rattle.std.specs.Prelude.{◌≡◌, IfOk};
 ghost use Rattle.phpsa_texts.specs.Texts.{Says};
-ghost use Rattle.phpsa_tasks.specs.Replies.{answer_status, answer_text, conclusion_of};
+ghost use Rattle.phpsa_tasks.specs.ScriptAnswers.{answer_status, answer_text, conclusion_of};
 
 use phpsa_texts::{
     AnswerForm, Conclusion, Message, PassedCount, no_message, passed_message, yes_message,

@@ -7,18 +7,18 @@ use Rattle.command_words.specs.Asked.{Asked, Asks, AsksNothing}
 use Rattle.command_words.specs.Canonical.{IsCanonical}
 use Rattle.phpsa_texts.specs.declared.exit.Exit.{Exit}
 use Rattle.phpsa_texts.specs.declared.exit.Exit.TheVariants.{WriteFault, Usage, Memory}
-use Rattle.phpsa_tasks.specs.Tasks.{Task, script_check, page_check, script_making, made_check, script_run, grammar_making, help_telling, version_telling, usage, task_of, AsksFor, asks, asks_nothing}
+use Rattle.phpsa_tasks.specs.Tasks.{Task, script_check, page_check, script_making, made_check, script_run, grammar_making, list_check, help_telling, version_telling, usage, task_of, AsksFor, asks, asks_nothing}
 use Rattle.phpsa_tasks.specs.Call.{Call, Gains, GainsNothing}
 use Rattle.phpsa_tasks.specs.Subjects.{Subject, Finds, Holds, IsWithin, LacksFile}
 use Rattle.phpsa_tasks.specs.Replies.{Replies, Halts}
 use Rattle.phpsa_tasks.specs.Causes.{Refuses}
 use Rattle.phpsa_tasks.specs.Endings.{OwesReply, OwesRefusal, of_task, wants_memory, OwesHalt, Ends, replied, refused, halted, by_out, by_err, no_memory}
-use Rattle.phpsa_tasks.specs.Answered.{IsUndisturbed, IsVerdict, IsStopped, statuses_of_nothing, IsUnasked, TellsCause, IsAnswered}
+use Rattle.phpsa_tasks.specs.Answered.{IsUndisturbed, IsVerdict, IsStopped, statuses_of_nothing, IsNotRun, TellsCause, IsAnswered}
 use Rattle.phpsa_tasks.proofs.Verdicts.{one_verdict}
-use Rattle.phpsa_tasks.proofs.Held.{ProgramLaws, held_reply, held_halt, held_refusal}
+use Rattle.phpsa_tasks.proofs.Held.{OneProgram, ProgramLaws, held_reply, held_halt, held_refusal}
 use Rattle.phpsa_tasks.proofs.Never.{told_usage, no_reply, no_halt, asks_more}
 use Rattle.phpsa_tasks.proofs.Nothing.{of_memory, of_refusal}
-use Rattle.phpsa_tasks.proofs.Unasked.{no_finding, cause_told}
+use Rattle.phpsa_tasks.proofs.NotRun.{no_finding, cause_told}
 
 abbrev pub OneTask : Type 0
 OneTask = (words : List (List ℕ)) (task other : Task) → AsksFor words task → AsksFor words other → task ≡ other
@@ -46,15 +46,15 @@ the_halt one call status printed text owed task asked =
     subst (λ (t : Task). Halts call.files t status printed text) (one call.words owed.task task owed.asked asked) owed.halts
 
 verdict_of : Laws → (call : Call) (status : Exit) (text : List ℕ) (task : Task) (x : Subject task) → IsUndisturbed call → Holds call.files.content task x → IsWithin call.files.content task x
-    → Refuses call.files task status text ⊎ (status ≡ Memory) → IsVerdict task x status ⊎ IsStopped task x status
+    → Refuses call.files task status text ⊎ (status ≡ Memory) → IsVerdict call.files.content task x status ⊎ IsStopped call.files.content task x status
 verdict_of laws call status text task x u h w (inl refuses) = held_refusal laws.programs call.files task x status text u.files h w refuses
 verdict_of laws call status text task x u h w (inr is) = inr (inr is)
 
 answered : Laws → (call : Call) (status : Exit) → Ends call status → (task : Task) (x : Subject task) → AsksFor call.words task → IsUndisturbed call
-    → Holds call.files.content task x → IsWithin call.files.content task x → IsVerdict task x status ⊎ IsStopped task x status
+    → Holds call.files.content task x → IsWithin call.files.content task x → IsVerdict call.files.content task x status ⊎ IsStopped call.files.content task x status
 answered laws call status (replied e) task x asked u h w =
     let r : Replies call.files task status e.text = the_reply laws.one_task call status e.text e.owed task asked in
-    held_reply laws.programs.one_program call.files.content task x r.subject status e.text h r.found r.says
+    held_reply laws.programs.one_program laws.programs.stay call.files task x r.subject status e.text h r.found r.says
 answered laws call status (refused e) task x asked u h w = verdict_of laws call status e.text task x u h w (the_refusal laws.one_task call status e.text e.owed task asked)
 answered laws call status (halted e) task x asked u h w =
     let r : Halts call.files task status e.printed e.text = the_halt laws.one_task call status e.printed e.text e.owed task asked in
@@ -63,10 +63,10 @@ answered laws call status (by_out is e) task x asked u h w = absurd (u.out e.fai
 answered laws call status (by_err is e) task x asked u h w = absurd (u.err e.failed)
 answered laws call status (no_memory is e) task x asked u h w = inr (inr is)
 
-exact_from : (task : Task) (x : Subject task) (status verdict : Exit) → IsVerdict task x verdict → IsVerdict task x status ⊎ IsStopped task x status
-    → (status ≡ verdict) ⊎ IsStopped task x status
-exact_from task x status verdict v (inl is) = inl (one_verdict task x status verdict is v)
-exact_from task x status verdict v (inr stopped) = inr stopped
+exact_from : OneProgram → (content : Content) (task : Task) (x : Subject task) (status verdict : Exit) → IsWithin content task x → IsVerdict content task x verdict
+    → IsVerdict content task x status ⊎ IsStopped content task x status → (status ≡ verdict) ⊎ IsStopped content task x status
+exact_from one content task x status verdict w v (inl is) = inl (one_verdict one content task x status verdict w is v)
+exact_from one content task x status verdict w v (inr stopped) = inr stopped
 
 -- a task that finds something does not lack it
 found_nothing : (content : Content) (task : Task) (x : Subject task) → LacksFile content task → Finds content task x → ⊥
@@ -77,6 +77,7 @@ found_nothing content (made_check n) x lacks (size, found, has) = lacks size
 found_nothing content (script_run file request steps) x (inl none) (found, finds, admitted) = none x.program found
 found_nothing content (script_run file request steps) x (inr none) (found, finds, admitted) = none x.request finds
 found_nothing content (grammar_making file) x lacks found = lacks x found
+found_nothing content (list_check file d goal limit) x none (found, has, good) = none x.list found
 found_nothing content help_telling x lacks found = lacks
 found_nothing content version_telling x lacks found = lacks
 found_nothing content usage x lacks found = lacks
@@ -100,25 +101,25 @@ nothing laws call status (by_err is e) task asked u lacks = absurd (u.err e.fail
 nothing laws call status (no_memory is e) task asked u lacks = of_memory call.files task status lacks is
 
 -- a program that is held is not run where the file of its request holds none
-unasked_of : Laws → (call : Call) (status : Exit) (text file name : List ℕ) (steps : ℕ) (cause : RequestRefusal) → IsUndisturbed call → IsUnasked call file name cause
+not_run_of : Laws → (call : Call) (status : Exit) (text file name : List ℕ) (steps : ℕ) (cause : RequestRefusal) → IsUndisturbed call → IsNotRun call file name cause
     → GainsNothing call.out → Gains call.err text → Refuses call.files (script_run file (Some name) steps) status text ⊎ (status ≡ Memory) → TellsCause call cause status ⊎ (status ≡ Memory)
-unasked_of laws call status text file name steps cause u n out err (inl why) = cause_told laws.programs call status text file name steps cause u.files n out err why
-unasked_of laws call status text file name steps cause u n out err (inr is) = inr is
+not_run_of laws call status text file name steps cause u n out err (inl why) = cause_told laws.programs call status text file name steps cause u.files n out err why
+not_run_of laws call status text file name steps cause u n out err (inr is) = inr is
 
-unasked : Laws → (call : Call) (status : Exit) → Ends call status → (file name : List ℕ) (steps : ℕ) (cause : RequestRefusal) → AsksFor call.words (script_run file (Some name) steps)
-    → IsUndisturbed call → IsUnasked call file name cause → TellsCause call cause status ⊎ (status ≡ Memory)
-unasked laws call status (replied e) file name steps cause asked u n =
+not_run : Laws → (call : Call) (status : Exit) → Ends call status → (file name : List ℕ) (steps : ℕ) (cause : RequestRefusal) → AsksFor call.words (script_run file (Some name) steps)
+    → IsUndisturbed call → IsNotRun call file name cause → TellsCause call cause status ⊎ (status ≡ Memory)
+not_run laws call status (replied e) file name steps cause asked u n =
     let r : Replies call.files (script_run file (Some name) steps) status e.text = the_reply laws.one_task call status e.text e.owed (script_run file (Some name) steps) asked in
     absurd (no_finding call.files.content name cause r.subject.request n.none n.input r.found.1)
-unasked laws call status (refused e) file name steps cause asked u n =
-    unasked_of laws call status e.text file name steps cause u n e.out e.err (the_refusal laws.one_task call status e.text e.owed (script_run file (Some name) steps) asked)
-unasked laws call status (halted e) file name steps cause asked u n =
+not_run laws call status (refused e) file name steps cause asked u n =
+    not_run_of laws call status e.text file name steps cause u n e.out e.err (the_refusal laws.one_task call status e.text e.owed (script_run file (Some name) steps) asked)
+not_run laws call status (halted e) file name steps cause asked u n =
     let r : Halts call.files (script_run file (Some name) steps) status e.printed e.text =
     the_halt laws.one_task call status e.printed e.text e.owed (script_run file (Some name) steps) asked in
     absurd (no_finding call.files.content name cause r.subject.request n.none n.input r.found.1)
-unasked laws call status (by_out is e) file name steps cause asked u n = absurd (u.out e.failed)
-unasked laws call status (by_err is e) file name steps cause asked u n = absurd (u.err e.failed)
-unasked laws call status (no_memory is e) file name steps cause asked u n = inr is
+not_run laws call status (by_out is e) file name steps cause asked u n = absurd (u.out e.failed)
+not_run laws call status (by_err is e) file name steps cause asked u n = absurd (u.err e.failed)
+not_run laws call status (no_memory is e) file name steps cause asked u n = inr is
 
 -- words that ask for nothing
 abbrev TellsUsage : Exit → Type 0
@@ -146,7 +147,7 @@ taken_of call status text for (inr wants) is = let same : Memory ≡ Usage = sym
 taken : Laws → (call : Call) (status : Exit) → Ends call status → (for : Asked) → Asks call.words for → status ≡ Usage → ⊥
 taken laws call status (replied e) for asked is =
     let r : Replies call.files (task_of for) status e.text = the_reply laws.one_task call status e.text e.owed (task_of for) (asks for asked refl) in
-    no_reply (task_of for) r.subject status e.text r.says is
+    no_reply call.files (task_of for) r.subject status e.text r.says is
 taken laws call status (refused e) for asked is = taken_of call status e.text for (the_refusal laws.one_task call status e.text e.owed (task_of for) (asks for asked refl)) is
 taken laws call status (halted e) for asked is =
     let r : Halts call.files (task_of for) status e.printed e.text = the_halt laws.one_task call status e.printed e.text e.owed (task_of for) (asks for asked refl) in
@@ -158,9 +159,9 @@ taken laws call status (no_memory wants e) for asked is = let same : Memory ≡ 
 pub answers : Laws → (call : Call) (status : Exit) → Ends call status → IsAnswered call status
 answers laws call status e = record {
   answered = answered laws call status e;
-  exact = λ task x verdict asked u h w v. exact_from task x status verdict v (answered laws call status e task x asked u h w);
+  exact = λ task x verdict asked u h w v. exact_from laws.programs.one_program call.files.content task x status verdict w v (answered laws call status e task x asked u h w);
   nothing = nothing laws call status e;
-  unasked = unasked laws call status e;
+  not_run = not_run laws call status e;
   refused = without laws call status e;
   taken = λ for canonical. taken laws call status e for (laws.canonical call.words for canonical);
 }

@@ -2,13 +2,18 @@
 use Rattle.std.proofs.Common.{◌≡◌, ◌≤◌, [], true, false, None, Some, codes, refl, lit≤, arith}
 use Rattle.page_model.specs.Valid as model
 use Rattle.page_decision.specs.declared.goal.Goal.TheVariants.{Valid, Nested}
+use Rattle.io_edge.specs.Told.{Content}
 use Rattle.program_files.specs.Source.{SourceCall}
-use Rattle.command_words.specs.Asked.{help, version, check, run, page, grammar, make}
+use Rattle.site_check.specs.declared.line.Line.TheVariants as told
+use Rattle.phpsa_texts.specs.declared.exit.Exit.TheVariants.{Site}
+use Rattle.phpsa_texts.specs.Statuses.{site_status}
+use Rattle.phpsa_tasks.specs.Sites.{inside}
+use Rattle.command_words.specs.Asked.{help, version, check, run, page, grammar, make, site}
 use Rattle.document_types.specs.DocumentTypes.{strict_type, mini_type, file_type}
 use Rattle.phpsa_texts.specs.declared.exit.Exit.TheVariants.{Done, No, Undecided, Input, Usage}
 use Rattle.phpsa_texts.specs.declared.answers.AnswerForm.TheVariants.{Plain, Json}
 use Rattle.phpsa_texts.specs.Texts.{help_text, version_text, usage_text}
-use Rattle.phpsa_tasks.specs.Tasks.{script_check, page_check, script_making, made_check, script_run, grammar_making, help_telling, version_telling, usage, task_of}
+use Rattle.phpsa_tasks.specs.Tasks.{script_check, page_check, script_making, made_check, script_run, grammar_making, list_check, help_telling, version_telling, usage, task_of}
 use Rattle.phpsa_tasks.specs.Call.{output_of, Gains, GainsPrefix, GainsNothing, Fails}
 use Rattle.phpsa_tasks.specs.Subjects.{PageBy}
 use Rattle.phpsa_tasks.specs.Replies.{IsReplyOf}
@@ -44,6 +49,9 @@ runs = refl
 writes_a_grammar : task_of (grammar (codes "t.php")) ≡ grammar_making (codes "t.php")
 writes_a_grammar = refl
 
+checks_a_list : task_of (site (codes "list") (codes "mini") 10000 true) ≡ list_check (codes "list") mini_type Nested 10000
+checks_a_list = refl
+
 tells_help : task_of help ≡ help_telling
 tells_help = refl
 
@@ -51,14 +59,14 @@ tells_the_version : task_of version ≡ version_telling
 tells_the_version = refl
 
 -- help is told with status 0 and its text alone, no other status is its verdict, nothing refuses it, and no name is asked for
-help_is_told : IsReplyOf help_telling tt Done help_text
-help_is_told = (refl, refl)
+help_is_told : (files : SourceCall) → IsReplyOf files help_telling tt Done help_text
+help_is_told files = (refl, refl)
 
-no_version_with_a_no : IsReplyOf version_telling tt No version_text → ⊥
-no_version_with_a_no (is, text_is) = let same : No ≡ Done = is in cc
+no_version_with_a_no : (files : SourceCall) → IsReplyOf files version_telling tt No version_text → ⊥
+no_version_with_a_no files (is, text_is) = let same : No ≡ Done = is in cc
 
-no_help_is_refused : IsVerdict help_telling tt Usage → ⊥
-no_help_is_refused verdict = let same : Usage ≡ Done = verdict in cc
+no_help_is_refused : (content : Content) → IsVerdict content help_telling tt Usage → ⊥
+no_help_is_refused content verdict = let same : Usage ≡ Done = verdict in cc
 
 none_refuses_help : (files : SourceCall) → Refuses files help_telling Usage (usage_text None) → ⊥
 none_refuses_help files why = why
@@ -71,14 +79,14 @@ refused_by_a_number : (files : SourceCall) → Refuses files usage Usage (usage_
 refused_by_a_number files = (refl, (None, refl))
 
 -- a page that is not valid has the verdict No, and no other
-invalid_verdict : (x : PageBy) → (model.Valid x.table x.page → ⊥) → IsVerdict (page_check (codes "p") mini_type) x No
-invalid_verdict x invalid = invalid
+invalid_verdict : (content : Content) (x : PageBy) → (model.Valid x.table x.page → ⊥) → IsVerdict content (page_check (codes "p") mini_type) x No
+invalid_verdict content x invalid = invalid
 
-no_page_is_undecided : (x : PageBy) → IsVerdict (page_check (codes "p") mini_type) x Undecided → ⊥
-no_page_is_undecided x verdict = verdict
+no_page_is_undecided : (content : Content) (x : PageBy) → IsVerdict content (page_check (codes "p") mini_type) x Undecided → ⊥
+no_page_is_undecided content x verdict = verdict
 
-too_many_functions : IsVerdict (script_making 1001) tt Input
-too_many_functions (least, most) = let at : 1001 ≤ 1000 = most in omega (arith, at)
+too_many_functions : (content : Content) → IsVerdict content (script_making 1001) tt Input
+too_many_functions content (least, most) = let at : 1001 ≤ 1000 = most in omega (arith, at)
 
 -- an output gains a text, a prefix of it, or nothing
 gains : Gains (output_of (Some []) (Some (codes "yes")) 0 0) (codes "yes")
@@ -92,3 +100,20 @@ gains_nothing = refl
 
 fails : Fails (output_of None None 3 4)
 fails = lit≤ tt
+
+-- of a report, a `no` goes before what is undecided, that before a refusal, and that before a yes
+no_first : site_status (told.Yes ∷ told.Refused 3 [] ∷ told.Items 9 ∷ told.No 4 ∷ []) ≡ No
+no_first = refl
+
+then_undecided : site_status (told.Refused 3 [] ∷ told.Items 9 ∷ told.Yes ∷ []) ≡ Undecided
+then_undecided = refl
+
+then_refused : site_status (told.Yes ∷ told.Refused 3 [] ∷ []) ≡ Site
+then_refused = refl
+
+all_yes : site_status (told.Yes ∷ told.Yes ∷ []) ≡ Done
+all_yes = refl
+
+-- what stands in a line of a text for `err`
+what_is_told : inside (codes "phpsa: Float b.php 11\n") ≡ codes "Float b.php 11"
+what_is_told = refl

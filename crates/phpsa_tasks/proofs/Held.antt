@@ -34,20 +34,25 @@ use Rattle.script_decision.specs.Decision.{HasLargeModels}
 use Rattle.script_decision.specs.declared.shown.ShownAnswer.{ShownAnswer}
 use Rattle.script_decision.specs.Shown.{IsShownAnswer}
 use Rattle.phpsa_texts.specs.declared.exit.Exit.{Exit}
-use Rattle.phpsa_texts.specs.declared.exit.Exit.TheVariants.{Memory}
-use Rattle.phpsa_texts.specs.Statuses.{judgment_status, load_status, file_status, request_status, definition_status}
-use Rattle.phpsa_tasks.specs.Tasks.{Task, script_check, page_check, script_making, made_check, script_run, grammar_making, help_telling, version_telling, usage}
+use Rattle.phpsa_texts.specs.declared.exit.Exit.TheVariants.{Input, Memory}
+use Rattle.phpsa_texts.specs.Statuses.{judgment_status, load_status, file_status, request_status, definition_status, list_status, site_status}
+use Rattle.site_check.specs.declared.list_refusal.ListRefusal.{ListRefusal}
+use Rattle.site_check.specs.Listed.{IsList, IsNoList}
+use Rattle.phpsa_tasks.specs.Tasks.{Task, script_check, page_check, script_making, made_check, script_run, grammar_making, list_check, help_telling, version_telling, usage}
 use Rattle.phpsa_tasks.specs.Files.{HoldsShortFile}
 use Rattle.phpsa_tasks.specs.Requests.{no_request, FindsRequest, HoldsRequest, unread, no_request_in, RefusesRequest}
-use Rattle.phpsa_tasks.specs.Subjects.{ProgramBy, PageBy, ProgramFor, Subject, made_name, only_made, Finds, HoldsShortProgram, HoldsTable, Holds, IsSmall, IsWithin}
-use Rattle.phpsa_tasks.specs.Replies.{answer_status, end_status, HasManyItems, IsJudged, IsReplyOf, IsHaltOf}
-use Rattle.phpsa_tasks.specs.Causes.{definition_call, RefusesDefinition, not_defined, large_models, RefusesScript, not_loaded, lacks_definition, has_long_text, not_read, page_lacks_definition, no_size, made_refused, Refuses}
-use Rattle.phpsa_tasks.specs.Answered.{IsScriptVerdict, PassesScriptLimit, PassesGrammarLimit, IsVerdict, PassesLimit, IsStopped}
+use Rattle.phpsa_tasks.specs.Subjects.{ProgramBy, PageBy, ProgramFor, ListBy, Subject, made_name, only_made, Finds, HoldsShortProgram, HoldsTable, Holds, IsSmall, IsWithin}
+use Rattle.phpsa_tasks.specs.ScriptAnswers.{answer_status}
+use Rattle.phpsa_tasks.specs.Replies.{end_status, HasManyItems, IsJudged, IsReplyOf, IsHaltOf}
+use Rattle.phpsa_tasks.specs.Causes.{definition_call, RefusesDefinition, not_defined, large_models, RefusesScript, not_loaded, lacks_definition, has_long_text, not_read, page_lacks_definition, no_size, made_refused, list_unread, no_list, list_lacks_definition, Refuses}
+use Rattle.phpsa_tasks.specs.Answered.{IsScriptVerdict, PassesScriptLimit, PassesGrammarLimit, IsListVerdict, StopsAtScript, IsVerdict, PassesLimit, IsStopped}
+use Rattle.phpsa_tasks.proofs.ListLemmas.{LoadedStays, list_verdict, not_list}
 use Rattle.command_words.specs.declared.values.TheConstants.{PAIR_LIMIT}
 
 -- a source that tells of each name that a program reads holds one, which is not refused but for want of memory
 pub record ProgramLaws : Type 0 where
   pub one_program : (content : Content) (name : List ℕ) (program other : PlainProgram) → HoldsProgram content name program → IsLoaded content name other → program ≡ other
+  pub stay : LoadedStays
   pub not_refused : (call : SourceCall) (name : List ℕ) (program : PlainProgram) (refusal : LoadRefusal) → (h : HoldsProgram call.content name program) → AreShort h.held name
       → (Rises call.faults call.faults' → ⊥) → IsLoadCause call name refusal → refusal ≡ load.Memory
 
@@ -73,9 +78,9 @@ script_verdict : (goal : Goal) (table : Table) (program : PlainProgram) (limit :
 script_verdict goal table program limit answer status status_is is =
     subst (λ (s : Exit). IsScriptVerdict goal table program s ⊎ PassesScriptLimit goal table program limit s) (sym status_is) (answer_verdict goal table program limit answer is)
 
-judgment_verdict : (file : List ℕ) (d : NamedType) (x : PageBy) (valid : Bool) → IsJudged x.table x.page valid → IsVerdict (page_check file d) x (judgment_status valid)
-judgment_verdict file d x true is = is
-judgment_verdict file d x false is = is
+judgment_verdict : (content : Content) (file : List ℕ) (d : NamedType) (x : PageBy) (valid : Bool) → IsJudged x.table x.page valid → IsVerdict content (page_check file d) x (judgment_status valid)
+judgment_verdict content file d x true is = is
+judgment_verdict content file d x false is = is
 
 -- what is so of the program and the table that are found is so of those that are held
 pub own_program : OneProgram → (content : Content) (file : List ℕ) (d : NamedType) (x y : ProgramBy) → HoldsShortProgram content file x.program → HoldsTable content d x.table
@@ -90,6 +95,12 @@ pub own_page : (content : Content) (file : List ℕ) (d : NamedType) (x y : Page
 own_page content file d x y h t found has P is =
     subst (λ (p : List ℕ). P p x.table) (sym (one_content content file x.page y.page h.told found))
     (subst (λ (s : Table). P y.page s) (sym (same_table content d x.table y.table t.told t.has has)) is)
+
+-- and of the list
+pub own_list : (content : Content) (file : List ℕ) (d : NamedType) (x y : ListBy) → HoldsShortFile content file x.list → HoldsTable content d x.table
+    → Tells (content file) (Some y.list) → HasTable content d y.table → (P : List ℕ → Table → Type 0) → P y.list y.table → P x.list x.table
+own_list content file d x y h t found has P is =
+    own_page content file d (record { page = x.list; table = x.table }) (record { page = y.list; table = y.table }) h t found has P is
 
 -- the request of an outcome
 abbrev asked_of : Outcome → PlainRequest
@@ -113,38 +124,45 @@ own_run one content file request x y h r found finds P is =
     (subst (λ (q : PlainRequest). P y.program q) (sym (own_request content request x.request y.request r finds)) is)
 
 -- a limit that is passed stops the task
-stopped : (task : Task) (x : Subject task) (status : Exit) → IsVerdict task x status ⊎ PassesLimit task x status → IsVerdict task x status ⊎ IsStopped task x status
-stopped task x status (inl is) = inl is
-stopped task x status (inr is) = inr (inl is)
+stopped : (content : Content) (task : Task) (x : Subject task) (status : Exit) → IsVerdict content task x status ⊎ PassesLimit content task x status
+    → IsVerdict content task x status ⊎ IsStopped content task x status
+stopped content task x status (inl is) = inl is
+stopped content task x status (inr is) = inr (inl is)
 
 -- a reply says the verdict of what the source holds, or that a limit was passed
-pub held_reply : OneProgram → (content : Content) (task : Task) (x y : Subject task) (status : Exit) (text : List ℕ) → Holds content task x → Finds content task y
-    → IsReplyOf task y status text → IsVerdict task x status ⊎ IsStopped task x status
-held_reply one content (script_check file d goal limit form) x y status text (h, t) (found, has) (answer, is, status_is, text_is) =
-    stopped (script_check file d goal limit form) x status
+pub held_reply : OneProgram → LoadedStays → (files : SourceCall) (task : Task) (x y : Subject task) (status : Exit) (text : List ℕ) → Holds files.content task x → Finds files.content task y
+    → IsReplyOf files task y status text → IsVerdict files.content task x status ⊎ IsStopped files.content task x status
+held_reply one stay files (script_check file d goal limit form) x y status text (h, t) (found, has) (answer, is, status_is, text_is) =
+    stopped files.content (script_check file d goal limit form) x status
     (script_verdict goal x.table x.program limit answer status status_is
-    (own_program one content file d x y h t found has (λ (p : PlainProgram) (s : Table). IsShownAnswer goal s p limit answer) is.0))
-held_reply one content (page_check file d) x y status text (h, t) (found, has) (valid, is, status_is, text_is) =
-    inl (subst (IsVerdict (page_check file d) x) (sym status_is)
-    (judgment_verdict file d x valid (own_page content file d x y h t found has (λ (p : List ℕ) (s : Table). IsJudged s p valid) is)))
-held_reply one content (script_making n) x y status text h f (size, status_is, text_is) = inl (subst (IsVerdict (script_making n) tt) (sym status_is) size)
-held_reply one content (made_check n) x y status text (size, h, t) (size', found, has) (answer, is, status_is, text_is) =
-    stopped (made_check n) x status
+    (own_program one files.content file d x y h t found has (λ (p : PlainProgram) (s : Table). IsShownAnswer goal s p limit answer) is.0))
+held_reply one stay files (page_check file d) x y status text (h, t) (found, has) (valid, is, status_is, text_is) =
+    inl (subst (IsVerdict files.content (page_check file d) x) (sym status_is)
+    (judgment_verdict files.content file d x valid (own_page files.content file d x y h t found has (λ (p : List ℕ) (s : Table). IsJudged s p valid) is)))
+held_reply one stay files (script_making n) x y status text h f (size, status_is, text_is) = inl (subst (IsVerdict files.content (script_making n) tt) (sym status_is) size)
+held_reply one stay files (made_check n) x y status text (size, h, t) (size', found, has) (answer, is, status_is, text_is) =
+    stopped files.content (made_check n) x status
     (script_verdict Goal.Valid x.table x.program PAIR_LIMIT answer status status_is
     (own_program one (only_made n) made_name strict_type x y h t found has (λ (p : PlainProgram) (s : Table). IsShownAnswer Goal.Valid s p PAIR_LIMIT answer) is.0))
-held_reply one content (script_run file request steps) x y status text (h, r) (found, finds, admitted) (ended, status_is, text_is) =
-    inl (status_is ∙ ap end_status (sym (own_run one content file request x y h r found finds (λ (p : PlainProgram) (q : PlainRequest). (meaning p q steps).end ≡ Ended) ended)))
-held_reply one content (grammar_making file) x y status text h found (inl (written, status_is)) = inl (subst (IsVerdict (grammar_making file) x) (sym status_is) tt)
-held_reply one content (grammar_making file) x y status text h found (inr (count, many, status_is, text_is)) =
-    let own : HasManyItems x count = subst (λ (p : PlainProgram). HasManyItems p count) (sym (one content file x y h.holds found)) many in
+held_reply one stay files (script_run file request steps) x y status text (h, r) (found, finds, admitted) (ended, status_is, text_is) =
+    inl (status_is ∙ ap end_status (sym (own_run one files.content file request x y h r found finds (λ (p : PlainProgram) (q : PlainRequest). (meaning p q steps).end ≡ Ended) ended)))
+held_reply one stay files (grammar_making file) x y status text h found (inl (written, status_is)) = inl (subst (IsVerdict files.content (grammar_making file) x) (sym status_is) tt)
+held_reply one stay files (grammar_making file) x y status text h found (inr (count, many, status_is, text_is)) =
+    let own : HasManyItems x count = subst (λ (p : PlainProgram). HasManyItems p count) (sym (one files.content file x y h.holds found)) many in
     inr (inl (subst (PassesGrammarLimit x) (sym status_is) (count, own)))
-held_reply one content help_telling x y status text h f (status_is, text_is) = inl status_is
-held_reply one content version_telling x y status text h f (status_is, text_is) = inl status_is
-held_reply one content usage x y status text h f r = absurd r
+held_reply one stay files (list_check file d goal limit) x y status text (h, t) (found, has, good) (lines, are, status_is, text_is) =
+    stopped files.content (list_check file d goal limit) x status
+    (subst (λ (s : Exit). IsListVerdict files.content goal x.table x.list s ⊎ StopsAtScript files.content goal x.table limit x.list s) (sym status_is)
+    (own_list files.content file d x y h t found has
+    (λ (l : List ℕ) (s : Table). IsListVerdict files.content goal s l (site_status lines) ⊎ StopsAtScript files.content goal s limit l (site_status lines))
+    (list_verdict stay files goal limit y lines good are)))
+held_reply one stay files help_telling x y status text h f (status_is, text_is) = inl status_is
+held_reply one stay files version_telling x y status text h f (status_is, text_is) = inl status_is
+held_reply one stay files usage x y status text h f r = absurd r
 
 -- and so does a run that does not come to its end
 pub held_halt : OneProgram → (content : Content) (task : Task) (x y : Subject task) (status : Exit) (printed text : List ℕ) → Holds content task x → Finds content task y
-    → IsHaltOf task y status printed text → IsVerdict task x status ⊎ IsStopped task x status
+    → IsHaltOf task y status printed text → IsVerdict content task x status ⊎ IsStopped content task x status
 held_halt one content (script_check file d goal limit form) x y status printed text h f r = absurd r
 held_halt one content (page_check file d) x y status printed text h f r = absurd r
 held_halt one content (script_making n) x y status printed text h f r = absurd r
@@ -152,6 +170,7 @@ held_halt one content (made_check n) x y status printed text h f r = absurd r
 held_halt one content (script_run file request steps) x y status printed text (h, r) (found, finds, admitted) (early, status_is, printed_is, text_is) =
     inl (own_run one content file request x y h r found finds (λ (p : PlainProgram) (q : PlainRequest). status ≡ end_status (meaning p q steps).end) status_is)
 held_halt one content (grammar_making file) x y status printed text h f r = absurd r
+held_halt one content (list_check file d goal limit) x y status printed text h f r = absurd r
 held_halt one content help_telling x y status printed text h f r = absurd r
 held_halt one content version_telling x y status printed text h f r = absurd r
 held_halt one content usage x y status printed text h f r = absurd r
@@ -218,14 +237,24 @@ held_script laws files file d goal limit x status text calm h t w (has_long_text
     let own : HasLongText x.program = subst HasLongText (sym (laws.one_program files.content file x.program program h.holds found)) long in
     inl (subst (PassesScriptLimit goal x.table x.program limit) (sym status_is) own)
 
+-- a list that is held and is none is refused for that
+refused_list : (files : SourceCall) (goal : Goal) (limit : ℕ) (table : Table) (list : List ℕ) (refusal : ListRefusal) (status : Exit) → status ≡ list_status refusal → IsNoList list refusal
+    → IsListVerdict files.content goal table list status ⊎ (StopsAtScript files.content goal table limit list status ⊎ (status ≡ Memory))
+refused_list files goal limit table list refusal status status_is why = by (not_list list refusal why)
+  where
+    by : ((list_status refusal ≡ Input) × (IsList list → ⊥)) ⊎ (list_status refusal ≡ Memory)
+        → IsListVerdict files.content goal table list status ⊎ (StopsAtScript files.content goal table limit list status ⊎ (status ≡ Memory))
+    by (inl (is, none)) = inl (subst (IsListVerdict files.content goal table list) (sym (status_is ∙ is)) none)
+    by (inr is) = inr (inr (status_is ∙ is))
+
 -- a refusal says the verdict of what the source holds, that a limit was passed, or want of memory
 pub held_refusal : ProgramLaws → (files : SourceCall) (task : Task) (x : Subject task) (status : Exit) (text : List ℕ) → (Rises files.faults files.faults' → ⊥)
-    → Holds files.content task x → IsWithin files.content task x → Refuses files task status text → IsVerdict task x status ⊎ IsStopped task x status
+    → Holds files.content task x → IsWithin files.content task x → Refuses files task status text → IsVerdict files.content task x status ⊎ IsStopped files.content task x status
 held_refusal laws files (script_check file d goal limit form) x status text calm (h, t) w why = inr (held_script laws files file d goal limit x status text calm h t w why)
 held_refusal laws files (page_check file d) x status text calm (h, t) w (not_read fault why status_is text_is) =
     inr (inr (status_is ∙ file_memory files file x.page fault h calm why))
 held_refusal laws files (page_check file d) x status text calm (h, t) w (page_lacks_definition read told why) = inr (inr (definition_memory files d x.table status text t w calm why))
-held_refusal laws files (script_making n) x status text calm h w (size, status_is, text_is) = inl (subst (IsVerdict (script_making n) tt) (sym status_is) size)
+held_refusal laws files (script_making n) x status text calm h w (size, status_is, text_is) = inl (subst (IsVerdict files.content (script_making n) tt) (sym status_is) size)
 held_refusal laws files (made_check n) x status text calm (size, h, t) w (no_size none status_is text_is) = absurd (none size)
 held_refusal laws files (made_check n) x status text calm (size, h, t) w (made_refused size' misses reads why) =
     inr (held_script laws (source_call (only_made n) 0 0 0 misses 0 reads) made_name strict_type Goal.Valid PAIR_LIMIT x status text never h t w why)
@@ -238,6 +267,13 @@ held_refusal laws files (grammar_making file) x status text calm h w (inl (cause
 held_refusal laws files (grammar_making file) x status text calm h w (inr (program, found, long, status_is, text_is)) =
     let own : HasLongText x = subst HasLongText (sym (laws.one_program files.content file x program h.holds found)) long in
     inr (inl (subst (PassesGrammarLimit x) (sym status_is) own))
+held_refusal laws files (list_check file d goal limit) x status text calm (h, t) (w, hold) (list_unread fault why status_is text_is) =
+    inr (inr (status_is ∙ file_memory files file x.list fault h calm why))
+held_refusal laws files (list_check file d goal limit) x status text calm (h, t) (w, hold) (no_list list refusal told why status_is text_is) =
+    refused_list files goal limit x.table x.list refusal status status_is
+    (subst (λ (l : List ℕ). IsNoList l refusal) (sym (one_content files.content file x.list list h.told told)) why)
+held_refusal laws files (list_check file d goal limit) x status text calm (h, t) (w, hold) (list_lacks_definition list cause told is why status_is text_is) =
+    inr (inr (definition_memory files d x.table status text t w calm (not_defined cause why status_is text_is)))
 held_refusal laws files help_telling x status text calm h w why = absurd why
 held_refusal laws files version_telling x status text calm h w why = absurd why
-held_refusal laws files usage x status text calm h w (status_is, text_is) = inl (subst (IsVerdict usage tt) (sym status_is) tt)
+held_refusal laws files usage x status text calm h w (status_is, text_is) = inl (subst (IsVerdict files.content usage tt) (sym status_is) tt)

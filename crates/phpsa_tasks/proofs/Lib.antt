@@ -2,11 +2,12 @@ pub mod Faults
 pub mod EmptyRequest
 pub mod Defining
 pub mod OneTask
-pub mod Verdicts
+pub mod ListLemmas
 pub mod Held
+pub mod Verdicts
 pub mod Never
 pub mod Nothing
-pub mod Unasked
+pub mod NotRun
 pub mod Answers
 pub mod Soundness
 pub mod Writing

@@ -10,23 +10,27 @@ use Rattle.program_files.specs.declared.refusal.LoadRefusal.{LoadRefusal}
 use Rattle.program_files.specs.declared.refusal.LoadRefusal.TheVariants as load
 use Rattle.request_reading.specs.declared.refusal.RequestRefusal.{RequestRefusal}
 use Rattle.request_reading.specs.declared.refusal.RequestRefusal.TheVariants as asking
+use Rattle.site_check.specs.declared.list_refusal.ListRefusal.{ListRefusal}
+use Rattle.site_check.specs.declared.list_refusal.ListRefusal.TheVariants as listing
 use Rattle.dtd_reader.specs.declared.refusal.DtdRefusal.{DtdRefusal}
 use Rattle.dtd_reader.specs.declared.refusal.DtdRefusal.TheVariants as dtd
 use Rattle.document_types.specs.DocumentTypes.{NamedType, strict_type}
 use Rattle.document_types.specs.declared.refusal.DefinitionRefusal.{DefinitionRefusal}
 use Rattle.document_types.specs.declared.refusal.DefinitionRefusal.TheVariants as definition
 use Rattle.script_decision.specs.declared.shown.ShownAnswer.{ShownAnswer}
-use Rattle.command_words.specs.Asked.{Asked, help, version, check, run, page, grammar, make}
+use Rattle.command_words.specs.Asked.{Asked, help, version, check, run, page, grammar, make, site}
 use Rattle.phpsa_texts.specs.declared.exit.Exit.{Exit}
 use Rattle.phpsa_texts.specs.declared.exit.Exit.TheVariants.{Done, Usage}
 use Rattle.phpsa_texts.specs.declared.exit.Exit.TheVariants as exit
-use Rattle.phpsa_texts.specs.Statuses.{judgment_status, fault_status, load_status, file_status, request_status, dtd_status, built_in_status, definition_status}
-use Rattle.phpsa_tasks.specs.Tasks.{Task, script_check, page_check, script_making, made_check, script_run, grammar_making, help_telling, version_telling, usage, task_of}
+use Rattle.phpsa_texts.specs.Statuses.{judgment_status, fault_status, load_status, file_status, request_status, dtd_status, built_in_status, definition_status, list_status}
+use Rattle.phpsa_tasks.specs.Tasks.{Task, script_check, page_check, script_making, made_check, script_run, grammar_making, list_check, help_telling, version_telling, usage, task_of}
 use Rattle.phpsa_tasks.specs.Requests.{unread, no_request_in, RefusesRequest}
 use Rattle.phpsa_tasks.specs.Subjects.{Subject, made_name, only_made}
-use Rattle.phpsa_tasks.specs.Replies.{answer_status, end_status, IsReplyOf, IsHaltOf}
+use Rattle.phpsa_tasks.specs.ScriptAnswers.{answer_status}
+use Rattle.phpsa_tasks.specs.Replies.{end_status, IsReplyOf, IsHaltOf}
 use Rattle.phpsa_tasks.specs.Written.{HasAllWritten}
-use Rattle.phpsa_tasks.specs.Causes.{RefusesDefinition, not_defined, large_models, RefusesScript, not_loaded, lacks_definition, has_long_text, RefusesPage, not_read, page_lacks_definition, RefusesMade, no_size, made_refused, Refuses}
+use Rattle.phpsa_tasks.specs.Causes.{RefusesDefinition, not_defined, large_models, RefusesScript, not_loaded, lacks_definition, has_long_text, RefusesPage, not_read, page_lacks_definition, RefusesMade, no_size, made_refused, RefusesList, list_unread, no_list, list_lacks_definition, Refuses}
+use Rattle.phpsa_tasks.proofs.ListLemmas.{no_usage}
 
 -- neither a status of a reply or of a run, nor that of the usage
 abbrev pub IsOther : Exit → Type 0
@@ -36,6 +40,7 @@ IsOther exit.Undecided = ⊥
 IsOther exit.Fault = ⊥
 IsOther exit.Spent = ⊥
 IsOther exit.Deep = ⊥
+IsOther exit.Site = ⊥
 IsOther Usage = ⊥
 IsOther status = Unit {0}
 
@@ -106,6 +111,16 @@ of_request files None status text why = absurd why
 of_request files (Some name) status text (unread fault why is text_is) = subst IsOther (sym is) (of_file fault)
 of_request files (Some name) status text (no_request_in bytes refusal told why is text_is) = subst IsOther (sym is) (of_asking refusal)
 
+of_no_list : (refusal : ListRefusal) → IsOther (list_status refusal)
+of_no_list (listing.NotUtf8 line) = tt
+of_no_list (listing.Names count) = tt
+of_no_list listing.Memory = tt
+
+of_list : (files : SourceCall) (file : List ℕ) (d : NamedType) (status : Exit) (text : List ℕ) → RefusesList files file d status text → IsOther status
+of_list files file d status text (list_unread fault why is text_is) = subst IsOther (sym is) (of_file fault)
+of_list files file d status text (no_list list refusal told why is text_is) = subst IsOther (sym is) (of_no_list refusal)
+of_list files file d status text (list_lacks_definition list cause told good why is text_is) = subst IsOther (sym is) (of_defining cause)
+
 not_done : (status : Exit) → IsOther status → HasAllWritten status → ⊥
 not_done Done other done = other
 not_done exit.No other done = other
@@ -113,6 +128,7 @@ not_done exit.Undecided other done = other
 not_done exit.Fault other done = other
 not_done exit.Spent other done = other
 not_done exit.Deep other done = other
+not_done exit.Site other done = other
 not_done _ other done = done
 
 not_usage : (status : Exit) → IsOther status → status ≡ Usage → ⊥
@@ -127,6 +143,7 @@ never_done files (script_run file request steps) status text (inl (cause, why, i
 never_done files (script_run file request steps) status text (inr (program, found, why, read)) e = not_done status (of_request files request status text why) e
 never_done files (grammar_making file) status text (inl (cause, why, is, text_is)) e = not_done status (subst IsOther (sym is) (of_load cause)) e
 never_done files (grammar_making file) status text (inr (program, found, long, is, text_is)) e = subst HasAllWritten is e
+never_done files (list_check file d goal limit) status text why e = not_done status (of_list files file d status text why) e
 never_done files help_telling status text why e = why
 never_done files version_telling status text why e = why
 never_done files usage status text (is, text_is) e = subst HasAllWritten is e
@@ -140,6 +157,7 @@ told_usage files (script_run file request steps) status text (inl (cause, why, i
 told_usage files (script_run file request steps) status text (inr (program, found, why, read)) e = absurd (not_usage status (of_request files request status text why) e)
 told_usage files (grammar_making file) status text (inl (cause, why, is, text_is)) e = absurd (not_usage status (subst IsOther (sym is) (of_load cause)) e)
 told_usage files (grammar_making file) status text (inr (program, found, long, is, text_is)) e = let same : exit.Input ≡ Usage = sym is ∙ e in absurd cc
+told_usage files (list_check file d goal limit) status text why e = absurd (not_usage status (of_list files file d status text why) e)
 told_usage files help_telling status text why e = absurd why
 told_usage files version_telling status text why e = absurd why
 told_usage files usage status text why e = refl
@@ -155,17 +173,18 @@ no_judgment : (valid : _) → judgment_status valid ≡ Usage → ⊥
 no_judgment true e = cc
 no_judgment false e = cc
 
-pub no_reply : (task : Task) (x : Subject task) (status : Exit) (text : List ℕ) → IsReplyOf task x status text → status ≡ Usage → ⊥
-no_reply (script_check file d goal limit form) x status text (answer, says, is, text_is) e = no_answer answer (sym is ∙ e)
-no_reply (page_check file d) x status text (valid, says, is, text_is) e = no_judgment valid (sym is ∙ e)
-no_reply (script_making n) x status text (size, is, text_is) e = let same : Done ≡ Usage = sym is ∙ e in cc
-no_reply (made_check n) x status text (answer, says, is, text_is) e = no_answer answer (sym is ∙ e)
-no_reply (script_run file request steps) x status text (ended, is, text_is) e = let same : Done ≡ Usage = sym is ∙ e in cc
-no_reply (grammar_making file) x status text (inl (written, is)) e = let same : Done ≡ Usage = sym is ∙ e in cc
-no_reply (grammar_making file) x status text (inr (count, many, is, text_is)) e = let same : exit.Undecided ≡ Usage = sym is ∙ e in cc
-no_reply help_telling x status text (is, text_is) e = let same : Done ≡ Usage = sym is ∙ e in cc
-no_reply version_telling x status text (is, text_is) e = let same : Done ≡ Usage = sym is ∙ e in cc
-no_reply usage x status text r e = r
+pub no_reply : (files : SourceCall) (task : Task) (x : Subject task) (status : Exit) (text : List ℕ) → IsReplyOf files task x status text → status ≡ Usage → ⊥
+no_reply files (script_check file d goal limit form) x status text (answer, says, is, text_is) e = no_answer answer (sym is ∙ e)
+no_reply files (page_check file d) x status text (valid, says, is, text_is) e = no_judgment valid (sym is ∙ e)
+no_reply files (script_making n) x status text (size, is, text_is) e = let same : Done ≡ Usage = sym is ∙ e in cc
+no_reply files (made_check n) x status text (answer, says, is, text_is) e = no_answer answer (sym is ∙ e)
+no_reply files (script_run file request steps) x status text (ended, is, text_is) e = let same : Done ≡ Usage = sym is ∙ e in cc
+no_reply files (grammar_making file) x status text (inl (written, is)) e = let same : Done ≡ Usage = sym is ∙ e in cc
+no_reply files (grammar_making file) x status text (inr (count, many, is, text_is)) e = let same : exit.Undecided ≡ Usage = sym is ∙ e in cc
+no_reply files (list_check file d goal limit) x status text (lines, are, is, text_is) e = no_usage lines (sym is ∙ e)
+no_reply files help_telling x status text (is, text_is) e = let same : Done ≡ Usage = sym is ∙ e in cc
+no_reply files version_telling x status text (is, text_is) e = let same : Done ≡ Usage = sym is ∙ e in cc
+no_reply files usage x status text r e = r
 
 no_fault : (f : Fault) → fault_status f ≡ Usage → ⊥
 no_fault fault.Float e = cc
@@ -192,6 +211,7 @@ no_halt (script_making n) x status printed text r e = r
 no_halt (made_check n) x status printed text r e = r
 no_halt (script_run file request steps) x status printed text (early, is, printed_is, text_is) e = no_end _ (sym is ∙ e)
 no_halt (grammar_making file) x status printed text r e = r
+no_halt (list_check file d goal limit) x status printed text r e = r
 no_halt help_telling x status printed text r e = r
 no_halt version_telling x status printed text r e = r
 no_halt usage x status printed text r e = r
@@ -204,5 +224,6 @@ asks_more (page file definition) e = cc
 asks_more (grammar file) e = cc
 asks_more (make functions true) e = cc
 asks_more (make functions false) e = cc
+asks_more (site file definition limit by_nesting) e = cc
 asks_more help e = cc
 asks_more version e = cc

@@ -11,13 +11,14 @@ use Rattle.program_loader.specs.Causes.{IsLoadCause}
 use Rattle.request_reading.specs.declared.refusal.RequestRefusal.{RequestRefusal}
 use Rattle.request_reading.specs.declared.refusal.RequestRefusal.TheVariants as asking
 use Rattle.document_types.specs.DocumentTypes.{NamedType}
+use Rattle.page_decision.specs.declared.goal.Goal.{Goal}
 use Rattle.phpsa_texts.specs.declared.exit.Exit.{Exit}
 use Rattle.phpsa_texts.specs.declared.exit.Exit.TheVariants.{Missing, Script, Input, Memory}
 use Rattle.phpsa_texts.specs.Statuses.{load_status, file_status, request_status}
-use Rattle.phpsa_tasks.specs.Tasks.{Task, script_check, page_check, script_making, made_check, script_run, grammar_making, help_telling, version_telling, usage}
+use Rattle.phpsa_tasks.specs.Tasks.{Task, script_check, page_check, script_making, made_check, script_run, grammar_making, list_check, help_telling, version_telling, usage}
 use Rattle.phpsa_tasks.specs.Requests.{unread, no_request_in, RefusesRequest}
 use Rattle.phpsa_tasks.specs.Subjects.{LacksFile}
-use Rattle.phpsa_tasks.specs.Causes.{not_loaded, lacks_definition, has_long_text, not_read, page_lacks_definition, no_size, made_refused, Refuses}
+use Rattle.phpsa_tasks.specs.Causes.{not_loaded, lacks_definition, has_long_text, not_read, page_lacks_definition, no_size, made_refused, list_unread, no_list, list_lacks_definition, Refuses}
 use Rattle.phpsa_tasks.specs.Answered.{statuses_of_nothing}
 
 abbrev pub Among : Task → Exit → Type 0
@@ -66,6 +67,14 @@ of_request files file (Some name) steps status text calm (unread fault why is te
 of_request files file (Some name) steps status text calm (no_request_in bytes refusal told why is text_is) =
     subst (Among (script_run file (Some name) steps)) (sym is) (of_asking file (Some name) steps refusal)
 
+-- those of a list that is not read
+of_unread : (files : SourceCall) (file : List ℕ) (d : NamedType) (goal : Goal) (limit : ℕ) (f : FileFault) → (Rises files.faults files.faults' → ⊥)
+    → HasReason (files.content file) files.faults files.faults' files.misses files.misses' f → Among (list_check file d goal limit) (file_status f)
+of_unread files file d goal limit reading.Missing calm why = (0, lit< tt, refl)
+of_unread files file d goal limit reading.Failed calm rises = absurd (calm rises)
+of_unread files file d goal limit (reading.TooLong len) calm why = (1, lit< tt, refl)
+of_unread files file d goal limit reading.Memory calm why = (2, lit< tt, refl)
+
 -- want of memory is one of them
 pub of_memory : (files : SourceCall) (task : Task) (status : Exit) → LacksFile files.content task → status ≡ Memory → Among task status
 of_memory files (script_check file d goal limit form) status lacks is = subst (Among (script_check file d goal limit form)) (sym is) (3, lit< tt, refl)
@@ -74,6 +83,7 @@ of_memory files (script_making n) status lacks is = absurd lacks
 of_memory files (made_check n) status lacks is = subst (Among (made_check n)) (sym is) (1, lit< tt, refl)
 of_memory files (script_run file request steps) status lacks is = subst (Among (script_run file request steps)) (sym is) (3, lit< tt, refl)
 of_memory files (grammar_making file) status lacks is = subst (Among (grammar_making file)) (sym is) (3, lit< tt, refl)
+of_memory files (list_check file d goal limit) status lacks is = subst (Among (list_check file d goal limit)) (sym is) (2, lit< tt, refl)
 of_memory files help_telling status lacks is = absurd lacks
 of_memory files version_telling status lacks is = absurd lacks
 of_memory files usage status lacks is = absurd lacks
@@ -94,6 +104,10 @@ of_refusal files (script_run file request steps) status text calm lacks (inl (ca
 of_refusal files (script_run file request steps) status text calm lacks (inr (program, found, why, read)) = of_request files file request steps status text calm why
 of_refusal files (grammar_making file) status text calm lacks (inl (cause, why, is, text_is)) = subst (Among (grammar_making file)) (sym is) (of_load files file cause calm why)
 of_refusal files (grammar_making file) status text calm lacks (inr (program, found, long, is, text_is)) = absurd (lacks program found)
+of_refusal files (list_check file d goal limit) status text calm lacks (list_unread fault why is text_is) =
+    subst (Among (list_check file d goal limit)) (sym is) (of_unread files file d goal limit fault calm why)
+of_refusal files (list_check file d goal limit) status text calm lacks (no_list list refusal told why is text_is) = absurd (lacks list told)
+of_refusal files (list_check file d goal limit) status text calm lacks (list_lacks_definition list cause told good why is text_is) = absurd (lacks list told)
 of_refusal files help_telling status text calm lacks why = absurd lacks
 of_refusal files version_telling status text calm lacks why = absurd lacks
 of_refusal files usage status text calm lacks why = absurd lacks

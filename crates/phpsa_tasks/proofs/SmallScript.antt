@@ -25,7 +25,7 @@ use Rattle.phpsa_tasks.specs.Call.{Call, output_of, call_of, Gains}
 use Rattle.phpsa_tasks.specs.Requests.{no_request}
 use Rattle.phpsa_tasks.specs.Subjects.{ProgramBy, Holds}
 use Rattle.phpsa_tasks.proofs.EmptyRequest.{no_request_admitted}
-use Rattle.phpsa_tasks.specs.Replies.{IsAnswer}
+use Rattle.phpsa_tasks.specs.ScriptAnswers.{IsAnswer}
 use Rattle.phpsa_tasks.specs.Endings.{OwesReply, EndsReplied}
 use Rattle.phpsa_tasks.specs.Sound.{IsSound}
 use Rattle.phpsa_tasks.specs.Written.{Writes, IsWritten}

@@ -1,5 +1,5 @@
 -- A reply of status 0 says of what is found what the headline says of what is held.
-use Rattle.std.proofs.Common.{◌≡◌, ℕ, List, Bool, true, false, sym, subst}
+use Rattle.std.proofs.Common.{◌≡◌, ℕ, List, Bool, true, false, Contains, sym, subst}
 use Rattle.plain_values.specs.declared.fault.Fault.{Fault}
 use Rattle.plain_values.specs.declared.fault.Fault.TheVariants as fault
 use Rattle.script_meaning.specs.Requests.{PlainRequest}
@@ -13,17 +13,22 @@ use Rattle.script_decision.specs.Answers.{RunsAreGood}
 use Rattle.script_decision.specs.declared.shown.ShownAnswer.{ShownAnswer}
 use Rattle.script_decision.specs.Shown.{ShownSaysOfRuns}
 use Rattle.io_edge.specs.Told.{Content}
+use Rattle.program_files.specs.Source.{SourceCall}
+use Rattle.program_loader.specs.Told.{IsLoaded}
+use Rattle.site_check.specs.Listed.{names_in}
 use Rattle.document_types.specs.DocumentTypes.{strict_type}
 use Rattle.phpsa_texts.specs.declared.exit.Exit.{Exit}
 use Rattle.phpsa_texts.specs.declared.exit.Exit.TheVariants.{Done}
 use Rattle.phpsa_texts.specs.Statuses.{judgment_status, fault_status}
-use Rattle.phpsa_tasks.specs.Tasks.{Task, script_check, page_check, script_making, made_check, script_run, grammar_making, help_telling, version_telling, usage, AsksFor}
+use Rattle.phpsa_tasks.specs.Tasks.{Task, script_check, page_check, script_making, made_check, script_run, grammar_making, list_check, help_telling, version_telling, usage, AsksFor}
 use Rattle.phpsa_tasks.specs.Call.{Call}
 use Rattle.phpsa_tasks.specs.Subjects.{Subject, made_name, only_made, Finds, Holds}
-use Rattle.phpsa_tasks.specs.Replies.{answer_status, end_status, IsEarly, IsJudged, IsReplyOf, IsHaltOf, Replies, Halts}
+use Rattle.phpsa_tasks.specs.ScriptAnswers.{answer_status}
+use Rattle.phpsa_tasks.specs.Replies.{end_status, IsEarly, IsJudged, IsReplyOf, IsHaltOf, Replies, Halts}
 use Rattle.phpsa_tasks.specs.Endings.{OwesRefusal, of_task, wants_memory, Ends, replied, refused, halted, by_out, by_err, no_memory}
 use Rattle.phpsa_tasks.specs.Sound.{Means, IsSound}
-use Rattle.phpsa_tasks.proofs.Held.{OneProgram, own_program, own_page, own_run}
+use Rattle.phpsa_tasks.proofs.Held.{OneProgram, own_program, own_page, own_list, own_run}
+use Rattle.phpsa_tasks.proofs.ListLemmas.{LoadedStays, list_means}
 use Rattle.phpsa_tasks.proofs.Never.{never_done}
 use Rattle.phpsa_tasks.proofs.Answers.{OneTask, the_reply, the_halt}
 
@@ -42,21 +47,26 @@ judged_valid table page true e is = is
 judged_valid table page false e is = absurd cc
 
 -- what the reply of status 0 to what is found means for what is held
-reply_means : OneProgram → (content : Content) (task : Task) (x y : Subject task) (text : List ℕ) → Holds content task x → Finds content task y → IsReplyOf task y Done text → Means task x
-reply_means one content (script_check file d goal limit form) x y text (h, t) (found, has) (answer, is, status_is, text_is) =
-    own_program one content file d x y h t found has (λ (p : PlainProgram) (s : Table). RunsAreGood goal s p) (runs_of goal y.table y.program answer (sym status_is) is.1)
-reply_means one content (page_check file d) x y text (h, t) (found, has) (valid, is, status_is, text_is) =
-    own_page content file d x y h t found has (λ (p : List ℕ) (s : Table). Valid s p) (judged_valid y.table y.page valid (sym status_is) is)
-reply_means one content (script_making n) x y text h f (size, status_is, text_is) = size
-reply_means one content (made_check n) x y text (size, h, t) (size', found, has) (answer, is, status_is, text_is) =
+reply_means : OneProgram → LoadedStays → (files : SourceCall) (task : Task) (x y : Subject task) (text : List ℕ) → Holds files.content task x → Finds files.content task y
+    → IsReplyOf files task y Done text → Means files.content task x
+reply_means one stay files (script_check file d goal limit form) x y text (h, t) (found, has) (answer, is, status_is, text_is) =
+    own_program one files.content file d x y h t found has (λ (p : PlainProgram) (s : Table). RunsAreGood goal s p) (runs_of goal y.table y.program answer (sym status_is) is.1)
+reply_means one stay files (page_check file d) x y text (h, t) (found, has) (valid, is, status_is, text_is) =
+    own_page files.content file d x y h t found has (λ (p : List ℕ) (s : Table). Valid s p) (judged_valid y.table y.page valid (sym status_is) is)
+reply_means one stay files (script_making n) x y text h f (size, status_is, text_is) = size
+reply_means one stay files (made_check n) x y text (size, h, t) (size', found, has) (answer, is, status_is, text_is) =
     own_program one (only_made n) made_name strict_type x y h t found has (λ (p : PlainProgram) (s : Table). RunsAreGood Goal.Valid s p)
     (runs_of Goal.Valid y.table y.program answer (sym status_is) is.1)
-reply_means one content (script_run file request steps) x y text (h, r) (found, finds, admitted) (ended, status_is, text_is) =
-    own_run one content file request x y h r found finds (λ (p : PlainProgram) (q : PlainRequest). (meaning p q steps).end ≡ runs.Ended) ended
-reply_means one content (grammar_making file) x y text h f r = tt
-reply_means one content help_telling x y text h f r = tt
-reply_means one content version_telling x y text h f r = tt
-reply_means one content usage x y text h f r = absurd r
+reply_means one stay files (script_run file request steps) x y text (h, r) (found, finds, admitted) (ended, status_is, text_is) =
+    own_run one files.content file request x y h r found finds (λ (p : PlainProgram) (q : PlainRequest). (meaning p q steps).end ≡ runs.Ended) ended
+reply_means one stay files (grammar_making file) x y text h f r = tt
+reply_means one stay files (list_check file d goal limit) x y text (h, t) (found, has, good) (lines, are, status_is, text_is) =
+    own_list files.content file d x y h t found has
+    (λ (l : List ℕ) (s : Table). (name : List ℕ) → Contains (names_in l) name → (program : PlainProgram) × IsLoaded files.content name program × RunsAreGood goal s program)
+    (list_means stay files goal limit y lines are status_is)
+reply_means one stay files help_telling x y text h f r = tt
+reply_means one stay files version_telling x y text h f r = tt
+reply_means one stay files usage x y text h f r = absurd r
 
 pub refused_done : (call : Call) (text : List ℕ) → OwesRefusal call Done text → ⊥
 refused_done call text (of_task task asked refuses) = never_done call.files task Done text refuses tt
@@ -88,21 +98,22 @@ halted_done (script_making n) x printed text r = r
 halted_done (made_check n) x printed text r = r
 halted_done (script_run file request steps) x printed text (early, is, printed_is, text_is) = early_done _ early is
 halted_done (grammar_making file) x printed text r = r
+halted_done (list_check file d goal limit) x printed text r = r
 halted_done help_telling x printed text r = r
 halted_done version_telling x printed text r = r
 halted_done usage x printed text r = r
 
-done_means : OneTask → OneProgram → (call : Call) → Ends call Done → (task : Task) (x : Subject task) → AsksFor call.words task → Holds call.files.content task x → Means task x
-done_means one_task one_program call (replied e) task x asked h =
+done_means : OneTask → OneProgram → LoadedStays → (call : Call) → Ends call Done → (task : Task) (x : Subject task) → AsksFor call.words task → Holds call.files.content task x → Means call.files.content task x
+done_means one_task one_program stay call (replied e) task x asked h =
     let r : Replies call.files task Done e.text = the_reply one_task call Done e.text e.owed task asked in
-    reply_means one_program call.files.content task x r.subject e.text h r.found r.says
-done_means one_task one_program call (refused e) task x asked h = absurd (refused_done call e.text e.owed)
-done_means one_task one_program call (halted e) task x asked h =
+    reply_means one_program stay call.files task x r.subject e.text h r.found r.says
+done_means one_task one_program stay call (refused e) task x asked h = absurd (refused_done call e.text e.owed)
+done_means one_task one_program stay call (halted e) task x asked h =
     let r : Halts call.files task Done e.printed e.text = the_halt one_task call Done e.printed e.text e.owed task asked in
     absurd (halted_done task r.subject e.printed e.text r.says)
-done_means one_task one_program call (by_out is e) task x asked h = absurd cc
-done_means one_task one_program call (by_err is e) task x asked h = absurd cc
-done_means one_task one_program call (no_memory is e) task x asked h = absurd cc
+done_means one_task one_program stay call (by_out is e) task x asked h = absurd cc
+done_means one_task one_program stay call (by_err is e) task x asked h = absurd cc
+done_means one_task one_program stay call (no_memory is e) task x asked h = absurd cc
 
-pub sound : OneTask → OneProgram → (call : Call) (status : Exit) → Ends call status → IsSound call status
-sound one_task one_program call status ends is = done_means one_task one_program call (subst (Ends call) is ends)
+pub sound : OneTask → OneProgram → LoadedStays → (call : Call) (status : Exit) → Ends call status → IsSound call status
+sound one_task one_program stay call status ends is = done_means one_task one_program stay call (subst (Ends call) is ends)

@@ -5,6 +5,10 @@ use Rattle.dtd_model.specs.Table.{Table}
 use Rattle.page_model.specs.Valid.{Valid}
 use Rattle.request_reading.specs.declared.refusal.RequestRefusal.{RequestRefusal}
 use Rattle.io_edge.specs.Counts.{Rises}
+use Rattle.io_edge.specs.Told.{Content, Stays}
+use Rattle.program_files.specs.Source.{SourceCall}
+use Rattle.program_loader.specs.Told.{IsLoaded}
+use Rattle.site_check.specs.Listed.{names_in, IsList}
 use Rattle.page_decision.specs.declared.goal.Goal.{Goal}
 use Rattle.page_decision.specs.Goals.{IsGood}
 use Rattle.program_lowering.specs.Short.{HasLongText}
@@ -16,14 +20,16 @@ use Rattle.script_maker.specs.Made.{IsSize}
 use Rattle.command_words.specs.Asked.{Asked, AsksNothing}
 use Rattle.command_words.specs.Canonical.{IsCanonical}
 use Rattle.phpsa_texts.specs.declared.exit.Exit.{Exit}
-use Rattle.phpsa_texts.specs.declared.exit.Exit.TheVariants.{Done, No, Undecided, Script, Missing, Input, WriteFault, Usage, Memory}
+use Rattle.phpsa_texts.specs.declared.exit.Exit.TheVariants.{Done, No, Undecided, Script, Missing, Input, WriteFault, Usage, Memory, Site}
 use Rattle.phpsa_texts.specs.Statuses.{request_status}
 use Rattle.phpsa_texts.specs.Texts.{request_text}
-use Rattle.phpsa_tasks.specs.Tasks.{Task, script_check, page_check, script_making, made_check, script_run, grammar_making, help_telling, version_telling, usage, AsksFor}
+use Rattle.phpsa_tasks.specs.Tasks.{Task, script_check, page_check, script_making, made_check, script_run, grammar_making, list_check, help_telling, version_telling, usage, AsksFor}
 use Rattle.command_words.specs.declared.values.TheConstants.{PAIR_LIMIT}
 use Rattle.phpsa_tasks.specs.Requests.{HoldsNoRequest}
 use Rattle.phpsa_tasks.specs.Subjects.{Subject, HoldsShortProgram, Holds, IsWithin, LacksFile}
-use Rattle.phpsa_tasks.specs.Replies.{answer_status, end_status, outcome_for, HasManyItems}
+use Rattle.phpsa_tasks.specs.ScriptAnswers.{answer_status}
+use Rattle.phpsa_tasks.specs.Sites.{RefusesByTable}
+use Rattle.phpsa_tasks.specs.Replies.{end_status, outcome_for, HasManyItems}
 use Rattle.phpsa_tasks.specs.Call.{Call, Gains, GainsNothing, Fails}
 
 -- no count of faults rises in the call
@@ -51,32 +57,61 @@ PassesGrammarLimit program Undecided = (count : ℕ) × HasManyItems program cou
 PassesGrammarLimit program Input = HasLongText program
 PassesGrammarLimit program status = ⊥
 
+-- the program that this name of a list has
+pub record IsOfList (content : Content) (list : List ℕ) (program : PlainProgram) : Type 0 where
+  pub name : List ℕ
+  pub named : Contains (names_in list) name
+  pub loaded : IsLoaded content name program
+
+-- what a list comes to by a goal: each of its scripts has only good loose pages, or one has another; or it is no list
+abbrev pub IsListVerdict : Content → Goal → Table → List ℕ → Exit → Type 0
+IsListVerdict content goal table list Done =
+    IsList list × ((name : List ℕ) → Contains (names_in list) name
+    → (program : PlainProgram) × IsLoaded content name program × EachIsGood goal table program)
+IsListVerdict content goal table list No =
+    IsList list × ((program : PlainProgram) × IsOfList content list program × IsScriptVerdict goal table program No)
+IsListVerdict content goal table list Input = IsList list → ⊥
+IsListVerdict content goal table list status = ⊥
+
+-- a script of a list is not decided: a limit is passed, or it is refused, by what was told and counted behind its own call
+abbrev pub StopsAtScript : Content → Goal → Table → ℕ → List ℕ → Exit → Type 0
+StopsAtScript content goal table limit list Undecided =
+    (program : PlainProgram) × IsOfList content list program × PassesScriptLimit goal table program limit Undecided
+StopsAtScript content goal table limit list Site =
+    (files : SourceCall) × (name : List ℕ) × (status : Exit) × (text : List ℕ) × Contains (names_in list) name
+    × Stays files.content content × RefusesByTable files name table status text
+StopsAtScript content goal table limit list status = ⊥
+
 -- the status that a task has for what it speaks of: of a run, that of its end; and each program has a grammar
-abbrev pub IsVerdict : (task : Task) → Subject task → Exit → Type 0
-IsVerdict (script_check file document_type goal limit form) subject status = IsScriptVerdict goal subject.table subject.program status
-IsVerdict (page_check file document_type) subject Done = Valid subject.table subject.page
-IsVerdict (page_check file document_type) subject No = Valid subject.table subject.page → ⊥
-IsVerdict (script_making functions) subject Done = IsSize functions
-IsVerdict (script_making functions) subject Input = IsSize functions → ⊥
-IsVerdict (made_check functions) subject status = IsScriptVerdict Goal.Valid subject.table subject.program status
-IsVerdict (script_run file request steps) subject status = status ≡ end_status (outcome_for subject steps).end
-IsVerdict (grammar_making file) subject Done = ⊤
-IsVerdict help_telling subject status = status ≡ Done
-IsVerdict version_telling subject status = status ≡ Done
-IsVerdict usage subject Usage = ⊤
-IsVerdict task subject status = ⊥
+abbrev pub IsVerdict : Content → (task : Task) → Subject task → Exit → Type 0
+IsVerdict content (script_check file document_type goal limit form) subject status = IsScriptVerdict goal subject.table subject.program status
+IsVerdict content (page_check file document_type) subject Done = Valid subject.table subject.page
+IsVerdict content (page_check file document_type) subject No = Valid subject.table subject.page → ⊥
+IsVerdict content (script_making functions) subject Done = IsSize functions
+IsVerdict content (script_making functions) subject Input = IsSize functions → ⊥
+IsVerdict content (made_check functions) subject status = IsScriptVerdict Goal.Valid subject.table subject.program status
+IsVerdict content (script_run file request steps) subject status = status ≡ end_status (outcome_for subject steps).end
+IsVerdict content (grammar_making file) subject Done = ⊤
+IsVerdict content (list_check file document_type goal limit) subject status =
+    IsListVerdict content goal subject.table subject.list status
+IsVerdict content help_telling subject status = status ≡ Done
+IsVerdict content version_telling subject status = status ≡ Done
+IsVerdict content usage subject Usage = ⊤
+IsVerdict content task subject status = ⊥
 
 -- the status says that a task is not done: a limit of its decision is passed, or memory was wanting
-abbrev pub PassesLimit : (task : Task) → Subject task → Exit → Type 0
-PassesLimit (script_check file document_type goal limit form) subject status =
+abbrev pub PassesLimit : Content → (task : Task) → Subject task → Exit → Type 0
+PassesLimit content (script_check file document_type goal limit form) subject status =
     PassesScriptLimit goal subject.table subject.program limit status
-PassesLimit (made_check functions) subject status = PassesScriptLimit Goal.Valid subject.table subject.program PAIR_LIMIT status
-PassesLimit (grammar_making file) subject status = PassesGrammarLimit subject status
-PassesLimit task subject status = ⊥
+PassesLimit content (made_check functions) subject status = PassesScriptLimit Goal.Valid subject.table subject.program PAIR_LIMIT status
+PassesLimit content (grammar_making file) subject status = PassesGrammarLimit subject status
+PassesLimit content (list_check file document_type goal limit) subject status =
+    StopsAtScript content goal subject.table limit subject.list status
+PassesLimit content task subject status = ⊥
 
 -- a limit of the task is passed, or memory was wanting
-abbrev pub IsStopped : (task : Task) → Subject task → Exit → Type 0
-IsStopped task subject status = PassesLimit task subject status ⊎ (status ≡ Memory)
+abbrev pub IsStopped : Content → (task : Task) → Subject task → Exit → Type 0
+IsStopped content task subject status = PassesLimit content task subject status ⊎ (status ≡ Memory)
 
 -- the statuses of a task that finds nothing under the name of a file, whatever its document type: a name is missing, a file is no script or
 -- a rule is broken, or a limit is passed
@@ -87,12 +122,13 @@ statuses_of_nothing (script_making functions) = []
 statuses_of_nothing (made_check functions) = Input ∷ Memory ∷ []
 statuses_of_nothing (script_run file request steps) = Missing ∷ Script ∷ Input ∷ Memory ∷ []
 statuses_of_nothing (grammar_making file) = Missing ∷ Script ∷ Input ∷ Memory ∷ []
+statuses_of_nothing (list_check file document_type goal limit) = Missing ∷ Input ∷ Memory ∷ []
 statuses_of_nothing help_telling = []
 statuses_of_nothing version_telling = []
 statuses_of_nothing usage = []
 
 -- a program is held, and a file that stands for no request of it, for a cause that is not want of memory
-pub record IsUnasked (call : Call) (file name : List ℕ) (cause : RequestRefusal) : Type 0 where
+pub record IsNotRun (call : Call) (file name : List ℕ) (cause : RequestRefusal) : Type 0 where
   pub program : PlainProgram
   pub held : HoldsShortProgram call.files.content file program
   pub none : HoldsNoRequest call.files.content name cause
@@ -111,13 +147,14 @@ pub record TellsCause (call : Call) (cause : RequestRefusal) (status : Exit) : T
 pub record IsAnswered (call : Call) (status : Exit) : Type 0 where
   pub answered : (task : Task) (subject : Subject task) → AsksFor call.words task → IsUndisturbed call
       → Holds call.files.content task subject → IsWithin call.files.content task subject
-      → IsVerdict task subject status ⊎ IsStopped task subject status
+      → IsVerdict call.files.content task subject status ⊎ IsStopped call.files.content task subject status
   pub exact : (task : Task) (subject : Subject task) (verdict : Exit) → AsksFor call.words task → IsUndisturbed call
-      → Holds call.files.content task subject → IsWithin call.files.content task subject → IsVerdict task subject verdict
-      → (status ≡ verdict) ⊎ IsStopped task subject status
+      → Holds call.files.content task subject → IsWithin call.files.content task subject
+      → IsVerdict call.files.content task subject verdict
+      → (status ≡ verdict) ⊎ IsStopped call.files.content task subject status
   pub nothing : (task : Task) → AsksFor call.words task → IsUndisturbed call → LacksFile call.files.content task
       → Contains (statuses_of_nothing task) status
-  pub unasked : (file name : List ℕ) (steps : ℕ) (cause : RequestRefusal) → AsksFor call.words (script_run file (Some name) steps)
-      → IsUndisturbed call → IsUnasked call file name cause → TellsCause call cause status ⊎ (status ≡ Memory)
+  pub not_run : (file name : List ℕ) (steps : ℕ) (cause : RequestRefusal) → AsksFor call.words (script_run file (Some name) steps)
+      → IsUndisturbed call → IsNotRun call file name cause → TellsCause call cause status ⊎ (status ≡ Memory)
   pub refused : AsksNothing call.words → Contains (Usage ∷ WriteFault ∷ Memory ∷ []) status
   pub taken : (for : Asked) → IsCanonical call.words for → status ≡ Usage → ⊥

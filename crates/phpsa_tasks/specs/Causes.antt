@@ -15,11 +15,13 @@ use Rattle.document_types.specs.declared.refusal.DefinitionRefusal.{DefinitionRe
 use Rattle.program_lowering.specs.Short.{HasLongText}
 use Rattle.script_decision.specs.Decision.{HasLargeModels}
 use Rattle.script_maker.specs.Made.{IsSize}
+use Rattle.site_check.specs.declared.list_refusal.ListRefusal.{ListRefusal}
+use Rattle.site_check.specs.Listed.{IsList, IsNoList}
 use Rattle.phpsa_texts.specs.declared.exit.Exit.{Exit}
 use Rattle.phpsa_texts.specs.declared.exit.Exit.TheVariants.{Usage, Dtd, Input}
-use Rattle.phpsa_texts.specs.Statuses.{load_status, file_status, definition_status}
-use Rattle.phpsa_texts.specs.Texts.{load_text, file_text, definition_text, states_text, long_text, size_text, usage_text}
-use Rattle.phpsa_tasks.specs.Tasks.{Task, script_check, page_check, script_making, made_check, script_run, grammar_making, help_telling, version_telling, usage}
+use Rattle.phpsa_texts.specs.Statuses.{load_status, file_status, definition_status, list_status}
+use Rattle.phpsa_texts.specs.Texts.{load_text, file_text, definition_text, states_text, long_text, size_text, list_text, usage_text}
+use Rattle.phpsa_tasks.specs.Tasks.{Task, script_check, page_check, script_making, made_check, script_run, grammar_making, list_check, help_telling, version_telling, usage}
 use Rattle.phpsa_tasks.specs.Subjects.{made_name, only_made}
 use Rattle.phpsa_tasks.specs.Requests.{RefusesRequest}
 use Rattle.phpsa_tasks.specs.Counted.{ReadsForRun}
@@ -74,6 +76,16 @@ abbrev pub RefusesLongText : SourceCall → List ℕ → Exit → List ℕ → T
 RefusesLongText files file status text =
     (program : PlainProgram) × IsLoaded files.content file program × HasLongText program × (status ≡ Input) × (text ≡ long_text file)
 
+-- the list is not read, or its text is none; or it is, and there is no definition for its scripts
+pub data RefusesList (files : SourceCall) (file : List ℕ) (document_type : NamedType) (status : Exit) (text : List ℕ) : Type 0 where
+  list_unread : (fault : FileFault) → HasReason (files.content file) files.faults files.faults' files.misses files.misses' fault
+      → status ≡ file_status fault → text ≡ file_text fault file → RefusesList files file document_type status text
+  no_list : (list : List ℕ) (refusal : ListRefusal) → Tells (files.content file) (Some list) → IsNoList list refusal
+      → status ≡ list_status refusal → text ≡ list_text refusal → RefusesList files file document_type status text
+  list_lacks_definition : (list : List ℕ) (cause : DefinitionRefusal) → Tells (files.content file) (Some list) → IsList list
+      → IsDefinitionRefusal (definition_call files) document_type cause → status ≡ definition_status cause → text ≡ definition_text cause
+      → RefusesList files file document_type status text
+
 -- why each task is refused; want of memory may come at any place beside. Of what stands in the line that says what is wrong with words
 -- nothing is said here.
 abbrev pub Refuses : SourceCall → Task → Exit → List ℕ → Type 0
@@ -84,6 +96,7 @@ Refuses files (made_check functions) status text = RefusesMade functions status 
 Refuses files (script_run file request steps) status text =
     RefusesProgram files file status text ⊎ LacksRequest files file request status text
 Refuses files (grammar_making file) status text = RefusesProgram files file status text ⊎ RefusesLongText files file status text
+Refuses files (list_check file document_type goal limit) status text = RefusesList files file document_type status text
 Refuses files help_telling status text = ⊥
 Refuses files version_telling status text = ⊥
 Refuses files usage status text = (status ≡ Usage) × ((reason : Option (List ℕ)) × (text ≡ usage_text reason))

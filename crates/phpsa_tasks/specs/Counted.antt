@@ -1,5 +1,5 @@
 -- What the counts of the source and of the outputs say after a call.
-use Rattle.std.specs.Prelude.{◌≡◌, ◌⊎◌, ℕ, List, [], ◌∷◌, length, Option, None, Some, Contains}
+use Rattle.std.specs.Prelude.{◌≡◌, ◌⊎◌, ℕ, List, [], ◌∷◌, length, Option, None, Some, Contains, ⊤}
 use Rattle.io_edge.specs.Counts.{one_more}
 use Rattle.program_rules.specs.Files.{Held}
 use Rattle.program_rules.specs.Programs.{ReadFile, AreRead}
@@ -7,8 +7,8 @@ use Rattle.program_files.specs.Source.{SourceCall, so_many_more}
 use Rattle.program_loader.specs.Told.{AreAnswered}
 use Rattle.document_types.specs.DocumentTypes.{IsBuiltIn}
 use Rattle.phpsa_texts.specs.declared.exit.Exit.{Exit}
-use Rattle.phpsa_texts.specs.declared.exit.Exit.TheVariants.{Script, Missing, ReadFault, WriteFault, Input, Memory}
-use Rattle.phpsa_tasks.specs.Tasks.{Task, script_check, page_check, script_making, made_check, script_run, grammar_making, help_telling, version_telling, usage, AsksFor}
+use Rattle.phpsa_texts.specs.declared.exit.Exit.TheVariants.{No, Undecided, Script, Missing, ReadFault, WriteFault, Input, Memory, Site}
+use Rattle.phpsa_tasks.specs.Tasks.{Task, script_check, page_check, script_making, made_check, script_run, grammar_making, list_check, help_telling, version_telling, usage, AsksFor}
 use Rattle.phpsa_tasks.specs.Call.{Output, Call, IsUnfailed}
 
 -- so many names were asked for as the program has files, each of which was answered
@@ -39,7 +39,8 @@ abbrev pub uncounted : List Exit
 uncounted = Script ∷ Missing ∷ ReadFault ∷ Input ∷ WriteFault ∷ Memory ∷ []
 
 -- By a built-in definition, or where none is asked for, each file that a task needs is read once, but for the statuses above: those of a
--- program, with that of a request; or the page, unless memory was wanting before. The other tasks read nothing.
+-- program, with that of a request; or the page, unless memory was wanting before. The other tasks read nothing, but that of a list, whose
+-- scripts may share files, nothing is said here.
 abbrev pub ReadsFor : Task → SourceCall → Exit → Type 0
 ReadsFor (script_check file document_type goal limit form) files status =
     IsBuiltIn document_type → Contains uncounted status ⊎ ReadsItsFiles files file
@@ -49,6 +50,7 @@ ReadsFor (script_making functions) files status = ReadsNothing files
 ReadsFor (made_check functions) files status = ReadsNothing files
 ReadsFor (script_run file request steps) files status = Contains uncounted status ⊎ ReadsForRun files file request
 ReadsFor (grammar_making file) files status = Contains uncounted status ⊎ ReadsItsFiles files file
+ReadsFor (list_check file document_type goal limit) files status = ⊤
 ReadsFor help_telling files status = ReadsNothing files
 ReadsFor version_telling files status = ReadsNothing files
 ReadsFor usage files status = ReadsNothing files
@@ -56,6 +58,12 @@ ReadsFor usage files status = ReadsNothing files
 -- a fault of the source is told by the status, but where its text itself could not be made or written
 abbrev pub TellsFaults : SourceCall → Exit → Type 0
 TellsFaults files status = Contains (ReadFault ∷ WriteFault ∷ Memory ∷ []) status ⊎ (files.faults' ≡ files.faults)
+
+-- and those of a list may be told by its lines, which are then not all a yes
+abbrev pub FaultsAreTold : Task → SourceCall → Exit → Type 0
+FaultsAreTold (list_check file document_type goal limit) files status =
+    Contains (No ∷ Undecided ∷ Site ∷ []) status ⊎ TellsFaults files status
+FaultsAreTold task files status = TellsFaults files status
 
 -- a fault of an output is told by its status alone
 abbrev pub TellsFault : Output → Exit → Type 0
@@ -66,4 +74,4 @@ pub record IsCounted (call : Call) (status : Exit) : Type 0 where
   pub read : (task : Task) → AsksFor call.words task → ReadsFor task call.files status
   pub out : TellsFault call.out status
   pub err : TellsFault call.err status
-  pub files : TellsFaults call.files status
+  pub files : (task : Task) → AsksFor call.words task → FaultsAreTold task call.files status

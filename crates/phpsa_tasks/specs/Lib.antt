@@ -4,8 +4,10 @@ pub mod Call
 pub mod Files
 pub mod Requests
 pub mod Subjects
-pub mod Replies
+pub mod ScriptAnswers
 pub mod Causes
+pub mod Sites
+pub mod Replies
 pub mod Counted
 pub mod Results
 pub mod Endings

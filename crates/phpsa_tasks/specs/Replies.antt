@@ -14,44 +14,21 @@ use Rattle.page_model.specs.Valid.{Valid}
 use Rattle.page_decision.specs.declared.goal.Goal.{Goal}
 use Rattle.program_files.specs.Source.{SourceCall}
 use Rattle.script_decision.specs.declared.shown.ShownAnswer.{ShownAnswer}
-use Rattle.script_decision.specs.Shown.{IsShownAnswer, ShownSaysOfRuns}
 use Rattle.script_maker.specs.Made.{made, IsSize}
+use Rattle.site_check.specs.declared.line.Line.{Line}
+use Rattle.site_check.specs.Listed.{names_in}
+use Rattle.site_check.specs.Report.{report}
 use Rattle.phpsa_texts.specs.declared.exit.Exit.{Exit}
 use Rattle.phpsa_texts.specs.declared.exit.Exit.TheVariants.{Done, Undecided}
 use Rattle.phpsa_texts.specs.declared.exit.Exit.TheVariants as exit
-use Rattle.phpsa_texts.specs.declared.answers.AnswerForm.{AnswerForm}
-use Rattle.phpsa_texts.specs.declared.answers.Conclusion.{Conclusion}
-use Rattle.phpsa_texts.specs.declared.answers.Conclusion.TheVariants as conclusion
 use Rattle.phpsa_texts.specs.declared.answers.PassedCount.TheVariants as passed
-use Rattle.phpsa_texts.specs.Statuses.{conclusion_status, judgment_status, fault_status}
-use Rattle.phpsa_texts.specs.Texts.{yes_answer, no_answer, passed_answer, passed_text, summary_text, judgment_text, fault_text, spent_text, deep_text, help_text, version_text}
+use Rattle.phpsa_texts.specs.Statuses.{judgment_status, fault_status, site_status}
+use Rattle.phpsa_texts.specs.Texts.{passed_text, summary_text, judgment_text, fault_text, spent_text, deep_text, help_text, version_text}
 use Rattle.command_words.specs.declared.values.TheConstants.{PAIR_LIMIT}
-use Rattle.phpsa_tasks.specs.Tasks.{Task, script_check, page_check, script_making, made_check, script_run, grammar_making, help_telling, version_telling, usage}
+use Rattle.phpsa_tasks.specs.Tasks.{Task, script_check, page_check, script_making, made_check, script_run, grammar_making, list_check, help_telling, version_telling, usage}
 use Rattle.phpsa_tasks.specs.Subjects.{ProgramFor, Subject, Finds}
-
--- how a script is decided by each answer for its program
-abbrev pub conclusion_of : ShownAnswer → Conclusion
-conclusion_of ShownAnswer.Yes = conclusion.Yes
-conclusion_of (ShownAnswer.No shown) = conclusion.No
-conclusion_of (ShownAnswer.Pairs count height) = conclusion.Undecided
-conclusion_of (ShownAnswer.Tags count height) = conclusion.Undecided
-conclusion_of (ShownAnswer.Items count) = conclusion.Undecided
-
--- the status of an answer
-abbrev pub answer_status : ShownAnswer → Exit
-answer_status answer = conclusion_status (conclusion_of answer)
-
--- the text of an answer, in lines or as a JSON object
-abbrev pub answer_text : AnswerForm → ShownAnswer → List ℕ
-answer_text form ShownAnswer.Yes = yes_answer form
-answer_text form (ShownAnswer.No shown) = no_answer form shown.length shown.front
-answer_text form (ShownAnswer.Pairs count height) = passed_answer form (passed.Pairs count height)
-answer_text form (ShownAnswer.Tags count height) = passed_answer form (passed.Tags count height)
-answer_text form (ShownAnswer.Items count) = passed_answer form (passed.Items count)
-
--- the answer is that of the program, and a yes says of its runs that they are good
-abbrev pub IsAnswer : Goal → Table → PlainProgram → ℕ → ShownAnswer → Type 0
-IsAnswer goal table program limit answer = IsShownAnswer goal table program limit answer × ShownSaysOfRuns goal table program answer
+use Rattle.phpsa_tasks.specs.ScriptAnswers.{conclusion_of, answer_status, answer_text, IsAnswer}
+use Rattle.phpsa_tasks.specs.Sites.{AreLinesOf}
 
 -- whether a page is valid
 abbrev pub IsJudged : Table → List ℕ → Bool → Type 0
@@ -96,23 +73,27 @@ IsGrammarReply program status text =
     (IsGrammarText program text × (status ≡ Done))
     ⊎ ((count : ℕ) × HasManyItems program count × (status ≡ Undecided) × (text ≡ passed_text (passed.Items count)))
 
--- what each task replies of what it speaks of: a run, where it came to its end; and nothing where nothing is asked for
-abbrev pub IsReplyOf : (task : Task) → Subject task → Exit → List ℕ → Type 0
-IsReplyOf (script_check file document_type goal limit form) subject status text =
+-- what each task replies of what it speaks of: a run, where it came to its end; of a list, by what came of the source while its scripts were
+-- read; and nothing where nothing is asked for
+abbrev pub IsReplyOf : SourceCall → (task : Task) → Subject task → Exit → List ℕ → Type 0
+IsReplyOf files (script_check file document_type goal limit form) subject status text =
     (answer : ShownAnswer) × IsAnswer goal subject.table subject.program limit answer × (status ≡ answer_status answer)
     × (text ≡ answer_text form answer)
-IsReplyOf (page_check file document_type) subject status text =
+IsReplyOf files (page_check file document_type) subject status text =
     (valid : Bool) × IsJudged subject.table subject.page valid × (status ≡ judgment_status valid) × (text ≡ judgment_text valid)
-IsReplyOf (script_making functions) subject status text = IsSize functions × (status ≡ Done) × (text ≡ made functions)
-IsReplyOf (made_check functions) subject status text =
+IsReplyOf files (script_making functions) subject status text = IsSize functions × (status ≡ Done) × (text ≡ made functions)
+IsReplyOf files (made_check functions) subject status text =
     (answer : ShownAnswer) × IsAnswer Goal.Valid subject.table subject.program PAIR_LIMIT answer × (status ≡ answer_status answer)
     × (text ≡ summary_text functions (length (made functions)) (conclusion_of answer))
-IsReplyOf (script_run file request steps) subject status text =
+IsReplyOf files (script_run file request steps) subject status text =
     ((outcome_for subject steps).end ≡ runs.Ended) × (status ≡ Done) × (text ≡ (outcome_for subject steps).printed)
-IsReplyOf (grammar_making file) subject status text = IsGrammarReply subject status text
-IsReplyOf help_telling subject status text = (status ≡ Done) × (text ≡ help_text)
-IsReplyOf version_telling subject status text = (status ≡ Done) × (text ≡ version_text)
-IsReplyOf usage subject status text = ⊥
+IsReplyOf files (grammar_making file) subject status text = IsGrammarReply subject status text
+IsReplyOf files (list_check file document_type goal limit) subject status text =
+    (lines : List Line) × AreLinesOf files goal limit subject lines × (status ≡ site_status lines)
+    × (text ≡ report (names_in subject.list) lines)
+IsReplyOf files help_telling subject status text = (status ≡ Done) × (text ≡ help_text)
+IsReplyOf files version_telling subject status text = (status ≡ Done) × (text ≡ version_text)
+IsReplyOf files usage subject status text = ⊥
 
 -- what a run leaves that does not come to the end of the script: its status, what it printed, and the text on `err`
 abbrev pub IsHaltOf : (task : Task) → Subject task → Exit → List ℕ → List ℕ → Type 0
@@ -125,7 +106,7 @@ IsHaltOf task subject status printed text = ⊥
 pub record Replies (files : SourceCall) (task : Task) (status : Exit) (text : List ℕ) : Type 0 where
   pub subject : Subject task
   pub found : Finds files.content task subject
-  pub says : IsReplyOf task subject status text
+  pub says : IsReplyOf files task subject status text
 
 -- a task that leaves this
 pub record Halts (files : SourceCall) (task : Task) (status : Exit) (printed text : List ℕ) : Type 0 where

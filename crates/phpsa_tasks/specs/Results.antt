@@ -10,7 +10,7 @@ use Rattle.phpsa_tasks.specs.declared.reply.Reply.TheVariants as reply
 use Rattle.phpsa_tasks.specs.Tasks.{Task}
 use Rattle.phpsa_tasks.specs.Replies.{Replies, Halts}
 use Rattle.phpsa_tasks.specs.Causes.{Refuses}
-use Rattle.phpsa_tasks.specs.Counted.{ReadsFor, TellsFaults}
+use Rattle.phpsa_tasks.specs.Counted.{ReadsFor, FaultsAreTold}
 
 -- a reply, a message for `err`, or want of memory
 abbrev pub TaskResult : Type 0
@@ -50,4 +50,4 @@ IsDue files task (Err Refusal.Memory) = ⊤
 pub record Does (files : SourceCall) (task : Task) (result : TaskResult) : Type 0 where
   pub due : IsDue files task result
   pub read : ReadsFor task files (status_due result)
-  pub faults : TellsFaults files (status_due result)
+  pub faults : FaultsAreTold task files (status_due result)

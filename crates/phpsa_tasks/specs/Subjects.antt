@@ -1,5 +1,5 @@
 -- What a task speaks of: a program, or a page, that stands under the name of a file, and the table of a definition.
-use Rattle.std.specs.Prelude.{◌⊎◌, ℕ, List, Some, codes, ⊤}
+use Rattle.std.specs.Prelude.{◌⊎◌, ℕ, List, Contains, Some, codes, ⊤}
 use Rattle.io_edge.specs.Told.{Content, Tells}
 use Rattle.script_meaning.specs.Programs.{PlainProgram}
 use Rattle.script_meaning.specs.Requests.{PlainRequest, Admitted}
@@ -9,9 +9,10 @@ use Rattle.document_types.specs.OneFile.{file_alone}
 use Rattle.document_types.specs.DocumentTypes.{NamedType, strict_type, HasTable, NamesAreTold, NamesAreShort, IsTooLarge}
 use Rattle.script_decision.specs.Decision.{HasLargeModels}
 use Rattle.script_maker.specs.Made.{made, IsSize}
+use Rattle.site_check.specs.Listed.{names_in, IsList}
 use Rattle.phpsa_tasks.specs.Files.{HoldsShortFile}
 use Rattle.phpsa_tasks.specs.Requests.{FindsRequest, HoldsRequest}
-use Rattle.phpsa_tasks.specs.Tasks.{Task, script_check, page_check, script_making, made_check, script_run, grammar_making, help_telling, version_telling, usage}
+use Rattle.phpsa_tasks.specs.Tasks.{Task, script_check, page_check, script_making, made_check, script_run, grammar_making, list_check, help_telling, version_telling, usage}
 
 -- a program, and the table of the definition that its pages are held against
 pub record ProgramBy : Type 0 where
@@ -27,6 +28,11 @@ pub record PageBy : Type 0 where
 pub record ProgramFor : Type 0 where
   pub program : PlainProgram
   pub request : PlainRequest
+
+-- the bytes of a list, and the table of the definition that the pages of its scripts are held against
+pub record ListBy : Type 0 where
+  pub list : List ℕ
+  pub table : Table
 
 -- the name under which a generated script is loaded
 abbrev pub made_name : List ℕ
@@ -48,13 +54,15 @@ Subject (script_making functions) = ⊤
 Subject (made_check functions) = ProgramBy
 Subject (script_run file request steps) = ProgramFor
 Subject (grammar_making file) = PlainProgram
+Subject (list_check file document_type goal limit) = ListBy
 Subject help_telling = ⊤
 Subject version_telling = ⊤
 Subject usage = ⊤
 
 -- what a task finds, whatever the source tells: under the file's name its program, with all that it includes, or its bytes, and a table of
 -- the document type, or the request
--- that the program is run for, which is admitted; of a generated script, that it can be made, and its program, by the built-in definition
+-- that the program is run for, which is admitted; of a generated script, that it can be made, and its program, by the built-in definition;
+-- or the bytes of a list, and a table
 abbrev pub Finds : Content → (task : Task) → Subject task → Type 0
 Finds content (script_check file document_type goal limit form) subject =
     IsLoaded content file subject.program × HasTable content document_type subject.table
@@ -66,6 +74,8 @@ Finds content (made_check functions) subject =
 Finds content (script_run file request steps) subject =
     IsLoaded content file subject.program × FindsRequest content request subject.request × Admitted subject.request
 Finds content (grammar_making file) subject = IsLoaded content file subject
+Finds content (list_check file document_type goal limit) subject =
+    Tells (content file) (Some subject.list) × HasTable content document_type subject.table × IsList subject.list
 Finds content help_telling subject = ⊤
 Finds content version_telling subject = ⊤
 Finds content usage subject = ⊤
@@ -93,6 +103,8 @@ Holds content (made_check functions) subject =
 Holds content (script_run file request steps) subject =
     HoldsShortProgram content file subject.program × HoldsRequest content request subject.request
 Holds content (grammar_making file) subject = HoldsShortProgram content file subject
+Holds content (list_check file document_type goal limit) subject =
+    HoldsShortFile content file subject.list × HoldsTable content document_type subject.table
 Holds content help_telling subject = ⊤
 Holds content version_telling subject = ⊤
 Holds content usage subject = ⊤
@@ -103,7 +115,12 @@ pub record IsSmall (content : Content) (document_type : NamedType) (table : Tabl
   pub small : (count : ℕ) → IsTooLarge content document_type count → ⊥
   pub few : (count : ℕ) → HasLargeModels table count → ⊥
 
--- the definition of a task is so
+-- under each of these names the source tells of each name that a program reads
+abbrev pub HoldScripts : Content → List (List ℕ) → Type 0
+HoldScripts content names =
+    (name : List ℕ) → Contains names name → (program : PlainProgram) × HoldsShortProgram content name program
+
+-- the definition of a task is so, and of a list each name holds a program
 abbrev pub IsWithin : Content → (task : Task) → Subject task → Type 0
 IsWithin content (script_check file document_type goal limit form) subject = IsSmall content document_type subject.table
 IsWithin content (page_check file document_type) subject = IsSmall content document_type subject.table
@@ -111,6 +128,8 @@ IsWithin content (script_making functions) subject = ⊤
 IsWithin content (made_check functions) subject = IsSmall (only_made functions) strict_type subject.table
 IsWithin content (script_run file request steps) subject = ⊤
 IsWithin content (grammar_making file) subject = ⊤
+IsWithin content (list_check file document_type goal limit) subject =
+    IsSmall content document_type subject.table × HoldScripts content (names_in subject.list)
 IsWithin content help_telling subject = ⊤
 IsWithin content version_telling subject = ⊤
 IsWithin content usage subject = ⊤
@@ -124,6 +143,7 @@ LacksFile content (made_check functions) = IsSize functions → ⊥
 LacksFile content (script_run file request steps) =
     ((program : PlainProgram) → IsLoaded content file program → ⊥) ⊎ ((found : PlainRequest) → FindsRequest content request found → ⊥)
 LacksFile content (grammar_making file) = (program : PlainProgram) → IsLoaded content file program → ⊥
+LacksFile content (list_check file document_type goal limit) = (list : List ℕ) → Tells (content file) (Some list) → ⊥
 LacksFile content help_telling = ⊥
 LacksFile content version_telling = ⊥
 LacksFile content usage = ⊥

@@ -3,7 +3,7 @@ use Rattle.std.specs.Prelude.{option_map}
 use Rattle.document_types.specs.DocumentTypes.{type_of}
 use Rattle.phpsa_tasks.specs.declared.task.Task as declared
 use Rattle.phpsa_tasks.specs.declared.task.Task.TheVariants as task
-use Rattle.phpsa_tasks.specs.Tasks.{Task, script_check, page_check, script_making, made_check, script_run, grammar_making, help_telling, version_telling, usage}
+use Rattle.phpsa_tasks.specs.Tasks.{Task, script_check, page_check, script_making, made_check, script_run, grammar_making, list_check, help_telling, version_telling, usage}
 
 -- the plain form of a task
 abbrev pub task_as : declared.Task → Task
@@ -13,6 +13,7 @@ task_as (task.ScriptMaking functions) = script_making functions
 task_as (task.MadeCheck functions) = made_check functions
 task_as (task.ScriptRun file request steps) = script_run file.now (option_map (λ text. text.now) request) steps
 task_as (task.GrammarMaking file) = grammar_making file.now
+task_as (task.ListCheck file document_type goal limit) = list_check file.now (type_of document_type) goal limit
 task_as task.Help = help_telling
 task_as task.Version = version_telling
 task_as (task.Usage reason) = usage

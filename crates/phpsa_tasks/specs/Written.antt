@@ -8,7 +8,7 @@ use Rattle.phpsa_tasks.specs.Subjects.{Subject, Holds}
 use Rattle.phpsa_tasks.specs.Replies.{IsReplyOf, IsHaltOf}
 use Rattle.phpsa_tasks.specs.Call.{Call, Gains, GainsNothing}
 
--- the statuses of a reply, and those of a run that does not come to its end
+-- the statuses of a reply, of which 15 is that of a list, and those of a run that does not come to its end
 abbrev pub HasAllWritten : Exit → Type 0
 HasAllWritten exit.Done = ⊤
 HasAllWritten exit.No = ⊤
@@ -16,13 +16,14 @@ HasAllWritten exit.Undecided = ⊤
 HasAllWritten exit.Fault = ⊤
 HasAllWritten exit.Spent = ⊤
 HasAllWritten exit.Deep = ⊤
+HasAllWritten exit.Site = ⊤
 HasAllWritten other = ⊥
 
 -- The reply to a task of what it speaks of stands on `out`, and nothing on `err`: so the page of a `no` is a loose page of this program that
 -- is not good, by its length and its first bytes, and the count of an `undecided` is one that this program passes. Or, of a run that does not
 -- come to its end, what it printed stands on `out`, and why it did not on `err`.
 pub data Writes (call : Call) (status : Exit) (task : Task) (subject : Subject task) : Type 0 where
-  writes_reply : (text : List ℕ) → IsReplyOf task subject status text → Gains call.out text → GainsNothing call.err
+  writes_reply : (text : List ℕ) → IsReplyOf call.files task subject status text → Gains call.out text → GainsNothing call.err
       → Writes call status task subject
   writes_halt : (printed text : List ℕ) → IsHaltOf task subject status printed text → Gains call.out printed → Gains call.err text
       → Writes call status task subject

@@ -13,7 +13,7 @@ ghost use Rattle.phpsa_tasks.specs.Written.{IsWritten};
 ghost use Rattle.phpsa_tasks.specs.Joined.{CheckedRunsPrintGoodPages};
 
 use command_words::laws::words_ask_once;
-use program_loader::{held_programs_are_loaded, one_program_is_loaded};
+use program_loader::{held_programs_are_loaded, loaded_programs_stay, one_program_is_loaded};
 
 /// Words ask for one thing to be done.
 pub fn words_ask_for_one_task()
@@ -30,6 +30,7 @@ pub fn endings_are_answered()
     words_ask_once();
     words_ask_for_one_task();
     one_program_is_loaded();
+    loaded_programs_stay();
     held_programs_are_loaded();
 }
 
@@ -39,6 +40,7 @@ pub fn endings_are_sound()
 {
     words_ask_for_one_task();
     one_program_is_loaded();
+    loaded_programs_stay();
 }
 
 /// A call whose task is done has written what the meaning of the task says.

@@ -46,6 +46,13 @@ pub enum Task<'a> {
     GrammarMaking {
         file: &'a str,
     },
+    /// The scripts of a list in a file are decided, each as `ScriptCheck` does.
+    ListCheck {
+        file: &'a str,
+        document_type: DocumentType<'a>,
+        goal: Goal,
+        limit: u64,
+    },
     /// The commands and their options are told.
     Help,
     /// The version of the program is told.
@@ -116,6 +123,17 @@ pub(crate) fn task_of<'a>(line: CommandLine<'a>) -> Task<'a>
             is_checked: true,
         } => Task::MadeCheck { functions },
         CommandLine::Make { functions, .. } => Task::ScriptMaking { functions },
+        CommandLine::Site {
+            file,
+            definition,
+            limit,
+            by_nesting,
+        } => Task::ListCheck {
+            file,
+            document_type: DocumentType::named(definition),
+            goal: goal_of(by_nesting),
+            limit: u64::from(limit),
+        },
         CommandLine::Help => Task::Help,
         CommandLine::Version => Task::Version,
     }

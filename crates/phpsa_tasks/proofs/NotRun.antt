@@ -16,7 +16,7 @@ use Rattle.phpsa_tasks.specs.Tasks.{script_run}
 use Rattle.phpsa_tasks.specs.Call.{Call, Gains, GainsNothing}
 use Rattle.phpsa_tasks.specs.Requests.{FindsRequest, HoldsNoRequest, unread, no_request_in, RefusesRequest}
 use Rattle.phpsa_tasks.specs.Causes.{Refuses}
-use Rattle.phpsa_tasks.specs.Answered.{IsUnasked, TellsCause}
+use Rattle.phpsa_tasks.specs.Answered.{IsNotRun, TellsCause}
 use Rattle.phpsa_tasks.proofs.Held.{ProgramLaws, one_content, file_memory}
 
 -- what stands for a request has no cause but want of memory
@@ -73,7 +73,7 @@ of_request call status text name cause calm none input out err (no_request_in by
 
 -- what refuses the run is the cause, or want of memory
 pub cause_told : ProgramLaws → (call : Call) (status : Exit) (text file name : List ℕ) (steps : ℕ) (cause : RequestRefusal) → (Rises call.files.faults call.files.faults' → ⊥)
-    → IsUnasked call file name cause → GainsNothing call.out → Gains call.err text → Refuses call.files (script_run file (Some name) steps) status text
+    → IsNotRun call file name cause → GainsNothing call.out → Gains call.err text → Refuses call.files (script_run file (Some name) steps) status text
     → TellsCause call cause status ⊎ (status ≡ Memory)
 cause_told laws call status text file name steps cause calm n out err (inl (unloaded, why, is, text_is)) =
     inr (is ∙ ap load_status (laws.not_refused call.files file n.program unloaded n.held.holds n.held.short calm why))
