@@ -10,7 +10,8 @@ use Rattle.phpsa_tasks.specs.declared.reply.Reply.{Reply}
 use Rattle.phpsa_tasks.specs.declared.reply.Reply.TheVariants as reply
 use Rattle.phpsa_tasks.specs.Tasks.{Task, script_check, page_check, script_making, made_check, script_run, grammar_making, list_check, help_telling, version_telling, usage, AsksFor}
 use Rattle.phpsa_tasks.specs.Call.{Call, Output, IsUnfailed}
-use Rattle.phpsa_tasks.specs.Counted.{uncounted, ReadsNothing, IsWanting, ReadsFor, TellsFaults, TellsFault, IsCounted}
+use Rattle.phpsa_tasks.specs.Counted.{uncounted, ReadsNothing, IsWanting, ReadsFor, FaultsAreTold, TellsFault, IsCounted}
+use Rattle.phpsa_tasks.proofs.Faults.{told_anyhow}
 use Rattle.phpsa_tasks.specs.Results.{reply_status, reply_text, Does}
 use Rattle.phpsa_main.specs.Steps.{Puts, FailsOnOut, WantsMemory, Reports, ReportsRefusal}
 
@@ -76,22 +77,23 @@ read_behind (script_making n) files own status read (inr wants) = read
 read_behind (made_check n) files own status read (inr wants) = read
 read_behind (script_run file request steps) files own status read (inr wants) = inl (wanting_uncounted status wants)
 read_behind (grammar_making file) files own status read (inr wants) = inl (wanting_uncounted status wants)
+read_behind (list_check file d goal limit) files own status read (inr wants) = tt
 read_behind help_telling files own status read (inr wants) = read
 read_behind version_telling files own status read (inr wants) = read
 read_behind usage files own status read (inr wants) = read
 
-faults_behind : (files : SourceCall) (own status : Exit) → TellsFaults files own → Behind own status → TellsFaults files status
-faults_behind files own status told (inl is) = subst (TellsFaults files) (sym is) told
-faults_behind files own status told (inr wants) = inl (wanting_faults status wants)
+faults_behind : (task : Task) (files : SourceCall) (own status : Exit) → FaultsAreTold task files own → Behind own status → FaultsAreTold task files status
+faults_behind task files own status told (inl is) = subst (FaultsAreTold task files) (sym is) told
+faults_behind task files own status told (inr wants) = told_anyhow task files status (inl (wanting_faults status wants))
 
 -- the outputs tell their faults
-counts : OneTask → (call : Call) (task : Task) (own status : Exit) → AsksFor call.words task → ReadsFor task call.files own → TellsFaults call.files own → Behind own status
+counts : OneTask → (call : Call) (task : Task) (own status : Exit) → AsksFor call.words task → ReadsFor task call.files own → FaultsAreTold task call.files own → Behind own status
     → TellsFault call.out status → TellsFault call.err status → IsCounted call status
 counts one call task own status asked read faults behind out err = record {
   read = λ other asked'. subst (λ (t : Task). ReadsFor t call.files status) (one call.words task other asked asked') (read_behind task call.files own status read behind);
   out = out;
   err = err;
-  files = faults_behind call.files own status faults behind;
+  files = λ other asked'. subst (λ (t : Task). FaultsAreTold t call.files status) (one call.words task other asked asked') (faults_behind task call.files own status faults behind);
 }
 
 pub replied_counts : OneTask → (call : Call) (task : Task) (own : Reply) (status : Exit) → AsksFor call.words task → Does call.files task (Ok own)
@@ -114,6 +116,7 @@ unread (script_making n) files status none wants = none
 unread (made_check n) files status none wants = none
 unread (script_run file request steps) files status none wants = inl (wanting_uncounted status wants)
 unread (grammar_making file) files status none wants = inl (wanting_uncounted status wants)
+unread (list_check file d goal limit) files status none wants = tt
 unread help_telling files status none wants = none
 unread version_telling files status none wants = none
 unread usage files status none wants = none
@@ -130,5 +133,5 @@ wanting_counts call status none reports out err =
       read = λ task asked. unread task call.files status none wants;
       out = inr out;
       err = err;
-      files = inl (wanting_faults status wants);
+      files = λ task asked. told_anyhow task call.files status (inl (wanting_faults status wants));
     }

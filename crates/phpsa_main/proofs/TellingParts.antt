@@ -10,6 +10,7 @@ use Rattle.phpsa_tasks.specs.declared.reply.Reply.TheVariants as reply
 use Rattle.phpsa_tasks.specs.Tasks.{Task, help_telling, version_telling, usage}
 use Rattle.phpsa_tasks.specs.Counted.{ReadsNothing, ReadsFor}
 use Rattle.phpsa_tasks.specs.Results.{TaskResult, Does}
+use Rattle.phpsa_tasks.proofs.Faults.{told_anyhow}
 
 pub help_does : (files : SourceCall) (message : Message) → ReadsNothing files → files.faults' ≡ files.faults → Says message Done help_text
     → Does files help_telling (Ok (reply.Text message))
@@ -22,7 +23,7 @@ version_does files message read calm says = record { due = record { subject = tt
 -- no memory was left for a task that reads nothing
 pub wanting_told : (files : SourceCall) (task : Task) (result : TaskResult) → result ≡ Err Refusal.Memory → ReadsFor task files Memory → files.faults' ≡ files.faults
     → Does files task result
-wanting_told files task result is read calm = subst (Does files task) (sym is) (record { due = tt; read = read; faults = inr calm })
+wanting_told files task result is read calm = subst (Does files task) (sym is) (record { due = tt; read = read; faults = told_anyhow task files Memory (inr calm) })
 
 pub usage_does : (files : SourceCall) (reason : Option (List ℕ)) (refusal : Refusal) → ReadsNothing files → files.faults' ≡ files.faults
     → IsTold refusal Usage (usage_text reason) → Does files usage (Err refusal)

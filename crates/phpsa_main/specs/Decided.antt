@@ -1,5 +1,6 @@
 -- What deciding the script of a file comes to.
 use Rattle.std.specs.Prelude.{◌≡◌, ◌⊎◌, ℕ, List, Contains, Result, Ok, Err, ⊤}
+use Rattle.io_edge.specs.Counts.{Rises}
 use Rattle.script_meaning.specs.Programs.{PlainProgram}
 use Rattle.dtd_model.specs.Table.{Table}
 use Rattle.page_decision.specs.declared.goal.Goal.{Goal}
@@ -9,12 +10,13 @@ use Rattle.program_loader.specs.Told.{IsLoaded}
 use Rattle.document_types.specs.DocumentTypes.{NamedType, HasTable, IsBuiltIn}
 use Rattle.script_decision.specs.Decision.{HasLargeModels}
 use Rattle.script_decision.specs.declared.shown.ShownAnswer.{ShownAnswer}
-use Rattle.phpsa_texts.specs.declared.exit.Exit.TheVariants.{Dtd, Input}
+use Rattle.phpsa_texts.specs.declared.exit.Exit.TheVariants.{Missing, ReadFault, Dtd, Input}
 use Rattle.phpsa_texts.specs.declared.message.Message.{Message}
 use Rattle.phpsa_texts.specs.declared.message.Refusal.{Refusal}
 use Rattle.phpsa_texts.specs.Texts.{Says, long_text, states_text}
 use Rattle.phpsa_tasks.specs.ScriptAnswers.{IsAnswer}
 use Rattle.phpsa_tasks.specs.Causes.{RefusesScript}
+use Rattle.phpsa_tasks.specs.Sites.{RefusesByTable}
 use Rattle.phpsa_tasks.specs.Counted.{uncounted, ReadsItsFiles, TellsFaults}
 
 -- an answer, a message for `err`, or want of memory
@@ -55,3 +57,15 @@ abbrev pub IsProgramDecided : Table → PlainProgram → List ℕ → Goal → �
 IsProgramDecided table program name goal limit (Ok answer) = IsAnswer goal table program limit answer
 IsProgramDecided table program name goal limit (Err (Refusal.Told message)) = IsProgramRefused table program name message
 IsProgramDecided table program name goal limit (Err Refusal.Memory) = ⊤
+
+-- what deciding the script of a file comes to by the table of a definition that was read before: the answer of its program, or a refusal by
+-- that table; misses and faults are counted for such a refusal alone
+abbrev pub DecidesBy : SourceCall → List ℕ → Table → Goal → ℕ → Decision → Type 0
+DecidesBy files file table goal limit (Ok answer) =
+    (program : PlainProgram) × IsLoaded files.content file program × IsAnswer goal table program limit answer
+    × (files.faults' ≡ files.faults)
+DecidesBy files file table goal limit (Err (Refusal.Told message)) =
+    RefusesByTable files file table message.status message.text × (message.status ≡ Missing → Rises files.misses files.misses')
+    × (message.status ≡ ReadFault → Rises files.faults files.faults')
+    × ((message.status ≡ ReadFault → ⊥) → files.faults' ≡ files.faults)
+DecidesBy files file table goal limit (Err Refusal.Memory) = ⊤

@@ -3,11 +3,13 @@
 ghost use Rattle.std.specs.Prelude.{◌≡◌, IfOk};
 ghost use Rattle.phpsa_texts.specs.Texts.{Says};
 ghost use Rattle.phpsa_tasks.specs.ScriptAnswers.{answer_status, answer_text, conclusion_of};
+ghost use Rattle.phpsa_tasks.specs.Sites.{line_of};
 
 use phpsa_texts::{
     AnswerForm, Conclusion, Message, PassedCount, no_message, passed_message, yes_message,
 };
 use script_decision::ShownAnswer;
+use site_check::Line;
 use std::alloc::Global;
 use text_base::NoMemory;
 
@@ -21,6 +23,27 @@ pub(crate) fn conclusion_of(answer: &ShownAnswer) -> Conclusion
         ShownAnswer::Pairs { .. } => Conclusion::Undecided,
         ShownAnswer::Tags { .. } => Conclusion::Undecided,
         ShownAnswer::Items { .. } => Conclusion::Undecided,
+    }
+}
+
+/// The line that tells an answer in a report: of a page that is not good its length alone.
+pub(crate) fn line_of(answer: &ShownAnswer) -> Line
+    ensures { result ≡ line_of answer.now }
+{
+    match answer {
+        ShownAnswer::Yes => Line::Yes,
+        ShownAnswer::No(page) => Line::No {
+            length: page.length,
+        },
+        ShownAnswer::Pairs { count, height } => Line::Pairs {
+            count: *count,
+            height: *height,
+        },
+        ShownAnswer::Tags { count, height } => Line::Tags {
+            count: *count,
+            height: *height,
+        },
+        ShownAnswer::Items { count } => Line::Items { count: *count },
     }
 }
 

@@ -5,7 +5,8 @@ ghost use Rattle.dtd_model.specs.TableOf.{table_of};
 ghost use Rattle.document_types.specs.DocumentTypes.{type_of};
 ghost use Rattle.program_rules.specs.View.{program_of};
 ghost use Rattle.program_files.specs.Source.{source_call};
-ghost use Rattle.phpsa_main.specs.Decided.{Decides, IsProgramDecided};
+ghost use Rattle.site_check.specs.Site.{moment, Leads};
+ghost use Rattle.phpsa_main.specs.Decided.{Decides, DecidesBy, IsProgramDecided};
 
 use document_types::DocumentType;
 use dtd_model::Dtd;
@@ -70,4 +71,34 @@ pub(crate) fn decide_script<F: Files>(
         Err(refusal) => return Err(definition_refusal(alloc, &refusal)),
     };
     decided(alloc, file, &program, &dtd, goal, limit)
+}
+
+/// Decides the script of the file, with all that it includes, as `decide_script` does, by a
+/// definition that was read before.
+///
+/// # Errors
+///
+/// What is told where the program is not loaded, the definition passes a limit on its content
+/// models, or a text of the program is over the limit of a run; and `Memory`.
+pub(crate) fn decide_by<F: Files>(
+    alloc: Global,
+    file: &str,
+    dtd: &Dtd,
+    goal: Goal,
+    limit: u64,
+    files: &mut F,
+) -> Result<ShownAnswer, Refusal>
+    ensures decides { DecidesBy
+        (source_call (F.content files.new) (F.faults files.old) (F.faults files.new)
+        (F.misses files.old) (F.misses files.new) (F.reads files.old) (F.reads files.new))
+        file.now (table_of dtd.now) goal limit result }
+    ensures leads { Leads (moment (F.content files.old) (F.faults files.old) (F.misses files.old))
+        (moment (F.content files.new) (F.faults files.new) (F.misses files.new)) }
+{
+    loads_are_loaded();
+    let program = match load(alloc, files, file) {
+        Ok(program) => program,
+        Err(refusal) => return Err(load_refusal(alloc, &refusal)),
+    };
+    decided(alloc, file, &program, dtd, goal, limit)
 }

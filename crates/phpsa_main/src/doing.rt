@@ -5,6 +5,7 @@ ghost use Rattle.phpsa_tasks.specs.Results.{Does};
 ghost use Rattle.phpsa_tasks.specs.Views.{task_as};
 
 use crate::grammars::make_grammar;
+use crate::lists::check_list;
 use crate::made::check_made;
 use crate::making::make_script;
 use crate::page::judge_page;
@@ -45,6 +46,12 @@ pub(crate) fn result_of<F: Files>(
             steps,
         } => run_script(alloc, file, request, steps, files),
         Task::GrammarMaking { file } => make_grammar(alloc, file, files),
+        Task::ListCheck {
+            file,
+            document_type,
+            goal,
+            limit,
+        } => check_list(alloc, file, document_type, goal, limit, files),
         Task::Help => Ok(Reply::Text(help_message(alloc)?)),
         Task::Version => Ok(Reply::Text(version_message(alloc)?)),
         Task::Usage { reason: None } => Err(usage_refusal(alloc, None)),

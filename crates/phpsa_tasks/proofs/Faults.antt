@@ -4,7 +4,8 @@ use Rattle.std.specs.Prelude.{◌⊎◌}
 use Rattle.program_files.specs.Source.{SourceCall}
 use Rattle.phpsa_texts.specs.declared.exit.Exit.{Exit}
 use Rattle.phpsa_texts.specs.declared.exit.Exit.TheVariants.{ReadFault, WriteFault, Memory}
-use Rattle.phpsa_tasks.specs.Counted.{TellsFaults, IsWanting}
+use Rattle.phpsa_tasks.specs.Counted.{TellsFaults, FaultsAreTold, IsWanting}
+use Rattle.phpsa_tasks.specs.Tasks.{Task, list_check}
 
 -- a status that is this one
 pub told_faults : (files : SourceCall) (own status : Exit) → status ≡ own → (own ≡ ReadFault) ⊎ (files.faults' ≡ files.faults) → TellsFaults files status
@@ -16,3 +17,8 @@ wanted_faults files = inl (2, lit< tt, refl)
 
 pub wanted : IsWanting Memory
 wanted = (1, lit< tt, refl)
+
+-- a fault that is told by the status is told, whatever the task
+pub told_anyhow : (task : Task) (files : SourceCall) (status : Exit) → TellsFaults files status → FaultsAreTold task files status
+told_anyhow (list_check file d goal limit) files status told = inr told
+told_anyhow _ files status told = told

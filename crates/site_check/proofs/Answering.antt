@@ -1,5 +1,5 @@
 -- Answers for names, one behind another.
-use Rattle.std.proofs.Common.{◌≡◌, ◌∙◌, ◌≤◌, ◌<◌, ◌+◌, ◌-◌, ◌^◌, ℕ, Bool, true, false, List, [], ◌∷◌, ◌++◌, length, take, map, get_or, refl, sym, ap, subst, arith}
+use Rattle.std.proofs.Common.{◌≡◌, ◌∙◌, ◌≤◌, ◌<◌, ◌+◌, ◌-◌, ◌^◌, ℕ, Bool, true, false, List, [], ◌∷◌, ◌++◌, length, take, map, get_or, refl, sym, ap, subst, inl, inr, arith}
 use Rattle.std.proofs.lemmas.List.{take_more, map-append}
 use Rattle.std.specs.Prelude.{IsTrue, if◌then◌else◌}
 use Rattle.io_edge.specs.Counts.{Rises}
@@ -7,18 +7,29 @@ use Rattle.io_edge.specs.Told.{Content}
 use Rattle.io_edge.proofs.Staying.{stays_same, stays_on}
 use Rattle.site_check.specs.declared.line.Line.{Line}
 use Rattle.site_check.specs.declared.line.TheConstants.{MISSING_STATUS, FAULT_STATUS}
-use Rattle.site_check.specs.Site.{Moment, Leads, IsAnswered, AreAnswered, is_refused_by, refused_by}
+use Rattle.site_check.specs.Site.{Moment, Grows, Leads, IsAnswered, AreAnswered, is_refused_by, refused_by}
+
+-- a count grows on, and is no less where it stays below the largest number
+grows_on : (x y z : ℕ) → Grows x y → Grows y z → Grows x z
+grows_on x y z (inl same) (inl still) = inl (still ∙ same)
+grows_on x y z (inl same) (inr rises) = inr (omega (arith, same, rises))
+grows_on x y z (inr rises) (inl same) = inr (omega (arith, same, rises))
+grows_on x y z (inr rises) (inr more) = inr (omega (arith, rises, more))
+
+no_less : (x y : ℕ) → Grows x y → y < 2 ^ 64 - 1 → x ≤ y
+no_less x y (inl same) small = omega (arith, same)
+no_less x y (inr rises) small = omega (arith, rises, small)
 
 -- a moment leads to itself, and what it leads to leads on
 pub leads_same : (m : Moment) → Leads m m
-leads_same m = record { stays = stays_same m.content m.content refl; faults = omega arith; misses = omega arith }
+leads_same m = record { stays = stays_same m.content m.content refl; faults = inl refl; misses = inl refl }
 
 pub leads_on : (a b c : Moment) → Leads a b → Leads b c → Leads a c
 leads_on a b c first next =
     record {
       stays = stays_on a.content b.content c.content first.stays next.stays;
-      faults = omega (arith, first.faults, next.faults);
-      misses = omega (arith, first.misses, next.misses);
+      faults = grows_on a.faults b.faults c.faults first.faults next.faults;
+      misses = grows_on a.misses b.misses c.misses first.misses next.misses;
     }
 
 module _ (May : Content → List ℕ → Line → Type 0) where
@@ -31,7 +42,7 @@ module _ (May : Content → List ℕ → Line → Type 0) where
   answered_behind a b c (n ∷ ns) (l ∷ ls) name line (between, first, rest) last = (between, first, answered_behind between b c ns ls name line rest last)
 
   -- so many lines as are refused by a status, of which each was counted, were counted
-  module _ (status : ℕ) (count : Moment → ℕ) (grows : (a b : Moment) → Leads a b → count a ≤ count b)
+  module _ (status : ℕ) (count : Moment → ℕ) (grows : (a b : Moment) → Leads a b → Grows (count a) (count b))
       (counted : (a b : Moment) (name : List ℕ) (line : Line) → IsAnswered May a b name line → IsTrue (is_refused_by status line) → Rises (count a) (count b)) where
     pub refused_are_counted : (a b : Moment) (names : List (List ℕ)) (lines : List Line) → AreAnswered May a b names lines → count b < 2 ^ 64 - 1
         → refused_by status lines + count a ≤ count b
@@ -43,7 +54,7 @@ module _ (May : Content → List ℕ → Line → Type 0) where
       where
         by : (is : Bool) → is_refused_by status l ≡ is → refused_by status ls + count between ≤ count b → (if is then 1 else 0) + refused_by status ls + count a ≤ count b
         by true e more = let rises : Rises (count a) (count between) = counted a between n l first e in omega (arith, rises, more, small)
-        by false e more = let le : count a ≤ count between = grows a between first.leads in omega (arith, le, more)
+        by false e more = let le : count a ≤ count between = no_less (count a) (count between) (grows a between first.leads) (omega (arith, more, small)) in omega (arith, le, more)
 
   pub missing_counted : (a b : Moment) (names : List (List ℕ)) (lines : List Line) → AreAnswered May a b names lines → b.misses < 2 ^ 64 - 1
       → refused_by MISSING_STATUS lines + a.misses ≤ b.misses

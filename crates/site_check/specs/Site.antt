@@ -1,5 +1,5 @@
 -- The answers for the scripts of a site; this project's own.
-use Rattle.std.specs.Prelude.{◌≡◌, ◌≤◌, ◌+◌, ℕ, List, [], ◌∷◌, Bool, false, nat_eq, if◌then◌else◌, IsTrue}
+use Rattle.std.specs.Prelude.{◌≡◌, ◌⊎◌, ◌+◌, ℕ, List, [], ◌∷◌, Bool, false, nat_eq, if◌then◌else◌, IsTrue}
 use Rattle.io_edge.specs.Counts.{Rises}
 use Rattle.io_edge.specs.Told.{Content, Stays}
 use Rattle.site_check.specs.declared.line.Line.{Line}
@@ -16,11 +16,15 @@ pub record Moment : Type 0 where
 abbrev pub moment : Content → ℕ → ℕ → Moment
 moment content faults misses = record { content = content; faults = faults; misses = misses }
 
--- from a moment to a later one what is told stays told, and no count falls
+-- a count is as it was, or rose
+abbrev pub Grows : ℕ → ℕ → Type 0
+Grows before now = (now ≡ before) ⊎ Rises before now
+
+-- from a moment to a later one what is told stays told, and each count is as it was, or rose
 pub record Leads (before now : Moment) : Type 0 where
   pub stays : Stays before.content now.content
-  pub faults : before.faults ≤ now.faults
-  pub misses : before.misses ≤ now.misses
+  pub faults : Grows before.faults now.faults
+  pub misses : Grows before.misses now.misses
 
 -- whether a line is refused by this status
 abbrev pub is_refused_by : ℕ → Line → Bool
