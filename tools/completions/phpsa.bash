@@ -11,7 +11,7 @@ _phpsa() {
     before=${COMP_WORDS[at - 2]}
   fi
   if ((at == 1)); then
-    mapfile -t COMPREPLY < <(compgen -W 'check run page grammar make help --help --version' -- "$word")
+    mapfile -t COMPREPLY < <(compgen -W 'check run page grammar make site help --help --version' -- "$word")
     return
   fi
   case $before in
@@ -33,11 +33,12 @@ _phpsa() {
     page) list='--dtd --help' ;;
     grammar) list='--help' ;;
     make) list='--check --help' ;;
+    site) list='--dtd --limit --nesting --help' ;;
     *) list= ;;
   esac
   if [[ $word == -* ]]; then
     mapfile -t COMPREPLY < <(compgen -W "$list" -- "$word")
-  elif [[ $command == check || $command == run || $command == page || $command == grammar ]]; then
+  elif [[ $command == check || $command == run || $command == page || $command == grammar || $command == site ]]; then
     mapfile -t COMPREPLY < <(compgen -f -- "$word")
     compopt -o filenames 2>/dev/null
   fi
