@@ -48,12 +48,7 @@ impl Answers for ByDefinition<'_> {
     ghost may = { λ by content name line.
         IsLineFor (table_of by.dtd.now) by.goal by.limit content name line };
 
-    fn answer<F: Files>(
-        &self,
-        alloc: Global,
-        files: &mut F,
-        name: &str,
-    ) -> Result<Line, NoMemory> {
+    fn answer<F: Files>(&self, alloc: Global, files: &mut F, name: &str) -> Result<Line, NoMemory> {
         match decide_by(alloc, name, self.dtd, self.goal, self.limit, files) {
             Ok(answer) => Ok(line_of(&answer)),
             Err(refusal) => refused_line(alloc, &refusal),

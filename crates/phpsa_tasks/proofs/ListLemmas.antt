@@ -221,23 +221,26 @@ list_verdict stay files goal limit x lines is_list (before, are) =
     let first = moment before files.faults files.misses in
     by_status lines (λ (s : Exit). IsListVerdict files.content goal x.table x.list s ⊎ StopsAtScript files.content goal x.table limit x.list s)
     (λ some.
-        let l = some_line is_no lines some in
-        let r = name_for x.table goal limit first now (names_in x.list) lines are l.0 l.1 in
-        let p = no_program x.table goal limit r.2.earlier r.0 l.0 l.2 r.2.may in
-        inl (is_list, (p.program, record { name = r.0; named = r.1; loaded = stay r.2.earlier files.content r.0 p.program r.2.stays p.loaded }, p.so)))
+    let l = some_line is_no lines some in
+    let r = name_for x.table goal limit first now (names_in x.list) lines are l.0 l.1 in
+    let p = no_program x.table goal limit r.2.earlier r.0 l.0 l.2 r.2.may in
+    inl (is_list, (p.program, record { name = r.0; named = r.1; loaded = stay r.2.earlier files.content r.0 p.program r.2.stays p.loaded }, p.so)))
     (λ some.
-        let l = some_line is_undecided lines some in
-        let r = name_for x.table goal limit first now (names_in x.list) lines are l.0 l.1 in
-        let p = undecided_program x.table goal limit r.2.earlier r.0 l.0 l.2 r.2.may in
-        inr (p.program, record { name = r.0; named = r.1; loaded = stay r.2.earlier files.content r.0 p.program r.2.stays p.loaded }, p.so))
+    let l = some_line is_undecided lines some in
+    let r = name_for x.table goal limit first now (names_in x.list) lines are l.0 l.1 in
+    let p = undecided_program x.table goal limit r.2.earlier r.0 l.0 l.2 r.2.may in
+    inr (p.program, record { name = r.0; named = r.1; loaded = stay r.2.earlier files.content r.0 p.program r.2.stays p.loaded }, p.so))
     (λ some.
-        let l = some_line is_refused lines some in
-        let r = name_for x.table goal limit first now (names_in x.list) lines are l.0 l.1 in
-        let f = refused_script x.table goal limit r.2.earlier r.0 l.0 l.2 r.2.may in
-        inr (f.files, r.0, f.status, f.text, r.1, subst (λ (c : Content). Stays c files.content) (sym f.content_is) r.2.stays, f.why))
-    (λ a b c. inl (is_list, (λ name among.
-        let g = all_good stay files goal limit x lines (before, are) a b c name among in
-        (g.program, g.loaded, g.pages))))
+    let l = some_line is_refused lines some in
+    let r = name_for x.table goal limit first now (names_in x.list) lines are l.0 l.1 in
+    let f = refused_script x.table goal limit r.2.earlier r.0 l.0 l.2 r.2.may in
+    inr (f.files, r.0, f.status, f.text, r.1, subst (λ (c : Content). Stays c files.content) (sym f.content_is) r.2.stays, f.why))
+    (λ a b c. inl (
+      is_list,
+      (λ name among.
+          let g = all_good stay files goal limit x lines (before, are) a b c name among in
+          (g.program, g.loaded, g.pages)),
+    ))
 
 -- and with status 0 that the runs of each program are good
 pub list_means : LoadedStays → (files : SourceCall) (goal : Goal) (limit : ℕ) (x : ListBy) (lines : List Line) → AreLinesOf files goal limit x lines → exit.Done ≡ site_status lines
@@ -265,7 +268,7 @@ list_faults files file d goal limit x lines (before, are) =
     by_status lines (λ (s : Exit). Contains (exit.No ∷ exit.Undecided ∷ exit.Site ∷ []) s ⊎ TellsFaults files s)
     (λ a. inl (0, lit< tt, refl)) (λ a. inl (1, lit< tt, refl)) (λ a. inl (2, lit< tt, refl))
     (λ a b c. inr (inr (calm_throughout (λ content name line. IsLineFor x.table goal limit content name line) (moment before files.faults files.misses)
-        (moment files.content files.faults' files.misses') (names_in x.list) lines are (none_refused FAULT_STATUS lines c))))
+    (moment files.content files.faults' files.misses') (names_in x.list) lines are (none_refused FAULT_STATUS lines c))))
 
 -- a text whose first bad line there is has a line that is no UTF-8
 bad_line : (number : ℕ) (lines : List (List ℕ)) (line : ℕ) → IsFirstBad number lines line → AreUtf8 lines → ⊥

@@ -20,7 +20,7 @@ pub const HELP: &[u8] = b"phpsa says whether all pages that a PHP script can pri
   phpsa page FILE     Says whether one page is valid.
   phpsa grammar FILE  Writes the grammar of the pages of a script.
   phpsa make N        Writes a script with N functions, for tests.
-  phpsa site FILE     Decides each script of a list, with a line of JSON for each.
+  phpsa site FILE     Decides each script of a list, a line of JSON for each.
 
   --dtd TYPE          check, page, site: the document type, strict, mini or a
                       file; strict where it is left out.

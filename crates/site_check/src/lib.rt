@@ -1,7 +1,9 @@
-//! Files that are kept once they are read, and the answers for the scripts of a site, one by one.
+//! Files that are kept once they are read; and lists of scripts: their names, the answers for them, one
+//! by one, and the report on them.
 //! Promise: `ReadOnce` is a `Files` that tells what it was given (`told_with` of specs/Kept): its `read` keeps the first answer for a name
-//! (`first`), and answers by it the next times (`again`). Each line of `site` is an answer for its name alone (`AreAnswered` of specs/Site).
-//! Used by: phpsa_tasks, phpsa, check_rows.
+//! (`first`), and answers by it the next times (`again`). `read_list` gives the names in a text (`names_in` of specs/Listed), each line of
+//! `site` is an answer for its name alone (`AreAnswered` of specs/Site), and `report` writes them (`report` of specs/Report).
+//! Used by: phpsa_texts, phpsa_tasks, phpsa_main, phpsa, check_rows.
 #![tactic(auto)]
 
 mod answers;

@@ -31,13 +31,7 @@ fn without_return(line: &[u8]) -> &[u8]
 {
     match line {
         [] => line,
-        [before @ .., last] => {
-            if *last == b'\r' {
-                before
-            } else {
-                line
-            }
-        }
+        [before @ .., last] => { if *last == b'\r' { before } else { line } }
     }
 }
 

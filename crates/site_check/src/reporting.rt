@@ -22,12 +22,7 @@ fn sums_value(
     json!(in alloc; {"answer": "undecided", "count": count, "file": name, "height": height, "kind": kind})
 }
 
-fn refused_value(
-    alloc: Global,
-    name: &str,
-    status: u64,
-    text: &[u8],
-) -> Result<Value, AllocError>
+fn refused_value(alloc: Global, name: &str, status: u64, text: &[u8]) -> Result<Value, AllocError>
     ensures { IfOk result (λ v. view v ≡ data_of name.now (Line.Refused status text.now)) }
 {
     let text = String::from_utf8_lossy(alloc, text)?;
