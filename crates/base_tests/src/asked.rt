@@ -87,6 +87,15 @@ fn words(rt: HostRuntime) -> Result<(), Fail> {
                 is_checked: false,
             }),
         ),
+        (
+            "site --nesting pages --limit=9",
+            Ok(CommandLine::Site {
+                file: "pages",
+                definition: "strict",
+                limit: 9,
+                by_nesting: true,
+            }),
+        ),
         ("help", Ok(CommandLine::Help)),
         ("help check", Ok(CommandLine::Help)),
         ("-h", Ok(CommandLine::Help)),
