@@ -1,5 +1,5 @@
 -- A document type goes on to have its table where more becomes told later.
-use Rattle.std.proofs.Common.{◌≡◌, ℕ, List, Option, Some, None}
+use Rattle.std.proofs.Common.{ℕ, List, Option, Some, None}
 use Rattle.io_edge.specs.Told.{Content, Stays}
 use Rattle.io_edge.proofs.Staying.{tells_stay}
 use Rattle.dtd_model.specs.Table.{Table}

@@ -1,5 +1,5 @@
 -- What the parts of the command find makes the lines of a list, and what doing the task comes to.
-use Rattle.std.proofs.Common.{◌≡◌, ◌∙◌, ℕ, Bool, true, false, List, Some, inl, inr, refl, sym, subst}
+use Rattle.std.proofs.Common.{◌≡◌, ◌∙◌, ℕ, true, false, List, Some, inl, inr, refl, sym, subst}
 use Rattle.std.specs.Prelude.{◌⊎◌, nat_eq, Ok, Err}
 use Rattle.io_edge.specs.Counts.{Rises}
 use Rattle.io_edge.specs.Told.{Content, Tells}
@@ -9,7 +9,7 @@ use Rattle.script_meaning.specs.Programs.{PlainProgram}
 use Rattle.program_files.specs.Source.{SourceCall}
 use Rattle.program_files.specs.declared.refusal.LoadRefusal.{LoadRefusal}
 use Rattle.program_files.specs.declared.refusal.LoadRefusal.TheVariants as load
-use Rattle.program_loader.specs.Causes.{Loads, IsLoadCause}
+use Rattle.program_loader.specs.Causes.{IsLoadCause}
 use Rattle.program_loader.specs.Told.{IsLoaded}
 use Rattle.dtd_model.specs.Table.{Table}
 use Rattle.document_types.specs.DocumentTypes.{NamedType, HasTable, IsDefinitionRefusal}
@@ -19,7 +19,7 @@ use Rattle.script_decision.specs.declared.shown.ShownAnswer.{ShownAnswer}
 use Rattle.site_check.specs.declared.line.Line.{Line}
 use Rattle.site_check.specs.declared.line.TheConstants.{MISSING_STATUS, FAULT_STATUS}
 use Rattle.site_check.specs.declared.list_refusal.ListRefusal.{ListRefusal}
-use Rattle.site_check.specs.Site.{Moment, moment, Grows, Leads, is_refused_by, IsAnswered}
+use Rattle.site_check.specs.Site.{moment, Grows, Leads, is_refused_by, IsAnswered}
 use Rattle.site_check.specs.Listed.{names_in, IsList, IsNoList}
 use Rattle.phpsa_texts.specs.declared.exit.Exit.{Exit}
 use Rattle.phpsa_texts.specs.declared.exit.Exit.TheVariants as exit

@@ -1,16 +1,15 @@
 -- The definitions of `specs/` on worked examples and on near misses.
-use Rattle.std.proofs.Common.{◌≡◌, ◌≤◌, [], true, false, None, Some, codes, refl, lit≤, arith}
+use Rattle.std.proofs.Common.{◌≡◌, ◌≤◌, [], ◌∷◌, true, false, None, Some, codes, refl, lit≤, arith}
 use Rattle.page_model.specs.Valid as model
 use Rattle.page_decision.specs.declared.goal.Goal.TheVariants.{Valid, Nested}
 use Rattle.io_edge.specs.Told.{Content}
 use Rattle.program_files.specs.Source.{SourceCall}
 use Rattle.site_check.specs.declared.line.Line.TheVariants as told
-use Rattle.phpsa_texts.specs.declared.exit.Exit.TheVariants.{Site}
 use Rattle.phpsa_texts.specs.Statuses.{site_status}
 use Rattle.phpsa_tasks.specs.Sites.{inside}
 use Rattle.command_words.specs.Asked.{help, version, check, run, page, grammar, make, site}
 use Rattle.document_types.specs.DocumentTypes.{strict_type, mini_type, file_type}
-use Rattle.phpsa_texts.specs.declared.exit.Exit.TheVariants.{Done, No, Undecided, Input, Usage}
+use Rattle.phpsa_texts.specs.declared.exit.Exit.TheVariants.{Done, No, Undecided, Input, Usage, Site}
 use Rattle.phpsa_texts.specs.declared.answers.AnswerForm.TheVariants.{Plain, Json}
 use Rattle.phpsa_texts.specs.Texts.{help_text, version_text, usage_text}
 use Rattle.phpsa_tasks.specs.Tasks.{script_check, page_check, script_making, made_check, script_run, grammar_making, list_check, help_telling, version_telling, usage, task_of}

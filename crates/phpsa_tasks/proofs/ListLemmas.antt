@@ -1,8 +1,7 @@
 -- The lines of a list, and what they say of the scripts of its names.
-use Rattle.std.proofs.Common.{◌≡◌, ◌+◌, ◌||◌, ℕ, zero, suc, Bool, true, false, List, [], ◌∷◌, Contains, refl, sym, subst, inl, inr, lit<, arith, if◌then◌else◌}
+use Rattle.std.proofs.Common.{◌≡◌, ◌||◌, ℕ, zero, suc, Bool, true, false, List, [], ◌∷◌, Contains, refl, sym, subst, inl, inr, lit<, arith, if◌then◌else◌}
 use Rattle.std.specs.Prelude.{◌⊎◌}
 use Rattle.std.specs.List.{list_any}
-use Rattle.std.specs.Str.{IsUtf8}
 use Rattle.std.proofs.lemmas.List.Elements.{Contains-append_right}
 use Rattle.io_edge.specs.Told.{Content, Stays}
 use Rattle.script_meaning.specs.Programs.{PlainProgram}
@@ -28,11 +27,11 @@ use Rattle.phpsa_texts.specs.declared.exit.Exit.TheVariants as exit
 use Rattle.phpsa_texts.specs.Statuses.{site_status, list_status}
 use Rattle.phpsa_tasks.specs.Tasks.{list_check}
 use Rattle.phpsa_tasks.specs.Subjects.{ListBy}
-use Rattle.phpsa_tasks.specs.ScriptAnswers.{answer_status, IsAnswer}
+use Rattle.phpsa_tasks.specs.ScriptAnswers.{IsAnswer}
 use Rattle.phpsa_tasks.specs.Causes.{RefusesScript, large_models, not_loaded, lacks_definition, has_long_text}
 use Rattle.phpsa_tasks.specs.Sites.{line_of, RefusesByTable, IsLineFor, tells_answer, tells_refusal, AreLinesOf}
 use Rattle.phpsa_tasks.specs.Counted.{TellsFaults, FaultsAreTold}
-use Rattle.phpsa_tasks.specs.Answered.{IsScriptVerdict, PassesScriptLimit, IsOfList, IsListVerdict, StopsAtScript}
+use Rattle.phpsa_tasks.specs.Answered.{IsScriptVerdict, PassesScriptLimit, IsListVerdict, StopsAtScript}
 
 -- what is loaded stays so
 abbrev pub LoadedStays : Type 0

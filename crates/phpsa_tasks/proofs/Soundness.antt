@@ -12,7 +12,6 @@ use Rattle.page_decision.specs.declared.goal.Goal.{Goal}
 use Rattle.script_decision.specs.Answers.{RunsAreGood}
 use Rattle.script_decision.specs.declared.shown.ShownAnswer.{ShownAnswer}
 use Rattle.script_decision.specs.Shown.{ShownSaysOfRuns}
-use Rattle.io_edge.specs.Told.{Content}
 use Rattle.program_files.specs.Source.{SourceCall}
 use Rattle.program_loader.specs.Told.{IsLoaded}
 use Rattle.site_check.specs.Listed.{names_in}
