@@ -44,7 +44,7 @@ fn refused_line(alloc: Global, refusal: &Refusal) -> Result<Line, NoMemory>
     })
 }
 
-impl Answers for ByDefinition<'_> {
+impl<'a> Answers for ByDefinition<'a> {
     ghost may = { λ by content name line.
         IsLineFor (table_of by.dtd.now) by.goal by.limit content name line };
 
