@@ -1,17 +1,19 @@
 //! Statements.
 
 ghost use Rattle.std.specs.Prelude.{◌≡◌, IfOk, OnOk};
-ghost use Rattle.php_syntax.specs.Trees.{plain_expr, plain_stmt, stmts_of, arms_of, exprs_of, maybe_of, if_stmt, while_stmt, do_while_stmt, for_stmt, each_stmt};
+ghost use Rattle.php_syntax.specs.Trees.{plain_stmt, stmts_of, arms_of};
 ghost use Rattle.program_rules.specs.Expansion.{followed_by, with_bodies, with_bodies_in, with_bodies_in_arms};
 ghost use Rattle.program_files.specs.View.{files_of};
 ghost use Rattle.include_expansion.specs.Within.{bodies_within};
 
-use crate::parts::{copy_echo, copy_inline, copy_quit, copy_return, copy_run, put};
+use crate::parts::{
+    put_arm, put_break, put_continue, put_do_while, put_each, put_echo, put_for, put_if,
+    put_inline, put_quit, put_return, put_run, put_while,
+};
 use php_syntax::tree::{Expr, Stmt};
 use program_files::ScriptFiles;
 use std::alloc::Global;
 use text_base::{Bytes, NoMemory};
-use tree_walks::{copy_expr, copy_exprs, copy_maybe, copy_variable};
 
 /// Statements with each include replaced by the statements of its file, so many times over.
 pub fn expand_statements(
@@ -100,116 +102,15 @@ fn expand_arms(
 {
     let mut copies = Vec::new(alloc);
     for arm in arms {
-        let test = copy_expr(alloc, &arm.0)?;
         let body = expand_body(alloc, files, nesting, arm.1.as_slice())?;
-        copies.push((test, body))?;
+        put_arm(alloc, &arm.0, body, &mut copies)?;
     }
     Ok(copies)
 }
 
-// `if`
-#[cycle(expansion)]
-#[tactic(auto, using(php_syntax::proofs::Views::views))]
-fn expand_if(
-    alloc: Global,
-    files: &ScriptFiles,
-    nesting: usize,
-    arms: &[(Expr, Vec<Stmt>)],
-    otherwise: &[Stmt],
-) -> Result<Stmt, NoMemory>
-    ensures { IfOk result (λ copy. plain_stmt copy
-        ≡ if_stmt (with_bodies_in_arms (bodies_within (files_of files.now) nesting)
-        (arms_of arms.now))
-        (with_bodies (bodies_within (files_of files.now) nesting) (stmts_of otherwise.now))) }
-{
-    let arms = expand_arms(alloc, files, nesting, arms)?;
-    let otherwise = expand_body(alloc, files, nesting, otherwise)?;
-    Ok(Stmt::If(arms, otherwise))
-}
-
-// `while`
-#[cycle(expansion)]
-#[tactic(auto, using(php_syntax::proofs::Views::views))]
-fn expand_while(
-    alloc: Global,
-    files: &ScriptFiles,
-    nesting: usize,
-    test: &Expr,
-    body: &[Stmt],
-) -> Result<Stmt, NoMemory>
-    ensures { IfOk result (λ copy. plain_stmt copy ≡ while_stmt (plain_expr test.now)
-        (with_bodies (bodies_within (files_of files.now) nesting) (stmts_of body.now))) }
-{
-    let test = copy_expr(alloc, test)?;
-    let body = expand_body(alloc, files, nesting, body)?;
-    Ok(Stmt::While(test, body))
-}
-
-// `do` .. `while`
-#[cycle(expansion)]
-#[tactic(auto, using(php_syntax::proofs::Views::views))]
-fn expand_do_while(
-    alloc: Global,
-    files: &ScriptFiles,
-    nesting: usize,
-    body: &[Stmt],
-    test: &Expr,
-) -> Result<Stmt, NoMemory>
-    ensures { IfOk result (λ copy. plain_stmt copy ≡ do_while_stmt
-        (with_bodies (bodies_within (files_of files.now) nesting) (stmts_of body.now))
-        (plain_expr test.now)) }
-{
-    let body = expand_body(alloc, files, nesting, body)?;
-    let test = copy_expr(alloc, test)?;
-    Ok(Stmt::DoWhile(body, test))
-}
-
-// `for`, whose head is handed over.
-#[cycle(expansion)]
-#[tactic(auto, using(php_syntax::proofs::Views::views))]
-fn expand_for(
-    alloc: Global,
-    files: &ScriptFiles,
-    nesting: usize,
-    head: (&[Expr], &Option<Expr>, &[Expr]),
-    body: &[Stmt],
-) -> Result<Stmt, NoMemory>
-    ensures { IfOk result (λ copy. plain_stmt copy
-        ≡ for_stmt (exprs_of head.entry.0.now) (maybe_of head.entry.1.now)
-        (exprs_of head.entry.2.now)
-        (with_bodies (bodies_within (files_of files.now) nesting) (stmts_of body.now))) }
-{
-    let begin = copy_exprs(alloc, head.0)?;
-    let test = copy_maybe(alloc, head.1)?;
-    let next = copy_exprs(alloc, head.2)?;
-    let body = expand_body(alloc, files, nesting, body)?;
-    Ok(Stmt::For(begin, test, next, body))
-}
-
-// `foreach`
-#[cycle(expansion)]
-#[tactic(auto, using(php_syntax::proofs::Views::views))]
-fn expand_each(
-    alloc: Global,
-    files: &ScriptFiles,
-    nesting: usize,
-    array: &Expr,
-    key: &Option<Bytes>,
-    value: &Bytes,
-    body: &[Stmt],
-) -> Result<Stmt, NoMemory>
-    ensures { IfOk result
-        (λ copy. plain_stmt copy ≡ each_stmt (plain_expr array.now) key.now value.now
-        (with_bodies (bodies_within (files_of files.now) nesting) (stmts_of body.now))) }
-{
-    let array = copy_expr(alloc, array)?;
-    let key = copy_variable(alloc, key)?;
-    let value = value.copy(alloc)?;
-    let body = expand_body(alloc, files, nesting, body)?;
-    Ok(Stmt::Each(array, key, value, body))
-}
-
-// A statement in which others stand, with theirs replaced; others copied.
+// A statement: of one in which others stand with theirs replaced; another copied. The heads are
+// copied behind the bodies, by calls that are not inlined, so that a statement within others takes
+// little of the stack.
 #[cycle(expansion)]
 #[tactic(auto, using(php_syntax::proofs::Views::views, crate::proofs::Followed::ends), unfolding(program_rules::specs::Expansion::with_bodies))]
 fn expand_stmt(
@@ -224,48 +125,34 @@ fn expand_stmt(
 {
     match stmt {
         Stmt::Include(path) => expand_file(alloc, files, nesting, path, out),
-        Stmt::Inline(bytes) => {
-            let copy = copy_inline(alloc, bytes)?;
-            put(out, copy)
-        }
-        Stmt::Echo(exprs) => {
-            let copy = copy_echo(alloc, exprs.as_slice())?;
-            put(out, copy)
-        }
-        Stmt::Run(expr) => {
-            let copy = copy_run(alloc, expr)?;
-            put(out, copy)
-        }
+        Stmt::Inline(bytes) => put_inline(alloc, bytes, out),
+        Stmt::Echo(exprs) => put_echo(alloc, exprs.as_slice(), out),
+        Stmt::Run(expr) => put_run(alloc, expr, out),
         Stmt::If(arms, last) => {
-            let copy = expand_if(alloc, files, nesting, arms.as_slice(), last.as_slice())?;
-            put(out, copy)
+            let arms = expand_arms(alloc, files, nesting, arms.as_slice())?;
+            let last = expand_body(alloc, files, nesting, last.as_slice())?;
+            put_if(arms, last, out)
         }
         Stmt::While(test, body) => {
-            let copy = expand_while(alloc, files, nesting, test, body.as_slice())?;
-            put(out, copy)
+            let body = expand_body(alloc, files, nesting, body.as_slice())?;
+            put_while(alloc, test, body, out)
         }
         Stmt::DoWhile(body, test) => {
-            let copy = expand_do_while(alloc, files, nesting, body.as_slice(), test)?;
-            put(out, copy)
+            let body = expand_body(alloc, files, nesting, body.as_slice())?;
+            put_do_while(alloc, body, test, out)
         }
         Stmt::For(begin, test, next, body) => {
             let head = (begin.as_slice(), test, next.as_slice());
-            let copy = expand_for(alloc, files, nesting, head, body.as_slice())?;
-            put(out, copy)
+            let body = expand_body(alloc, files, nesting, body.as_slice())?;
+            put_for(alloc, head, body, out)
         }
         Stmt::Each(array, key, value, body) => {
-            let copy = expand_each(alloc, files, nesting, array, key, value, body.as_slice())?;
-            put(out, copy)
+            let body = expand_body(alloc, files, nesting, body.as_slice())?;
+            put_each(alloc, (array, key, value), body, out)
         }
-        Stmt::Break => put(out, Stmt::Break),
-        Stmt::Continue => put(out, Stmt::Continue),
-        Stmt::Return(value) => {
-            let copy = copy_return(alloc, value)?;
-            put(out, copy)
-        }
-        Stmt::Quit(value) => {
-            let copy = copy_quit(alloc, value)?;
-            put(out, copy)
-        }
+        Stmt::Break => put_break(out),
+        Stmt::Continue => put_continue(out),
+        Stmt::Return(value) => put_return(alloc, value, out),
+        Stmt::Quit(value) => put_quit(alloc, value, out),
     }
 }

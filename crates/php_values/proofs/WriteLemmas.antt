@@ -1,7 +1,7 @@
 -- A member of an array written in its place, a member that was not there before, and how deep what is written is.
-use Rattle.std.proofs.Common.{◌≡◌, ◌⊎◌, inl, inr, ℕ, suc, ◌+◌, ◌-◌, ◌<◌, ◌≤◌, max, nat_le, Bool, true, false, if◌then◌else◌, List, [], ◌∷◌, length, set, get_or, Option, Some, None, Result, Ok, Err, OnOk, refl, sym, ◌∙◌, ap, subst, arith}
+use Rattle.std.proofs.Common.{◌≡◌, ◌⊎◌, inl, inr, ℕ, suc, ◌+◌, ◌-◌, ◌<◌, ◌≤◌, max, nat_le, Bool, true, false, if◌then◌else◌, List, [], ◌∷◌, length, set, get_or, Option, Some, None, Result, Ok, Err, OnOk, pos, refl, sym, ◌∙◌, ap, subst, arith}
 use Rattle.std.proofs.lemmas.Bool.Decides.{nat_tests}
-use Rattle.plain_values.specs.Plain.{Plain, PlainKey, Pairs, null, flag, int, text, array, empty, pair, keys, depth, deepest}
+use Rattle.plain_values.specs.Plain.{Plain, PlainKey, Pairs, int_key, null, flag, int, text, array, empty, pair, keys, depth, deepest}
 use Rattle.plain_values.specs.Members.{member, put_pair, key_after, largest_key}
 use Rattle.plain_values.specs.Paths.{put_back, change_member, named_key}
 use Rattle.php_values.specs.Writes.{write_if, KeepsWrites, KeepsMember}
@@ -11,7 +11,7 @@ use Rattle.php_values.specs.View.{plain_of, pairs_of, plain_path}
 use Rattle.php_values.specs.Index.{place}
 use Rattle.php_values.proofs.Places.{member_at, member_none, put_present}
 use Rattle.plain_values.specs.declared.fault.Fault.{Fault}
-use Rattle.plain_values.specs.declared.fault.Fault.TheVariants.{Memory}
+use Rattle.plain_values.specs.declared.fault.Fault.TheVariants.{Memory, Long}
 use Rattle.php_values.specs.declared.key.Key.{Key}
 use Rattle.php_values.specs.declared.array.Value.{Value}
 
@@ -101,6 +101,15 @@ fits_if false (s ∷ ss) new (flag b) v e = cc
 fits_if false (s ∷ ss) new (int z) v e = cc
 fits_if false (s ∷ ss) new (text t) v e = cc
 fits_if false (s ∷ ss) new (array ps) v e = change_fits false (write_if false ss new) ps (named_key s (key_after (largest_key ps))) v (λ k u g. fits_if false ss new (member ps k) u g) e
+
+-- into null a value that does not fit is not written, for no other reason
+null_too_long : (path : List (Option PlainKey)) (new : Plain) → write_if false path new null ≡ Err Long
+null_too_long [] new = refl
+null_too_long (Some k ∷ ss) new = ap (put_back empty k) (null_too_long ss new)
+null_too_long (None ∷ ss) new = ap (put_back empty (int_key (pos 0))) (null_too_long ss new)
+
+pub null_shut : (fits : Bool) (path : List (Option PlainKey)) (new old : Plain) → fits ≡ false → old ≡ null → write_if fits path new old ≡ Err Long
+null_shut fits path new old shut is = ap (λ (b : Bool). write_if b path new old) shut ∙ ap (write_if false path new) is ∙ null_too_long path new
 
 -- a member that was written can stand in an array
 pub written_fits : (fits : Bool) (path : List (Option PlainKey)) (new old v : Plain) → ((fits ≡ true) → length path + depth new < 1000) → depth old < 1000 → write_if fits path new old ≡ Ok v → depth v < 1000

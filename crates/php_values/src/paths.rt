@@ -150,6 +150,10 @@ impl Value {
             }
             Some((step, rest)) => match self {
                 Value::Null => {
+                    // What is behind null is null, down to the end of a path of any length.
+                    if !fits {
+                        return Err(Fault::Long);
+                    }
                     let mut array = Array::new(alloc)?;
                     array.write(alloc, fits, step, rest, new)?;
                     *self = Value::Array(array);

@@ -21,6 +21,7 @@ use std::alloc::Global;
 use text_base::{Bytes, Slot};
 
 /// Bytes outside PHP.
+#[inline(never)]
 pub(crate) fn lower_inline(
     alloc: Global,
     bytes: &Bytes,
@@ -53,6 +54,7 @@ fn lower_printed(
 }
 
 /// `echo`
+#[inline(never)]
 pub(crate) fn lower_echo(
     alloc: Global,
     scope: &FunctionScope<'_>,
@@ -70,6 +72,7 @@ pub(crate) fn lower_echo(
 }
 
 /// An expression as a statement.
+#[inline(never)]
 pub(crate) fn lower_run(
     alloc: Global,
     scope: &FunctionScope<'_>,
@@ -85,6 +88,7 @@ pub(crate) fn lower_run(
 }
 
 /// `return`
+#[inline(never)]
 pub(crate) fn lower_return(
     alloc: Global,
     scope: &FunctionScope<'_>,
@@ -110,6 +114,7 @@ pub(crate) fn lower_return(
 }
 
 /// `exit`
+#[inline(never)]
 pub(crate) fn lower_quit(
     alloc: Global,
     scope: &FunctionScope<'_>,
@@ -134,6 +139,7 @@ pub(crate) fn lower_quit(
 }
 
 /// The test of a loop.
+#[inline(never)]
 pub(crate) fn lower_test(
     alloc: Global,
     scope: &FunctionScope<'_>,
@@ -150,6 +156,7 @@ pub(crate) fn lower_test(
 }
 
 /// The test of a loop, which may be left out.
+#[inline(never)]
 pub(crate) fn lower_maybe_test(
     alloc: Global,
     scope: &FunctionScope<'_>,

@@ -94,6 +94,7 @@ fn lower_arm(
 
 // `if`
 #[cycle(statements)]
+#[inline(never)]
 fn lower_if(
     alloc: Global,
     scope: &FunctionScope<'_>,
@@ -155,6 +156,7 @@ fn lower_turns(
 
 // `while`
 #[cycle(statements)]
+#[inline(never)]
 fn lower_while(
     alloc: Global,
     scope: &FunctionScope<'_>,
@@ -174,6 +176,7 @@ fn lower_while(
 
 // `for`
 #[cycle(statements)]
+#[inline(never)]
 fn lower_for(
     alloc: Global,
     scope: &FunctionScope<'_>,
@@ -199,6 +202,7 @@ fn lower_for(
 
 // `do`
 #[cycle(statements)]
+#[inline(never)]
 fn lower_do(
     alloc: Global,
     scope: &FunctionScope<'_>,
@@ -228,6 +232,7 @@ fn lower_do(
 
 // `foreach`
 #[cycle(statements)]
+#[inline(never)]
 fn lower_each(
     alloc: Global,
     scope: &FunctionScope<'_>,

@@ -28,33 +28,38 @@ expand_arms-expand_body-requires t c =
     let s = ap (λ (a : List Stmt). stmts_height (stmts_of a)) c.as_slice.ensures.value in
     (omega (arith, k, e, s, c.decreases), tt)
 
-pub expand_stmt-expand_if-requires : goal.expand_stmt-expand_if-requires
-expand_stmt-expand_if-requires t c =
+pub expand_stmt-expand_arms-requires : goal.expand_stmt-expand_arms-requires
+expand_stmt-expand_arms-requires t c =
     let h = if_height c.args.stmt.now c.in-If.arms c.in-If.last c.in-If.is in
     let e = ap (λ (a : List (Expr × Vec Stmt Global)). arms_height (arms_of a)) c.as_slice-in-If.ensures.value in
-    let f = ap (λ (a : List Stmt). stmts_height (stmts_of a)) c.as_slice-in-If-2.ensures.value in
-    (omega (arith, h, e, f, c.decreases), tt)
+    (omega (arith, h, e, c.decreases), tt)
 
-pub expand_stmt-expand_while-requires : goal.expand_stmt-expand_while-requires
-expand_stmt-expand_while-requires t c =
+pub expand_stmt-expand_body-requires : goal.expand_stmt-expand_body-requires
+expand_stmt-expand_body-requires t c =
+    let h = if_height c.args.stmt.now c.in-If.arms c.in-If.last c.in-If.is in
+    let f = ap (λ (a : List Stmt). stmts_height (stmts_of a)) c.as_slice-in-If-2.ensures.value in
+    (omega (arith, h, f, c.decreases), tt)
+
+pub expand_stmt-expand_body-requires-in-While : goal.expand_stmt-expand_body-requires-in-While
+expand_stmt-expand_body-requires-in-While t c =
     let h = while_height c.args.stmt.now c.in-While.test c.in-While.body c.in-While.is in
     let e = ap (λ (a : List Stmt). stmts_height (stmts_of a)) c.as_slice-in-While.ensures.value in
     (omega (arith, h, e, c.decreases), tt)
 
-pub expand_stmt-expand_do_while-requires : goal.expand_stmt-expand_do_while-requires
-expand_stmt-expand_do_while-requires t c =
+pub expand_stmt-expand_body-requires-in-DoWhile : goal.expand_stmt-expand_body-requires-in-DoWhile
+expand_stmt-expand_body-requires-in-DoWhile t c =
     let h = do_height c.args.stmt.now c.in-DoWhile.body c.in-DoWhile.test c.in-DoWhile.is in
     let e = ap (λ (a : List Stmt). stmts_height (stmts_of a)) c.as_slice-in-DoWhile.ensures.value in
     (omega (arith, h, e, c.decreases), tt)
 
-pub expand_stmt-expand_for-requires : goal.expand_stmt-expand_for-requires
-expand_stmt-expand_for-requires t c =
+pub expand_stmt-expand_body-requires-in-For : goal.expand_stmt-expand_body-requires-in-For
+expand_stmt-expand_body-requires-in-For t c =
     let h = for_height c.args.stmt.now c.in-For.begin c.in-For.test c.in-For.next c.in-For.body c.in-For.is in
     let e = ap (λ (a : List Stmt). stmts_height (stmts_of a)) c.as_slice-in-For-3.ensures.value in
     (omega (arith, h, e, c.decreases), tt)
 
-pub expand_stmt-expand_each-requires : goal.expand_stmt-expand_each-requires
-expand_stmt-expand_each-requires t c =
+pub expand_stmt-expand_body-requires-in-Each : goal.expand_stmt-expand_body-requires-in-Each
+expand_stmt-expand_body-requires-in-Each t c =
     let h = each_height c.args.stmt.now c.in-Each.array c.in-Each.key c.in-Each.value c.in-Each.body c.in-Each.is in
     let e = ap (λ (a : List Stmt). stmts_height (stmts_of a)) c.as_slice-in-Each.ensures.value in
     (omega (arith, h, e, c.decreases), tt)
@@ -99,8 +104,9 @@ expand_stmts-returns t c = stmts_end (bodies_within (files_of c.args.files.now) 
 
 pub expand_arms-loop-arm-preserved : goal.expand_arms-loop-arm-preserved
 expand_arms-loop-arm-preserved t c =
-    arms_step (bodies_within (files_of c.args.files.now) c.args.nesting) c.args.arms.now c.loop-arm.copies.items c.push.new.self.items c.loop-arm.arm-index c.arm-item.result c.in_ok-test.test c.in_ok-body.body c.loop-arm-test.true c.arm-item.is c.in_ok-test.ensures
-    (rw c.as_slice.ensures.value at c.in_ok-body.ensures) c.in_ok-push.ensures.items c.loop-arm.invariant
+    let (copy, same, pushed) = c.in_ok-put_arm.ensures in
+    arms_step (bodies_within (files_of c.args.files.now) c.args.nesting) c.args.arms.now c.loop-arm.copies.items c.put_arm.new.arms.items c.loop-arm.arm-index c.arm-item.result copy c.in_ok-body.body c.loop-arm-test.true c.arm-item.is same
+    (rw c.as_slice.ensures.value at c.in_ok-body.ensures) pushed c.loop-arm.invariant
 
 pub expand_arms-loop-arm-init : goal.expand_arms-loop-arm-init
 expand_arms-loop-arm-init t c = ap (λ (v : List Arm). arms_then v (with_bodies_in_arms (bodies_within (files_of c.args.files.now) c.args.nesting) (arms_of c.args.arms.now))) c.new-copies.ensures.items

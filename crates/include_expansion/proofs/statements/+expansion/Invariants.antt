@@ -1,4 +1,4 @@
-use Rattle.std.proofs.Common.{◌≡◌, max, ◌+◌, ◌*◌, drop}
+use Rattle.std.proofs.Common.{◌≡◌, ◌+◌, ◌*◌, drop}
 use Rattle.php_syntax.specs.Trees.{plain_stmt, stmts_of, arms_of}
 use Rattle.php_syntax.specs.Height.{stmt_height, stmts_height, arms_height}
 use Rattle.program_rules.specs.Expansion.{followed_by, with_bodies, with_bodies_in_arms}
@@ -22,21 +22,6 @@ decreases-expand_file l = reach (files_of l.files.now) l.nesting + 3
 
 abbrev pub decreases-expand_arms : goal.decreases-expand_arms
 decreases-expand_arms l = reach (files_of l.files.now) l.nesting + (8 * arms_height (arms_of l.arms.now) + 3)
-
-abbrev pub decreases-expand_if : goal.decreases-expand_if
-decreases-expand_if l = reach (files_of l.files.now) l.nesting + (8 * max (arms_height (arms_of l.arms.now)) (stmts_height (stmts_of l.otherwise.now)) + 4)
-
-abbrev pub decreases-expand_while : goal.decreases-expand_while
-decreases-expand_while l = reach (files_of l.files.now) l.nesting + (8 * stmts_height (stmts_of l.body.now) + 4)
-
-abbrev pub decreases-expand_do_while : goal.decreases-expand_do_while
-decreases-expand_do_while l = reach (files_of l.files.now) l.nesting + (8 * stmts_height (stmts_of l.body.now) + 4)
-
-abbrev pub decreases-expand_for : goal.decreases-expand_for
-decreases-expand_for l = reach (files_of l.files.now) l.nesting + (8 * stmts_height (stmts_of l.body.now) + 4)
-
-abbrev pub decreases-expand_each : goal.decreases-expand_each
-decreases-expand_each l = reach (files_of l.files.now) l.nesting + (8 * stmts_height (stmts_of l.body.now) + 4)
 
 abbrev pub invariant-expand_stmts-loop-stmt : goal.invariant-expand_stmts-loop-stmt
 invariant-expand_stmts-loop-stmt l =

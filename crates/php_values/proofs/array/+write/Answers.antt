@@ -1,4 +1,4 @@
-use Rattle.std.proofs.Common.{rules, ◌≡◌, ◌<◌, ℕ, Some, Ok, sym, ◌∙◌, ap, subst, length, arith}
+use Rattle.std.proofs.Common.{rules, ◌≡◌, inr, ◌<◌, ℕ, Some, Ok, sym, ◌∙◌, ap, subst, length, arith}
 use Rattle.std.proofs.lemmas.Result.{err_from_is_err_and}
 use Rattle.plain_values.specs.Plain.{Pairs, null, array, keys, depth}
 use Rattle.php_values.specs.View.{plain_of, plain_key, pairs_of, plain_path}
@@ -8,8 +8,12 @@ use Rattle.php_values.specs.Index.{place}
 use Rattle.php_values.specs.declared.key.Key.{Key}
 use Rattle.php_values.proofs.Places.{length-keys, place_lt, deepest_at}
 use Rattle.php_values.proofs.IndexLemmas.{indexed_changed}
-use Rattle.php_values.proofs.WriteLemmas.{changed_at, fault_at, changed_new, fault_new, written_fits}
+use Rattle.php_values.proofs.WriteLemmas.{null_shut, changed_at, fault_at, changed_new, fault_new, written_fits}
 use Rattle.php_values.proofs.array.+write.Goals as goal
+
+pub Value::write_if-returns-then-not-fits-2-clause-err : goal.Value::write_if-returns-then-not-fits-2-clause-err
+Value::write_if-returns-then-not-fits-2-clause-err t c =
+    inr (null_shut c.args.fits (plain_path c.args.path.now) (plain_of c.args.new) (plain_of c.args.self.now) c.if-not-fits-2.true (ap plain_of c.in-Null.is))
 
 pub Members::write-index_mut-requires : goal.Members::write-index_mut-requires
 Members::write-index_mut-requires t c =
