@@ -7,5 +7,6 @@ pub mod JoinRowLemmas
 pub mod MarkLemmas
 pub mod ReadLemmas
 pub mod RowLemmas
+pub mod ThroughLemmas
 mod FewLemmas
 mod GraphLemmas
