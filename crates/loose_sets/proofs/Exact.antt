@@ -77,6 +77,22 @@ module _ (flow : PlainFlow) (d : Definition) (x : ℕ) where
     | inr k ↦ back n p v (Stands.alike p x v comes one stands) t y is (back n r (comes r e) (stands r e l) p x k w)
   ])
 
+-- a join stands for its own slot alone
+pub slot_of : (flow : PlainFlow) (p x q y : ℕ) → Stands flow p x (join_at q y) → x ≡ y
+slot_of flow p x q y s = by p x (join_at q y) s q y refl
+  where
+    by : (p x : ℕ) (v : PlainVersion) → Stands flow p x v → (q y : ℕ) → v ≡ join_at q y → x ≡ y
+    by p x v (Stands.here r z) q y e = cc
+    by p x v (Stands.set_before r o z only w) q y e = cc
+    by p x v (Stands.left_before r o z u only s t) q y e = by o z u t q y e
+    by p x v (Stands.alike r z u comes one stands) q y e = elim one.some [
+      | inl k ↦ elim (sets_or_leaves flow k.0 r z k.1) [
+        | inl w ↦ absurd (no_join (at_point k.0) q y (sym (one.by_set k.0 k.1 w) ∙ k.2 ∙ e))
+        | inr l ↦ by k.0 z (comes k.0 k.1) (stands k.0 k.1 l) q y (k.2 ∙ e)
+      ]
+      | inr k ↦ absurd (no_join (at_entry k.0 z) q y (sym (one.by_entry k.0 k.1) ∙ e))
+    ]
+
 module _ (flow : PlainFlow) (asked : Asked) (linked : Linked) (are : AreLinks flow asked linked) where
   -- what comes to the place where the version is made
   Comes : ℕ → PlainVersion → Definition → Type 0
@@ -101,21 +117,6 @@ module _ (flow : PlainFlow) (asked : Asked) (linked : Linked) (are : AreLinks fl
         (subst (λ (z : ℕ). Reaches flow (at_entry k.0 y) y z) (sym k.1.entry) (Reaches.entered k.0 y k.1.function k.1.there k.1.own))
   ]
 
-  slot_of : (p x q y : ℕ) → Stands flow p x (join_at q y) → x ≡ y
-  slot_of p x q y s = by p x (join_at q y) s q y refl
-    where
-      by : (p x : ℕ) (v : PlainVersion) → Stands flow p x v → (q y : ℕ) → v ≡ join_at q y → x ≡ y
-      by p x v (Stands.here r z) q y e = cc
-      by p x v (Stands.set_before r o z only w) q y e = cc
-      by p x v (Stands.left_before r o z u only s t) q y e = by o z u t q y e
-      by p x v (Stands.alike r z u comes one stands) q y e = elim one.some [
-        | inl k ↦ elim (sets_or_leaves flow k.0 r z k.1) [
-          | inl w ↦ absurd (no_join (at_point k.0) q y (sym (one.by_set k.0 k.1 w) ∙ k.2 ∙ e))
-          | inr l ↦ by k.0 z (comes k.0 k.1) (stands k.0 k.1 l) q y (k.2 ∙ e)
-        ]
-        | inr k ↦ absurd (no_join (at_entry k.0 z) q y (sym (one.by_entry k.0 k.1) ∙ e))
-      ]
-
   behind_definition : (d e : Definition) → Behind linked (of_definition d) e → d ≡ e
   behind_definition d e (Behind.itself f) = refl
 
@@ -128,7 +129,7 @@ module _ (flow : PlainFlow) (asked : Asked) (linked : Linked) (are : AreLinks fl
   unfolding Comes
   sound v d (Behind.itself e) p x s = walk p x (of_definition e) e s refl
   sound v d (Behind.joined q y u e k b) p x s =
-      let same : x ≡ y = slot_of p x q y s in
+      let same : x ≡ y = slot_of flow p x q y s in
       walk p x (join_at q y) e s (linked_reaches u e b (sound u e b) q x (subst (λ z. Link flow q z u) (sym same) (are.each q y u k)))
 
   at_set : (p x : ℕ) (v : PlainVersion) → Stands flow p x v → IsKept asked v → (q : ℕ) → Edge flow q p → Sets flow q x → Behind linked v (at_point q)
