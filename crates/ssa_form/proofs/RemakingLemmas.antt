@@ -1,7 +1,8 @@
 -- Versions made anew, with the version in the place of each join that is no more than that.
 use Rattle.std.proofs.Common.{◌≡◌, ◌≢◌, ◌≤◌, ◌<◌, ◌+◌, ◌⊎◌, inl, inr, ◌↔◌, ℕ, zero, suc, Bool, true, false, ◌&&◌, cond, List, [], ◌∷◌, ◌++◌, length, take, get_or, Option, Some, None, refl, sym, subst, ◌∙◌, ap, arith, slice_get, Contains}
 use Rattle.std.specs.Prelude.{nat_eq}
-use Rattle.std.proofs.lemmas.Option.{same_Some, slice_get_within}
+use Rattle.std.specs.Map.{lookup}
+use Rattle.std.proofs.lemmas.Option.{same_Some}
 use Rattle.std.proofs.lemmas.Bool.{eqb-true, eq-eqb}
 use Rattle.std.proofs.lemmas.Bool.Decides.{eqb_tells}
 use Rattle.std.proofs.lemmas.List.{map-append, length-append, length-map}
@@ -60,25 +61,20 @@ row_replaces flow asks us vs row are is = record {
 }
 
 -- what a map holds is one of its entries
+at_entry : (p x : ℕ) (v : Version) (e : (ℕ × ℕ) × Version) (es : List ((ℕ × ℕ) × Version)) (o : Option Version) (a b : Bool) → nat_eq p e.0.0 ≡ a → nat_eq x e.0.1 ≡ b → cond (a && b) (Some e.1) o ≡ Some v
+    → (o ≡ Some v → (i : ℕ) × (slice_get es i ≡ Some ((p, x), v))) → (i : ℕ) × (slice_get (e ∷ es) i ≡ Some ((p, x), v))
+at_entry p x v e es o true true f g k further =
+    let key : (p, x) ≡ e.0 = ap (λ (z : ℕ). (z, x)) (eqb-true p e.0.0 f) ∙ ap (λ (z : ℕ). (e.0.0, z)) (eqb-true x e.0.1 g) in
+    (zero, ap (λ (z : ℕ × ℕ). Some (z, e.1)) (sym key) ∙ ap (λ (z : Version). Some ((p, x), z)) (same_Some e.1 v k))
+at_entry p x v e es o true false f g k further = let n = further k in (suc n.0, n.1)
+at_entry p x v e es o false b f g k further = let n = further k in (suc n.0, n.1)
+
+entry_of : (p x : ℕ) (v : Version) (es : List ((ℕ × ℕ) × Version)) → lookup (λ (k : ℕ × ℕ). nat_eq p k.0 && nat_eq x k.1) es ≡ Some v → (i : ℕ) × (slice_get es i ≡ Some ((p, x), v))
+entry_of p x v [] k = absurd (cc)
+entry_of p x v (e ∷ es) k = at_entry p x v e es (lookup (λ (k : ℕ × ℕ). nat_eq p k.0 && nat_eq x k.1) es) (nat_eq p e.0.0) (nat_eq x e.0.1) refl refl k (λ f. entry_of p x v es f)
+
 pub held_entry : {S : Type 0} (m : IndexMap (ℕ × ℕ) Version S) (p x : ℕ) (v : Version) → held m p x ≡ Some v → (i : ℕ) × (slice_get m.entries i ≡ Some ((p, x), v))
-held_entry m p x v e = by m.entries e
-  where
-    looked : List ((ℕ × ℕ) × Version) → Option Version
-    looked [] = None
-    looked (e ∷ es) = cond (nat_eq p e.0.0 && nat_eq x e.0.1) (Some e.1) (looked es)
-
-    at : (e : (ℕ × ℕ) × Version) (es : List ((ℕ × ℕ) × Version)) (o : Option Version) (a b : Bool) → nat_eq p e.0.0 ≡ a → nat_eq x e.0.1 ≡ b → cond (a && b) (Some e.1) o ≡ Some v
-        → (o ≡ Some v → (i : ℕ) × (slice_get es i ≡ Some ((p, x), v))) → (i : ℕ) × (slice_get (e ∷ es) i ≡ Some ((p, x), v))
-    at e es o true true f g k further =
-        let key : (p, x) ≡ e.0 = ap (λ (z : ℕ). (z, x)) (eqb-true p e.0.0 f) ∙ ap (λ (z : ℕ). (e.0.0, z)) (eqb-true x e.0.1 g) in
-        (zero, ap (λ (z : ℕ × ℕ). Some (z, e.1)) (sym key) ∙ ap (λ (z : Version). Some ((p, x), z)) (same_Some e.1 v k))
-    at e es o true false f g k further = let n = further k in (suc n.0, n.1)
-    at e es o false b f g k further = let n = further k in (suc n.0, n.1)
-
-    unfolding looked
-    by : (es : List ((ℕ × ℕ) × Version)) → looked es ≡ Some v → (i : ℕ) × (slice_get es i ≡ Some ((p, x), v))
-    by [] k = absurd (cc)
-    by (e ∷ es) k = at e es (looked es) (nat_eq p e.0.0) (nat_eq x e.0.1) refl refl k (λ f. by es f)
+held_entry m p x v e = entry_of p x v m.entries e
 
 both_same : {A : Type 0} (n m : ℕ) (a b : A) → cond (nat_eq n n && nat_eq m m) a b ≡ a
 both_same n m a b = ap (λ t. cond (t && nat_eq m m) a b) (eq-eqb n n refl) ∙ ap (λ t. cond t a b) (eq-eqb m m refl)
