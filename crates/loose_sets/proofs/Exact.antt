@@ -17,7 +17,7 @@ not_both flow q x w p = p.not_it (subst (λ z. sets z ≡ Some x) (some_same (sy
 pub no_join : (d : Definition) (p x : ℕ) → of_definition d ≡ join_at p x → ⊥
 no_join d p x e = cc
 
-set_or_not : (o : Option ℕ) (x : ℕ) → (o ≡ Some x) ⊎ (o ≢ Some x)
+pub set_or_not : (o : Option ℕ) (x : ℕ) → (o ≡ Some x) ⊎ (o ≢ Some x)
 set_or_not None x = inr (λ e. absurd (no x e))
   where
     no : (x : ℕ) → None ≡ Some x → ⊥

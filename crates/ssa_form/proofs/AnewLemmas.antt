@@ -1,14 +1,13 @@
 -- Versions made anew are exact, and their joins are joins, where those before were.
-use Rattle.std.proofs.Common.{◌≡◌, ◌≢◌, ◌≤◌, ◌<◌, ◌↔◌, ℕ, List, length, Option, Some, None, refl, sym, subst, ◌∙◌, ap, arith, slice_get, Contains}
+use Rattle.std.proofs.Common.{◌≡◌, ◌≢◌, ◌≤◌, ◌↔◌, ℕ, List, length, Option, Some, None, refl, sym, subst, ap, arith, slice_get, Contains}
 use Rattle.std.specs.Option.{option_map}
 use Rattle.std.proofs.lemmas.Option.{same_Some, slice_get_within}
-use Rattle.std.proofs.lemmas.List.{length-map}
 use Rattle.numbered_sets.specs.Numbers.{AreDifferent}
 use Rattle.flow_code.specs.Points.{PlainFlow}
 use Rattle.flow_graph.specs.Found.{number_in}
 use Rattle.flow_graph.proofs.FoundLemmas.{found, number_is}
-use Rattle.loose_sets.specs.Reaching.{Definition, at_point, at_entry, Reaches}
-use Rattle.loose_sets.specs.Versions.{PlainVersion, of_definition, join_at, Stands, Link, IsKept, AreLinks, PlainJoin, asked_in, linked_in, Behind}
+use Rattle.loose_sets.specs.Reaching.{Definition, at_point, at_entry}
+use Rattle.loose_sets.specs.Versions.{PlainVersion, of_definition, join_at, Stands, Link, IsKept, AreLinks, asked_in, linked_in}
 use Rattle.loose_sets.proofs.Exact.{exact}
 use Rattle.ssa_form.specs.declared.version.Version.{Version}
 use Rattle.ssa_form.specs.declared.versions.Versions.{Versions}
@@ -16,7 +15,7 @@ use Rattle.ssa_form.specs.Views.{version_seen, versions_seen, held}
 use Rattle.ssa_form.specs.Marks.{asked_by}
 use Rattle.ssa_form.specs.JoinRows.{row_in}
 use Rattle.ssa_form.specs.Versions.{joins_in, asks_of, rows_of, joins_of, row_of, version_of, arrivals_at, IsExact, AreJoins}
-use Rattle.ssa_form.specs.Replacing.{Replaces, ReplacesAll, AreHeld, AreMadeAnew}
+use Rattle.ssa_form.specs.Replacing.{Replaces, AreHeld, AreMadeAnew}
 use Rattle.ssa_form.proofs.ReadLemmas.{contains_at, at_contains, kept_more}
 use Rattle.ssa_form.proofs.JoinLemmas.{get_there}
 use Rattle.ssa_form.proofs.ExactLemmas.{joins_hold, joins_only, linked_row}

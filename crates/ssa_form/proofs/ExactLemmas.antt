@@ -12,13 +12,13 @@ use Rattle.numbered_sets.specs.Numbers.{AreDifferent}
 use Rattle.numbered_sets.specs.Places.{ArePlaces}
 use Rattle.flow_graph.specs.Arrivals.{target}
 use Rattle.flow_code.specs.Points.{PlainFlowFunction, PlainFlow, function_at}
-use Rattle.flow_code.specs.Lawful.{sets, IsOwnSlot}
+use Rattle.flow_code.specs.Lawful.{IsOwnSlot}
 use Rattle.flow_graph.specs.declared.arrivals.Arrival.{Arrival}
 use Rattle.flow_graph.specs.declared.arrivals.Arrival.TheVariants.{Edge as of_edge, Entry as of_entry}
 use Rattle.flow_graph.specs.Steps.{PlainStep}
 use Rattle.loose_sets.specs.Reaching.{Definition, at_point, at_entry, Reaches}
 use Rattle.loose_sets.specs.Versions.{PlainVersion, of_definition, join_at, Edge, Sets, Leaves, Stands, Link, IsKept, AreLinks, PlainJoin, asked_in, linked_in, Behind}
-use Rattle.loose_sets.proofs.Exact.{not_both, exact}
+use Rattle.loose_sets.proofs.Exact.{set_or_not, not_both, exact}
 use Rattle.ssa_form.specs.declared.marks.Marks.{Marks}
 use Rattle.ssa_form.specs.declared.version.Version.{Version}
 use Rattle.ssa_form.specs.declared.versions.Versions.{Versions}
@@ -33,7 +33,7 @@ use Rattle.flow_graph.specs.Found.{number_in}
 use Rattle.ssa_form.proofs.BehindLemmas.{is_before}
 use Rattle.ssa_form.proofs.HeadLemmas.{is_first}
 use Rattle.ssa_form.proofs.EdgeLemmas.{edge_listed, entry_listed, listed, listed_edge, only_from, no_first, step_at, is_point}
-use Rattle.ssa_form.proofs.MarkLemmas.{set_or_not, step_on}
+use Rattle.ssa_form.proofs.MarkLemmas.{step_on}
 use Rattle.ssa_form.proofs.ThroughLemmas.{stands_through}
 use Rattle.ssa_form.proofs.ReadLemmas.{contains_at, at_contains, in_one, kept_more, joins_at, joins_slot}
 use Rattle.ssa_form.proofs.FewLemmas.{arrivals_few, joined_few}

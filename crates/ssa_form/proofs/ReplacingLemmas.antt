@@ -1,5 +1,5 @@
 -- A version in the place of each join that is no more than that version.
-use Rattle.std.proofs.Common.{◌≡◌, ◌≢◌, ◌<◌, ◌⊎◌, inl, inr, ℕ, zero, suc, Bool, true, false, cond, List, [], ◌∷◌, ◌++◌, length, Option, Some, None, refl, sym, subst, ◌∙◌, ap, arith, slice_get, slice_set, Contains}
+use Rattle.std.proofs.Common.{◌≡◌, ◌⊎◌, inl, inr, ℕ, zero, suc, Bool, true, false, cond, List, [], ◌∷◌, ◌++◌, length, Some, refl, sym, subst, ◌∙◌, ap, arith, slice_get, slice_set, Contains}
 use Rattle.std.specs.Prelude.{nat_eq}
 use Rattle.std.proofs.lemmas.Option.{same_Some}
 use Rattle.std.proofs.lemmas.Bool.{eqb-true, eq-eqb}
@@ -9,7 +9,7 @@ use Rattle.flow_code.specs.Points.{PlainFlow}
 use Rattle.flow_code.specs.Lawful.{IsOwnSlot}
 use Rattle.flow_graph.proofs.HeadLemmas.{push_cases}
 use Rattle.loose_sets.specs.Reaching.{at_point, at_entry}
-use Rattle.loose_sets.specs.Versions.{PlainVersion, of_definition, join_at, Edge, Sets, Leaves, Enters, IsOneVersion, Stands, Link, IsKept, PlainJoin, asked_in, linked_in}
+use Rattle.loose_sets.specs.Versions.{PlainVersion, of_definition, join_at, Edge, Sets, Leaves, Enters, Stands, Link, IsKept, PlainJoin, asked_in, linked_in}
 use Rattle.loose_sets.proofs.Exact.{not_both, no_join, sets_or_leaves, slot_of}
 use Rattle.ssa_form.specs.declared.version.Version.{Version}
 use Rattle.ssa_form.specs.declared.places.Seen.{Seen}
@@ -125,16 +125,20 @@ module _ (flow : PlainFlow) (asks : List (ℕ × ℕ)) (rows : List (List Versio
       where
         by : (b : Bool) → nat_eq q from ≡ b → Chosen q (cond b v (comes q e).version)
         by true k = (let same : q ≡ from = eqb-true q from k in record {
-            set = λ w. absurd (not_both flow from x (subst (λ (z : ℕ). Sets flow z x) same w) leaves);
-            left = λ l. subst (λ (z : ℕ). Stands flow z x v) (sym same) stood;
-            one = inl refl;
-          })
+          set = λ w. absurd (not_both flow from x (subst (λ (z : ℕ). Sets flow z x) same w) leaves);
+          left = λ l. subst (λ (z : ℕ). Stands flow z x v) (sym same) stood;
+          one = inl refl;
+        })
         by false k = (let c = comes q e in record { set = c.set; left = c.left; one = c.one })
 
     by_that_edge : Stands flow p x v
     by_that_edge = Stands.alike p x v chosen
-        (record { by_set = λ q e w. (chosen_is q e).set w; by_edge = λ q e. (chosen_is q e).one; by_entry = one_entry;
-          some = inl (from, edge, ap (λ (b : Bool). cond b v (comes from edge).version) (eq-eqb from from refl)) })
+        (record {
+          by_set = λ q e w. (chosen_is q e).set w;
+          by_edge = λ q e. (chosen_is q e).one;
+          by_entry = one_entry;
+          some = inl (from, edge, ap (λ (b : Bool). cond b v (comes from edge).version) (eq-eqb from from refl));
+        })
         (λ q e l. (chosen_is q e).left l)
 
   -- where it comes by an edge from a point that sets it

@@ -2,7 +2,7 @@
 use Rattle.std.proofs.Common.{◌≡◌, ◌⊎◌, inl, inr, ℕ, refl, sym, subst, ap, ◌∙◌}
 use Rattle.flow_code.specs.Points.{PlainFlow}
 use Rattle.loose_sets.specs.Reaching.{at_point, at_entry}
-use Rattle.loose_sets.specs.Versions.{PlainVersion, of_definition, join_at, Edge, Leaves, IsOneVersion, Stands}
+use Rattle.loose_sets.specs.Versions.{PlainVersion, join_at, Edge, Leaves, IsOneVersion, Stands}
 use Rattle.loose_sets.proofs.Exact.{no_join}
 
 same_point : (p x h y : ℕ) → join_at p x ≡ join_at h y → p ≡ h

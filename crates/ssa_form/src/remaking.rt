@@ -83,11 +83,7 @@ pub fn put_versions(
 }
 
 // Puts the versions in the places of others behind a row.
-fn settle_all(
-    placed: Placed<'_>,
-    links: &[Version],
-    row: &mut Vec<Version>,
-) -> Result<(), NoMemory>
+fn settle_all(placed: Placed<'_>, links: &[Version], row: &mut Vec<Version>) -> Result<(), NoMemory>
     requires empty { row.old.items ≡ [] }
     ensures { OnOk result ((flow : PlainFlow)
         → ArePut flow placed.entry.asks.now.keys placed.entry.places.now

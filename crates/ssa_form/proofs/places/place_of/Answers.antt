@@ -1,6 +1,5 @@
-use Rattle.std.proofs.Common.{◌≡◌, ℕ, Some, refl, sym, subst, slice_get}
+use Rattle.std.proofs.Common.{◌≡◌, Some, refl, sym, subst, slice_get}
 use Rattle.flow_graph.proofs.HeadLemmas.{looked}
-use Rattle.loose_sets.specs.Versions.{join_at}
 use Rattle.ssa_form.specs.declared.version.Version.{Version}
 use Rattle.ssa_form.specs.Views.{version_seen}
 use Rattle.ssa_form.specs.Replacing.{Replaces}

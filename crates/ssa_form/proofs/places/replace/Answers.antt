@@ -1,4 +1,4 @@
-use Rattle.std.proofs.Common.{◌≡◌, ℕ, List, Some, sym, subst, slice_get}
+use Rattle.std.proofs.Common.{List, sym, subst, slice_get}
 use Rattle.ssa_form.specs.declared.version.Version.{Version}
 use Rattle.loose_sets.specs.Versions.{join_at}
 use Rattle.ssa_form.specs.Views.{version_seen, versions_seen}

@@ -1,5 +1,4 @@
 use Rattle.std.proofs.Common.{sym, subst}
-use Rattle.loose_sets.specs.Versions.{PlainVersion}
 use Rattle.ssa_form.specs.declared.version.Version.{Version}
 use Rattle.ssa_form.specs.declared.places.Seen.{Seen}
 use Rattle.ssa_form.specs.Views.{version_seen}

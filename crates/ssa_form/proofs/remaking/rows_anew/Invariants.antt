@@ -1,4 +1,4 @@
-use Rattle.std.proofs.Common.{◌≡◌, ◌≤◌, ◌-◌, ℕ, length}
+use Rattle.std.proofs.Common.{◌≤◌, ◌-◌, ℕ, length}
 use Rattle.std.specs.Prelude.{Contains}
 use Rattle.numbered_sets.specs.Numbers.{Keeps}
 use Rattle.flow_code.specs.Points.{PlainFlow}
