@@ -50,10 +50,11 @@ pub record ReplacesAll (flow : PlainFlow) (asks : List (ℕ × ℕ)) (us ws : Li
   pub few : length ws ≤ length us
 
 -- versions that are asked for are held in the place of those of a map: all that are held, and for so many entries of it at least
-pub record AreHeld {S T : Type 0} (flow : PlainFlow) (asks : List (ℕ × ℕ)) (old : IndexMap (ℕ × ℕ) Version S) (new : IndexMap (ℕ × ℕ) Version T)
-    (keys : List (ℕ × ℕ)) (n : ℕ) : Type 0 where
+pub record AreHeld {S T : Type 0} (flow : PlainFlow) (asks : List (ℕ × ℕ)) (old : IndexMap (ℕ × ℕ) Version S)
+    (new : IndexMap (ℕ × ℕ) Version T) (keys : List (ℕ × ℕ)) (n : ℕ) : Type 0 where
   pub each : (p x : ℕ) (w : Version) → held new p x ≡ Some w
-      → (v : Version) × (held old p x ≡ Some v) × Replaces flow asks (version_seen v) (version_seen w) × IsKept (asked_by keys) (version_seen w)
+      → (v : Version) × (held old p x ≡ Some v) × Replaces flow asks (version_seen v) (version_seen w)
+      × IsKept (asked_by keys) (version_seen w)
   pub all : (i : ℕ) (e : (ℕ × ℕ) × Version) → i < n → slice_get old.entries i ≡ Some e → held new e.0.0 e.0.1 ≢ None
   pub known : (p x : ℕ) → Contains keys (p, x) → Contains asks (p, x)
 

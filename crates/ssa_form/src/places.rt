@@ -25,7 +25,7 @@ const LOOKS: u64 = 16;
 const ROUNDS: u64 = 16;
 
 /// Which versions come to a join, but for the join itself.
-#[derive(Clone, Copy, Debug)]
+#[derive(Clone, Copy)]
 pub enum Seen {
     /// None so far.
     Nothing,

@@ -136,9 +136,9 @@ fn without_joins(alloc: Global, made: &Versions) -> Result<Versions, NoMemory>
 
 /// The versions of a program of points: one for each slot that a point reads, and the definitions
 /// behind it are exactly those that reach the point. Where all that comes to a point is one version,
-/// or has been there, that version stands for the slot in place of a join, but for loops deep within
-/// loops. Its steps are linear in the points, in what they read, and for each join in the edges into
-/// its point, also for those joins that are taken away.
+/// or has been there, that version stands for the slot and no join, but for loops deep in loops.
+/// Its steps are linear in the points, in what they read, and for each join in the edges into its
+/// point, also for joins that are taken away.
 pub fn ssa(alloc: Global, flow: &FlowProgram) -> Result<Versions, NoMemory>
     ensures exact { IfOk result (IsExact (plain_flow flow.now)) }
     ensures once { IfOk result AreOnce }
