@@ -140,8 +140,13 @@ fn replace(
     !is_same(before, version)
 }
 
-// The same for all joins, those first that were asked for last, and so stand farther back.
-fn replace_all(asks: &IndexSet<(u64, u64)>, rows: &JoinRows, places: &mut Vec<Version>) -> bool
+// The same for all joins in turn, or in turn from the last one.
+fn replace_all(
+    asks: &IndexSet<(u64, u64)>,
+    rows: &JoinRows,
+    places: &mut Vec<Version>,
+    from_last: bool,
+) -> bool
     requires len { length places.old.items ≡ length asks.now.keys }
     ensures len { length places.new.items ≡ length places.old.items }
     ensures put { (flow : PlainFlow) → AreLinked flow asks.now.keys (rows_in rows.now)
@@ -149,8 +154,9 @@ fn replace_all(asks: &IndexSet<(u64, u64)>, rows: &JoinRows, places: &mut Vec<Ve
 {
     let all = count(asks);
     let mut changed = false;
-    for back in 0..all {
-        let is_new = replace(asks, rows, places, all - 1 - back);
+    for step in 0..all {
+        let number = if from_last { all - 1 - step } else { step };
+        let is_new = replace(asks, rows, places, number);
         changed = changed || is_new;
     }
     changed
@@ -173,9 +179,10 @@ fn own_places(alloc: Global, asks: &IndexSet<(u64, u64)>) -> Result<Vec<Version>
 }
 
 /// A version in the place of each join, by its number: the join itself where several versions come
-/// to it. The joins are gone over until nothing changes, a constant number of times at most, so that
-/// it is linear in what they join. That no join is left that is one version is no promise: loops
-/// within loops may take more rounds.
+/// to it. The joins are gone over, back and forth in turn, since one asks for others that stand
+/// farther back and is asked for behind others that do; until nothing changes, and a constant number
+/// of times at most, so that it is linear in what they join. That no join is left that is one
+/// version is no promise: loops within loops may take more rounds.
 pub fn places_of(
     alloc: Global,
     asks: &IndexSet<(u64, u64)>,
@@ -186,10 +193,12 @@ pub fn places_of(
         → ArePut flow asks.now.keys places.items) }
 {
     let mut places = own_places(alloc, asks)?;
+    let mut from_last = true;
     for _ in 0..ROUNDS {
-        if !replace_all(asks, rows, &mut places) {
+        if !replace_all(asks, rows, &mut places, from_last) {
             return Ok(places);
         }
+        from_last = !from_last;
     }
     Ok(places)
 }
