@@ -43,7 +43,8 @@ pub record Enters (flow : PlainFlow) (f p x : ℕ) : Type 0 where
   pub own : IsOwnSlot function x
   pub entry : p ≡ function.entry_of
 
--- what comes to a point, by each edge this: it is one version or the join there itself, by each entry that version, and by one of them it
+-- all that comes to a point is one version: by each edge it comes, or the join at the point itself; by each entry it comes; and by one edge
+-- or entry it does
 pub record IsOneVersion (flow : PlainFlow) (p x : ℕ) (v : PlainVersion) (comes : (q : ℕ) → Edge flow q p → PlainVersion) : Type 0 where
   pub by_set : (q : ℕ) (e : Edge flow q p) → Sets flow q x → comes q e ≡ of_definition (at_point q)
   pub by_edge : (q : ℕ) (e : Edge flow q p) → (comes q e ≡ v) ⊎ (comes q e ≡ join_at p x)
@@ -51,7 +52,7 @@ pub record IsOneVersion (flow : PlainFlow) (p x : ℕ) (v : PlainVersion) (comes
   pub some : ((q : ℕ) × (e : Edge flow q p) × (comes q e ≡ v)) ⊎ ((f : ℕ) × Enters flow f p x)
 
 -- the version stands for the slot at the point: backwards from it by points with one edge into them, up to a point that sets the slot, or
--- to one where a join is made; or by all edges, where what comes by them is this version, or a join here
+-- to one where a join is made, or to one where all that comes is this version
 pub data Stands (flow : PlainFlow) : ℕ → ℕ → PlainVersion → Type 0 where
   here : (p x : ℕ) → Stands flow p x (join_at p x)
   set_before : (p q x : ℕ) → IsOnly flow p q → Sets flow q x → Stands flow p x (of_definition (at_point q))
