@@ -1,5 +1,5 @@
 -- The sets that rows name are among all names of the program.
-use Rattle.std.proofs.Common.{◌≡◌, ◌≤◌, ◌+◌, inl, inr, ℕ, zero, suc, Bool, true, false, if◌then◌else◌, List, [], ◌∷◌, ◌++◌, Option, Some, None, refl, sym, subst, ap, arith, slice_get, length, map}
+use Rattle.std.proofs.Common.{◌≡◌, ◌≤◌, ◌+◌, inl, inr, ℕ, zero, suc, Bool, true, false, if◌then◌else◌, List, [], ◌∷◌, ◌++◌, Option, Some, None, refl, sym, subst, ◌∙◌, ap, arith, slice_get, length, map}
 use Rattle.std.specs.Prelude.{⊤, Contains, flat_map}
 use Rattle.std.proofs.lemmas.Option.{slice_get_within}
 use Rattle.std.proofs.lemmas.List.Elements.{Contains-append_left, Contains-append_right, Contains-append_cases}
@@ -15,6 +15,7 @@ use Rattle.loose_sets.specs.Names.{Name, Aspect, Half, text_half, array_half, me
 use Rattle.loose_sets.specs.Reaching.{at_point, at_entry}
 use Rattle.loose_sets.specs.Table.{SetsTo, KeyText, SourceRow, Row, member_at, request_member}
 use Rattle.loose_sets.specs.Versions.{PlainVersion, of_definition, join_at, Stands, Link, IsKept, PlainJoin, asked_in, linked_in}
+use Rattle.loose_sets.proofs.Exact.{sets_or_leaves}
 use Rattle.least_sets.specs.Simulations.{Alike}
 use Rattle.loose_sets.specs.RowNames.{VersionName, value_of, members_of, shown_of, unversioned, Versioned, by_version, is_use, ReadsSlot, IsRead}
 use Rattle.loose_sets.specs.Rows.{VersionRow}
@@ -97,6 +98,13 @@ module _ (flow : PlainFlow) (versions : Versions) (exact : IsExact flow versions
   stands_there _ _ _ (Stands.here p x) kept = joined_key asks (rows_of versions) p x kept
   stands_there _ _ _ (Stands.set_before p q x only set) kept = (set.point, set.there)
   stands_there _ _ _ (Stands.left_before p q x v only leaves stands) kept = stands_there q x v stands kept
+  stands_there _ _ _ (Stands.alike p x v comes one stands) kept = elim one.some [
+    | inl k ↦ elim (sets_or_leaves flow k.0 p x k.1) [
+      | inl w ↦ subst (λ (u : PlainVersion). IsThere u) (sym (one.by_set k.0 k.1 w) ∙ k.2) (w.point, w.there)
+      | inr l ↦ subst (λ (u : PlainVersion). IsThere u) k.2 (stands_there k.0 x (comes k.0 k.1) (stands k.0 k.1 l) (subst (λ (u : PlainVersion). IsKept (asked_in (joins_of versions)) u) (sym k.2) kept))
+    ]
+    | inr k ↦ subst (λ (u : PlainVersion). IsThere u) (sym (one.by_entry k.0 k.1)) (k.1.function, k.1.there, k.1.own)
+  ]
 
   link_there : (p x : ℕ) (v : PlainVersion) → Link flow p x v → IsKept (asked_in (joins_of versions)) v → IsThere v
   link_there _ _ _ (Link.from_set p q x edge set) kept = (set.point, set.there)

@@ -1,6 +1,8 @@
--- Versions of a slot at a point, and the definitions behind them (static single assignment: Cytron and others, 1991, but with a join at
--- each point that does not only go on from the one before it, so that no dominators are needed).
-use Rattle.std.specs.Prelude.{◌≡◌, ◌≢◌, ⊤, ℕ, List, Some, Contains}
+-- Versions of a slot at a point, and the definitions behind them (static single assignment: Cytron and others, 1991, but a join may stand
+-- at each point that does not only go on from the one before it, so that no dominators are needed; where all that comes to a join is one
+-- version, or that join itself, the version stands for it: Braun and others, Simple and Efficient Construction of Static Single Assignment
+-- Form, 2013, 3.1).
+use Rattle.std.specs.Prelude.{◌≡◌, ◌≢◌, ◌⊎◌, ⊤, ℕ, List, Some, Contains}
 use Rattle.flow_code.specs.Points.{PlainPoint, PlainFlowFunction, PlainFlow, point_at, function_at}
 use Rattle.flow_code.specs.Lawful.{sets, nexts, IsOwnSlot}
 use Rattle.loose_sets.specs.Reaching.{Definition, at_point, at_entry}
@@ -34,12 +36,29 @@ pub record IsOnly (flow : PlainFlow) (p before : ℕ) : Type 0 where
   pub alone : (q : ℕ) → Edge flow q p → q ≡ before
   pub inside : (f : ℕ) (g : PlainFlowFunction) → function_at flow f ≡ Some g → p ≡ g.entry_of → ⊥
 
+-- a function that has the slot of its own is entered at the point
+pub record Enters (flow : PlainFlow) (f p x : ℕ) : Type 0 where
+  pub function : PlainFlowFunction
+  pub there : function_at flow f ≡ Some function
+  pub own : IsOwnSlot function x
+  pub entry : p ≡ function.entry_of
+
+-- all that comes to a point is one version: by each edge it comes, or the join at the point itself; by each entry it comes; and by one edge
+-- or entry it does
+pub record IsOneVersion (flow : PlainFlow) (p x : ℕ) (v : PlainVersion) (comes : (q : ℕ) → Edge flow q p → PlainVersion) : Type 0 where
+  pub by_set : (q : ℕ) (e : Edge flow q p) → Sets flow q x → comes q e ≡ of_definition (at_point q)
+  pub by_edge : (q : ℕ) (e : Edge flow q p) → (comes q e ≡ v) ⊎ (comes q e ≡ join_at p x)
+  pub by_entry : (f : ℕ) → Enters flow f p x → v ≡ of_definition (at_entry f x)
+  pub some : ((q : ℕ) × (e : Edge flow q p) × (comes q e ≡ v)) ⊎ ((f : ℕ) × Enters flow f p x)
+
 -- the version stands for the slot at the point: backwards from it by points with one edge into them, up to a point that sets the slot, or
--- to one where a join is made
+-- to one where a join is made, or to one where all that comes is this version
 pub data Stands (flow : PlainFlow) : ℕ → ℕ → PlainVersion → Type 0 where
   here : (p x : ℕ) → Stands flow p x (join_at p x)
   set_before : (p q x : ℕ) → IsOnly flow p q → Sets flow q x → Stands flow p x (of_definition (at_point q))
   left_before : (p q x : ℕ) (v : PlainVersion) → IsOnly flow p q → Leaves flow q x → Stands flow q x v → Stands flow p x v
+  alike : (p x : ℕ) (v : PlainVersion) (comes : (q : ℕ) → Edge flow q p → PlainVersion) → IsOneVersion flow p x v comes
+      → ((q : ℕ) (e : Edge flow q p) → Leaves flow q x → Stands flow q x (comes q e)) → Stands flow p x v
 
 -- what a join of a slot at a point joins: a version for each edge into it, and the entry's where a function is entered there
 pub data Link (flow : PlainFlow) : ℕ → ℕ → PlainVersion → Type 0 where

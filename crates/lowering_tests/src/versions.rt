@@ -33,7 +33,8 @@ fn behind(
     Ok(found)
 }
 
-// Whether exactly these definitions of slot 0 are behind what a point of a script reads of it.
+// Whether exactly these definitions of slot 0 are behind what a point of a script reads of it; and
+// one alone with no join between.
 fn has_behind(
     alloc: Global,
     text: &str,
@@ -51,6 +52,7 @@ fn has_behind(
     let found = behind(alloc, &versions, version)?;
     Ok(
         found.len() == wanted.len()
+            && (wanted.len() != 1 || versions.links(version).is_empty())
             && wanted
                 .iter()
                 .all(|definition| found.as_slice().contains(definition)),
@@ -85,6 +87,16 @@ fn definitions_that_reach(rt: HostRuntime) -> Result<(), Fail> {
             "<?php $x = 'a'; while (isset($_GET['b'])) { echo $x; $x = 'c'; } echo $x;",
             11,
             [Some(1), Some(9)].as_slice(),
+        ),
+        (
+            "<?php $x = 'a'; if (isset($_GET['a'])) { $y = 'b'; } echo $x;",
+            9,
+            [Some(1)].as_slice(),
+        ),
+        (
+            "<?php $x = 'a'; while (isset($_GET['b'])) { echo $x; } echo $x;",
+            6,
+            [Some(1)].as_slice(),
         ),
     ] {
         assert!(rt; has_behind(rt.alloc(), text, point, wanted)?, "{text}");

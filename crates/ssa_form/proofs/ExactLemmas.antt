@@ -12,13 +12,13 @@ use Rattle.numbered_sets.specs.Numbers.{AreDifferent}
 use Rattle.numbered_sets.specs.Places.{ArePlaces}
 use Rattle.flow_graph.specs.Arrivals.{target}
 use Rattle.flow_code.specs.Points.{PlainFlowFunction, PlainFlow, function_at}
-use Rattle.flow_code.specs.Lawful.{sets, IsOwnSlot}
+use Rattle.flow_code.specs.Lawful.{IsOwnSlot}
 use Rattle.flow_graph.specs.declared.arrivals.Arrival.{Arrival}
 use Rattle.flow_graph.specs.declared.arrivals.Arrival.TheVariants.{Edge as of_edge, Entry as of_entry}
 use Rattle.flow_graph.specs.Steps.{PlainStep}
 use Rattle.loose_sets.specs.Reaching.{Definition, at_point, at_entry, Reaches}
 use Rattle.loose_sets.specs.Versions.{PlainVersion, of_definition, join_at, Edge, Sets, Leaves, Stands, Link, IsKept, AreLinks, PlainJoin, asked_in, linked_in, Behind}
-use Rattle.loose_sets.proofs.Exact.{exact}
+use Rattle.loose_sets.proofs.Exact.{set_or_not, not_both, exact}
 use Rattle.ssa_form.specs.declared.marks.Marks.{Marks}
 use Rattle.ssa_form.specs.declared.version.Version.{Version}
 use Rattle.ssa_form.specs.declared.versions.Versions.{Versions}
@@ -33,24 +33,13 @@ use Rattle.flow_graph.specs.Found.{number_in}
 use Rattle.ssa_form.proofs.BehindLemmas.{is_before}
 use Rattle.ssa_form.proofs.HeadLemmas.{is_first}
 use Rattle.ssa_form.proofs.EdgeLemmas.{edge_listed, entry_listed, listed, listed_edge, only_from, no_first, step_at, is_point}
-use Rattle.ssa_form.proofs.MarkLemmas.{set_or_not, step_on}
+use Rattle.ssa_form.proofs.MarkLemmas.{step_on}
+use Rattle.ssa_form.proofs.ThroughLemmas.{stands_through}
 use Rattle.ssa_form.proofs.ReadLemmas.{contains_at, at_contains, in_one, kept_more, joins_at, joins_slot}
 use Rattle.ssa_form.proofs.FewLemmas.{arrivals_few, joined_few}
 
 none_of : {X : Type 0} (x : X) → Contains [] x → ⊥
 none_of x c = let h = c.1 in omega arith
-
--- a version that stands at a point stands wherever the join of that point does
-stands_through : (flow : PlainFlow) (h : ℕ) (v : PlainVersion) (q x : ℕ) (u : PlainVersion) → Stands flow q x u → u ≡ join_at h x → Stands flow h x v → Stands flow q x v
-stands_through flow h v _ _ _ (Stands.here p x) e s = subst (λ (z : ℕ). Stands flow z x v) (sym (same_point p x e)) s
-  where
-    same_point : (p x : ℕ) → join_at p x ≡ join_at h x → p ≡ h
-    same_point p x e = cc
-stands_through flow h v _ _ _ (Stands.set_before p q x only set) e s = absurd (no_join e)
-  where
-    no_join : of_definition (at_point q) ≡ join_at h x → ⊥
-    no_join e = cc
-stands_through flow h v _ _ _ (Stands.left_before p q x w only leaves stands) e s = Stands.left_before p q x v only leaves (stands_through flow h v q x w stands e s)
 
 leaving_through : (flow : PlainFlow) (h : ℕ) (v : PlainVersion) (q x : ℕ) (u : PlainVersion) → Leaving flow q x u → u ≡ join_at h x → Stands flow h x v → Leaving flow q x v
 leaving_through flow h v _ _ _ (Leaving.set q x set) e s = absurd (no_join q x e)
@@ -141,9 +130,6 @@ slot_own g x own = let a = own.least in let d = own.most in
   where
     le_true : (n m : ℕ) → n ≤ m → nat_le n m ≡ true
     le_true n m h = elim (leb_tells n m) [ inl k ↦ k.0 | inr k ↦ absurd (let e = k.1 in omega arith) ]
-
-not_both : (flow : PlainFlow) (q x : ℕ) → Sets flow q x → Leaves flow q x → ⊥
-not_both flow q x w p = p.not_it (subst (λ z. sets z ≡ Some x) (same_Some w.point p.point (sym w.there ∙ p.there)) w.it)
 
 module _ (flow : PlainFlow) (steps : List PlainStep) (all : List (ℕ × Arrival)) (heads : List ℕ) (graph : IsGraph flow steps all heads) (marks : Marks) (are : AreMarked flow heads marks (length steps))
     (lists : List (Vec ℕ Global)) (places : ArePlaces (map target all) lists) (most : ℕ) (asks : List (ℕ × ℕ)) (rows : List (List Version))

@@ -1,7 +1,5 @@
 -- Joins that are asked for, and their rows.
 use Rattle.std.proofs.Common.{◌≡◌, ◌≤◌, ◌<◌, ◌+◌, ◌⊎◌, inl, inr, ℕ, zero, suc, Bool, true, false, if◌then◌else◌, List, [], ◌∷◌, ◌++◌, length, take, get_or, Option, Some, None, refl, sym, subst, ◌∙◌, ap, arith, slice_get, Contains, length-append}
-use Rattle.std.proofs.Math.Seq.{take-suc}
-use Rattle.std.proofs.lemmas.List.{map-append}
 use Rattle.std.proofs.lemmas.Option.{same_Some, slice_get_within}
 use Rattle.std.proofs.lemmas.List.Elements.{Contains-append_left, Contains-append_right, Contains-append_cases}
 use Rattle.numbered_sets.specs.Numbers.{Keeps}
@@ -17,6 +15,7 @@ use Rattle.ssa_form.specs.Marks.{asked_by}
 use Rattle.ssa_form.specs.Rows.{link_of, link_from, link_into, owns, IsRow}
 use Rattle.ssa_form.specs.Joins.{AsksFor, AreFirst, AreRows}
 use Rattle.ssa_form.proofs.ReadLemmas.{contains_at, contains_kept, in_one, kept_more}
+use Rattle.ssa_form.proofs.RowLemmas.{seen_longer}
 
 none_of : {X : Type 0} (x : X) → Contains [] x → ⊥
 none_of x c = let h = c.1 in omega arith
@@ -48,10 +47,7 @@ asks_one old new v kept keeps adds = record {
 pub asks_more : (old mid new : List (ℕ × ℕ)) (row : List Version) (i : ℕ) (d : Version) → i < length row → AsksFor old mid (versions_seen (take i row)) → IsKept (asked_by new) (version_seen (get_or row i d)) → Keeps mid new
     → ((k : ℕ × ℕ) → Contains new k → Contains mid k ⊎ (version_seen (get_or row i d) ≡ join_at k.0 k.1)) → AsksFor old new (versions_seen (take (i + 1) row))
 asks_more old mid new row i d within before kept keeps adds =
-    let next : i + 1 ≡ suc i = omega arith in
-    let longer : versions_seen (take (i + 1) row) ≡ versions_seen (take i row) ++ version_seen (get_or row i d) ∷ [] =
-    ap versions_seen (ap (λ (n : ℕ). take n row) next ∙ take-suc row i d within) ∙ map-append version_seen (take i row) (get_or row i d ∷ []) in
-    subst (λ (vs : List PlainVersion). AsksFor old new vs) (sym longer) (asks_both old mid new (versions_seen (take i row)) (version_seen (get_or row i d) ∷ []) before (asks_one mid new (version_seen (get_or row i d)) kept keeps adds))
+    subst (λ (vs : List PlainVersion). AsksFor old new vs) (sym (seen_longer row i d within)) (asks_both old mid new (versions_seen (take i row)) (version_seen (get_or row i d) ∷ []) before (asks_one mid new (version_seen (get_or row i d)) kept keeps adds))
 
 pub keeps_length : {X : Type 0} (old new : List X) → Keeps old new → length old ≤ length new
 keeps_length {X} old new keeps = by (length old) refl

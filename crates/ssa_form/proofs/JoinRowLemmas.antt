@@ -1,6 +1,6 @@
 -- Rows in one list: one row more, a look at one, and rows without what comes twice.
 use Rattle.std.proofs.Common.{◌≡◌, ◌<◌, ◌+◌, inl, inr, ℕ, zero, suc, List, [], ◌∷◌, ◌++◌, length, take, drop, get_or, Option, Some, None, refl, sym, subst, ◌∙◌, ap, arith, slice_get, Contains, append_assoc}
-use Rattle.std.proofs.Math.Seq.{take-suc, drop-append_seam, take-length}
+use Rattle.std.proofs.Math.Seq.{drop-append_seam, take-length}
 use Rattle.std.proofs.lemmas.List.{take-append-le, append-nil, map-append, length-append, length-map}
 use Rattle.std.proofs.lemmas.Option.{same_Some}
 use Rattle.std.proofs.lemmas.List.Elements.{Contains-append_left, Contains-append_right, Contains-append_cases}
@@ -13,6 +13,7 @@ use Rattle.ssa_form.specs.Rows.{IsRow}
 use Rattle.ssa_form.specs.Joins.{AsksFor}
 use Rattle.ssa_form.specs.JoinRows.{rows_cut, ends_before, AreEnds, IsRowOf, PutsOne}
 use Rattle.ssa_form.proofs.ReadLemmas.{in_one}
+use Rattle.ssa_form.proofs.RowLemmas.{seen_longer}
 
 -- one row more
 pub rows_push : (vs row : List Version) (from n : ℕ) (ends : List ℕ) → AreEnds (length vs) from ends → n ≡ length (vs ++ row) → rows_cut (vs ++ row) from (ends ++ n ∷ []) ≡ rows_cut vs from ends ++ row ∷ []
@@ -68,7 +69,7 @@ put_none old = record {
 pub put_more : (old mid new versions : List Version) (i : ℕ) (d : Version) (before : Option Version) → i < length versions → PutSoFar old mid (versions_seen (take i versions)) before → PutsOne mid new before (get_or versions i d)
     → PutSoFar old new (versions_seen (take (i + 1) versions)) (Some (get_or versions i d))
 put_more old mid new versions i d before within so puts =
-    subst (λ (us : List PlainVersion). PutSoFar old new us (Some v)) (sym longer) (elim puts [
+    subst (λ (us : List PlainVersion). PutSoFar old new us (Some v)) (sym (seen_longer versions i d within)) (elim puts [
       | inl e ↦ record {
         row = so.row ++ v ∷ [];
         is = e ∙ ap (λ (us : List Version). us ++ v ∷ []) so.is ∙ append_assoc old so.row (v ∷ []);
@@ -109,9 +110,6 @@ put_more old mid new versions i d before within so puts =
 
     firsts : List PlainVersion
     firsts = versions_seen (take i versions)
-
-    longer : versions_seen (take (i + 1) versions) ≡ firsts ++ version_seen v ∷ []
-    longer = let next : i + 1 ≡ suc i = omega arith in ap versions_seen (ap (λ (n : ℕ). take n versions) next ∙ take-suc versions i d within) ∙ map-append version_seen (take i versions) (get_or versions i d ∷ [])
 
     last : (u : Version) → Some v ≡ Some u → Contains (firsts ++ version_seen v ∷ []) (version_seen u)
     last u e = Contains-append_right firsts (version_seen v ∷ []) (version_seen u) (subst (λ (w : Version). Contains (version_seen v ∷ []) (version_seen w)) (same_Some v u e) (one_of (version_seen v)))

@@ -8,6 +8,7 @@ use Rattle.flow_code.specs.Points.{PlainPoint, PlainFlow, point_at}
 use Rattle.flow_code.specs.Lawful.{sets, reads}
 use Rattle.flow_graph.specs.Steps.{PlainStep}
 use Rattle.loose_sets.specs.Versions.{PlainVersion, join_at, IsOnly, Stands}
+use Rattle.loose_sets.proofs.Exact.{set_or_not}
 use Rattle.ssa_form.specs.declared.marks.Marks.{Marks}
 use Rattle.ssa_form.specs.declared.version.Version.{Version}
 use Rattle.ssa_form.specs.Views.{version_seen, held}
@@ -49,13 +50,6 @@ noted_some old new head p y e = record {
 pub step_on : (flow : PlainFlow) (p b x : ℕ) (v : PlainVersion) → IsOnly flow p b → Leaving flow b x v → Stands flow p x v
 step_on flow p b x v only (Leaving.set q y s) = Stands.set_before p q y only s
 step_on flow p b x v only (Leaving.left q y u l s) = Stands.left_before p q y u only l s
-
-pub set_or_not : (o : Option ℕ) (x : ℕ) → (o ≡ Some x) ⊎ (o ≢ Some x)
-set_or_not None x = inr (λ e. absurd (no x e))
-  where
-    no : (x : ℕ) → None ≡ Some x → ⊥
-    no x e = cc
-set_or_not (Some y) x = elim (eqb_tells y x) [ inl k ↦ inl (ap (λ (z : ℕ). Some z) k.1) | inr k ↦ inr (λ e. k.1 (same_Some y x e)) ]
 
 module _ (flow : PlainFlow) (heads : List ℕ) (head p : ℕ) (step : PlainStep) (old mid new : Marks) (is : IsPoint flow heads head p step) (are : AreMarked flow heads old p)
     (read : Reads old mid head p step.reads_of) (noted : IsNoted mid new head p step.sets_of) where

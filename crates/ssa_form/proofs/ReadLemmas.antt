@@ -44,12 +44,12 @@ kept_more old new (of_definition d) more k = k
 kept_more old new (join_at p x) more k = more p x k
 
 -- what a map holds after one more was put in
-cases_put : {A : Type 0} (b c : Bool) (new old : Option A) (a : A) → new ≡ cond (b && c) (Some a) old → ((b ≡ true) × (c ≡ true) × (new ≡ Some a)) ⊎ (new ≡ old)
+pub cases_put : {A : Type 0} (b c : Bool) (new old : Option A) (a : A) → new ≡ cond (b && c) (Some a) old → ((b ≡ true) × (c ≡ true) × (new ≡ Some a)) ⊎ (new ≡ old)
 cases_put true true new old a e = inl (refl, refl, e)
 cases_put true false new old a e = inr e
 cases_put false c new old a e = inr e
 
-no_none : {A : Type 0} (a : A) (o : Option A) → o ≡ Some a → o ≢ None
+pub no_none : {A : Type 0} (a : A) (o : Option A) → o ≡ Some a → o ≢ None
 no_none a o e n = absurd (cc)
 
 pub one_read : (old new : Marks) (head point slot : ℕ) (v : Version) → new.last ≡ old.last → version_seen v ≡ found_in old.last head slot → IsKept (asked_by new.asks.keys) (version_seen v)

@@ -1,5 +1,5 @@
 -- What comes by the arrivals at a point.
-use Rattle.std.proofs.Common.{◌≡◌, ◌≤◌, ◌+◌, ◌<◌, ◌⊎◌, inl, inr, ℕ, suc, List, [], ◌∷◌, ◌++◌, map, flat_map, length, Option, Some, None, refl, sym, subst, ◌∙◌, ap, arith, append_assoc, slice_get, Contains, Bool, true, false, true≢false, if◌then◌else◌}
+use Rattle.std.proofs.Common.{◌≡◌, ◌≤◌, ◌+◌, ◌<◌, ◌⊎◌, inl, inr, ℕ, suc, List, [], ◌∷◌, ◌++◌, map, flat_map, length, take, get_or, Option, Some, None, refl, sym, subst, ◌∙◌, ap, arith, append_assoc, slice_get, Contains, Bool, true, false, true≢false, if◌then◌else◌}
 use Rattle.std.specs.Prelude.{ltb}
 use Rattle.std.specs.Option.{option_map}
 use Rattle.std.proofs.lemmas.Bool.Decides.{leb_tells}
@@ -8,6 +8,7 @@ use Rattle.std.specs.declared.vec.Vec.{Vec}
 use Rattle.std.specs.declared.alloc.Global.{Global}
 use Rattle.std.proofs.lemmas.List.{append-nil, map-append, length-append}
 use Rattle.std.proofs.lemmas.Option.{same_Some, slice_get-map, slice_get_past}
+use Rattle.std.proofs.Math.Seq.{take-suc}
 use Rattle.std.proofs.lemmas.List.Elements.{Contains-append_left, Contains-append_right, Contains-append_cases}
 use Rattle.numbered_sets.specs.Places.{ArePlaces, AreInOrder}
 use Rattle.flow_code.specs.Points.{PlainFlowFunction}
@@ -125,3 +126,9 @@ as_it_was old us e = sym (ap (λ (ws : List PlainVersion). old ++ ws) e ∙ appe
 -- nothing stands where a look finds nothing
 pub looked_past : {X : Type 0} (xs : List X) (i : ℕ) → false ≡ ltb i (length xs) → slice_get xs i ≡ None
 looked_past xs i past = slice_get_past xs i (elim (leb_tells (suc i) (length xs)) [ inl k ↦ absurd (true≢false (sym k.0 ∙ sym past)) | inr k ↦ omega arith ])
+
+-- one more of a slice
+pub seen_longer : (links : List Version) (i : ℕ) (d : Version) → i < length links → versions_seen (take (i + 1) links) ≡ versions_seen (take i links) ++ version_seen (get_or links i d) ∷ []
+seen_longer links i d within =
+    let next : i + 1 ≡ suc i = omega arith in
+    ap versions_seen (ap (λ (n : ℕ). take n links) next ∙ take-suc links i d within) ∙ map-append version_seen (take i links) (get_or links i d ∷ [])

@@ -2,6 +2,7 @@ pub mod Behind
 pub mod JoinRows
 pub mod Joins
 pub mod Marks
+pub mod Replacing
 pub mod Rows
 pub mod Slots
 pub mod Versions

@@ -57,8 +57,8 @@ fn is_same_definition(one: Definition, other: Definition) -> bool
     }
 }
 
-// Are both the same version?
-fn is_same(one: Version, other: Version) -> bool
+/// Are both the same version?
+pub fn is_same(one: Version, other: Version) -> bool
     ensures { result ≡ true → one ≡ other }
 {
     match (one, other) {

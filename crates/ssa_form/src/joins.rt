@@ -1,26 +1,29 @@
 //! The joins that are asked for, each with what it joins.
 
-ghost use Rattle.std.specs.Prelude.{◌≡◌, ◌<◌, ◌+◌, ℕ, List, map, length, vec_len, Some, Contains, slice_get, IfOk, OnOk};
+ghost use Rattle.std.specs.Prelude.{◌≡◌, ◌↔◌, ◌<◌, ◌+◌, ℕ, List, map, length, vec_len, Some, Contains, slice_get, IfOk, IfSome, IfNone, OnOk};
 ghost use Rattle.flow_code.specs.View.{plain_flow_function};
 ghost use Rattle.numbered_sets.specs.Numbers.{Keeps};
 ghost use Rattle.numbered_sets.specs.Places.{ArePlaces, AreInOrder};
 ghost use Rattle.flow_graph.specs.Arrivals.{target};
+ghost use Rattle.flow_graph.specs.Found.{number_in};
+ghost use Rattle.loose_sets.specs.Versions.{PlainVersion, linked_in};
 ghost use Rattle.ssa_form.specs.Views.{versions_seen};
 ghost use Rattle.ssa_form.specs.JoinRows.{rows_in, AreEnds};
 ghost use Rattle.ssa_form.specs.Behind.{behind_rows};
 ghost use Rattle.ssa_form.specs.Joins.{AsksFor, AreFirst, AreRows};
+ghost use Rattle.ssa_form.specs.Versions.{joins_in, row_of};
 
 use crate::join_rows::JoinRows;
 use crate::marks::ask;
 use crate::rows::{Found, put_row};
 use crate::version::Version;
 use indexmap::IndexSet;
-use numbered_sets::count;
+use numbered_sets::{count, number_of};
 use std::alloc::Global;
 use text_base::NoMemory;
 
-// Asks for the versions of a row.
-fn ask_all(asks: &mut IndexSet<(u64, u64)>, row: &[Version]) -> Result<(), NoMemory>
+/// Asks for the versions of a row.
+pub fn ask_all(asks: &mut IndexSet<(u64, u64)>, row: &[Version]) -> Result<(), NoMemory>
     ensures { OnOk result (AsksFor asks.old.keys asks.new.keys (versions_seen row.now)) }
 {
     for version in row {
@@ -29,8 +32,8 @@ fn ask_all(asks: &mut IndexSet<(u64, u64)>, row: &[Version]) -> Result<(), NoMem
     Ok(())
 }
 
-// The join of a number.
-fn join_of(asks: &IndexSet<(u64, u64)>, number: usize) -> (u64, u64)
+/// The join of a number.
+pub fn join_of(asks: &IndexSet<(u64, u64)>, number: usize) -> (u64, u64)
     requires { number < length asks.now.keys }
     ensures { slice_get asks.now.keys number ≡ Some result }
 {
@@ -38,6 +41,36 @@ fn join_of(asks: &IndexSet<(u64, u64)>, number: usize) -> (u64, u64)
         Some(join) => *join,
         None => (0, 0),
     }
+}
+
+// The number of a join, if it is asked for.
+fn row_number(asks: &IndexSet<(u64, u64)>, point: u64, slot: u64) -> Option<usize>
+    ensures some { IfSome result (λ n. slice_get asks.now.keys n ≡ Some (point, slot)) }
+    ensures none { IfNone result (Contains asks.now.keys (point, slot) → ⊥) }
+    ensures number { result ≡ number_in asks.now.keys point slot }
+{
+    let _count = count(asks);
+    number_of(asks, &(point, slot))
+}
+
+/// The versions that the join of a slot at a point joins; none where it is not asked for. In
+/// constant time.
+pub fn joined<'a>(
+    asks: &IndexSet<(u64, u64)>,
+    rows: &'a JoinRows,
+    point: u64,
+    slot: u64,
+) -> &'a [Version]
+    ensures exact { (v : PlainVersion) → Contains (versions_seen result.now) v
+        ↔ linked_in (joins_in asks.now.keys (rows_in rows.now)) point slot v }
+    ensures list { versions_seen result.now
+        ≡ row_of (rows_in rows.now) (number_in asks.now.keys point slot) }
+{
+    let _count = count(asks);
+    let Some(number) = row_number(asks, point, slot) else {
+        return &[];
+    };
+    rows.row(number)
 }
 
 // The next join, with what it joins, which is put in a list that is used for each of them.

@@ -56,8 +56,8 @@ pub fn ask(asks: &mut IndexSet<(u64, u64)>, version: Version) -> Result<(), NoMe
     }
 }
 
-// Holds a value for two numbers.
-fn put<T: Drop>(
+/// Holds a value for two numbers.
+pub fn put<T: Drop>(
     table: &mut IndexMap<(u64, u64), T>,
     first: u64,
     second: u64,

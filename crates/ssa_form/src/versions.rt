@@ -1,27 +1,28 @@
 //! The versions of a program of points.
 
-ghost use Rattle.std.specs.Prelude.{◌≡◌, ◌↔◌, Some, length, map, slice_get, vec_len, Contains, IfOk, IfSome, IfNone};
+ghost use Rattle.std.specs.Prelude.{◌≡◌, ◌↔◌, length, map, vec_len, Contains, IfOk};
 ghost use Rattle.std.specs.Option.{option_map};
 ghost use Rattle.flow_code.specs.Points.{PlainFlow};
 ghost use Rattle.flow_code.specs.View.{plain_flow_function, plain_flow};
 ghost use Rattle.numbered_sets.specs.Places.{ArePlaces, AreInOrder};
 ghost use Rattle.flow_graph.specs.Steps.{steps_seen};
 ghost use Rattle.flow_graph.specs.Arrivals.{target};
-ghost use Rattle.loose_sets.specs.Versions.{PlainVersion, linked_in};
+ghost use Rattle.loose_sets.specs.Versions.{PlainVersion};
 ghost use Rattle.ssa_form.specs.Views.{version_seen, versions_seen};
 ghost use Rattle.ssa_form.specs.Marks.{IsGraph};
-ghost use Rattle.flow_graph.specs.Found.{number_in};
-ghost use Rattle.ssa_form.specs.Versions.{joins_of, version_of, IsLinked, IsExact, joined_by, links_of, AreOnce, AreJoins};
+ghost use Rattle.ssa_form.specs.Versions.{joins_of, version_of, IsLinked, IsExact, links_of, AreOnce, AreJoins};
 
 use crate::join_rows::JoinRows;
-use crate::joins::rows_of;
+use crate::joins::{joined, rows_of};
 use crate::marks::marks_of;
+use crate::places::places_of;
+use crate::remaking::{Placed, put_versions, rows_anew};
 use crate::rows::Found;
 use crate::version::Version;
 use flow_code::{FlowFunction, FlowProgram};
 use flow_graph::{Arrivals, Step, arrivals_of, heads_of, steps_of};
 use indexmap::{IndexMap, IndexSet};
-use numbered_sets::{count, number_of};
+use numbered_sets::count;
 use std::alloc::Global;
 use text_base::{NoMemory, Point, Slot};
 
@@ -35,16 +36,6 @@ pub struct Versions {
     versions: IndexMap<(u64, u64), Version>,
     asks: IndexSet<(u64, u64)>,
     rows: JoinRows,
-}
-
-// The number of a join, if it is asked for.
-fn row_number(asks: &IndexSet<(u64, u64)>, point: Point, slot: Slot) -> Option<usize>
-    ensures some { IfSome result (λ n. slice_get asks.now.keys n ≡ Some (point.0, slot.0)) }
-    ensures none { IfNone result (Contains asks.now.keys (point.0, slot.0) → ⊥) }
-    ensures number { result ≡ number_in asks.now.keys point.0 slot.0 }
-{
-    let _count = count(asks);
-    number_of(asks, &(point.0, slot.0))
 }
 
 impl Versions {
@@ -66,20 +57,7 @@ impl Versions {
         let Version::Join { point, slot } = version else {
             return &[];
         };
-        self.joined(point, slot)
-    }
-
-    // The versions that the join of a slot at a point joins.
-    fn joined(&self, point: Point, slot: Slot) -> &[Version]
-        ensures exact { (v : PlainVersion)
-            → Contains (versions_seen result.now) v ↔ linked_in (joins_of self.now) point.0 slot.0 v }
-        ensures list { versions_seen result.now ≡ joined_by self.now point.0 slot.0 }
-    {
-        let _count = count(&self.asks);
-        let Some(number) = row_number(&self.asks, point, slot) else {
-            return &[];
-        };
-        self.rows.row(number)
+        joined(&self.asks, &self.rows, point.0, slot.0)
     }
 }
 
@@ -120,7 +98,8 @@ fn versions_of(
     })
 }
 
-// The versions of a program of points.
+// The versions of a program of points, with a join for each slot that is read behind a point with
+// several edges.
 fn exact_versions(alloc: Global, flow: &FlowProgram) -> Result<Versions, NoMemory>
     ensures exact { IfOk result (IsExact (plain_flow flow.now)) }
     ensures joins { IfOk result (AreJoins (plain_flow flow.now)) }
@@ -131,15 +110,42 @@ fn exact_versions(alloc: Global, flow: &FlowProgram) -> Result<Versions, NoMemor
     versions_of(alloc, &flow.functions, &steps, &arrivals, &heads)
 }
 
+// The versions without joins that are no more than one version.
+fn without_joins(alloc: Global, made: &Versions) -> Result<Versions, NoMemory>
+    ensures exact { IfOk result (λ versions. (flow : PlainFlow) → IsExact flow made.now
+        → AreJoins flow made.now → IsExact flow versions) }
+    ensures joins { IfOk result (λ versions. (flow : PlainFlow) → IsExact flow made.now
+        → AreJoins flow made.now → AreJoins flow versions) }
+{
+    let _count = count(&made.asks);
+    let places = places_of(alloc, &made.asks, &made.rows)?;
+    let placed = Placed {
+        asks: &made.asks,
+        rows: &made.rows,
+        places: &places,
+    };
+    let mut asks = IndexSet::new(alloc);
+    let versions = put_versions(alloc, &made.versions, placed, &mut asks)?;
+    let rows = rows_anew(alloc, placed, &mut asks)?;
+    Ok(Versions {
+        versions,
+        asks,
+        rows,
+    })
+}
+
 /// The versions of a program of points: one for each slot that a point reads, and the definitions
-/// behind it are exactly those that reach the point. Its steps are linear in the points, in what
-/// they read, and for each join in the edges into its point.
+/// behind it are exactly those that reach the point. Where all that comes to a point is one version,
+/// or has been there, that version stands for the slot and no join, but for loops deep in loops.
+/// Its steps are linear in the points, in what they read, and for each join in the edges into its
+/// point, also for joins that are taken away.
 pub fn ssa(alloc: Global, flow: &FlowProgram) -> Result<Versions, NoMemory>
     ensures exact { IfOk result (IsExact (plain_flow flow.now)) }
     ensures once { IfOk result AreOnce }
     ensures joins { IfOk result (AreJoins (plain_flow flow.now)) }
 {
-    let versions = exact_versions(alloc, flow)?;
+    let made = exact_versions(alloc, flow)?;
+    let versions = without_joins(alloc, &made)?;
     let _count = count(&versions.asks);
     Ok(versions)
 }
