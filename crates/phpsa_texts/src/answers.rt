@@ -1,7 +1,8 @@
 //! Of what is answered: for a script, for the scripts of a list, for a page.
 
 ghost use Rattle.std.specs.Prelude.{◌≡◌, ◌++◌, IfOk, map, string_bytes};
-ghost use Rattle.site_check.specs.Report.{report};
+ghost use Rattle.std.specs.List.{list_any};
+ghost use Rattle.site_check.specs.Report.{is_no, is_refused, is_undecided, report};
 ghost use Rattle.phpsa_texts.specs.Statuses.{conclusion_status, judgment_status, site_status};
 ghost use Rattle.phpsa_texts.specs.Texts.{Says, conclusion_word, judgment_text, no_answer, no_text, passed_answer, passed_json, passed_text, sums_text, summary_text, yes_answer};
 ghost use Rattle.phpsa_texts.specs.declared.exit.Exit.TheVariants.{Done, No, Undecided};
@@ -218,15 +219,36 @@ pub fn judgment_message(alloc: Global, is_valid: bool) -> Result<Message, NoMemo
     Ok(Message { status, text })
 }
 
+/// Whether one of the lines tells of a page that is not good.
+fn has_no(lines: &[Line]) -> bool
+    ensures { result ≡ list_any is_no lines.now }
+{
+    lines.iter().any(|line| line.is_no())
+}
+
+/// Whether one of the lines tells of a script that is not decided.
+fn has_undecided(lines: &[Line]) -> bool
+    ensures { result ≡ list_any is_undecided lines.now }
+{
+    lines.iter().any(|line| line.is_undecided())
+}
+
+/// Whether one of the lines tells of a script that is refused.
+fn has_refused(lines: &[Line]) -> bool
+    ensures { result ≡ list_any is_refused lines.now }
+{
+    lines.iter().any(|line| line.is_refused())
+}
+
 /// The status of a report with these lines.
 fn site_status(lines: &[Line]) -> Exit
     ensures { result ≡ site_status lines.now }
 {
-    if lines.iter().any(|line| line.is_no()) {
+    if has_no(lines) {
         Exit::No
-    } else if lines.iter().any(|line| line.is_undecided()) {
+    } else if has_undecided(lines) {
         Exit::Undecided
-    } else if lines.iter().any(|line| line.is_refused()) {
+    } else if has_refused(lines) {
         Exit::Site
     } else {
         Exit::Done
