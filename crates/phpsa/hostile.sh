@@ -2,14 +2,14 @@
 # Runs the program on inputs that are made to want much of it: definitions whose content models want many states, pairs or
 # references, nests at every limit, files that are no files, and names that are no words. Prints for each call its status, its
 # processor seconds and the most memory that it took. A call fails where its status is none of those that are named with it,
-# where it takes over 10 seconds or over 1 GB, or where it does not end within 8 MiB of stack. The program is the one that
+# where it takes over 10 seconds or over 1 GB, or where it does not end within 1 MiB of stack. The program is the one that
 # ./phpsa would run, built first where there is none. No test of the gate runs this.
 #
-# usage: hostile.sh [STACK]    each call has STACK kilobytes of stack (8192 by default)
+# usage: hostile.sh [STACK]    each call has STACK kilobytes of stack (1024 by default)
 
 top=$(cd -- "$(dirname -- "$0")/../.." && pwd)
 program=$("$top/phpsa" --program) || exit
-stack=${1:-8192}
+stack=${1:-1024}
 seconds=10
 kilobytes=1048576
 room=$(mktemp -d)
@@ -91,7 +91,8 @@ head -c 1048000 /dev/zero | tr '\0' ' ' >wide.dtd
 printf '<!ELEMENT html EMPTY><!ENTITY %% w SYSTEM "wide.dtd">%s' "$(times 200000 '%w;')" >often.dtd
 row 10 page page.php --dtd often.dtd
 
-# Nests at the limits: statements and expressions 200 high, brackets, programs 1,000 high by their includes, 256 files.
+# Nests at the limits: statements and expressions 200 high, brackets, programs 1,000 high by their includes, also with an
+# expression 190 high at the bottom, 256 files; and a path of 100,000 keys.
 nested() { printf '<?php %s%s%s' "$(times "$2" "$3")" "$4" "$(times "$2" "$5")" >"$1"; }
 nested if.php 196 "if (isset(\$_GET['a'])) { " "echo 'a'; " '} '
 nested while.php 196 "while (isset(\$_GET['a'])) { " "echo 'a'; " '} '
@@ -100,14 +101,31 @@ printf '<?php echo %s"a"%s;' "$(times 190 'strtoupper(')" "$(times 190 ')')" >ca
 printf "<?php echo %s\$_GET['a']%s;" "$(times 190 "('b' . ")" "$(times 190 ')')" >joins.php
 printf "<?php echo %s\$_GET['a'];" "$(times 195 '!')" >nots.php
 printf "<?php \$a%s = 'b'; echo 'c';" "$(times 190 "['k']")" >path.php
-for ((n = 1; n < 6; n++)); do
-  nested "deep$n.php" 190 "if (isset(\$_GET['a'])) { " "$([ $n = 5 ] && printf "echo 'a'; " || printf "include 'deep%d.php'; " $((n + 1)))" '} '
-  nested "turns$n.php" 190 "while (isset(\$_GET['a'])) { " "$([ $n = 5 ] && printf "echo 'a'; " || printf "include 'turns%d.php'; " $((n + 1)))" '} '
-done
+# chain NAME FILES COUNT OPENER INSIDE CLOSER: so many files with 196 openers each, each around the include of the next, and
+# behind them a file with COUNT of them around INSIDE
+chain() {
+  local n
+  for ((n = 1; n <= $2; n++)); do nested "$1$n.php" 196 "$4" "include '$1$((n + 1)).php'; " "$6"; done
+  nested "$1$n.php" "$3" "$4" "$5" "$6"
+}
+chain deep 5 16 "if (isset(\$_GET['a'])) { " "echo 'a'; " '} '
+chain turns 5 16 "while (isset(\$_GET['a'])) { " "echo 'a'; " '} '
+chain until 5 16 'do { ' "echo 'a'; " "} while (isset(\$_GET['a'])); "
+chain count 5 17 'for ($i = 0; $i < 1; $i++) { ' "echo 'a'; " '} '
+chain each 5 17 'foreach ($_GET as $k => $v) { ' "echo 'a'; " '} '
+deeper() { chain "$1" 4 0 "if (isset(\$_GET['a'])) { " "$2" '} '; }
+deeper and "echo 'a'$(times 190 " && 'a'");"
+deeper there "echo \$a$(times 190 ' ?? $a');"
+deeper choice "echo $(times 190 '$a ? $a : (')'a'$(times 190 ')');"
+deeper call "echo $(times 190 'strtoupper(')'a'$(times 190 ')');"
+deeper array "\$a = $(times 190 '[')'a'$(times 190 ']');"
+deeper member "echo \$a$(times 190 "['k']");"
+deeper update "$(times 95 '$a[')1$(times 95 '] .= 1');"
 for ((n = 1; n < 250; n++)); do
   nested "many$n.php" 2 "if (isset(\$_GET['a'])) { " "$([ $n = 249 ] && printf "echo 'a'; " || printf "include 'many%d.php'; " $((n + 1)))" '} '
 done
-for script in if while else calls joins nots path deep1 turns1 many1; do
+printf '<?php $a%s = 1;' "$(times 100000 '[1]')" >long.php
+for script in if while else calls joins nots path deep1 turns1 until1 count1 each1 and1 there1 choice1 call1 array1 member1 update1 many1 long; do
   for command in check grammar run; do
     row 0,1,2,3,4,11 $command $script.php
   done

@@ -1,4 +1,5 @@
-//! Statements that have no body.
+//! Statements that have no body. None is inlined, so that none of their values keeps room on the
+//! stack while bodies are lowered.
 
 ghost use Rattle.std.specs.Prelude.{◌≡◌, ◌+◌, IfOk, OnOk};
 ghost use Rattle.php_syntax.specs.Trees.{plain_expr, exprs_of, maybe_of};

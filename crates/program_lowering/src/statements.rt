@@ -1,6 +1,7 @@
 //! Statements that have bodies, and statements in a row.
 //!
-//! What stands behind a statement that cannot complete normally is left out.
+//! What stands behind a statement that cannot complete normally is left out. The kinds of statements
+//! are not inlined into one another, so that each level takes the stack of its own kind alone.
 
 ghost use Rattle.std.specs.Prelude.{◌≡◌, IfOk, OnOk, List};
 ghost use Rattle.php_syntax.specs.Trees.{plain_expr, plain_stmt, stmts_of, arms_of, exprs_of, maybe_of};
