@@ -11,8 +11,8 @@ returns-in-Ok-clause-answered g c =
     (g.F.Files.content c.args.files.now) c.args.name.now (table_of c.args.self.now.dtd.now) c.args.self.now.goal c.args.self.now.limit c.in-Ok.answer c.line_of.result
     c.decide_by.ensures.leads c.in-Ok.ensures.decides c.line_of.ensures
 
-pub returns-clause-answered : goal.returns-clause-answered
-returns-clause-answered g c =
+pub returns-in-Err-clause-answered : goal.returns-in-Err-clause-answered
+returns-in-Err-clause-answered g c =
     IfOk-weaker c.refused_line.result _ _
     (λ line is. line_refuses
     (source_call (g.F.Files.content c.decide_by.new.files) (g.F.Files.faults c.args.files.now) (g.F.Files.faults c.decide_by.new.files) (g.F.Files.misses c.args.files.now) (g.F.Files.misses c.decide_by.new.files) (g.F.Files.reads c.args.files.now) (g.F.Files.reads c.decide_by.new.files))
