@@ -57,7 +57,7 @@ PassesGrammarLimit program Undecided = (count : ℕ) × HasManyItems program cou
 PassesGrammarLimit program Input = HasLongText program
 PassesGrammarLimit program status = ⊥
 
--- the program that this name of a list has
+-- the program is one that a name of a list has
 pub record IsOfList (content : Content) (list : List ℕ) (program : PlainProgram) : Type 0 where
   pub name : List ℕ
   pub named : Contains (names_in list) name
@@ -73,7 +73,8 @@ IsListVerdict content goal table list No =
 IsListVerdict content goal table list Input = IsList list → ⊥
 IsListVerdict content goal table list status = ⊥
 
--- a script of a list is not decided: a limit is passed, or it is refused, by what was told and counted behind its own call
+-- a script of a list is not decided: a limit is passed, or it is refused, by what was told at some time and by some counts; that these are
+-- those of its own call, a report says (`AreLinesOf`)
 abbrev pub StopsAtScript : Content → Goal → Table → ℕ → List ℕ → Exit → Type 0
 StopsAtScript content goal table limit list Undecided =
     (program : PlainProgram) × IsOfList content list program × PassesScriptLimit goal table program limit Undecided
