@@ -33,9 +33,9 @@ Means content help_telling subject = ⊤
 Means content version_telling subject = ⊤
 Means content usage subject = ⊥
 
--- After status 0 so it is of the program, or the page, that the source holds under the file that the words ask for, by the document type
--- that they name, where the names that its
--- definition asks for are told of.
+-- After status 0 so it is of the program, the page or the list that the source holds under the file that the words ask for, by the document
+-- type that they name, where the names that its definition asks for are told of; of a script of the list whose files are not told, of some
+-- program that could be held.
 abbrev pub IsSound : Call → Exit → Type 0
 IsSound call status = status ≡ Done → (task : Task) (subject : Subject task) → AsksFor call.words task
     → Holds call.files.content task subject → Means call.files.content task subject

@@ -1,4 +1,4 @@
--- What a task speaks of: a program, or a page, that stands under the name of a file, and the table of a definition.
+-- What a task speaks of: a program, a page or a list, that stands under the name of a file, and the table of a definition.
 use Rattle.std.specs.Prelude.{◌⊎◌, ℕ, List, Contains, Some, codes, ⊤}
 use Rattle.io_edge.specs.Told.{Content, Tells}
 use Rattle.script_meaning.specs.Programs.{PlainProgram}

@@ -47,19 +47,19 @@ report [] lines = []
 report (name ∷ names) [] = []
 report (name ∷ names) (line ∷ lines) = object_of name line ++ 10 ∷ report names lines
 
--- one script may print a page that is not good
+-- a line tells of a page that is not good
 abbrev pub is_no : Line → Bool
 is_no (No len) = true
 is_no other = false
 
--- one is not decided, by a count that was passed
+-- a line tells of a count that was passed
 abbrev pub is_undecided : Line → Bool
 is_undecided (Pairs count height) = true
 is_undecided (Tags count height) = true
 is_undecided (Items count) = true
 is_undecided other = false
 
--- one is refused
+-- a line tells of a refusal
 abbrev pub is_refused : Line → Bool
 is_refused (Refused status text) = true
 is_refused other = false

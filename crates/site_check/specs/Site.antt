@@ -31,7 +31,7 @@ abbrev pub is_refused_by : ℕ → Line → Bool
 is_refused_by status (Refused by text) = nat_eq by status
 is_refused_by status other = false
 
--- how many lines are
+-- how many lines are refused by it
 abbrev pub refused_by : ℕ → List Line → ℕ
 refused_by status [] = 0
 refused_by status (line ∷ lines) = (if is_refused_by status line then 1 else 0) + refused_by status lines
