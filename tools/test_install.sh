@@ -273,7 +273,7 @@ for number in 1 2; do
   writes 'guests.php: no' out
 done
 
-# The commands of README: each answers as the comment beside it says, and the loop for a host passes over the mended sites.
+# The commands of README: each answers as the comment beside it says, and the step for a host passes over the mended sites.
 
 PATH=$(dirname "$installed"):$PATH
 cd "$top" || exit 1
@@ -282,11 +282,13 @@ sed -n 's/^    \((\?cd [^#]*)\|phpsa check [^#]*\) *# \(yes\|no\)\b.*/\2 \1/p' R
 while read -r answer words; do
   [ "$(eval "$words" | head -n 1)" = "$answer" ] || wrong "README says '$answer' of '$words'"
 done <"$room/said"
-awk '/^    for page in/ { is_in = 1 } is_in { print substr($0, 5) } /^    done/ { is_in = 0 }' README.md >"$room/loop"
+sed -n 's/^    \(ls \*\.php .*\)/\1/p' README.md >"$room/loop"
+[ -s "$room/loop" ] || wrong 'README has no step for a host'
 for folder in "$site"/list "$site"/form "$site"/board; do
-  cd "$folder/mended" || exit 1
+  cp -r "$folder" "$room/host.$(basename "$folder")"
+  cd "$room/host.$(basename "$folder")/mended" || exit 1
   ends 0 bash -e "$room/loop"
-  cd "$folder/bug" || exit 1
+  cd ../bug || exit 1
   ends 1 bash -e "$room/loop"
 done
 

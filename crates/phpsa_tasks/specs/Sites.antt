@@ -52,8 +52,8 @@ pub data IsLineFor (table : Table) (goal : Goal) (limit : ℕ) (content : Conten
   tells_refusal : (files : SourceCall) (status : Exit) (text : List ℕ) → files.content ≡ content → RefusesByTable files name table status text
       → (status ≡ Memory → ⊥) → line ≡ Refused (status_of status) (inside text) → IsLineFor table goal limit content name line
 
--- the lines for the names of a list, each of its own call, one behind another, up to the end of the whole call: whatever was told before the
--- first of them, no fault and no miss was counted before it
+-- the lines for the names of a list, each of its own call, one behind another, up to the end of the whole call: whatever was told before
+-- the first of them, no fault and no miss was counted before it
 abbrev pub AreLinesOf : SourceCall → Goal → ℕ → ListBy → List Line → Type 0
 AreLinesOf files goal limit subject lines =
     (before : Content) × AreAnswered (λ content name line. IsLineFor subject.table goal limit content name line)
