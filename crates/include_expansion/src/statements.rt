@@ -2,7 +2,7 @@
 
 ghost use Rattle.std.specs.Prelude.{◌≡◌, IfOk, OnOk};
 ghost use Rattle.php_syntax.specs.Trees.{plain_expr, plain_stmt, stmts_of, arms_of, exprs_of, maybe_of, if_stmt, while_stmt, do_while_stmt, for_stmt, each_stmt};
-ghost use Rattle.program_rules.specs.Expansion.{followed_by, with_bodies, with_bodies_in, with_bodies_in_arms};
+ghost use Rattle.program_rules.specs.Bodies.{followed_by, with_bodies, with_bodies_in, with_bodies_in_arms};
 ghost use Rattle.program_files.specs.View.{files_of};
 ghost use Rattle.include_expansion.specs.Within.{bodies_within};
 
@@ -45,7 +45,7 @@ fn expand_body(
 
 // Statements, behind others.
 #[cycle(expansion)]
-#[tactic(auto, using(crate::proofs::Followed::ends), unfolding(program_rules::specs::Expansion::with_bodies))]
+#[tactic(auto, using(crate::proofs::Followed::ends), unfolding(program_rules::specs::Bodies::with_bodies))]
 fn expand_stmts(
     alloc: Global,
     files: &ScriptFiles,
@@ -211,7 +211,7 @@ fn expand_each(
 
 // A statement in which others stand, with theirs replaced; others copied.
 #[cycle(expansion)]
-#[tactic(auto, using(php_syntax::proofs::Views::views, crate::proofs::Followed::ends), unfolding(program_rules::specs::Expansion::with_bodies))]
+#[tactic(auto, using(php_syntax::proofs::Views::views, crate::proofs::Followed::ends), unfolding(program_rules::specs::Bodies::with_bodies))]
 fn expand_stmt(
     alloc: Global,
     files: &ScriptFiles,

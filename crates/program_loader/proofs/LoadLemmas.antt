@@ -8,11 +8,11 @@ use Rattle.program_rules.specs.Includes.{Reads}
 use Rattle.program_rules.specs.Limits.{IsWithin}
 use Rattle.program_rules.specs.Programs.{ReadFile, AreRead, HasNoCycle, IsProgram}
 use Rattle.program_files.specs.declared.refusal.LoadRefusal.{LoadRefusal}
-use Rattle.program_files.specs.declared.refusal.LoadRefusal.TheVariants.{Missing, ReadFault, TooLong, Script, IncludeCycle, DoubleFunction, UnknownFunction, Arity, TooMany, Memory}
+use Rattle.program_files.specs.declared.refusal.LoadRefusal.TheVariants.{Missing, Outside, ReadFault, TooLong, Script, IncludeCycle, DoubleFunction, UnknownFunction, Arity, TooMany, Memory}
 use Rattle.program_files.specs.Order.{is_read, Reached}
 use Rattle.program_files.specs.Source.{SourceCall, HasTold}
 use Rattle.program_files.specs.Causes.{ReadsAll, StopsAt, IsReadCause}
-use Rattle.include_expansion.proofs.NameLemmas.{tree_there}
+use Rattle.program_files.proofs.NameLemmas.{tree_there}
 use Rattle.include_expansion.specs.Within.{tree_named, program_within, IsIncludeOrder, AreHeld}
 use Rattle.include_expansion.specs.FileOrder.{AreWhole, IsOrderCause}
 use Rattle.program_sizes.specs.Limits.{program_places}
@@ -116,6 +116,7 @@ by_order one was reading has call name files all (IncludeCycle path) (there, lea
     }
 by_order one was reading has call name files all Memory cause = (all.unfailed, all.unmissed)
 by_order one was reading has call name files all (Missing path) cause = absurd cause
+by_order one was reading has call name files all (Outside path) cause = absurd cause
 by_order one was reading has call name files all (ReadFault path) cause = absurd cause
 by_order one was reading has call name files all (TooLong path len) cause = absurd cause
 by_order one was reading has call name files all (Script path fault) cause = absurd cause
@@ -140,6 +141,7 @@ by_rules one was reading acyclic call name files all (UnknownFunction function) 
 by_rules one was reading acyclic call name files all (Arity function) b = broken one was reading acyclic call name files all (Arity function) b
 by_rules one was reading acyclic call name files all Memory b = (all.unfailed, all.unmissed)
 by_rules one was reading acyclic call name files all (Missing path) b = absurd b.cause
+by_rules one was reading acyclic call name files all (Outside path) b = absurd b.cause
 by_rules one was reading acyclic call name files all (ReadFault path) b = absurd b.cause
 by_rules one was reading acyclic call name files all (TooLong path len) b = absurd b.cause
 by_rules one was reading acyclic call name files all (Script path fault) b = absurd b.cause
@@ -161,6 +163,7 @@ by_size one was reading acyclic stand call name files all (TooMany count) p =
     })
 by_size one was reading acyclic stand call name files all Memory p = (all.unfailed, all.unmissed)
 by_size one was reading acyclic stand call name files all (Missing path) p = absurd p.cause
+by_size one was reading acyclic stand call name files all (Outside path) p = absurd p.cause
 by_size one was reading acyclic stand call name files all (ReadFault path) p = absurd p.cause
 by_size one was reading acyclic stand call name files all (TooLong path len) p = absurd p.cause
 by_size one was reading acyclic stand call name files all (Script path fault) p = absurd p.cause

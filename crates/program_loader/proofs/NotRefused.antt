@@ -27,7 +27,7 @@ use Rattle.program_files.specs.Causes.{NamesTooMany}
 use Rattle.program_files.specs.declared.refusal.ScriptRefusal.{ScriptRefusal}
 use Rattle.program_files.specs.declared.refusal.ScriptRefusal.TheVariants.{Lex, Parse}
 use Rattle.program_files.specs.declared.refusal.LoadRefusal.{LoadRefusal}
-use Rattle.program_files.specs.declared.refusal.LoadRefusal.TheVariants.{Missing, ReadFault, TooLong, Script, IncludeCycle, DoubleFunction, UnknownFunction, Arity, TooMany, Memory}
+use Rattle.program_files.specs.declared.refusal.LoadRefusal.TheVariants.{Missing, Outside, ReadFault, TooLong, Script, IncludeCycle, DoubleFunction, UnknownFunction, Arity, TooMany, Memory}
 use Rattle.program_sizes.specs.Limits.{PassesLimit}
 use Rattle.include_expansion.specs.FileCalls.{calls_in_files}
 use Rattle.program_sizes.specs.FileRules.{KeepFunctionRules}
@@ -121,6 +121,7 @@ no_rule_broken files (Arity name) rules (once, each, (call, is, named)) =
     absurd (not_true (serves_call (functions_in files) call) (rules.served call f.0) f.1)
 no_rule_broken files Memory rules free = refl
 no_rule_broken files (Missing name) rules none = absurd none
+no_rule_broken files (Outside name) rules none = absurd none
 no_rule_broken files (ReadFault name) rules none = absurd none
 no_rule_broken files (TooLong name len) rules none = absurd none
 no_rule_broken files (Script name fault) rules none = absurd none

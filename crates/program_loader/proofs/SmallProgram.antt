@@ -23,7 +23,8 @@ use Rattle.io_edge.specs.Told.{Content, untold, known}
 use Rattle.script_meaning.specs.Programs.{PlainProgram}
 use Rattle.program_rules.specs.Files.{Held, HasTree, HasOneTree}
 use Rattle.program_rules.specs.Includes.{Reads, itself, included, LeadsTo, directly, through, includes_in, includes_of_file}
-use Rattle.program_rules.specs.Expansion.{with_bodies, StandsFor, stands}
+use Rattle.program_rules.specs.Bodies.{with_bodies}
+use Rattle.program_rules.specs.Expansion.{StandsFor, stands}
 use Rattle.program_rules.specs.Limits.{one_each, HasPlaces, counted}
 use Rattle.program_rules.specs.Limits as limits
 use Rattle.program_rules.specs.Calls.{calls_of_program}

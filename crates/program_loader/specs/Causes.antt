@@ -6,7 +6,7 @@ use Rattle.program_rules.specs.Files.{Held, Agrees, HasTree}
 use Rattle.program_rules.specs.Includes.{Reads, LeadsTo}
 use Rattle.program_rules.specs.Programs.{ReadFile, AreRead, HasNoCycle, IsProgram}
 use Rattle.program_files.specs.declared.refusal.LoadRefusal.{LoadRefusal}
-use Rattle.program_files.specs.declared.refusal.LoadRefusal.TheVariants.{Missing, ReadFault, TooLong, Script, IncludeCycle, DoubleFunction, UnknownFunction, Arity, TooMany, Memory}
+use Rattle.program_files.specs.declared.refusal.LoadRefusal.TheVariants.{Missing, Outside, ReadFault, TooLong, Script, IncludeCycle, DoubleFunction, UnknownFunction, Arity, TooMany, Memory}
 use Rattle.program_files.specs.Order.{Reached}
 use Rattle.program_files.specs.Source.{SourceCall, so_many_more}
 use Rattle.program_files.specs.Causes.{IsReadCause}
