@@ -1,5 +1,5 @@
 -- Names among names, and members of lists.
-use Rattle.std.proofs.Common.{◌≡◌, ◌∙◌, ◌<◌, ℕ, zero, suc, Bool, true, false, List, [], ◌∷◌, ◌++◌, length, map, Some, None, Option, slice_get, get_or, inl, inr, refl, sym, ap, subst, arith}
+use Rattle.std.proofs.Common.{◌≡◌, ◌∙◌, ◌<◌, ◌≤◌, ℕ, zero, suc, Bool, true, false, List, [], ◌∷◌, ◌++◌, length, map, Some, None, Option, slice_get, get_or, inl, inr, refl, sym, ap, subst, arith}
 use Rattle.std.specs.Prelude.{◌⊎◌, ◌||◌, bytes_eq, if◌then◌else◌}
 use Rattle.std.specs.List.{Contains}
 use Rattle.std.proofs.lemmas.List.Elements.{Contains-append_right}
@@ -105,3 +105,47 @@ once_more names y once new i j x e f = elim (place_cases names y i x e) [
     | inr also ↦ last.0 ∙ sym also.0
   ]
 ]
+
+-- a list without the name at a place
+without : List (List ℕ) → ℕ → List (List ℕ)
+without [] i = []
+without (y ∷ ys) zero = ys
+without (y ∷ ys) (suc i) = y ∷ without ys i
+
+shorter : (ys : List (List ℕ)) (i : ℕ) → i < length ys → length ys ≡ suc (length (without ys i))
+unfolding without
+shorter [] i lt = absurd (omega (arith, lt))
+shorter (y ∷ ys) zero lt = refl
+shorter (y ∷ ys) (suc i) lt = ap suc (shorter ys i (omega (arith, lt)))
+
+still_there : (ys : List (List ℕ)) (i : ℕ) (x : List ℕ) → Contains ys x → (x ≡ get_or ys i x → ⊥) → Contains (without ys i) x
+unfolding without
+still_there [] i x c other = absurd (let h = c.1 in omega (arith, h))
+still_there (y ∷ ys) zero x (zero, lt, is) other = absurd (other (sym is))
+still_there (y ∷ ys) zero x (suc k, lt, is) other = (k, omega (arith, lt), is)
+still_there (y ∷ ys) (suc i) x (zero, lt, is) other = (0, omega arith, is)
+still_there (y ∷ ys) (suc i) x (suc k, lt, is) other = let r = still_there ys i x (k, omega (arith, lt), is) other in (suc r.0, (let h = r.1 in omega (arith, h)), r.2)
+
+at_some_place : (xs : List (List ℕ)) (x : List ℕ) → Contains xs x → (i : ℕ) × (slice_get xs i ≡ Some x)
+at_some_place [] x c = absurd (let h = c.1 in omega (arith, h))
+at_some_place (y ∷ ys) x (zero, lt, is) = (zero, ap Some is)
+at_some_place (y ∷ ys) x (suc k, lt, is) = let r = at_some_place ys x (k, omega (arith, lt), is) in (suc r.0, r.1)
+
+-- names that stand once, all of them among others, are no more than those
+pub once_within : (xs ys : List (List ℕ)) → StandOnce xs → ((x : List ℕ) → Contains xs x → Contains ys x) → length xs ≤ length ys
+once_within [] ys once within = omega arith
+once_within (x ∷ xs) ys once within =
+    let at = within x (contains_first x xs) in
+    let rest : (z : List ℕ) → Contains xs z → Contains (without ys at.0) z = λ z c.
+    still_there ys at.0 z (within z (Contains-append_right (x ∷ []) xs z c)) (λ same.
+      let p = at_some_place xs z c in
+      let is : x ≡ z = sym at.2 ∙ get_or_any ys at.0 x z at.1 ∙ sym same in
+      let both : 0 ≡ suc p.0 = once 0 (suc p.0) x refl (p.1 ∙ ap Some (sym is)) in omega (arith, both)) in
+    let less = once_within xs (without ys at.0) (λ i j z e f. (let s : suc i ≡ suc j = once (suc i) (suc j) z e f in omega (arith, s))) rest in
+    let size = shorter ys at.0 at.1 in
+    omega (arith, less, size)
+  where
+    get_or_any : (ys : List (List ℕ)) (i : ℕ) (d e : List ℕ) → i < length ys → get_or ys i d ≡ get_or ys i e
+    get_or_any [] i d e lt = absurd (omega (arith, lt))
+    get_or_any (y ∷ ys) zero d e lt = refl
+    get_or_any (y ∷ ys) (suc i) d e lt = get_or_any ys i d e (omega (arith, lt))

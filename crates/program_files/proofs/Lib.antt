@@ -11,3 +11,5 @@ pub mod Growing
 pub mod Reading
 pub mod Beginning
 pub mod Refusals
+pub mod Visits
+pub mod Loops
