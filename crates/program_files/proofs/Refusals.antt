@@ -60,7 +60,7 @@ stops content f f' f'' m m' m'' r r' r'' root name files missed i rest has path 
           | inl (own, last) ↦ inr (record {
             file = i.0;
             written = i.1;
-            is_read = reads_named call root name s has i named;
+            known = reads_named call root name s has i named;
             writes = writes_named call root name s has i named;
             place = own.3 ∙ ap (λ (x : List ℕ). beside x i.1) (sym (last_is call root name s has));
             found_as = refl;
@@ -103,7 +103,7 @@ next_so call root name files missed i rest has =
       file = i.0;
       next = found_name held i.0 i.1;
       reading = reading_of call root name s has;
-      is_read = reads_named call root name s has i named;
+      known = reads_named call root name s has i named;
       writes = writes_named call root name s has i named;
       next_is = refl;
       counted = has.counted ∙ ap (λ n. so_many_more (n + length missed) call.reads) (sym (size_of held files));

@@ -53,7 +53,7 @@ pub record ReadsAll (call : SourceCall) (root name : List ℕ) (files : List Rea
 pub record IsFirstPlace (held : Held) (files : List ReadFile) (path found : List ℕ) : Type 0 where
   pub file : List ℕ
   pub written : List ℕ
-  pub is_read : is_read files file ≡ true
+  pub known : is_read files file ≡ true
   pub writes : Writes held file written
   pub place : path ≡ beside held.main written
   pub found_as : found ≡ found_name held file written
@@ -79,7 +79,7 @@ pub record IsNext (call : SourceCall) (name written : List ℕ) : Type 0 where
   pub file : List ℕ
   pub next : List ℕ
   pub reading : IsReading call.content name files missed (next ∷ paths)
-  pub is_read : is_read files file ≡ true
+  pub known : is_read files file ≡ true
   pub writes : Writes reading.held file written
   pub next_is : next ≡ found_name reading.held file written
   pub counted : call.reads' ≡ so_many_more (length files + length missed) call.reads

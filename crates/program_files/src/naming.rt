@@ -17,6 +17,7 @@ use text_base::{Bytes, NoMemory};
 
 // Where the includes of a file are found: by the names that were read, the normal name of the
 // program's file, and that of the file itself.
+#[derive(Debug, Drop)]
 struct Naming<'a> {
     names: &'a IndexSet<Bytes>,
     main: &'a str,

@@ -12,6 +12,7 @@ use std::alloc::Global;
 use text_base::{Bytes, NoMemory, Stack};
 
 /// The folder that no include leaves, and the normal name of the program's file.
+#[derive(Debug, Drop)]
 pub(crate) struct Home<'a> {
     pub root: &'a str,
     pub main: &'a str,

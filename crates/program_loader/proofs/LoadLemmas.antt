@@ -242,7 +242,7 @@ named_so looked call name path stops = record {
   asks = elim stops.place [
     | inl same ↦ to_read path (subst (λ (x : List ℕ). Reads stops.reading.held (normal name) x) (sym same) (looked stops.reading.held (normal name) stops.files (stops.next ∷ stops.paths) stops.next stops.reading.reached (0, omega arith, refl)))
     | inr f ↦ subst (λ (x : List ℕ). Asks stops.reading.held (normal name) x) (sym f.place)
-        (first f.file f.written (file_reads stops.reading.held (normal name) stops.files (stops.next ∷ stops.paths) stops.reading.reached f.file f.is_read) f.writes)
+        (first f.file f.written (file_reads stops.reading.held (normal name) stops.files (stops.next ∷ stops.paths) stops.reading.reached f.file f.known) f.writes)
   ];
 }
 
@@ -252,7 +252,7 @@ written_so call name written n = record {
   main = n.reading.main;
   agrees = n.reading.agrees;
   file = n.file;
-  reads = file_reads n.reading.held (normal name) n.files (n.next ∷ n.paths) n.reading.reached n.file n.is_read;
+  reads = file_reads n.reading.held (normal name) n.files (n.next ∷ n.paths) n.reading.reached n.file n.known;
   writes = n.writes;
 }
 

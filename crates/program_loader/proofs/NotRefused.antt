@@ -109,7 +109,7 @@ none_outside : (call : SourceCall) (root name written : List ℕ) (p : PlainProg
 none_outside call root name written p h inside w (n, out) =
     let other : Held = n.reading.held in
     let same = same_so call.content name p h other n.reading.agrees n.reading.main in
-    let reads = reads_here h.held other (normal name) same n.file (file_reads other (normal name) n.files (n.next ∷ n.paths) n.reading.reached n.file n.is_read) in
+    let reads = reads_here h.held other (normal name) same n.file (file_reads other (normal name) n.files (n.next ∷ n.paths) n.reading.reached n.file n.known) in
     let writes = writes_here h.held other (normal name) same n.file written reads n.writes in
     let stays = inside n.file written reads writes in
     elim out [
