@@ -138,9 +138,9 @@ once_within (x ∷ xs) ys once within =
     let at = within x (contains_first x xs) in
     let rest : (z : List ℕ) → Contains xs z → Contains (without ys at.0) z = λ z c.
     still_there ys at.0 z (within z (Contains-append_right (x ∷ []) xs z c)) (λ same.
-      let p = at_some_place xs z c in
-      let is : x ≡ z = sym at.2 ∙ get_or_any ys at.0 x z at.1 ∙ sym same in
-      let both : 0 ≡ suc p.0 = once 0 (suc p.0) x refl (p.1 ∙ ap Some (sym is)) in omega (arith, both)) in
+    let p = at_some_place xs z c in
+    let is : x ≡ z = sym at.2 ∙ get_or_any ys at.0 x z at.1 ∙ sym same in
+    let both : 0 ≡ suc p.0 = once 0 (suc p.0) x refl (p.1 ∙ ap Some (sym is)) in omega (arith, both)) in
     let less = once_within xs (without ys at.0) (λ i j z e f. (let s : suc i ≡ suc j = once (suc i) (suc j) z e f in omega (arith, s))) rest in
     let size = shorter ys at.0 at.1 in
     omega (arith, less, size)

@@ -78,7 +78,7 @@ main_read content f f' m m' r r' root name bytes tree text told script counted u
       once = λ i j x e g. absurd (cc);
       named = named_with_file [] path tree [] (λ i c. absurd (no_include i c));
       settled = λ g written c own. inl (subst (λ (x : ReadFile). Contains (includes_of_file x.tree) written → Contains (written_in path tree ++ []) (x.name, written)) (only_file file g c)
-          (λ mine. (Contains-append_left (written_in path tree) [] (path, written) (contains_map (λ (w : List ℕ). (path, w)) (includes_of_file tree) written mine)) own);
+          (λ mine. Contains-append_left (written_in path tree) [] (path, written) (contains_map (λ (w : List ℕ). (path, w)) (includes_of_file tree) written mine)) own);
       texts = λ x e. ap is_utf8 (only_read file x e) ∙ text;
       counted = counted;
       few = omega arith;

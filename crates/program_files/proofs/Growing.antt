@@ -44,7 +44,7 @@ named_with_file files path tree rest named i c = elim (Contains-append_cases (wr
       let w = contains_of_map (λ (written : List ℕ). (path, written)) (includes_of_file tree) i own in
       let file : ReadFile = record { name = path; tree = tree } in
       subst (λ (j : Include). IsNamedIn (files ++ file ∷ []) j) w.2 (file, (Contains-append_right files (file ∷ []) file (0, omega arith, refl), (refl, w.1)))
-    )
+      )
   | inr old ↦ (let n = named i old in (n.0, Contains-append_left files (record { name = path; tree = tree } ∷ []) n.0 n.1, n.2, n.3))
 ]
 
@@ -98,17 +98,17 @@ file_more content f f' f'' m m' m'' r r' r'' root name files missed i rest has p
             let h = has.scripts g old in
             let same = keeps g.name (inl (there_read files g old)) in
             (script_kept has.held held' g.name g.tree same h.0, subst (λ (o : Option (List ℕ)). Tells (content g.name) o) (sym same) h.1)
-          )
+            )
         | inr last ↦ subst (λ (x : ReadFile). HasScript held' x.name x.tree × Tells (content x.name) (held'.bytes x.name)) last
             (record { bytes = bytes; tokens = script.tokens; is_held = here; cut = script.cut; spelled = script.spelled; within = script.within }, subst (λ (o : Option (List ℕ)). Tells (content path) o) (sym here) told)
       ];
       not_there = λ x e. (
-        let h = has.not_there x e in
-        (h.0, keeps x (inr e) ∙ h.1, subst (λ (a : List ℕ). IsPlace a (state (files ++ file ∷ []) missed (written_in path tree ++ rest)) x) (sym main) (place_with_file has.held.main files file missed (i ∷ rest) (written_in path tree ++ rest) x h.2))
-      );
+          let h = has.not_there x e in
+          (h.0, keeps x (inr e) ∙ h.1, subst (λ (a : List ℕ). IsPlace a (state (files ++ file ∷ []) missed (written_in path tree ++ rest)) x) (sym main) (place_with_file has.held.main files file missed (i ∷ rest) (written_in path tree ++ rest) x h.2))
+          );
       reached = λ other m same.
-        let old : SameAsked has.held other (state files missed (i ∷ rest)) = λ x asked. same x (asked_with_file files file missed x asked) ∙ keeps x asked in
-        reached_more (source_call content f f' m m' r r') root name files missed i rest has path bytes tree place unread script other (m ∙ main) old (same path (inl (now_read files tree path)) ∙ here);
+          let old : SameAsked has.held other (state files missed (i ∷ rest)) = λ x asked. same x (asked_with_file files file missed x asked) ∙ keeps x asked in
+          reached_more (source_call content f f' m m' r r') root name files missed i rest has path bytes tree place unread script other (m ∙ main) old (same path (inl (now_read files tree path)) ∙ here);
       once = has.once;
       named = named_with_file files path tree rest (λ j c. has.named j (later i j rest c));
       settled = λ g written c own. subst (λ (a : List ℕ). Contains (written_in path tree ++ rest) (g.name, written) ⊎ IsFound root a (state (files ++ file ∷ []) missed (written_in path tree ++ rest)) (g.name, written)) (sym main)
@@ -147,10 +147,10 @@ miss_more content f f' f'' m m' m'' r r' r'' root name files missed i rest has p
       held = held';
       main = main ∙ has.main;
       scripts = λ g c. (
-        let h = has.scripts g c in
-        let same = keeps g.name (inl (there_read files g c)) in
-        (script_kept has.held held' g.name g.tree same h.0, subst (λ (o : Option (List ℕ)). Tells (content g.name) o) (sym same) h.1)
-      );
+          let h = has.scripts g c in
+          let same = keeps g.name (inl (there_read files g c)) in
+          (script_kept has.held held' g.name g.tree same h.0, subst (λ (o : Option (List ℕ)). Tells (content g.name) o) (sym same) h.1)
+          );
       not_there = λ x e. subst (λ (a : List ℕ). Tells (content x) None × (held'.bytes x ≡ None) × IsPlace a (state files (missed ++ path ∷ []) (i ∷ rest)) x) (sym main)
           (elim (among_cases missed path x e) [
             | inl old ↦ (let h = has.not_there x old in (h.0, keeps x (inr old) ∙ h.1, place_with_miss has.held.main files missed path (i ∷ rest) (i ∷ rest) x h.2))

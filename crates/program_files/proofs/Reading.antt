@@ -84,7 +84,7 @@ place_asked held name s reached scripts gone path p =
           let is : Reads held name (found_name held p.file.name p.written) =
           included p.file.name (found_name held p.file.name p.written) (with_found_names held p.file.name p.file.tree) f.0 f.1 (subst (λ (xs : List (List ℕ)). Contains xs (found_name held p.file.name p.written)) (sym paths) own) in
           to_read path (subst (λ (x : List ℕ). Reads held name x) named is)
-        )
+          )
     ]
 
 -- the source that answered so
@@ -114,14 +114,14 @@ reading_of call root name s has =
       agrees = agrees_at_last call root name s has;
       reached = reached;
       answered = λ path e. (
-        let read : is_read s.files path ≡ true = sym (read_found held s.files path) ∙ e in
-        subst (λ (o : Option (List ℕ)). Tells (call.content path) o) (sym (same_at_last call.content has.held s path (inl read))) (answered call root name s has path (inl read))
-      );
+          let read : is_read s.files path ≡ true = sym (read_found held s.files path) ∙ e in
+          subst (λ (o : Option (List ℕ)). Tells (call.content path) o) (sym (same_at_last call.content has.held s path (inl read))) (answered call root name s has path (inl read))
+          );
       not_there = λ path c. (
-        let miss : is_among s.missed path ≡ true = contains_among s.missed path c in
-        let h = has.not_there path miss in
-        (h.0, last_gone call root name s has path miss, place_asked held (normal name) s reached (last_script call root name s has) (last_gone call root name s has) path (subst (λ (m : List ℕ). IsPlace m s path) (sym main) h.2))
-      );
+          let miss : is_among s.missed path ≡ true = contains_among s.missed path c in
+          let h = has.not_there path miss in
+          (h.0, last_gone call root name s has path miss, place_asked held (normal name) s reached (last_script call root name s has) (last_gone call root name s has) path (subst (λ (m : List ℕ). IsPlace m s path) (sym main) h.2))
+          );
       once = has.once;
     }
 
@@ -206,12 +206,12 @@ all_found call root name files missed has few_missed =
       missed = missed;
       reading = reading_of call root name s has;
       settled = λ file c. (
-        let m = contains_of_map (found_file held) files file c in
-        subst (λ (g : ReadFile). HasSettledTree root held (found_files held files) missed g) m.2 (record {
-          tree = record { script = m.0.tree; has_script = last_script call root name s has m.0 m.1; found = refl };
-          settled = λ written own. settled_so call root name s has m.0.name written (is_found call root name files missed has m.0 written m.1 own);
-        })
-      );
+          let m = contains_of_map (found_file held) files file c in
+          subst (λ (g : ReadFile). HasSettledTree root held (found_files held files) missed g) m.2 (record {
+            tree = record { script = m.0.tree; has_script = last_script call root name s has m.0 m.1; found = refl };
+            settled = λ written own. settled_so call root name s has m.0.name written (is_found call root name files missed has m.0 written m.1 own);
+          })
+          );
       few = (let few = has.few in omega (arith, size, few));
       few_missed = few_missed;
       counted = has.counted ∙ ap (λ n. so_many_more (n + length missed) call.reads) (sym size);

@@ -66,9 +66,9 @@ stops content f f' f'' m m' m'' r r' r'' root name files missed i rest has path 
             found_as = refl;
           })
           | inr (miss, (two, own)) ↦ inl (
-            let gone = subst (λ (x : List ℕ). is_among missed (beside x i.1) ≡ true) (sym (last_is call root name s has)) miss.1 in
-            own.3 ∙ sym (found_second held i.0 i.1 two (last_gone call root name s has (beside held.main i.1) gone))
-          )
+              let gone = subst (λ (x : List ℕ). is_among missed (beside x i.1) ≡ true) (sym (last_is call root name s has)) miss.1 in
+              own.3 ∙ sym (found_second held i.0 i.1 two (last_gone call root name s has (beside held.main i.1) gone))
+              )
         ];
         unread = read_found held files path ∙ unread;
         unmissed = λ c. (let e : true ≡ false = sym (contains_among missed path c) ∙ unmissed in cc);
@@ -191,14 +191,16 @@ refused content f f' f'' m m' m'' r r' r'' root name files missed i rest has pat
     let more = miss_more content f f' f'' m m' m'' r r' r'' root name files missed i rest has path place unread unmissed told counted unfailed rises in
     let size = length-append missed (path ∷ []) in
     (says, one_too_many (source_call content f f'' m m'' r r'') root name (state files (missed ++ path ∷ []) (i ∷ rest)) more (omega (arith, size, few_missed, many)), unfailed ∙ has.unfailed)
-refused content f f' f'' m m' m'' r r' r'' root name files missed i rest has path place unread unmissed few_missed Memory (unfailed, inl calm) =
-    (record {
-      files = found_files (last_of (source_call content f f' m m' r r') root name (state files missed (i ∷ rest)) has) files;
-      missed = missed;
-      paths = found_paths (last_of (source_call content f f' m m' r r') root name (state files missed (i ∷ rest)) has) (i ∷ rest);
-      reading = reading_of (source_call content f f' m m' r r') root name (state files missed (i ∷ rest)) has;
-      misses = misses_same missed missed m m' m'' refl calm has.misses;
-    }, unfailed ∙ has.unfailed)
+refused content f f' f'' m m' m'' r r' r'' root name files missed i rest has path place unread unmissed few_missed Memory (unfailed, inl calm) = (
+  record {
+    files = found_files (last_of (source_call content f f' m m' r r') root name (state files missed (i ∷ rest)) has) files;
+    missed = missed;
+    paths = found_paths (last_of (source_call content f f' m m' r r') root name (state files missed (i ∷ rest)) has) (i ∷ rest);
+    reading = reading_of (source_call content f f' m m' r r') root name (state files missed (i ∷ rest)) has;
+    misses = misses_same missed missed m m' m'' refl calm has.misses;
+  },
+  unfailed ∙ has.unfailed,
+)
 refused content f f' f'' m m' m'' r r' r'' root name files missed i rest has path place unread unmissed few_missed Memory (unfailed, inr (told, (rises, counted))) =
     no_memory (source_call content f f'' m m'' r r'') root name (state files (missed ++ path ∷ []) (i ∷ rest)) (miss_more content f f' f'' m m' m'' r r' r'' root name files missed i rest has path place unread unmissed told counted unfailed rises)
 refused content f f' f'' m m' m'' r r' r'' root name files missed i rest has path place unread unmissed few_missed (Missing file) none = absurd none
@@ -256,17 +258,21 @@ missed_first content name told = record {
   where
     at_none : Held
     at_none = record { main = normal name; bytes = λ path. if bytes_eq (normal name) path then None else told_of (content path) }
+
     gone : at_none.bytes (normal name) ≡ None
     gone = ap (λ (b : Bool). if b then None else told_of (content (normal name))) (own_name (normal name))
+
     agrees : (path : List ℕ) → Allows (content path) (at_none.bytes path)
     agrees path = by (bytes_eq (normal name) path) refl
       where
         by : (b : Bool) → bytes_eq (normal name) path ≡ b → Allows (content path) (if b then None else told_of (content path))
         by true e = subst (λ (x : List ℕ). Allows (content x) None) (same_name (normal name) path e) (tells_allow (content (normal name)) None told)
         by false e = allows_it (content path)
+
     only : (path : List ℕ) → Contains (normal name ∷ []) path → normal name ≡ path
     only path (zero, lt, is) = is
     only path (suc k, lt, is) = absurd (omega (arith, lt))
+
     only_place : (i : ℕ) (x : List ℕ) → slice_get (normal name ∷ []) i ≡ Some x → i ≡ 0
     only_place zero x e = refl
     only_place (suc i) x e = absurd (cc)
@@ -288,13 +294,16 @@ refused_first content f f' m m' r r' root name path is (TooMany count) (says, (c
 refused_first content f f' m m' r r' root name path is (TooMany count) (says, (counted, (unfailed, inr (many, rest)))) = absurd (omega (arith, many))
 refused_first content f f' m m' r r' root name path is Memory (unfailed, inl calm) =
     (record { files = []; missed = []; paths = normal name ∷ []; reading = nothing_read content name; misses = calm }, unfailed)
-refused_first content f f' m m' r r' root name path is Memory (unfailed, inr (told, (rises, counted))) = (record {
-  files = [];
-  missed = normal name ∷ [];
-  paths = normal name ∷ [];
-  reading = missed_first content name (subst (λ (x : List ℕ). Tells (content x) None) is told);
-  misses = (m, (refl, rises));
-}, unfailed)
+refused_first content f f' m m' r r' root name path is Memory (unfailed, inr (told, (rises, counted))) = (
+  record {
+    files = [];
+    missed = normal name ∷ [];
+    paths = normal name ∷ [];
+    reading = missed_first content name (subst (λ (x : List ℕ). Tells (content x) None) is told);
+    misses = (m, (refl, rises));
+  },
+  unfailed,
+)
 refused_first content f f' m m' r r' root name path is (Missing file) none = absurd none
 refused_first content f f' m m' r r' root name path is (Outside file) none = absurd none
 refused_first content f f' m m' r r' root name path is (IncludeCycle file) none = absurd none

@@ -54,8 +54,7 @@ fn found_name(alloc: Global, naming: &Naming, written: &Bytes) -> Result<Bytes, 
 // Holds what stays as it is, while what stands beside it is changed.
 fn stays<T>(_part: &mut T)
     ensures { _part.new ≡ _part.old }
-{
-}
+{}
 
 // Gives each include among statements its found name.
 #[cycle(naming)]

@@ -78,7 +78,7 @@ missed_so scripts call root name files all read = record {
         let t = tree_there files path known in
         let has : HasTree all.reading.held path t.0 = (read.each (record { name = path; tree = t.0 }) t.1).1 in
         absurd (let both : Some has.has_script.bytes ≡ None = sym has.has_script.is_held ∙ gone in cc)
-      )
+        )
     | inr missed ↦ missed
   ];
   once = all.reading.once;

@@ -21,9 +21,11 @@ name_in-name_of-requires t c =
 
 pub name_in-loop-place-preserved : goal.name_in-loop-place-preserved
 name_in-loop-place-preserved t c =
-    let i = c.loop-place.invariant.1 in
-    (next_visited (placed_include c.args.naming.now.names.now.keys c.args.naming.now.main.now c.args.naming.now.file.now) c.loop-place.place c.loop-place.stmts.items c.index_mut.result.now c.name_of.new.stmt (omega (arith, c.loop-place-test.true, i.0, c.len-place-end.ensures)) c.index_mut.ensures.value c.in_ok-name_of.ensures
-    ∙ c.loop-place.invariant.0, (same_size c.loop-place.stmts.items c.loop-place.place c.name_of.new.stmt ∙ i.0, later_same c.args.stmts.now.items c.loop-place.stmts.items c.loop-place.place c.name_of.new.stmt i.1))
+    let i = c.loop-place.invariant.1 in (
+      next_visited (placed_include c.args.naming.now.names.now.keys c.args.naming.now.main.now c.args.naming.now.file.now) c.loop-place.place c.loop-place.stmts.items c.index_mut.result.now c.name_of.new.stmt (omega (arith, c.loop-place-test.true, i.0, c.len-place-end.ensures)) c.index_mut.ensures.value c.in_ok-name_of.ensures
+          ∙ c.loop-place.invariant.0,
+      (same_size c.loop-place.stmts.items c.loop-place.place c.name_of.new.stmt ∙ i.0, later_same c.args.stmts.now.items c.loop-place.stmts.items c.loop-place.place c.name_of.new.stmt i.1),
+    )
 
 pub name_in-returns : goal.name_in-returns
 name_in-returns t c =
@@ -40,9 +42,11 @@ name_in_arms-name_in-requires t c =
 
 pub name_in_arms-loop-place-preserved : goal.name_in_arms-loop-place-preserved
 name_in_arms-loop-place-preserved t c =
-    let i = c.loop-place.invariant.1 in
-    (next_arm_visited (placed_include c.args.naming.now.names.now.keys c.args.naming.now.main.now c.args.naming.now.file.now) c.loop-place.place c.loop-place.arms.items c.index_mut.result.now c.name_in.new.stmts (omega (arith, c.loop-place-test.true, i.0, c.len-place-end.ensures)) c.index_mut.ensures.value c.in_ok-name_in.ensures
-    ∙ c.loop-place.invariant.0, (same_size c.loop-place.arms.items c.loop-place.place (c.index_mut.result.now.0, c.name_in.new.stmts) ∙ i.0, later_same c.args.arms.now.items c.loop-place.arms.items c.loop-place.place (c.index_mut.result.now.0, c.name_in.new.stmts) i.1))
+    let i = c.loop-place.invariant.1 in (
+      next_arm_visited (placed_include c.args.naming.now.names.now.keys c.args.naming.now.main.now c.args.naming.now.file.now) c.loop-place.place c.loop-place.arms.items c.index_mut.result.now c.name_in.new.stmts (omega (arith, c.loop-place-test.true, i.0, c.len-place-end.ensures)) c.index_mut.ensures.value c.in_ok-name_in.ensures
+          ∙ c.loop-place.invariant.0,
+      (same_size c.loop-place.arms.items c.loop-place.place (c.index_mut.result.now.0, c.name_in.new.stmts) ∙ i.0, later_same c.args.arms.now.items c.loop-place.arms.items c.loop-place.place (c.index_mut.result.now.0, c.name_in.new.stmts) i.1),
+    )
 
 pub name_in_arms-returns : goal.name_in_arms-returns
 name_in_arms-returns t c =
