@@ -245,37 +245,38 @@ stops_first content f f' m m' r r' name path is counted = (
 )
 
 -- the file of the program is missed
+abbrev without_main : Content → List ℕ → Held
+without_main content name = record { main = normal name; bytes = λ path. if bytes_eq (normal name) path then None else told_of (content path) }
+
+main_gone : (content : Content) (name : List ℕ) → (without_main content name).bytes (normal name) ≡ None
+main_gone content name = ap (λ (b : Bool). if b then None else told_of (content (normal name))) (own_name (normal name))
+
+agrees_without : (content : Content) (name : List ℕ) → Tells (content (normal name)) None → (path : List ℕ) → Allows (content path) ((without_main content name).bytes path)
+agrees_without content name told path = by (bytes_eq (normal name) path) refl
+  where
+    by : (b : Bool) → bytes_eq (normal name) path ≡ b → Allows (content path) (if b then None else told_of (content path))
+    by true e = subst (λ (x : List ℕ). Allows (content x) None) (same_name (normal name) path e) (tells_allow (content (normal name)) None told)
+    by false e = allows_it (content path)
+
+only_name : (name path : List ℕ) → Contains (name ∷ []) path → name ≡ path
+only_name name path (zero, lt, is) = is
+only_name name path (suc k, lt, is) = absurd (omega (arith, lt))
+
+only_place : (name : List ℕ) (i : ℕ) (x : List ℕ) → slice_get (name ∷ []) i ≡ Some x → i ≡ 0
+only_place name zero x e = refl
+only_place name (suc i) x e = absurd (cc)
+
 missed_first : (content : Content) (name : List ℕ) → Tells (content (normal name)) None → IsReading content name [] (normal name ∷ []) (normal name ∷ [])
 missed_first content name told = record {
-  held = at_none;
+  held = without_main content name;
   main = refl;
-  agrees = agrees;
+  agrees = agrees_without content name told;
   reached = begun;
   answered = λ path e. absurd (cc);
-  not_there = λ path c. subst (λ (x : List ℕ). Tells (content x) None × (at_none.bytes x ≡ None) × Asks at_none (normal name) x) (only path c) (told, gone, to_read (normal name) itself);
-  once = λ i j x e f. only_place i x e ∙ sym (only_place j x f);
+  not_there = λ path c. subst (λ (x : List ℕ). Tells (content x) None × ((without_main content name).bytes x ≡ None) × Asks (without_main content name) (normal name) x) (only_name (normal name) path c)
+      (told, main_gone content name, to_read (normal name) itself);
+  once = λ i j x e f. only_place (normal name) i x e ∙ sym (only_place (normal name) j x f);
 }
-  where
-    at_none : Held
-    at_none = record { main = normal name; bytes = λ path. if bytes_eq (normal name) path then None else told_of (content path) }
-
-    gone : at_none.bytes (normal name) ≡ None
-    gone = ap (λ (b : Bool). if b then None else told_of (content (normal name))) (own_name (normal name))
-
-    agrees : (path : List ℕ) → Allows (content path) (at_none.bytes path)
-    agrees path = by (bytes_eq (normal name) path) refl
-      where
-        by : (b : Bool) → bytes_eq (normal name) path ≡ b → Allows (content path) (if b then None else told_of (content path))
-        by true e = subst (λ (x : List ℕ). Allows (content x) None) (same_name (normal name) path e) (tells_allow (content (normal name)) None told)
-        by false e = allows_it (content path)
-
-    only : (path : List ℕ) → Contains (normal name ∷ []) path → normal name ≡ path
-    only path (zero, lt, is) = is
-    only path (suc k, lt, is) = absurd (omega (arith, lt))
-
-    only_place : (i : ℕ) (x : List ℕ) → slice_get (normal name ∷ []) i ≡ Some x → i ≡ 0
-    only_place zero x e = refl
-    only_place (suc i) x e = absurd (cc)
 
 -- the file of the program is refused
 pub refused_first : (content : Content) (f f' m m' r r' : ℕ) (root name path : List ℕ) → path ≡ normal name → (refusal : LoadRefusal) → IsOneCause (source_call content f f' m m' r r') path [] [] refusal
