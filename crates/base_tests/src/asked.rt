@@ -6,6 +6,7 @@ use std::test::Fail;
 const CHECK: CommandLine<'static> = CommandLine::Check {
     file: "t.php",
     definition: "strict",
+    root: None,
     limit: 10_000,
     by_nesting: false,
     as_json: false,
@@ -26,11 +27,9 @@ fn asks_for(
     Ok(match read_words(alloc, words.as_slice()) {
         Ok(line) => wanted == Ok(line),
         Err(WordsRefusal::Usage { reason: None }) => wanted == Err(None),
-        Err(
-            WordsRefusal::Usage {
-                reason: Some(reason),
-            },
-        ) => wanted == Err(Some(reason.as_str())),
+        Err(WordsRefusal::Usage {
+            reason: Some(reason),
+        }) => wanted == Err(Some(reason.as_str())),
         Err(WordsRefusal::Memory) => false,
     })
 }
@@ -41,12 +40,14 @@ fn words(rt: HostRuntime) -> Result<(), Fail> {
     let all = CommandLine::Check {
         file: "t.php",
         definition: "d.dtd",
+        root: Some("site"),
         limit: 9,
         by_nesting: true,
         as_json: true,
     };
     let run = CommandLine::Run {
         file: "-",
+        root: None,
         request: Some("r.json"),
         steps: 10_000_000,
     };
@@ -54,11 +55,11 @@ fn words(rt: HostRuntime) -> Result<(), Fail> {
         ("check t.php", Ok(CHECK)),
         ("check -- t.php", Ok(CHECK)),
         (
-            "check t.php --dtd d.dtd --limit 9 --nesting --json",
+            "check t.php --dtd d.dtd --limit 9 --nesting --json --root site",
             Ok(all),
         ),
         (
-            "check --json --limit=9 --nesting t.php --dtd=d.dtd",
+            "check --json --limit=9 --root=site --nesting t.php --dtd=d.dtd",
             Ok(all),
         ),
         ("run --request r.json -", Ok(run)),
@@ -67,11 +68,15 @@ fn words(rt: HostRuntime) -> Result<(), Fail> {
             Ok(CommandLine::Page {
                 file: "p.xhtml",
                 definition: "mini",
+                root: None,
             }),
         ),
         (
-            "grammar -- -t.php",
-            Ok(CommandLine::Grammar { file: "-t.php" }),
+            "grammar --root . -- -t.php",
+            Ok(CommandLine::Grammar {
+                file: "-t.php",
+                root: Some("."),
+            }),
         ),
         (
             "make 200 --check",

@@ -81,8 +81,8 @@ check_enters = record {
   valid = refl;
 }
 
-check_alike : (v w : Values) → v (codes "FILE") ≡ w (codes "FILE") → v (codes "dtd") ≡ w (codes "dtd") → v (codes "limit") ≡ w (codes "limit") → is_given (v (codes "nesting")) ≡ is_given (w (codes "nesting")) → is_given (v (codes "json")) ≡ is_given (w (codes "json")) → asked_check v ≡ asked_check w
-check_alike v w e0 e1 e2 e3 e4 = rw (e0, e1, e2, e3, e4) refl
+check_alike : (v w : Values) → v (codes "FILE") ≡ w (codes "FILE") → v (codes "dtd") ≡ w (codes "dtd") → v (codes "limit") ≡ w (codes "limit") → v (codes "root") ≡ w (codes "root") → is_given (v (codes "nesting")) ≡ is_given (w (codes "nesting")) → is_given (v (codes "json")) ≡ is_given (w (codes "json")) → asked_check v ≡ asked_check w
+check_alike v w e0 e1 e2 e3 e4 e5 = rw (e0, e1, e2, e3, e4, e5) refl
 
 check_known : Known program.check
 unfolding program.phpsa clap_on_literals
@@ -90,9 +90,9 @@ check_known = record {
   enters = check_enters;
   entered_is = λ ws. refl;
   table = check_table;
-  alike = λ v w e. check_alike v w (e.texts (codes "FILE") (inl refl)) (e.texts (codes "dtd") (inr (inl refl))) (e.texts (codes "limit") (inr (inr (inl refl)))) (e.flags (codes "nesting") (inl refl)) (e.flags (codes "json") (inr (inl refl)));
-  alone = each (λ n. LeavesAlone n (below (program.command program.check)).rules) (program.check.place ∷ program.check.options) ((inr refl, (inr refl, (inr refl, (inl refl, (inl refl, tt))))), ((inr refl, (inr refl, (inr refl, (inl refl, (inl refl, tt))))), ((inr refl, (inr refl, (inr refl, (inl refl, (inl refl, tt))))), tt)));
-  unset = (refl, (refl, (refl, (refl, (refl, tt)))));
+  alike = λ v w e. check_alike v w (e.texts (codes "FILE") (inl refl)) (e.texts (codes "dtd") (inr (inl refl))) (e.texts (codes "limit") (inr (inr (inl refl)))) (e.texts (codes "root") (inr (inr (inr (inl refl))))) (e.flags (codes "nesting") (inl refl)) (e.flags (codes "json") (inr (inl refl)));
+  alone = each (λ n. LeavesAlone n (below (program.command program.check)).rules) (program.check.place ∷ program.check.options) ((inr refl, (inr refl, (inr refl, (inr refl, (inl refl, (inl refl, tt)))))), ((inr refl, (inr refl, (inr refl, (inr refl, (inl refl, (inl refl, tt)))))), ((inr refl, (inr refl, (inr refl, (inr refl, (inl refl, (inl refl, tt)))))), ((inr refl, (inr refl, (inr refl, (inr refl, (inl refl, (inl refl, tt)))))), tt))));
+  unset = (refl, (refl, (refl, (refl, (refl, (refl, tt))))));
   first = λ ws. refl;
 }
 
@@ -134,8 +134,8 @@ run_enters = record {
   valid = refl;
 }
 
-run_alike : (v w : Values) → v (codes "FILE") ≡ w (codes "FILE") → v (codes "request") ≡ w (codes "request") → v (codes "steps") ≡ w (codes "steps") → asked_run v ≡ asked_run w
-run_alike v w e0 e1 e2 = rw (e0, e1, e2) refl
+run_alike : (v w : Values) → v (codes "FILE") ≡ w (codes "FILE") → v (codes "request") ≡ w (codes "request") → v (codes "steps") ≡ w (codes "steps") → v (codes "root") ≡ w (codes "root") → asked_run v ≡ asked_run w
+run_alike v w e0 e1 e2 e3 = rw (e0, e1, e2, e3) refl
 
 run_known : Known program.run
 unfolding program.phpsa clap_on_literals
@@ -143,9 +143,9 @@ run_known = record {
   enters = run_enters;
   entered_is = λ ws. refl;
   table = run_table;
-  alike = λ v w e. run_alike v w (e.texts (codes "FILE") (inl refl)) (e.texts (codes "request") (inr (inl refl))) (e.texts (codes "steps") (inr (inr (inl refl))));
-  alone = each (λ n. LeavesAlone n (below (program.command program.run)).rules) (program.run.place ∷ program.run.options) ((inr refl, (inr refl, (inr refl, tt))), ((inr refl, (inr refl, (inr refl, tt))), ((inr refl, (inr refl, (inr refl, tt))), tt)));
-  unset = (refl, (refl, (refl, tt)));
+  alike = λ v w e. run_alike v w (e.texts (codes "FILE") (inl refl)) (e.texts (codes "request") (inr (inl refl))) (e.texts (codes "steps") (inr (inr (inl refl)))) (e.texts (codes "root") (inr (inr (inr (inl refl)))));
+  alone = each (λ n. LeavesAlone n (below (program.command program.run)).rules) (program.run.place ∷ program.run.options) ((inr refl, (inr refl, (inr refl, (inr refl, tt)))), ((inr refl, (inr refl, (inr refl, (inr refl, tt)))), ((inr refl, (inr refl, (inr refl, (inr refl, tt)))), ((inr refl, (inr refl, (inr refl, (inr refl, tt)))), tt))));
+  unset = (refl, (refl, (refl, (refl, tt))));
   first = λ ws. refl;
 }
 
@@ -187,8 +187,8 @@ page_enters = record {
   valid = refl;
 }
 
-page_alike : (v w : Values) → v (codes "FILE") ≡ w (codes "FILE") → v (codes "dtd") ≡ w (codes "dtd") → asked_page v ≡ asked_page w
-page_alike v w e0 e1 = rw (e0, e1) refl
+page_alike : (v w : Values) → v (codes "FILE") ≡ w (codes "FILE") → v (codes "dtd") ≡ w (codes "dtd") → v (codes "root") ≡ w (codes "root") → asked_page v ≡ asked_page w
+page_alike v w e0 e1 e2 = rw (e0, e1, e2) refl
 
 page_known : Known program.page
 unfolding program.phpsa clap_on_literals
@@ -196,9 +196,9 @@ page_known = record {
   enters = page_enters;
   entered_is = λ ws. refl;
   table = page_table;
-  alike = λ v w e. page_alike v w (e.texts (codes "FILE") (inl refl)) (e.texts (codes "dtd") (inr (inl refl)));
-  alone = each (λ n. LeavesAlone n (below (program.command program.page)).rules) (program.page.place ∷ program.page.options) ((inr refl, (inr refl, tt)), ((inr refl, (inr refl, tt)), tt));
-  unset = (refl, (refl, tt));
+  alike = λ v w e. page_alike v w (e.texts (codes "FILE") (inl refl)) (e.texts (codes "dtd") (inr (inl refl))) (e.texts (codes "root") (inr (inr (inl refl))));
+  alone = each (λ n. LeavesAlone n (below (program.command program.page)).rules) (program.page.place ∷ program.page.options) ((inr refl, (inr refl, (inr refl, tt))), ((inr refl, (inr refl, (inr refl, tt))), ((inr refl, (inr refl, (inr refl, tt))), tt)));
+  unset = (refl, (refl, (refl, tt)));
   first = λ ws. refl;
 }
 
@@ -240,8 +240,8 @@ grammar_enters = record {
   valid = refl;
 }
 
-grammar_alike : (v w : Values) → v (codes "FILE") ≡ w (codes "FILE") → asked_grammar v ≡ asked_grammar w
-grammar_alike v w e0 = rw (e0, tt) refl
+grammar_alike : (v w : Values) → v (codes "FILE") ≡ w (codes "FILE") → v (codes "root") ≡ w (codes "root") → asked_grammar v ≡ asked_grammar w
+grammar_alike v w e0 e1 = rw (e0, e1) refl
 
 grammar_known : Known program.grammar
 unfolding program.phpsa clap_on_literals
@@ -249,9 +249,9 @@ grammar_known = record {
   enters = grammar_enters;
   entered_is = λ ws. refl;
   table = grammar_table;
-  alike = λ v w e. grammar_alike v w (e.texts (codes "FILE") (inl refl));
-  alone = each (λ n. LeavesAlone n (below (program.command program.grammar)).rules) (program.grammar.place ∷ program.grammar.options) ((inr refl, tt), tt);
-  unset = (refl, tt);
+  alike = λ v w e. grammar_alike v w (e.texts (codes "FILE") (inl refl)) (e.texts (codes "root") (inr (inl refl)));
+  alone = each (λ n. LeavesAlone n (below (program.command program.grammar)).rules) (program.grammar.place ∷ program.grammar.options) ((inr refl, (inr refl, tt)), ((inr refl, (inr refl, tt)), tt));
+  unset = (refl, (refl, tt));
   first = λ ws. refl;
 }
 

@@ -109,10 +109,15 @@ fn bare_program<'a>(alloc: Global) -> Command<'a>
 fn program<'a>(alloc: Global) -> Result<Command<'a>, AllocError>
     ensures app { IfOk result (λ c. app_of c ≡ spec.phpsa) }
 {
-    let check = row_with("check", "FILE", &["dtd", "limit"], &["nesting", "json"]);
-    let run = row_with("run", "FILE", &["request", "steps"], &[]);
-    let page = row_with("page", "FILE", &["dtd"], &[]);
-    let grammar = row_with("grammar", "FILE", &[], &[]);
+    let check = row_with(
+        "check",
+        "FILE",
+        &["dtd", "limit", "root"],
+        &["nesting", "json"],
+    );
+    let run = row_with("run", "FILE", &["request", "steps", "root"], &[]);
+    let page = row_with("page", "FILE", &["dtd", "root"], &[]);
+    let grammar = row_with("grammar", "FILE", &["root"], &[]);
     let make = row_with("make", "N", &[], &["check"]);
     let program = with_command(alloc, bare_program(alloc), check)?;
     let program = with_command(alloc, program, run)?;
