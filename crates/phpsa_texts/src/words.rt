@@ -33,7 +33,7 @@ pub const HELP: &[u8] = b"phpsa says whether all pages that a PHP script can pri
   --check             make: decides the script in place of writing it.
   --help, --version   Writes this, or the version.
 
-Options stand in any order. A FILE that is - is the standard input.
+Options stand in any order.
 
 Example:  phpsa check guests.php --dtd strict
 ";
