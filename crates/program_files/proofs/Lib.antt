@@ -8,7 +8,7 @@ pub mod Among
 pub mod HasRead
 pub mod Steps
 pub mod Growing
-pub mod Reading
+pub mod SoFar
 pub mod Beginning
 pub mod Refusals
 pub mod Visits

@@ -24,7 +24,7 @@ use Rattle.program_files.proofs.NameLemmas.{same_name, own_name}
 use Rattle.program_files.proofs.Among.{among_contains, contains_among, there_read}
 use Rattle.program_files.proofs.HasRead.{found_file, found_files, found_paths, IsNamedIn, HasRead, found_only, found_second, not_first, read_found}
 use Rattle.program_files.proofs.Growing.{miss_more}
-use Rattle.program_files.proofs.Reading.{told_of, allows_it, last_of, last_script, last_gone, last_is, reading_of}
+use Rattle.program_files.proofs.SoFar.{told_of, allows_it, last_of, last_script, last_gone, last_is, reading_of}
 
 -- so many files
 size_of : (held : Held) (files : List ReadFile) → length (found_files held files) ≡ length files

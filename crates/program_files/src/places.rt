@@ -88,7 +88,7 @@ fn look_of(
 {
     match str::from_utf8(file.as_slice()) {
         Ok(file) => match str::from_utf8(written.as_slice()) {
-            Ok(written) => look(alloc, home, known, file, written),
+            Ok(written) => look_for(alloc, home, known, file, written),
             Err(_) => unreachable!(),
         },
         Err(_) => unreachable!(),
@@ -97,7 +97,7 @@ fn look_of(
 
 // The same of texts: by the first place, and where that was missed and is not the only one, by the
 // second.
-fn look(
+fn look_for(
     alloc: Global,
     home: &Home,
     known: &Known,
