@@ -38,7 +38,8 @@ impl<'a> DocumentType<'a> {
         }
     }
 
-    /// Its definition.
+    /// Its definition. What the file of a definition asks for is refused where it lies outside of the
+    /// root, a folder; built-in ones ask for nothing.
     ///
     /// # Errors
     ///
@@ -48,12 +49,14 @@ impl<'a> DocumentType<'a> {
         self,
         alloc: Global,
         files: &mut F,
+        root: &str,
     ) -> Result<Dtd, DefinitionRefusal>
         ensures ok { IfOk result
             (λ dtd. HasTable (F.content files.new) (type_of self.entry) (table_of dtd)) }
         ensures err { IfErr result
             (IsDefinitionRefusal (source_call (F.content files.new) (F.faults files.old)
-            (F.faults files.new) (F.misses files.old) (F.misses files.new)) (type_of self.entry)) }
+            (F.faults files.new) (F.misses files.old) (F.misses files.new)) root.entry.now
+            (type_of self.entry)) }
         ensures reads { IsBuiltIn (type_of self.entry) → F.reads files.new ≡ F.reads files.old }
         ensures calm { IfOk result
             (λ _. IsCalm (source_call (F.content files.new) (F.faults files.old)
@@ -70,7 +73,7 @@ impl<'a> DocumentType<'a> {
                 let dtd = mini(alloc)?;
                 Ok(dtd)
             }
-            DocumentType::File(name) => match read_dtd(alloc, files, name) {
+            DocumentType::File(name) => match read_dtd(alloc, files, root, name) {
                 Ok(dtd) => Ok(dtd),
                 Err(refusal) => Err(DefinitionRefusal::File(refusal)),
             },
