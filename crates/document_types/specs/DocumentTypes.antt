@@ -2,6 +2,7 @@
 use Rattle.std.specs.Prelude.{◌≡◌, ℕ, List, if◌then◌else◌, bytes_eq, codes, ⊤}
 use Rattle.dtd_model.specs.Table.{Table}
 use Rattle.dtd_model.specs.Mini.{mini_table}
+use Rattle.io_edge.specs.Names.{normal}
 use Rattle.io_edge.specs.Told.{Content}
 use Rattle.dtd_texts.specs.Spells.{DtdSpells}
 use Rattle.dtd_reader.specs.Source.{SourceCall, IsCalm}
@@ -14,7 +15,7 @@ use Rattle.document_types.specs.declared.document_type.DocumentType.TheVariants.
 use Rattle.document_types.specs.declared.refusal.DefinitionRefusal.{DefinitionRefusal}
 use Rattle.document_types.specs.declared.refusal.DefinitionRefusal.TheVariants as refusal
 
--- XHTML 1.0 Strict, the smallest document type, or the one that the file of a name defines
+-- XHTML 1.0 Strict, the smallest document type, or the one that the file of a name in its normal form defines
 pub data NamedType : Type 0 where
   strict_type : NamedType
   mini_type : NamedType
@@ -24,12 +25,12 @@ pub data NamedType : Type 0 where
 abbrev pub type_of : DocumentType → NamedType
 type_of Strict = strict_type
 type_of Mini = mini_type
-type_of (File name) = file_type name.now
+type_of (File name) = file_type (normal name.now)
 
 -- the document type that the word names: `strict`, `mini`, or else that of the file whose name it is
 abbrev pub named_type : List ℕ → NamedType
 named_type word = if bytes_eq word (codes "strict") then strict_type else
-    (if bytes_eq word (codes "mini") then mini_type else file_type word)
+    (if bytes_eq word (codes "mini") then mini_type else file_type (normal word))
 
 -- the document type has this table, where the source of files tells this
 abbrev pub HasTable : Content → NamedType → Table → Type 0

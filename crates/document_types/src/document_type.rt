@@ -10,7 +10,7 @@ use crate::refusal::DefinitionRefusal;
 use crate::strict;
 use dtd_model::{Dtd, mini};
 use dtd_reader::read_dtd;
-use io_edge::Files;
+use io_edge::{Files, normal_name};
 use std::alloc::Global;
 
 /// A document type that a word names.
@@ -38,8 +38,9 @@ impl<'a> DocumentType<'a> {
         }
     }
 
-    /// Its definition. What the file of a definition asks for is refused where it lies outside of the
-    /// root, a folder; built-in ones ask for nothing.
+    /// Its definition. The file of a definition may stand anywhere, and is asked for by its name in
+    /// its normal form; what it asks for is refused where it lies outside of the root, a folder.
+    /// Built-in definitions ask for nothing.
     ///
     /// # Errors
     ///
@@ -73,10 +74,13 @@ impl<'a> DocumentType<'a> {
                 let dtd = mini(alloc)?;
                 Ok(dtd)
             }
-            DocumentType::File(name) => match read_dtd(alloc, files, root, name) {
-                Ok(dtd) => Ok(dtd),
-                Err(refusal) => Err(DefinitionRefusal::File(refusal)),
-            },
+            DocumentType::File(name) => {
+                let name = normal_name(alloc, name)?;
+                match read_dtd(alloc, files, root, name.as_str()) {
+                    Ok(dtd) => Ok(dtd),
+                    Err(refusal) => Err(DefinitionRefusal::File(refusal)),
+                }
+            }
         }
     }
 }
