@@ -1,17 +1,23 @@
 -- What a name holds it goes on to hold.
-use Rattle.std.proofs.Common.{◌≡◌, ◌∙◌, ◌+◌, ℕ, false, List, length, refl, sym, ap, subst, Some}
+use Rattle.std.proofs.Common.{◌≡◌, ◌∙◌, ◌+◌, ◌≤◌, ℕ, Bool, true, false, cond, List, [], ◌∷◌, drop, length, refl, sym, ap, subst, arith, Some}
+use Rattle.std.specs.Prelude.{Result, Ok, Err, IfOk}
+use Rattle.std.proofs.lemmas.List.{length-drop}
+use Rattle.text_base.specs.declared.memory.NoMemory.{NoMemory}
 use Rattle.io_edge.specs.Names.{beside}
-use Rattle.io_edge.specs.Told.{Content, Stays}
+use Rattle.io_edge.specs.Told.{Content, Stays, Tells}
 use Rattle.io_edge.proofs.Staying.{tells_stay}
+use Rattle.dtd_texts.specs.Heads.{begins}
+use Rattle.dtd_texts.specs.Tokens.{declaration_length, behind_declaration}
 use Rattle.dtd_texts.specs.Places.{external}
 use Rattle.dtd_texts.specs.Reading.{State, Holds, Stands, is_among, source_of}
 use Rattle.dtd_texts.specs.Spells.{seen_from}
 use Rattle.dtd_reader.specs.SoFar.{Frame, names}
-use Rattle.dtd_reader.specs.Views.{IsLoaded, IsOutside, IsFound, inner_of}
+use Rattle.dtd_reader.specs.Views.{IsBehind, IsLoaded, IsOutside, IsFound, inner_of}
 use Rattle.dtd_reader.specs.declared.outcome.Found.{Found}
 use Rattle.dtd_reader.specs.declared.outcome.Found.TheVariants.{Nowhere, NotRead, Outside, Text}
 use Rattle.dtd_reader.specs.declared.outcome.Inner.{Inner}
-use Rattle.dtd_reader.specs.declared.outcome.Loaded.TheVariants.{Text as Whole}
+use Rattle.dtd_reader.specs.declared.outcome.Loaded.{Loaded}
+use Rattle.dtd_reader.specs.declared.outcome.Loaded.TheVariants.{NotRead as WasNotRead, Text as Whole}
 
 abbrev pub holds_later : (before now : Content) (name text : List ℕ) → Stays before now → Holds before name text → Holds now name text
 holds_later before now name text stays held = record { whole = held.whole; told = tells_stay before now name (Some held.whole) stays held.told; is = held.is }
@@ -35,3 +41,22 @@ found_outside root name now s frames entity meant (NotRead path fault) shut is f
 found_outside root name now s frames entity meant (Outside path) shut is found = (shut, (meant, is, found.0, found.1))
 found_outside root name now s frames entity meant (Text inner) shut is found =
     (shut, subst (λ o. Stands (seen_from name now) s.file o (inner_of inner)) (sym is) (found.0, found.1, found.2), found.3)
+
+pub found_by : (root name : List ℕ) (now : Content) (s : State) (frames : List Frame) (entity meant : List ℕ) (r : Result Found NoMemory) → is_among (names frames) entity ≡ false
+    → source_of s.parameters entity ≡ Some (external meant) → IfOk r (IsOutside root name now meant) → IfOk r (IsFound root name now s frames entity)
+found_by root name now s frames entity meant (Ok found) shut is there = found_outside root name now s frames entity meant found shut is there
+found_by root name now s frames entity meant (Err want) shut is there = tt
+
+-- the text of a file that holds these bytes
+pub loaded_from : (content : Content) (path whole : List ℕ) (l : Loaded) → Tells (content path) (Some whole) → IsBehind whole l → IsLoaded content path l
+loaded_from content path whole (WasNotRead name fault) told behind = absurd behind
+loaded_from content path whole (Whole text over) told behind = (record { whole = whole; told = told; is = behind.0 }, behind.1, behind.2)
+
+-- what stands behind a byte order mark and a text declaration is no longer than the whole
+pub no_longer : (whole : List ℕ) → length (behind_declaration whole) ≤ length whole
+no_longer whole = behind (begins (0xEF ∷ 0xBB ∷ 0xBF ∷ []) whole) where
+  cut : (n : ℕ) (bytes : List ℕ) → length bytes ≤ length whole → length (drop n bytes) ≤ length whole
+  cut n bytes e = let l = length-drop n bytes in omega (arith, e, l)
+  behind : (b : Bool) → length (drop (declaration_length (cond b (drop 3 whole) whole)) (cond b (drop 3 whole) whole)) ≤ length whole
+  behind true = cut _ (drop 3 whole) (cut 3 whole (omega arith))
+  behind false = cut _ whole (omega arith)

@@ -80,9 +80,9 @@ stands_here {content = content} {outer = outer} {s = s} {b = b} {n = n} {bytes =
     stands_one content s.file (source_of s.parameters name) (λ system outside. tells.told system (asks_there outer s b n bytes name here e free outside)) x y p q
 
 -- the text of an entity, read as another replacement of it that is the same
-read_inside : {content : Content} {outer : List (List ℕ)} {s inner : State} {name : List ℕ} {x y : Replacement} → x ≡ y →
+read_inside : (content : Content) (outer : List (List ℕ)) (s inner : State) (name : List ℕ) (x y : Replacement) → x ≡ y →
     Reads content (name ∷ outer) (enter s x.over x.file) x.text inner → Reads content (name ∷ outer) (enter s y.over y.file) y.text inner
-read_inside {content = content} {outer = outer} {s = s} {inner = inner} {name = name} same reads =
+read_inside content outer s inner name x y same reads =
     subst (λ (r : Replacement). Reads content (name ∷ outer) (enter s r.over r.file) r.text inner) same reads
 
 pub reads_one : {content : Content} {outer : List (List ℕ)} {s last other : State} {bytes : List ℕ} → TellsFrom content outer s bytes →
@@ -92,7 +92,7 @@ reads_one tells (takes e rest) second = reads_one (told_later e tells) rest (rw 
 reads_one {content = content} {other = other} tells (replaces {outer = outer} {s = s} {inner = inner} {b = b} {n = n} {bytes = bytes} {name = name} by e free stands inside rest) second =
     let there : Replaced content outer s name (drop n (b ∷ bytes)) other = rw e at (reads_at second) in
     let by-is : there.by ≡ by = stands_here tells e free there.is stands in
-    let inner-is : there.inner ≡ inner = sym (reads_one (told_within by e free stands tells) inside (read_inside by-is there.within)) in
+    let inner-is : there.inner ≡ inner = sym (reads_one (told_within by e free stands tells) inside (read_inside content outer s there.inner name there.by by by-is there.within)) in
     reads_one (told_behind by e free stands inside tells) rest (subst (λ i. Reads content outer (leave i s.file) (drop n (b ∷ bytes)) other) inner-is there.behind)
 
 -- what is read on
@@ -107,9 +107,9 @@ met_read tells (later e meets) second = met_read (told_later e tells) meets (rw 
 met_read {content = content} {last = last} tells (within {outer = outer} {s = s} {b = b} {n = n} {bytes = bytes} {name = name} by e free stands meets) second =
     let there : Replaced content outer s name (drop n (b ∷ bytes)) last = rw e at (reads_at second) in
     let by-is : there.by ≡ by = stands_here tells e free there.is stands in
-    met_read (told_within by e free stands tells) meets (read_inside by-is there.within)
+    met_read (told_within by e free stands tells) meets (read_inside content outer s there.inner name there.by by by-is there.within)
 met_read {content = content} {last = last} tells (behind {outer = outer} {s = s} {inner = inner} {b = b} {n = n} {bytes = bytes} {name = name} by e free stands inside meets) second =
     let there : Replaced content outer s name (drop n (b ∷ bytes)) last = rw e at (reads_at second) in
     let by-is : there.by ≡ by = stands_here tells e free there.is stands in
-    let inner-is : there.inner ≡ inner = sym (reads_one (told_within by e free stands tells) inside (read_inside by-is there.within)) in
+    let inner-is : there.inner ≡ inner = sym (reads_one (told_within by e free stands tells) inside (read_inside content outer s there.inner name there.by by by-is there.within)) in
     met_read (told_behind by e free stands inside tells) meets (subst (λ i. Reads content outer (leave i s.file) (drop n (b ∷ bytes)) last) inner-is there.behind)
