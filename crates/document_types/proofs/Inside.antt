@@ -28,7 +28,7 @@ absolute_beside : (meant : List ℕ) → is_absolute meant ≡ true → beside f
 unfolding beside normal
 absolute_beside meant e =
     ap (λ (b : Bool). if b then name_with (is_absolute meant) (normal_parts meant) else
-        name_with (is_absolute file_name) (with_parts (is_absolute file_name) (all_but_last (normal_parts file_name)) meant)) e
+    name_with (is_absolute file_name) (with_parts (is_absolute file_name) (all_but_last (normal_parts file_name)) meant)) e
     ∙ ap (λ (b : Bool). name_with b (normal_parts meant)) e
 
 -- where the file that is found is the one file, the name by which it is asked for is not absolute

@@ -11,8 +11,8 @@ ghost use Rattle.std.specs.Char.{encode_utf8};
 ghost use Rattle.std.specs.String.{string_bytes};
 
 use crate::ended::Ended;
-use crate::file_name::FileName;
 use crate::entity::{Ending, external, is_entity, valued};
+use crate::file_name::FileName;
 use crate::parameters::declare;
 use crate::state::{Mode, Move, Reading, Source, Written};
 use dtd_declarations::{

@@ -57,6 +57,7 @@ pub no_longer : (whole : List ℕ) → length (behind_declaration whole) ≤ len
 no_longer whole = behind (begins (0xEF ∷ 0xBB ∷ 0xBF ∷ []) whole) where
   cut : (n : ℕ) (bytes : List ℕ) → length bytes ≤ length whole → length (drop n bytes) ≤ length whole
   cut n bytes e = let l = length-drop n bytes in omega (arith, e, l)
+
   behind : (b : Bool) → length (drop (declaration_length (cond b (drop 3 whole) whole)) (cond b (drop 3 whole) whole)) ≤ length whole
   behind true = cut _ (drop 3 whole) (cut 3 whole (omega arith))
   behind false = cut _ whole (omega arith)

@@ -9,17 +9,37 @@ fn names(rt: HostRuntime) -> Result<(), Fail> {
     let far = b"<!ENTITY % f SYSTEM '../f/far'>%f;".as_slice();
     for (root, name, text, expected) in [
         (".", "d/d", "<!ENTITY % e SYSTEM 'e'>%e;", "Ok e Empty"),
-        (".", "d/d", "<!ENTITY % e SYSTEM './/x/../e'>%e;", "Ok e Empty"),
+        (
+            ".",
+            "d/d",
+            "<!ENTITY % e SYSTEM './/x/../e'>%e;",
+            "Ok e Empty",
+        ),
         (".", "d/d", "<!ENTITY % e SYSTEM '../e'>%e;", "Missing e"),
         (".", "d/d", "<!ENTITY % e SYSTEM 'd/e'>%e;", "Missing d/d/e"),
         (".", "d/d", "<!ENTITY % n SYSTEM 'n/near'>%n;", "Ok e Empty"),
-        (".", "d/d", "<!ENTITY % n SYSTEM 'n/near'>%n;<!ENTITY % g SYSTEM 'g'>%g;", "Missing d/g"),
+        (
+            ".",
+            "d/d",
+            "<!ENTITY % n SYSTEM 'n/near'>%n;<!ENTITY % g SYSTEM 'g'>%g;",
+            "Missing d/g",
+        ),
         (".", "d/d", "<!ENTITY % e SYSTEM '/e'>%e;", "Outside /e"),
-        (".", "d/d", "<!ENTITY % e SYSTEM '../../e'>%e;", "Outside ../e"),
+        (
+            ".",
+            "d/d",
+            "<!ENTITY % e SYSTEM '../../e'>%e;",
+            "Outside ../e",
+        ),
         ("d", "d/d", "<!ENTITY % e SYSTEM '../d/e'>%e;", "Ok e Empty"),
         ("d", "d/d", "<!ENTITY % e SYSTEM '../e'>%e;", "Outside e"),
         ("d", "d/d", "<!ENTITY % e SYSTEM '../e'>", "Ok"),
-        ("d/n", "d/d", "<!ENTITY % n SYSTEM 'n/near'>%n;", "Outside d/f/far"),
+        (
+            "d/n",
+            "d/d",
+            "<!ENTITY % n SYSTEM 'n/near'>%n;",
+            "Outside d/f/far",
+        ),
     ] {
         let files = files_of(
             rt.alloc(),

@@ -21,7 +21,7 @@ goes_on told (later e m) r = goes_on told m (rw e at (reads_at r))
 goes_on {content = content} {last = last} told (within {outer = outer} {s = s} {b = b} {n = n} {bytes = bytes} {name = name} by e shut is m) r =
     let there : Replaced content outer s name (drop n (b ∷ bytes)) last = rw e at (reads_at r) in
     let inside : Reads content (name ∷ outer) (enter s by.over by.file) by.text there.inner =
-      subst (λ (x : Replacement). Reads content (name ∷ outer) (enter s x.over x.file) x.text there.inner) (stands_once content told s.file (source_of s.parameters name) there.by by there.is is) there.within in
+    subst (λ (x : Replacement). Reads content (name ∷ outer) (enter s x.over x.file) x.text there.inner) (stands_once content told s.file (source_of s.parameters name) there.by by there.is is) there.within in
     let g = goes_on told m inside in
     record {
       last' = g.last';
@@ -31,7 +31,7 @@ goes_on {content = content} {last = last} told (within {outer = outer} {s = s} {
 goes_on {content = content} {last = last} told (behind {outer = outer} {s = s} {inner = inner} {b = b} {n = n} {bytes = bytes} {name = name} by e shut is before m) r =
     let there : Replaced content outer s name (drop n (b ∷ bytes)) last = rw e at (reads_at r) in
     let inside : Reads content (name ∷ outer) (enter s by.over by.file) by.text there.inner =
-      subst (λ (x : Replacement). Reads content (name ∷ outer) (enter s x.over x.file) x.text there.inner) (stands_once content told s.file (source_of s.parameters name) there.by by there.is is) there.within in
+    subst (λ (x : Replacement). Reads content (name ∷ outer) (enter s x.over x.file) x.text there.inner) (stands_once content told s.file (source_of s.parameters name) there.by by there.is is) there.within in
     let inner-is : there.inner ≡ inner = sym (reads_once told before inside) in
     goes_on told m (subst (λ i. Reads content outer (leave i s.file) (drop n (b ∷ bytes)) last) inner-is there.behind)
 

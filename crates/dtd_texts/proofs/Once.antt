@@ -68,5 +68,5 @@ reads_once {content = content} {other = other} told (replaces {outer = outer} {s
     let there : Replaced content outer s name (drop n (b ∷ bytes)) other = rw e at (reads_at second) in
     let by-is : there.by ≡ by = stands_once content told s.file (source_of s.parameters name) there.by by there.is is in
     let inner-is : there.inner ≡ inner =
-      sym (reads_once told within (subst (λ (r : Replacement). Reads content (name ∷ outer) (enter s r.over r.file) r.text there.inner) by-is there.within)) in
+    sym (reads_once told within (subst (λ (r : Replacement). Reads content (name ∷ outer) (enter s r.over r.file) r.text there.inner) by-is there.within)) in
     reads_once told behind (subst (λ i. Reads content outer (leave i s.file) (drop n (b ∷ bytes)) other) inner-is there.behind)
