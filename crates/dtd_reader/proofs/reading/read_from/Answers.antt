@@ -21,7 +21,7 @@ returns-in-Ends-clause-answer g c =
     let within = c.is_within_limits.ensures.within c.steps-test.true in
     let old_limits : IsWithinLimits (position_of at.reader).state = record { short = within.0; few = within.1 } in
     let limits = subst IsWithinLimits (sym told.1) old_limits in
-    same_call (λ x. IsTextAnswer x c.args.origin.root.now c.args.origin.name.now c.args.text c.ended.result) _ _ _ _ _ _ _ at.invariant.2 at.invariant.3 (c.ended.ensures call c.args.origin.root.now c.args.origin.name.now c.args.text reads limits counts)
+    same_call (λ x. IsTextAnswer x c.args.origin.root.now c.args.origin.name.now c.args.text c.ended.result) call.content _ _ call.faults' _ _ call.misses' at.invariant.2 at.invariant.3 (c.ended.ensures call c.args.origin.root.now c.args.origin.name.now c.args.text reads limits counts)
 
 pub returns-in-Breaks-clause-answer : goal.returns-in-Breaks-clause-answer
 returns-in-Breaks-clause-answer g c =
@@ -31,7 +31,7 @@ returns-in-Breaks-clause-answer g c =
     let told = subst (λ o. Told c.args.origin.root.now c.args.origin.name.now call.content c.args.text o (position_of at.reader) (position_of c.advance.new.self)) c.in-Breaks.is (c.in_ok-advance.ensures.told call.content c.args.text (stays_same _ _ refl) so_far) in
     let counts = subst (λ o. OutcomeCounts call o) c.in-Breaks.is c.in_ok-advance.ensures.counted in
     let broken = broke call c.args.origin.root.now c.args.origin.name.now c.args.text (position_of at.reader) (position_of c.advance.new.self) so_far told in
-    same_call (λ x. IsTextCause x c.args.origin.root.now c.args.origin.name.now c.args.text c.first_fault.result) _ _ _ _ _ _ _ at.invariant.2 at.invariant.3
+    same_call (λ x. IsTextCause x c.args.origin.root.now c.args.origin.name.now c.args.text c.first_fault.result) call.content _ _ call.faults' _ _ call.misses' at.invariant.2 at.invariant.3
     (c.first_fault.ensures call c.args.origin.root.now c.args.origin.name.now c.args.text broken.0 broken.1 counts)
 
 pub returns-in-Omits-clause-answer : goal.returns-in-Omits-clause-answer
@@ -41,7 +41,7 @@ returns-in-Omits-clause-answer g c =
     let so_far = at.invariant.0 call.content c.in_ok-advance.ensures.stays in
     let told = subst (λ o. Told c.args.origin.root.now c.args.origin.name.now call.content c.args.text o (position_of at.reader) (position_of c.advance.new.self)) c.in-Omits.is (c.in_ok-advance.ensures.told call.content c.args.text (stays_same _ _ refl) so_far) in
     let counts = subst (λ o. OutcomeCounts call o) c.in-Omits.is c.in_ok-advance.ensures.counted in
-    same_call (λ x. IsTextCause x c.args.origin.root.now c.args.origin.name.now c.args.text (LeftOut c.advance.new.self.reading.begun)) _ _ _ _ _ _ _ at.invariant.2 at.invariant.3
+    same_call (λ x. IsTextCause x c.args.origin.root.now c.args.origin.name.now c.args.text (LeftOut c.advance.new.self.reading.begun)) call.content _ _ call.faults' _ _ call.misses' at.invariant.2 at.invariant.3
     (omitted call c.args.origin.root.now c.args.origin.name.now c.args.text (position_of at.reader) (position_of c.advance.new.self) told counts)
 
 pub returns-in-Misses-clause-answer : goal.returns-in-Misses-clause-answer
@@ -51,7 +51,7 @@ returns-in-Misses-clause-answer g c =
     let so_far = at.invariant.0 call.content c.in_ok-advance.ensures.stays in
     let told = subst (λ o. Told c.args.origin.root.now c.args.origin.name.now call.content c.args.text o (position_of at.reader) (position_of c.advance.new.self)) c.in-Misses.is (c.in_ok-advance.ensures.told call.content c.args.text (stays_same _ _ refl) so_far) in
     let counts = subst (λ o. OutcomeCounts call o) c.in-Misses.is c.in_ok-advance.ensures.counted in
-    same_call (λ x. IsTextCause x c.args.origin.root.now c.args.origin.name.now c.args.text (Entity c.in-Misses.name)) _ _ _ _ _ _ _ at.invariant.2 at.invariant.3 (told, counts)
+    same_call (λ x. IsTextCause x c.args.origin.root.now c.args.origin.name.now c.args.text (Entity c.in-Misses.name)) call.content _ _ call.faults' _ _ call.misses' at.invariant.2 at.invariant.3 (told, counts)
 
 pub returns-in-Unread-clause-answer : goal.returns-in-Unread-clause-answer
 returns-in-Unread-clause-answer g c =
@@ -60,7 +60,7 @@ returns-in-Unread-clause-answer g c =
     let so_far = at.invariant.0 call.content c.in_ok-advance.ensures.stays in
     let told = subst (λ o. Told c.args.origin.root.now c.args.origin.name.now call.content c.args.text o (position_of at.reader) (position_of c.advance.new.self)) c.in-Unread.is (c.in_ok-advance.ensures.told call.content c.args.text (stays_same _ _ refl) so_far) in
     let counts = subst (λ o. OutcomeCounts call o) c.in-Unread.is c.in_ok-advance.ensures.counted in
-    same_call (λ x. IsTextCause x c.args.origin.root.now c.args.origin.name.now c.args.text c.unread.result) _ _ _ _ _ _ _ at.invariant.2 at.invariant.3 (c.unread.ensures.asked call c.args.origin.root.now c.args.origin.name.now c.args.text told counts)
+    same_call (λ x. IsTextCause x c.args.origin.root.now c.args.origin.name.now c.args.text c.unread.result) call.content _ _ call.faults' _ _ call.misses' at.invariant.2 at.invariant.3 (c.unread.ensures.asked call c.args.origin.root.now c.args.origin.name.now c.args.text told counts)
 
 pub returns-in-LeadsOut-clause-answer : goal.returns-in-LeadsOut-clause-answer
 returns-in-LeadsOut-clause-answer g c =
@@ -69,7 +69,7 @@ returns-in-LeadsOut-clause-answer g c =
     let so_far = at.invariant.0 call.content c.in_ok-advance.ensures.stays in
     let told = subst (λ o. Told c.args.origin.root.now c.args.origin.name.now call.content c.args.text o (position_of at.reader) (position_of c.advance.new.self)) c.in-LeadsOut.is (c.in_ok-advance.ensures.told call.content c.args.text (stays_same _ _ refl) so_far) in
     let counts = subst (λ o. OutcomeCounts call o) c.in-LeadsOut.is c.in_ok-advance.ensures.counted in
-    same_call (λ x. IsTextCause x c.args.origin.root.now c.args.origin.name.now c.args.text (Outside c.in-LeadsOut.name)) _ _ _ _ _ _ _ at.invariant.2 at.invariant.3 (told, counts)
+    same_call (λ x. IsTextCause x c.args.origin.root.now c.args.origin.name.now c.args.text (Outside c.in-LeadsOut.name)) call.content _ _ call.faults' _ _ call.misses' at.invariant.2 at.invariant.3 (told, counts)
 
 pub returns-clause-answer : goal.returns-clause-answer
 returns-clause-answer g c =
