@@ -1,12 +1,12 @@
-use Rattle.std.proofs.Common.{◌∙◌, [], refl, sym, subst}
+use Rattle.std.proofs.Common.{rules, ◌≡◌, ◌∙◌, [], Err, refl, sym, subst}
 use Rattle.io_edge.proofs.Staying.{stays_same, stays_on}
 use Rattle.dtd_texts.specs.Reading.{Reads, start}
 use Rattle.dtd_texts.specs.Spells.{seen_from}
-use Rattle.dtd_reader.specs.Source.{SourceCall, source_call}
+use Rattle.dtd_reader.specs.Source.{SourceCall, source_call, IsCalm}
 use Rattle.dtd_reader.specs.Causes.{IsWithinLimits, IsTextCause}
 use Rattle.dtd_reader.specs.Answers.{IsTextAnswer}
 use Rattle.dtd_reader.specs.Views.{position_of, Told, OutcomeCounts}
-use Rattle.dtd_reader.specs.declared.refusal.DtdRefusal.TheVariants.{Outside, LeftOut, Entity}
+use Rattle.dtd_reader.specs.declared.refusal.DtdRefusal.TheVariants.{Outside, LeftOut, Entity, Memory}
 use Rattle.dtd_reader.proofs.Steps.{same_call, broke, omitted, over}
 use Rattle.dtd_reader.proofs.reading.read_from.Goals as goal
 
@@ -103,3 +103,12 @@ returns-in-Unread-clause-stays g c = stays_on _ _ _ c.steps.invariant.1 c.in_ok-
 
 pub returns-in-LeadsOut-clause-stays : goal.returns-in-LeadsOut-clause-stays
 returns-in-LeadsOut-clause-stays g c = stays_on _ _ _ c.steps.invariant.1 c.in_ok-advance.ensures.stays
+
+pub returns-in_err-advance-clause-answer : goal.returns-in_err-advance-clause-answer
+returns-in_err-advance-clause-answer g c =
+    let at = c.steps in
+    let call : SourceCall = source_call (g.F.Files.content c.advance.new.files) (g.F.Files.faults at.files) (g.F.Files.faults c.advance.new.files) (g.F.Files.misses at.files) (g.F.Files.misses c.advance.new.files) in
+    let whole : SourceCall = source_call call.content (g.F.Files.faults c.args.files.now) call.faults' (g.F.Files.misses c.args.files.now) call.misses' in
+    let is : c.from_residual.result ≡ Err Memory = search rules in
+    let calm : IsCalm call = c.in_err-advance.ensures.counted in
+    subst (IsTextAnswer whole c.args.origin.root.now c.args.origin.name.now c.args.text) (sym is) (calm.0 ∙ at.invariant.2, calm.1 ∙ at.invariant.3)
