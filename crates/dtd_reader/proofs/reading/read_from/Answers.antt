@@ -109,6 +109,6 @@ returns-in_err-advance-clause-answer g c =
     let at = c.steps in
     let call : SourceCall = source_call (g.F.Files.content c.advance.new.files) (g.F.Files.faults at.files) (g.F.Files.faults c.advance.new.files) (g.F.Files.misses at.files) (g.F.Files.misses c.advance.new.files) in
     let whole : SourceCall = source_call call.content (g.F.Files.faults c.args.files.now) call.faults' (g.F.Files.misses c.args.files.now) call.misses' in
-    let is : c.from_residual.result ≡ Err Memory = search rules in
+    let is : c.from_residual-in_err-advance.result ≡ Err Memory = search rules in
     let calm : IsCalm call = c.in_err-advance.ensures.counted in
     subst (IsTextAnswer whole c.args.origin.root.now c.args.origin.name.now c.args.text) (sym is) (calm.0 ∙ at.invariant.2, calm.1 ∙ at.invariant.3)
