@@ -2,6 +2,7 @@ pub mod SoFar
 pub mod Opening
 pub mod Stack
 pub mod Later
+pub mod LibraryLemmas
 pub mod Steps
 pub mod Definitions
 pub mod NothingWrong

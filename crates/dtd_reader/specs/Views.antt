@@ -1,7 +1,7 @@
 -- What the reader stands for.
 use Rattle.std.specs.Prelude.{◌≡◌, ◌⊎◌, ◌<◌, ◌≤◌, ◌+◌, ◌*◌, ◌-◌, length, ℕ, List, [], ◌∷◌, map, reverse, drop, true, false, Some, None}
 use Rattle.dtd_texts.specs.Tokens.{behind_declaration}
-use Rattle.dtd_texts.specs.Places.{external}
+use Rattle.dtd_texts.specs.Places.{internal, external}
 use Rattle.text_base.specs.declared.limits.TheConstants.{FILE_LIMIT}
 use Rattle.io_edge.specs.Names.{beside, is_outside}
 use Rattle.io_edge.specs.Told.{Content}
@@ -12,6 +12,7 @@ use Rattle.dtd_entities.specs.Positions.{state_of}
 use Rattle.dtd_reader.specs.SoFar.{Frame, names, Position, SoFar}
 use Rattle.dtd_reader.specs.Source.{SourceCall, IsCalm, IsUnread}
 use Rattle.dtd_reader.specs.Causes.{AsksFor, AsksOutside}
+use Rattle.dtd_reader.specs.Library.{IsTextOf}
 use Rattle.dtd_reader.specs.declared.limits.TheConstants.{REPLACED_LIMIT}
 use Rattle.dtd_reader.specs.declared.frames.Rest.{Rest}
 use Rattle.dtd_reader.specs.declared.frames.Frames.{Frames}
@@ -19,7 +20,9 @@ use Rattle.dtd_reader.specs.declared.reader.Reader.{Reader}
 use Rattle.dtd_reader.specs.declared.outcome.Outcome.{Outcome}
 use Rattle.dtd_reader.specs.declared.outcome.Outcome.TheVariants.{Goes, Ends, Breaks as DoesBreak, Omits as DoesOmit, Misses as DoesMiss, Unread, LeadsOut}
 use Rattle.dtd_reader.specs.declared.outcome.Found.{Found}
-use Rattle.dtd_reader.specs.declared.outcome.Found.TheVariants.{Nowhere, NotRead, Outside, Text}
+use Rattle.dtd_reader.specs.declared.outcome.Found.TheVariants.{NotRead, Outside, Text}
+use Rattle.dtd_reader.specs.declared.outcome.Sought.{Sought}
+use Rattle.dtd_reader.specs.declared.outcome.Sought.TheVariants.{Nowhere, Here, There}
 use Rattle.dtd_reader.specs.declared.outcome.Inner.{Inner}
 use Rattle.dtd_reader.specs.declared.outcome.Loaded.{Loaded}
 use Rattle.dtd_reader.specs.declared.outcome.Loaded.TheVariants.{NotRead as WasNotRead, Text as Whole}
@@ -54,26 +57,19 @@ inner_of i = record { text = i.text; over = i.over; file = i.file }
 
 -- the text of an entity outside that is meant under this name
 abbrev pub IsOutside : List ℕ → List ℕ → Content → List ℕ → Found → Type 0
-IsOutside root name content meant Nowhere = ⊥
 IsOutside root name content meant (NotRead path fault) = path ≡ beside name meant
 IsOutside root name content meant (Outside path) = (path ≡ beside name meant) × (is_outside root name meant ≡ true)
 IsOutside root name content meant (Text inner) =
-    (held : Holds (seen_from name content) meant inner.text) × (length held.whole ≡ inner.over + length inner.text) × (inner.file ≡ meant)
-    × (inner.over ≤ FILE_LIMIT)
+    IsTextOf content (beside name meant) inner.text inner.over × (inner.file ≡ meant)
 
--- the text of an entity, where it is declared so far and not open
-abbrev pub IsFound : List ℕ → List ℕ → Content → State → List Frame → List ℕ → Found → Type 0
-IsFound root name content s frames entity Nowhere = (is_among (names frames) entity ≡ true) ⊎ (source_of s.parameters entity ≡ None)
-IsFound root name content s frames entity (NotRead path fault) =
-    (is_among (names frames) entity ≡ false)
-    × ((meant : List ℕ) × (source_of s.parameters entity ≡ Some (external meant)) × (path ≡ beside name meant))
-IsFound root name content s frames entity (Outside path) =
-    (is_among (names frames) entity ≡ false)
-    × ((meant : List ℕ) × (source_of s.parameters entity ≡ Some (external meant)) × (path ≡ beside name meant) × (is_outside root name meant ≡ true))
-IsFound root name content s frames entity (Text inner) =
-    (is_among (names frames) entity ≡ false)
-    × Stands (seen_from name content) s.file (source_of s.parameters entity) (inner_of inner)
-    × (inner.over ≤ FILE_LIMIT)
+-- what is known of an entity: it is open or not declared, or declared so far and not open, with its text or the name of a file
+abbrev pub IsSought : State → List Frame → List ℕ → Sought → Type 0
+IsSought s frames entity Nowhere = (is_among (names frames) entity ≡ true) ⊎ (source_of s.parameters entity ≡ None)
+IsSought s frames entity (Here inner) =
+    (is_among (names frames) entity ≡ false) × (source_of s.parameters entity ≡ Some (internal inner.text))
+    × (inner.over ≡ 0) × (inner.file ≡ s.file)
+IsSought s frames entity (There meant) =
+    (is_among (names frames) entity ≡ false) × (source_of s.parameters entity ≡ Some (external meant))
 
 -- behind the beginning of an entity, whose reference has so many bytes
 abbrev pub entered : Position → List ℕ → Replacement → ℕ → Position
@@ -105,8 +101,7 @@ IsBehind whole (Whole text over) = (behind_declaration whole ≡ text) × (lengt
 -- the text of a file and how many bytes stand before it, or why it was not read
 abbrev pub IsLoaded : Content → List ℕ → Loaded → Type 0
 IsLoaded content path (WasNotRead name fault) = name ≡ path
-IsLoaded content path (Whole text over) =
-    (held : Holds content path text) × (length held.whole ≡ over + length text) × (over ≤ FILE_LIMIT)
+IsLoaded content path (Whole text over) = IsTextOf content path text over
 
 -- the counts behind a call: none rose, but where a file was not read
 abbrev pub LoadedCounts : SourceCall → Loaded → Type 0
@@ -115,7 +110,6 @@ LoadedCounts call (Whole text over) = IsCalm call
 
 -- the same, of the text of an entity
 abbrev pub FoundCounts : SourceCall → Found → Type 0
-FoundCounts call Nowhere = IsCalm call
 FoundCounts call (NotRead path fault) = IsUnread call path fault
 FoundCounts call (Outside path) = IsCalm call
 FoundCounts call (Text inner) = IsCalm call

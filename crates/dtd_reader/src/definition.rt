@@ -5,6 +5,7 @@ ghost use Rattle.io_edge.specs.Told.{Stays};
 ghost use Rattle.dtd_model.specs.TableOf as tables;
 ghost use Rattle.dtd_texts.specs.Spells.{DtdSpells};
 ghost use Rattle.dtd_reader.specs.Source.{source_call, IsCalm};
+ghost use Rattle.dtd_reader.specs.Library.{AsksEachOnce};
 ghost use Rattle.dtd_reader.specs.Refusals.{IsCause, IsSameRefusal};
 
 use crate::reading::read_text;
@@ -32,7 +33,7 @@ fn refusal_of(refusal: TableRefusal) -> DtdRefusal
 /// linear in its text once all references are replaced. A page needs no document type declaration.
 /// The name of an external entity is looked for beside the file in which its declaration ends, and
 /// is refused by its text alone where it is absolute or leads out of the root, a folder; the file
-/// itself may stand anywhere.
+/// itself may stand anywhere. The source is asked once for each file.
 ///
 /// # Errors
 ///
@@ -54,6 +55,8 @@ pub fn read_dtd<F: Files>(
     ensures refused { IfErr result
         (IsCause (source_call (F.content files.new) (F.faults files.old) (F.faults files.new)
         (F.misses files.old) (F.misses files.new)) root.now name.now) }
+    ensures asked { AsksEachOnce (F.content files.new) name.now (F.reads files.old)
+        (F.reads files.new) }
     ensures stays { Stays (F.content files.old) (F.content files.new) }
 {
     let reading = read_text(alloc, files, root, name)?;

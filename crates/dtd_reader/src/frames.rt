@@ -5,6 +5,7 @@ ghost use Rattle.dtd_texts.specs.Reading.{is_among};
 ghost use Rattle.dtd_reader.specs.SoFar.{names, Frame};
 ghost use Rattle.dtd_reader.specs.Views.{frames_of};
 
+use crate::text::Text;
 use dtd_entities::FileName;
 use indexmap::IndexMap;
 use std::alloc::Global;
@@ -13,7 +14,7 @@ use text_base::{Bytes, NoMemory};
 /// A text, how much of it is passed, and the file in which it stands.
 #[derive(Debug, Drop)]
 pub struct Rest {
-    pub text: Bytes,
+    pub text: Text,
     pub at: usize,
     pub file: FileName,
 }

@@ -7,6 +7,7 @@
 
 mod definition;
 mod frames;
+mod library;
 pub mod limits;
 mod loading;
 mod outcome;
@@ -14,6 +15,7 @@ mod reader;
 mod reading;
 mod refusal;
 mod table_laws;
+mod text;
 
 pub use definition::read_dtd;
 pub use reading::read_text;

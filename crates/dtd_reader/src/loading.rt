@@ -1,12 +1,14 @@
 //! The texts of files.
 
-ghost use Rattle.std.specs.Prelude.{◌≤◌, length, IfOk};
+ghost use Rattle.std.specs.Prelude.{◌≡◌, ◌≤◌, length, IfOk};
 ghost use Rattle.text_base.specs.declared.limits.TheConstants.{FILE_LIMIT};
+ghost use Rattle.io_edge.specs.Counts.{one_more};
 ghost use Rattle.io_edge.specs.Told.{Content, Stays, Tells};
 ghost use Rattle.dtd_reader.specs.Source.{source_call, Counted};
 ghost use Rattle.dtd_reader.specs.Views.{IsBehind, IsLoaded, LoadedCounts};
 
 use crate::outcome::Loaded;
+use crate::text::Text;
 use dtd_declarations::behind_declaration;
 use io_edge::{FileFault, FileKind, Files};
 use std::alloc::Global;
@@ -19,24 +21,28 @@ fn text_behind(alloc: Global, whole: &[u8]) -> Result<Loaded, NoMemory>
 {
     let behind = behind_declaration(alloc, whole)?;
     let over = whole.len().saturating_sub(behind.len()) as u64;
-    let text = Bytes::from_slice(alloc, behind)?;
+    let text = Text::new(alloc, Bytes::from_slice(alloc, behind)?)?;
     Ok(Loaded::Text(text, over))
 }
 
-/// The text of this file behind its text declaration, or why it was not read.
-pub fn load<F: Files>(alloc: Global, files: &mut F, path: &str) -> Result<Loaded, NoMemory>
+/// The text of this file behind its text declaration, or why it was not read, with this name. The
+/// source is asked once, whatever the answer.
+pub fn load<F: Files>(
+    alloc: Global,
+    files: &mut F,
+    path: &str,
+    name: Bytes,
+) -> Result<Loaded, NoMemory>
+    requires { name ≡ path.now }
     ensures loaded { IfOk result (IsLoaded (F.content files.new) path.now) }
     ensures counted { Counted LoadedCounts
         (source_call (F.content files.new) (F.faults files.old) (F.faults files.new)
         (F.misses files.old) (F.misses files.new)) result }
+    ensures asked { F.reads files.new ≡ one_more (F.reads files.old) }
     ensures stays { Stays (F.content files.old) (F.content files.new) }
 {
-    let name = Bytes::from_slice(alloc, path.as_bytes())?;
     match files.read(alloc, path, FileKind::Regular) {
-        Ok(whole) => {
-            let loaded = text_behind(alloc, whole.as_slice())?;
-            Ok(loaded)
-        }
+        Ok(whole) => text_behind(alloc, whole.as_slice()),
         Err(FileFault::Missing) => Ok(Loaded::NotRead(name, FileFault::Missing)),
         Err(FileFault::Failed) => Ok(Loaded::NotRead(name, FileFault::Failed)),
         Err(FileFault::TooLong { len }) => Ok(Loaded::NotRead(name, FileFault::TooLong { len })),

@@ -1,5 +1,6 @@
 //! What becomes of one step of the reading.
 
+use crate::text::Text;
 use dtd_entities::FileName;
 use io_edge::FileFault;
 use text_base::Bytes;
@@ -25,11 +26,20 @@ pub enum Outcome {
     LeadsOut(Bytes),
 }
 
-/// The text of an entity, where it is declared and not open.
+/// What is known of an entity.
 #[derive(Debug, Drop)]
-pub enum Found {
+pub enum Sought {
     /// It is open or not declared.
     Nowhere,
+    /// Its text was declared.
+    Here(Inner),
+    /// It is the file that is meant under this name in the file of the definition.
+    There(FileName),
+}
+
+/// The text of an entity outside.
+#[derive(Debug, Drop)]
+pub enum Found {
     /// It is the file that is found under this name, which was not read.
     NotRead(Bytes, FileFault),
     /// It is the file that is found under this name, outside of the root.
@@ -40,7 +50,7 @@ pub enum Found {
 /// The text of an entity.
 #[derive(Debug, Drop)]
 pub struct Inner {
-    pub text: Bytes,
+    pub text: Text,
     /// How many bytes of its file are passed over before it.
     pub over: u64,
     /// The file in which it stands, as it is meant in the file of the definition.
@@ -53,5 +63,5 @@ pub enum Loaded {
     /// The file of this name was not read.
     NotRead(Bytes, FileFault),
     /// The text, and how many bytes stand before it.
-    Text(Bytes, u64),
+    Text(Text, u64),
 }

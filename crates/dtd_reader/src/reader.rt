@@ -7,68 +7,36 @@ ghost use Rattle.dtd_entities.specs.Positions.{state_of};
 ghost use Rattle.dtd_reader.specs.SoFar.{first, names, SoFar};
 ghost use Rattle.dtd_reader.specs.Source.{SourceCall, source_call, IsCalm, Counted};
 ghost use Rattle.dtd_texts.specs.Spells.{seen_from};
-ghost use Rattle.dtd_reader.specs.Views.{position_of, frames_of, inner_of, Told, entered, IsFound, IsOutside, FoundCounts, OutcomeCounts, IsNearer};
+ghost use Rattle.dtd_reader.specs.Library.{AreKept, AskOn, AreAskedFor, asked_of};
+ghost use Rattle.dtd_reader.specs.Views.{position_of, frames_of, inner_of, Told, entered, IsSought, OutcomeCounts, IsNearer};
 
 use crate::frames::{Frames, Rest};
+use crate::library::{Library, Origin};
 use crate::limits::REPLACED_LIMIT;
-use crate::loading::load;
-use crate::outcome::{Found, Inner, Loaded, Outcome};
+use crate::outcome::{Found, Inner, Outcome, Sought};
+use crate::text::Text;
 use dtd_declarations::{behind, front};
-use dtd_entities::{FileName, Move, Reading, Source, source_of};
-use io_edge::{Files, is_outside, name_beside};
+use dtd_entities::{Move, Reading, Source, source_of};
+use io_edge::Files;
 use std::alloc::Global;
 use std::mem;
 use text_base::{Bytes, NoMemory};
 
-/// Where the names of a definition are looked for: in which root, and beside which file.
-#[derive(Clone, Copy, Debug)]
-pub struct Origin<'a> {
-    pub root: &'a str,
-    pub name: &'a str,
-}
-
-// The text of a file that is meant under this name in the file of the definition. What lies outside
-// of the root is not asked for.
-fn outside<F: Files>(
-    alloc: Global,
-    files: &mut F,
-    origin: Origin<'_>,
-    meant: &FileName,
-) -> Result<Found, NoMemory>
-    ensures found { (content : Content) → Stays (F.content files.new) content →
-        IfOk result (IsOutside origin.entry.root.now origin.entry.name.now content meant.now) }
-    ensures counted { Counted FoundCounts
-        (source_call (F.content files.new) (F.faults files.old) (F.faults files.new)
-        (F.misses files.old) (F.misses files.new)) result }
-    ensures stays { Stays (F.content files.old) (F.content files.new) }
-{
-    let path = name_beside(alloc, origin.name, meant.as_str())?;
-    if is_outside(alloc, origin.root, origin.name, meant.as_str())? {
-        let path = Bytes::from_slice(alloc, path.as_bytes())?;
-        return Ok(Found::Outside(path));
-    }
-    match load(alloc, files, path.as_str())? {
-        Loaded::NotRead(path, fault) => Ok(Found::NotRead(path, fault)),
-        Loaded::Text(text, over) => {
-            let file = meant.copy()?;
-            Ok(Found::Text(Inner { text, over, file }))
-        }
-    }
-}
-
-/// The reading, with what is left of the text, and the entities that are open.
+/// The reading, with what is left of the text, the entities that are open, and the files that were
+/// asked for.
 #[derive(Debug, Drop)]
 pub struct Reader {
     pub reading: Reading,
-    pub text: Bytes,
+    pub text: Text,
     pub at: usize,
     pub frames: Frames,
+    pub library: Library,
 }
 
 impl Reader {
     /// Before the text.
-    pub fn new(alloc: Global, text: Bytes) -> Result<Reader, NoMemory>
-        ensures { IfOk result (λ r. position_of r ≡ first text) }
+    pub fn new(alloc: Global, text: Text, library: Library) -> Result<Reader, NoMemory>
+        ensures { IfOk result (λ r. (position_of r ≡ first text) × (r.library ≡ library)) }
     {
         let reading = Reading::new(alloc)?;
         Ok(Reader {
@@ -76,6 +44,7 @@ impl Reader {
             text,
             at: 0,
             frames: Frames::new(alloc),
+            library,
         })
     }
 
@@ -86,6 +55,7 @@ impl Reader {
         requires at { length self.old.text ≤ self.old.at }
         ensures nearer { IfOk result (λ o. IsNearer o (position_of self.old) (position_of self.new)) }
         ensures counted { (call : SourceCall) → IsCalm call → Counted OutcomeCounts call result }
+        ensures library { self.new.library ≡ self.old.library }
         ensures told { (root name : List ℕ) (content : Content) (file : List ℕ) →
             SoFar (seen_from name content) file (position_of self.old) →
             IfOk result
@@ -109,8 +79,9 @@ impl Reader {
         requires few { (self.old.reading.passed < 2 ^ 32) × (inner.over < 2 ^ 32) }
         requires fits { self.old.at + n ≤ length self.old.text }
         requires shut { is_among (names (frames_of self.old.frames)) name ≡ false }
-        ensures { IfOk result (λ done. position_of self.new
+        ensures entered { IfOk result (λ done. position_of self.new
             ≡ entered (position_of self.old) name (inner_of inner) n) }
+        ensures library { self.new.library ≡ self.old.library }
     {
         let Inner { text, over, file } = inner;
         let around = self.reading.file.copy()?;
@@ -127,37 +98,23 @@ impl Reader {
         Ok(())
     }
 
-    // The text of an entity that is declared so far and is not open.
-    fn find<F: Files>(
-        &self,
-        alloc: Global,
-        files: &mut F,
-        origin: Origin<'_>,
-        name: &Bytes,
-    ) -> Result<Found, NoMemory>
-        ensures found { (content : Content) → Stays (F.content files.new) content →
-            IfOk result (IsFound origin.entry.root.now origin.entry.name.now content
-            (state_of self.now.reading) (frames_of self.now.frames) name.now) }
-        ensures counted { Counted FoundCounts
-            (source_call (F.content files.new) (F.faults files.old) (F.faults files.new)
-            (F.misses files.old) (F.misses files.new)) result }
-        ensures stays { Stays (F.content files.old) (F.content files.new) }
+    // What is known of an entity.
+    fn find(&self, alloc: Global, name: &Bytes) -> Result<Sought, NoMemory>
+        ensures { IfOk result
+            (IsSought (state_of self.now.reading) (frames_of self.now.frames) name.now) }
     {
         if self.frames.is_open(name) {
-            return Ok(Found::Nowhere);
+            return Ok(Sought::Nowhere);
         }
         match source_of(&self.reading.parameters, name) {
-            None => Ok(Found::Nowhere),
+            None => Ok(Sought::Nowhere),
             Some(Source::Internal(text)) => {
-                let text = text.copy(alloc)?;
+                let text = Text::new(alloc, text.copy(alloc)?)?;
                 let file = self.reading.file.copy()?;
-                Ok(Found::Text(Inner {
-                    text,
-                    over: 0,
-                    file,
-                }))
+                let over = 0;
+                Ok(Sought::Here(Inner { text, over, file }))
             }
-            Some(Source::External(meant)) => outside(alloc, files, origin, meant),
+            Some(Source::External(meant)) => Ok(Sought::There(meant.copy()?)),
         }
     }
 
@@ -176,9 +133,18 @@ impl Reader {
         requires opens { move (state_of self.old.reading) (drop self.old.at self.old.text)
             ≡ opens (take n (drop 1 (drop self.old.at self.old.text))) (2 + n) }
         ensures told { (content : Content) (file : List ℕ) → Stays (F.content files.new) content →
+            AreKept content self.old.library →
             SoFar (seen_from origin.entry.name.now content) file (position_of self.old) →
             IfOk result (λ o. Told origin.entry.root.now origin.entry.name.now content file o
             (position_of self.old) (position_of self.new)) }
+        ensures kept { (content : Content) → Stays (F.content files.new) content →
+            AreKept content self.old.library → AreKept content self.new.library }
+        ensures asked { AskOn (asked_of self.old.library) (asked_of self.new.library)
+            (F.reads files.old) (F.reads files.new) }
+        ensures only { (content : Content) (file : List ℕ) → Stays (F.content files.new) content →
+            SoFar (seen_from origin.entry.name.now content) file (position_of self.old) →
+            AreAskedFor content origin.entry.name.now file (asked_of self.old.library)
+            (asked_of self.new.library) }
         ensures nearer { IfOk result (λ o. IsNearer o (position_of self.old) (position_of self.new)) }
         ensures counted { Counted OutcomeCounts
             (source_call (F.content files.new) (F.faults files.old) (F.faults files.new)
@@ -189,14 +155,20 @@ impl Reader {
             alloc,
             front(behind(behind(self.text.as_slice(), self.at), 1), n),
         )?;
-        match self.find(alloc, files, origin, &name)? {
-            Found::Nowhere => Ok(Outcome::Misses(name)),
-            Found::NotRead(path, fault) => Ok(Outcome::Unread(path, fault)),
-            Found::Outside(path) => Ok(Outcome::LeadsOut(path)),
-            Found::Text(inner) => {
+        match self.find(alloc, &name)? {
+            Sought::Nowhere => Ok(Outcome::Misses(name)),
+            Sought::Here(inner) => {
                 self.enter(name, inner, 2 + n)?;
                 Ok(Outcome::Goes)
             }
+            Sought::There(meant) => match self.library.text(alloc, files, origin, &meant)? {
+                Found::NotRead(path, fault) => Ok(Outcome::Unread(path, fault)),
+                Found::Outside(path) => Ok(Outcome::LeadsOut(path)),
+                Found::Text(inner) => {
+                    self.enter(name, inner, 2 + n)?;
+                    Ok(Outcome::Goes)
+                }
+            },
         }
     }
 
@@ -212,9 +184,18 @@ impl Reader {
         requires few { self.old.reading.passed ≤ REPLACED_LIMIT }
         requires at { self.old.at < length self.old.text }
         ensures told { (content : Content) (file : List ℕ) → Stays (F.content files.new) content →
+            AreKept content self.old.library →
             SoFar (seen_from origin.entry.name.now content) file (position_of self.old) →
             IfOk result (λ o. Told origin.entry.root.now origin.entry.name.now content file o
             (position_of self.old) (position_of self.new)) }
+        ensures kept { (content : Content) → Stays (F.content files.new) content →
+            AreKept content self.old.library → AreKept content self.new.library }
+        ensures asked { AskOn (asked_of self.old.library) (asked_of self.new.library)
+            (F.reads files.old) (F.reads files.new) }
+        ensures only { (content : Content) (file : List ℕ) → Stays (F.content files.new) content →
+            SoFar (seen_from origin.entry.name.now content) file (position_of self.old) →
+            AreAskedFor content origin.entry.name.now file (asked_of self.old.library)
+            (asked_of self.new.library) }
         ensures nearer { IfOk result (λ o. IsNearer o (position_of self.old) (position_of self.new)) }
         ensures counted { Counted OutcomeCounts
             (source_call (F.content files.new) (F.faults files.old) (F.faults files.new)
@@ -246,9 +227,18 @@ impl Reader {
             × (self.old.reading.references ≤ REPLACED_LIMIT) }
         requires few { self.old.reading.passed ≤ REPLACED_LIMIT }
         ensures told { (content : Content) (file : List ℕ) → Stays (F.content files.new) content →
+            AreKept content self.old.library →
             SoFar (seen_from origin.entry.name.now content) file (position_of self.old) →
             IfOk result (λ o. Told origin.entry.root.now origin.entry.name.now content file o
             (position_of self.old) (position_of self.new)) }
+        ensures kept { (content : Content) → Stays (F.content files.new) content →
+            AreKept content self.old.library → AreKept content self.new.library }
+        ensures asked { AskOn (asked_of self.old.library) (asked_of self.new.library)
+            (F.reads files.old) (F.reads files.new) }
+        ensures only { (content : Content) (file : List ℕ) → Stays (F.content files.new) content →
+            SoFar (seen_from origin.entry.name.now content) file (position_of self.old) →
+            AreAskedFor content origin.entry.name.now file (asked_of self.old.library)
+            (asked_of self.new.library) }
         ensures nearer { IfOk result (λ o. IsNearer o (position_of self.old) (position_of self.new)) }
         ensures counted { Counted OutcomeCounts
             (source_call (F.content files.new) (F.faults files.old) (F.faults files.new)

@@ -10,12 +10,14 @@ ghost use Rattle.dtd_entities.specs.Positions.{state_of};
 ghost use Rattle.dtd_reader.specs.Source.{SourceCall, source_call, IsCalm, IsUnread};
 ghost use Rattle.dtd_reader.specs.Causes.{AsksFor, IsWithinLimits, IsReadCause, IsTextCause};
 ghost use Rattle.dtd_reader.specs.Answers.{IsAnswer, IsTextAnswer};
+ghost use Rattle.dtd_reader.specs.Library.{AreKept, AskSome, AsksEachOnce, asked_of};
 
+use crate::library::{Library, Origin};
 use crate::limits::REPLACED_LIMIT;
-use crate::loading::load;
 use crate::outcome::{Loaded, Outcome};
-use crate::reader::{Origin, Reader};
+use crate::reader::Reader;
 use crate::refusal::DtdRefusal;
+use crate::text::Text;
 use dtd_entities::{Mode, Reading};
 use dtd_tables::first_refused;
 use io_edge::{FileFault, Files};
@@ -106,20 +108,24 @@ fn ended(alloc: Global, reading: Reading) -> Result<Reading, DtdRefusal>
     }
 }
 
-// Reads a text to its end.
+// Reads a text to its end, where these files were asked for so far.
 fn read_from<F: Files>(
     alloc: Global,
     files: &mut F,
     origin: Origin<'_>,
-    text: Bytes,
+    text: Text,
+    library: Library,
 ) -> Result<Reading, DtdRefusal>
-    ensures answer { IsTextAnswer
+    ensures answer { AreKept (F.content files.new) library → IsTextAnswer
         (source_call (F.content files.new) (F.faults files.old) (F.faults files.new)
         (F.misses files.old) (F.misses files.new)) origin.entry.root.now origin.entry.name.now
         text result }
+    ensures asked { AreKept (F.content files.new) library →
+        AskSome (F.content files.new) origin.entry.name.now text (asked_of library)
+        (F.reads files.old) (F.reads files.new) }
     ensures stays { Stays (F.content files.old) (F.content files.new) }
 {
-    let mut reader = Reader::new(alloc, text)?;
+    let mut reader = Reader::new(alloc, text, library)?;
     'steps: while is_within_limits(&reader.reading) {
         match reader.advance(alloc, files, origin)? {
             Outcome::Goes => continue 'steps,
@@ -142,7 +148,8 @@ fn read_from<F: Files>(
 
 /// Reads the text of a document type definition from the file of this name, with its parameter
 /// entities replaced (XML 1.0, 2.8 and 4.4), in time linear in the replaced text. The name of an
-/// external entity is looked for beside the file in which its declaration ends (4.2.2).
+/// external entity is looked for beside the file in which its declaration ends (4.2.2). The source is
+/// asked once for each file.
 ///
 /// # Errors
 ///
@@ -160,10 +167,13 @@ pub fn read_text<F: Files>(
     ensures answer { IsAnswer
         (source_call (F.content files.new) (F.faults files.old) (F.faults files.new)
         (F.misses files.old) (F.misses files.new)) root.now name.now result }
+    ensures asked { AsksEachOnce (F.content files.new) name.now (F.reads files.old)
+        (F.reads files.new) }
     ensures stays { Stays (F.content files.old) (F.content files.new) }
 {
-    match load(alloc, files, name)? {
-        Loaded::Text(text, _) => read_from(alloc, files, Origin { root, name }, text),
+    let mut library = Library::new(alloc);
+    match library.load(alloc, files, name)? {
+        Loaded::Text(text, _) => read_from(alloc, files, Origin { root, name }, text, library),
         Loaded::NotRead(path, fault) => Err(unread(path, fault)),
     }
 }

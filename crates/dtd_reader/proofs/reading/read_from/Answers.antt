@@ -7,15 +7,18 @@ use Rattle.dtd_reader.specs.Causes.{IsWithinLimits, IsTextCause}
 use Rattle.dtd_reader.specs.Answers.{IsTextAnswer}
 use Rattle.dtd_reader.specs.Views.{position_of, Told, OutcomeCounts}
 use Rattle.dtd_reader.specs.declared.refusal.DtdRefusal.TheVariants.{Outside, LeftOut, Entity}
+use Rattle.dtd_reader.specs.Library.{asked_of}
+use Rattle.dtd_reader.proofs.LibraryLemmas.{asks_both, both_since, asked_more}
 use Rattle.dtd_reader.proofs.Steps.{same_call, broke, omitted, over}
 use Rattle.dtd_reader.proofs.reading.read_from.Goals as goal
 
 pub returns-in-Ends-clause-answer : goal.returns-in-Ends-clause-answer
-returns-in-Ends-clause-answer g c =
+returns-in-Ends-clause-answer g c = λ kept.
     let at = c.steps in
     let call : SourceCall = source_call (g.F.Files.content c.advance.new.files) (g.F.Files.faults at.files) (g.F.Files.faults c.advance.new.files) (g.F.Files.misses at.files) (g.F.Files.misses c.advance.new.files) in
-    let so_far = at.invariant.0 call.content c.in_ok-advance.ensures.stays in
-    let told = subst (λ o. Told c.args.origin.root.now c.args.origin.name.now call.content c.args.text o (position_of at.reader) (position_of c.advance.new.self)) c.in-Ends.is (c.in_ok-advance.ensures.told call.content c.args.text (stays_same _ _ refl) so_far) in
+    let before = at.invariant.0 call.content c.in_ok-advance.ensures.stays kept in
+    let so_far = before.0 in
+    let told = subst (λ o. Told c.args.origin.root.now c.args.origin.name.now call.content c.args.text o (position_of at.reader) (position_of c.advance.new.self)) c.in-Ends.is (c.in_ok-advance.ensures.told call.content c.args.text (stays_same _ _ refl) before.1 so_far) in
     let counts = subst (λ o. OutcomeCounts call o) c.in-Ends.is c.in_ok-advance.ensures.counted in
     let reads = subst (λ s. Reads (seen_from c.args.origin.name.now call.content) [] start c.args.text s) (sym told.1) told.0 in
     let within = c.is_within_limits.ensures.within c.steps-test.true in
@@ -24,69 +27,80 @@ returns-in-Ends-clause-answer g c =
     same_call (λ x. IsTextAnswer x c.args.origin.root.now c.args.origin.name.now c.args.text c.ended.result) _ _ _ _ _ _ _ at.invariant.2 at.invariant.3 (c.ended.ensures call c.args.origin.root.now c.args.origin.name.now c.args.text reads limits counts)
 
 pub returns-in-Breaks-clause-answer : goal.returns-in-Breaks-clause-answer
-returns-in-Breaks-clause-answer g c =
+returns-in-Breaks-clause-answer g c = λ kept.
     let at = c.steps in
     let call : SourceCall = source_call (g.F.Files.content c.advance.new.files) (g.F.Files.faults at.files) (g.F.Files.faults c.advance.new.files) (g.F.Files.misses at.files) (g.F.Files.misses c.advance.new.files) in
-    let so_far = at.invariant.0 call.content c.in_ok-advance.ensures.stays in
-    let told = subst (λ o. Told c.args.origin.root.now c.args.origin.name.now call.content c.args.text o (position_of at.reader) (position_of c.advance.new.self)) c.in-Breaks.is (c.in_ok-advance.ensures.told call.content c.args.text (stays_same _ _ refl) so_far) in
+    let before = at.invariant.0 call.content c.in_ok-advance.ensures.stays kept in
+    let so_far = before.0 in
+    let told = subst (λ o. Told c.args.origin.root.now c.args.origin.name.now call.content c.args.text o (position_of at.reader) (position_of c.advance.new.self)) c.in-Breaks.is (c.in_ok-advance.ensures.told call.content c.args.text (stays_same _ _ refl) before.1 so_far) in
     let counts = subst (λ o. OutcomeCounts call o) c.in-Breaks.is c.in_ok-advance.ensures.counted in
     let broken = broke call c.args.origin.root.now c.args.origin.name.now c.args.text (position_of at.reader) (position_of c.advance.new.self) so_far told in
     same_call (λ x. IsTextCause x c.args.origin.root.now c.args.origin.name.now c.args.text c.first_fault.result) _ _ _ _ _ _ _ at.invariant.2 at.invariant.3
     (c.first_fault.ensures call c.args.origin.root.now c.args.origin.name.now c.args.text broken.0 broken.1 counts)
 
 pub returns-in-Omits-clause-answer : goal.returns-in-Omits-clause-answer
-returns-in-Omits-clause-answer g c =
+returns-in-Omits-clause-answer g c = λ kept.
     let at = c.steps in
     let call : SourceCall = source_call (g.F.Files.content c.advance.new.files) (g.F.Files.faults at.files) (g.F.Files.faults c.advance.new.files) (g.F.Files.misses at.files) (g.F.Files.misses c.advance.new.files) in
-    let so_far = at.invariant.0 call.content c.in_ok-advance.ensures.stays in
-    let told = subst (λ o. Told c.args.origin.root.now c.args.origin.name.now call.content c.args.text o (position_of at.reader) (position_of c.advance.new.self)) c.in-Omits.is (c.in_ok-advance.ensures.told call.content c.args.text (stays_same _ _ refl) so_far) in
+    let before = at.invariant.0 call.content c.in_ok-advance.ensures.stays kept in
+    let so_far = before.0 in
+    let told = subst (λ o. Told c.args.origin.root.now c.args.origin.name.now call.content c.args.text o (position_of at.reader) (position_of c.advance.new.self)) c.in-Omits.is (c.in_ok-advance.ensures.told call.content c.args.text (stays_same _ _ refl) before.1 so_far) in
     let counts = subst (λ o. OutcomeCounts call o) c.in-Omits.is c.in_ok-advance.ensures.counted in
     same_call (λ x. IsTextCause x c.args.origin.root.now c.args.origin.name.now c.args.text (LeftOut c.advance.new.self.reading.begun)) _ _ _ _ _ _ _ at.invariant.2 at.invariant.3
     (omitted call c.args.origin.root.now c.args.origin.name.now c.args.text (position_of at.reader) (position_of c.advance.new.self) told counts)
 
 pub returns-in-Misses-clause-answer : goal.returns-in-Misses-clause-answer
-returns-in-Misses-clause-answer g c =
+returns-in-Misses-clause-answer g c = λ kept.
     let at = c.steps in
     let call : SourceCall = source_call (g.F.Files.content c.advance.new.files) (g.F.Files.faults at.files) (g.F.Files.faults c.advance.new.files) (g.F.Files.misses at.files) (g.F.Files.misses c.advance.new.files) in
-    let so_far = at.invariant.0 call.content c.in_ok-advance.ensures.stays in
-    let told = subst (λ o. Told c.args.origin.root.now c.args.origin.name.now call.content c.args.text o (position_of at.reader) (position_of c.advance.new.self)) c.in-Misses.is (c.in_ok-advance.ensures.told call.content c.args.text (stays_same _ _ refl) so_far) in
+    let before = at.invariant.0 call.content c.in_ok-advance.ensures.stays kept in
+    let so_far = before.0 in
+    let told = subst (λ o. Told c.args.origin.root.now c.args.origin.name.now call.content c.args.text o (position_of at.reader) (position_of c.advance.new.self)) c.in-Misses.is (c.in_ok-advance.ensures.told call.content c.args.text (stays_same _ _ refl) before.1 so_far) in
     let counts = subst (λ o. OutcomeCounts call o) c.in-Misses.is c.in_ok-advance.ensures.counted in
     same_call (λ x. IsTextCause x c.args.origin.root.now c.args.origin.name.now c.args.text (Entity c.in-Misses.name)) _ _ _ _ _ _ _ at.invariant.2 at.invariant.3 (told, counts)
 
 pub returns-in-Unread-clause-answer : goal.returns-in-Unread-clause-answer
-returns-in-Unread-clause-answer g c =
+returns-in-Unread-clause-answer g c = λ kept.
     let at = c.steps in
     let call : SourceCall = source_call (g.F.Files.content c.advance.new.files) (g.F.Files.faults at.files) (g.F.Files.faults c.advance.new.files) (g.F.Files.misses at.files) (g.F.Files.misses c.advance.new.files) in
-    let so_far = at.invariant.0 call.content c.in_ok-advance.ensures.stays in
-    let told = subst (λ o. Told c.args.origin.root.now c.args.origin.name.now call.content c.args.text o (position_of at.reader) (position_of c.advance.new.self)) c.in-Unread.is (c.in_ok-advance.ensures.told call.content c.args.text (stays_same _ _ refl) so_far) in
+    let before = at.invariant.0 call.content c.in_ok-advance.ensures.stays kept in
+    let so_far = before.0 in
+    let told = subst (λ o. Told c.args.origin.root.now c.args.origin.name.now call.content c.args.text o (position_of at.reader) (position_of c.advance.new.self)) c.in-Unread.is (c.in_ok-advance.ensures.told call.content c.args.text (stays_same _ _ refl) before.1 so_far) in
     let counts = subst (λ o. OutcomeCounts call o) c.in-Unread.is c.in_ok-advance.ensures.counted in
     same_call (λ x. IsTextCause x c.args.origin.root.now c.args.origin.name.now c.args.text c.unread.result) _ _ _ _ _ _ _ at.invariant.2 at.invariant.3 (c.unread.ensures.asked call c.args.origin.root.now c.args.origin.name.now c.args.text told counts)
 
 pub returns-in-LeadsOut-clause-answer : goal.returns-in-LeadsOut-clause-answer
-returns-in-LeadsOut-clause-answer g c =
+returns-in-LeadsOut-clause-answer g c = λ kept.
     let at = c.steps in
     let call : SourceCall = source_call (g.F.Files.content c.advance.new.files) (g.F.Files.faults at.files) (g.F.Files.faults c.advance.new.files) (g.F.Files.misses at.files) (g.F.Files.misses c.advance.new.files) in
-    let so_far = at.invariant.0 call.content c.in_ok-advance.ensures.stays in
-    let told = subst (λ o. Told c.args.origin.root.now c.args.origin.name.now call.content c.args.text o (position_of at.reader) (position_of c.advance.new.self)) c.in-LeadsOut.is (c.in_ok-advance.ensures.told call.content c.args.text (stays_same _ _ refl) so_far) in
+    let before = at.invariant.0 call.content c.in_ok-advance.ensures.stays kept in
+    let so_far = before.0 in
+    let told = subst (λ o. Told c.args.origin.root.now c.args.origin.name.now call.content c.args.text o (position_of at.reader) (position_of c.advance.new.self)) c.in-LeadsOut.is (c.in_ok-advance.ensures.told call.content c.args.text (stays_same _ _ refl) before.1 so_far) in
     let counts = subst (λ o. OutcomeCounts call o) c.in-LeadsOut.is c.in_ok-advance.ensures.counted in
     same_call (λ x. IsTextCause x c.args.origin.root.now c.args.origin.name.now c.args.text (Outside c.in-LeadsOut.name)) _ _ _ _ _ _ _ at.invariant.2 at.invariant.3 (told, counts)
 
 pub returns-clause-answer : goal.returns-clause-answer
-returns-clause-answer g c =
+returns-clause-answer g c = λ kept.
     let at = c.steps in
     let many = c.most.ensures (c.is_within_limits.ensures.over c.steps-test.false) in
-    (over (seen_from c.args.origin.name.now (g.F.Files.content at.files)) c.args.text (position_of at.reader) c.most.result (at.invariant.0 _ (stays_same _ _ refl)) many.0 many.1, (at.invariant.2, at.invariant.3))
+    (over (seen_from c.args.origin.name.now (g.F.Files.content at.files)) c.args.text (position_of at.reader) c.most.result (at.invariant.0 _ (stays_same _ _ refl) kept).0 many.0 many.1, (at.invariant.2, at.invariant.3))
 
 pub steps-preserved : goal.steps-preserved
 steps-preserved g c =
     let at = c.steps in
     let call : SourceCall = source_call (g.F.Files.content c.advance.new.files) (g.F.Files.faults at.files) (g.F.Files.faults c.advance.new.files) (g.F.Files.misses at.files) (g.F.Files.misses c.advance.new.files) in
     let counts = subst (λ o. OutcomeCounts call o) c.in-Goes.is c.in_ok-advance.ensures.counted in (
-      (λ content later. subst (λ o. Told c.args.origin.root.now c.args.origin.name.now content c.args.text o (position_of at.reader) (position_of c.advance.new.self)) c.in-Goes.is
-          (c.in_ok-advance.ensures.told content c.args.text later (at.invariant.0 content (stays_on _ _ _ c.in_ok-advance.ensures.stays later)))),
+      (λ content later kept.
+        let before = at.invariant.0 content (stays_on _ _ _ c.in_ok-advance.ensures.stays later) kept in (
+          subst (λ o. Told c.args.origin.root.now c.args.origin.name.now content c.args.text o (position_of at.reader) (position_of c.advance.new.self)) c.in-Goes.is
+              (c.in_ok-advance.ensures.told content c.args.text later before.1 before.0),
+          c.in_ok-advance.ensures.kept content later before.1,
+          both_since content c.args.origin.name.now c.args.text _ _ _ before.2 (c.in_ok-advance.ensures.only content c.args.text later before.0),
+        )),
       stays_on _ _ _ at.invariant.1 c.in_ok-advance.ensures.stays,
       counts.0 ∙ at.invariant.2,
       counts.1 ∙ at.invariant.3,
+      asks_both _ _ _ _ _ _ at.invariant.4 c.in_ok-advance.ensures.asked,
     )
 
 pub returns-in-Breaks-clause-stays : goal.returns-in-Breaks-clause-stays
@@ -103,3 +117,59 @@ returns-in-Unread-clause-stays g c = stays_on _ _ _ c.steps.invariant.1 c.in_ok-
 
 pub returns-in-LeadsOut-clause-stays : goal.returns-in-LeadsOut-clause-stays
 returns-in-LeadsOut-clause-stays g c = stays_on _ _ _ c.steps.invariant.1 c.in_ok-advance.ensures.stays
+
+pub returns-in-Ends-clause-asked : goal.returns-in-Ends-clause-asked
+returns-in-Ends-clause-asked g c = λ kept.
+    let at = c.steps in
+    let content = g.F.Files.content c.advance.new.files in
+    let before = at.invariant.0 content c.in_ok-advance.ensures.stays kept in
+    asked_more content c.args.origin.name.now c.args.text _ _ _ _ _ _ at.invariant.4 before.2 c.in_ok-advance.ensures.asked (c.in_ok-advance.ensures.only content c.args.text (stays_same _ _ refl) before.0)
+
+pub returns-in-Breaks-clause-asked : goal.returns-in-Breaks-clause-asked
+returns-in-Breaks-clause-asked g c = λ kept.
+    let at = c.steps in
+    let content = g.F.Files.content c.advance.new.files in
+    let before = at.invariant.0 content c.in_ok-advance.ensures.stays kept in
+    asked_more content c.args.origin.name.now c.args.text _ _ _ _ _ _ at.invariant.4 before.2 c.in_ok-advance.ensures.asked (c.in_ok-advance.ensures.only content c.args.text (stays_same _ _ refl) before.0)
+
+pub returns-in-Omits-clause-asked : goal.returns-in-Omits-clause-asked
+returns-in-Omits-clause-asked g c = λ kept.
+    let at = c.steps in
+    let content = g.F.Files.content c.advance.new.files in
+    let before = at.invariant.0 content c.in_ok-advance.ensures.stays kept in
+    asked_more content c.args.origin.name.now c.args.text _ _ _ _ _ _ at.invariant.4 before.2 c.in_ok-advance.ensures.asked (c.in_ok-advance.ensures.only content c.args.text (stays_same _ _ refl) before.0)
+
+pub returns-in-Misses-clause-asked : goal.returns-in-Misses-clause-asked
+returns-in-Misses-clause-asked g c = λ kept.
+    let at = c.steps in
+    let content = g.F.Files.content c.advance.new.files in
+    let before = at.invariant.0 content c.in_ok-advance.ensures.stays kept in
+    asked_more content c.args.origin.name.now c.args.text _ _ _ _ _ _ at.invariant.4 before.2 c.in_ok-advance.ensures.asked (c.in_ok-advance.ensures.only content c.args.text (stays_same _ _ refl) before.0)
+
+pub returns-in-Unread-clause-asked : goal.returns-in-Unread-clause-asked
+returns-in-Unread-clause-asked g c = λ kept.
+    let at = c.steps in
+    let content = g.F.Files.content c.advance.new.files in
+    let before = at.invariant.0 content c.in_ok-advance.ensures.stays kept in
+    asked_more content c.args.origin.name.now c.args.text _ _ _ _ _ _ at.invariant.4 before.2 c.in_ok-advance.ensures.asked (c.in_ok-advance.ensures.only content c.args.text (stays_same _ _ refl) before.0)
+
+pub returns-in-LeadsOut-clause-asked : goal.returns-in-LeadsOut-clause-asked
+returns-in-LeadsOut-clause-asked g c = λ kept.
+    let at = c.steps in
+    let content = g.F.Files.content c.advance.new.files in
+    let before = at.invariant.0 content c.in_ok-advance.ensures.stays kept in
+    asked_more content c.args.origin.name.now c.args.text _ _ _ _ _ _ at.invariant.4 before.2 c.in_ok-advance.ensures.asked (c.in_ok-advance.ensures.only content c.args.text (stays_same _ _ refl) before.0)
+
+pub returns-in_err-advance-clause-asked : goal.returns-in_err-advance-clause-asked
+returns-in_err-advance-clause-asked g c = λ kept.
+    let at = c.steps in
+    let content = g.F.Files.content c.advance.new.files in
+    let before = at.invariant.0 content c.in_err-advance.ensures.stays kept in
+    asked_more content c.args.origin.name.now c.args.text _ _ _ _ _ _ at.invariant.4 before.2 c.in_err-advance.ensures.asked (c.in_err-advance.ensures.only content c.args.text (stays_same _ _ refl) before.0)
+
+pub returns-clause-asked : goal.returns-clause-asked
+returns-clause-asked g c = λ kept.
+    let at = c.steps in
+    let content = g.F.Files.content at.files in
+    let before = at.invariant.0 content (stays_same _ _ refl) kept in
+    record { names = asked_of at.reader.library; on = at.invariant.4; asked = before.2 }
