@@ -208,6 +208,14 @@ inside_the_folder_above : is_inside (codes "..") (codes "../a.php") ≡ true
 unfolding is_inside normal_parts
 inside_the_folder_above = refl
 
+the_folder_of_the_call_is_below : is_inside (codes "..") (codes "lib/a.php") ≡ true
+unfolding is_inside normal_parts
+the_folder_of_the_call_is_below = refl
+
+a_folder_beside_that_of_the_call : is_inside (codes "../lib") (codes "lib/a.php") ≡ false
+unfolding is_inside normal_parts
+a_folder_beside_that_of_the_call = refl
+
 above_the_folder_above : is_inside (codes "..") (codes "../../a.php") ≡ false
 unfolding is_inside normal_parts
 above_the_folder_above = refl

@@ -1,7 +1,7 @@
 -- Names of files (POSIX.1-2017, 4.13 "Pathname Resolution"): parts between slashes. A name is taken by its text alone, whatever links there
 -- are (own).
 use Rattle.std.specs.Prelude.{◌==◌, ◌-◌, ◌++◌, ◌&&◌, ◌||◌, ℕ, List, [], ◌∷◌, length, take, Bool, false, not, Option, None, Some, if◌then◌else◌, bytes_eq, nat_eq, slice_index}
-use Rattle.std.specs.List.{filter, fold, join_with_byte, last_or, list_any, slice_split, starts_with}
+use Rattle.std.specs.List.{filter, fold, join_with_byte, last_or, list_all, list_any, slice_split, starts_with}
 use Rattle.std.specs.Path.{slash, dot, root_dir, cur_dir, parent_dir, is_name}
 
 -- what stands between the slashes of a name, without what is empty or `.`
@@ -62,11 +62,17 @@ beside file name =
 abbrev pub is_dotted : List ℕ → Bool
 is_dotted name = starts_with nat_eq name (dot ∷ slash ∷ []) || starts_with nat_eq name (dot ∷ dot ∷ slash ∷ [])
 
--- the parts of a name go on behind those of a root, by parts that are no `..`
+-- a part leads to the folder above
+abbrev pub is_parent : List ℕ → Bool
+is_parent part = bytes_eq part parent_dir
+
+-- behind the parts that a root and a name begin with alike, the root leads up alone, and the name never: `..` holds `../a` and `a`
 abbrev pub goes_on : List (List ℕ) → List (List ℕ) → Bool
-goes_on [] parts = not (list_any (λ part. bytes_eq part parent_dir) parts)
-goes_on (part ∷ root) [] = false
-goes_on (part ∷ root) (other ∷ parts) = bytes_eq part other && goes_on root parts
+goes_on [] parts = not (list_any is_parent parts)
+goes_on (part ∷ root) [] = list_all is_parent (part ∷ root)
+goes_on (part ∷ root) (other ∷ parts) =
+    if bytes_eq part other then goes_on root parts
+    else (list_all is_parent (part ∷ root) && not (list_any is_parent (other ∷ parts)))
 
 -- a name lies in a folder, or below it
 unfoldable pub is_inside : List ℕ → List ℕ → Bool

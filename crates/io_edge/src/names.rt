@@ -1,6 +1,6 @@
 // Names of files, by their text alone.
 ghost use Rattle.std.specs.Prelude.{◌≡◌, ◌==◌, ◌∷◌, [], false, ℕ, List, IfOk, OnOk, bytes_eq, map, option_map, string_bytes};
-ghost use Rattle.std.specs.List.{filter, fold, list_any, slice_split};
+ghost use Rattle.std.specs.List.{filter, fold, list_all, list_any, slice_split};
 ghost use Rattle.std.specs.Path.{is_name, parent_dir, slash};
 ghost use Rattle.io_edge.specs.Names as names;
 
@@ -189,7 +189,8 @@ pub fn is_inside(alloc: Global, root: &str, name: &str) -> Result<bool, NoMemory
     Ok(!name.is_absolute && goes_on)
 }
 
-// Whether the parts of a name go on behind those of a root, by parts that are no `..`.
+// Whether behind the parts that a root and a name begin with alike, the root leads up alone, and the
+// name never.
 fn goes_on(root: &[&str], name: &[&str]) -> bool
     ensures { result ≡ names.goes_on (map (λ part. part.now) root.now)
         (map (λ part. part.now) name.now) }
@@ -200,21 +201,34 @@ fn goes_on(root: &[&str], name: &[&str]) -> bool
         match rest {
             [part, others @ ..] => {
                 if *folder != *part {
-                    return false;
+                    return leads_up(folders) && !has_parent(rest);
                 }
                 folders = deeper;
                 rest = others;
             }
-            [] => return false,
+            [] => return leads_up(folders),
         }
     }
     !has_parent(rest)
 }
 
+// Whether each part is `..`.
+fn leads_up(parts: &[&str]) -> bool
+    ensures { result ≡ list_all names.is_parent (map (λ part. part.now) parts.now) }
+{
+    let mut rest = parts;
+    while let [part, others @ ..] = rest {
+        if *part != ".." {
+            return false;
+        }
+        rest = others;
+    }
+    true
+}
+
 // Whether a part is `..`.
 fn has_parent(parts: &[&str]) -> bool
-    ensures { result ≡ list_any (λ part. bytes_eq part parent_dir)
-        (map (λ part. part.now) parts.now) }
+    ensures { result ≡ list_any names.is_parent (map (λ part. part.now) parts.now) }
 {
     let mut rest = parts;
     while let [part, others @ ..] = rest {
