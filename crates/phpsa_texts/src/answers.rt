@@ -234,11 +234,7 @@ fn site_status(lines: &[Line]) -> Exit
 }
 
 /// How the scripts of these names were decided, each by its line.
-pub fn site_message(
-    alloc: Global,
-    names: &[String],
-    lines: &[Line],
-) -> Result<Message, NoMemory>
+pub fn site_message(alloc: Global, names: &[String], lines: &[Line]) -> Result<Message, NoMemory>
     ensures { IfOk result (λ message. Says message (site_status lines.now)
         (report (map string_bytes names.now) lines.now)) }
 {

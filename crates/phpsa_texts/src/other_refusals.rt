@@ -85,9 +85,7 @@ pub fn list_refusal(alloc: Global, refusal: ListRefusal) -> Refusal
     ensures { IsTold result (list_status refusal) (list_text refusal) }
 {
     match refusal {
-        ListRefusal::NotUtf8 { line } => {
-            told(Exit::Input, number_text(alloc, b"NotUtf8", line))
-        }
+        ListRefusal::NotUtf8 { line } => { told(Exit::Input, number_text(alloc, b"NotUtf8", line)) }
         ListRefusal::Names { count } => told(Exit::Input, number_text(alloc, b"Names", count)),
         ListRefusal::Memory => Refusal::Memory,
     }
