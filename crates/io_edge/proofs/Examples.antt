@@ -48,6 +48,12 @@ unasked_allows_all = tt
 no_file_is_long : HasAtLeast (known None) 1 → ⊥
 no_file_is_long h = h
 
+no_long_file_is_unasked : HasAtLeast unasked 1 → ⊥
+no_long_file_is_unasked h = h
+
+untold_may_be_long : HasAtLeast untold 1048577
+untold_may_be_long = tt
+
 -- a name may become told, and stays so; what is told does not change, and what is never told stays untold
 abbrev before_any : Content
 before_any name = unasked

@@ -23,9 +23,9 @@ Allows unasked file = ⊤
 Allows untold file = ⊤
 Allows (known told) file = told ≡ file
 
--- where it is told, there is a file of this many bytes or more
+-- a name was answered by a file of this many bytes or more: where it is told, it has so many
 abbrev pub HasAtLeast : Told → ℕ → Type 0
-HasAtLeast unasked len = ⊤
+HasAtLeast unasked len = ⊥
 HasAtLeast untold len = ⊤
 HasAtLeast (known None) len = ⊥
 HasAtLeast (known (Some bytes)) len = len ≤ length bytes

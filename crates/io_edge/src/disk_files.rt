@@ -10,23 +10,47 @@ use std::{fs, io, rt};
 use text_base::Bytes;
 use text_base::limits::FILE_LIMIT;
 
-/// The files that a runtime reads from the system. They tell nothing of what a name holds.
+/// The name by which the standard input is asked for (POSIX.1-2017, 12.2, guideline 13).
+const INPUT_NAME: &str = "-";
+
+/// The files that a runtime reads from the system, and its standard input. They tell nothing of
+/// what a name holds.
 #[derive(Drop)]
-pub struct DiskFiles<'a, R: rt::Files> {
+pub struct DiskFiles<'a, R: rt::Files, I: Read + Drop> {
     rt: &'a R,
+    input: Option<I>,
     faults: u64,
     misses: u64,
     reads: u64,
 }
 
-impl<'a, R: rt::Files> DiskFiles<'a, R> {
-    /// The files of this runtime. A name is a path of the system, from the current folder on.
-    pub fn new(rt: &'a R) -> DiskFiles<'a, R> {
+impl<'a, R: rt::Files, I: Read + Drop> DiskFiles<'a, R, I> {
+    /// The files of this runtime, and this input. A name is a path of the system, from the current
+    /// folder on; `-`, where a file of any kind is asked for, is the input, which is read once.
+    pub fn new(rt: &'a R, input: I) -> DiskFiles<'a, R, I> {
         DiskFiles {
             rt,
+            input: Some(input),
             faults: 0,
             misses: 0,
             reads: 0,
+        }
+    }
+
+    /// The bytes of the input; the second time it has failed.
+    fn read_input(&mut self, alloc: Global) -> Result<Bytes, FileFault>
+        ensures limit { IfOk result (λ bytes. length bytes ≤ FILE_LIMIT) }
+        ensures long { IfErr result IsOverLimit }
+        ensures faults { self.new.faults ≡ self.old.faults }
+        ensures misses { self.new.misses ≡ self.old.misses }
+        ensures reads { self.new.reads ≡ self.old.reads }
+    {
+        match self.input.take() {
+            Some(input) => {
+                let mut input = input;
+                read_bytes(alloc, &mut input)
+            }
+            None => Err(FileFault::Failed),
         }
     }
 }
@@ -103,7 +127,7 @@ fn read_file<R: rt::Files>(
     }
 }
 
-impl<R: rt::Files> Files for DiskFiles<'_, R> {
+impl<R: rt::Files, I: Read + Drop> Files for DiskFiles<'_, R, I> {
     ghost content = { λ _ _. untold };
 
     ghost faults = { λ d. d.faults };
@@ -113,7 +137,11 @@ impl<R: rt::Files> Files for DiskFiles<'_, R> {
     ghost reads = { λ d. d.reads };
 
     fn read(&mut self, alloc: Global, name: &str, kind: FileKind) -> Result<Bytes, FileFault> {
-        let answer = read_file(alloc, self.rt, name, kind);
+        let answer = if kind == FileKind::Any && name == INPUT_NAME {
+            self.read_input(alloc)
+        } else {
+            read_file(alloc, self.rt, name, kind)
+        };
         self.reads = self.reads.saturating_add(1);
         match &answer {
             Err(FileFault::Missing) => self.misses = self.misses.saturating_add(1),
@@ -191,7 +219,12 @@ mod tests {
         fs::write(&rt, path.as_str(), "<html/>\n")?;
         let below_a_file = path.join(alloc, "page")?;
         let missing = folder.join(alloc, "io_edge_missing")?;
-        let mut files = DiskFiles::new(&rt);
+        let input = ZeroBytes {
+            left: 7,
+            is_interrupted: false,
+            fails: false,
+        };
+        let mut files = DiskFiles::new(&rt, input);
         for (name, kind, wanted) in [
             (path.as_str(), FileKind::Regular, Ok(8)),
             (path.as_str(), FileKind::Any, Ok(8)),
@@ -206,6 +239,9 @@ mod tests {
             ),
             ("/dev/null", FileKind::Any, Ok(0)),
             ("/dev/null", FileKind::Regular, Err(FileFault::Failed)),
+            ("-", FileKind::Regular, Err(FileFault::Missing)),
+            ("-", FileKind::Any, Ok(7)),
+            ("-", FileKind::Any, Err(FileFault::Failed)),
         ] {
             let answer = files.read(alloc, name, kind).map(|bytes| bytes.len());
             assert_eq!(rt; answer, wanted, "{name}");
@@ -213,7 +249,7 @@ mod tests {
         let bytes = files.read(alloc, path.as_str(), FileKind::Regular)?;
         assert_eq!(rt; bytes.as_slice(), b"<html/>\n".as_slice());
         fs::remove_file(&rt, path.as_str())?;
-        assert_eq!(rt; (files.faults, files.misses, files.reads), (4, 2, 10));
+        assert_eq!(rt; (files.faults, files.misses, files.reads), (5, 3, 13));
         Ok(())
     }
 }

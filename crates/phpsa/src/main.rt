@@ -30,7 +30,7 @@ fn status_of(rt: &HostRuntime) -> Exit {
         Ok(words) => words,
         Err(no_words) => return refuse(rt, no_words),
     };
-    let mut files = ReadOnce::new(rt.alloc(), DiskFiles::new(rt));
+    let mut files = ReadOnce::new(rt.alloc(), DiskFiles::new(rt, rt.stdin()));
     let mut out = StdSink::new(rt, rt.stdout());
     let mut err = StdSink::new(rt, rt.stderr());
     phpsa(rt.alloc(), &words, &mut files, &mut out, &mut err)

@@ -198,7 +198,7 @@ mod tests {
         let other = folder.join(alloc, "site_check_other")?;
         fs::write(&rt, page.as_str(), "<html/>")?;
         fs::write(&rt, other.as_str(), "<p>")?;
-        let mut files = ReadOnce::new(alloc, DiskFiles::new(&rt));
+        let mut files = ReadOnce::new(alloc, DiskFiles::new(&rt, rt.stdin()));
         let first = files.read(alloc, page.as_str(), FileKind::Regular)?;
         let second = files.read(alloc, other.as_str(), FileKind::Any)?;
         fs::write(&rt, page.as_str(), "changed")?;
