@@ -271,19 +271,19 @@ version_text = codes "phpsa 0.1.0" ++ 10 ∷ []
 
 -- what `check` takes
 abbrev pub check_usage : List ℕ
-check_usage = codes "phpsa check FILE [--dtd D] [--limit N] [--nesting] [--json]" ++ 10 ∷ []
+check_usage = codes "phpsa check FILE [--dtd D] [--limit N] [--nesting] [--json] [--root FOLDER]" ++ 10 ∷ []
 
 -- what `run` takes
 abbrev pub run_usage : List ℕ
-run_usage = codes "phpsa run FILE [--request FILE] [--steps N]" ++ 10 ∷ []
+run_usage = codes "phpsa run FILE [--request FILE] [--steps N] [--root FOLDER]" ++ 10 ∷ []
 
 -- what `page` takes
 abbrev pub page_usage : List ℕ
-page_usage = codes "phpsa page FILE [--dtd D]" ++ 10 ∷ []
+page_usage = codes "phpsa page FILE [--dtd D] [--root FOLDER]" ++ 10 ∷ []
 
 -- what `grammar` takes
 abbrev pub grammar_usage : List ℕ
-grammar_usage = codes "phpsa grammar FILE" ++ 10 ∷ []
+grammar_usage = codes "phpsa grammar FILE [--root FOLDER]" ++ 10 ∷ []
 
 -- what `make` takes
 abbrev pub make_usage : List ℕ
@@ -291,7 +291,7 @@ make_usage = codes "phpsa make N [--check]" ++ 10 ∷ []
 
 -- what `site` takes
 abbrev pub site_usage : List ℕ
-site_usage = codes "phpsa site FILE [--dtd D] [--limit N] [--nesting]" ++ 10 ∷ []
+site_usage = codes "phpsa site FILE [--dtd D] [--limit N] [--nesting] [--root FOLDER]" ++ 10 ∷ []
 
 -- what else may be asked for
 abbrev pub help_usage : List ℕ
