@@ -1,6 +1,15 @@
 pub mod Pairs
 pub mod IncludeLemmas
 pub mod ScriptLemmas
-pub mod SkipLemmas
-pub mod ReadLemmas
 pub mod Utf8Paths
+pub mod NameLemmas
+pub mod ReachedLemmas
+pub mod Among
+pub mod HasRead
+pub mod Steps
+pub mod Growing
+pub mod SoFar
+pub mod Beginning
+pub mod Refusals
+pub mod Visits
+pub mod Loops
