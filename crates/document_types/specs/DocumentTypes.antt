@@ -2,19 +2,20 @@
 use Rattle.std.specs.Prelude.{◌≡◌, ℕ, List, if◌then◌else◌, bytes_eq, codes, ⊤}
 use Rattle.dtd_model.specs.Table.{Table}
 use Rattle.dtd_model.specs.Mini.{mini_table}
+use Rattle.io_edge.specs.Names.{normal}
 use Rattle.io_edge.specs.Told.{Content}
 use Rattle.dtd_texts.specs.Spells.{DtdSpells}
 use Rattle.dtd_reader.specs.Source.{SourceCall, IsCalm}
 use Rattle.dtd_reader.specs.Refusals.{IsCause}
 use Rattle.dtd_reader.specs.declared.refusal.DtdRefusal.{DtdRefusal}
-use Rattle.dtd_reader.specs.Certain.{AreTold, AreShort, PassesLimit}
+use Rattle.dtd_reader.specs.Certain.{AreTold, AreShort, AreInside, PassesLimit}
 use Rattle.document_types.specs.Strict.{file_name, only_file, strict_bytes, IsStrict, IsRefused}
 use Rattle.document_types.specs.declared.document_type.DocumentType.{DocumentType}
 use Rattle.document_types.specs.declared.document_type.DocumentType.TheVariants.{Strict, Mini, File}
 use Rattle.document_types.specs.declared.refusal.DefinitionRefusal.{DefinitionRefusal}
 use Rattle.document_types.specs.declared.refusal.DefinitionRefusal.TheVariants as refusal
 
--- XHTML 1.0 Strict, the smallest document type, or the one that the file of a name defines
+-- XHTML 1.0 Strict, the smallest document type, or the one that the file of a name in its normal form defines
 pub data NamedType : Type 0 where
   strict_type : NamedType
   mini_type : NamedType
@@ -24,12 +25,12 @@ pub data NamedType : Type 0 where
 abbrev pub type_of : DocumentType → NamedType
 type_of Strict = strict_type
 type_of Mini = mini_type
-type_of (File name) = file_type name.now
+type_of (File name) = file_type (normal name.now)
 
 -- the document type that the word names: `strict`, `mini`, or else that of the file whose name it is
 abbrev pub named_type : List ℕ → NamedType
 named_type word = if bytes_eq word (codes "strict") then strict_type else
-    (if bytes_eq word (codes "mini") then mini_type else file_type word)
+    (if bytes_eq word (codes "mini") then mini_type else file_type (normal word))
 
 -- the document type has this table, where the source of files tells this
 abbrev pub HasTable : Content → NamedType → Table → Type 0
@@ -55,6 +56,12 @@ NamesAreShort content strict_type = ⊤
 NamesAreShort content mini_type = ⊤
 NamesAreShort content (file_type name) = AreShort content name
 
+-- and lie inside of this root
+abbrev pub NamesAreInside : Content → List ℕ → NamedType → Type 0
+NamesAreInside content root strict_type = ⊤
+NamesAreInside content root mini_type = ⊤
+NamesAreInside content root (file_type name) = AreInside content root name
+
 -- a limit on its text or its declarations is passed, by this count
 abbrev pub IsTooLarge : Content → NamedType → ℕ → Type 0
 IsTooLarge content strict_type count = PassesLimit (only_file strict_bytes) file_name count
@@ -62,15 +69,16 @@ IsTooLarge content mini_type count = ⊥
 IsTooLarge content (file_type name) count = PassesLimit content name count
 
 -- why the file of a definition has none, and why the built-in text has none
-abbrev pub IsFileCause : SourceCall → NamedType → DtdRefusal → Type 0
-IsFileCause call named refusal = (name : List ℕ) × (named ≡ file_type name) × IsCause call name refusal
+abbrev pub IsFileCause : SourceCall → List ℕ → NamedType → DtdRefusal → Type 0
+IsFileCause call root named refusal = (name : List ℕ) × (named ≡ file_type name) × IsCause call root name refusal
 
 -- why the built-in text has no table
 abbrev pub IsBuiltInCause : NamedType → DtdRefusal → Type 0
 IsBuiltInCause named refusal = (named ≡ strict_type) × IsRefused strict_bytes refusal
 
--- a document type has no definition, for this reason; no count rises but that of the reason
-abbrev pub IsDefinitionRefusal : SourceCall → NamedType → DefinitionRefusal → Type 0
-IsDefinitionRefusal call named (refusal.File fault) = IsFileCause call named fault
-IsDefinitionRefusal call named (refusal.BuiltIn fault) = IsBuiltInCause named fault × IsCalm call
-IsDefinitionRefusal call named refusal.Memory = IsCalm call
+-- a document type has no definition, for this reason, where names outside of this root are refused; no count rises but that of
+-- the reason
+abbrev pub IsDefinitionRefusal : SourceCall → List ℕ → NamedType → DefinitionRefusal → Type 0
+IsDefinitionRefusal call root named (refusal.File fault) = IsFileCause call root named fault
+IsDefinitionRefusal call root named (refusal.BuiltIn fault) = IsBuiltInCause named fault × IsCalm call
+IsDefinitionRefusal call root named refusal.Memory = IsCalm call

@@ -28,6 +28,6 @@ pub record IsStrict (text : List ℕ) (table : Table) : Type 0 where
   pub spelled : DtdSpells (only_file text) file_name (record table { doctype = Free })
   pub doctype : table.doctype ≡ Strict
 
--- why a text has none, where the source of the one file has not failed
+-- why a text has none, where the source of the one file has not failed; no name leads outside of the root of the system
 abbrev pub IsRefused : List ℕ → DtdRefusal → Type 0
-IsRefused text refusal = (misses : ℕ) × IsCause (source_call (only_file text) 0 0 0 misses) file_name refusal
+IsRefused text refusal = (misses : ℕ) × IsCause (source_call (only_file text) 0 0 0 misses) (codes ".") file_name refusal

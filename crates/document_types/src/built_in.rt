@@ -30,7 +30,7 @@ pub fn read_strict(alloc: Global, text: Bytes) -> Result<Dtd, DtdRefusal>
         misses: 0,
         reads: 0,
     };
-    let dtd = read_dtd(alloc, &mut files, FILE_NAME)?;
+    let dtd = read_dtd(alloc, &mut files, ".", FILE_NAME)?;
     Ok(Dtd {
         elements: dtd.elements,
         entities: dtd.entities,

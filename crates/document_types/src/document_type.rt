@@ -10,7 +10,7 @@ use crate::refusal::DefinitionRefusal;
 use crate::strict;
 use dtd_model::{Dtd, mini};
 use dtd_reader::read_dtd;
-use io_edge::Files;
+use io_edge::{Files, normal_name};
 use std::alloc::Global;
 
 /// A document type that a word names.
@@ -38,7 +38,9 @@ impl<'a> DocumentType<'a> {
         }
     }
 
-    /// Its definition.
+    /// Its definition. The file of a definition may stand anywhere, and is asked for by its name in
+    /// its normal form; what it asks for is refused where it lies outside of the root, a folder.
+    /// Built-in definitions ask for nothing.
     ///
     /// # Errors
     ///
@@ -48,12 +50,14 @@ impl<'a> DocumentType<'a> {
         self,
         alloc: Global,
         files: &mut F,
+        root: &str,
     ) -> Result<Dtd, DefinitionRefusal>
         ensures ok { IfOk result
             (λ dtd. HasTable (F.content files.new) (type_of self.entry) (table_of dtd)) }
         ensures err { IfErr result
             (IsDefinitionRefusal (source_call (F.content files.new) (F.faults files.old)
-            (F.faults files.new) (F.misses files.old) (F.misses files.new)) (type_of self.entry)) }
+            (F.faults files.new) (F.misses files.old) (F.misses files.new)) root.entry.now
+            (type_of self.entry)) }
         ensures reads { IsBuiltIn (type_of self.entry) → F.reads files.new ≡ F.reads files.old }
         ensures calm { IfOk result
             (λ _. IsCalm (source_call (F.content files.new) (F.faults files.old)
@@ -70,10 +74,13 @@ impl<'a> DocumentType<'a> {
                 let dtd = mini(alloc)?;
                 Ok(dtd)
             }
-            DocumentType::File(name) => match read_dtd(alloc, files, name) {
-                Ok(dtd) => Ok(dtd),
-                Err(refusal) => Err(DefinitionRefusal::File(refusal)),
-            },
+            DocumentType::File(name) => {
+                let name = normal_name(alloc, name)?;
+                match read_dtd(alloc, files, root, name.as_str()) {
+                    Ok(dtd) => Ok(dtd),
+                    Err(refusal) => Err(DefinitionRefusal::File(refusal)),
+                }
+            }
         }
     }
 }

@@ -4,7 +4,7 @@ use Rattle.dtd_model.specs.Table.{Table}
 use Rattle.dtd_model.specs.Lawful.{are_names}
 use Rattle.io_edge.specs.Told.{Content}
 use Rattle.dtd_texts.specs.Reading.{State}
-use Rattle.dtd_texts.specs.Spells.{DtdSpells}
+use Rattle.dtd_texts.specs.Spells.{DtdSpells, seen_from}
 use Rattle.dtd_texts.proofs.Entities.{entities_named}
 use Rattle.dtd_tables.specs.Spelled.{IsTable}
 use Rattle.dtd_tables.specs.Causes.{IsTableCause}
@@ -14,10 +14,10 @@ use Rattle.dtd_reader.specs.Source.{SourceCall, IsCalm}
 use Rattle.dtd_reader.specs.Causes.{IsRead, IsReadCause}
 use Rattle.dtd_reader.specs.Refusals.{IsCause, IsSameRefusal}
 use Rattle.dtd_reader.specs.declared.refusal.DtdRefusal.{DtdRefusal}
-use Rattle.dtd_reader.specs.declared.refusal.DtdRefusal.TheVariants.{Missing, ReadFault, TooLong, NotDtd, Entity, Twice, Undeclared, LeftOut, Limit, Memory}
+use Rattle.dtd_reader.specs.declared.refusal.DtdRefusal.TheVariants.{Missing, ReadFault, TooLong, Outside, NotDtd, Entity, Twice, Undeclared, LeftOut, Limit, Memory}
 
 pub general_names : (content : Content) (name : List ℕ) (last : State) → IsRead content name last → are_names last.generals ≡ true
-general_names content name last read = entities_named content read.file last read.all.reads
+general_names content name last read = entities_named (seen_from name content) read.file last read.all.reads
 
 pub spells : (content : Content) (name : List ℕ) (last : State) (t : Table) → IsRead content name last → IsTable last.written last.generals t → DtdSpells content name t
 spells content name last t read is = record {
@@ -32,22 +32,23 @@ spells content name last t read is = record {
   doctype = is.doctype;
 }
 
-pub read_cause : (call : SourceCall) (name : List ℕ) (r : DtdRefusal) → IsReadCause call name r → IsCause call name r
-read_cause call name (Missing path) why = why
-read_cause call name (ReadFault path) why = why
-read_cause call name (TooLong path len) why = why
-read_cause call name (NotDtd at) why = (inl why.0, why.1)
-read_cause call name (Entity entity) why = why
-read_cause call name (Twice element) why = absurd why
-read_cause call name (Undeclared element) why = absurd why
-read_cause call name (LeftOut at) why = (inl why.0, why.1)
-read_cause call name (Limit count) why = (inl why.0, why.1)
-read_cause call name Memory why = why
+pub read_cause : (call : SourceCall) (root name : List ℕ) (r : DtdRefusal) → IsReadCause call root name r → IsCause call root name r
+read_cause call root name (Missing path) why = why
+read_cause call root name (ReadFault path) why = why
+read_cause call root name (TooLong path len) why = why
+read_cause call root name (Outside path) why = why
+read_cause call root name (NotDtd at) why = (inl why.0, why.1)
+read_cause call root name (Entity entity) why = why
+read_cause call root name (Twice element) why = absurd why
+read_cause call root name (Undeclared element) why = absurd why
+read_cause call root name (LeftOut at) why = (inl why.0, why.1)
+read_cause call root name (Limit count) why = (inl why.0, why.1)
+read_cause call root name Memory why = why
 
-pub table_cause : (call : SourceCall) (name : List ℕ) (last : State) (t : TableRefusal) (r : DtdRefusal) → IsSameRefusal t r → IsRead call.content name last → IsCalm call → IsTableCause last.written t → IsCause call name r
-table_cause call name last (table.Twice element) r same read calm why = subst (IsCause call name) (sym same) (record { last = last; read = read; so = why }, calm)
-table_cause call name last (table.Undeclared element) r same read calm why = subst (IsCause call name) (sym same) (record { last = last; read = read; so = why }, calm)
-table_cause call name last (table.Refused at) r same read calm why = subst (IsCause call name) (sym same) (inr (record { last = last; read = read; so = why }), calm)
-table_cause call name last (table.LeftOut at) r same read calm why = subst (IsCause call name) (sym same) (inr (record { last = last; read = read; so = why }), calm)
-table_cause call name last (table.Limit count) r same read calm why = subst (IsCause call name) (sym same) (inr (record { last = last; read = read; so = why }), calm)
-table_cause call name last table.Memory r same read calm why = subst (IsCause call name) (sym same) calm
+pub table_cause : (call : SourceCall) (root name : List ℕ) (last : State) (t : TableRefusal) (r : DtdRefusal) → IsSameRefusal t r → IsRead call.content name last → IsCalm call → IsTableCause last.written t → IsCause call root name r
+table_cause call root name last (table.Twice element) r same read calm why = subst (IsCause call root name) (sym same) (record { last = last; read = read; so = why }, calm)
+table_cause call root name last (table.Undeclared element) r same read calm why = subst (IsCause call root name) (sym same) (record { last = last; read = read; so = why }, calm)
+table_cause call root name last (table.Refused at) r same read calm why = subst (IsCause call root name) (sym same) (inr (record { last = last; read = read; so = why }), calm)
+table_cause call root name last (table.LeftOut at) r same read calm why = subst (IsCause call root name) (sym same) (inr (record { last = last; read = read; so = why }), calm)
+table_cause call root name last (table.Limit count) r same read calm why = subst (IsCause call root name) (sym same) (inr (record { last = last; read = read; so = why }), calm)
+table_cause call root name last table.Memory r same read calm why = subst (IsCause call root name) (sym same) calm

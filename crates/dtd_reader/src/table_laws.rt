@@ -15,7 +15,7 @@ ghost use Rattle.dtd_tables.specs.Causes.{StandsTwice, GoesWrong};
 ghost use Rattle.dtd_reader.specs.Source.{SourceCall};
 ghost use Rattle.dtd_reader.specs.Refusals.{IsCause};
 ghost use Rattle.dtd_reader.specs.declared.refusal.DtdRefusal.{DtdRefusal};
-ghost use Rattle.dtd_reader.specs.Certain.{AreTold, AreShort, IsForLimit};
+ghost use Rattle.dtd_reader.specs.Certain.{AreTold, AreShort, AreInside, IsForLimit};
 
 /// A file spells one table, where the names that it asks for are told of.
 pub fn one_table()
@@ -25,13 +25,15 @@ pub fn one_table()
 {}
 
 /// A file that spells a table is refused for a limit or want of memory alone, where the names that
-/// it asks for are told of and within the limit of a file, and the source does not fail.
+/// it asks for are told of and within the limit of a file and lie inside of the root, and the source
+/// does not fail.
 pub fn refused_for_limits()
-    ensures { (call : SourceCall) (name : List ℕ) (table : Table) (refusal : DtdRefusal)
+    ensures { (call : SourceCall) (root name : List ℕ) (table : Table) (refusal : DtdRefusal)
         → AreTold call.content name →
-        AreShort call.content name → DtdSpells call.content name table
+        AreShort call.content name → AreInside call.content root name
+        → DtdSpells call.content name table
         → (Rises call.faults call.faults' → ⊥) →
-        IsCause call name refusal → IsForLimit call.content name refusal }
+        IsCause call root name refusal → IsForLimit call.content name refusal }
 {}
 
 /// Where declarations say something, each of them does, and no element stands twice.

@@ -13,6 +13,8 @@ mod deep;
 #[cfg(test)]
 mod models;
 #[cfg(test)]
+mod names;
+#[cfg(test)]
 mod outcome;
 #[cfg(test)]
 mod places;

@@ -177,6 +177,7 @@ abbrev pub dtd_refusal_text : DtdRefusal → List ℕ
 dtd_refusal_text (dtd.Missing name) = named_text (codes "Missing") name
 dtd_refusal_text (dtd.ReadFault name) = named_text (codes "ReadFault") name
 dtd_refusal_text (dtd.TooLong name len) = counted_text (codes "TooLong") name len
+dtd_refusal_text (dtd.Outside name) = named_text (dtd_kind (codes "Outside")) name
 dtd_refusal_text (dtd.NotDtd at) = number_text (dtd_kind (codes "NotDtd")) at
 dtd_refusal_text (dtd.Entity name) = named_text (dtd_kind (codes "Entity")) name
 dtd_refusal_text (dtd.Twice name) = named_text (dtd_kind (codes "Twice")) name

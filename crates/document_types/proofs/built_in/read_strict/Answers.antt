@@ -1,4 +1,4 @@
-use Rattle.std.proofs.Common.{rules, ◌≡◌, IfErr, refl, sym, subst}
+use Rattle.std.proofs.Common.{rules, ◌≡◌, IfErr, codes, refl, sym, subst}
 use Rattle.std.specs.Prelude.{Err}
 use Rattle.dtd_model.specs.TableOf.{table_of}
 use Rattle.dtd_texts.specs.Spells.{DtdSpells}
@@ -13,7 +13,7 @@ returns-in_err-dtd-clause-refused c =
     let is : c.from_residual.result ≡ Err c.in_err-dtd.field-0.0 = search rules in
     let same = alone_stays file_name c.args.text _ c.in_err-dtd.ensures.stays in
     subst (λ r. IfErr r (IsRefused c.args.text)) (sym is)
-    (c.read_dtd.new.files.misses, subst (λ k. IsCause (source_call k 0 0 0 c.read_dtd.new.files.misses) file_name c.in_err-dtd.field-0.0) same c.in_err-dtd.ensures.refused)
+    (c.read_dtd.new.files.misses, subst (λ k. IsCause (source_call k 0 0 0 c.read_dtd.new.files.misses) (codes ".") file_name c.in_err-dtd.field-0.0) same c.in_err-dtd.ensures.refused)
 
 pub returns-clause-strict : goal.returns-clause-strict
 returns-clause-strict c =

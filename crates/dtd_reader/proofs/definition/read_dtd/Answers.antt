@@ -16,7 +16,7 @@ pub returns-in_err-reading-clause-refused : goal.returns-in_err-reading-clause-r
 returns-in_err-reading-clause-refused g c =
     let call : SourceCall = source_call (g.F.Files.content c.read_text.new.files) (g.F.Files.faults c.args.files.now) (g.F.Files.faults c.read_text.new.files) (g.F.Files.misses c.args.files.now) (g.F.Files.misses c.read_text.new.files) in
     let is : c.from_residual.result ≡ Err c.in_err-reading.field-0.0 = search rules in
-    subst (λ r. IfErr r (IsCause call c.args.name.now)) (sym is) (read_cause call c.args.name.now c.in_err-reading.field-0.0 c.in_err-reading.ensures.answer)
+    subst (λ r. IfErr r (IsCause call c.args.root.now c.args.name.now)) (sym is) (read_cause call c.args.root.now c.args.name.now c.in_err-reading.field-0.0 c.in_err-reading.ensures.answer)
 
 pub returns-in-Ok-clause-spelled : goal.returns-in-Ok-clause-spelled
 returns-in-Ok-clause-spelled g c =
@@ -26,5 +26,5 @@ returns-in-Ok-clause-spelled g c =
 pub returns-clause-refused : goal.returns-clause-refused
 returns-clause-refused g c =
     let call : SourceCall = source_call (g.F.Files.content c.read_text.new.files) (g.F.Files.faults c.args.files.now) (g.F.Files.faults c.read_text.new.files) (g.F.Files.misses c.args.files.now) (g.F.Files.misses c.read_text.new.files) in
-    table_cause call c.args.name.now (state_of c.in_ok-reading.reading) c.in-Err.refusal c.refusal_of.result c.refusal_of.ensures c.in_ok-reading.ensures.answer.0 c.in_ok-reading.ensures.answer.1
+    table_cause call c.args.root.now c.args.name.now (state_of c.in_ok-reading.reading) c.in-Err.refusal c.refusal_of.result c.refusal_of.ensures c.in_ok-reading.ensures.answer.0 c.in_ok-reading.ensures.answer.1
     (subst (λ ws. IsTableCause (map written_of ws) c.in-Err.refusal) c.as_slice.ensures.value c.in-Err.ensures.refused)
