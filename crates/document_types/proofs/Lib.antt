@@ -1,6 +1,5 @@
 pub mod Alone
 pub mod BuiltInText
-pub mod Inside
 pub mod OneTable
 pub mod TableStays
 pub mod ForMemory

@@ -16,11 +16,11 @@ use Rattle.dtd_reader.specs.Refusals.{IsCause, IsSameRefusal}
 use Rattle.dtd_reader.specs.declared.refusal.DtdRefusal.{DtdRefusal}
 use Rattle.dtd_reader.specs.declared.refusal.DtdRefusal.TheVariants.{Missing, ReadFault, TooLong, Outside, NotDtd, Entity, Twice, Undeclared, LeftOut, Limit, Memory}
 
-pub general_names : (content : Content) (name : List ℕ) (last : State) → IsRead content name last → are_names last.generals ≡ true
-general_names content name last read = entities_named (seen_from name content) read.file last read.all.reads
+pub general_names : (content : Content) (root name : List ℕ) (last : State) → IsRead content root name last → are_names last.generals ≡ true
+general_names content root name last read = entities_named (seen_from root name content) read.file last read.all.reads
 
-pub spells : (content : Content) (name : List ℕ) (last : State) (t : Table) → IsRead content name last → IsTable last.written last.generals t → DtdSpells content name t
-spells content name last t read is = record {
+pub spells : (content : Content) (root name : List ℕ) (last : State) (t : Table) → IsRead content root name last → IsTable last.written last.generals t → DtdSpells content root name t
+spells content root name last t read is = record {
   file = read.file;
   held = read.held;
   last = last;
@@ -45,7 +45,7 @@ read_cause call root name (LeftOut at) why = (inl why.0, why.1)
 read_cause call root name (Limit count) why = (inl why.0, why.1)
 read_cause call root name Memory why = why
 
-pub table_cause : (call : SourceCall) (root name : List ℕ) (last : State) (t : TableRefusal) (r : DtdRefusal) → IsSameRefusal t r → IsRead call.content name last → IsCalm call → IsTableCause last.written t → IsCause call root name r
+pub table_cause : (call : SourceCall) (root name : List ℕ) (last : State) (t : TableRefusal) (r : DtdRefusal) → IsSameRefusal t r → IsRead call.content root name last → IsCalm call → IsTableCause last.written t → IsCause call root name r
 table_cause call root name last (table.Twice element) r same read calm why = subst (IsCause call root name) (sym same) (record { last = last; read = read; so = why }, calm)
 table_cause call root name last (table.Undeclared element) r same read calm why = subst (IsCause call root name) (sym same) (record { last = last; read = read; so = why }, calm)
 table_cause call root name last (table.Refused at) r same read calm why = subst (IsCause call root name) (sym same) (inr (record { last = last; read = read; so = why }), calm)

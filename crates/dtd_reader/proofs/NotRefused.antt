@@ -2,7 +2,8 @@
 use Rattle.std.proofs.Common.{◌≡◌, ◌≢◌, ◌∙◌, ◌<◌, ◌≤◌, ℕ, Bool, true, false, List, [], ◌∷◌, length, Option, Some, None, refl, sym, ap, subst, inl, inr, arith}
 use Rattle.text_base.specs.declared.limits.TheConstants.{FILE_LIMIT}
 use Rattle.io_edge.specs.Counts.{Rises}
-use Rattle.io_edge.specs.Names.{is_outside}
+use Rattle.std.specs.Prelude.{if◌then◌else◌}
+use Rattle.io_edge.specs.Names.{beside, is_outside}
 use Rattle.io_edge.specs.Told.{Told, unasked, untold, known, Content, Tells, HasAtLeast}
 use Rattle.dtd_model.specs.Table.{Table}
 use Rattle.dtd_texts.specs.Places.{between, external}
@@ -19,7 +20,7 @@ use Rattle.dtd_reader.specs.Causes.{InFile, AsksFor, AsksOutside, IsAskedFor, Br
 use Rattle.dtd_reader.specs.Refusals.{InDeclarations, IsCause}
 use Rattle.dtd_reader.specs.declared.refusal.DtdRefusal.{DtdRefusal}
 use Rattle.dtd_reader.specs.declared.refusal.DtdRefusal.TheVariants.{Missing, ReadFault, TooLong, Outside, NotDtd, Entity, Twice, Undeclared, LeftOut, Limit, Memory}
-use Rattle.dtd_reader.specs.Certain.{AreTold, AreShort, AreInside, IsForLimit}
+use Rattle.dtd_reader.specs.Certain.{AreTold, AreShort, IsForLimit}
 use Rattle.dtd_reader.proofs.Told.{TellsFrom, reads_one, met_read}
 use Rattle.dtd_reader.proofs.OneTable.{tells, one_file}
 
@@ -51,30 +52,37 @@ asked_held {content = content} {system = system} told all (asks name outer s r f
 
 -- a file that spells a table
 
-pub in_file : {content : Content} {name : List ℕ} {table : Table} {Holding : List ℕ → Type 0} → AreTold content name → (p : DtdSpells content name table) →
+pub in_file : {content : Content} {root name : List ℕ} {table : Table} {Holding : List ℕ → Type 0} → AreTold content root name → (p : DtdSpells content root name table) →
     InFile content name Holding → Holding p.file
 in_file {Holding = Holding} told p f = subst Holding (one_file told f.held p.held) f.so
 
-in_declarations : {content : Content} {name : List ℕ} {table : Table} {Holding : List Written → Type 0} → AreTold content name → (p : DtdSpells content name table) →
-    InDeclarations content name Holding → Holding p.last.written
-in_declarations {content = content} {name = name} {Holding = Holding} told p d =
-    let other : ReadsAll (seen_from name content) p.file d.last = subst (λ f. ReadsAll (seen_from name content) f d.last) (one_file told d.read.held p.held) d.read.all in
+in_declarations : {content : Content} {root name : List ℕ} {table : Table} {Holding : List Written → Type 0} → AreTold content root name → (p : DtdSpells content root name table) →
+    InDeclarations content root name Holding → Holding p.last.written
+in_declarations {content = content} {root = root} {name = name} {Holding = Holding} told p d =
+    let other : ReadsAll (seen_from root name content) p.file d.last = subst (λ f. ReadsAll (seen_from root name content) f d.last) (one_file told d.read.held p.held) d.read.all in
     subst (λ (s : State). Holding s.written) (reads_one (tells told p.held) other.reads p.read.reads) d.so
 
-file_held : {content : Content} {name path : List ℕ} {table : Table} → AreTold content name → DtdSpells content name table → IsAskedFor content name path →
+none_some : {whole : List ℕ} → ◌≡◌ {A = Option (List ℕ)} None (Some whole) → ⊥
+none_some e = cc
+
+seen_held : (b : Bool) (t : Told) (whole : List ℕ) → Tells (if b then known None else t) (Some whole) → Tells t (Some whole)
+seen_held true t whole held = absurd (none_some held)
+seen_held false t whole held = held
+
+file_held : {content : Content} {root name path : List ℕ} {table : Table} → AreTold content root name → DtdSpells content root name table → IsAskedFor content root name path →
     (whole : List ℕ) × Tells (content path) (Some whole)
 file_held {content = content} told p (inl e) = (p.held.whole, subst (λ x. Tells (content x) (Some p.held.whole)) (sym e) p.held.told)
-file_held {content = content} {name = name} {path = path} told p (inr f) =
-    let asked : AsksFor content name p.file path = in_file {Holding = λ file. AsksFor content name file path} told p f in
+file_held {content = content} {root = root} {name = name} {path = path} told p (inr f) =
+    let asked : AsksFor content root name p.file path = in_file {Holding = λ file. AsksFor content root name file path} told p f in
     let (whole, held) = asked_held (tells told p.held) p.read asked.asks in
-    (whole, subst (λ x. Tells (content x) (Some whole)) (sym asked.found) held)
+    (whole, subst (λ x. Tells (content x) (Some whole)) (sym asked.found) (seen_held (is_outside root name asked.meant) (content (beside name asked.meant)) whole held))
 
 tells_file : (t : Told) (file : Option (List ℕ)) (whole : List ℕ) → t ≡ known file → Tells t (Some whole) → t ≡ known (Some whole)
 tells_file unasked file whole e told = absurd told
 tells_file untold file whole e told = absurd (grind arith)
 tells_file (known f) file whole e told = ap known told
 
-content_is : {content : Content} {name path : List ℕ} {table : Table} → AreTold content name → DtdSpells content name table → IsAskedFor content name path →
+content_is : {content : Content} {root name path : List ℕ} {table : Table} → AreTold content root name → DtdSpells content root name table → IsAskedFor content root name path →
     (whole : List ℕ) × (content path ≡ known (Some whole))
 content_is {content = content} {path = path} told p asked =
     let (whole, held) = file_held told p asked in
@@ -93,33 +101,36 @@ not_long t whole len is short over least =
 not_wrong : {written : List Written} {says : List Said} {at : ℕ} {how : went.Went Said} → Says written says → GoesWrong written at how → ((s : Said) → how ≡ went.leads s → ⊥) → ⊥
 not_wrong all wrong never = let (s, is) = each_says _ _ _ _ all wrong in never s is
 
-not_outside : (o : Bool) → o ≡ false → o ≡ true → ⊥
-not_outside o e f = grind (arith, e, f)
+-- no file that is asked for from outside is there
+not_outside : (b : Bool) (t : Told) (whole : List ℕ) → b ≡ true → Tells (if b then known None else t) (Some whole) → ⊥
+not_outside true t whole e held = none_some held
+not_outside false t whole e held = grind (arith, e)
 
-pub for_limits : (call : SourceCall) (root name : List ℕ) (table : Table) (refusal : DtdRefusal) → AreTold call.content name → AreShort call.content name → AreInside call.content root name →
-    DtdSpells call.content name table → (Rises call.faults call.faults' → ⊥) → IsCause call root name refusal → IsForLimit call.content name refusal
-for_limits call root name table (Missing path) told short within p calm (asked, why) =
+pub for_limits : (call : SourceCall) (root name : List ℕ) (table : Table) (refusal : DtdRefusal) → AreTold call.content root name → AreShort call.content root name →
+    DtdSpells call.content root name table → (Rises call.faults call.faults' → ⊥) → IsCause call root name refusal → IsForLimit call.content root name refusal
+for_limits call root name table (Missing path) told short p calm (asked, why) =
     let (whole, is) = content_is told p asked in not_missing (call.content path) whole is why.1
-for_limits call root name table (ReadFault path) told short within p calm (asked, why) = calm why.0
-for_limits call root name table (TooLong path len) told short within p calm (asked, why) =
+for_limits call root name table (ReadFault path) told short p calm (asked, why) = calm why.0
+for_limits call root name table (TooLong path len) told short p calm (asked, why) =
     let (whole, is) = content_is told p asked in not_long (call.content path) whole len is (short path whole asked is) why.0 why.1
-for_limits call root name table (Outside path) told short within p calm (f, free) =
+for_limits call root name table (Outside path) told short p calm (f, free) =
     let asked : AsksOutside call.content root name p.file path = in_file {Holding = λ file. AsksOutside call.content root name file path} told p f in
-    not_outside (is_outside root name asked.meant) (within asked.meant (record { file = p.file; held = p.held; so = asked.asks })) asked.outside
-for_limits call root name table (NotDtd at) told short within p calm (inl f, free) =
-    no_break (tells told p.held) p.read (in_file {Holding = λ file. BreaksFirst (seen_from name call.content) file at} told p f).breaks
-for_limits call root name table (NotDtd at) told short within p calm (inr d, free) =
+    let (whole, held) = asked_held (tells told p.held) p.read asked.asks in
+    not_outside (is_outside root name asked.meant) (call.content (beside name asked.meant)) whole asked.outside held
+for_limits call root name table (NotDtd at) told short p calm (inl f, free) =
+    no_break (tells told p.held) p.read (in_file {Holding = λ file. BreaksFirst (seen_from root name call.content) file at} told p f).breaks
+for_limits call root name table (NotDtd at) told short p calm (inr d, free) =
     not_wrong p.said (in_declarations {Holding = λ written. GoesWrong written at went.refused} told p d) (λ s e. cc)
-for_limits call root name table (Entity entity) told short within p calm (f, free) =
-    no_miss (tells told p.held) p.read (in_file {Holding = λ file. Misses (seen_from name call.content) file entity} told p f)
-for_limits call root name table (Twice element) told short within p calm (d, free) =
+for_limits call root name table (Entity entity) told short p calm (f, free) =
+    no_miss (tells told p.held) p.read (in_file {Holding = λ file. Misses (seen_from root name call.content) file entity} told p f)
+for_limits call root name table (Twice element) told short p calm (d, free) =
     never_twice p.last.written p.says element p.said (in_declarations {Holding = λ written. StandsTwice (element_names written) element} told p d)
-for_limits call root name table (Undeclared element) told short within p calm (d, free) =
+for_limits call root name table (Undeclared element) told short p calm (d, free) =
     let (at, wrong) = in_declarations {Holding = λ written. (at : ℕ) × GoesWrong written at (went.undeclared element)} told p d in
     not_wrong p.said wrong (λ s e. cc)
-for_limits call root name table (LeftOut at) told short within p calm (inl f, free) =
-    no_omission (tells told p.held) p.read (in_file {Holding = λ file. Omits (seen_from name call.content) file at} told p f)
-for_limits call root name table (LeftOut at) told short within p calm (inr d, free) =
+for_limits call root name table (LeftOut at) told short p calm (inl f, free) =
+    no_omission (tells told p.held) p.read (in_file {Holding = λ file. Omits (seen_from root name call.content) file at} told p f)
+for_limits call root name table (LeftOut at) told short p calm (inr d, free) =
     not_wrong p.said (in_declarations {Holding = λ written. GoesWrong written at went.left_out} told p d) (λ s e. cc)
-for_limits call root name table (Limit count) told short within p calm (why, free) = why
-for_limits call root name table Memory told short within p calm free = tt
+for_limits call root name table (Limit count) told short p calm (why, free) = why
+for_limits call root name table Memory told short p calm free = tt

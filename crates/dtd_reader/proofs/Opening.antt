@@ -20,29 +20,30 @@ pub record IsHead (s : State) (n : ℕ) (text entity : List ℕ) : Type 0 where
   pub same : entity ≡ name
 
 pub missed_there : (root name : List ℕ) (content : Content) (file : List ℕ) (s : State) (n : ℕ) (text entity : List ℕ) (frames : List Frame) → IsHead s n text entity
-    → IsFound root name content s frames entity Nowhere → SoFar (seen_from name content) file (at s text frames) → Misses (seen_from name content) file entity
+    → IsFound root name content s frames entity Nowhere → SoFar (seen_from root name content) file (at s text frames) → Misses (seen_from root name content) file entity
 missed_there root name content file s n text entity frames h found so_far =
-    missed_to (seen_from name content) file s n text entity h.name frames h.some h.there h.same found so_far
+    missed_to (seen_from root name content) file s n text entity h.name frames h.some h.there h.same found so_far
 
 pub asks_there : (root name : List ℕ) (content : Content) (file : List ℕ) (s : State) (n : ℕ) (text entity path : List ℕ) (fault : FileFault) (frames : List Frame) → IsHead s n text entity
-    → IsFound root name content s frames entity (NotRead path fault) → SoFar (seen_from name content) file (at s text frames) → AsksFor content name file path
+    → IsFound root name content s frames entity (NotRead path fault) → SoFar (seen_from root name content) file (at s text frames) → AsksFor content root name file path
 asks_there root name content file s n text entity path fault frames h found so_far = record {
   meant = found.1.0;
-  asks = asked_to (seen_from name content) file s n text entity h.name found.1.0 frames h.some h.there h.same found.0 found.1.1 so_far;
+  asks = asked_to (seen_from root name content) file s n text entity h.name found.1.0 frames h.some h.there h.same found.0 found.1.1 so_far;
   found = found.1.2;
+  inside = found.1.3;
 }
 
 pub leads_out : (root name : List ℕ) (content : Content) (file : List ℕ) (s : State) (n : ℕ) (text entity path : List ℕ) (frames : List Frame) → IsHead s n text entity
-    → IsFound root name content s frames entity (Outside path) → SoFar (seen_from name content) file (at s text frames) → AsksOutside content root name file path
+    → IsFound root name content s frames entity (Outside path) → SoFar (seen_from root name content) file (at s text frames) → AsksOutside content root name file path
 leads_out root name content file s n text entity path frames h found so_far = record {
   meant = found.1.0;
-  asks = asked_to (seen_from name content) file s n text entity h.name found.1.0 frames h.some h.there h.same found.0 found.1.1 so_far;
+  asks = asked_to (seen_from root name content) file s n text entity h.name found.1.0 frames h.some h.there h.same found.0 found.1.1 so_far;
   found = found.1.2;
   outside = found.1.3;
 }
 
 pub goes_in : (root name : List ℕ) (content : Content) (file : List ℕ) (s : State) (n : ℕ) (text entity : List ℕ) (inner : Inner) (frames : List Frame) (now : Position) → IsHead s n text entity
-    → IsFound root name content s frames entity (Text inner) → now ≡ inside s n text entity frames (inner_of inner) → SoFar (seen_from name content) file (at s text frames)
-    → SoFar (seen_from name content) file now
+    → IsFound root name content s frames entity (Text inner) → now ≡ inside s n text entity frames (inner_of inner) → SoFar (seen_from root name content) file (at s text frames)
+    → SoFar (seen_from root name content) file now
 goes_in root name content file s n text entity inner frames now h found is so_far =
-    opened_to (seen_from name content) file s n text entity h.name (inner_of inner) frames now h.some h.there h.same found.0 found.1 is so_far
+    opened_to (seen_from root name content) file s n text entity h.name (inner_of inner) frames now h.some h.there h.same found.0 found.1 is so_far

@@ -37,10 +37,10 @@ comes_to : (content : Content) (file : List ℕ) (p : Position) → SoFar conten
 comes_to content file p so_far = record { outer = _; rest = p.text; meets = here_met content file p.state p.text p.frames so_far }
 
 -- where the text of the file of a name breaks
-pub broke : (call : SourceCall) (root name file : List ℕ) (old now : Position) → SoFar (seen_from name call.content) file old → Told root name call.content file DoesBreak old now →
-    Comes (seen_from name call.content) file now.state × Breaks (seen_from name call.content) file now.state.begun
+pub broke : (call : SourceCall) (root name file : List ℕ) (old now : Position) → SoFar (seen_from root name call.content) file old → Told root name call.content file DoesBreak old now →
+    Comes (seen_from root name call.content) file now.state × Breaks (seen_from root name call.content) file now.state.begun
 broke call root name file old now so_far told =
-    (subst (λ (s : State). Comes (seen_from name call.content) file s) (sym told.1) (comes_to (seen_from name call.content) file old so_far), told.0 now.state.begun (ap (λ (s : State). s.begun) (sym told.1)))
+    (subst (λ (s : State). Comes (seen_from root name call.content) file s) (sym told.1) (comes_to (seen_from root name call.content) file old so_far), told.0 now.state.begun (ap (λ (s : State). s.begun) (sym told.1)))
 
 -- the first fault
 pub first_is : (content : Content) (file : List ℕ) (s : State) (first : Option ℕ) → Comes content file s → Breaks content file s.begun → MatchOption first (NoneRefused s.written) (FirstRefused s.written) → BreaksFirst content file (unwrap_or first s.begun)

@@ -9,11 +9,11 @@ use Rattle.dtd_reader.specs.declared.refusal.DtdRefusal.{DtdRefusal}
 
 -- of the file of a name, where names outside of this root are refused
 abbrev pub IsAnswer : SourceCall → List ℕ → List ℕ → Result Reading DtdRefusal → Type 0
-IsAnswer call root name (Ok reading) = IsRead call.content name (state_of reading) × IsCalm call
+IsAnswer call root name (Ok reading) = IsRead call.content root name (state_of reading) × IsCalm call
 IsAnswer call root name (Err refusal) = IsReadCause call root name refusal
 
 -- of the text of the file of a name
 abbrev pub IsTextAnswer : SourceCall → List ℕ → List ℕ → List ℕ → Result Reading DtdRefusal → Type 0
 IsTextAnswer call root name file (Ok reading) =
-    ReadsAll (seen_from name call.content) file (state_of reading) × IsWithinLimits (state_of reading) × IsCalm call
+    ReadsAll (seen_from root name call.content) file (state_of reading) × IsWithinLimits (state_of reading) × IsCalm call
 IsTextAnswer call root name file (Err refusal) = IsTextCause call root name file refusal

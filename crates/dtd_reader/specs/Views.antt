@@ -38,14 +38,14 @@ position_of r = record { state = state_of r.reading; text = drop r.at r.text; fr
 
 -- what became of one step, where so far whatever the rest leads to, so does the text of the file of this name, with this root
 abbrev pub Told : List ℕ → List ℕ → Content → List ℕ → Outcome → Position → Position → Type 0
-Told root name content file Goes old now = SoFar (seen_from name content) file now
-Told root name content file Ends old now = Reads (seen_from name content) [] start file old.state × (now.state ≡ old.state)
+Told root name content file Goes old now = SoFar (seen_from root name content) file now
+Told root name content file Ends old now = Reads (seen_from root name content) [] start file old.state × (now.state ≡ old.state)
 Told root name content file DoesBreak old now =
-    ((at : ℕ) → old.state.begun ≡ at → Breaks (seen_from name content) file at) × (now.state ≡ old.state)
+    ((at : ℕ) → old.state.begun ≡ at → Breaks (seen_from root name content) file at) × (now.state ≡ old.state)
 Told root name content file DoesOmit old now =
-    ((at : ℕ) → old.state.begun ≡ at → Omits (seen_from name content) file at) × (now.state ≡ old.state)
-Told root name content file (DoesMiss entity) old now = Misses (seen_from name content) file entity
-Told root name content file (Unread path fault) old now = AsksFor content name file path
+    ((at : ℕ) → old.state.begun ≡ at → Omits (seen_from root name content) file at) × (now.state ≡ old.state)
+Told root name content file (DoesMiss entity) old now = Misses (seen_from root name content) file entity
+Told root name content file (Unread path fault) old now = AsksFor content root name file path
 Told root name content file (LeadsOut path) old now = AsksOutside content root name file path
 
 -- the plain form of the text of an entity
@@ -55,10 +55,10 @@ inner_of i = record { text = i.text; over = i.over; file = i.file }
 -- the text of an entity outside that is meant under this name
 abbrev pub IsOutside : List ℕ → List ℕ → Content → List ℕ → Found → Type 0
 IsOutside root name content meant Nowhere = ⊥
-IsOutside root name content meant (NotRead path fault) = path ≡ beside name meant
+IsOutside root name content meant (NotRead path fault) = (path ≡ beside name meant) × (is_outside root name meant ≡ false)
 IsOutside root name content meant (Outside path) = (path ≡ beside name meant) × (is_outside root name meant ≡ true)
 IsOutside root name content meant (Text inner) =
-    (held : Holds (seen_from name content) meant inner.text) × (length held.whole ≡ inner.over + length inner.text) × (inner.file ≡ meant)
+    (held : Holds (seen_from root name content) meant inner.text) × (length held.whole ≡ inner.over + length inner.text) × (inner.file ≡ meant)
     × (inner.over ≤ FILE_LIMIT)
 
 -- the text of an entity, where it is declared so far and not open
@@ -66,13 +66,13 @@ abbrev pub IsFound : List ℕ → List ℕ → Content → State → List Frame 
 IsFound root name content s frames entity Nowhere = (is_among (names frames) entity ≡ true) ⊎ (source_of s.parameters entity ≡ None)
 IsFound root name content s frames entity (NotRead path fault) =
     (is_among (names frames) entity ≡ false)
-    × ((meant : List ℕ) × (source_of s.parameters entity ≡ Some (external meant)) × (path ≡ beside name meant))
+    × ((meant : List ℕ) × (source_of s.parameters entity ≡ Some (external meant)) × (path ≡ beside name meant) × (is_outside root name meant ≡ false))
 IsFound root name content s frames entity (Outside path) =
     (is_among (names frames) entity ≡ false)
     × ((meant : List ℕ) × (source_of s.parameters entity ≡ Some (external meant)) × (path ≡ beside name meant) × (is_outside root name meant ≡ true))
 IsFound root name content s frames entity (Text inner) =
     (is_among (names frames) entity ≡ false)
-    × Stands (seen_from name content) s.file (source_of s.parameters entity) (inner_of inner)
+    × Stands (seen_from root name content) s.file (source_of s.parameters entity) (inner_of inner)
     × (inner.over ≤ FILE_LIMIT)
 
 -- behind the beginning of an entity, whose reference has so many bytes

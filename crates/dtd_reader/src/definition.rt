@@ -47,7 +47,7 @@ pub fn read_dtd<F: Files>(
     name: &str,
 ) -> Result<Dtd, DtdRefusal>
     ensures spelled { IfOk result
-        (λ dtd. DtdSpells (F.content files.new) name.now (tables.table_of dtd)) }
+        (λ dtd. DtdSpells (F.content files.new) root.now name.now (tables.table_of dtd)) }
     ensures calm { IfOk result
         (λ dtd. IsCalm (source_call (F.content files.new) (F.faults files.old) (F.faults files.new)
         (F.misses files.old) (F.misses files.new))) }

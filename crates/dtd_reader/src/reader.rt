@@ -43,7 +43,8 @@ fn outside<F: Files>(
     ensures stays { Stays (F.content files.old) (F.content files.new) }
 {
     let path = name_beside(alloc, origin.name, meant.as_str())?;
-    if is_outside(alloc, origin.root, origin.name, meant.as_str())? {
+    let leads_out = is_outside(alloc, origin.root, origin.name, meant.as_str())?;
+    if leads_out {
         let path = Bytes::from_slice(alloc, path.as_bytes())?;
         return Ok(Found::Outside(path));
     }
@@ -87,7 +88,7 @@ impl Reader {
         ensures nearer { IfOk result (λ o. IsNearer o (position_of self.old) (position_of self.new)) }
         ensures counted { (call : SourceCall) → IsCalm call → Counted OutcomeCounts call result }
         ensures told { (root name : List ℕ) (content : Content) (file : List ℕ) →
-            SoFar (seen_from name content) file (position_of self.old) →
+            SoFar (seen_from root name content) file (position_of self.old) →
             IfOk result
             (λ o. Told root name content file o (position_of self.old) (position_of self.new)) }
     {
@@ -176,7 +177,7 @@ impl Reader {
         requires opens { move (state_of self.old.reading) (drop self.old.at self.old.text)
             ≡ opens (take n (drop 1 (drop self.old.at self.old.text))) (2 + n) }
         ensures told { (content : Content) (file : List ℕ) → Stays (F.content files.new) content →
-            SoFar (seen_from origin.entry.name.now content) file (position_of self.old) →
+            SoFar (seen_from origin.entry.root.now origin.entry.name.now content) file (position_of self.old) →
             IfOk result (λ o. Told origin.entry.root.now origin.entry.name.now content file o
             (position_of self.old) (position_of self.new)) }
         ensures nearer { IfOk result (λ o. IsNearer o (position_of self.old) (position_of self.new)) }
@@ -212,7 +213,7 @@ impl Reader {
         requires few { self.old.reading.passed ≤ REPLACED_LIMIT }
         requires at { self.old.at < length self.old.text }
         ensures told { (content : Content) (file : List ℕ) → Stays (F.content files.new) content →
-            SoFar (seen_from origin.entry.name.now content) file (position_of self.old) →
+            SoFar (seen_from origin.entry.root.now origin.entry.name.now content) file (position_of self.old) →
             IfOk result (λ o. Told origin.entry.root.now origin.entry.name.now content file o
             (position_of self.old) (position_of self.new)) }
         ensures nearer { IfOk result (λ o. IsNearer o (position_of self.old) (position_of self.new)) }
@@ -246,7 +247,7 @@ impl Reader {
             × (self.old.reading.references ≤ REPLACED_LIMIT) }
         requires few { self.old.reading.passed ≤ REPLACED_LIMIT }
         ensures told { (content : Content) (file : List ℕ) → Stays (F.content files.new) content →
-            SoFar (seen_from origin.entry.name.now content) file (position_of self.old) →
+            SoFar (seen_from origin.entry.root.now origin.entry.name.now content) file (position_of self.old) →
             IfOk result (λ o. Told origin.entry.root.now origin.entry.name.now content file o
             (position_of self.old) (position_of self.new)) }
         ensures nearer { IfOk result (λ o. IsNearer o (position_of self.old) (position_of self.new)) }

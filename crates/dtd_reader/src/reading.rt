@@ -27,7 +27,7 @@ fn unread(name: Bytes, fault: FileFault) -> DtdRefusal
     ensures first { (call : SourceCall) (root : List ℕ) → IsUnread call name fault →
         IsReadCause call root name result }
     ensures asked { (call : SourceCall) (root first file : List ℕ) →
-        AsksFor call.content first file name → IsUnread call name fault →
+        AsksFor call.content root first file name → IsUnread call name fault →
         IsTextCause call root first file result }
 {
     match fault {
@@ -80,8 +80,8 @@ fn most(reading: &Reading) -> u64
 // The first fault of a text that breaks behind these declarations.
 fn first_fault(alloc: Global, reading: &Reading) -> DtdRefusal
     ensures { (call : SourceCall) (root name file : List ℕ) →
-        Comes (seen_from name call.content) file (state_of reading.now) →
-        Breaks (seen_from name call.content) file (state_of reading.now).begun → IsCalm call →
+        Comes (seen_from root name call.content) file (state_of reading.now) →
+        Breaks (seen_from root name call.content) file (state_of reading.now).begun → IsCalm call →
         IsTextCause call root name file result }
 {
     match first_refused(alloc, reading.written.as_slice()) {
@@ -95,7 +95,7 @@ fn first_fault(alloc: Global, reading: &Reading) -> DtdRefusal
 // The end of the text, which is to stand between declarations.
 fn ended(alloc: Global, reading: Reading) -> Result<Reading, DtdRefusal>
     ensures { (call : SourceCall) (root name file : List ℕ) →
-        Reads (seen_from name call.content) [] start file (state_of reading) →
+        Reads (seen_from root name call.content) [] start file (state_of reading) →
         IsWithinLimits (state_of reading) → IsCalm call →
         IsTextAnswer call root name file result }
 {

@@ -15,25 +15,23 @@ ghost use Rattle.dtd_tables.specs.Causes.{StandsTwice, GoesWrong};
 ghost use Rattle.dtd_reader.specs.Source.{SourceCall};
 ghost use Rattle.dtd_reader.specs.Refusals.{IsCause};
 ghost use Rattle.dtd_reader.specs.declared.refusal.DtdRefusal.{DtdRefusal};
-ghost use Rattle.dtd_reader.specs.Certain.{AreTold, AreShort, AreInside, IsForLimit};
+ghost use Rattle.dtd_reader.specs.Certain.{AreTold, AreShort, IsForLimit};
 
 /// A file spells one table, where the names that it asks for are told of.
 pub fn one_table()
-    ensures { (content : Content) (name : List ℕ) (table other : Table) → AreTold content name
-        → DtdSpells content name table →
-        DtdSpells content name other → table ≡ other }
+    ensures { (content : Content) (root name : List ℕ) (table other : Table) → AreTold content root name
+        → DtdSpells content root name table →
+        DtdSpells content root name other → table ≡ other }
 {}
 
 /// A file that spells a table is refused for a limit or want of memory alone, where the names that
-/// it asks for are told of and within the limit of a file and lie inside of the root, and the source
-/// does not fail.
+/// it asks for are told of and within the limit of a file, and the source does not fail.
 pub fn refused_for_limits()
     ensures { (call : SourceCall) (root name : List ℕ) (table : Table) (refusal : DtdRefusal)
-        → AreTold call.content name →
-        AreShort call.content name → AreInside call.content root name
-        → DtdSpells call.content name table
+        → AreTold call.content root name →
+        AreShort call.content root name → DtdSpells call.content root name table
         → (Rises call.faults call.faults' → ⊥) →
-        IsCause call root name refusal → IsForLimit call.content name refusal }
+        IsCause call root name refusal → IsForLimit call.content root name refusal }
 {}
 
 /// Where declarations say something, each of them does, and no element stands twice.

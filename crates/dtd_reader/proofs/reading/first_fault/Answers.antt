@@ -9,8 +9,8 @@ use Rattle.dtd_reader.proofs.reading.first_fault.Goals as goal
 
 pub returns-in-Ok : goal.returns-in-Ok
 returns-in-Ok c = λ call root name file comes breaks calm. (
-  subst (BreaksFirst (seen_from name call.content) file) (sym c.unwrap_or.ensures)
-      (first_is (seen_from name call.content) file (state_of c.args.reading.now) c.in-Ok.first comes breaks
+  subst (BreaksFirst (seen_from root name call.content) file) (sym c.unwrap_or.ensures)
+      (first_is (seen_from root name call.content) file (state_of c.args.reading.now) c.in-Ok.first comes breaks
       (subst (λ ws. MatchOption c.in-Ok.first (NoneRefused (map written_of ws)) (FirstRefused (map written_of ws))) c.as_slice.ensures.value c.in-Ok.ensures)),
   calm,
 )

@@ -17,7 +17,7 @@ returns-in-Ends-clause-answer g c =
     let so_far = at.invariant.0 call.content c.in_ok-advance.ensures.stays in
     let told = subst (λ o. Told c.args.origin.root.now c.args.origin.name.now call.content c.args.text o (position_of at.reader) (position_of c.advance.new.self)) c.in-Ends.is (c.in_ok-advance.ensures.told call.content c.args.text (stays_same _ _ refl) so_far) in
     let counts = subst (λ o. OutcomeCounts call o) c.in-Ends.is c.in_ok-advance.ensures.counted in
-    let reads = subst (λ s. Reads (seen_from c.args.origin.name.now call.content) [] start c.args.text s) (sym told.1) told.0 in
+    let reads = subst (λ s. Reads (seen_from c.args.origin.root.now c.args.origin.name.now call.content) [] start c.args.text s) (sym told.1) told.0 in
     let within = c.is_within_limits.ensures.within c.steps-test.true in
     let old_limits : IsWithinLimits (position_of at.reader).state = record { short = within.0; few = within.1 } in
     let limits = subst IsWithinLimits (sym told.1) old_limits in
@@ -75,7 +75,7 @@ pub returns-clause-answer : goal.returns-clause-answer
 returns-clause-answer g c =
     let at = c.steps in
     let many = c.most.ensures (c.is_within_limits.ensures.over c.steps-test.false) in
-    (over (seen_from c.args.origin.name.now (g.F.Files.content at.files)) c.args.text (position_of at.reader) c.most.result (at.invariant.0 _ (stays_same _ _ refl)) many.0 many.1, (at.invariant.2, at.invariant.3))
+    (over (seen_from c.args.origin.root.now c.args.origin.name.now (g.F.Files.content at.files)) c.args.text (position_of at.reader) c.most.result (at.invariant.0 _ (stays_same _ _ refl)) many.0 many.1, (at.invariant.2, at.invariant.3))
 
 pub steps-preserved : goal.steps-preserved
 steps-preserved g c =
