@@ -68,6 +68,7 @@ of_dtd : (refusal : DtdRefusal) → IsOther (dtd_status refusal)
 of_dtd (dtd.Missing name) = tt
 of_dtd (dtd.ReadFault name) = tt
 of_dtd (dtd.TooLong name len) = tt
+of_dtd (dtd.Outside name) = tt
 of_dtd dtd.Memory = tt
 of_dtd (dtd.NotDtd at) = tt
 of_dtd (dtd.Entity name) = tt

@@ -1,5 +1,5 @@
 -- The headline's own definitions on a script whose text comes from an included file.
-use Rattle.std.proofs.Common.{◌≡◌, ◌++◌, ap, ℕ, List, [], ◌∷◌, true, Some, codes, lit≤, refl, subst}
+use Rattle.std.proofs.Common.{◌≡◌, ◌++◌, ap, ℕ, List, [], ◌∷◌, true, None, Some, codes, lit≤, refl, subst}
 use Rattle.io_edge.specs.Told.{untold}
 use Rattle.site_check.specs.Kept.{nothing_kept, keep, told_with}
 use Rattle.script_meaning.specs.Requests.{PlainRequest}
@@ -20,7 +20,7 @@ use Rattle.script_decision.specs.declared.shown.ShownAnswer.{ShownAnswer}
 use Rattle.phpsa_texts.specs.declared.exit.Exit.TheVariants.{Done}
 use Rattle.phpsa_texts.specs.declared.answers.AnswerForm.TheVariants.{Plain}
 use Rattle.phpsa_texts.specs.Texts.{yes_text}
-use Rattle.phpsa_tasks.specs.Tasks.{Task, script_check, page_check, AsksFor}
+use Rattle.phpsa_tasks.specs.Tasks.{rooted, Task, script_check, page_check, AsksFor}
 use Rattle.phpsa_tasks.specs.Call.{Call, output_of, call_of, Gains}
 use Rattle.phpsa_tasks.specs.Requests.{no_request}
 use Rattle.phpsa_tasks.specs.Subjects.{ProgramBy, Holds}
@@ -37,7 +37,7 @@ runs request = refl
 
 -- what the source holds, as a task speaks of it; that it holds the program, in files within their limit, stands in program_loader (SmallProgram)
 abbrev task : Task
-task = script_check (codes "t.php") mini_type Goal.Valid 10000 Plain
+task = script_check (rooted (codes "t.php") None) mini_type Goal.Valid 10000 Plain
 
 abbrev subject : ProgramBy
 subject = record { program = program; table = mini_table }

@@ -148,6 +148,7 @@ said_of (Parse parsed.Memory) = (codes "Memory", 0)
 -- on `err`, where the program is not loaded: with the name of the file or function, which is not always that of the file that was asked for
 abbrev pub load_text : LoadRefusal → List ℕ
 load_text (load.Missing name) = named_text (codes "Missing") name
+load_text (load.Outside name) = named_text (codes "Outside") name
 load_text (load.ReadFault name) = named_text (codes "ReadFault") name
 load_text (load.TooLong name len) = counted_text (codes "TooLong") name len
 load_text (load.Script name fault) = counted_text (said_of fault).0 name (said_of fault).1
