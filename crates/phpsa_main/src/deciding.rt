@@ -9,13 +9,14 @@ ghost use Rattle.site_check.specs.Site.{moment, Leads};
 ghost use Rattle.phpsa_tasks.specs.Views.{rooted_as};
 ghost use Rattle.phpsa_main.specs.Decided.{Decides, DecidesBy, IsProgramDecided};
 
+use crate::loading::load_rooted;
 use document_types::DocumentType;
 use dtd_model::Dtd;
-use io_edge::{Files, root_for};
+use io_edge::Files;
 use page_decision::Goal;
 use phpsa_tasks::RootedFile;
 use phpsa_texts::{Refusal, definition_refusal, load_refusal, long_text_refusal, states_refusal};
-use program_loader::{load, loaded_programs_stay, loads_are_loaded};
+use program_loader::{loaded_programs_stay, loads_are_loaded};
 use program_rules::Program;
 use script_decision::{CheckRefusal, ShownAnswer, check_shown};
 use std::alloc::Global;
@@ -64,8 +65,7 @@ pub(crate) fn decide_script<F: Files>(
 {
     loads_are_loaded();
     loaded_programs_stay();
-    let root = root_for(alloc, file.root, file.name)?;
-    let program = match load(alloc, files, root.as_str(), file.name) {
+    let program = match load_rooted(alloc, file, files) {
         Ok(program) => program,
         Err(refusal) => return Err(load_refusal(alloc, &refusal)),
     };
@@ -99,8 +99,7 @@ pub(crate) fn decide_by<F: Files>(
         (moment (F.content files.new) (F.faults files.new) (F.misses files.new)) }
 {
     loads_are_loaded();
-    let root = root_for(alloc, file.root, file.name)?;
-    let program = match load(alloc, files, root.as_str(), file.name) {
+    let program = match load_rooted(alloc, file, files) {
         Ok(program) => program,
         Err(refusal) => return Err(load_refusal(alloc, &refusal)),
     };

@@ -8,13 +8,14 @@ ghost use Rattle.phpsa_tasks.specs.Views.{rooted_as};
 ghost use Rattle.phpsa_tasks.specs.Results.{Does};
 ghost use Rattle.phpsa_main.specs.Loaded.{HasGrammarReply};
 
-use io_edge::{Files, root_for};
+use crate::loading::load_rooted;
+use io_edge::Files;
 use loose_grammar::{GrammarRefusal, loose_grammar};
 use phpsa_tasks::{Reply, RootedFile};
 use phpsa_texts::{
     AnswerForm, PassedCount, Refusal, load_refusal, long_text_refusal, passed_message,
 };
-use program_loader::{load, loads_are_loaded};
+use program_loader::loads_are_loaded;
 use program_rules::Program;
 use std::alloc::Global;
 
@@ -52,8 +53,7 @@ pub(crate) fn make_grammar<F: Files>(
         (grammar_making (rooted_as file.entry)) result }
 {
     loads_are_loaded();
-    let root = root_for(alloc, file.root, file.name)?;
-    let program = match load(alloc, files, root.as_str(), file.name) {
+    let program = match load_rooted(alloc, file, files) {
         Ok(program) => program,
         Err(refusal) => return Err(load_refusal(alloc, &refusal)),
     };

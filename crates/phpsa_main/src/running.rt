@@ -11,14 +11,15 @@ ghost use Rattle.phpsa_tasks.specs.Views.{rooted_as};
 ghost use Rattle.phpsa_tasks.specs.Results.{Does};
 ghost use Rattle.phpsa_main.specs.Loaded.{HasRequest, IsRunReply, IsReplyOfRun};
 
-use io_edge::{FileKind, Files, root_for};
+use crate::loading::load_rooted;
+use io_edge::{FileKind, Files};
 use php_syntax::tree::SuperName;
 use phpsa_tasks::{Reply, RootedFile};
 use phpsa_texts::{
     Exit, Message, Refusal, deep_message, fault_message, file_refusal, load_refusal,
     request_refusal, spent_message,
 };
-use program_loader::{load, loaded_programs_stay, loads_are_loaded};
+use program_loader::{loaded_programs_stay, loads_are_loaded};
 use program_rules::Program;
 use request_reading::{Request, read_request};
 use script_runs::{End, Ended, run};
@@ -131,8 +132,7 @@ pub(crate) fn run_script<F: Files>(
 {
     loads_are_loaded();
     loaded_programs_stay();
-    let root = root_for(alloc, file.root, file.name)?;
-    let program = match load(alloc, files, root.as_str(), file.name) {
+    let program = match load_rooted(alloc, file, files) {
         Ok(program) => program,
         Err(refusal) => return Err(load_refusal(alloc, &refusal)),
     };
