@@ -21,7 +21,6 @@ use Rattle.site_check.specs.declared.line.Line.{Line}
 use Rattle.site_check.specs.declared.line.TheConstants.{MISSING_STATUS, FAULT_STATUS}
 use Rattle.site_check.specs.declared.list_refusal.ListRefusal.{ListRefusal}
 use Rattle.site_check.specs.Site.{moment, Grows, Leads, is_refused_by, IsAnswered}
-use Rattle.site_check.proofs.Answering.{rises_behind}
 use Rattle.site_check.specs.Listed.{names_in, IsList, IsNoList}
 use Rattle.phpsa_texts.specs.declared.exit.Exit.{Exit}
 use Rattle.phpsa_texts.specs.declared.exit.Exit.TheVariants as exit
@@ -40,6 +39,11 @@ use Rattle.phpsa_tasks.proofs.ListLemmas.{list_faults}
 use Rattle.phpsa_main.specs.Decided.{Decision, DecidesBy, IsProgramDecided}
 use Rattle.phpsa_main.specs.Reported.{IsRefusedLine, HasReport}
 use Rattle.phpsa_main.proofs.ScriptParts.{load_faults}
+
+-- where a count grew and rises then, it rose
+rises_behind : (x y z : ℕ) → Grows x y → Rises y z → Rises x z
+rises_behind x y z (inl same) rises = omega (arith, same, rises)
+rises_behind x y z (inr rises) more = omega (arith, rises, more)
 
 -- misses that rise one behind another are counted
 rises_by : (n before now : ℕ) → RisesBy n before now → Grows before now

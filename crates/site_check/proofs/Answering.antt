@@ -16,11 +16,6 @@ grows_on x y z (inl same) (inr rises) = inr (omega (arith, same, rises))
 grows_on x y z (inr rises) (inl same) = inr (omega (arith, same, rises))
 grows_on x y z (inr rises) (inr more) = inr (omega (arith, rises, more))
 
--- where a count grew and rises then, it rose
-pub rises_behind : (x y z : ℕ) → Grows x y → Rises y z → Rises x z
-rises_behind x y z (inl same) rises = omega (arith, same, rises)
-rises_behind x y z (inr rises) more = omega (arith, rises, more)
-
 no_less : (x y : ℕ) → Grows x y → y < 2 ^ 64 - 1 → x ≤ y
 no_less x y (inl same) small = omega (arith, same)
 no_less x y (inr rises) small = omega (arith, rises, small)
