@@ -1,5 +1,5 @@
 -- From the reading of a text and the table of its declarations to the definition of a file.
-use Rattle.std.proofs.Common.{◌≡◌, ℕ, true, List, sym, subst, inl, inr}
+use Rattle.std.proofs.Common.{◌≡◌, ◌∙◌, ◌+◌, ℕ, Bool, true, List, refl, sym, ap, subst, inl, inr}
 use Rattle.dtd_model.specs.Table.{Table}
 use Rattle.dtd_model.specs.Lawful.{are_names}
 use Rattle.io_edge.specs.Told.{Content}
@@ -13,6 +13,8 @@ use Rattle.dtd_tables.specs.declared.refusal.TableRefusal.TheVariants as table
 use Rattle.dtd_reader.specs.Source.{SourceCall, IsCalm}
 use Rattle.dtd_reader.specs.Causes.{IsRead, IsReadCause}
 use Rattle.dtd_reader.specs.Refusals.{IsCause, IsSameRefusal}
+use Rattle.dtd_reader.specs.Choices.{have_large}
+use Rattle.dtd_reader.specs.declared.limits.TheConstants.{VALUE_LIMIT}
 use Rattle.dtd_reader.specs.declared.refusal.DtdRefusal.{DtdRefusal}
 use Rattle.dtd_reader.specs.declared.refusal.DtdRefusal.TheVariants.{Missing, ReadFault, TooLong, Outside, NotDtd, Entity, Twice, Undeclared, LeftOut, Limit, Memory}
 
@@ -50,5 +52,13 @@ table_cause call root name last (table.Twice element) r same read calm why = sub
 table_cause call root name last (table.Undeclared element) r same read calm why = subst (IsCause call root name) (sym same) (record { last = last; read = read; so = why }, calm)
 table_cause call root name last (table.Refused at) r same read calm why = subst (IsCause call root name) (sym same) (inr (record { last = last; read = read; so = why }), calm)
 table_cause call root name last (table.LeftOut at) r same read calm why = subst (IsCause call root name) (sym same) (inr (record { last = last; read = read; so = why }), calm)
-table_cause call root name last (table.Limit count) r same read calm why = subst (IsCause call root name) (sym same) (inr (record { last = last; read = read; so = why }), calm)
+table_cause call root name last (table.Limit count) r same read calm why = subst (IsCause call root name) (sym same) (inr (record { last = last; read = read; so = inl why }), calm)
 table_cause call root name last table.Memory r same read calm why = subst (IsCause call root name) (sym same) calm
+
+-- a table that has an attribute of too many values
+pub large_cause : (call : SourceCall) (root name : List ℕ) (last : State) (t : Table) (large : Bool) → IsRead call.content root name last → IsCalm call → IsTable last.written last.generals t
+    → large ≡ have_large t.elements → large ≡ true → IsCause call root name (Limit (VALUE_LIMIT + 1))
+large_cause call root name last t large read calm is found yes = (
+  inr (record { last = last; read = read; so = inr (refl, record { says = is.says; said = is.said; large = ap have_large (sym is.elements) ∙ sym found ∙ yes }) }),
+  calm,
+)

@@ -3,8 +3,8 @@ use Rattle.std.specs.Prelude.{◌≡◌, ◌≤◌, ◌⊎◌, ℕ, List, length
 use Rattle.text_base.specs.declared.limits.TheConstants.{FILE_LIMIT}
 use Rattle.io_edge.specs.Told.{Content, known}
 use Rattle.dtd_texts.specs.Spells.{seen_from}
-use Rattle.dtd_tables.specs.Causes.{IsTooMany}
 use Rattle.dtd_reader.specs.Causes.{InFile, IsOver, IsAskedFor}
+use Rattle.dtd_reader.specs.Choices.{IsOverTable}
 use Rattle.dtd_reader.specs.Refusals.{InDeclarations}
 use Rattle.dtd_reader.specs.declared.refusal.DtdRefusal.{DtdRefusal}
 use Rattle.dtd_reader.specs.declared.refusal.DtdRefusal.TheVariants.{Limit, Memory}
@@ -21,11 +21,11 @@ AreTold content root name = (path : List ℕ) → IsAskedFor content root name p
 abbrev pub AreShort : Content → List ℕ → List ℕ → Type 0
 AreShort content root name = (path bytes : List ℕ) → IsAskedFor content root name path → content path ≡ known (Some bytes) → length bytes ≤ FILE_LIMIT
 
--- there are so many bytes or references in the text, or elements, attributes of an element or open brackets in its declarations,
--- and these are too many
+-- there are so many bytes or references in the text, or elements, attributes of an element, values of an attribute or open brackets in
+-- its declarations, and these are too many
 abbrev pub PassesLimit : Content → List ℕ → List ℕ → ℕ → Type 0
 PassesLimit content root name count =
-    InFile content name (λ file. IsOver (seen_from root name content) file count) ⊎ InDeclarations content root name (λ written. IsTooMany written count)
+    InFile content name (λ file. IsOver (seen_from root name content) file count) ⊎ InDeclarations content root name (λ written. IsOverTable written count)
 
 -- the refusal is for such a limit, or for want of memory
 abbrev pub IsForLimit : Content → List ℕ → List ℕ → DtdRefusal → Type 0

@@ -7,11 +7,12 @@ use Rattle.dtd_texts.specs.Causes.{Omits, Misses}
 use Rattle.dtd_texts.specs.Spells.{seen_from}
 use Rattle.dtd_texts.specs.Tables.{element_names}
 use Rattle.dtd_texts.specs.Went.{refused, left_out, undeclared}
-use Rattle.dtd_tables.specs.Causes.{StandsTwice, GoesWrong, IsTooMany}
+use Rattle.dtd_tables.specs.Causes.{StandsTwice, GoesWrong}
 use Rattle.dtd_tables.specs.declared.refusal.TableRefusal.{TableRefusal}
 use Rattle.dtd_tables.specs.declared.refusal.TableRefusal.TheVariants as table
 use Rattle.dtd_reader.specs.Source.{SourceCall, IsCalm, IsUnread}
 use Rattle.dtd_reader.specs.Causes.{InFile, IsRead, IsOver, IsAskedFor, AsksOutside, BreaksFirst}
+use Rattle.dtd_reader.specs.Choices.{IsOverTable}
 use Rattle.dtd_reader.specs.declared.refusal.DtdRefusal.{DtdRefusal}
 use Rattle.dtd_reader.specs.declared.refusal.DtdRefusal.TheVariants.{Missing, ReadFault, TooLong, Outside, NotDtd, Entity, Twice, Undeclared, LeftOut, Limit, Memory}
 
@@ -39,7 +40,7 @@ IsCause call root name (LeftOut at) =
     ⊎ InDeclarations call.content root name (λ written. GoesWrong written at left_out)) × IsCalm call
 IsCause call root name (Limit count) =
     (InFile call.content name (λ file. IsOver (seen_from root name call.content) file count)
-    ⊎ InDeclarations call.content root name (λ written. IsTooMany written count)) × IsCalm call
+    ⊎ InDeclarations call.content root name (λ written. IsOverTable written count)) × IsCalm call
 IsCause call root name Memory = IsCalm call
 
 -- the refusal of declarations, as that of their definition

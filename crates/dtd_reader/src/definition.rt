@@ -1,12 +1,15 @@
 //! Document type definitions from files.
 
-ghost use Rattle.std.specs.Prelude.{◌≡◌, IfOk, IfErr};
+ghost use Rattle.std.specs.Prelude.{◌≡◌, false, IfOk, IfErr};
 ghost use Rattle.io_edge.specs.Told.{Stays};
 ghost use Rattle.dtd_model.specs.TableOf as tables;
 ghost use Rattle.dtd_texts.specs.Spells.{DtdSpells};
+ghost use Rattle.dtd_reader.specs.Choices.{have_large};
 ghost use Rattle.dtd_reader.specs.Source.{source_call, IsCalm};
 ghost use Rattle.dtd_reader.specs.Refusals.{IsCause, IsSameRefusal};
 
+use crate::choices::have_large_choice;
+use crate::limits::VALUE_LIMIT;
 use crate::reading::read_text;
 use crate::refusal::DtdRefusal;
 use dtd_model::Dtd;
@@ -48,6 +51,7 @@ pub fn read_dtd<F: Files>(
 ) -> Result<Dtd, DtdRefusal>
     ensures spelled { IfOk result
         (λ dtd. DtdSpells (F.content files.new) root.now name.now (tables.table_of dtd)) }
+    ensures few { IfOk result (λ dtd. have_large (tables.table_of dtd).elements ≡ false) }
     ensures calm { IfOk result
         (λ dtd. IsCalm (source_call (F.content files.new) (F.faults files.old) (F.faults files.new)
         (F.misses files.old) (F.misses files.new))) }
@@ -58,7 +62,15 @@ pub fn read_dtd<F: Files>(
 {
     let reading = read_text(alloc, files, root, name)?;
     match table_of(alloc, reading.written.as_slice(), &reading.generals) {
-        Ok(dtd) => Ok(dtd),
+        Ok(dtd) => {
+            let large = have_large_choice(dtd.elements.as_slice());
+            if large {
+                return Err(DtdRefusal::Limit {
+                    count: VALUE_LIMIT + 1,
+                });
+            }
+            Ok(dtd)
+        }
         Err(refusal) => Err(refusal_of(refusal)),
     }
 }

@@ -38,10 +38,10 @@ pub enum DtdRefusal {
     /// value holds markup or references to entities.
     #[error("what stands at {at} is left out")]
     LeftOut { at: u64 },
-    /// A limit is passed: there are `count` elements, attributes of an element, open brackets in a
-    /// content model, bytes of the replaced text with those of text declarations, or references
-    /// replaced, or more. The limits are
-    /// 1,024, 64, 200, 4,194,304 and 4,194,304.
+    /// A limit is passed: there are `count` elements, attributes of an element, values of an
+    /// attribute, open brackets in a content model, bytes of the replaced text with those of text
+    /// declarations, or references replaced, or more. The limits are 1,024, 64, 1,024, 200,
+    /// 4,194,304 and 4,194,304.
     #[error("the document type definition is too large: {count}")]
     Limit { count: u64 },
     /// No memory was left.

@@ -13,8 +13,6 @@ mod deep;
 #[cfg(test)]
 mod models;
 #[cfg(test)]
-mod names;
-#[cfg(test)]
 mod outcome;
 #[cfg(test)]
 mod places;

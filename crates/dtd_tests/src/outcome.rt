@@ -67,18 +67,8 @@ pub fn files_of(alloc: Global, files: &[(&str, &[u8])]) -> Result<MemFiles, NoMe
 }
 
 /// What reading the file `d` comes to, where the folder of the call is the root.
-pub fn outcome(alloc: Global, files: MemFiles) -> Result<String, AllocError> {
-    outcome_of(alloc, files, ".", "d")
-}
-
-/// What reading the file of this name comes to, with this root.
-pub fn outcome_of(
-    alloc: Global,
-    mut files: MemFiles,
-    root: &str,
-    name: &str,
-) -> Result<String, AllocError> {
-    match read_dtd(alloc, &mut files, root, name) {
+pub fn outcome(alloc: Global, mut files: MemFiles) -> Result<String, AllocError> {
+    match read_dtd(alloc, &mut files, ".", "d") {
         Ok(dtd) => table_line(alloc, &dtd),
         Err(refusal) => refusal_line(alloc, &refusal),
     }
