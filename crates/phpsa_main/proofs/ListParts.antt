@@ -11,7 +11,6 @@ use Rattle.program_files.specs.Causes.{IsMissing, HasTooMany}
 use Rattle.program_files.specs.declared.refusal.LoadRefusal.{LoadRefusal}
 use Rattle.program_files.specs.declared.refusal.LoadRefusal.TheVariants as load
 use Rattle.program_loader.specs.Causes.{HasFiles, IsLoadCause}
-use Rattle.program_loader.specs.Told.{IsLoaded}
 use Rattle.dtd_model.specs.Table.{Table}
 use Rattle.document_types.specs.DocumentTypes.{NamedType, HasTable, IsDefinitionRefusal}
 use Rattle.document_types.specs.declared.refusal.DefinitionRefusal.{DefinitionRefusal}
@@ -28,6 +27,7 @@ use Rattle.phpsa_texts.specs.declared.message.Refusal.{Refusal}
 use Rattle.phpsa_texts.specs.Statuses.{status_of, load_status, file_status, definition_status, list_status}
 use Rattle.phpsa_texts.specs.Texts.{IsTold, load_text, file_text, definition_text, list_text}
 use Rattle.phpsa_tasks.specs.Tasks.{RootedFile, rooted, root_of, list_check}
+use Rattle.phpsa_tasks.specs.Subjects.{IsLoadedInside}
 use Rattle.phpsa_tasks.specs.Causes.{definition_call, list_unread, no_list, list_lacks_definition}
 use Rattle.phpsa_tasks.specs.Sites.{line_of, IsLineFor, tells_answer, tells_refusal}
 use Rattle.phpsa_tasks.specs.Counted.{FaultsAreTold, MissesItsNames}
@@ -130,7 +130,7 @@ unloaded_by files file table goal limit cause (Refusal.Told message) why (status
 unloaded_by files file table goal limit cause Refusal.Memory why says = tt
 
 -- the program is decided, or not
-pub decided_by : (files : SourceCall) (file : RootedFile) (table : Table) (goal : Goal) (limit : ℕ) (program : PlainProgram) (decision : Decision) → IsLoaded files.content file.name program
+pub decided_by : (files : SourceCall) (file : RootedFile) (table : Table) (goal : Goal) (limit : ℕ) (program : PlainProgram) (decision : Decision) → IsLoadedInside files.content file program
     → MissesItsNames files file.name files.misses' → files.faults' ≡ files.faults → IsProgramDecided table program file.name goal limit decision → DecidesBy files file table goal limit decision
 decided_by files file table goal limit program (Ok answer) loaded behind calm is = (program, loaded, is, calm)
 decided_by files file table goal limit program (Err (Refusal.Told message)) loaded behind calm (inl (long, (status_is, text_is))) = (

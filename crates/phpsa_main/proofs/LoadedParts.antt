@@ -16,7 +16,6 @@ use Rattle.request_reading.specs.Outcome.{outcome}
 use Rattle.request_reading.specs.Causes.{IsCause}
 use Rattle.request_reading.specs.declared.refusal.RequestRefusal.{RequestRefusal}
 use Rattle.request_reading.specs.declared.refusal.RequestRefusal.TheVariants as asking
-use Rattle.program_loader.specs.Told.{IsLoaded}
 use Rattle.phpsa_texts.specs.declared.exit.Exit.{Exit}
 use Rattle.phpsa_texts.specs.declared.exit.Exit.TheVariants.{ReadFault}
 use Rattle.phpsa_texts.specs.declared.message.Refusal.{Refusal}
@@ -25,6 +24,7 @@ use Rattle.phpsa_texts.specs.Texts.{IsTold, load_text, file_text, request_text}
 use Rattle.phpsa_tasks.specs.declared.reply.Reply.{Reply}
 use Rattle.phpsa_tasks.specs.declared.reply.Reply.TheVariants as reply
 use Rattle.phpsa_tasks.specs.Tasks.{RootedFile, root_of, script_run, grammar_making}
+use Rattle.phpsa_tasks.specs.Subjects.{IsLoadedInside}
 use Rattle.phpsa_tasks.specs.Requests.{unread, no_request_in, RefusesRequest}
 use Rattle.phpsa_tasks.specs.Counted.{uncounted, ReadsItsFiles, MissesItsNames, from_misses, ReadsForRun}
 use Rattle.phpsa_tasks.specs.Results.{TaskResult, Does}
@@ -63,7 +63,7 @@ unloaded_run files file request steps cause (Refusal.Told message) why (status_i
 unloaded_run files file request steps cause Refusal.Memory why says = wanting_run files file request steps
 
 -- the grammar of the program is made, or not
-pub grammar_does : (files : SourceCall) (file : RootedFile) (program : PlainProgram) (result : TaskResult) → Loads files (root_of file) file.name program → IsLoaded files.content file.name program
+pub grammar_does : (files : SourceCall) (file : RootedFile) (program : PlainProgram) (result : TaskResult) → Loads files (root_of file) file.name program → IsLoadedInside files.content file program
     → HasGrammarReply program file.name result → Does files (grammar_making file) result
 grammar_does files file program (Ok (reply.Text message)) l loaded says = record {
   due = record { subject = program; found = loaded; says = says };
@@ -152,7 +152,7 @@ run_misses files root name program content faults misses reads stays l = record 
 
 -- there is no request
 pub lacks_request : (files : SourceCall) (file : RootedFile) (request : Option (List ℕ)) (steps : ℕ) (content : Content) (faults misses reads : ℕ) (program : PlainProgram) (refusal : Refusal)
-    → Stays content files.content → Loads (source_call content files.faults faults files.misses misses files.reads reads) (root_of file) file.name program → IsLoaded files.content file.name program
+    → Stays content files.content → Loads (source_call content files.faults faults files.misses misses files.reads reads) (root_of file) file.name program → IsLoadedInside files.content file program
     → HasRequest (source_call files.content files.faults files.faults' misses files.misses' reads files.reads') request (Err refusal)
     → Does files (script_run file request steps) (Err refusal)
 lacks_request files file request steps content faults misses reads program (Refusal.Told message) stays l loaded (why, counted, among, told) = record {
@@ -169,7 +169,7 @@ lacks_request files file request steps content faults misses reads program Refus
 
 -- the program was run
 pub run_does : (files : SourceCall) (file : RootedFile) (request : Option (List ℕ)) (steps : ℕ) (content : Content) (faults misses reads : ℕ) (program : PlainProgram) (asked : PlainRequest) (own : Reply)
-    → Stays content files.content → Loads (source_call content files.faults faults files.misses misses files.reads reads) (root_of file) file.name program → IsLoaded files.content file.name program
+    → Stays content files.content → Loads (source_call content files.faults faults files.misses misses files.reads reads) (root_of file) file.name program → IsLoadedInside files.content file program
     → HasRequest (source_call files.content files.faults files.faults' misses files.misses' reads files.reads') request (Ok asked) → Admitted asked
     → IsReplyOfRun program asked steps own → Does files (script_run file request steps) (Ok own)
 run_does files file request steps content faults misses reads program asked (reply.Text message) stays l loaded (finds, counted, calm) admitted (ended, (status_is, text_is)) = record {

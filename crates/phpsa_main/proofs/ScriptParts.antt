@@ -1,15 +1,18 @@
 -- What the parts of the command find makes what doing the task comes to.
-use Rattle.std.proofs.Common.{◌≡◌, ◌+◌, ℕ, List, length, Contains, inl, inr, refl, sym, subst, lit<}
+use Rattle.std.proofs.Common.{◌≡◌, ◌+◌, ℕ, List, [], length, Contains, inl, inr, refl, sym, subst, lit<}
 use Rattle.std.specs.Prelude.{◌⊎◌, Ok, Err}
+use Rattle.io_edge.specs.Names.{normal}
 use Rattle.io_edge.specs.Told.{Content, Stays}
 use Rattle.io_edge.proofs.Staying.{tells_stay}
 use Rattle.script_meaning.specs.Programs.{PlainProgram}
-use Rattle.program_rules.specs.Files.{Held}
+use Rattle.program_rules.specs.Files.{Held, HasTree}
+use Rattle.program_rules.specs.Programs.{ReadFile}
+use Rattle.program_files.specs.Order.{Reached}
 use Rattle.program_files.specs.Source.{SourceCall, source_call, so_many_more}
 use Rattle.program_files.specs.declared.refusal.LoadRefusal.{LoadRefusal}
 use Rattle.program_files.specs.declared.refusal.LoadRefusal.TheVariants as load
 use Rattle.program_loader.specs.Causes.{Loads, IsLoadCause}
-use Rattle.program_loader.specs.Told.{IsLoaded, AreAnswered}
+use Rattle.program_loader.specs.Told.{AreAnswered}
 use Rattle.dtd_model.specs.Table.{Table}
 use Rattle.document_types.specs.DocumentTypes.{NamedType, HasTable, IsBuiltIn, IsDefinitionRefusal}
 use Rattle.document_types.specs.declared.refusal.DefinitionRefusal.{DefinitionRefusal}
@@ -23,6 +26,7 @@ use Rattle.phpsa_texts.specs.Statuses.{load_status, definition_status}
 use Rattle.phpsa_texts.specs.Texts.{Says, IsTold, load_text, definition_text}
 use Rattle.phpsa_tasks.specs.declared.reply.Reply.TheVariants as reply
 use Rattle.phpsa_tasks.specs.Tasks.{RootedFile, root_of, script_check}
+use Rattle.phpsa_tasks.specs.Subjects.{IsLoadedInside}
 use Rattle.phpsa_tasks.specs.ScriptAnswers.{answer_status, answer_text}
 use Rattle.phpsa_tasks.specs.Causes.{definition_call, RefusesScript, not_defined, large_models, not_loaded, lacks_definition, has_long_text}
 use Rattle.phpsa_tasks.specs.Counted.{uncounted, AsksForNames, ReadsItsFiles, MissesItsNames, from_misses}
@@ -70,7 +74,7 @@ load_decides files file d goal limit cause Refusal.Memory why says = tt
 
 -- there is no definition
 pub definition_decides : (files : SourceCall) (file : RootedFile) (d : NamedType) (goal : Goal) (limit : ℕ) (cause : DefinitionRefusal) (refusal : Refusal)
-    (program : PlainProgram) (misses : ℕ) → IsLoaded files.content file.name program → MissesItsNames files file.name misses
+    (program : PlainProgram) (misses : ℕ) → IsLoadedInside files.content file program → MissesItsNames files file.name misses
     → IsDefinitionRefusal (definition_call (from_misses misses files)) d cause → (IsBuiltIn d → ReadsItsFiles files file.name) → IsTold refusal (definition_status cause) (definition_text cause) → Decides files file d goal limit (Err refusal)
 definition_decides files file d goal limit cause (Refusal.Told message) program misses loaded behind why read (status_is, text_is) = record {
   why = lacks_definition program misses loaded behind (not_defined cause why status_is text_is);
@@ -80,14 +84,14 @@ definition_decides files file d goal limit cause (Refusal.Told message) program 
 definition_decides files file d goal limit cause Refusal.Memory program misses loaded behind why read says = tt
 
 program_refused : (files : SourceCall) (file : RootedFile) (d : NamedType) (table : Table) (program : PlainProgram) (misses : ℕ) (message : Message) → HasTable files.content d table
-    → IsLoaded files.content file.name program → MissesItsNames files file.name misses → IsProgramRefused table program file.name message → RefusesScript files file d message.status message.text
+    → IsLoadedInside files.content file program → MissesItsNames files file.name misses → IsProgramRefused table program file.name message → RefusesScript files file d message.status message.text
 program_refused files file d table program misses message has loaded behind (inl (long, (status_is, text_is))) = has_long_text program loaded long status_is text_is
 program_refused files file d table program misses message has loaded behind (inr (count, many, (status_is, text_is))) =
     lacks_definition program misses loaded behind (large_models table count has many status_is text_is)
 
 -- the program is decided, or not
 pub program_decides : (files : SourceCall) (file : RootedFile) (d : NamedType) (goal : Goal) (limit : ℕ) (table : Table) (program : PlainProgram) (misses : ℕ) (decision : Decision)
-    → HasTable files.content d table → IsLoaded files.content file.name program → MissesItsNames files file.name misses → (IsBuiltIn d → ReadsItsFiles files file.name)
+    → HasTable files.content d table → IsLoadedInside files.content file program → MissesItsNames files file.name misses → (IsBuiltIn d → ReadsItsFiles files file.name)
     → files.faults' ≡ files.faults → IsProgramDecided table program file.name goal limit decision → Decides files file d goal limit decision
 program_decides files file d goal limit table program misses (Ok answer) has loaded behind read calm is =
     record { program = program; table = table; loaded = loaded; has = has; is_answer = is; read = read; calm = calm }
@@ -101,6 +105,21 @@ program_decides files file d goal limit table program misses (Err Refusal.Memory
 -- what was answered goes on to be so
 pub answers_stay : (before now : Content) (held : Held) (name : List ℕ) → Stays before now → AreAnswered before held name → AreAnswered now held name
 answers_stay before now held name stays answered path asks = tells_stay before now path (held.bytes path) stays (answered path asks)
+
+-- what was loaded in its root goes on to be so
+pub loaded_inside : (call : SourceCall) (content : Content) (file : RootedFile) (p : PlainProgram) → Stays call.content content → Loads call (root_of file) file.name p → IsLoadedInside content file p
+loaded_inside call content file p stays l = record {
+  loaded = record {
+    held = l.source.held;
+    main = l.source.main;
+    answered = answers_stay call.content content l.source.held file.name stays l.source.answered;
+    is_program = record {
+      is_program = l.is_program;
+      in_order = subst (λ (fs : List ReadFile). Reached (HasTree l.source.held) (normal file.name) fs []) (sym l.its_files) l.source.in_order;
+    };
+  };
+  inside = l.source.inside;
+}
 
 -- what was loaded asks for these names
 abbrev pub asked_names : (call : SourceCall) (content : Content) (root name : List ℕ) (p : PlainProgram) → Stays call.content content → Loads call root name p → AsksForNames content name

@@ -6,7 +6,6 @@ use Rattle.dtd_model.specs.Table.{Table}
 use Rattle.page_decision.specs.declared.goal.Goal.{Goal}
 use Rattle.program_files.specs.Source.{SourceCall}
 use Rattle.program_lowering.specs.Short.{HasLongText}
-use Rattle.program_loader.specs.Told.{IsLoaded}
 use Rattle.document_types.specs.DocumentTypes.{NamedType, HasTable, IsBuiltIn}
 use Rattle.script_decision.specs.Decision.{HasLargeModels}
 use Rattle.script_decision.specs.declared.shown.ShownAnswer.{ShownAnswer}
@@ -15,6 +14,7 @@ use Rattle.phpsa_texts.specs.declared.message.Message.{Message}
 use Rattle.phpsa_texts.specs.declared.message.Refusal.{Refusal}
 use Rattle.phpsa_texts.specs.Texts.{Says, long_text, states_text}
 use Rattle.phpsa_tasks.specs.Tasks.{RootedFile}
+use Rattle.phpsa_tasks.specs.Subjects.{IsLoadedInside}
 use Rattle.phpsa_tasks.specs.ScriptAnswers.{IsAnswer}
 use Rattle.phpsa_tasks.specs.Causes.{RefusesScript}
 use Rattle.phpsa_tasks.specs.Sites.{RefusesByTable}
@@ -29,7 +29,7 @@ pub record IsDecidedAs (files : SourceCall) (file : RootedFile) (document_type :
     Type 0 where
   pub program : PlainProgram
   pub table : Table
-  pub loaded : IsLoaded files.content file.name program
+  pub loaded : IsLoadedInside files.content file program
   pub has : HasTable files.content document_type table
   pub is_answer : IsAnswer goal table program limit answer
   pub read : IsBuiltIn document_type → ReadsItsFiles files file.name
@@ -63,7 +63,7 @@ IsProgramDecided table program name goal limit (Err Refusal.Memory) = ⊤
 -- that table; faults are counted for such a refusal alone
 abbrev pub DecidesBy : SourceCall → RootedFile → Table → Goal → ℕ → Decision → Type 0
 DecidesBy files file table goal limit (Ok answer) =
-    (program : PlainProgram) × IsLoaded files.content file.name program × IsAnswer goal table program limit answer
+    (program : PlainProgram) × IsLoadedInside files.content file program × IsAnswer goal table program limit answer
     × (files.faults' ≡ files.faults)
 DecidesBy files file table goal limit (Err (Refusal.Told message)) =
     RefusesByTable files file table message.status message.text × (message.status ≡ Missing → Rises files.misses files.misses')

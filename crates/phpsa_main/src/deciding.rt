@@ -16,7 +16,6 @@ use io_edge::Files;
 use page_decision::Goal;
 use phpsa_tasks::RootedFile;
 use phpsa_texts::{Refusal, definition_refusal, load_refusal, long_text_refusal, states_refusal};
-use program_loader::{loaded_programs_stay, loads_are_loaded};
 use program_rules::Program;
 use script_decision::{CheckRefusal, ShownAnswer, check_shown};
 use std::alloc::Global;
@@ -63,8 +62,6 @@ pub(crate) fn decide_script<F: Files>(
         (rooted_as file.entry) (type_of document_type.entry) goal limit result }
     ensures stays { Stays (F.content files.old) (F.content files.new) }
 {
-    loads_are_loaded();
-    loaded_programs_stay();
     let program = match load_rooted(alloc, file, files) {
         Ok(program) => program,
         Err(refusal) => return Err(load_refusal(alloc, &refusal)),
@@ -98,7 +95,6 @@ pub(crate) fn decide_by<F: Files>(
     ensures leads { Leads (moment (F.content files.old) (F.faults files.old) (F.misses files.old))
         (moment (F.content files.new) (F.faults files.new) (F.misses files.new)) }
 {
-    loads_are_loaded();
     let program = match load_rooted(alloc, file, files) {
         Ok(program) => program,
         Err(refusal) => return Err(load_refusal(alloc, &refusal)),

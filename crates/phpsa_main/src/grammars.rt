@@ -15,7 +15,6 @@ use phpsa_tasks::{Reply, RootedFile};
 use phpsa_texts::{
     AnswerForm, PassedCount, Refusal, load_refusal, long_text_refusal, passed_message,
 };
-use program_loader::loads_are_loaded;
 use program_rules::Program;
 use std::alloc::Global;
 
@@ -52,7 +51,6 @@ pub(crate) fn make_grammar<F: Files>(
         (F.misses files.old) (F.misses files.new) (F.reads files.old) (F.reads files.new))
         (grammar_making (rooted_as file.entry)) result }
 {
-    loads_are_loaded();
     let program = match load_rooted(alloc, file, files) {
         Ok(program) => program,
         Err(refusal) => return Err(load_refusal(alloc, &refusal)),

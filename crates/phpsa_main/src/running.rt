@@ -19,7 +19,6 @@ use phpsa_texts::{
     Exit, Message, Refusal, deep_message, fault_message, file_refusal, load_refusal,
     request_refusal, spent_message,
 };
-use program_loader::{loaded_programs_stay, loads_are_loaded};
 use program_rules::Program;
 use request_reading::{Request, read_request};
 use script_runs::{End, Ended, run};
@@ -130,8 +129,6 @@ pub(crate) fn run_script<F: Files>(
         (F.misses files.old) (F.misses files.new) (F.reads files.old) (F.reads files.new))
         (script_run (rooted_as file.entry) (option_map (λ text. text.now) request.entry) steps) result }
 {
-    loads_are_loaded();
-    loaded_programs_stay();
     let program = match load_rooted(alloc, file, files) {
         Ok(program) => program,
         Err(refusal) => return Err(load_refusal(alloc, &refusal)),

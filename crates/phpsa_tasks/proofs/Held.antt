@@ -128,7 +128,7 @@ own_request content (Some name) x y held (bytes, told, is) =
 pub own_run : OneProgram → (content : Content) (file : List ℕ) (request : Option (List ℕ)) (x y : ProgramFor) → HoldsShortProgram content file x.program
     → HoldsRequest content request x.request → IsLoaded content file y.program → FindsRequest content request y.request
     → (P : PlainProgram → PlainRequest → Type 0) → P y.program y.request → P x.program x.request
-own_run one content file request x y h r found finds P is =
+own_run one content file request x y h r found.loaded finds P is =
     subst (λ (p : PlainProgram). P p x.request) (sym (one content file x.program y.program h.holds found))
     (subst (λ (q : PlainRequest). P y.program q) (sym (own_request content request x.request y.request r finds)) is)
 
@@ -144,7 +144,7 @@ pub held_reply : OneProgram → LoadedStays → (files : SourceCall) (task : Tas
 held_reply one stay files (script_check file d goal limit form) x y status text (h, t) (found, has) (answer, is, status_is, text_is) =
     stopped files.content (script_check file d goal limit form) x status
     (script_verdict goal x.table x.program limit answer status status_is
-    (own_program one files.content file.name d x y h t found has (λ (p : PlainProgram) (s : Table). IsShownAnswer goal s p limit answer) is.0))
+    (own_program one files.content file.name d x y h t found.loaded has (λ (p : PlainProgram) (s : Table). IsShownAnswer goal s p limit answer) is.0))
 held_reply one stay files (page_check file d) x y status text (h, t) (found, has) (valid, is, status_is, text_is) =
     inl (subst (IsVerdict files.content (page_check file d) x) (sym status_is)
     (judgment_verdict files.content file d x valid (own_page files.content file d x y h t found has (λ (p : List ℕ) (s : Table). IsJudged s p valid) is)))
@@ -152,12 +152,12 @@ held_reply one stay files (script_making n) x y status text h f (size, status_is
 held_reply one stay files (made_check n) x y status text (size, h, t) (size', found, has) (answer, is, status_is, text_is) =
     stopped files.content (made_check n) x status
     (script_verdict Goal.Valid x.table x.program PAIR_LIMIT answer status status_is
-    (own_program one (only_made n) made_name strict_type x y h t found has (λ (p : PlainProgram) (s : Table). IsShownAnswer Goal.Valid s p PAIR_LIMIT answer) is.0))
+    (own_program one (only_made n) made_name strict_type x y h t found.loaded has (λ (p : PlainProgram) (s : Table). IsShownAnswer Goal.Valid s p PAIR_LIMIT answer) is.0))
 held_reply one stay files (script_run file request steps) x y status text (h, r) (found, finds, admitted) (ended, status_is, text_is) =
-    inl (status_is ∙ ap end_status (sym (own_run one files.content file.name request x y h r found finds (λ (p : PlainProgram) (q : PlainRequest). (meaning p q steps).end ≡ Ended) ended)))
+    inl (status_is ∙ ap end_status (sym (own_run one files.content file.name request x y h r found.loaded finds (λ (p : PlainProgram) (q : PlainRequest). (meaning p q steps).end ≡ Ended) ended)))
 held_reply one stay files (grammar_making file) x y status text h found (inl (written, status_is)) = inl (subst (IsVerdict files.content (grammar_making file) x) (sym status_is) tt)
 held_reply one stay files (grammar_making file) x y status text h found (inr (count, many, status_is, text_is)) =
-    let own : HasManyItems x count = subst (λ (p : PlainProgram). HasManyItems p count) (sym (one files.content file.name x y h.holds found)) many in
+    let own : HasManyItems x count = subst (λ (p : PlainProgram). HasManyItems p count) (sym (one files.content file.name x y h.holds found.loaded)) many in
     inr (inl (subst (PassesGrammarLimit x) (sym status_is) (count, own)))
 held_reply one stay files (list_check file d goal limit) x y status text (h, t) (found, has, good) (lines, are, status_is, text_is) =
     stopped files.content (list_check file d goal limit) x status
@@ -177,7 +177,7 @@ held_halt one content (page_check file d) x y status printed text h f r = absurd
 held_halt one content (script_making n) x y status printed text h f r = absurd r
 held_halt one content (made_check n) x y status printed text h f r = absurd r
 held_halt one content (script_run file request steps) x y status printed text (h, r) (found, finds, admitted) (early, status_is, printed_is, text_is) =
-    inl (own_run one content file.name request x y h r found finds (λ (p : PlainProgram) (q : PlainRequest). status ≡ end_status (meaning p q steps).end) status_is)
+    inl (own_run one content file.name request x y h r found.loaded finds (λ (p : PlainProgram) (q : PlainRequest). status ≡ end_status (meaning p q steps).end) status_is)
 held_halt one content (grammar_making file) x y status printed text h f r = absurd r
 held_halt one content (list_check file d goal limit) x y status printed text h f r = absurd r
 held_halt one content help_telling x y status printed text h f r = absurd r
@@ -244,7 +244,7 @@ held_script laws files file d goal limit x status text calm h t w (not_loaded ca
 held_script laws files file d goal limit x status text calm h t w (lacks_definition program misses found behind why) =
     inr (definition_memory (from_misses misses files) d x.table status text t w calm why)
 held_script laws files file d goal limit x status text calm h t w (has_long_text program found long status_is text_is) =
-    let own : HasLongText x.program = subst HasLongText (sym (laws.one_program files.content file.name x.program program h.held.holds found)) long in
+    let own : HasLongText x.program = subst HasLongText (sym (laws.one_program files.content file.name x.program program h.held.holds found.loaded)) long in
     inl (subst (PassesScriptLimit goal x.table x.program limit) (sym status_is) own)
 
 -- a list that is held and is none is refused for that
@@ -275,7 +275,7 @@ held_refusal laws files (script_run file request steps) x status text calm (h, r
 held_refusal laws files (grammar_making file) x status text calm h w (inl (cause, why, status_is, text_is)) =
     inr (inr (status_is ∙ unloaded_memory laws files file x cause w calm why))
 held_refusal laws files (grammar_making file) x status text calm h w (inr (program, found, long, status_is, text_is)) =
-    let own : HasLongText x = subst HasLongText (sym (laws.one_program files.content file.name x program h.holds found)) long in
+    let own : HasLongText x = subst HasLongText (sym (laws.one_program files.content file.name x program h.holds found.loaded)) long in
     inr (inl (subst (PassesGrammarLimit x) (sym status_is) own))
 held_refusal laws files (list_check file d goal limit) x status text calm (h, t) (w, hold) (list_unread fault why status_is text_is) =
     inr (inr (status_is ∙ file_memory files file.name x.list fault h calm why))

@@ -184,13 +184,13 @@ module _ (root : Option (List ℕ)) (table : Table) (goal : Goal) (limit : ℕ) 
 
   no_program : (content : Content) (name : List ℕ) (line : Line) → is_no line ≡ true → May content name line → ProgramOf content name (λ p. IsScriptVerdict goal table p exit.No)
   no_program content name line e (tells_answer program answer loaded is same) =
-      record { program = program; loaded = loaded; so = no_of goal table program limit answer (subst (λ (l : Line). is_no l ≡ true) same e) is.0 }
+      record { program = program; loaded = loaded.loaded; so = no_of goal table program limit answer (subst (λ (l : Line). is_no l ≡ true) same e) is.0 }
   no_program content name line e (tells_refusal files status text c why w same) = absurd (let at : false ≡ true = subst (λ (l : Line). is_no l ≡ true) same e in cc)
 
   undecided_program : (content : Content) (name : List ℕ) (line : Line) → is_undecided line ≡ true → May content name line
       → ProgramOf content name (λ p. PassesScriptLimit goal table p limit exit.Undecided)
   undecided_program content name line e (tells_answer program answer loaded is same) =
-      record { program = program; loaded = loaded; so = undecided_of goal table program limit answer (subst (λ (l : Line). is_undecided l ≡ true) same e) is.0 }
+      record { program = program; loaded = loaded.loaded; so = undecided_of goal table program limit answer (subst (λ (l : Line). is_undecided l ≡ true) same e) is.0 }
   undecided_program content name line e (tells_refusal files status text c why w same) = absurd (let at : false ≡ true = subst (λ (l : Line). is_undecided l ≡ true) same e in cc)
 
   refused_script : (content : Content) (name : List ℕ) (line : Line) → is_refused line ≡ true → May content name line → RefusedAt table content (rooted name root)
@@ -201,7 +201,7 @@ module _ (root : Option (List ℕ)) (table : Table) (goal : Goal) (limit : ℕ) 
       → GoodProgram goal table content name
   good_program content name line a b c (tells_answer program answer loaded is same) =
       let good = good_of goal table program limit answer (subst (λ (l : Line). is_no l ≡ false) same a) (subst (λ (l : Line). is_undecided l ≡ false) same b) is in
-      record { program = program; loaded = loaded; pages = good.0; runs = good.1 }
+      record { program = program; loaded = loaded.loaded; pages = good.0; runs = good.1 }
   good_program content name line a b c (tells_refusal files status text f why w same) = absurd (let at : true ≡ false = subst (λ (l : Line). is_refused l ≡ false) same c in cc)
 
 -- where each line is a yes, each name has such a program

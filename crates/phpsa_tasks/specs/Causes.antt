@@ -7,7 +7,6 @@ use Rattle.script_meaning.specs.Programs.{PlainProgram}
 use Rattle.program_files.specs.Source.{SourceCall, source_call}
 use Rattle.program_files.specs.declared.refusal.LoadRefusal.{LoadRefusal}
 use Rattle.program_loader.specs.Causes.{IsLoadCause}
-use Rattle.program_loader.specs.Told.{IsLoaded}
 use Rattle.dtd_model.specs.Table.{Table}
 use Rattle.dtd_reader.specs.Source as definition
 use Rattle.document_types.specs.DocumentTypes.{NamedType, strict_type, HasTable, IsDefinitionRefusal}
@@ -22,7 +21,7 @@ use Rattle.phpsa_texts.specs.declared.exit.Exit.TheVariants.{Usage, Dtd, Input}
 use Rattle.phpsa_texts.specs.Statuses.{load_status, file_status, definition_status, list_status}
 use Rattle.phpsa_texts.specs.Texts.{load_text, file_text, definition_text, states_text, long_text, size_text, list_text, usage_text}
 use Rattle.phpsa_tasks.specs.Tasks.{RootedFile, root_of, Task, script_check, page_check, script_making, made_check, script_run, grammar_making, list_check, help_telling, version_telling, usage}
-use Rattle.phpsa_tasks.specs.Subjects.{made_file, only_made}
+use Rattle.phpsa_tasks.specs.Subjects.{made_file, only_made, IsLoadedInside}
 use Rattle.phpsa_tasks.specs.Requests.{RefusesRequest}
 use Rattle.phpsa_tasks.specs.Counted.{MissesItsNames, from_misses, ReadsForRun}
 
@@ -41,10 +40,10 @@ pub data RefusesDefinition (files : SourceCall) (document_type : NamedType) (sta
 pub data RefusesScript (files : SourceCall) (file : RootedFile) (document_type : NamedType) (status : Exit) (text : List ℕ) : Type 0 where
   not_loaded : (cause : LoadRefusal) → IsLoadCause files (root_of file) file.name cause → status ≡ load_status cause → text ≡ load_text cause
       → RefusesScript files file document_type status text
-  lacks_definition : (program : PlainProgram) (misses : ℕ) → IsLoaded files.content file.name program → MissesItsNames files file.name misses
+  lacks_definition : (program : PlainProgram) (misses : ℕ) → IsLoadedInside files.content file program → MissesItsNames files file.name misses
       → RefusesDefinition (from_misses misses files) document_type status text
       → RefusesScript files file document_type status text
-  has_long_text : (program : PlainProgram) → IsLoaded files.content file.name program → HasLongText program
+  has_long_text : (program : PlainProgram) → IsLoadedInside files.content file program → HasLongText program
       → status ≡ Input → text ≡ long_text file.name → RefusesScript files file document_type status text
 
 -- the page is not read; or it is, and there is no definition for it
@@ -70,14 +69,14 @@ RefusesProgram files file status text =
 -- request, behind the misses of the program
 abbrev pub LacksRequest : SourceCall → RootedFile → Option (List ℕ) → Exit → List ℕ → Type 0
 LacksRequest files file request status text =
-    (program : PlainProgram) × IsLoaded files.content file.name program
+    (program : PlainProgram) × IsLoadedInside files.content file program
     × ((misses : ℕ) × MissesItsNames files file.name misses × RefusesRequest (from_misses misses files) request status text)
     × ReadsForRun files file.name request
 
 -- a text in the program of a file is over the limit of a run
 abbrev pub RefusesLongText : SourceCall → RootedFile → Exit → List ℕ → Type 0
 RefusesLongText files file status text =
-    (program : PlainProgram) × IsLoaded files.content file.name program × HasLongText program × (status ≡ Input) × (text ≡ long_text file.name)
+    (program : PlainProgram) × IsLoadedInside files.content file program × HasLongText program × (status ≡ Input) × (text ≡ long_text file.name)
 
 -- the list is not read, or its text is none; or it is, and there is no definition for its scripts
 pub data RefusesList (files : SourceCall) (name : List ℕ) (document_type : NamedType) (status : Exit) (text : List ℕ) : Type 0 where

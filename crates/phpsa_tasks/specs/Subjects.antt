@@ -65,21 +65,26 @@ Subject help_telling = ⊤
 Subject version_telling = ⊤
 Subject usage = ⊤
 
+-- the program of a file is loaded, whatever the source tells, and none of its includes leads out of its root
+pub record IsLoadedInside (content : Content) (file : RootedFile) (program : PlainProgram) : Type 0 where
+  pub loaded : IsLoaded content file.name program
+  pub inside : AllStayInside (root_of file) loaded.held (normal file.name)
+
 -- what a task finds, whatever the source tells: under the file's name its program, with all that it includes, or its bytes, and a table of
 -- the document type, or the request
 -- that the program is run for, which is admitted; of a generated script, that it can be made, and its program, by the built-in definition;
 -- or the bytes of a list, and a table
 abbrev pub Finds : Content → (task : Task) → Subject task → Type 0
 Finds content (script_check file document_type goal limit form) subject =
-    IsLoaded content file.name subject.program × HasTable content document_type subject.table
+    IsLoadedInside content file subject.program × HasTable content document_type subject.table
 Finds content (page_check file document_type) subject =
     Tells (content file) (Some subject.page) × HasTable content document_type subject.table
 Finds content (script_making functions) subject = ⊤
 Finds content (made_check functions) subject =
-    IsSize functions × IsLoaded (only_made functions) made_name subject.program × HasTable (only_made functions) strict_type subject.table
+    IsSize functions × IsLoadedInside (only_made functions) made_file subject.program × HasTable (only_made functions) strict_type subject.table
 Finds content (script_run file request steps) subject =
-    IsLoaded content file.name subject.program × FindsRequest content request subject.request × Admitted subject.request
-Finds content (grammar_making file) subject = IsLoaded content file.name subject
+    IsLoadedInside content file subject.program × FindsRequest content request subject.request × Admitted subject.request
+Finds content (grammar_making file) subject = IsLoadedInside content file subject
 Finds content (list_check file document_type goal limit) subject =
     Tells (content file.name) (Some subject.list) × HasTable content document_type subject.table × IsList subject.list
 Finds content help_telling subject = ⊤
@@ -149,13 +154,13 @@ IsWithin content usage subject = ⊤
 
 -- under the file's name nothing is found, or no request under its own; or there is no generated script of this size
 abbrev pub LacksFile : Content → Task → Type 0
-LacksFile content (script_check file document_type goal limit form) = (program : PlainProgram) → IsLoaded content file.name program → ⊥
+LacksFile content (script_check file document_type goal limit form) = (program : PlainProgram) → IsLoadedInside content file program → ⊥
 LacksFile content (page_check file document_type) = (page : List ℕ) → Tells (content file) (Some page) → ⊥
 LacksFile content (script_making functions) = ⊥
 LacksFile content (made_check functions) = IsSize functions → ⊥
 LacksFile content (script_run file request steps) =
-    ((program : PlainProgram) → IsLoaded content file.name program → ⊥) ⊎ ((found : PlainRequest) → FindsRequest content request found → ⊥)
-LacksFile content (grammar_making file) = (program : PlainProgram) → IsLoaded content file.name program → ⊥
+    ((program : PlainProgram) → IsLoadedInside content file program → ⊥) ⊎ ((found : PlainRequest) → FindsRequest content request found → ⊥)
+LacksFile content (grammar_making file) = (program : PlainProgram) → IsLoadedInside content file program → ⊥
 LacksFile content (list_check file document_type goal limit) = (list : List ℕ) → Tells (content file.name) (Some list) → ⊥
 LacksFile content help_telling = ⊥
 LacksFile content version_telling = ⊥

@@ -23,7 +23,8 @@ root_of file = root_for file.root file.name
 
 -- a script is decided by a goal, with a limit on the sums of a nonterminal; a page is judged; a script is made, or made and decided; a
 -- script is run, for the request of a file or for one of empty arrays, with so many units; the grammar of the pages of a script is written;
--- each script of a list is decided, with the root that the list has here; the commands, or the version, are told; or nothing is asked for, and the usage is told
+-- each script of a list is decided, with the root that stands here beside the list; the commands, or the version, are told; or nothing is
+-- asked for, and the usage is told
 pub data Task : Type 0 where
   script_check : (file : RootedFile) (document_type : NamedType) (goal : Goal) (limit : ℕ) (form : AnswerForm) → Task
   page_check : (file : List ℕ) (document_type : NamedType) → Task

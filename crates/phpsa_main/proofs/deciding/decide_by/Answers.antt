@@ -6,7 +6,7 @@ use Rattle.program_files.specs.Source.{source_call}
 use Rattle.phpsa_tasks.specs.Tasks.{root_of}
 use Rattle.phpsa_tasks.specs.Views.{rooted_as}
 use Rattle.phpsa_main.proofs.ListParts.{unloaded_by, decided_by, cause_grows, names_grow}
-use Rattle.phpsa_main.proofs.ScriptParts.{misses_its_names}
+use Rattle.phpsa_main.proofs.ScriptParts.{misses_its_names, loaded_inside}
 use Rattle.phpsa_main.proofs.deciding.decide_by.Goals as goal
 
 pub returns-in-Err-clause-decides : goal.returns-in-Err-clause-decides
@@ -27,7 +27,8 @@ returns-clause-decides g c =
     let files =
     source_call (g.F.Files.content c.load_rooted.new.files) (g.F.Files.faults c.args.files.now) (g.F.Files.faults c.load_rooted.new.files) (g.F.Files.misses c.args.files.now) (g.F.Files.misses c.load_rooted.new.files) (g.F.Files.reads c.args.files.now) (g.F.Files.reads c.load_rooted.new.files) in
     decided_by files (rooted_as c.args.file) (table_of c.args.dtd.now) c.args.goal c.args.limit (program_of c.in-Ok.program) c.decided.result
-    (c.loads_are_loaded.ensures files (root_of (rooted_as c.args.file)) c.args.file.name.now (program_of c.in-Ok.program) c.in-Ok.ensures.ok)
+    (loaded_inside files (g.F.Files.content c.load_rooted.new.files) (rooted_as c.args.file) (program_of c.in-Ok.program)
+    (stays_same (g.F.Files.content c.load_rooted.new.files) (g.F.Files.content c.load_rooted.new.files) refl) c.in-Ok.ensures.ok)
     (misses_its_names files (g.F.Files.content c.load_rooted.new.files) (g.F.Files.faults c.load_rooted.new.files) (g.F.Files.misses c.load_rooted.new.files) (g.F.Files.reads c.load_rooted.new.files) (root_of (rooted_as c.args.file)) c.args.file.name.now
     (program_of c.in-Ok.program) (stays_same (g.F.Files.content c.load_rooted.new.files) (g.F.Files.content c.load_rooted.new.files) refl) c.in-Ok.ensures.ok)
     c.in-Ok.ensures.ok.source.unfailed c.decided.ensures

@@ -8,7 +8,7 @@ use Rattle.phpsa_tasks.proofs.Defining.{definition_cause}
 use Rattle.phpsa_tasks.specs.Tasks.{root_of}
 use Rattle.phpsa_tasks.specs.Counted.{from_misses}
 use Rattle.phpsa_tasks.specs.Views.{rooted_as}
-use Rattle.phpsa_main.proofs.ScriptParts.{load_decides, definition_decides, program_decides, reads_its_files, misses_its_names}
+use Rattle.phpsa_main.proofs.ScriptParts.{load_decides, definition_decides, program_decides, reads_its_files, misses_its_names, loaded_inside}
 use Rattle.phpsa_main.proofs.deciding.decide_script.Goals as goal
 
 pub returns-in-Err-clause-decides : goal.returns-in-Err-clause-decides
@@ -24,10 +24,9 @@ returns-in-Err-definition-clause-decides g c =
     let loaded = c.in-Ok.ensures.ok in
     definition_decides files (rooted_as c.args.file) (type_of c.args.document_type) c.args.goal c.args.limit c.in-Err-definition.refusal c.definition_refusal.result (program_of c.in-Ok.program)
     (g.F.Files.misses c.load_rooted.new.files)
-    (c.loaded_programs_stay.ensures (g.F.Files.content c.load_rooted.new.files) (g.F.Files.content c.definition.new.files) c.args.file.name.now (program_of c.in-Ok.program) c.definition.ensures.stays
-    (c.loads_are_loaded.ensures
+    (loaded_inside
     (source_call (g.F.Files.content c.load_rooted.new.files) (g.F.Files.faults c.args.files.now) (g.F.Files.faults c.load_rooted.new.files) (g.F.Files.misses c.args.files.now) (g.F.Files.misses c.load_rooted.new.files) (g.F.Files.reads c.args.files.now) (g.F.Files.reads c.load_rooted.new.files))
-    (root_of (rooted_as c.args.file)) c.args.file.name.now (program_of c.in-Ok.program) loaded))
+    (g.F.Files.content c.definition.new.files) (rooted_as c.args.file) (program_of c.in-Ok.program) c.definition.ensures.stays loaded)
     (misses_its_names
     (source_call (g.F.Files.content c.load_rooted.new.files) (g.F.Files.faults c.args.files.now) (g.F.Files.faults c.load_rooted.new.files) (g.F.Files.misses c.args.files.now) (g.F.Files.misses c.load_rooted.new.files) (g.F.Files.reads c.args.files.now) (g.F.Files.reads c.load_rooted.new.files))
     (g.F.Files.content c.definition.new.files) (g.F.Files.faults c.definition.new.files) (g.F.Files.misses c.definition.new.files) (g.F.Files.reads c.definition.new.files) (root_of (rooted_as c.args.file)) c.args.file.name.now (program_of c.in-Ok.program) c.definition.ensures.stays loaded)
@@ -46,10 +45,9 @@ returns-clause-decides g c =
     let loaded = c.in-Ok.ensures.ok in
     program_decides files (rooted_as c.args.file) (type_of c.args.document_type) c.args.goal c.args.limit (table_of c.in-Ok-definition.dtd) (program_of c.in-Ok.program) (g.F.Files.misses c.load_rooted.new.files) c.decided.result
     c.in-Ok-definition.ensures.ok
-    (c.loaded_programs_stay.ensures (g.F.Files.content c.load_rooted.new.files) (g.F.Files.content c.definition.new.files) c.args.file.name.now (program_of c.in-Ok.program) c.definition.ensures.stays
-    (c.loads_are_loaded.ensures
+    (loaded_inside
     (source_call (g.F.Files.content c.load_rooted.new.files) (g.F.Files.faults c.args.files.now) (g.F.Files.faults c.load_rooted.new.files) (g.F.Files.misses c.args.files.now) (g.F.Files.misses c.load_rooted.new.files) (g.F.Files.reads c.args.files.now) (g.F.Files.reads c.load_rooted.new.files))
-    (root_of (rooted_as c.args.file)) c.args.file.name.now (program_of c.in-Ok.program) loaded))
+    (g.F.Files.content c.definition.new.files) (rooted_as c.args.file) (program_of c.in-Ok.program) c.definition.ensures.stays loaded)
     (misses_its_names
     (source_call (g.F.Files.content c.load_rooted.new.files) (g.F.Files.faults c.args.files.now) (g.F.Files.faults c.load_rooted.new.files) (g.F.Files.misses c.args.files.now) (g.F.Files.misses c.load_rooted.new.files) (g.F.Files.reads c.args.files.now) (g.F.Files.reads c.load_rooted.new.files))
     (g.F.Files.content c.definition.new.files) (g.F.Files.faults c.definition.new.files) (g.F.Files.misses c.definition.new.files) (g.F.Files.reads c.definition.new.files) (root_of (rooted_as c.args.file)) c.args.file.name.now (program_of c.in-Ok.program) c.definition.ensures.stays loaded)

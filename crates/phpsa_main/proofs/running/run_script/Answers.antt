@@ -1,8 +1,8 @@
 use Rattle.std.specs.Prelude.{option_map, Ok, Err}
 use Rattle.program_rules.specs.View.{program_of}
 use Rattle.program_files.specs.Source.{source_call}
-use Rattle.phpsa_tasks.specs.Tasks.{root_of}
 use Rattle.phpsa_tasks.specs.Views.{rooted_as}
+use Rattle.phpsa_main.proofs.ScriptParts.{loaded_inside}
 use Rattle.phpsa_main.proofs.LoadedParts.{unloaded_run, moved, lacks_request, run_does, wanting_run}
 use Rattle.phpsa_main.proofs.running.run_script.Goals as goal
 
@@ -20,10 +20,9 @@ returns-in-Err-request_of g c =
     let request = option_map (λ text. text.now) c.args.request in
     lacks_request files (rooted_as c.args.file) request c.args.steps (g.F.Files.content c.load_rooted.new.files) (g.F.Files.faults c.load_rooted.new.files) (g.F.Files.misses c.load_rooted.new.files) (g.F.Files.reads c.load_rooted.new.files)
     (program_of c.in-Ok.program) c.in-Err-request_of.refusal c.request_of.ensures.stays loaded
-    (c.loaded_programs_stay.ensures (g.F.Files.content c.load_rooted.new.files) (g.F.Files.content c.request_of.new.files) c.args.file.name.now (program_of c.in-Ok.program) c.request_of.ensures.stays
-    (c.loads_are_loaded.ensures
+    (loaded_inside
     (source_call (g.F.Files.content c.load_rooted.new.files) (g.F.Files.faults c.args.files.now) (g.F.Files.faults c.load_rooted.new.files) (g.F.Files.misses c.args.files.now) (g.F.Files.misses c.load_rooted.new.files) (g.F.Files.reads c.args.files.now) (g.F.Files.reads c.load_rooted.new.files))
-    (root_of (rooted_as c.args.file)) c.args.file.name.now (program_of c.in-Ok.program) loaded))
+    (g.F.Files.content c.request_of.new.files) (rooted_as c.args.file) (program_of c.in-Ok.program) c.request_of.ensures.stays loaded)
     (moved files (g.F.Files.faults c.load_rooted.new.files) (g.F.Files.misses c.load_rooted.new.files) (g.F.Files.reads c.load_rooted.new.files) request (Err c.in-Err-request_of.refusal)
     loaded.source.unfailed c.in-Err-request_of.ensures.request)
 
@@ -35,10 +34,9 @@ returns-in-Ok-run_reply g c =
     let request = option_map (λ text. text.now) c.args.request in
     run_does files (rooted_as c.args.file) request c.args.steps (g.F.Files.content c.load_rooted.new.files) (g.F.Files.faults c.load_rooted.new.files) (g.F.Files.misses c.load_rooted.new.files) (g.F.Files.reads c.load_rooted.new.files)
     (program_of c.in-Ok.program) c.in-Ok-request_of.asked c.in-Ok-run_reply.reply c.request_of.ensures.stays loaded
-    (c.loaded_programs_stay.ensures (g.F.Files.content c.load_rooted.new.files) (g.F.Files.content c.request_of.new.files) c.args.file.name.now (program_of c.in-Ok.program) c.request_of.ensures.stays
-    (c.loads_are_loaded.ensures
+    (loaded_inside
     (source_call (g.F.Files.content c.load_rooted.new.files) (g.F.Files.faults c.args.files.now) (g.F.Files.faults c.load_rooted.new.files) (g.F.Files.misses c.args.files.now) (g.F.Files.misses c.load_rooted.new.files) (g.F.Files.reads c.args.files.now) (g.F.Files.reads c.load_rooted.new.files))
-    (root_of (rooted_as c.args.file)) c.args.file.name.now (program_of c.in-Ok.program) loaded))
+    (g.F.Files.content c.request_of.new.files) (rooted_as c.args.file) (program_of c.in-Ok.program) c.request_of.ensures.stays loaded)
     (moved files (g.F.Files.faults c.load_rooted.new.files) (g.F.Files.misses c.load_rooted.new.files) (g.F.Files.reads c.load_rooted.new.files) request (Ok c.in-Ok-request_of.asked)
     loaded.source.unfailed c.in-Ok-request_of.ensures.request)
     c.run_reply.ensures.admitted c.in-Ok-run_reply.ensures.reply
