@@ -98,6 +98,10 @@ no_definition_file : definition_text (definition.File (dtd.Missing (codes "d.dtd
 unfolding shown_name decoded chars encode_utf8
 no_definition_file = refl
 
+outside_of_the_root : definition_text (definition.File (dtd.Outside (codes "../d"))) ≡ codes "phpsa: Dtd Outside ../d" ++ 10 ∷ []
+unfolding shown_name decoded chars encode_utf8
+outside_of_the_root = refl
+
 its_status : definition_status (definition.File (dtd.Missing (codes "d.dtd"))) ≡ Missing
 its_status = refl
 
