@@ -128,7 +128,7 @@ own_request content (Some name) x y held (bytes, told, is) =
 pub own_run : OneProgram → (content : Content) (file : List ℕ) (request : Option (List ℕ)) (x y : ProgramFor) → HoldsShortProgram content file x.program
     → HoldsRequest content request x.request → IsLoaded content file y.program → FindsRequest content request y.request
     → (P : PlainProgram → PlainRequest → Type 0) → P y.program y.request → P x.program x.request
-own_run one content file request x y h r found.loaded finds P is =
+own_run one content file request x y h r found finds P is =
     subst (λ (p : PlainProgram). P p x.request) (sym (one content file x.program y.program h.holds found))
     (subst (λ (q : PlainRequest). P y.program q) (sym (own_request content request x.request y.request r finds)) is)
 
