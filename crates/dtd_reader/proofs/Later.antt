@@ -1,5 +1,5 @@
 -- What a name holds it goes on to hold.
-use Rattle.std.proofs.Common.{◌≡◌, ◌∙◌, ◌+◌, ◌≤◌, ℕ, Bool, true, false, cond, List, [], ◌∷◌, drop, length, refl, sym, ap, subst, arith, Some}
+use Rattle.std.proofs.Common.{◌≡◌, ◌≤◌, ℕ, Bool, true, false, cond, List, [], ◌∷◌, drop, length, sym, subst, arith, Some}
 use Rattle.std.specs.Prelude.{Result, Ok, Err, IfOk, Option, None, if◌then◌else◌}
 use Rattle.std.proofs.lemmas.List.{length-drop}
 use Rattle.text_base.specs.declared.memory.NoMemory.{NoMemory}
