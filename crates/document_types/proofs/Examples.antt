@@ -1,5 +1,5 @@
 -- What words name, and what a definition sees, on worked examples and near misses.
-use Rattle.std.proofs.Common.{◌≡◌, ℕ, List, codes, refl, Some, None}
+use Rattle.std.proofs.Common.{◌≡◌, codes, refl, Some, None}
 use Rattle.io_edge.specs.Names.{normal_parts, normal, folder_of, beside, is_inside, root_for, is_outside}
 use Rattle.io_edge.specs.Told.{known, Content}
 use Rattle.dtd_texts.specs.Spells.{seen_from}

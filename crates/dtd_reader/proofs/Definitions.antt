@@ -58,7 +58,7 @@ table_cause call root name last table.Memory r same read calm why = subst (IsCau
 -- a table that has an attribute of too many values
 pub large_cause : (call : SourceCall) (root name : List ℕ) (last : State) (t : Table) (large : Bool) → IsRead call.content root name last → IsCalm call → IsTable last.written last.generals t
     → large ≡ have_large t.elements → large ≡ true → IsCause call root name (Limit (VALUE_LIMIT + 1))
-large_cause call root name last t large read calm is found yes = (
-  inr (record { last = last; read = read; so = inr (refl, record { says = is.says; said = is.said; large = ap have_large (sym is.elements) ∙ sym found ∙ yes }) }),
+large_cause call root name last t large read calm is found so = (
+  inr (record { last = last; read = read; so = inr (refl, record { says = is.says; said = is.said; large = ap have_large (sym is.elements) ∙ sym found ∙ so }) }),
   calm,
 )

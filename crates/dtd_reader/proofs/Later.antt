@@ -1,5 +1,5 @@
 -- What a name holds it goes on to hold.
-use Rattle.std.proofs.Common.{◌≡◌, ◌∙◌, ◌+◌, ◌≤◌, ℕ, Bool, true, false, cond, List, [], ◌∷◌, drop, length, refl, sym, ap, subst, arith, Some}
+use Rattle.std.proofs.Common.{◌≡◌, ◌≤◌, ℕ, Bool, true, false, cond, List, [], ◌∷◌, drop, length, sym, subst, arith, Some}
 use Rattle.std.specs.Prelude.{Result, Ok, Err, IfOk, Option, None, if◌then◌else◌}
 use Rattle.std.proofs.lemmas.List.{length-drop}
 use Rattle.text_base.specs.declared.memory.NoMemory.{NoMemory}
@@ -22,7 +22,7 @@ use Rattle.dtd_reader.specs.declared.outcome.Loaded.TheVariants.{NotRead as WasN
 abbrev pub holds_later : (before now : Content) (name text : List ℕ) → Stays before now → Holds before name text → Holds now name text
 holds_later before now name text stays held = record { whole = held.whole; told = tells_stay before now name (Some held.whole) stays held.told; is = held.is }
 
-seen_told : (b : Bool) (t : Told) (file : Option (List ℕ)) → b ≡ false → Tells t file → Tells (if b then known None else t) file
+pub seen_told : (b : Bool) (t : Told) (file : Option (List ℕ)) → b ≡ false → Tells t file → Tells (if b then known None else t) file
 seen_told true t file e told = absurd (grind (arith, e))
 seen_told false t file e told = told
 

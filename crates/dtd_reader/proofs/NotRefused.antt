@@ -1,18 +1,18 @@
 -- A file that spells a table has none of the other causes of a refusal.
-use Rattle.std.proofs.Common.{◌≡◌, ◌≢◌, ◌∙◌, ◌<◌, ◌≤◌, ℕ, Bool, true, false, List, [], ◌∷◌, length, Option, Some, None, refl, sym, ap, subst, inl, inr, arith}
+use Rattle.std.proofs.Common.{◌≡◌, ◌∙◌, ◌<◌, ◌≤◌, ℕ, Bool, true, false, List, [], length, Option, Some, None, sym, ap, subst, inl, inr, arith}
 use Rattle.text_base.specs.declared.limits.TheConstants.{FILE_LIMIT}
 use Rattle.io_edge.specs.Counts.{Rises}
 use Rattle.std.specs.Prelude.{if◌then◌else◌}
 use Rattle.io_edge.specs.Names.{beside, is_outside}
 use Rattle.io_edge.specs.Told.{Told, unasked, untold, known, Content, Tells, HasAtLeast}
 use Rattle.dtd_model.specs.Table.{Table}
-use Rattle.dtd_texts.specs.Places.{between, external}
-use Rattle.dtd_texts.specs.Reading.{State, Holds, Replacement, Stands, start, Written, Reads, move, opens, omits, stuck, is_among, source_of}
-use Rattle.dtd_texts.specs.Causes.{Meets, Breaks, unlawful, unended, Omits, Refers, Misses, circular, undeclared, Asks, asks}
+use Rattle.dtd_texts.specs.Places.{external}
+use Rattle.dtd_texts.specs.Reading.{State, Replacement, Stands, start, Written, is_among, source_of}
+use Rattle.dtd_texts.specs.Causes.{Breaks, unlawful, unended, Omits, Refers, Misses, circular, undeclared, Asks, asks}
 use Rattle.dtd_texts.specs.Spells.{ReadsAll, Says, DtdSpells, seen_from}
 use Rattle.dtd_texts.specs.Tables.{Said, element_names}
 use Rattle.dtd_texts.specs.Went as went
-use Rattle.dtd_texts.proofs.Once.{Replaced, ReadsBy, reads_at}
+use Rattle.dtd_texts.proofs.Once.{reads_at}
 use Rattle.dtd_tables.specs.Causes.{StandsTwice, GoesWrong}
 use Rattle.dtd_reader.proofs.NothingWrong.{each_says, never_twice}
 use Rattle.dtd_reader.specs.Source.{SourceCall}

@@ -1,8 +1,8 @@
 -- What a reference at the head of the text comes to, by what is found for its entity.
-use Rattle.std.proofs.Common.{◌≡◌, ℕ, ◌<◌, List, ◌∷◌, length}
+use Rattle.std.proofs.Common.{◌≡◌, ℕ, ◌<◌, List, length}
 use Rattle.io_edge.specs.Told.{Content}
 use Rattle.io_edge.specs.declared.files.FileFault.{FileFault}
-use Rattle.dtd_texts.specs.Reading.{State, Replacement, move, opens}
+use Rattle.dtd_texts.specs.Reading.{State, move, opens}
 use Rattle.dtd_texts.specs.Causes.{Misses}
 use Rattle.dtd_texts.specs.Spells.{seen_from}
 use Rattle.dtd_reader.specs.Causes.{AsksFor, AsksOutside}

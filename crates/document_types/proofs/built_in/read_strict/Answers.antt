@@ -4,7 +4,7 @@ use Rattle.dtd_model.specs.TableOf.{table_of}
 use Rattle.dtd_texts.specs.Spells.{DtdSpells}
 use Rattle.dtd_reader.specs.Source.{source_call}
 use Rattle.dtd_reader.specs.Refusals.{IsCause}
-use Rattle.document_types.specs.Strict.{file_name, file_root, only_file, IsRefused}
+use Rattle.document_types.specs.Strict.{file_name, file_root, IsRefused}
 use Rattle.document_types.proofs.Alone.{alone_stays}
 use Rattle.document_types.proofs.built_in.read_strict.Goals as goal
 

@@ -25,12 +25,12 @@ returns-in-Ok-clause-spelled g c =
     spells (g.F.Files.content c.read_text.new.files) c.args.root.now c.args.name.now (state_of c.in_ok-reading.reading) (table_of c.in-Ok.dtd) c.in_ok-reading.ensures.answer.0
     (subst (λ ws. IsTable (map written_of ws) c.in_ok-reading.reading.generals.keys (table_of c.in-Ok.dtd)) c.as_slice.ensures.value c.in-Ok.ensures.table)
 
-pub returns-in-Ok-then-large-clause-refused : goal.returns-in-Ok-then-large-clause-refused
-returns-in-Ok-then-large-clause-refused g c =
+pub returns-then-large-clause-refused : goal.returns-then-large-clause-refused
+returns-then-large-clause-refused g c =
     let call : SourceCall = source_call (g.F.Files.content c.read_text.new.files) (g.F.Files.faults c.args.files.now) (g.F.Files.faults c.read_text.new.files) (g.F.Files.misses c.args.files.now) (g.F.Files.misses c.read_text.new.files) in
-    large_cause call c.args.root.now c.args.name.now (state_of c.in_ok-reading.reading) (table_of c.in-Ok.dtd) c.have_large_choice.result c.in_ok-reading.ensures.answer.0 c.in_ok-reading.ensures.answer.1
+    large_cause call c.args.root.now c.args.name.now (state_of c.in_ok-reading.reading) (table_of c.in-Ok.dtd) c.have_large_choice-large.result c.in_ok-reading.ensures.answer.0 c.in_ok-reading.ensures.answer.1
     (subst (λ ws. IsTable (map written_of ws) c.in_ok-reading.reading.generals.keys (table_of c.in-Ok.dtd)) c.as_slice.ensures.value c.in-Ok.ensures.table)
-    (c.have_large_choice.ensures ∙ ap (λ es. have_large (map rule_of es)) c.as_slice-2.ensures.value) c.if-large.true
+    (c.have_large_choice-large.ensures ∙ ap (λ es. have_large (map rule_of es)) c.as_slice-in-Ok.ensures.value) c.if-large.true
 
 pub returns-clause-refused : goal.returns-clause-refused
 returns-clause-refused g c =
@@ -39,4 +39,4 @@ returns-clause-refused g c =
     (subst (λ ws. IsTableCause (map written_of ws) c.in-Err.refusal) c.as_slice.ensures.value c.in-Err.ensures.refused)
 
 pub returns-in-Ok-clause-few : goal.returns-in-Ok-clause-few
-returns-in-Ok-clause-few g c = ap (λ es. have_large (map rule_of es)) (sym c.as_slice-2.ensures.value) ∙ sym c.have_large_choice.ensures ∙ c.if-large.false
+returns-in-Ok-clause-few g c = ap (λ es. have_large (map rule_of es)) (sym c.as_slice-in-Ok.ensures.value) ∙ sym c.have_large_choice-large.ensures ∙ c.if-large.false

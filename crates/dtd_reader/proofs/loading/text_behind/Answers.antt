@@ -1,5 +1,4 @@
-use Rattle.std.proofs.Common.{◌≡◌, ◌∙◌, ◌+◌, ◌-◌, ◌≤◌, length, sym, ap, arith}
-use Rattle.dtd_texts.specs.Tokens.{behind_declaration}
+use Rattle.std.proofs.Common.{◌∙◌, ◌-◌, length, sym, ap, arith}
 use Rattle.dtd_reader.proofs.Later.{no_longer}
 use Rattle.dtd_reader.proofs.loading.text_behind.Goals as goal
 

@@ -1,4 +1,5 @@
-use Rattle.std.proofs.Common.{rules, ◌≡◌, ◌∙◌, [], Err, refl, sym, subst}
+use Rattle.std.proofs.Common.{◌≡◌, ◌∙◌, [], Err, refl, sym, ap, subst}
+use Rattle.std.proofs.lemmas.Result.{err_from_is_err_and}
 use Rattle.io_edge.proofs.Staying.{stays_same, stays_on}
 use Rattle.dtd_texts.specs.Reading.{Reads, start}
 use Rattle.dtd_texts.specs.Spells.{seen_from}
@@ -109,6 +110,7 @@ returns-in_err-advance-clause-answer g c =
     let at = c.steps in
     let call : SourceCall = source_call (g.F.Files.content c.advance.new.files) (g.F.Files.faults at.files) (g.F.Files.faults c.advance.new.files) (g.F.Files.misses at.files) (g.F.Files.misses c.advance.new.files) in
     let whole : SourceCall = source_call call.content (g.F.Files.faults c.args.files.now) call.faults' (g.F.Files.misses c.args.files.now) call.misses' in
-    let is : c.from_residual-in_err-advance.result ≡ Err Memory = search rules in
+    let gone = err_from_is_err_and c.from_residual-in_err-advance.result c.from_residual-in_err-advance.ensures.1 in
+    let is : c.from_residual-in_err-advance.result ≡ Err Memory = gone.1 ∙ ap Err gone.2 in
     let calm : IsCalm call = c.in_err-advance.ensures.counted in
     subst (IsTextAnswer whole c.args.origin.root.now c.args.origin.name.now c.args.text) (sym is) (calm.0 ∙ at.invariant.2, calm.1 ∙ at.invariant.3)

@@ -1,4 +1,4 @@
-use Rattle.std.proofs.Common.{◌≡◌, ◌∙◌, ◌+◌, drop, take, refl, ap, subst, arith}
+use Rattle.std.proofs.Common.{◌∙◌, ◌+◌, drop, take, refl, ap, subst, arith}
 use Rattle.io_edge.proofs.Staying.{stays_same}
 use Rattle.std.proofs.lemmas.List.{length-drop}
 use Rattle.dtd_entities.specs.Positions.{state_of}
