@@ -1,29 +1,28 @@
 -- What was read so far, as it is told: one source that answered so.
-use Rattle.std.proofs.Common.{◌≡◌, ◌∙◌, ◌<◌, ◌≤◌, ℕ, zero, suc, ◌+◌, Bool, true, false, List, [], ◌∷◌, ◌++◌, map, length, Option, Some, None, inl, inr, refl, sym, ap, subst, arith}
+use Rattle.std.proofs.Common.{◌≡◌, ◌∙◌, ◌≤◌, ℕ, ◌+◌, Bool, true, false, List, [], map, length, Option, None, inl, inr, refl, sym, ap, subst, arith}
 use Rattle.std.proofs.lemmas.List.{length-map}
 use Rattle.std.specs.Prelude.{◌⊎◌, ◌||◌, is_some, if◌then◌else◌}
 use Rattle.std.specs.List.{Contains}
 use Rattle.io_edge.specs.Told.{Told, Content, unasked, untold, known, Tells, Allows}
-use Rattle.io_edge.specs.Names.{normal, beside, is_outside}
+use Rattle.io_edge.specs.Names.{normal, beside}
 use Rattle.io_edge.proofs.Staying.{tells_allow}
-use Rattle.php_syntax.specs.Trees.{PlainFile, PlainStmts}
+use Rattle.php_syntax.specs.Trees.{PlainFile}
 use Rattle.script_grammar.specs.Rules.{is_utf8}
 use Rattle.program_rules.specs.declared.limits.TheConstants.{PLACE_LIMIT}
 use Rattle.program_rules.specs.Bodies.{include_of, file_with_bodies}
-use Rattle.program_rules.specs.Files.{Held, HasScript, HasTree, has_one_place, is_at_first, found_name, with_found_names}
+use Rattle.program_rules.specs.Files.{Held, HasScript, HasTree, has_one_place, found_name, with_found_names}
 use Rattle.program_rules.specs.Includes.{includes_of_file, Reads, included, Writes, Asks, to_read, first}
 use Rattle.program_rules.specs.Programs.{ReadFile}
 use Rattle.program_rules.proofs.PathLemmas.{paths_of_file, same_file}
-use Rattle.program_files.specs.declared.places.Look.TheVariants as look
 use Rattle.program_files.specs.Order.{is_read, names_of, Reached}
-use Rattle.program_files.specs.Source.{SourceCall, so_many_more, RisesBy}
+use Rattle.program_files.specs.Source.{SourceCall, so_many_more}
 use Rattle.program_files.specs.Causes.{IsReading, IsSettled, HasSettledTree, ReadsAll}
-use Rattle.program_files.specs.Steps.{Include, State, state, is_among, WasAsked, IsLook, Passes, placed, placed_or_same, placed_include, placed_file}
+use Rattle.program_files.specs.Steps.{State, state, is_among, WasAsked, placed, placed_or_same, placed_include, placed_file}
 use Rattle.program_files.proofs.NameLemmas.{tree_there}
 use Rattle.program_files.proofs.ReachedLemmas.{files_read}
 use Rattle.program_files.proofs.Utf8Paths.{in_file}
 use Rattle.program_files.proofs.Among.{among_contains, contains_among, there_read, contains_map, contains_of_map, map_same}
-use Rattle.program_files.proofs.HasRead.{found_file, found_files, found_paths, SameAsked, IsFound, IsPlace, HasRead, found_first, found_second, at_first, not_first, read_some, read_found}
+use Rattle.program_files.proofs.HasRead.{found_file, found_files, found_paths, SameAsked, IsFound, IsPlace, HasRead, found_first, found_second, at_first, read_some, read_found}
 use Rattle.program_files.proofs.Steps.{script_kept}
 
 pub told_of : Told → Option (List ℕ)
@@ -45,7 +44,7 @@ last_main : (content : Content) (held : Held) (s : State) → (at_last content h
 unfolding at_last
 last_main content held s = refl
 
-same_at_last : (content : Content) (held : Held) (s : State) → SameAsked held (at_last content held s) s
+pub same_at_last : (content : Content) (held : Held) (s : State) → SameAsked held (at_last content held s) s
 unfolding at_last
 same_at_last content held s path asked = ap (λ (b : Bool). if b then held.bytes path else told_of (content path)) (by (is_read s.files path) (is_among s.missed path) asked)
   where
@@ -55,11 +54,11 @@ same_at_last content held s path asked = ap (λ (b : Bool). if b then held.bytes
     by false b (inr e) = e
 
 -- each name that was asked for was answered so
-answered : (call : SourceCall) (root name : List ℕ) (s : State) (has : HasRead call root name s) (path : List ℕ) → WasAsked s.files s.missed path → Tells (call.content path) (has.held.bytes path)
+pub answered : (call : SourceCall) (root name : List ℕ) (s : State) (has : HasRead call root name s) (path : List ℕ) → WasAsked s.files s.missed path → Tells (call.content path) (has.held.bytes path)
 answered call root name s has path (inl read) = let t = tree_there s.files path read in (has.scripts (record { name = path; tree = t.0 }) t.1).1
 answered call root name s has path (inr missed) = let h = has.not_there path missed in subst (λ (o : Option (List ℕ)). Tells (call.content path) o) (sym h.1) h.0
 
-agrees_at_last : (call : SourceCall) (root name : List ℕ) (s : State) (has : HasRead call root name s) (path : List ℕ) → Allows (call.content path) ((at_last call.content has.held s).bytes path)
+pub agrees_at_last : (call : SourceCall) (root name : List ℕ) (s : State) (has : HasRead call root name s) (path : List ℕ) → Allows (call.content path) ((at_last call.content has.held s).bytes path)
 unfolding at_last
 agrees_at_last call root name s has path = by (is_read s.files path) (is_among s.missed path) refl refl
   where
@@ -69,15 +68,15 @@ agrees_at_last call root name s has path = by (is_read s.files path) (is_among s
     by false false e f = allows_it (call.content path)
 
 -- what the program asks for
-place_asked : (held : Held) (name : List ℕ) (s : State) → Reached (HasTree held) name (found_files held s.files) (found_paths held s.includes) → ((f : ReadFile) → Contains s.files f → HasScript held f.name f.tree)
+pub place_asked : (held : Held) (name : List ℕ) (s : State) → Reached (HasTree held) name (found_files held s.files) (found_paths held s.includes) → ((f : ReadFile) → Contains s.files f → HasScript held f.name f.tree)
     → ((path : List ℕ) → is_among s.missed path ≡ true → held.bytes path ≡ None) → (path : List ℕ) → IsPlace held.main s path → Asks held name path
 unfolding found_file
 place_asked held name s reached scripts gone path p =
     let f = files_read held name (found_files held s.files) (found_paths held s.includes) reached (found_file held p.file) (contains_map (found_file held) s.files p.file p.there) in
-    let writes : Writes held p.file.name p.written = (p.file.tree, (scripts p.file p.there, p.own)) in
+    let writes : Writes held p.file.name p.written = (p.file.tree, scripts p.file p.there, p.own) in
     elim p.place [
       | inl place ↦ subst (λ (x : List ℕ). Asks held name x) (sym place) (first p.file.name p.written f.0 writes)
-      | inr (two, (miss, place)) ↦ (
+      | inr (two, miss, place) ↦ (
           let named : found_name held p.file.name p.written ≡ path = found_second held p.file.name p.written two (gone (beside held.main p.written) miss) ∙ sym place in
           let paths : includes_of_file (with_found_names held p.file.name p.file.tree) ≡ map (found_name held p.file.name) (includes_of_file p.file.tree) = paths_of_file (found_name held p.file.name) p.file.tree in
           let own : Contains (map (found_name held p.file.name) (includes_of_file p.file.tree)) (found_name held p.file.name p.written) = contains_map (found_name held p.file.name) (includes_of_file p.file.tree) p.written p.own in
@@ -103,7 +102,7 @@ last_some call root name s has path e = ap (λ (o : Option (List ℕ)). is_some 
 pub last_is : (call : SourceCall) (root name : List ℕ) (s : State) (has : HasRead call root name s) → (last_of call root name s has).main ≡ has.held.main
 last_is call root name s has = last_main call.content has.held s
 
-pub reading_of : (call : SourceCall) (root name : List ℕ) (s : State) (has : HasRead call root name s) → IsReading call.content name (found_files (last_of call root name s has) s.files) s.missed (found_paths (last_of call root name s has) s.includes)
+unfoldable pub reading_of : (call : SourceCall) (root name : List ℕ) (s : State) (has : HasRead call root name s) → IsReading call.content name (found_files (last_of call root name s has) s.files) s.missed (found_paths (last_of call root name s has) s.includes)
 reading_of call root name s has =
     let held : Held = last_of call root name s has in
     let main : held.main ≡ has.held.main = last_is call root name s has in
@@ -154,7 +153,7 @@ placed_found : (call : SourceCall) (root name : List ℕ) (s : State) (has : Has
 placed_found call root name s has file written (inl ((inside, read), last)) =
     let held : Held = last_of call root name s has in
     placed_first (names_of s.files) held.main file written read ∙ sym (found_first held file written (last_some call root name s has (beside held.main written) read))
-placed_found call root name s has file written (inr ((inside, miss), (two, (inside_second, read)))) =
+placed_found call root name s has file written (inr ((inside, miss), two, (inside_second, read))) =
     let held : Held = last_of call root name s has in
     placed_second (names_of s.files) held.main file written two (missed_unread call root name s has (beside held.main written) miss) ∙ sym (found_second held file written two (last_gone call root name s has (beside held.main written) miss))
 
@@ -193,12 +192,12 @@ settled_so call root name s has file written (inl ((inside, read), last)) =
       inside = record { first = inside; second = λ no. absurd (let yes = at_first held written (last_some call root name s has (beside held.main written) read) in let false_is : true ≡ false = sym yes ∙ no in cc) };
       asked = inl (read_found held s.files (beside held.main written) ∙ read);
     }
-settled_so call root name s has file written (inr ((inside, miss), (two, (inside_second, read)))) =
+settled_so call root name s has file written (inr ((inside, miss), two, (inside_second, read))) =
     let held : Held = last_of call root name s has in record { inside = record { first = inside; second = λ no. inside_second }; asked = inr (among_contains s.missed (beside held.main written) miss) }
 
 -- and all files are read
 all_found : (call : SourceCall) (root name : List ℕ) (files : List ReadFile) (missed : List (List ℕ)) (has : HasRead call root name (state files missed [])) → length missed ≤ PLACE_LIMIT → ReadsAll call root name (found_files (last_of call root name (state files missed []) has) files)
-unfolding found_file
+unfolding found_file reading_of
 all_found call root name files missed has few_missed =
     let s : State = state files missed [] in
     let held : Held = last_of call root name s has in
