@@ -51,7 +51,7 @@ Stand = OfOrder (λ held files order name. StandsForProgram held name files (pro
 -- an include of a file that the program reads is settled
 settled_so : OneScriptEach → (call : SourceCall) (root name : List ℕ) (files : List ReadFile) (all : ReadsAll call root name files) → AreRead all.reading.held (normal name) files → (file written : List ℕ) → Reads all.reading.held (normal name) file
     → Writes all.reading.held file written → IsSettled root all.reading.held files all.missed file written
-settled_so scripts call root name files all read file written reads (script, (has, own)) =
+settled_so scripts call root name files all read file written reads (script, has, own) =
     let f = read.all file reads in
     let s = all.settled (record { name = file; tree = f.0 }) f.1 in
     s.settled written (subst (λ (t : PlainFile). Contains (includes_of_file t) written) (scripts all.reading.held file script s.tree.script has s.tree.has_script) own)
