@@ -40,6 +40,6 @@ faults_told call root name (dtd.Limit count) (why, (same, others)) = inr same
 faults_told call root name dtd.Memory (same, others) = inr same
 
 pub definition_faults : (call : dtd_source.SourceCall) (d : NamedType) (r : DefinitionRefusal) → IsDefinitionRefusal call d r → (definition_status r ≡ ReadFault) ⊎ (call.faults' ≡ call.faults)
-definition_faults call d (definition.File fault) (name, root, is, why) = faults_told call root name fault why
+definition_faults call d (definition.File fault) (name, (root, is, why)) = faults_told call root name fault why
 definition_faults call d (definition.BuiltIn fault) (why, (same, others)) = inr same
 definition_faults call d definition.Memory (same, others) = inr same
