@@ -82,7 +82,7 @@ map_same g h [] e = refl
 map_same {X} {Y} g h (x ∷ xs) e = ap (λ (y : Y). y ∷ map g xs) (e x (contains_first x xs)) ∙ ap (λ (ys : List Y). h x ∷ ys) (map_same g h xs (λ z c. e z (Contains-append_right (x ∷ []) xs z c)))
 
 -- a name at a place is among them
-at_place : (names : List (List ℕ)) (i : ℕ) (x : List ℕ) → slice_get names i ≡ Some x → is_among names x ≡ true
+pub at_place : (names : List (List ℕ)) (i : ℕ) (x : List ℕ) → slice_get names i ≡ Some x → is_among names x ≡ true
 at_place [] i x e = absurd (cc)
 at_place (y ∷ ys) zero x e = left_true (bytes_eq x y) (is_among ys x) (ap (λ (z : List ℕ). bytes_eq x z) (same_Some y x e) ∙ own_name x)
 at_place (y ∷ ys) (suc i) x e = right_true (bytes_eq x y) (is_among ys x) (at_place ys i x e)

@@ -43,7 +43,7 @@ named_with_file files path tree rest named i c = elim (Contains-append_cases (wr
   | inl own ↦ (
       let w = contains_of_map (λ (written : List ℕ). (path, written)) (includes_of_file tree) i own in
       let file : ReadFile = record { name = path; tree = tree } in
-      subst (λ (j : Include). IsNamedIn (files ++ file ∷ []) j) w.2 (file, (Contains-append_right files (file ∷ []) file (0, omega arith, refl), (refl, w.1)))
+      subst (λ (j : Include). IsNamedIn (files ++ file ∷ []) j) w.2 (file, Contains-append_right files (file ∷ []) file (0, omega arith, refl), refl, w.1)
       )
   | inr old ↦ (let n = named i old in (n.0, Contains-append_left files (record { name = path; tree = tree } ∷ []) n.0 n.1, n.2, n.3))
 ]
@@ -66,14 +66,14 @@ reached_more call root name files missed i rest has path bytes tree place unread
 -- the next place of an include is a place of it
 place_of_next : (root main : List ℕ) (files : List ReadFile) (missed : List (List ℕ)) (i : Include) (rest : List Include) (path : List ℕ) → IsNamedIn files i → IsNextPlace root main files missed i path
     → IsPlace main (state files (missed ++ path ∷ []) (i ∷ rest)) path
-place_of_next root main files missed i rest path named (inl ((inside, (unread, (unmissed, place))), last)) =
+place_of_next root main files missed i rest path named (inl ((inside, unread, unmissed, place), last)) =
     record { file = named.0; written = i.1; there = named.1; own = named.3; place = inl place }
-place_of_next root main files missed i rest path named (inr ((inside, miss), (two, (inside_second, (unread, (unmissed, place)))))) = record {
+place_of_next root main files missed i rest path named (inr ((inside, miss), two, (inside_second, unread, unmissed, place))) = record {
   file = named.0;
   written = i.1;
   there = named.1;
   own = named.3;
-  place = inr (two, (still_among missed path (beside main i.1) miss, place ∙ ap (λ (x : List ℕ). beside x i.1) (sym named.2)));
+  place = inr (two, still_among missed path (beside main i.1) miss, place ∙ ap (λ (x : List ℕ). beside x i.1) (sym named.2));
 }
 
 -- a file more
@@ -106,9 +106,9 @@ file_more content f f' f'' m m' m'' r r' r'' root name files missed i rest has p
           let h = has.not_there x e in
           (h.0, keeps x (inr e) ∙ h.1, subst (λ (a : List ℕ). IsPlace a (state (files ++ file ∷ []) missed (written_in path tree ++ rest)) x) (sym main) (place_with_file has.held.main files file missed (i ∷ rest) (written_in path tree ++ rest) x h.2))
           );
-      reached = λ other m same.
+      reached = λ other same_main_name same.
           let old : SameAsked has.held other (state files missed (i ∷ rest)) = λ x asked. same x (asked_with_file files file missed x asked) ∙ keeps x asked in
-          reached_more (source_call content f f' m m' r r') root name files missed i rest has path bytes tree place unread script other (m ∙ main) old (same path (inl (now_read files tree path)) ∙ here);
+          reached_more (source_call content f f' m m' r r') root name files missed i rest has path bytes tree place unread script other (same_main_name ∙ main) old (same path (inl (now_read files tree path)) ∙ here);
       once = has.once;
       named = named_with_file files path tree rest (λ j c. has.named j (later i j rest c));
       settled = λ g written c own. subst (λ (a : List ℕ). Contains (written_in path tree ++ rest) (g.name, written) ⊎ IsFound root a (state (files ++ file ∷ []) missed (written_in path tree ++ rest)) (g.name, written)) (sym main)
@@ -157,7 +157,7 @@ miss_more content f f' f'' m m' m'' r r' r'' root name files missed i rest has p
             | inr same ↦ subst (λ (y : List ℕ). Tells (content y) None × (held'.bytes y ≡ None) × IsPlace has.held.main (state files (missed ++ path ∷ []) (i ∷ rest)) y) (sym same)
                 (told, here, place_of_next root has.held.main files missed i rest path (has.named i (0, omega arith, refl)) place)
           ]);
-      reached = λ other m same. has.reached other (m ∙ main) (λ x asked. same x (asked_with_miss files missed path x asked) ∙ keeps x asked);
+      reached = λ other same_main_name same. has.reached other (same_main_name ∙ main) (λ x asked. same x (asked_with_miss files missed path x asked) ∙ keeps x asked);
       once = once_more missed path has.once unmissed;
       named = has.named;
       settled = λ g written c own. subst (λ (a : List ℕ). Contains (i ∷ rest) (g.name, written) ⊎ IsFound root a (state files (missed ++ path ∷ []) (i ∷ rest)) (g.name, written)) (sym main)
@@ -166,5 +166,5 @@ miss_more content f f' f'' m m' m'' r r' r'' root name files missed i rest has p
       counted = counted ∙ ap one_more has.counted ∙ ap (λ n. so_many_more n r) (sym sum);
       few = has.few;
       unfailed = unfailed ∙ has.unfailed;
-      misses = subst (λ (n : ℕ). RisesBy n m m'') (sym size) (m', (has.misses, rises));
+      misses = subst (λ (n : ℕ). RisesBy n m m'') (sym size) (m', has.misses, rises);
     }

@@ -18,7 +18,7 @@ use Rattle.program_files.specs.Steps.{Include, State, state, is_among, WasAsked,
 use Rattle.program_files.proofs.NameLemmas.{same_name, own_name, tree_there}
 
 -- files as a source has them, with each include by its found name
-pub found_file : Held → ReadFile → ReadFile
+unfoldable pub found_file : Held → ReadFile → ReadFile
 found_file held f = record { name = f.name; tree = with_found_names held f.name f.tree }
 
 abbrev pub found_files : Held → List ReadFile → List ReadFile
@@ -139,7 +139,7 @@ found_is_read call root name s has include (inl ((inside, read), last)) other sa
     let there : is_some (other.bytes (beside other.main include.1)) ≡ true =
     ap (λ (x : List ℕ). is_some (other.bytes x)) first ∙ ap (λ (o : Option (List ℕ)). is_some o) (same (beside has.held.main include.1) (inl read)) ∙ read_some call root name s has (beside has.held.main include.1) read in
     ap (λ (x : List ℕ). is_read s.files x) (found_first other include.0 include.1 there ∙ first) ∙ read
-found_is_read call root name s has include (inr ((inside, missed), (two, (inside_second, read)))) other same_main same =
+found_is_read call root name s has include (inr ((inside, missed), two, (inside_second, read))) other same_main same =
     let first : beside other.main include.1 ≡ beside has.held.main include.1 = ap (λ (m : List ℕ). beside m include.1) same_main in
     let gone : other.bytes (beside other.main include.1) ≡ None =
     ap (λ (x : List ℕ). other.bytes x) first ∙ same (beside has.held.main include.1) (inr missed) ∙ (has.not_there (beside has.held.main include.1) missed).1 in

@@ -12,4 +12,6 @@ pub mod SoFar
 pub mod Beginning
 pub mod Refusals
 pub mod Visits
+pub mod Placed
+pub mod OneAsked
 pub mod Loops

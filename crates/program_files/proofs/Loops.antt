@@ -1,6 +1,6 @@
 -- The turns of reading: what is next, what was asked for, and what comes of it.
 use Rattle.std.proofs.Common.{◌≡◌, ◌∙◌, ◌<◌, ◌≤◌, ◌+◌, ◌-◌, ℕ, zero, suc, true, false, List, [], ◌∷◌, ◌++◌, drop, length, length-append, Some, None, inl, inr, refl, sym, ap, subst, arith}
-use Rattle.std.specs.Prelude.{◌⊎◌}
+use Rattle.std.specs.Prelude.{◌⊎◌, Option, MatchOption}
 use Rattle.std.specs.List.{Contains}
 use Rattle.std.proofs.lemmas.List.Elements.{Contains-append_right}
 use Rattle.io_edge.specs.Told.{Content, Stays}
@@ -11,6 +11,7 @@ use Rattle.program_rules.specs.Programs.{ReadFile}
 use Rattle.program_files.specs.declared.refusal.LoadRefusal.{LoadRefusal}
 use Rattle.program_files.specs.declared.refusal.LoadRefusal.TheVariants.{Missing, Outside}
 use Rattle.program_files.specs.declared.places.Look.TheVariants as look
+use Rattle.program_files.specs.declared.places.Step.{Step}
 use Rattle.program_files.specs.Order.{is_read, names_of}
 use Rattle.program_files.specs.Source.{SourceCall, source_call}
 use Rattle.program_files.specs.Causes.{IsReadCause}
@@ -48,12 +49,12 @@ pub record Asked (call : SourceCall) (root name : List ℕ) (files : List ReadFi
   pub place : IsNextPlace root has.held.main files missed include path
 
 pub place_unread : (root main : List ℕ) (files : List ReadFile) (missed : List (List ℕ)) (i : Include) (path : List ℕ) → IsNextPlace root main files missed i path → is_read files path ≡ false
-place_unread root main files missed i path (inl ((inside, (unread, (unmissed, place))), last)) = ap (λ (x : List ℕ). is_read files x) place ∙ unread
-place_unread root main files missed i path (inr (gone, (two, (inside, (unread, (unmissed, place)))))) = ap (λ (x : List ℕ). is_read files x) place ∙ unread
+place_unread root main files missed i path (inl ((inside, unread, unmissed, place), last)) = ap (λ (x : List ℕ). is_read files x) place ∙ unread
+place_unread root main files missed i path (inr (gone, two, (inside, unread, unmissed, place))) = ap (λ (x : List ℕ). is_read files x) place ∙ unread
 
 pub place_unmissed : (root main : List ℕ) (files : List ReadFile) (missed : List (List ℕ)) (i : Include) (path : List ℕ) → IsNextPlace root main files missed i path → is_among missed path ≡ false
-place_unmissed root main files missed i path (inl ((inside, (unread, (unmissed, place))), last)) = ap (λ (x : List ℕ). is_among missed x) place ∙ unmissed
-place_unmissed root main files missed i path (inr (gone, (two, (inside, (unread, (unmissed, place)))))) = ap (λ (x : List ℕ). is_among missed x) place ∙ unmissed
+place_unmissed root main files missed i path (inl ((inside, unread, unmissed, place), last)) = ap (λ (x : List ℕ). is_among missed x) place ∙ unmissed
+place_unmissed root main files missed i path (inr (gone, two, (inside, unread, unmissed, place))) = ap (λ (x : List ℕ). is_among missed x) place ∙ unmissed
 
 pub asked_so : (call : SourceCall) (root name main : List ℕ) (files : List ReadFile) (missed : List (List ℕ)) (all left rest : List Include) (include : Include) (path : List ℕ) → main ≡ normal name → HasRead call root name (state files missed all)
     → Passes root main files missed all (include ∷ rest) → left ≡ include ∷ rest → IsNextPlace root main files missed include path → Asked call root name files missed left path
@@ -74,7 +75,7 @@ next_state content f f' f'' m m' m'' r r' r'' root name files missed left path n
     let b = subst (λ (is : List Include). HasRead call root name (state (files ++ record { name = path; tree = adds.tree } ∷ []) missed is)) (sym first) more in
     let c = subst (λ (ms : List (List ℕ)). HasRead call root name (state (files ++ record { name = path; tree = adds.tree } ∷ []) ms now.includes)) (sym same) b in
     (subst (λ (fs : List ReadFile). HasRead call root name (state fs now.missed now.includes)) (sym adds.more) c, subst (λ (ms : List (List ℕ)). length ms ≤ PLACE_LIMIT) (sym same) few)
-next_state content f f' f'' m m' m'' r r' r'' root name files missed left path now a text few (inr (adds, (same, left_too))) =
+next_state content f f' f'' m m' m'' r r' r'' root name files missed left path now a text few (inr (adds, same, left_too)) =
     let call = source_call content f f'' m m'' r r'' in
     let unread = place_unread root a.has.held.main files missed a.include path a.place in
     let unmissed = place_unmissed root a.has.held.main files missed a.include path a.place in
@@ -92,7 +93,7 @@ smaller call path before now few few_missed (inl (adds, same)) =
     let size : length now.files ≡ suc (length before.files) = ap (λ (fs : List ReadFile). length fs) adds.more ∙ length-append before.files (record { name = path; tree = adds.tree } ∷ []) ∙ (omega arith) in
     let also = ap (λ (ms : List (List ℕ)). length ms) same in
     omega (arith, size, also, few, few_missed)
-smaller call path before now few few_missed (inr (adds, (same, rest))) =
+smaller call path before now few few_missed (inr (adds, same, rest)) =
     let size : length now.missed ≡ suc (length before.missed) = ap (λ (ms : List (List ℕ)). length ms) adds.more ∙ length-append before.missed (path ∷ []) ∙ (omega arith) in
     let also = ap (λ (fs : List ReadFile). length fs) same in
     omega (arith, size, also, few, few_missed)
@@ -113,3 +114,10 @@ pub outside_so : (call : SourceCall) (root name main : List ℕ) (files : List R
     → Passes root main files missed all ((file, written) ∷ rest) → IsLook root main files missed (file, written) look.LeadsOut → IsReadCause call root name (Outside written)
 outside_so call root name main files missed all rest file written is has passes l =
     leads_out call root name main files missed (file, written) rest is (passed call root name main files missed all ((file, written) ∷ rest) is has passes) l
+
+-- what is next, where there is something, or nothing
+pub step_so : (A : Type 0) (P : Step → Type 0) (o : Option Step) (t s : Step) → MatchOption o A P → o ≡ Some t → t ≡ s → P s
+step_so A P o t s m is same = subst P same (subst (λ (x : Option Step). MatchOption x A P) is m)
+
+pub no_step : (A : Type 0) (P : Step → Type 0) (o : Option Step) → MatchOption o A P → o ≡ None → A
+no_step A P o m is = subst (λ (x : Option Step). MatchOption x A P) is m

@@ -37,13 +37,13 @@ reads_named call root name s has i named =
 
 writes_named : (call : SourceCall) (root name : List ℕ) (s : State) (has : HasRead call root name s) (i : Include) → IsNamedIn s.files i → Writes (last_of call root name s has) i.0 i.1
 writes_named call root name s has i named =
-    subst (λ (x : List ℕ). Writes (last_of call root name s has) x i.1) named.2 (named.0.tree, (last_script call root name s has named.0 named.1, named.3))
+    subst (λ (x : List ℕ). Writes (last_of call root name s has) x i.1) named.2 (named.0.tree, last_script call root name s has named.0 named.1, named.3)
 
 -- where a name that is asked for is refused, reading stopped there
 stops : (content : Content) (f f' f'' m m' m'' r r' r'' : ℕ) (root name : List ℕ) (files : List ReadFile) (missed : List (List ℕ)) (i : Include) (rest : List Include)
     → (has : HasRead (source_call content f f' m m' r r') root name (state files missed (i ∷ rest))) (path : List ℕ) → IsNextPlace root has.held.main files missed i path → is_read files path ≡ false → is_among missed path ≡ false
     → r'' ≡ one_more r' → (s : StopsAt (source_call content f f'' m m'' r r'') name path) × (s.missed ≡ missed) × (length s.files ≡ length files)
-unfolding so_many_more
+unfolding so_many_more reading_of
 stops content f f' f'' m m' m'' r r' r'' root name files missed i rest has path place unread unmissed counted =
     let call = source_call content f f' m m' r r' in
     let s : State = state files missed (i ∷ rest) in
@@ -65,7 +65,7 @@ stops content f f' f'' m m' m'' r r' r'' root name files missed i rest has path 
             place = own.3 ∙ ap (λ (x : List ℕ). beside x i.1) (sym (last_is call root name s has));
             found_as = refl;
           })
-          | inr (miss, (two, own)) ↦ inl (
+          | inr (miss, two, own) ↦ inl (
               let gone = subst (λ (x : List ℕ). is_among missed (beside x i.1) ≡ true) (sym (last_is call root name s has)) miss.1 in
               own.3 ∙ sym (found_second held i.0 i.1 two (last_gone call root name s has (beside held.main i.1) gone))
               )
@@ -93,6 +93,7 @@ no_memory call root name s has = (missed_so call root name s has, has.unfailed)
 
 -- an include is next
 next_so : (call : SourceCall) (root name : List ℕ) (files : List ReadFile) (missed : List (List ℕ)) (i : Include) (rest : List Include) (has : HasRead call root name (state files missed (i ∷ rest))) → IsNext call name i.1
+unfolding reading_of
 next_so call root name files missed i rest has =
     let s : State = state files missed (i ∷ rest) in
     let held : Held = last_of call root name s has in
@@ -125,7 +126,7 @@ missed_parts root held files missed i gone (inl ((inside, miss), one)) = (
   among_contains missed (beside held.main i.1) miss,
   subst (λ (x : List ℕ). Contains missed x) (sym (found_only held i.0 i.1 one)) (among_contains missed (beside held.main i.1) miss),
 )
-missed_parts root held files missed i gone (inr ((inside, miss), (two, (inside_second, miss_second)))) = (
+missed_parts root held files missed i gone (inr ((inside, miss), two, (inside_second, miss_second))) = (
   record { first = inside; second = λ no. inside_second },
   among_contains missed (beside held.main i.1) miss,
   subst (λ (x : List ℕ). Contains missed x) (sym (found_second held i.0 i.1 two (gone (beside held.main i.1) miss))) (among_contains missed (beside i.0 i.1) miss_second),
@@ -134,6 +135,7 @@ missed_parts root held files missed i gone (inr ((inside, miss), (two, (inside_s
 -- an include is missing
 pub is_missing : (call : SourceCall) (root name main : List ℕ) (files : List ReadFile) (missed : List (List ℕ)) (i : Include) (rest : List Include) → main ≡ normal name → (has : HasRead call root name (state files missed (i ∷ rest)))
     → IsLook root main files missed i look.Missed → IsReadCause call root name (Missing i.1)
+unfolding reading_of next_so
 is_missing call root name main files missed i rest is has l =
     let s : State = state files missed (i ∷ rest) in
     let held : Held = last_of call root name s has in
@@ -146,10 +148,11 @@ is_missing call root name main files missed i rest is has l =
 out_parts : (root : List ℕ) (held : Held) (files : List ReadFile) (missed : List (List ℕ)) (i : Include) → ((path : List ℕ) → is_among missed path ≡ true → held.bytes path ≡ None) → IsLook root held.main files missed i look.LeadsOut
     → (is_outside root held.main i.1 ≡ true) ⊎ ((is_at_first held i.1 ≡ false) × (is_outside root i.0 i.1 ≡ true))
 out_parts root held files missed i gone (inl (out, last)) = inl out
-out_parts root held files missed i gone (inr ((inside, miss), (two, out))) = inr (not_first held i.1 two (gone (beside held.main i.1) miss), out)
+out_parts root held files missed i gone (inr ((inside, miss), two, out)) = inr (not_first held i.1 two (gone (beside held.main i.1) miss), out)
 
 pub leads_out : (call : SourceCall) (root name main : List ℕ) (files : List ReadFile) (missed : List (List ℕ)) (i : Include) (rest : List Include) → main ≡ normal name → (has : HasRead call root name (state files missed (i ∷ rest)))
     → IsLook root main files missed i look.LeadsOut → IsReadCause call root name (Outside i.1)
+unfolding reading_of next_so
 leads_out call root name main files missed i rest is has l =
     let s : State = state files missed (i ∷ rest) in
     let held : Held = last_of call root name s has in
@@ -159,6 +162,7 @@ leads_out call root name main files missed i rest is has l =
 
 -- one name more is missed, of which there are too many
 one_too_many : (call : SourceCall) (root name : List ℕ) (s : State) (has : HasRead call root name s) → length s.missed ≡ PLACE_LIMIT + 1 → HasTooMany call name
+unfolding missed_so
 one_too_many call root name s has many =
     inr (missed_so call root name s has, many, has.counted ∙ ap (λ n. so_many_more (n + length s.missed) call.reads) (sym (size_of (last_of call root name s has) s.files)))
 
@@ -169,25 +173,25 @@ misses_same missed others m m' m'' same calm rises = subst (λ (xs : List (List 
 pub refused : (content : Content) (f f' f'' m m' m'' r r' r'' : ℕ) (root name : List ℕ) (files : List ReadFile) (missed : List (List ℕ)) (i : Include) (rest : List Include)
     → (has : HasRead (source_call content f f' m m' r r') root name (state files missed (i ∷ rest))) (path : List ℕ) → IsNextPlace root has.held.main files missed i path → is_read files path ≡ false → is_among missed path ≡ false
     → length missed ≤ PLACE_LIMIT → (refusal : LoadRefusal) → IsOneCause (source_call content f' f'' m' m'' r' r'') path files missed refusal → IsReadCause (source_call content f f'' m m'' r r'') root name refusal
-refused content f f' f'' m m' m'' r r' r'' root name files missed i rest has path place unread unmissed few_missed (ReadFault file) (same, (counted, (rises, calm))) =
+refused content f f' f'' m m' m'' r r' r'' root name files missed i rest has path place unread unmissed few_missed (ReadFault file) (same, counted, rises, calm) =
     let s = stops content f f' f'' m m' m'' r r' r'' root name files missed i rest has path place unread unmissed counted in
     let P : List ℕ → Type 0 = λ p. IsReadCause (source_call content f f'' m m'' r r'') root name (ReadFault p) in
     let Q : ℕ → Type 0 = λ k. Rises k f'' in
     subst P (sym same) (s.0, subst Q has.unfailed rises, misses_same missed s.0.missed m m' m'' s.1 calm has.misses)
-refused content f f' f'' m m' m'' r r' r'' root name files missed i rest has path place unread unmissed few_missed (TooLong file len) (same, (counted, (long, (least, (unfailed, calm))))) =
+refused content f f' f'' m m' m'' r r' r'' root name files missed i rest has path place unread unmissed few_missed (TooLong file len) (same, counted, long, least, unfailed, calm) =
     let s = stops content f f' f'' m m' m'' r r' r'' root name files missed i rest has path place unread unmissed counted in
     let P : List ℕ → Type 0 = λ p. IsReadCause (source_call content f f'' m m'' r r'') root name (TooLong p len) in
     subst P (sym same) (s.0, long, least, unfailed ∙ has.unfailed, misses_same missed s.0.missed m m' m'' s.1 calm has.misses)
-refused content f f' f'' m m' m'' r r' r'' root name files missed i rest has path place unread unmissed few_missed (Script file fault) (same, (counted, (broken, (unfailed, calm)))) =
+refused content f f' f'' m m' m'' r r' r'' root name files missed i rest has path place unread unmissed few_missed (Script file fault) (same, counted, broken, unfailed, calm) =
     let s = stops content f f' f'' m m' m'' r r' r'' root name files missed i rest has path place unread unmissed counted in
     let P : List ℕ → Type 0 = λ p. IsReadCause (source_call content f f'' m m'' r r'') root name (Script p fault) in
     subst P (sym same) (s.0, broken, unfailed ∙ has.unfailed, misses_same missed s.0.missed m m' m'' s.1 calm has.misses)
-refused content f f' f'' m m' m'' r r' r'' root name files missed i rest has path place unread unmissed few_missed (TooMany count) (says, (counted, (unfailed, inl (many, (told, calm))))) =
+refused content f f' f'' m m' m'' r r' r'' root name files missed i rest has path place unread unmissed few_missed (TooMany count) (says, counted, unfailed, inl (many, told, calm)) =
     let s = stops content f f' f'' m m' m'' r r' r'' root name files missed i rest has path place unread unmissed counted in
     let few = has.few in
     let size = s.2 in
     (says, inl (path, s.0, omega (arith, size, few, many), told, misses_same missed s.0.missed m m' m'' s.1 calm has.misses), unfailed ∙ has.unfailed)
-refused content f f' f'' m m' m'' r r' r'' root name files missed i rest has path place unread unmissed few_missed (TooMany count) (says, (counted, (unfailed, inr (many, (told, rises))))) =
+refused content f f' f'' m m' m'' r r' r'' root name files missed i rest has path place unread unmissed few_missed (TooMany count) (says, counted, unfailed, inr (many, told, rises)) =
     let more = miss_more content f f' f'' m m' m'' r r' r'' root name files missed i rest has path place unread unmissed told counted unfailed rises in
     let size = length-append missed (path ∷ []) in
     (says, one_too_many (source_call content f f'' m m'' r r'') root name (state files (missed ++ path ∷ []) (i ∷ rest)) more (omega (arith, size, few_missed, many)), unfailed ∙ has.unfailed)
@@ -201,7 +205,7 @@ refused content f f' f'' m m' m'' r r' r'' root name files missed i rest has pat
   },
   unfailed ∙ has.unfailed,
 )
-refused content f f' f'' m m' m'' r r' r'' root name files missed i rest has path place unread unmissed few_missed Memory (unfailed, inr (told, (rises, counted))) =
+refused content f f' f'' m m' m'' r r' r'' root name files missed i rest has path place unread unmissed few_missed Memory (unfailed, inr (told, rises, counted)) =
     no_memory (source_call content f f'' m m'' r r'') root name (state files (missed ++ path ∷ []) (i ∷ rest)) (miss_more content f f' f'' m m' m'' r r' r'' root name files missed i rest has path place unread unmissed told counted unfailed rises)
 refused content f f' f'' m m' m'' r r' r'' root name files missed i rest has path place unread unmissed few_missed (Missing file) none = absurd none
 refused content f f' f'' m m' m'' r r' r'' root name files missed i rest has path place unread unmissed few_missed (Outside file) none = absurd none
@@ -282,26 +286,26 @@ missed_first content name told = record {
 pub refused_first : (content : Content) (f f' m m' r r' : ℕ) (root name path : List ℕ) → path ≡ normal name → (refusal : LoadRefusal) → IsOneCause (source_call content f f' m m' r r') path [] [] refusal
     → IsReadCause (source_call content f f' m m' r r') root name refusal
 unfolding RisesBy
-refused_first content f f' m m' r r' root name path is (ReadFault file) (same, (counted, (rises, calm))) =
+refused_first content f f' m m' r r' root name path is (ReadFault file) (same, counted, rises, calm) =
     let s = stops_first content f f' m m' r r' name path is counted in
     subst (λ (p : List ℕ). IsReadCause (source_call content f f' m m' r r') root name (ReadFault p)) (sym same) (s.0, rises, misses_same [] s.0.missed m m m' s.1 calm refl)
-refused_first content f f' m m' r r' root name path is (TooLong file len) (same, (counted, (long, (least, (unfailed, calm))))) =
+refused_first content f f' m m' r r' root name path is (TooLong file len) (same, counted, long, least, unfailed, calm) =
     let s = stops_first content f f' m m' r r' name path is counted in
     subst (λ (p : List ℕ). IsReadCause (source_call content f f' m m' r r') root name (TooLong p len)) (sym same) (s.0, long, least, unfailed, misses_same [] s.0.missed m m m' s.1 calm refl)
-refused_first content f f' m m' r r' root name path is (Script file fault) (same, (counted, (broken, (unfailed, calm)))) =
+refused_first content f f' m m' r r' root name path is (Script file fault) (same, counted, broken, unfailed, calm) =
     let s = stops_first content f f' m m' r r' name path is counted in
     subst (λ (p : List ℕ). IsReadCause (source_call content f f' m m' r r') root name (Script p fault)) (sym same) (s.0, broken, unfailed, misses_same [] s.0.missed m m m' s.1 calm refl)
-refused_first content f f' m m' r r' root name path is (TooMany count) (says, (counted, (unfailed, inl (many, rest)))) = absurd (omega (arith, many))
-refused_first content f f' m m' r r' root name path is (TooMany count) (says, (counted, (unfailed, inr (many, rest)))) = absurd (omega (arith, many))
+refused_first content f f' m m' r r' root name path is (TooMany count) (says, counted, unfailed, inl (many, told, calm)) = absurd (omega (arith, many))
+refused_first content f f' m m' r r' root name path is (TooMany count) (says, counted, unfailed, inr (many, told, rises)) = absurd (omega (arith, many))
 refused_first content f f' m m' r r' root name path is Memory (unfailed, inl calm) =
     (record { files = []; missed = []; paths = normal name ∷ []; reading = nothing_read content name; misses = calm }, unfailed)
-refused_first content f f' m m' r r' root name path is Memory (unfailed, inr (told, (rises, counted))) = (
+refused_first content f f' m m' r r' root name path is Memory (unfailed, inr (told, rises, counted)) = (
   record {
     files = [];
     missed = normal name ∷ [];
     paths = normal name ∷ [];
     reading = missed_first content name (subst (λ (x : List ℕ). Tells (content x) None) is told);
-    misses = (m, (refl, rises));
+    misses = (m, refl, rises);
   },
   unfailed,
 )
@@ -318,4 +322,4 @@ missing_first content f f' m m' r r' root name path is a =
     (inl (refl, subst (λ (x : List ℕ). Tells (content x) None) is a.told, a.counted, a.rises), a.unfailed)
 
 pub missed_memory : (content : Content) (f f' m m' r r' : ℕ) (root name path : List ℕ) → path ≡ normal name → AddsMissed (source_call content f f' m m' r r') path [] (path ∷ []) → IsReadCause (source_call content f f' m m' r r') root name Memory
-missed_memory content f f' m m' r r' root name path is a = refused_first content f f' m m' r r' root name path is Memory (a.unfailed, inr (a.told, (a.rises, a.counted)))
+missed_memory content f f' m m' r r' root name path is a = refused_first content f f' m m' r r' root name path is Memory (a.unfailed, inr (a.told, a.rises, a.counted))

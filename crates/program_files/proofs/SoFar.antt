@@ -45,7 +45,7 @@ last_main : (content : Content) (held : Held) (s : State) → (at_last content h
 unfolding at_last
 last_main content held s = refl
 
-same_at_last : (content : Content) (held : Held) (s : State) → SameAsked held (at_last content held s) s
+pub same_at_last : (content : Content) (held : Held) (s : State) → SameAsked held (at_last content held s) s
 unfolding at_last
 same_at_last content held s path asked = ap (λ (b : Bool). if b then held.bytes path else told_of (content path)) (by (is_read s.files path) (is_among s.missed path) asked)
   where
@@ -55,11 +55,11 @@ same_at_last content held s path asked = ap (λ (b : Bool). if b then held.bytes
     by false b (inr e) = e
 
 -- each name that was asked for was answered so
-answered : (call : SourceCall) (root name : List ℕ) (s : State) (has : HasRead call root name s) (path : List ℕ) → WasAsked s.files s.missed path → Tells (call.content path) (has.held.bytes path)
+pub answered : (call : SourceCall) (root name : List ℕ) (s : State) (has : HasRead call root name s) (path : List ℕ) → WasAsked s.files s.missed path → Tells (call.content path) (has.held.bytes path)
 answered call root name s has path (inl read) = let t = tree_there s.files path read in (has.scripts (record { name = path; tree = t.0 }) t.1).1
 answered call root name s has path (inr missed) = let h = has.not_there path missed in subst (λ (o : Option (List ℕ)). Tells (call.content path) o) (sym h.1) h.0
 
-agrees_at_last : (call : SourceCall) (root name : List ℕ) (s : State) (has : HasRead call root name s) (path : List ℕ) → Allows (call.content path) ((at_last call.content has.held s).bytes path)
+pub agrees_at_last : (call : SourceCall) (root name : List ℕ) (s : State) (has : HasRead call root name s) (path : List ℕ) → Allows (call.content path) ((at_last call.content has.held s).bytes path)
 unfolding at_last
 agrees_at_last call root name s has path = by (is_read s.files path) (is_among s.missed path) refl refl
   where
@@ -69,15 +69,15 @@ agrees_at_last call root name s has path = by (is_read s.files path) (is_among s
     by false false e f = allows_it (call.content path)
 
 -- what the program asks for
-place_asked : (held : Held) (name : List ℕ) (s : State) → Reached (HasTree held) name (found_files held s.files) (found_paths held s.includes) → ((f : ReadFile) → Contains s.files f → HasScript held f.name f.tree)
+pub place_asked : (held : Held) (name : List ℕ) (s : State) → Reached (HasTree held) name (found_files held s.files) (found_paths held s.includes) → ((f : ReadFile) → Contains s.files f → HasScript held f.name f.tree)
     → ((path : List ℕ) → is_among s.missed path ≡ true → held.bytes path ≡ None) → (path : List ℕ) → IsPlace held.main s path → Asks held name path
 unfolding found_file
 place_asked held name s reached scripts gone path p =
     let f = files_read held name (found_files held s.files) (found_paths held s.includes) reached (found_file held p.file) (contains_map (found_file held) s.files p.file p.there) in
-    let writes : Writes held p.file.name p.written = (p.file.tree, (scripts p.file p.there, p.own)) in
+    let writes : Writes held p.file.name p.written = (p.file.tree, scripts p.file p.there, p.own) in
     elim p.place [
       | inl place ↦ subst (λ (x : List ℕ). Asks held name x) (sym place) (first p.file.name p.written f.0 writes)
-      | inr (two, (miss, place)) ↦ (
+      | inr (two, miss, place) ↦ (
           let named : found_name held p.file.name p.written ≡ path = found_second held p.file.name p.written two (gone (beside held.main p.written) miss) ∙ sym place in
           let paths : includes_of_file (with_found_names held p.file.name p.file.tree) ≡ map (found_name held p.file.name) (includes_of_file p.file.tree) = paths_of_file (found_name held p.file.name) p.file.tree in
           let own : Contains (map (found_name held p.file.name) (includes_of_file p.file.tree)) (found_name held p.file.name p.written) = contains_map (found_name held p.file.name) (includes_of_file p.file.tree) p.written p.own in
@@ -103,7 +103,7 @@ last_some call root name s has path e = ap (λ (o : Option (List ℕ)). is_some 
 pub last_is : (call : SourceCall) (root name : List ℕ) (s : State) (has : HasRead call root name s) → (last_of call root name s has).main ≡ has.held.main
 last_is call root name s has = last_main call.content has.held s
 
-pub reading_of : (call : SourceCall) (root name : List ℕ) (s : State) (has : HasRead call root name s) → IsReading call.content name (found_files (last_of call root name s has) s.files) s.missed (found_paths (last_of call root name s has) s.includes)
+unfoldable pub reading_of : (call : SourceCall) (root name : List ℕ) (s : State) (has : HasRead call root name s) → IsReading call.content name (found_files (last_of call root name s has) s.files) s.missed (found_paths (last_of call root name s has) s.includes)
 reading_of call root name s has =
     let held : Held = last_of call root name s has in
     let main : held.main ≡ has.held.main = last_is call root name s has in
@@ -154,7 +154,7 @@ placed_found : (call : SourceCall) (root name : List ℕ) (s : State) (has : Has
 placed_found call root name s has file written (inl ((inside, read), last)) =
     let held : Held = last_of call root name s has in
     placed_first (names_of s.files) held.main file written read ∙ sym (found_first held file written (last_some call root name s has (beside held.main written) read))
-placed_found call root name s has file written (inr ((inside, miss), (two, (inside_second, read)))) =
+placed_found call root name s has file written (inr ((inside, miss), two, (inside_second, read))) =
     let held : Held = last_of call root name s has in
     placed_second (names_of s.files) held.main file written two (missed_unread call root name s has (beside held.main written) miss) ∙ sym (found_second held file written two (last_gone call root name s has (beside held.main written) miss))
 
@@ -193,12 +193,12 @@ settled_so call root name s has file written (inl ((inside, read), last)) =
       inside = record { first = inside; second = λ no. absurd (let yes = at_first held written (last_some call root name s has (beside held.main written) read) in let false_is : true ≡ false = sym yes ∙ no in cc) };
       asked = inl (read_found held s.files (beside held.main written) ∙ read);
     }
-settled_so call root name s has file written (inr ((inside, miss), (two, (inside_second, read)))) =
+settled_so call root name s has file written (inr ((inside, miss), two, (inside_second, read))) =
     let held : Held = last_of call root name s has in record { inside = record { first = inside; second = λ no. inside_second }; asked = inr (among_contains s.missed (beside held.main written) miss) }
 
 -- and all files are read
 all_found : (call : SourceCall) (root name : List ℕ) (files : List ReadFile) (missed : List (List ℕ)) (has : HasRead call root name (state files missed [])) → length missed ≤ PLACE_LIMIT → ReadsAll call root name (found_files (last_of call root name (state files missed []) has) files)
-unfolding found_file
+unfolding found_file reading_of
 all_found call root name files missed has few_missed =
     let s : State = state files missed [] in
     let held : Held = last_of call root name s has in

@@ -24,7 +24,7 @@ use Rattle.program_files.proofs.ReachedLemmas.{first_or_later}
 use Rattle.program_files.proofs.Among.{still_among, now_among, among_cases, read_cases, there_read, contains_map, contains_of_map, once_more}
 use Rattle.program_files.proofs.HasRead.{found_file, found_files, found_paths, SameAsked, IsFound, IsNamedIn, IsPlace, HasRead, found_first, found_second, read_found, found_is_read}
 
-later : {X : Type 0} (x y : X) (xs : List X) → Contains xs y → Contains (x ∷ xs) y
+pub later : {X : Type 0} (x y : X) (xs : List X) → Contains xs y → Contains (x ∷ xs) y
 later x y xs c = Contains-append_right (x ∷ []) xs y c
 
 -- an include that is found is passed over
@@ -68,15 +68,15 @@ passed call root name main files missed all rest is has (pass include _ before f
 pub with_answer : Held → List ℕ → Option (List ℕ) → Held
 with_answer held path answer = record { main = held.main; bytes = λ other. if bytes_eq path other then answer else held.bytes other }
 
-same_main : (held : Held) (path : List ℕ) (answer : Option (List ℕ)) → (with_answer held path answer).main ≡ held.main
+pub same_main : (held : Held) (path : List ℕ) (answer : Option (List ℕ)) → (with_answer held path answer).main ≡ held.main
 unfolding with_answer
 same_main held path answer = refl
 
-at_path : (held : Held) (path : List ℕ) (answer : Option (List ℕ)) → (with_answer held path answer).bytes path ≡ answer
+pub at_path : (held : Held) (path : List ℕ) (answer : Option (List ℕ)) → (with_answer held path answer).bytes path ≡ answer
 unfolding with_answer
 at_path held path answer = ap (λ (b : Bool). if b then answer else held.bytes path) (own_name path)
 
-at_other : (held : Held) (path other : List ℕ) (answer : Option (List ℕ)) → bytes_eq path other ≡ false → (with_answer held path answer).bytes other ≡ held.bytes other
+pub at_other : (held : Held) (path other : List ℕ) (answer : Option (List ℕ)) → bytes_eq path other ≡ false → (with_answer held path answer).bytes other ≡ held.bytes other
 unfolding with_answer
 at_other held path other answer e = ap (λ (b : Bool). if b then answer else held.bytes other) e
 
@@ -89,30 +89,30 @@ differs test path other new old = by (bytes_eq path other) refl
     by false e = e
 
 -- so what was held under it stays
-kept : (held : Held) (files : List ReadFile) (missed : List (List ℕ)) (path other : List ℕ) (answer : Option (List ℕ)) → is_read files path ≡ false → is_among missed path ≡ false → WasAsked files missed other
+pub kept : (held : Held) (files : List ReadFile) (missed : List (List ℕ)) (path other : List ℕ) (answer : Option (List ℕ)) → is_read files path ≡ false → is_among missed path ≡ false → WasAsked files missed other
     → (with_answer held path answer).bytes other ≡ held.bytes other
 kept held files missed path other answer unread unmissed (inl read) = at_other held path other answer (differs (is_read files) path other unread read)
 kept held files missed path other answer unread unmissed (inr miss) = at_other held path other answer (differs (is_among missed) path other unmissed miss)
 
-script_kept : (held other : Held) (name : List ℕ) (script : PlainFile) → other.bytes name ≡ held.bytes name → HasScript held name script → HasScript other name script
+pub script_kept : (held other : Held) (name : List ℕ) (script : PlainFile) → other.bytes name ≡ held.bytes name → HasScript held name script → HasScript other name script
 script_kept held other name script same h = record { bytes = h.bytes; tokens = h.tokens; is_held = same ∙ h.is_held; cut = h.cut; spelled = h.spelled; within = h.within }
 
 -- what is found stays so where more is asked for
-found_with_file : (root main : List ℕ) (files : List ReadFile) (file : ReadFile) (missed : List (List ℕ)) (i : Include) → IsLook root main files missed i look.Found → IsLook root main (files ++ file ∷ []) missed i look.Found
+pub found_with_file : (root main : List ℕ) (files : List ReadFile) (file : ReadFile) (missed : List (List ℕ)) (i : Include) → IsLook root main files missed i look.Found → IsLook root main (files ++ file ∷ []) missed i look.Found
 found_with_file root main files file missed i (inl ((inside, read), last)) = inl ((inside, still_read files file (beside main i.1) read), last)
-found_with_file root main files file missed i (inr (first, (two, (inside, read)))) = inr (first, (two, (inside, still_read files file (beside i.0 i.1) read)))
+found_with_file root main files file missed i (inr (first, two, (inside, read))) = inr (first, two, (inside, still_read files file (beside i.0 i.1) read))
 
-found_with_miss : (root main : List ℕ) (files : List ReadFile) (missed : List (List ℕ)) (path : List ℕ) (i : Include) → IsLook root main files missed i look.Found → IsLook root main files (missed ++ path ∷ []) i look.Found
+pub found_with_miss : (root main : List ℕ) (files : List ReadFile) (missed : List (List ℕ)) (path : List ℕ) (i : Include) → IsLook root main files missed i look.Found → IsLook root main files (missed ++ path ∷ []) i look.Found
 found_with_miss root main files missed path i (inl first) = inl first
-found_with_miss root main files missed path i (inr ((inside, miss), rest)) = inr ((inside, still_among missed path (beside main i.1) miss), rest)
+found_with_miss root main files missed path i (inr ((inside, miss), two, rest)) = inr ((inside, still_among missed path (beside main i.1) miss), two, rest)
 
 -- the include whose place is read is found
-now_found : (root main : List ℕ) (files : List ReadFile) (missed : List (List ℕ)) (i : Include) (path : List ℕ) (tree : PlainFile) → IsNextPlace root main files missed i path
+pub now_found : (root main : List ℕ) (files : List ReadFile) (missed : List (List ℕ)) (i : Include) (path : List ℕ) (tree : PlainFile) → IsNextPlace root main files missed i path
     → IsLook root main (files ++ record { name = path; tree = tree } ∷ []) missed i look.Found
-now_found root main files missed i path tree (inl ((inside, (unread, (unmissed, place))), last)) =
+now_found root main files missed i path tree (inl ((inside, unread, unmissed, place), last)) =
     inl ((inside, ap (λ (x : List ℕ). is_read (files ++ record { name = path; tree = tree } ∷ []) x) (sym place) ∙ now_read files tree path), last)
-now_found root main files missed i path tree (inr (first, (two, (inside, (unread, (unmissed, place)))))) =
-    inr (first, (two, (inside, ap (λ (x : List ℕ). is_read (files ++ record { name = path; tree = tree } ∷ []) x) (sym place) ∙ now_read files tree path)))
+now_found root main files missed i path tree (inr (first, two, (inside, unread, unmissed, place))) =
+    inr (first, two, (inside, ap (λ (x : List ℕ). is_read (files ++ record { name = path; tree = tree } ∷ []) x) (sym place) ∙ now_read files tree path))
 
 -- the includes of a file, by their found names
 pub found_of_file : (held : Held) (path : List ℕ) (tree : PlainFile) → includes_of_file (with_found_names held path tree) ≡ found_paths held (written_in path tree)
@@ -122,26 +122,26 @@ found_of_file held path tree = paths_of_file (found_name held path) tree ∙ sym
     twice [] = refl
     twice (w ∷ ws) = ap (λ (xs : List (List ℕ)). found_name held path w ∷ xs) (twice ws)
 
-found_push : (held : Held) (files : List ReadFile) (path : List ℕ) (tree : PlainFile) → found_files held (files ++ record { name = path; tree = tree } ∷ []) ≡ found_files held files ++ record { name = path; tree = with_found_names held path tree } ∷ []
+pub found_push : (held : Held) (files : List ReadFile) (path : List ℕ) (tree : PlainFile) → found_files held (files ++ record { name = path; tree = tree } ∷ []) ≡ found_files held files ++ record { name = path; tree = with_found_names held path tree } ∷ []
 unfolding found_file
 found_push held [] path tree = refl
 found_push held (f ∷ fs) path tree = ap (λ (xs : List ReadFile). found_file held f ∷ xs) (found_push held fs path tree)
 
 -- which name an include has whose place is asked for, where a file is there
-named_so : (call : SourceCall) (root name : List ℕ) (s : State) (has : HasRead call root name s) (i : Include) (path : List ℕ) → IsNextPlace root has.held.main s.files s.missed i path
+pub named_so : (call : SourceCall) (root name : List ℕ) (s : State) (has : HasRead call root name s) (i : Include) (path : List ℕ) → IsNextPlace root has.held.main s.files s.missed i path
     → (other : Held) → other.main ≡ has.held.main → SameAsked has.held other s → is_some (other.bytes path) ≡ true → found_name other i.0 i.1 ≡ path
-named_so call root name s has i path (inl ((inside, (unread, (unmissed, place))), last)) other m same there =
+named_so call root name s has i path (inl ((inside, unread, unmissed, place), last)) other m same there =
     let first : beside other.main i.1 ≡ path = ap (λ (x : List ℕ). beside x i.1) m ∙ sym place in
     found_first other i.0 i.1 (ap (λ (x : List ℕ). is_some (other.bytes x)) first ∙ there) ∙ first
-named_so call root name s has i path (inr ((inside, miss), (two, (inside_second, (unread, (unmissed, place)))))) other m same there =
+named_so call root name s has i path (inr ((inside, miss), two, (inside_second, unread, unmissed, place))) other m same there =
     let gone : other.bytes (beside other.main i.1) ≡ None =
     ap (λ (x : List ℕ). other.bytes (beside x i.1)) m ∙ same (beside has.held.main i.1) (inr miss) ∙ (has.not_there (beside has.held.main i.1) miss).1 in
     found_second other i.0 i.1 two gone ∙ sym place
 
-place_with_file : (main : List ℕ) (files : List ReadFile) (file : ReadFile) (missed : List (List ℕ)) (a b : List Include) (path : List ℕ) → IsPlace main (state files missed a) path → IsPlace main (state (files ++ file ∷ []) missed b) path
+pub place_with_file : (main : List ℕ) (files : List ReadFile) (file : ReadFile) (missed : List (List ℕ)) (a b : List Include) (path : List ℕ) → IsPlace main (state files missed a) path → IsPlace main (state (files ++ file ∷ []) missed b) path
 place_with_file main files file missed a b path p = record { file = p.file; written = p.written; there = Contains-append_left files (file ∷ []) p.file p.there; own = p.own; place = p.place }
 
-place_with_miss : (main : List ℕ) (files : List ReadFile) (missed : List (List ℕ)) (miss : List ℕ) (a b : List Include) (path : List ℕ) → IsPlace main (state files missed a) path → IsPlace main (state files (missed ++ miss ∷ []) b) path
+pub place_with_miss : (main : List ℕ) (files : List ReadFile) (missed : List (List ℕ)) (miss : List ℕ) (a b : List Include) (path : List ℕ) → IsPlace main (state files missed a) path → IsPlace main (state files (missed ++ miss ∷ []) b) path
 place_with_miss main files missed miss a b path p = record {
   file = p.file;
   written = p.written;
@@ -149,6 +149,6 @@ place_with_miss main files missed miss a b path p = record {
   own = p.own;
   place = elim p.place [
     | inl first ↦ inl first
-    | inr (two, (gone, second)) ↦ inr (two, (still_among missed miss (beside main p.written) gone, second))
+    | inr (two, gone, second) ↦ inr (two, still_among missed miss (beside main p.written) gone, second)
   ];
 }

@@ -10,7 +10,7 @@ use Rattle.php_syntax.specs.declared.tree.FileTree.{FileTree}
 use Rattle.php_syntax.specs.Height.{stmt_height, stmts_height, arms_height}
 use Rattle.php_syntax.specs.Trees.{PlainStmts, PlainArms, no_stmts, more_stmts, no_arms, more_arms, plain_stmt, plain_expr, stmts_of, arms_of, PlainFunction, PlainFile, plain_function, functions_of_list, plain_file}
 use Rattle.spellable.proofs.StmtHeights.{member_height, arm_height}
-use Rattle.program_rules.specs.Bodies.{followed_by, with_bodies, with_bodies_in, with_bodies_in_arms, with_body}
+use Rattle.program_rules.specs.Bodies.{followed_by, with_bodies, with_bodies_in, with_bodies_in_arms, with_body, file_with_bodies}
 use Rattle.program_rules.specs.Programs.{ReadFile}
 use Rattle.program_files.specs.View.{paired}
 
@@ -167,3 +167,14 @@ one_file_visited g (suc n) (y ∷ xs) (v ∷ ts) x t u at lt is e =
 pub next_file_visited : (g : List ℕ → PlainFile → PlainFile) (n : ℕ) (xs : List (List ℕ)) (ts : List FileTree) (x : List ℕ) (t u : FileTree) → slice_get xs n ≡ Some x → n < length ts → t ≡ get_or ts n t → plain_file u ≡ g x (plain_file t)
     → visited_files g (n + 1) xs (set ts n u) ≡ visited_files g n xs ts
 next_file_visited g n xs ts x t u at lt is e = let more : n + 1 ≡ suc n = omega arith in ap (λ k. visited_files g k xs (set ts n u)) more ∙ one_file_visited g n xs ts x t u at lt is e
+
+-- a function and a file, with their includes replaced
+pub function_replaced : (f : List ℕ → PlainStmts) (x : FunctionDef) (body : Vec Stmt Global) → stmts_of body.items ≡ with_bodies f (stmts_of x.body.items) → plain_function (record { name = x.name; params = x.params; body = body }) ≡ with_body f (plain_function x)
+function_replaced f x body e = ap (λ (ss : PlainStmts). let g : PlainFunction = record { name_of = (plain_function x).name_of; params_of = (plain_function x).params_of; body_of = ss } in g) e
+
+pub file_replaced : (f : List ℕ → PlainStmts) (x : FileTree) (body : Vec Stmt Global) (functions : Vec FunctionDef Global) → stmts_of body.items ≡ with_bodies f (stmts_of x.body.items)
+    → functions_of_list functions.items ≡ map (with_body f) (functions_of_list x.functions.items) → plain_file (record { body = body; functions = functions }) ≡ file_with_bodies f (plain_file x)
+unfolding file_with_bodies
+file_replaced f x body functions e h =
+    ap (λ (ss : PlainStmts). let g : PlainFile = record { body_of = ss; functions_of = functions_of_list functions.items } in g) e
+    ∙ ap (λ (gs : List PlainFunction). let g : PlainFile = record { body_of = with_bodies f (stmts_of x.body.items); functions_of = gs } in g) h

@@ -4,9 +4,6 @@ use Rattle.std.specs.List.{list_any, Contains}
 use Rattle.text_base.specs.declared.limits.TheConstants.{FILE_LIMIT}
 use Rattle.io_edge.specs.Counts.{Rises, one_more}
 use Rattle.io_edge.specs.Told.{Tells, HasAtLeast}
-use Rattle.io_edge.specs.declared.files.FileFault.{FileFault}
-use Rattle.io_edge.specs.declared.files.FileFault.TheVariants.{Failed}
-use Rattle.io_edge.specs.declared.files.FileFault.TheVariants as fault
 use Rattle.io_edge.specs.Names.{beside, is_outside}
 use Rattle.php_syntax.specs.Trees.{PlainFile, PlainStmts}
 use Rattle.script_grammar.specs.Rules.{is_utf8}
@@ -170,13 +167,6 @@ abbrev pub IsMissCause : List (List ℕ) → LoadRefusal → Type 0
 IsMissCause missed (TooMany count) = (count ≡ PLACE_LIMIT + 1) × (PLACE_LIMIT ≤ length missed)
 IsMissCause missed Memory = ⊤
 IsMissCause missed refusal = ⊥
-
--- what is told of a fault at a name, where there is memory
-abbrev pub IsFaultAt : List ℕ → FileFault → LoadRefusal → Type 0
-IsFaultAt path Failed (ReadFault name) = name ≡ path
-IsFaultAt path (fault.TooLong len) (TooLong name told) = (name ≡ path) × (told ≡ len)
-IsFaultAt path f Memory = ⊤
-IsFaultAt path f refusal = ⊥
 
 -- one name is asked for, and reading is refused
 abbrev pub IsOneCause : SourceCall → List ℕ → List ReadFile → List (List ℕ) → LoadRefusal → Type 0

@@ -9,7 +9,7 @@ ghost use Rattle.program_files.specs.Order.{is_read};
 ghost use Rattle.program_files.specs.View.{files_of};
 ghost use Rattle.program_files.specs.Scripts.{IsScript};
 ghost use Rattle.program_files.specs.Source.{source_call};
-ghost use Rattle.program_files.specs.Steps.{is_among, state, written_in, AddsScript, AsksOne, IsOneCause, IsScriptCause, IsTreeCause, IsFaultAt, IsMissCause};
+ghost use Rattle.program_files.specs.Steps.{is_among, state, written_in, AddsScript, AsksOne, IsOneCause, IsScriptCause, IsTreeCause, IsMissCause};
 
 use crate::includes::find_includes;
 use crate::places::Known;
@@ -44,45 +44,31 @@ pub(crate) fn ask<F: Files>(
         place.now (files_of known.files) known.missed.keys) }
     ensures stays { Stays (F.content source.old) (F.content source.new) }
 {
+    let name = Bytes::from_slice(alloc, place.as_bytes())?;
     let kind = if known.files.len() == 0 {
         FileKind::Any
     } else {
         FileKind::Regular
     };
     match source.read(alloc, place, kind) {
-        Ok(script) => match with_script(alloc, known, includes, place, script.as_slice()) {
+        Ok(script) => match with_script(alloc, known, includes, name, script.as_slice()) {
             Ok(more) => Ok(more),
             Err(refusal) => Err(refusal),
         },
-        Err(FileFault::Missing) => match with_missed(alloc, known, place) {
+        Err(FileFault::Missing) => match with_missed(known, name) {
             Ok(more) => Ok(more),
             Err(refusal) => Err(refusal),
         },
-        Err(FileFault::Failed) => Err(fault_at(alloc, place, FileFault::Failed)),
-        Err(FileFault::TooLong { len }) => Err(fault_at(alloc, place, FileFault::TooLong { len })),
+        Err(FileFault::Failed) => Err(LoadRefusal::ReadFault { name }),
+        Err(FileFault::TooLong { len }) => Err(LoadRefusal::TooLong { name, len }),
         Err(FileFault::Memory) => Err(LoadRefusal::Memory),
     }
 }
 
-// What is told where the source failed at a name, or its file is too long.
-fn fault_at(alloc: Global, place: &str, fault: FileFault) -> LoadRefusal
-    ensures { IsFaultAt place.now fault result }
-{
-    match Bytes::from_slice(alloc, place.as_bytes()) {
-        Ok(name) => match fault {
-            FileFault::Failed => LoadRefusal::ReadFault { name },
-            FileFault::TooLong { len } => LoadRefusal::TooLong { name, len },
-            FileFault::Missing => LoadRefusal::Memory,
-            FileFault::Memory => LoadRefusal::Memory,
-        },
-        Err(_) => LoadRefusal::Memory,
-    }
-}
-
 // One more name that was missed.
-fn with_missed(alloc: Global, known: Known, place: &str) -> Result<Known, LoadRefusal>
-    requires { is_among known.missed.keys place.now ≡ false }
-    ensures ok { IfOk result (λ more. (more.missed.keys ≡ known.missed.keys ++ place.now ∷ [])
+fn with_missed(known: Known, name: Bytes) -> Result<Known, LoadRefusal>
+    requires { is_among known.missed.keys name ≡ false }
+    ensures ok { IfOk result (λ more. (more.missed.keys ≡ known.missed.keys ++ name ∷ [])
         × (files_of more.files ≡ files_of known.files) × (length known.missed.keys < PLACE_LIMIT)) }
     ensures err { IfErr result (IsMissCause known.missed.keys) }
 {
@@ -91,7 +77,6 @@ fn with_missed(alloc: Global, known: Known, place: &str) -> Result<Known, LoadRe
             count: PLACE_LIMIT + 1,
         });
     }
-    let name = Bytes::from_slice(alloc, place.as_bytes())?;
     let more = add_missed(known, name)?;
     Ok(more)
 }
@@ -112,26 +97,25 @@ fn with_script(
     alloc: Global,
     known: Known,
     includes: &mut Stack<(Bytes, Bytes)>,
-    place: &str,
+    name: Bytes,
     script: &[u8],
 ) -> Result<Known, LoadRefusal>
-    requires unread { is_read (files_of known.files) place.now ≡ false }
+    requires unread { is_read (files_of known.files) name ≡ false }
     requires short { length script.now ≤ FILE_LIMIT }
     ensures ok { IfOk result
-        (λ more. AddsScript place.now script.now
+        (λ more. AddsScript name script.now
         (state (files_of known.files) known.missed.keys includes.old)
         (state (files_of more.files) more.missed.keys includes.new)) }
-    ensures err { IfErr result (IsScriptCause place.now script.now (files_of known.files)) }
+    ensures err { IfErr result (IsScriptCause name script.now (files_of known.files)) }
 {
     if known.files.len() as u64 > PLACE_LIMIT {
         return Err(LoadRefusal::TooMany {
             count: PLACE_LIMIT + 1,
         });
     }
-    let tree = tree_at(alloc, place, script)?;
+    let tree = tree_at(alloc, &name, script)?;
     includes.pop();
-    push_includes(alloc, place, &tree, includes)?;
-    let name = Bytes::from_slice(alloc, place.as_bytes())?;
+    push_includes(alloc, &name, &tree, includes)?;
     let more = add_file(known, name, tree)?;
     Ok(more)
 }
@@ -149,14 +133,14 @@ fn add_file(known: Known, name: Bytes, tree: FileTree) -> Result<Known, NoMemory
 }
 
 // The tree of a script that stands under a name.
-fn tree_at(alloc: Global, place: &str, script: &[u8]) -> Result<FileTree, LoadRefusal>
+fn tree_at(alloc: Global, name: &Bytes, script: &[u8]) -> Result<FileTree, LoadRefusal>
     requires { length script.now ≤ FILE_LIMIT }
     ensures ok { IfOk result (λ tree. IsScript script.now (plain_file tree)) }
-    ensures err { IfErr result (IsTreeCause place.now script.now) }
+    ensures err { IfErr result (IsTreeCause name.now script.now) }
 {
     match tree_of(alloc, script) {
         Ok(tree) => Ok(tree),
-        Err(Unread::Script(refusal)) => match Bytes::from_slice(alloc, place.as_bytes()) {
+        Err(Unread::Script(refusal)) => match name.copy(alloc) {
             Ok(name) => Err(LoadRefusal::Script { name, refusal }),
             Err(_) => Err(LoadRefusal::Memory),
         },
@@ -167,7 +151,7 @@ fn tree_at(alloc: Global, place: &str, script: &[u8]) -> Result<FileTree, LoadRe
 // Puts the includes of a file before the others.
 fn push_includes(
     alloc: Global,
-    file: &str,
+    file: &Bytes,
     tree: &FileTree,
     includes: &mut Stack<(Bytes, Bytes)>,
 ) -> Result<(), NoMemory>
@@ -177,7 +161,7 @@ fn push_includes(
     let mut found = Vec::new(alloc);
     find_includes(alloc, tree, &mut found)?;
     while let Some(written) = found.pop() {
-        let name = Bytes::from_slice(alloc, file.as_bytes())?;
+        let name = file.copy(alloc)?;
         includes.push((name, written))?;
     }
     Ok(())

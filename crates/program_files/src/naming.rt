@@ -1,16 +1,18 @@
 //! The trees of files with each include by its found name.
 
-ghost use Rattle.std.specs.Prelude.{◌≡◌, true, map, IfOk, OnOk};
+ghost use Rattle.std.specs.Prelude.{◌≡◌, ◌||◌, true, map, IfOk, OnOk};
 ghost use Rattle.php_syntax.specs.Trees.{plain_file, plain_stmt, stmts_of, arms_of, functions_of_list, more_stmts, no_stmts};
 ghost use Rattle.script_grammar.specs.Rules as rules;
+ghost use Rattle.program_rules.specs.Files.{has_one_place};
 ghost use Rattle.program_rules.specs.Bodies.{with_bodies, with_bodies_in, with_bodies_in_arms, with_body, file_with_bodies};
 ghost use Rattle.program_files.specs.Order.{names_of};
 ghost use Rattle.program_files.specs.View.{files_of};
-ghost use Rattle.program_files.specs.Steps.{placed, placed_or_same, placed_include, placed_file, AreUtf8};
+ghost use Rattle.program_files.specs.Steps.{placed, placed_or_same, placed_include, placed_file, is_among, AreUtf8};
 
 use crate::files::ScriptFiles;
+use crate::places::has_one_place;
 use indexmap::IndexSet;
-use io_edge::{is_dotted, name_beside};
+use io_edge::name_beside;
 use php_syntax::tree::{Expr, FileTree, FunctionDef, Stmt};
 use std::alloc::Global;
 use text_base::{Bytes, NoMemory};
@@ -24,15 +26,25 @@ struct Naming<'a> {
     file: &'a str,
 }
 
-// The name of an include: that of its first place, where that was read or is the only one, and else
-// that of its second.
+// Whether an include is found at its first place: that is the only one, or was read.
+fn is_at_first(naming: &Naming, written: &str, first: &Bytes) -> bool
+    ensures { result ≡ (has_one_place written.now || is_among naming.now.names.now.keys first.now) }
+{
+    if has_one_place(written) {
+        return true;
+    }
+    naming.names.contains(first)
+}
+
+// The name of an include: that of its first place, where it is found there, and else that of its
+// second.
 fn place_of(alloc: Global, naming: &Naming, written: &str) -> Result<Bytes, NoMemory>
     ensures { IfOk result (λ name. name ≡ placed naming.now.names.now.keys naming.now.main.now
         naming.now.file.now written.now) }
 {
     let place = name_beside(alloc, naming.main, written)?;
     let first = Bytes::from_slice(alloc, place.as_bytes())?;
-    if written.starts_with('/') || is_dotted(written) || naming.names.contains(&first) {
+    if is_at_first(naming, written, &first) {
         return Ok(first);
     }
     let place = name_beside(alloc, naming.file, written)?;

@@ -2,6 +2,7 @@
 
 ghost use Rattle.std.specs.Prelude.{◌≡◌, [], ◌∷◌, true, IfOk, MatchOption};
 ghost use Rattle.script_grammar.specs.Rules as rules;
+ghost use Rattle.program_rules.specs.Files.{has_one_place};
 ghost use Rattle.program_files.specs.View.{files_of};
 ghost use Rattle.program_files.specs.Steps.{AreTexts, IsLookAt, IsLook, IsStep, Passes};
 
@@ -73,6 +74,16 @@ pub(crate) fn next_step(
     Ok(None)
 }
 
+/// Whether an include is looked for in one place alone: its name begins with `/`, `./` or `../`.
+pub(crate) fn has_one_place(written: &str) -> bool
+    ensures { result ≡ has_one_place written.now }
+{
+    if written.starts_with('/') {
+        return true;
+    }
+    is_dotted(written)
+}
+
 // What is next of an include that is written so in a file.
 fn look_of(
     alloc: Global,
@@ -112,7 +123,7 @@ fn look_for(
         Look::Ask(place) => Ok(Look::Ask(place)),
         Look::LeadsOut => Ok(Look::LeadsOut),
         Look::Missed => {
-            if written.starts_with('/') || is_dotted(written) {
+            if has_one_place(written) {
                 return Ok(Look::Missed);
             }
             let second = look_at(alloc, home.root, known, file, written)?;

@@ -1,3 +1,3 @@
 mod Agreement
 mod Examples
-mod PathLemmas
+pub mod PathLemmas

@@ -17,7 +17,7 @@ abbrev pub decreases-name_in_arms : goal.decreases-name_in_arms
 decreases-name_in_arms l = 8 * arms_height (arms_of l.arms.now.items) + 2
 
 abbrev pub invariant-name_in-loop-place : goal.invariant-name_in-loop-place
-invariant-name_in-loop-place l = (visited (placed_include l.naming.names.keys l.naming.main l.naming.file) l.place l.stmts.items ≡ with_bodies (placed_include l.naming.names.keys l.naming.main l.naming.file) (stmts_of l.initial.stmts.items)) × goal.unvisited-name_in-loop-place l
+invariant-name_in-loop-place l = (visited (placed_include l.naming.names.now.keys l.naming.main.now l.naming.file.now) l.place l.stmts.items ≡ with_bodies (placed_include l.naming.names.now.keys l.naming.main.now l.naming.file.now) (stmts_of l.initial.stmts.items)) × goal.unvisited-name_in-loop-place l
 
 abbrev pub invariant-name_in_arms-loop-place : goal.invariant-name_in_arms-loop-place
-invariant-name_in_arms-loop-place l = (visited_arms (placed_include l.naming.names.keys l.naming.main l.naming.file) l.place l.arms.items ≡ with_bodies_in_arms (placed_include l.naming.names.keys l.naming.main l.naming.file) (arms_of l.initial.arms.items)) × ((length l.arms.items ≡ length l.initial.arms.items) × ((k : ℕ) (d : Arm) → l.place ≤ k → slice_index_or l.arms.items k d ≡ slice_index_or l.initial.arms.items k d))
+invariant-name_in_arms-loop-place l = (visited_arms (placed_include l.naming.names.now.keys l.naming.main.now l.naming.file.now) l.place l.arms.items ≡ with_bodies_in_arms (placed_include l.naming.names.now.keys l.naming.main.now l.naming.file.now) (arms_of l.initial.arms.items)) × ((length l.arms.items ≡ length l.initial.arms.items) × ((k : ℕ) (d : Arm) → l.place ≤ k → slice_index_or l.arms.items k d ≡ slice_index_or l.initial.arms.items k d))

@@ -7,5 +7,5 @@ use Rattle.program_files.proofs.naming.name_in_functions.Given as goal
 
 abbrev pub invariant-loop-place : goal.invariant-loop-place
 invariant-loop-place l =
-    (visited_functions (placed_include l.naming.names.keys l.naming.main l.naming.file) l.place l.functions.items ≡ map (with_body (placed_include l.naming.names.keys l.naming.main l.naming.file)) (functions_of_list l.initial.functions.items))
+    (visited_functions (placed_include l.naming.names.now.keys l.naming.main.now l.naming.file.now) l.place l.functions.items ≡ map (with_body (placed_include l.naming.names.now.keys l.naming.main.now l.naming.file.now)) (functions_of_list l.initial.functions.items))
     × (length l.functions.items ≡ length l.initial.functions.items)
