@@ -1,6 +1,6 @@
 -- The file of the program is read.
-use Rattle.std.proofs.Common.{◌≡◌, ◌∙◌, ℕ, zero, suc, ◌+◌, Bool, true, false, List, [], ◌∷◌, ◌++◌, map, length, Option, Some, None, inl, inr, refl, sym, ap, subst, arith}
-use Rattle.std.specs.Prelude.{◌⊎◌, ◌||◌, bytes_eq, if◌then◌else◌}
+use Rattle.std.proofs.Common.{◌≡◌, ◌∙◌, ℕ, zero, suc, Bool, true, false, List, [], ◌∷◌, ◌++◌, Option, Some, None, inl, refl, sym, ap, subst, arith}
+use Rattle.std.specs.Prelude.{◌||◌, bytes_eq, if◌then◌else◌}
 use Rattle.std.specs.List.{Contains}
 use Rattle.std.proofs.lemmas.List.{map-append}
 use Rattle.std.proofs.lemmas.List.Elements.{Contains-append_left}
@@ -15,10 +15,10 @@ use Rattle.program_rules.specs.Programs.{ReadFile}
 use Rattle.program_files.specs.Order.{is_read, Reached, begun, next}
 use Rattle.program_files.specs.Scripts.{IsScript}
 use Rattle.program_files.specs.Source.{source_call, so_many_more, RisesBy}
-use Rattle.program_files.specs.Steps.{Include, State, state, written_in, AddsFile}
+use Rattle.program_files.specs.Steps.{Include, state, written_in, AddsFile}
 use Rattle.program_files.proofs.NameLemmas.{same_name, own_name}
 use Rattle.program_files.proofs.Among.{contains_map}
-use Rattle.program_files.proofs.HasRead.{found_file, found_files, found_paths, SameAsked, IsNamedIn, HasRead}
+use Rattle.program_files.proofs.HasRead.{found_file, found_files, found_paths, HasRead}
 use Rattle.program_files.proofs.Steps.{found_of_file}
 use Rattle.program_files.proofs.Growing.{named_with_file}
 

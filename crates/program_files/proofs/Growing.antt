@@ -16,9 +16,9 @@ use Rattle.program_rules.specs.Programs.{ReadFile}
 use Rattle.program_files.specs.Order.{is_read, Reached, next}
 use Rattle.program_files.specs.Scripts.{IsScript}
 use Rattle.program_files.specs.Source.{SourceCall, source_call, so_many_more, RisesBy}
-use Rattle.program_files.specs.Steps.{Include, State, state, written_in, is_among, WasAsked, IsNextPlace, AddsFile, AddsMissed}
+use Rattle.program_files.specs.Steps.{Include, state, written_in, is_among, WasAsked, IsNextPlace}
 use Rattle.program_files.proofs.NameLemmas.{now_read}
-use Rattle.program_files.proofs.Among.{still_among, now_among, among_cases, read_cases, there_read, contains_map, contains_of_map, once_more}
+use Rattle.program_files.proofs.Among.{still_among, among_cases, read_cases, there_read, contains_map, contains_of_map, once_more}
 use Rattle.program_files.proofs.NameLemmas.{still_read}
 use Rattle.program_files.proofs.HasRead.{found_files, found_paths, SameAsked, IsFound, IsNamedIn, IsPlace, HasRead, read_found}
 use Rattle.program_files.proofs.Steps.{later, with_answer, same_main, at_path, kept, script_kept, found_with_file, found_with_miss, now_found, found_of_file, found_push, named_so, place_with_file, place_with_miss}

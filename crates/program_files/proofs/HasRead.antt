@@ -1,11 +1,10 @@
 -- What holds while files are read, of the trees as they are written; and what it says of each source that answered so.
-use Rattle.std.proofs.Common.{◌≡◌, ◌∙◌, ◌<◌, ℕ, zero, suc, ◌+◌, Bool, true, false, List, [], ◌∷◌, ◌++◌, map, length, Option, Some, None, inl, inr, refl, sym, ap, subst}
+use Rattle.std.proofs.Common.{◌≡◌, ◌∙◌, ◌<◌, ℕ, ◌+◌, Bool, true, false, List, [], ◌∷◌, map, length, Option, Some, None, inl, inr, refl, ap}
 use Rattle.std.specs.Prelude.{◌⊎◌, ◌||◌, is_some, if◌then◌else◌, bytes_eq}
 use Rattle.std.specs.List.{Contains}
 use Rattle.io_edge.specs.Told.{Content, Tells, Stays}
-use Rattle.io_edge.specs.Names.{normal, beside, is_outside}
+use Rattle.io_edge.specs.Names.{normal, beside}
 use Rattle.io_edge.proofs.Staying.{tells_stay}
-use Rattle.php_syntax.specs.Trees.{PlainFile}
 use Rattle.script_grammar.specs.Rules.{is_utf8}
 use Rattle.program_rules.specs.declared.limits.TheConstants.{PLACE_LIMIT}
 use Rattle.program_rules.specs.Files.{Held, HasScript, HasTree, has_one_place, is_at_first, found_name, with_found_names}
@@ -14,8 +13,8 @@ use Rattle.program_rules.specs.Programs.{ReadFile, StandOnce}
 use Rattle.program_files.specs.declared.places.Look.TheVariants as look
 use Rattle.program_files.specs.Order.{is_read, Reached}
 use Rattle.program_files.specs.Source.{SourceCall, source_call, so_many_more, RisesBy}
-use Rattle.program_files.specs.Steps.{Include, State, state, is_among, WasAsked, IsLook}
-use Rattle.program_files.proofs.NameLemmas.{same_name, own_name, tree_there}
+use Rattle.program_files.specs.Steps.{Include, State, is_among, WasAsked, IsLook}
+use Rattle.program_files.proofs.NameLemmas.{tree_there}
 
 -- files as a source has them, with each include by its found name
 unfoldable pub found_file : Held → ReadFile → ReadFile

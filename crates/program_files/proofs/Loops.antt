@@ -1,10 +1,9 @@
 -- The turns of reading: what is next, what was asked for, and what comes of it.
-use Rattle.std.proofs.Common.{◌≡◌, ◌∙◌, ◌<◌, ◌≤◌, ◌+◌, ◌-◌, ℕ, zero, suc, true, false, List, [], ◌∷◌, ◌++◌, drop, length, length-append, Some, None, inl, inr, refl, sym, ap, subst, arith}
-use Rattle.std.specs.Prelude.{◌⊎◌, Option, MatchOption}
-use Rattle.std.specs.List.{Contains}
+use Rattle.std.proofs.Common.{◌≡◌, ◌∙◌, ◌<◌, ◌≤◌, ◌+◌, ◌-◌, ℕ, suc, true, false, List, [], ◌∷◌, ◌++◌, drop, length, length-append, Some, None, inl, inr, refl, sym, ap, subst, arith}
+use Rattle.std.specs.Prelude.{Option, MatchOption}
 use Rattle.std.proofs.lemmas.List.Elements.{Contains-append_right}
-use Rattle.io_edge.specs.Told.{Content, Stays}
-use Rattle.io_edge.specs.Names.{normal, beside}
+use Rattle.io_edge.specs.Told.{Content}
+use Rattle.io_edge.specs.Names.{normal}
 use Rattle.script_grammar.specs.Rules.{is_utf8}
 use Rattle.program_rules.specs.declared.limits.TheConstants.{PLACE_LIMIT}
 use Rattle.program_rules.specs.Programs.{ReadFile}
@@ -15,7 +14,7 @@ use Rattle.program_files.specs.declared.places.Step.{Step}
 use Rattle.program_files.specs.Order.{is_read, names_of}
 use Rattle.program_files.specs.Source.{SourceCall, source_call}
 use Rattle.program_files.specs.Causes.{IsReadCause}
-use Rattle.program_files.specs.Steps.{Include, State, state, written_in, is_among, IsLook, IsNextPlace, Passes, stay, pass, AreTexts, AreUtf8, AddsFile, AddsMissed, AsksOne, IsOneCause}
+use Rattle.program_files.specs.Steps.{Include, State, state, written_in, is_among, IsLook, IsNextPlace, Passes, AreTexts, AreUtf8, AsksOne, IsOneCause}
 use Rattle.program_files.proofs.Utf8Paths.{in_file}
 use Rattle.program_files.proofs.Among.{contains_among, there_read}
 use Rattle.program_files.proofs.HasRead.{HasRead}

@@ -1,12 +1,12 @@
 -- What is read while files are reached is read by the program.
-use Rattle.std.proofs.Common.{◌≡◌, ℕ, zero, suc, true, List, [], ◌∷◌, ◌++◌, inl, inr, refl, subst, arith}
+use Rattle.std.proofs.Common.{◌≡◌, ℕ, zero, suc, List, [], ◌∷◌, inl, inr, refl, subst, arith}
 use Rattle.std.specs.Prelude.{◌⊎◌}
 use Rattle.std.specs.List.{Contains}
 use Rattle.std.proofs.lemmas.List.Elements.{Contains-append_cases, Contains-push_cases}
 use Rattle.program_rules.specs.Files.{Held, HasTree}
 use Rattle.program_rules.specs.Includes.{Reads, itself, included, includes_of_file}
 use Rattle.program_rules.specs.Programs.{ReadFile}
-use Rattle.program_files.specs.Order.{is_read, Reached, begun, again, next}
+use Rattle.program_files.specs.Order.{Reached, begun, again, next}
 use Rattle.program_files.proofs.NameLemmas.{contains_later}
 
 pub first_or_later : (x y : List ℕ) (xs : List (List ℕ)) → Contains (x ∷ xs) y → (x ≡ y) ⊎ Contains xs y

@@ -1,25 +1,23 @@
 -- Why reading is refused.
-use Rattle.std.proofs.Common.{◌≡◌, ◌∙◌, ◌<◌, ◌≤◌, ℕ, zero, suc, ◌+◌, Bool, true, false, List, [], ◌∷◌, ◌++◌, length, Some, None, inl, inr, refl, sym, ap, subst, arith}
-use Rattle.std.specs.Prelude.{◌⊎◌, ◌||◌, is_some, Option, if◌then◌else◌, bytes_eq, slice_get}
+use Rattle.std.proofs.Common.{◌≡◌, ◌∙◌, ◌≤◌, ℕ, zero, suc, ◌+◌, Bool, true, false, List, [], ◌∷◌, ◌++◌, length, Some, None, inl, inr, refl, sym, ap, subst, arith}
+use Rattle.std.specs.Prelude.{◌⊎◌, ◌||◌, is_some, if◌then◌else◌, bytes_eq, slice_get}
 use Rattle.std.specs.List.{Contains}
 use Rattle.std.proofs.lemmas.List.{length-map, length-append}
-use Rattle.text_base.specs.declared.limits.TheConstants.{FILE_LIMIT}
 use Rattle.io_edge.specs.Counts.{one_more, Rises}
-use Rattle.io_edge.specs.Told.{Content, Tells, Allows, HasAtLeast}
+use Rattle.io_edge.specs.Told.{Content, Tells, Allows}
 use Rattle.io_edge.proofs.Staying.{tells_allow}
 use Rattle.io_edge.specs.Names.{normal, beside, is_outside}
 use Rattle.program_rules.specs.declared.limits.TheConstants.{PLACE_LIMIT}
-use Rattle.program_rules.specs.Files.{Held, HasScript, has_one_place, is_at_first, found_name}
-use Rattle.program_rules.specs.Includes.{includes_of_file, itself, Writes, Asks, to_read, StaysInside}
+use Rattle.program_rules.specs.Files.{Held, has_one_place, is_at_first, found_name}
+use Rattle.program_rules.specs.Includes.{itself, Writes, Asks, to_read, StaysInside}
 use Rattle.program_rules.specs.Programs.{ReadFile}
 use Rattle.program_files.specs.declared.refusal.LoadRefusal.{LoadRefusal}
 use Rattle.program_files.specs.declared.refusal.LoadRefusal.TheVariants.{Missing, Outside, ReadFault, TooLong, Script, IncludeCycle, DoubleFunction, UnknownFunction, Arity, TooMany, Memory}
 use Rattle.program_files.specs.declared.places.Look.TheVariants as look
 use Rattle.program_files.specs.Order.{is_read, begun}
-use Rattle.program_files.specs.Scripts.{IsScript, IsScriptFault}
 use Rattle.program_files.specs.Source.{SourceCall, source_call, so_many_more, RisesBy}
-use Rattle.program_files.specs.Causes.{IsReading, StopsAt, IsFirstPlace, IsNext, IsMissing, LeadsOut, HasMissed, HasTooMany, IsReadCause}
-use Rattle.program_files.specs.Steps.{Include, State, state, is_among, IsLook, IsNextPlace, IsOneCause, AddsFile, AddsMissed, written_in}
+use Rattle.program_files.specs.Causes.{IsReading, StopsAt, IsNext, HasMissed, HasTooMany, IsReadCause}
+use Rattle.program_files.specs.Steps.{Include, State, state, is_among, IsLook, IsNextPlace, IsOneCause, AddsMissed}
 use Rattle.program_files.proofs.NameLemmas.{same_name, own_name}
 use Rattle.program_files.proofs.Among.{among_contains, contains_among, there_read}
 use Rattle.program_files.proofs.HasRead.{found_file, found_files, found_paths, IsNamedIn, HasRead, found_only, found_second, not_first, read_found}

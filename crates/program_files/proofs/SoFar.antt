@@ -1,29 +1,28 @@
 -- What was read so far, as it is told: one source that answered so.
-use Rattle.std.proofs.Common.{◌≡◌, ◌∙◌, ◌<◌, ◌≤◌, ℕ, zero, suc, ◌+◌, Bool, true, false, List, [], ◌∷◌, ◌++◌, map, length, Option, Some, None, inl, inr, refl, sym, ap, subst, arith}
+use Rattle.std.proofs.Common.{◌≡◌, ◌∙◌, ◌≤◌, ℕ, ◌+◌, Bool, true, false, List, [], map, length, Option, None, inl, inr, refl, sym, ap, subst, arith}
 use Rattle.std.proofs.lemmas.List.{length-map}
 use Rattle.std.specs.Prelude.{◌⊎◌, ◌||◌, is_some, if◌then◌else◌}
 use Rattle.std.specs.List.{Contains}
 use Rattle.io_edge.specs.Told.{Told, Content, unasked, untold, known, Tells, Allows}
-use Rattle.io_edge.specs.Names.{normal, beside, is_outside}
+use Rattle.io_edge.specs.Names.{normal, beside}
 use Rattle.io_edge.proofs.Staying.{tells_allow}
-use Rattle.php_syntax.specs.Trees.{PlainFile, PlainStmts}
+use Rattle.php_syntax.specs.Trees.{PlainFile}
 use Rattle.script_grammar.specs.Rules.{is_utf8}
 use Rattle.program_rules.specs.declared.limits.TheConstants.{PLACE_LIMIT}
 use Rattle.program_rules.specs.Bodies.{include_of, file_with_bodies}
-use Rattle.program_rules.specs.Files.{Held, HasScript, HasTree, has_one_place, is_at_first, found_name, with_found_names}
+use Rattle.program_rules.specs.Files.{Held, HasScript, HasTree, has_one_place, found_name, with_found_names}
 use Rattle.program_rules.specs.Includes.{includes_of_file, Reads, included, Writes, Asks, to_read, first}
 use Rattle.program_rules.specs.Programs.{ReadFile}
 use Rattle.program_rules.proofs.PathLemmas.{paths_of_file, same_file}
-use Rattle.program_files.specs.declared.places.Look.TheVariants as look
 use Rattle.program_files.specs.Order.{is_read, names_of, Reached}
-use Rattle.program_files.specs.Source.{SourceCall, so_many_more, RisesBy}
+use Rattle.program_files.specs.Source.{SourceCall, so_many_more}
 use Rattle.program_files.specs.Causes.{IsReading, IsSettled, HasSettledTree, ReadsAll}
-use Rattle.program_files.specs.Steps.{Include, State, state, is_among, WasAsked, IsLook, Passes, placed, placed_or_same, placed_include, placed_file}
+use Rattle.program_files.specs.Steps.{State, state, is_among, WasAsked, placed, placed_or_same, placed_include, placed_file}
 use Rattle.program_files.proofs.NameLemmas.{tree_there}
 use Rattle.program_files.proofs.ReachedLemmas.{files_read}
 use Rattle.program_files.proofs.Utf8Paths.{in_file}
 use Rattle.program_files.proofs.Among.{among_contains, contains_among, there_read, contains_map, contains_of_map, map_same}
-use Rattle.program_files.proofs.HasRead.{found_file, found_files, found_paths, SameAsked, IsFound, IsPlace, HasRead, found_first, found_second, at_first, not_first, read_some, read_found}
+use Rattle.program_files.proofs.HasRead.{found_file, found_files, found_paths, SameAsked, IsFound, IsPlace, HasRead, found_first, found_second, at_first, read_some, read_found}
 use Rattle.program_files.proofs.Steps.{script_kept}
 
 pub told_of : Told → Option (List ℕ)

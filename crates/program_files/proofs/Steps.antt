@@ -1,28 +1,21 @@
 -- How reading goes on: an include is passed over, a file is read, a name is missed.
-use Rattle.std.proofs.Common.{◌≡◌, ◌∙◌, ◌<◌, ℕ, zero, suc, ◌+◌, Bool, true, false, List, [], ◌∷◌, ◌++◌, map, length, Option, Some, None, inl, inr, refl, sym, ap, subst, arith, length-append}
+use Rattle.std.proofs.Common.{◌≡◌, ◌∙◌, ℕ, zero, suc, Bool, true, false, List, [], ◌∷◌, ◌++◌, map, Option, None, inl, inr, refl, sym, ap, subst, arith}
 use Rattle.std.specs.Prelude.{◌⊎◌, is_some, if◌then◌else◌, bytes_eq}
 use Rattle.std.specs.List.{Contains}
-use Rattle.std.proofs.lemmas.List.{map-append}
-use Rattle.std.proofs.lemmas.List.Elements.{Contains-append_cases, Contains-push_cases, Contains-append_left, Contains-append_right}
-use Rattle.io_edge.specs.Counts.{one_more, Rises}
-use Rattle.io_edge.specs.Told.{Content, Tells}
-use Rattle.io_edge.specs.Names.{normal, beside, is_outside}
+use Rattle.std.proofs.lemmas.List.Elements.{Contains-append_left, Contains-append_right}
+use Rattle.io_edge.specs.Names.{normal, beside}
 use Rattle.php_syntax.specs.Trees.{PlainFile}
-use Rattle.script_grammar.specs.Rules.{is_utf8}
-use Rattle.program_rules.specs.declared.limits.TheConstants.{PLACE_LIMIT}
-use Rattle.program_rules.specs.Files.{Held, HasScript, HasTree, has_one_place, found_name, with_found_names}
+use Rattle.program_rules.specs.Files.{Held, HasScript, found_name, with_found_names}
 use Rattle.program_rules.specs.Includes.{includes_of_file}
-use Rattle.program_rules.specs.Programs.{ReadFile, StandOnce}
+use Rattle.program_rules.specs.Programs.{ReadFile}
 use Rattle.program_rules.proofs.PathLemmas.{paths_of_file}
 use Rattle.program_files.specs.declared.places.Look.TheVariants as look
-use Rattle.program_files.specs.Order.{is_read, Reached, again, next}
-use Rattle.program_files.specs.Scripts.{IsScript}
-use Rattle.program_files.specs.Source.{SourceCall, source_call, so_many_more, RisesBy}
-use Rattle.program_files.specs.Steps.{Include, State, state, written_in, is_among, WasAsked, IsLookAt, IsLast, IsLook, IsNextPlace, Passes, stay, pass, AddsFile, AddsMissed}
+use Rattle.program_files.specs.Order.{is_read, again}
+use Rattle.program_files.specs.Source.{SourceCall}
+use Rattle.program_files.specs.Steps.{Include, State, state, written_in, is_among, WasAsked, IsLook, IsNextPlace, Passes, stay, pass}
 use Rattle.program_files.proofs.NameLemmas.{same_name, own_name, still_read, now_read}
-use Rattle.program_files.proofs.ReachedLemmas.{first_or_later}
-use Rattle.program_files.proofs.Among.{still_among, now_among, among_cases, read_cases, there_read, contains_map, contains_of_map, once_more}
-use Rattle.program_files.proofs.HasRead.{found_file, found_files, found_paths, SameAsked, IsFound, IsNamedIn, IsPlace, HasRead, found_first, found_second, read_found, found_is_read}
+use Rattle.program_files.proofs.Among.{still_among}
+use Rattle.program_files.proofs.HasRead.{found_file, found_files, found_paths, SameAsked, IsFound, IsPlace, HasRead, found_first, found_second, read_found, found_is_read}
 
 pub later : {X : Type 0} (x y : X) (xs : List X) → Contains xs y → Contains (x ∷ xs) y
 later x y xs c = Contains-append_right (x ∷ []) xs y c

@@ -7,7 +7,7 @@ use Rattle.io_edge.specs.Told.{Content, Tells, HasAtLeast}
 use Rattle.io_edge.specs.Names.{normal, beside, is_outside}
 use Rattle.program_rules.specs.declared.limits.TheConstants.{PLACE_LIMIT}
 use Rattle.program_rules.specs.Files.{Held, Agrees, HasTree, found_name, is_at_first}
-use Rattle.program_rules.specs.Includes.{includes_of_file, Reads, Writes, Asks, StaysInside}
+use Rattle.program_rules.specs.Includes.{includes_of_file, Writes, Asks, StaysInside}
 use Rattle.program_rules.specs.Programs.{ReadFile, StandOnce}
 use Rattle.program_files.specs.declared.refusal.LoadRefusal.{LoadRefusal}
 use Rattle.program_files.specs.declared.refusal.LoadRefusal.TheVariants.{Missing, Outside, ReadFault, TooLong, Script, IncludeCycle, DoubleFunction, UnknownFunction, Arity, TooMany, Memory}

@@ -1,10 +1,9 @@
 use Rattle.std.proofs.Common.{◌∙◌, refl, ap, arith, sym}
 use Rattle.std.specs.declared.vec.Vec.{Vec}
 use Rattle.std.specs.declared.alloc.Global.{Global}
-use Rattle.php_syntax.specs.declared.tree.Expr.{Expr}
 use Rattle.php_syntax.specs.declared.tree.Stmt.{Stmt}
-use Rattle.php_syntax.specs.Trees.{plain_stmt, stmts_of, arms_of}
-use Rattle.php_syntax.specs.Height.{stmt_height, stmts_height, arms_height}
+use Rattle.php_syntax.specs.Trees.{stmts_of, arms_of}
+use Rattle.php_syntax.specs.Height.{stmts_height, arms_height}
 use Rattle.program_files.specs.Steps.{placed_include}
 use Rattle.spellable.proofs.StmtHeights.{if_height, while_height, do_height, for_height, each_height}
 use Rattle.program_files.proofs.Visits.{Arm, none_visited, no_arms_visited, next_visited, next_arm_visited, all_visited, all_arms_visited, next_height, next_arm_height, later_same, same_size}
