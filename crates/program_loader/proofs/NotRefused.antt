@@ -79,9 +79,9 @@ asked_here : (content : Content) (name path : List ℕ) (p : PlainProgram) (h : 
 asked_here content name path p h other agrees main asks = asks_here h.held other (normal name) (same_so content name p h other agrees main) path asks
 
 -- a name that is asked for and is there is read
-there_reads : (content : Content) (name path bytes : List ℕ) (p : PlainProgram) (h : HoldsProgram content name p) → Asks h.held (normal name) path → h.held.bytes path ≡ Some bytes → Reads h.held (normal name) path
-there_reads content name path bytes p h (to_read _ reads) is = reads
-there_reads content name _ bytes p h (first file written reads (script, has, own)) is =
+there_reads : (content : Content) (name : List ℕ) (p : PlainProgram) (h : HoldsProgram content name p) (path bytes : List ℕ) → Asks h.held (normal name) path → h.held.bytes path ≡ Some bytes → Reads h.held (normal name) path
+there_reads content name p h path bytes (to_read _ reads) is = reads
+there_reads content name p h _ bytes (first file written reads (script, has, own)) is =
     let named : found_name h.held file written ≡ beside h.held.main written = found_first h.held file written (ap (λ (o : Option (List ℕ)). is_some o) is) in
     let paths : includes_of_file (with_found_names h.held file script) ≡ map (found_name h.held file) (includes_of_file script) = paths_of_file (found_name h.held file) script in
     let c : Contains (map (found_name h.held file) (includes_of_file script)) (found_name h.held file written) = contains_map (found_name h.held file) (includes_of_file script) written own in
@@ -288,7 +288,7 @@ not_refused laws reading call root name p (TooLong path len) h short inside calm
     absurd (not_long call.content h.held path len (h.told path asks) (λ bytes is. short path bytes asks is) over least)
 not_refused laws reading call root name p (Script path fault) h short inside calm (named, (stops, (bytes, told, broken), faults, misses)) =
     let asks = asked_so call name path p h named in
-    let reads = there_reads call.content name path bytes p h asks (told_there call.content name path bytes p h asks told) in
+    let reads = there_reads call.content name p h path bytes asks (told_there call.content name path bytes p h asks told) in
     absurd (not_none reading call.content h.held path bytes fault (script_at call.content name p h path reads) told broken)
 not_refused laws reading call root name p (IncludeCycle path) h short inside calm cause = absurd (not_circular laws call root name path p h cause)
 not_refused laws reading call root name p (DoubleFunction function) h short inside calm cause = not_broken laws call root name p (DoubleFunction function) h cause
