@@ -1,0 +1,5 @@
+pub mod Names
+pub mod Said
+pub mod Plain
+pub mod Canonical
+mod Examples

@@ -1,0 +1,23 @@
+//! Which command takes which option.
+
+ghost use Rattle.std.specs.Prelude.{◌≡◌};
+ghost use Rattle.call_options.specs.Words as spec;
+
+/// Whether the command of this word takes this option.
+pub(crate) fn takes(word: &str, name: &str) -> bool
+    ensures { result ≡ spec.takes word.now name.now }
+{
+    if word == "check" {
+        return name == "dtd" || name == "limit";
+    }
+    if word == "run" {
+        return name == "request" || name == "steps";
+    }
+    if word == "page" {
+        return name == "dtd";
+    }
+    if word == "grammar" || word == "make" {
+        return false;
+    }
+    word == "site" && (name == "dtd" || name == "limit")
+}
