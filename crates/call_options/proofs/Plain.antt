@@ -40,7 +40,7 @@ number_plain (pos n) v e = by (nat_lt 0 n && nat_lt n 100000000) refl e
     by true t e = let w = within n t in subst IsPlain (same_Some (decimal n) v e) (decimal_plain n w.0 w.1)
     by false t e = no_value v e
 
-name_plain : (data : Data) (v : List ℕ) → name_value data ≡ Some v → IsPlain v
+name_plain : (held : Data) (v : List ℕ) → name_value held ≡ Some v → IsPlain v
 name_plain (string text) v e = by (is_plain text) refl e
   where
     by : (t : Bool) → is_plain text ≡ t → (if t then Some text else None) ≡ Some v → IsPlain v
@@ -53,8 +53,8 @@ name_plain (datetime dt) v e = no_value v e
 name_plain (array ds) v e = no_value v e
 name_plain (table ms) v e = no_value v e
 
-value_plain : (data : Data) (kind : Kind) (v : List ℕ) → value_of data kind ≡ Some v → IsPlain v
-value_plain data name v e = name_plain data v e
+value_plain : (held : Data) (kind : Kind) (v : List ℕ) → value_of held kind ≡ Some v → IsPlain v
+value_plain held name v e = name_plain held v e
 value_plain (string text) number v e = no_value v e
 value_plain (integer z) number v e = number_plain z v e
 value_plain (float x) number v e = no_value v e
@@ -63,9 +63,9 @@ value_plain (datetime dt) number v e = no_value v e
 value_plain (array ds) number v e = no_value v e
 value_plain (table ms) number v e = no_value v e
 
-kind_plain : (data : Data) (kind : Option Kind) (v : List ℕ) → option_and_then (value_of data) kind ≡ Some v → IsPlain v
-kind_plain data None v e = no_value v e
-kind_plain data (Some kind) v e = value_plain data kind v e
+kind_plain : (held : Data) (kind : Option Kind) (v : List ℕ) → option_and_then (value_of held) kind ≡ Some v → IsPlain v
+kind_plain held None v e = no_value v e
+kind_plain held (Some kind) v e = value_plain held kind v e
 
 -- each value is one that words may have
 abbrev pub ArePlain : List Setting → Type 0
@@ -78,8 +78,8 @@ list_plain option_name (Some v) settings is more = (is v refl, more)
 
 members_plain : (members : Members) → ArePlain (settings_in members)
 members_plain no_members = tt
-members_plain (member member_name data rest) =
-    list_plain member_name (said_by member_name data) (settings_in rest) (λ v e. kind_plain data (kind_of member_name) v e) (members_plain rest)
+members_plain (member member_name held rest) =
+    list_plain member_name (said_by member_name held) (settings_in rest) (λ v e. kind_plain held (kind_of member_name) v e) (members_plain rest)
 
 -- the options of an outcome
 abbrev given_by : Outcome → List Setting

@@ -14,19 +14,19 @@ and_false false = refl
 -- `--NAME=VALUE` is the option of its name alone
 joined_is : (name n v : List ℕ) → has_equals n ≡ false → has_equals name ≡ false → is_named name (n ++ 61 ∷ v) ≡ bytes_eq n name
 joined_is [] [] v e f = refl
-joined_is (a ∷ as) [] v e f =
-    let other : (61 == a) ≡ false = ne_eqb 61 a (λ s. eqb-false a 61 (or_false (a == 61) (has_equals as) f).0 (sym s)) in
+joined_is (a ∷ more) [] v e f =
+    let other : (61 == a) ≡ false = ne_eqb 61 a (λ s. eqb-false a 61 (or_false (a == 61) (has_equals more) f).0 (sym s)) in
     rw other refl
 joined_is [] (b ∷ bs) v e f = (or_false (b == 61) (has_equals bs) e).0
-joined_is (a ∷ as) (b ∷ bs) v e f =
-    ap (λ (t : Bool). (b == a) && t) (joined_is as bs v (or_false (b == 61) (has_equals bs) e).1 (or_false (a == 61) (has_equals as) f).1)
+joined_is (a ∷ more) (b ∷ bs) v e f =
+    ap (λ (t : Bool). (b == a) && t) (joined_is more bs v (or_false (b == 61) (has_equals bs) e).1 (or_false (a == 61) (has_equals more) f).1)
 
 -- `--NAME` too
 bare_is : (name n : List ℕ) → has_equals n ≡ false → is_named name n ≡ bytes_eq n name
 bare_is [] [] e = refl
-bare_is (a ∷ as) [] e = refl
+bare_is (a ∷ more) [] e = refl
 bare_is [] (b ∷ bs) e = (or_false (b == 61) (has_equals bs) e).0
-bare_is (a ∷ as) (b ∷ bs) e = ap (λ (t : Bool). (b == a) && t) (bare_is as bs (or_false (b == 61) (has_equals bs) e).1)
+bare_is (a ∷ more) (b ∷ bs) e = ap (λ (t : Bool). (b == a) && t) (bare_is more bs (or_false (b == 61) (has_equals bs) e).1)
 
 -- neither is `--`
 joined_bare : (n v : List ℕ) → bytes_eq (n ++ 61 ∷ v) [] ≡ false

@@ -52,17 +52,17 @@ number_value (table ms) = None
 
 -- the value of an option, where the member's is of this kind
 abbrev pub value_of : Data → Kind → Option (List ℕ)
-value_of data name = name_value data
-value_of data number = number_value data
+value_of held name = name_value held
+value_of held number = number_value held
 
 -- the value of the option that a member says; None where there is no such member, or its value is of another kind
 abbrev pub said_by : List ℕ → Data → Option (List ℕ)
-said_by member_name data = option_and_then (value_of data) (kind_of member_name)
+said_by member_name held = option_and_then (value_of held) (kind_of member_name)
 
 -- the first member that says no option
 abbrev pub first_refused : Members → Option (List ℕ)
 first_refused no_members = None
-first_refused (member member_name data rest) = if is_some (said_by member_name data) then first_refused rest else Some member_name
+first_refused (member member_name held rest) = if is_some (said_by member_name held) then first_refused rest else Some member_name
 
 -- an option with its value, where there is one
 abbrev pub setting_list : List ℕ → Option (List ℕ) → List Setting
@@ -72,4 +72,4 @@ setting_list option_name (Some value) = (option_name, value) ∷ []
 -- the options that the members say, one behind the other
 abbrev pub settings_in : Members → List Setting
 settings_in no_members = []
-settings_in (member member_name data rest) = setting_list member_name (said_by member_name data) ++ settings_in rest
+settings_in (member member_name held rest) = setting_list member_name (said_by member_name held) ++ settings_in rest
