@@ -1,8 +1,8 @@
 -- Names of options: equality, rows of commands, and lists of names.
-use Rattle.std.proofs.Common.{◌≡◌, ◌∙◌, ◌==◌, ◌++◌, ◌&&◌, ◌||◌, ap, ℕ, Bool, true, false, List, [], ◌∷◌, refl, sym, subst, inl, inr, true≢false}
+use Rattle.std.proofs.Common.{◌≡◌, ◌∙◌, ◌==◌, ◌++◌, ◌&&◌, ◌||◌, ap, ℕ, Bool, true, false, not, List, [], ◌∷◌, refl, sym, subst, inl, inr, true≢false}
 use Rattle.std.proofs.lemmas.Slice.Eq.{bytes_eq-Decides}
+use Rattle.std.specs.List.{list_all}
 use Rattle.std.specs.Str.{bytes_eq}
-use Rattle.command_words.specs.Program as program
 use Rattle.command_words.specs.Program.{Row, commands}
 use Rattle.command_words.specs.Canonical.{IsAmong, is_among}
 use Rattle.call_options.specs.Words.{options_of, is_one_of}
@@ -46,6 +46,17 @@ has_equals (byte ∷ bytes) = (byte == 61) || has_equals bytes
 abbrev pub IsName : List ℕ → Type 0
 IsName name = (bytes_eq name [] ≡ false) × (has_equals name ≡ false)
 
+abbrev is_name : List ℕ → Bool
+is_name name = not (bytes_eq name []) && not (has_equals name)
+
+-- an option of a command with this place: such a name, and not that of the place
+abbrev is_free : List ℕ → List ℕ → Bool
+is_free at name = is_name name && not (bytes_eq at name)
+
+-- the names of a command are such
+abbrev are_names : Row → Bool
+are_names row = list_all (is_free row.place) row.options && list_all is_name row.flags
+
 -- what is known of the names of a command
 pub record RowNames (row : Row) : Type 0 where
   pub taken : options_of commands row.word ≡ row.options
@@ -53,63 +64,45 @@ pub record RowNames (row : Row) : Type 0 where
   pub places : (n : List ℕ) → IsAmong n row.options → bytes_eq row.place n ≡ false
   pub flags : (n : List ℕ) → IsAmong n row.flags → IsName n
 
--- it holds of each
-abbrev Each : {X : Type 0} → (X → Type 0) → List X → Type 0
-Each P [] = Unit {0}
-Each P (x ∷ xs) = P x × Each P xs
+both : (a b : Bool) → (a && b) ≡ true → (a ≡ true) × (b ≡ true)
+both true b e = (refl, e)
+both false b e = absurd (true≢false (sym e))
 
-each : {X : Type 0} (P : X → Type 0) (xs : List X) → Each P xs → (x : X) → IsAmong x xs → P x
-each P [] all x e = absurd e
-each P (y ∷ ys) all x (inl e) = subst P (sym e) all.0
-each P (y ∷ ys) all x (inr e) = each P ys all.1 x e
+not_true : (a : Bool) → not a ≡ true → a ≡ false
+not_true true e = sym e
+not_true false e = refl
 
-check_names : RowNames program.check
-check_names = record {
-  taken = refl;
-  options = each IsName program.check.options ((refl, refl), ((refl, refl), tt));
-  places = each (λ n. bytes_eq program.check.place n ≡ false) program.check.options (refl, (refl, tt));
-  flags = each IsName program.check.flags ((refl, refl), ((refl, refl), tt));
-}
+-- what holds of all holds of one
+one_of_all : {X : Type 0} (p : X → Bool) (xs : List X) (x : X) → list_all p xs ≡ true → IsAmong x xs → p x ≡ true
+one_of_all p [] x all e = absurd e
+one_of_all p (y ∷ ys) x all (inl e) = ap p e ∙ (both (p y) (list_all p ys) all).0
+one_of_all p (y ∷ ys) x all (inr e) = one_of_all p ys x (both (p y) (list_all p ys) all).1 e
 
-run_names : RowNames program.run
-run_names = record {
-  taken = refl;
-  options = each IsName program.run.options ((refl, refl), ((refl, refl), tt));
-  places = each (λ n. bytes_eq program.run.place n ≡ false) program.run.options (refl, (refl, tt));
-  flags = each IsName program.run.flags tt;
-}
+name_is : (n : List ℕ) → is_name n ≡ true → IsName n
+name_is n e =
+    let p = both (not (bytes_eq n [])) (not (has_equals n)) e in
+    (not_true (bytes_eq n []) p.0, not_true (has_equals n) p.1)
 
-page_names : RowNames program.page
-page_names = record {
-  taken = refl;
-  options = each IsName program.page.options ((refl, refl), tt);
-  places = each (λ n. bytes_eq program.page.place n ≡ false) program.page.options (refl, tt);
-  flags = each IsName program.page.flags tt;
-}
+-- the rows of the commands, computed
+names_fit : list_all are_names commands ≡ true
+names_fit = refl
 
-grammar_names : RowNames program.grammar
-grammar_names = record {
-  taken = refl;
-  options = each IsName program.grammar.options tt;
-  places = each (λ n. bytes_eq program.grammar.place n ≡ false) program.grammar.options tt;
-  flags = each IsName program.grammar.flags tt;
-}
-
-make_names : RowNames program.make
-make_names = record {
-  taken = refl;
-  options = each IsName program.make.options tt;
-  places = each (λ n. bytes_eq program.make.place n ≡ false) program.make.options tt;
-  flags = each IsName program.make.flags ((refl, refl), tt);
-}
-
-site_names : RowNames program.site
-site_names = record {
-  taken = refl;
-  options = each IsName program.site.options ((refl, refl), ((refl, refl), tt));
-  places = each (λ n. bytes_eq program.site.place n ≡ false) program.site.options (refl, (refl, tt));
-  flags = each IsName program.site.flags ((refl, refl), tt);
-}
+-- each command has a word of its own
+words_lead : (row : Row) → IsAmong row commands → options_of commands row.word ≡ row.options
+words_lead row (inl e) = subst (λ (r : Row). options_of commands r.word ≡ r.options) (sym e) refl
+words_lead row (inr (inl e)) = subst (λ (r : Row). options_of commands r.word ≡ r.options) (sym e) refl
+words_lead row (inr (inr (inl e))) = subst (λ (r : Row). options_of commands r.word ≡ r.options) (sym e) refl
+words_lead row (inr (inr (inr (inl e)))) = subst (λ (r : Row). options_of commands r.word ≡ r.options) (sym e) refl
+words_lead row (inr (inr (inr (inr (inl e))))) = subst (λ (r : Row). options_of commands r.word ≡ r.options) (sym e) refl
+words_lead row (inr (inr (inr (inr (inr (inl e)))))) = subst (λ (r : Row). options_of commands r.word ≡ r.options) (sym e) refl
+words_lead row (inr (inr (inr (inr (inr (inr e)))))) = absurd e
 
 pub row_names : (row : Row) → IsAmong row commands → RowNames row
-row_names = each RowNames commands (check_names, (run_names, (page_names, (grammar_names, (make_names, (site_names, tt))))))
+row_names row e =
+    let fits = both (list_all (is_free row.place) row.options) (list_all is_name row.flags) (one_of_all are_names commands row names_fit e) in
+    record {
+      taken = words_lead row e;
+      options = λ n among. name_is n (both (is_name n) (not (bytes_eq row.place n)) (one_of_all (is_free row.place) row.options n fits.0 among)).0;
+      places = λ n among. not_true (bytes_eq row.place n) (both (is_name n) (not (bytes_eq row.place n)) (one_of_all (is_free row.place) row.options n fits.0 among)).1;
+      flags = λ n among. name_is n (one_of_all is_name row.flags n fits.1 among);
+    }

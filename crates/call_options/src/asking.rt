@@ -1,7 +1,7 @@
 //! The words of a call with the options of its file.
 
-ghost use Rattle.std.specs.Prelude.{◌≡◌, ◌≢◌, Err, IfOk, IfErr, OnOk, map, string_bytes};
-ghost use Rattle.command_words.specs.Views.{asked_as};
+ghost use Rattle.std.specs.Prelude.{◌≡◌, ◌≢◌, Err, IfErr, OnOk, map, string_bytes};
+ghost use Rattle.command_words.specs.Asked.{has_help};
 ghost use Rattle.io_edge.specs.Told.{Stays};
 ghost use Rattle.call_options.specs.Reading.{HasOptions, IsFault, file_name, look_of};
 ghost use Rattle.call_options.specs.Reading as spec;
@@ -10,41 +10,52 @@ ghost use Rattle.call_options.specs.declared.refusal.OptionsFault.TheVariants.{F
 use crate::putting::put_options;
 use crate::reading::read_options;
 use crate::refusal::OptionsFault;
-use command_words::{CommandLine, WordsRefusal, read_words};
+use crate::taking::takes;
 use io_edge::{FileFault, FileKind, Files};
 use std::alloc::Global;
-use text_base::NoMemory;
 
 /// The name of the file of options, which is looked for in the folder of the call.
 pub const OPTIONS_FILE: &str = "phpsa.toml";
 
-/// Whether this asks for the file of options.
-fn reads_options(line: CommandLine) -> bool
-    ensures { result ≡ spec.reads_options (asked_as line) }
+/// Whether a word ahead of `--` asks for help.
+fn ask_for_help(words: &[String]) -> bool
+    ensures { result ≡ has_help (map string_bytes words.now) }
 {
-    match line {
-        CommandLine::Help | CommandLine::Version | CommandLine::Make { .. } => false,
-        CommandLine::Check { .. } | CommandLine::Run { .. } => true,
-        CommandLine::Page { .. } | CommandLine::Grammar { .. } => true,
-        CommandLine::Site { .. } => true,
+    let mut rest = words;
+    while let Some((word, others)) = rest.split_first() {
+        let word = word.as_str();
+        if word == "--" {
+            return false;
+        }
+        if word == "--help" || word == "-h" {
+            return true;
+        }
+        rest = others;
     }
+    false
+}
+
+/// Whether the command of this word takes an option that the file may give.
+fn takes_some(word: &str) -> bool
+    ensures { result ≡ spec.takes_some word.now }
+{
+    takes(word, "dtd") || takes(word, "limit") || takes(word, "root")
 }
 
 /// Whether the words ask for the file of options.
-fn ask_for_options(alloc: Global, words: &[String]) -> Result<bool, NoMemory>
-    ensures { IfOk result (λ asks. spec.AskIf asks (map string_bytes words.entry.now)) }
+fn ask_for_options(words: &[String]) -> bool
+    ensures { result ≡ spec.ask_for_options (map string_bytes words.now) }
 {
-    match read_words(alloc, words) {
-        Ok(line) => Ok(reads_options(line)),
-        Err(WordsRefusal::Usage { .. }) => Ok(false),
-        Err(WordsRefusal::Memory) => Err(NoMemory),
+    match words {
+        [] => false,
+        [command, ..] => takes_some(command.as_str()) && !ask_for_help(words),
     }
 }
 
-/// Puts the options of the file of options into the words of a call that asks for a command which
-/// reads files, where the command takes them and the words do not say them themselves. Where there
-/// is no such file, and where the words ask for nothing, for help, for the version or for `make`,
-/// they stay.
+/// Puts the options of the file of options into the words of a call, where their command takes them
+/// and they do not say them themselves. The file is asked for once, and only where the command takes
+/// an option that it may give, and no word ahead of `--` asks for help; where it is not asked for, or
+/// there is none, the words stay.
 ///
 /// # Errors
 ///
@@ -66,7 +77,7 @@ pub fn options_for<F: Files>(
     ensures stays { Stays (F.content files.old) (F.content files.new) }
     ensures unfailed { result ≢ Err (File FileFault.Failed) → F.faults files.new ≡ F.faults files.old }
 {
-    if !ask_for_options(alloc, words.as_slice())? {
+    if !ask_for_options(words.as_slice()) {
         return Ok(());
     }
     let file = match files.read(alloc, OPTIONS_FILE, FileKind::Regular) {
