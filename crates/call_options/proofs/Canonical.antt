@@ -141,7 +141,7 @@ put_one row k name value settings plain rec ps last fits = by (is_one_of name ro
 
 put : (row : Row) → RowNames row → (settings : List Setting) → ArePlain settings → Puts row settings
 put row k [] plain ps last fits = record { parts = ps; is = refl; fits = fits; says = λ n. said_alone (given row.place ps last n) }
-put row k (setting ∷ settings) plain = put_one row k setting.0 setting.1 settings plain.0 (put row k settings plain.1)
+put row k (setting ∷ settings) plain ps last fits = put_one row k setting.0 setting.1 settings plain.0 (put row k settings plain.1) ps last fits
 
 -- canonical words with the options of a file
 pub options_put : (row : Row) (parts : List Part) (last : Option (List ℕ)) (file : List ℕ) (settings : List Setting) (for : Asked) → IsAmong row commands

@@ -1,5 +1,7 @@
 -- Words with options put in, by the forms of docs/command-line.md; members that say no option; lines.
 use Rattle.std.proofs.Common.{◌≡◌, [], ◌∷◌, Some, None, true, false, refl, codes, pos, negsuc}
+use Rattle.std.specs.Fmt.{digits}
+use Rattle.std.specs.Str.{chars, is_utf8}
 use Rattle.toml.specs.Data.{string, integer, boolean, no_members, member}
 use Rattle.toml.proofs.OnLiterals.{toml_on_literals}
 use Rattle.call_options.specs.Members.{said_by}
@@ -28,6 +30,7 @@ the_first_counts : with_options (codes "site" ∷ codes "l" ∷ []) ((codes "lim
 the_first_counts = refl
 
 a_number : said_by (codes "limit") (integer (pos 99999999)) ≡ Some (codes "99999999")
+unfolding digits
 a_number = refl
 
 nine_digits : said_by (codes "limit") (integer (pos 100000000)) ≡ None
@@ -56,19 +59,19 @@ no_member = refl
 
 -- the options of a text, in byte order of their names
 a_file : outcome (codes "limit = 1_000\ndtd = 'mini'\n") ≡ gives ((codes "dtd", codes "mini") ∷ (codes "limit", codes "1000") ∷ [])
-unfolding toml_on_literals
+unfolding is_utf8 chars digits toml_on_literals
 a_file = refl
 
 an_empty_file : outcome [] ≡ gives []
-unfolding toml_on_literals
+unfolding is_utf8 chars digits toml_on_literals
 an_empty_file = refl
 
 an_unknown_member : outcome (codes "dtd = 'mini'\njson = true\n") ≡ refused (codes "json")
-unfolding toml_on_literals
+unfolding is_utf8 chars digits toml_on_literals
 an_unknown_member = refl
 
 no_text_of_toml : outcome (codes "dtd = mini\n") ≡ not_toml
-unfolding toml_on_literals
+unfolding is_utf8 chars digits toml_on_literals
 no_text_of_toml = refl
 
 the_second_line : line_at (codes "a\nb\nc") 2 ≡ 2

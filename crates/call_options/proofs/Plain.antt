@@ -76,7 +76,7 @@ list_plain : (option_name : List ℕ) (value : Option (List ℕ)) (settings : Li
 list_plain option_name None settings is more = more
 list_plain option_name (Some v) settings is more = (is v refl, more)
 
-members_plain : (members : Members) → ArePlain (settings_in members)
+members_plain : (found : Members) → ArePlain (settings_in found)
 members_plain no_members = tt
 members_plain (member member_name held rest) =
     list_plain member_name (said_by member_name held) (settings_in rest) (λ v e. kind_plain held (kind_of member_name) v e) (members_plain rest)
@@ -93,13 +93,13 @@ DoesGive not_toml = ⊥
 DoesGive (refused member_name) = ⊥
 DoesGive (gives settings) = Unit {0}
 
-options_plain : (bad : Option (List ℕ)) (members : Members) (settings : List Setting) → options_or bad (settings_in members) ≡ gives settings → ArePlain settings
-options_plain None members settings e = subst ArePlain (ap given_by e) (members_plain members)
-options_plain (Some member_name) members settings e = absurd (subst DoesGive (sym e) tt)
+options_plain : (bad : Option (List ℕ)) (found : Members) (settings : List Setting) → options_or bad (settings_in found) ≡ gives settings → ArePlain settings
+options_plain None found settings e = subst ArePlain (ap given_by e) (members_plain found)
+options_plain (Some member_name) found settings e = absurd (subst DoesGive (sym e) tt)
 
 table_plain : (table : Option Members) (settings : List Setting) → outcome_of table ≡ gives settings → ArePlain settings
 table_plain None settings e = absurd (subst DoesGive (sym e) tt)
-table_plain (Some members) settings e = options_plain (first_refused members) members settings e
+table_plain (Some found) settings e = options_plain (first_refused found) found settings e
 
 -- the options that a file gives
 pub file_plain : (file : List ℕ) (settings : List Setting) → outcome file ≡ gives settings → ArePlain settings

@@ -1,5 +1,6 @@
 -- Which options canonical words say.
-use Rattle.std.proofs.Common.{◌≡◌, ◌∙◌, ◌==◌, ◌++◌, ◌&&◌, ◌||◌, ap, ℕ, Bool, true, false, not, List, [], ◌∷◌, Option, Some, None, refl, sym, eqb-false, ne_eqb}
+use Rattle.std.proofs.Common.{◌≡◌, ◌∙◌, ◌==◌, ◌++◌, ◌&&◌, ◌||◌, ap, ℕ, Bool, true, false, not, List, [], ◌∷◌, Option, Some, None, refl, sym, ne_eqb}
+use Rattle.std.proofs.lemmas.Bool.{eqb-false}
 use Rattle.std.specs.Str.{bytes_eq}
 use Rattle.command_words.specs.Asked.{ends_options}
 use Rattle.command_words.specs.Program.{Row}

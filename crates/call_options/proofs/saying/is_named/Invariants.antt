@@ -3,8 +3,8 @@ use Rattle.call_options.specs.Words as spec
 use Rattle.call_options.proofs.saying.is_named.Given as goal
 
 -- what is left decides
-abbrev pub invariant-loop-byte : goal.invariant-loop-byte
-invariant-loop-byte l = spec.is_named l.names l.rest ≡ spec.is_named l.name l.bytes
+abbrev pub invariant-loop-names : goal.invariant-loop-names
+invariant-loop-names l = spec.is_named l.names l.rest ≡ spec.is_named l.name l.bytes
 
-abbrev pub decreases-loop-byte : goal.decreases-loop-byte
-decreases-loop-byte l = length l.names
+abbrev pub decreases-loop-names : goal.decreases-loop-names
+decreases-loop-names l = length l.names
