@@ -1,5 +1,5 @@
 -- Canonical words with options put in are canonical, and what they say.
-use Rattle.std.proofs.Common.{◌≡◌, ◌∙◌, ◌++◌, ◌&&◌, ◌||◌, ap, ℕ, Bool, true, false, not, List, [], ◌∷◌, Option, Some, None, refl, sym, subst, true≢false}
+use Rattle.std.proofs.Common.{◌≡◌, ◌∙◌, ◌++◌, ◌&&◌, ap, ℕ, Bool, true, false, not, List, [], ◌∷◌, Option, Some, None, refl, sym, subst, true≢false}
 use Rattle.std.proofs.Math.Path.{fun_ext}
 use Rattle.std.specs.Prelude.{if◌then◌else◌}
 use Rattle.std.specs.Str.{bytes_eq}
@@ -8,7 +8,7 @@ use Rattle.command_words.specs.Program.{Row, commands}
 use Rattle.command_words.specs.Canonical.{Part, place, joined, apart, flag, AreCanonical, AreParts, IsAmong, IsCanonical, IsPlain, canonical, all_words, given, is_among, name_of, part_value}
 use Rattle.call_options.specs.Members.{Setting}
 use Rattle.call_options.specs.Outcome.{gives, outcome}
-use Rattle.call_options.specs.Words.{behind_first, filled, first_said, is_one_of, option_word, options_of, say, set_by, with_option, with_options}
+use Rattle.call_options.specs.Words.{filled, first_said, is_one_of, option_word, say, set_by, with_option, with_options}
 use Rattle.call_options.proofs.Names.{RowNames, among_more, one_of_is, or_false, row_names, same, turned}
 use Rattle.call_options.proofs.Said.{names_in, say_is}
 use Rattle.call_options.proofs.Plain.{ArePlain, file_plain}

@@ -1,8 +1,8 @@
 -- Words with options put in, by the forms of docs/command-line.md; members that say no option; lines.
-use Rattle.std.proofs.Common.{◌≡◌, [], ◌∷◌, Some, None, true, false, refl, codes, pos, negsuc}
+use Rattle.std.proofs.Common.{◌≡◌, [], ◌∷◌, Some, None, true, refl, codes, pos, negsuc}
 use Rattle.std.specs.Fmt.{digits}
 use Rattle.std.specs.Str.{chars, is_utf8}
-use Rattle.toml.specs.Data.{string, integer, boolean, no_members, member}
+use Rattle.toml.specs.Data.{string, integer, boolean}
 use Rattle.toml.proofs.OnLiterals.{toml_on_literals}
 use Rattle.call_options.specs.Members.{said_by}
 use Rattle.call_options.specs.Outcome.{gives, line_at, not_toml, outcome, refused}

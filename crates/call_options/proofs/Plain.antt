@@ -1,9 +1,9 @@
 -- The values that a file gives are values that words may have.
-use Rattle.std.proofs.Common.{◌≡◌, ◌∙◌, ◌==◌, ◌++◌, ◌&&◌, ◌<◌, ◌^◌, ap, ℕ, ℤ, pos, negsuc, Bool, true, false, not, List, [], ◌∷◌, Option, Some, None, length, get_or, refl, sym, subst, arith, true≢false, ne_eqb}
+use Rattle.std.proofs.Common.{◌≡◌, ◌==◌, ◌++◌, ◌&&◌, ◌<◌, ◌^◌, ap, ℕ, ℤ, pos, negsuc, Bool, true, false, not, List, [], ◌∷◌, Option, Some, None, length, get_or, refl, sym, subst, arith, true≢false, ne_eqb}
 use Rattle.std.proofs.lemmas.Option.{same_Some}
 use Rattle.std.proofs.lemmas.Fmt.{decimal_nonempty, first_decimal}
-use Rattle.std.specs.Prelude.{if◌then◌else◌, option_and_then, int_lt, nat_lt}
-use Rattle.std.specs.Fmt.{decimal, signed_decimal}
+use Rattle.std.specs.Prelude.{if◌then◌else◌, option_and_then, nat_lt}
+use Rattle.std.specs.Fmt.{decimal}
 use Rattle.toml.specs.Data.{Data, string, integer, float, boolean, datetime, array, table, Members, no_members, member}
 use Rattle.command_words.specs.Canonical.{IsPlain}
 use Rattle.call_options.specs.Members.{Setting, Kind, name, number, kind_of, is_plain, name_value, number_text, value_of, said_by, first_refused, setting_list, settings_in}

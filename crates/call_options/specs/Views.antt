@@ -1,5 +1,5 @@
 -- The plain form of what the code gives.
-use Rattle.std.specs.Prelude.{ℕ, List, map, string_bytes}
+use Rattle.std.specs.Prelude.{List, map, string_bytes}
 use Rattle.call_options.specs.Members.{Setting}
 use Rattle.call_options.specs.Members as members
 use Rattle.call_options.specs.declared.setting.Setting as code

@@ -1,10 +1,8 @@
-use Rattle.std.proofs.Common.{rules, ◌≡◌, ◌∙◌, ap, sym, map, string_bytes, true}
-use Rattle.call_options.specs.Members.{Setting}
+use Rattle.std.proofs.Common.{rules, ◌≡◌, map, string_bytes, true}
 use Rattle.call_options.specs.Outcome.{gives, outcome}
 use Rattle.call_options.specs.Reading.{options}
 use Rattle.call_options.specs.Reading as spec
 use Rattle.call_options.specs.Views.{settings_as}
-use Rattle.call_options.specs.Words.{with_options}
 use Rattle.call_options.proofs.asking.options_for.Goals as goal
 
 pub returns-in-Ok-read_options-clause-ok : goal.returns-in-Ok-read_options-clause-ok

@@ -1,4 +1,4 @@
-use Rattle.std.proofs.Common.{◌≡◌, ◌≤◌, Some, length, arith, true≢false}
+use Rattle.std.proofs.Common.{Some, arith, true≢false}
 use Rattle.toml.specs.Errors.{IsMemory}
 use Rattle.toml.specs.View.{table_view}
 use Rattle.call_options.proofs.Parsing.{parsed-utf8, parsed-refused}
