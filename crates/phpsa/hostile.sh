@@ -154,6 +154,16 @@ row 0 run request.php --request request.json
 
 # Here is the place of what is bounded elsewhere: one count of all work of a check, and the units of runs by the size of results.
 
+# Lists: a thousand names of one script, of scripts that are each too long, and of none.
+times 1000 'page.php\n' >same.list
+head -c 1048577 /dev/zero >wide.php
+for ((n = 0; n < 100; n++)); do ln -s wide.php "wide$n.php"; done
+times 100 'wide@.php\n' >wide.list
+times 1000 'missing@.php\n' >missing.list
+for list in same wide missing; do
+  row 0,1,15 site $list.list --dtd mini
+done
+
 # Pages: elements nested 70,000 deep.
 printf '%s%s' "$(times 70000 '<html>')" "$(times 70000 '</html>')" >elements.php
 printf '<!ELEMENT html (html*)>' >elements.dtd

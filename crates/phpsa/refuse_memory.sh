@@ -1,5 +1,5 @@
 #!/usr/bin/env bash
-# Runs the program on six calls, with a script, a run, a generated script, a site of three files and a page, and refuses each
+# Runs the program on seven calls, with a script, a run, a generated script, a page of three files, a page and a list of scripts, and refuses each
 # of their requests for memory in turn: the Nth call of malloc or realloc gives none. The status has to be 12 then, with the
 # front of the usual output, or 16 with none where the words of the call had no memory, or everything is as usual. The program
 # is the one that ./phpsa would run, built first where there is none. Needs a C compiler; no test of the gate runs this.
@@ -69,6 +69,7 @@ cat >site.php <<'PHP'
 <?php include 'foot.php'; ?>
 PHP
 printf '%s' '{"get":{"a":"x<"}}' >r.json
+printf 'page.php\nsite.php\nmissing.php\n' >pages
 
 bad=0
 
@@ -102,4 +103,5 @@ row make 3 --check
 row check site.php
 row run site.php --request r.json
 row page page.php
+row site pages
 [ "$bad" = 0 ]

@@ -1,6 +1,7 @@
 -- The headline's own definitions on a script whose text comes from an included file.
 use Rattle.std.proofs.Common.{◌≡◌, ◌++◌, ap, ℕ, List, [], ◌∷◌, true, Some, codes, lit≤, refl, subst}
 use Rattle.io_edge.specs.Told.{untold}
+use Rattle.site_check.specs.declared.kept_files.KeptFile.TheVariants.{Found}
 use Rattle.site_check.specs.Kept.{nothing_kept, keep, told_with}
 use Rattle.script_meaning.specs.Requests.{PlainRequest}
 use Rattle.script_meaning.specs.Runs.{◌then_do◌, Ended}
@@ -74,7 +75,7 @@ abbrev page_words : List (List ℕ)
 page_words = codes "page" ∷ codes "p" ∷ codes "--dtd" ∷ codes "mini" ∷ []
 
 abbrev page_call : Call
-page_call = call_of page_words (source_call (told_with (keep nothing_kept (codes "p") (Some inner)) (λ name. untold)) 0 0 0 0 0 1)
+page_call = call_of page_words (source_call (told_with (keep nothing_kept (codes "p") (Found inner)) (λ name. untold)) 0 0 0 0 0 1)
     (output_of (Some []) (Some (codes "valid" ++ 10 ∷ [])) 0 0) (output_of (Some []) (Some []) 0 0)
 
 judged : AsksFor page_words (page_check (codes "p") mini_type) → EndsReplied page_call Done

@@ -7,11 +7,12 @@ use Rattle.std.specs.Str.Lossy.{utf8_lossy, utf8_valid_len}
 use Rattle.json.specs.Print.{escape_byte}
 use Rattle.io_edge.specs.Told.{Content, unasked, untold, known}
 use Rattle.site_check.specs.declared.line.Line.{Line}
-use Rattle.site_check.specs.declared.line.Line.TheVariants.{Yes, No, Refused}
+use Rattle.site_check.specs.declared.line.Line.TheVariants.{Yes, No, Pairs, Tags, Items, Refused}
 use Rattle.site_check.specs.declared.line.TheConstants.{MISSING_STATUS}
 use Rattle.site_check.specs.Site.{Moment, moment, IsAnswered, AreAnswered, refused_by}
 use Rattle.site_check.specs.Listed.{names_in, IsList}
 use Rattle.site_check.specs.Report.{report}
+use Rattle.site_check.specs.declared.kept_files.KeptFile.TheVariants.{Found, Missing, Long}
 use Rattle.site_check.specs.Kept.{Kept, nothing_kept, kept_behind, keep, total_size, told_with}
 
 -- a source that tells nothing
@@ -22,31 +23,41 @@ tells_nothing name = untold
 before : told_with nothing_kept tells_nothing (codes "a") ≡ unasked
 before = refl
 
-after : told_with (keep nothing_kept (codes "a") (Some (codes "x"))) tells_nothing (codes "a") ≡ known (Some (codes "x"))
+after : told_with (keep nothing_kept (codes "a") (Found (codes "x"))) tells_nothing (codes "a") ≡ known (Some (codes "x"))
 after = refl
 
-missing_after : told_with (keep nothing_kept (codes "a") None) tells_nothing (codes "a") ≡ known None
+missing_after : told_with (keep nothing_kept (codes "a") Missing) tells_nothing (codes "a") ≡ known None
 missing_after = refl
 
+-- a file that is too long is not told, and stays so when it is answered by bytes later
+abbrev long : Kept
+long = keep nothing_kept (codes "a") Long
+
+long_after : told_with long tells_nothing (codes "a") ≡ untold
+long_after = refl
+
+long_stays : told_with (keep long (codes "a") (Found (codes "x"))) tells_nothing (codes "a") ≡ untold
+long_stays = refl
+
 -- of another name nothing is told yet
-other_after : told_with (keep nothing_kept (codes "a") (Some (codes "x"))) tells_nothing (codes "b") ≡ unasked
+other_after : told_with (keep nothing_kept (codes "a") (Found (codes "x"))) tells_nothing (codes "b") ≡ unasked
 other_after = refl
 
 -- the first file of a name is the one that is kept
-first_stays : told_with (keep (keep nothing_kept (codes "a") (Some (codes "x"))) (codes "a") (Some (codes "y"))) tells_nothing (codes "a") ≡ known (Some (codes "x"))
+first_stays : told_with (keep (keep nothing_kept (codes "a") (Found (codes "x"))) (codes "a") (Found (codes "y"))) tells_nothing (codes "a") ≡ known (Some (codes "x"))
 first_stays = refl
 
 -- behind a file for which there is no room no more is kept, and what is not kept is not told
 abbrev full : Kept
-full = kept_behind [] false false (codes "a") (Some (codes "x"))
+full = kept_behind [] false false (codes "a") (Found (codes "x"))
 
 no_room : told_with full tells_nothing (codes "a") ≡ untold
 no_room = refl
 
-no_more : told_with (keep full (codes "b") None) tells_nothing (codes "b") ≡ untold
+no_more : told_with (keep full (codes "b") Missing) tells_nothing (codes "b") ≡ untold
 no_more = refl
 
-sizes : total_size ((codes "a", Some (codes "xyz")) ∷ (codes "b", None) ∷ (codes "c", Some (codes "u")) ∷ []) ≡ 4
+sizes : total_size ((codes "a", Found (codes "xyz")) ∷ (codes "b", Missing) ∷ (codes "c", Found (codes "u")) ∷ (codes "d", Long) ∷ []) ≡ 4
 sizes = refl
 
 -- of a site: which lines may be answered for two names
@@ -82,3 +93,10 @@ a_report : report (codes "a.php" ∷ codes "b.php" ∷ []) (Yes ∷ Refused 3 (c
     ≡ codes "{\"answer\":\"yes\",\"file\":\"a.php\"}\n{\"answer\":\"refused\",\"file\":\"b.php\",\"status\":3,\"text\":\"Float b.php 11\"}\n"
 unfolding digits escape_byte utf8_lossy utf8_valid_len is_utf8 chars encode_utf8
 a_report = refl
+
+-- and one of each other kind
+other_lines : report (codes "a" ∷ codes "b" ∷ codes "c" ∷ codes "d" ∷ []) (No 30 ∷ Pairs 10001 4 ∷ Tags 2 7 ∷ Items 8000001 ∷ [])
+    ≡ codes "{\"answer\":\"no\",\"file\":\"a\",\"length\":30}\n{\"answer\":\"undecided\",\"count\":10001,\"file\":\"b\",\"height\":4,\"kind\":\"pairs\"}\n"
+    ++ codes "{\"answer\":\"undecided\",\"count\":2,\"file\":\"c\",\"height\":7,\"kind\":\"tags\"}\n{\"answer\":\"undecided\",\"count\":8000001,\"file\":\"d\",\"kind\":\"items\"}\n"
+unfolding digits escape_byte
+other_lines = refl

@@ -3,6 +3,8 @@ use Rattle.std.proofs.Common.{◌≡◌, ◌∙◌, ◌+◌, ◌≤◌, ℕ, Boo
 use Rattle.std.specs.Prelude.{bytes_eq}
 use Rattle.std.specs.Map.{lookup}
 use Rattle.text_base.specs.declared.limits.TheConstants.{FILE_LIMIT}
+use Rattle.site_check.specs.declared.kept_files.KeptFile.{KeptFile}
+use Rattle.site_check.specs.declared.kept_files.KeptFile.TheVariants.{Found}
 use Rattle.site_check.specs.Kept.{NamedFiles, file_size, total_size}
 use Rattle.site_check.specs.Short.{AreShort}
 
@@ -25,26 +27,27 @@ found_last test (g ∷ gs) f e = by (test g.0) e (λ h. found_last test gs f h) 
   by false e' rest = rest e'
 
 -- the sizes of files and of one more
-pub size_behind : (fs : NamedFiles) (f : List ℕ × Option (List ℕ)) → total_size (fs ++ f ∷ []) ≡ total_size fs + file_size f.1
+pub size_behind : (fs : NamedFiles) (f : List ℕ × KeptFile) → total_size (fs ++ f ∷ []) ≡ total_size fs + file_size f.1
 size_behind [] f = omega arith
 size_behind (g ∷ gs) f = let rest = size_behind gs f in omega (arith, rest)
 
 -- a file within the limit, behind others that are
-pub short_behind : (fs : NamedFiles) (name : List ℕ) (file : Option (List ℕ)) → AreShort fs → ((bytes : List ℕ) → file ≡ Some bytes → length bytes ≤ FILE_LIMIT)
+pub short_behind : (fs : NamedFiles) (name : List ℕ) (file : KeptFile) → AreShort fs → ((bytes : List ℕ) → file ≡ Found bytes → length bytes ≤ FILE_LIMIT)
     → AreShort (fs ++ (name, file) ∷ [])
 short_behind fs name file short within other bytes found = by (lookup (bytes_eq other) fs) refl where
-  last : (b : Bool) → cond b (Some file) None ≡ Some (Some bytes) → length bytes ≤ FILE_LIMIT
+  last : (b : Bool) → cond b (Some file) None ≡ Some (Found bytes) → length bytes ≤ FILE_LIMIT
   last true e = within bytes (cc)
   last false e = absurd (grind (arith, e))
 
-  by : (o : Option (Option (List ℕ))) → lookup (bytes_eq other) fs ≡ o → length bytes ≤ FILE_LIMIT
+  by : (o : Option KeptFile) → lookup (bytes_eq other) fs ≡ o → length bytes ≤ FILE_LIMIT
   by None e = last (bytes_eq other name) (sym (found_last (bytes_eq other) fs (name, file) e) ∙ found)
   by (Some f) e =
-      let at : f ≡ Some bytes = let whole : Some f ≡ Some (Some bytes) = sym (found_first (bytes_eq other) fs (name, file) f e) ∙ found in cc in
+      let at : f ≡ Found bytes = let whole : Some f ≡ Some (Found bytes) = sym (found_first (bytes_eq other) fs (name, file) f e) ∙ found in cc in
       short other bytes (e ∙ ap Some at)
 
-pub some_is : {A : Type 0} (x y : A) → Some x ≡ Some y → x ≡ y
-some_is x y e = cc
+pub found_is : (xs ys : List ℕ) → Found xs ≡ Found ys → xs ≡ ys
+found_is xs ys e = cc
 
-pub none_is_some : {A B : Type 0} (o : Option A) (x : A) → o ≡ None → o ≡ Some x → B
-none_is_some o x none some = absurd (grind (arith, none, some))
+-- what is kept of no bytes is short
+pub none_is_short : (file : KeptFile) → file_size file ≡ 0 → (bytes : List ℕ) → file ≡ Found bytes → length bytes ≤ FILE_LIMIT
+none_is_short file none bytes is = let same : file_size file ≡ length bytes = ap file_size is in omega (arith, none, same)

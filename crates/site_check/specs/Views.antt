@@ -2,6 +2,8 @@
 use Rattle.std.specs.Prelude.{◌≡◌, ℕ, List, Option, None, Some, Result, Ok, Err, ⊤}
 use Rattle.io_edge.specs.declared.files.FileFault.{FileFault}
 use Rattle.io_edge.specs.declared.files.FileFault.TheVariants.{Missing, Memory}
+use Rattle.site_check.specs.declared.kept_files.KeptFile.{KeptFile}
+use Rattle.site_check.specs.declared.kept_files.KeptFile.TheVariants as kept
 use Rattle.site_check.specs.declared.kept_files.KeptFiles.{KeptFiles}
 use Rattle.site_check.specs.declared.read_once.ReadOnce.{ReadOnce}
 use Rattle.site_check.specs.Kept.{Kept}
@@ -26,10 +28,12 @@ read_count r = r.reads
 abbrev pub missed_count : {F : Type 0} → ReadOnce F → ℕ
 missed_count r = r.missed
 
--- a kept file is answered by its bytes, or as missing, want of memory for its bytes aside; none is answered where none is kept
-abbrev pub AnswersKept : Option (Option (List ℕ)) → Option (Result (List ℕ) FileFault) → Type 0
+-- a kept file is answered by its bytes, or as missing, want of memory for its bytes aside; none is answered where none is kept, or the file
+-- is too long
+abbrev pub AnswersKept : Option KeptFile → Option (Result (List ℕ) FileFault) → Type 0
 AnswersKept None None = ⊤
-AnswersKept (Some None) (Some (Err Missing)) = ⊤
-AnswersKept (Some (Some bytes)) (Some (Ok given)) = given ≡ bytes
-AnswersKept (Some (Some bytes)) (Some (Err Memory)) = ⊤
-AnswersKept kept answer = ⊥
+AnswersKept (Some kept.Missing) (Some (Err Missing)) = ⊤
+AnswersKept (Some (kept.Found bytes)) (Some (Ok given)) = given ≡ bytes
+AnswersKept (Some (kept.Found bytes)) (Some (Err Memory)) = ⊤
+AnswersKept (Some kept.Long) None = ⊤
+AnswersKept file answer = ⊥

@@ -18,7 +18,7 @@ mod reporting;
 mod sites;
 
 pub use answers::Answers;
-pub use kept_files::{KEPT_LIMIT, KeptFiles};
+pub use kept_files::{KEPT_LIMIT, KeptFile, KeptFiles};
 pub use line::{FAULT_STATUS, Line, MISSING_STATUS};
 pub use list_refusal::{ListRefusal, NAMES_LIMIT};
 pub use listing::read_list;

@@ -1,6 +1,6 @@
 //! Names are asked for once.
 
-ghost use Rattle.std.specs.Prelude.{◌≡◌, ◌≢◌, ◌≤◌, ◌+◌, ℕ, List, Option, length, Some, Err, IfOk, IfErr, bytes_eq, None};
+ghost use Rattle.std.specs.Prelude.{◌≡◌, ◌≢◌, ◌≤◌, ◌+◌, length, Some, Err, IfOk, IfErr, bytes_eq};
 ghost use Rattle.std.specs.Map.{lookup};
 ghost use Rattle.text_base.specs.declared.limits.TheConstants.{FILE_LIMIT};
 ghost use Rattle.io_edge.specs.Counts.{one_more};
@@ -8,10 +8,10 @@ ghost use Rattle.io_edge.specs.Told.{Tells, Stays, untold};
 ghost use Rattle.io_edge.specs.Reasons.{HasReason};
 ghost use Rattle.site_check.specs.declared.kept_files.TheConstants.{KEPT_LIMIT};
 ghost use Rattle.site_check.specs.Kept.{nothing_kept, told_with, total_size};
-ghost use Rattle.site_check.specs.Answers.{KeepsAnswer, AnswersAgain, AsksOnce};
+ghost use Rattle.site_check.specs.Answers.{IsAsked, KeepsAnswer, AnswersAgain, AsksOnce};
 ghost use Rattle.site_check.specs.Views.{kept_by, inner_of, read_count, missed_count, kept_of};
 
-use crate::kept_files::KeptFiles;
+use crate::kept_files::{KeptFile, KeptFiles};
 use crate::read_once::ReadOnce;
 use io_edge::{FileFault, FileKind, Files};
 use std::alloc::Global;
@@ -34,7 +34,7 @@ impl<F: Files> ReadOnce<F> {
     }
 }
 
-// Asks the source for a name of which nothing is kept, and keeps what it answers.
+// Asks the source for a name, and keeps what it answers.
 fn ask<F: Files>(
     alloc: Global,
     inner: &mut F,
@@ -42,7 +42,7 @@ fn ask<F: Files>(
     name: &str,
     kind: FileKind,
 ) -> Result<Bytes, FileFault>
-    requires { lookup (bytes_eq name.now) (kept_of kept.old).files ≡ None }
+    requires { IsAsked (lookup (bytes_eq name.now) (kept_of kept.old).files) }
     ensures kept { KeepsAnswer (kept_of kept.old) (kept_of kept.new) name.now result }
     ensures content { IfOk result (λ bytes. Tells (F.content inner.new name.now) (Some bytes)) }
     ensures limit { IfOk result (λ bytes. length bytes ≤ FILE_LIMIT) }
@@ -63,8 +63,12 @@ fn ask<F: Files>(
             Ok(bytes)
         }
         Err(FileFault::Missing) => {
-            kept.keep_missing(key);
+            kept.keep_none(key, KeptFile::Missing);
             Err(FileFault::Missing)
+        }
+        Err(FileFault::TooLong { len }) => {
+            kept.keep_none(key, KeptFile::Long);
+            Err(FileFault::TooLong { len })
         }
         Err(fault) => Err(fault),
     }
@@ -101,14 +105,15 @@ impl<F: Files> Files for ReadOnce<F> {
         ensures asked { read_count self.new ≡ one_more (read_count self.old) }
 
         // What comes of the first question for a name is kept, for which the other source is asked
-        // once; the next ones are answered by it, and the other source is not asked.
-        ensures first { lookup (bytes_eq name.now) (kept_by self.old).files ≡ None
+        // once; the next ones are answered by it, and the other source is not asked, but for a file
+        // that is too long.
+        ensures first { IsAsked (lookup (bytes_eq name.now) (kept_by self.old).files)
             → KeepsAnswer (kept_by self.old) (kept_by self.new) name.now result
             × (missed_count self.new ≡ missed_count self.old)
             × AsksOnce F.reads (inner_of self.old) (inner_of self.new) result }
-        ensures again { (file : Option (List ℕ))
+        ensures again { (file : KeptFile)
             → lookup (bytes_eq name.now) (kept_by self.old).files ≡ Some file
-            → AnswersAgain file (missed_count self.old) (missed_count self.new) result
+            → (IsAsked (Some file) → ⊥) → AnswersAgain file (missed_count self.old) (missed_count self.new) result
             × (inner_of self.new ≡ inner_of self.old) × (kept_by self.new ≡ kept_by self.old) }
         ensures within { total_size (kept_by self.new).files ≤ KEPT_LIMIT }
     {
@@ -201,6 +206,14 @@ mod tests {
         let mut files = ReadOnce::new(alloc, DiskFiles::new(&rt, rt.stdin()));
         let first = files.read(alloc, page.as_str(), FileKind::Regular)?;
         let second = files.read(alloc, other.as_str(), FileKind::Any)?;
+        let device = "/dev/null";
+        for (kind, wanted) in [
+            (FileKind::Regular, Err(FileFault::Failed)),
+            (FileKind::Any, Ok(0)),
+        ] {
+            let answer = files.read(alloc, device, kind).map(|bytes| bytes.len());
+            assert_eq!(rt; answer, wanted, "{device}");
+        }
         fs::write(&rt, page.as_str(), "changed")?;
         let again = files.read(alloc, page.as_str(), FileKind::Regular)?;
         fs::remove_file(&rt, page.as_str())?;
