@@ -231,7 +231,7 @@ completes() {
 }
 cd "$site/list/mended" || exit 1
 completes check phpsa ch
-completes '--dtd --limit --nesting --json --help' phpsa check --
+completes '--dtd --limit --nesting --json --root --help' phpsa check --
 completes 'strict mini guests.php' phpsa check --dtd =
 completes guests.php phpsa run gu
 completes '--check --help' phpsa make --

@@ -8,16 +8,19 @@ pub(crate) fn takes(word: &str, name: &str) -> bool
     ensures { result ≡ spec.takes word.now name.now }
 {
     if word == "check" {
-        return name == "dtd" || name == "limit";
+        return name == "dtd" || name == "limit" || name == "root";
     }
     if word == "run" {
-        return name == "request" || name == "steps";
+        return name == "request" || name == "steps" || name == "root";
     }
     if word == "page" {
-        return name == "dtd";
+        return name == "dtd" || name == "root";
     }
-    if word == "grammar" || word == "make" {
+    if word == "grammar" {
+        return name == "root";
+    }
+    if word == "make" {
         return false;
     }
-    word == "site" && (name == "dtd" || name == "limit")
+    word == "site" && (name == "dtd" || name == "limit" || name == "root")
 }

@@ -17,6 +17,7 @@ mod deciding;
 mod doing;
 mod grammars;
 mod lists;
+mod loading;
 mod made;
 mod making;
 mod page;

@@ -100,6 +100,10 @@ no_definition_file : definition_text (definition.File (dtd.Missing (codes "d.dtd
 unfolding shown_name decoded chars encode_utf8
 no_definition_file = refl
 
+outside_of_the_root : definition_text (definition.File (dtd.Outside (codes "../d"))) ≡ codes "phpsa: Dtd Outside ../d" ++ 10 ∷ []
+unfolding shown_name decoded chars encode_utf8
+outside_of_the_root = refl
+
 its_status : definition_status (definition.File (dtd.Missing (codes "d.dtd"))) ≡ Missing
 its_status = refl
 
@@ -140,7 +144,7 @@ a_status : status_of Usage ≡ 9
 a_status = refl
 
 the_usage : usage_text None
-    ≡ codes "phpsa: Usage\na number is one to eight decimal digits that are not all 0\nphpsa check FILE [--dtd D] [--limit N] [--nesting] [--json]\nphpsa run FILE [--request FILE] [--steps N]\nphpsa page FILE [--dtd D]\nphpsa grammar FILE\nphpsa make N [--check]\nphpsa site FILE [--dtd D] [--limit N] [--nesting]\nphpsa --help\nphpsa --version\n"
+    ≡ codes "phpsa: Usage\na number is one to eight decimal digits that are not all 0\nphpsa check FILE [--dtd D] [--limit N] [--nesting] [--json] [--root FOLDER]\nphpsa run FILE [--request FILE] [--steps N] [--root FOLDER]\nphpsa page FILE [--dtd D] [--root FOLDER]\nphpsa grammar FILE [--root FOLDER]\nphpsa make N [--check]\nphpsa site FILE [--dtd D] [--limit N] [--nesting] [--root FOLDER]\nphpsa --help\nphpsa --version\n"
 the_usage = refl
 
 a_reason : reason_text (Some (codes "unexpected argument 'x'")) ≡ codes "unexpected argument 'x'" ++ 10 ∷ []

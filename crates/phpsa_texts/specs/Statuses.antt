@@ -66,6 +66,7 @@ fault_status other = exit.Fault
 -- where a program is not loaded
 abbrev pub load_status : LoadRefusal → Exit
 load_status (load.Missing name) = Missing
+load_status (load.Outside name) = Script
 load_status (load.ReadFault name) = ReadFault
 load_status (load.TooLong name len) = Input
 load_status (load.Script name fault) = Script
