@@ -1,16 +1,16 @@
 -- The files in the order of their includes are those that the program reads.
-use Rattle.std.proofs.Common.{◌≡◌, ◌∙◌, ℕ, zero, suc, true, List, [], ◌∷◌, ◌++◌, Some, slice_get, inl, inr, refl, sym, ap, subst, arith, true≢false}
+use Rattle.std.proofs.Common.{◌≡◌, ◌∙◌, ℕ, true, List, [], ◌∷◌, ◌++◌, Some, slice_get, inl, inr, refl, sym, ap, subst, arith, true≢false}
 use Rattle.std.specs.Prelude.{◌⊎◌}
 use Rattle.std.specs.List.{Contains}
-use Rattle.std.proofs.lemmas.List.Elements.{Contains-append_cases, Contains-push_cases, Contains-append_left, Contains-append_right}
+use Rattle.std.proofs.lemmas.List.Elements.{Contains-push_cases, Contains-append_left, Contains-append_right}
 use Rattle.php_syntax.specs.Trees.{PlainFile}
 use Rattle.strong_components.proofs.OrderListLemmas.{push_cases}
 use Rattle.program_rules.specs.Files.{Held, HasTree, HasOneTree}
 use Rattle.program_rules.specs.Includes.{Reads, itself, included, includes_of_file}
 use Rattle.program_rules.specs.Programs.{ReadFile, AreRead}
 use Rattle.program_files.specs.Order.{is_read, Reached, begun, again, next}
-use Rattle.program_files.proofs.NameLemmas.{still_read, now_read, tree_there, read_at, contains_later}
-use Rattle.program_files.proofs.ReachedLemmas.{first_or_later, no_member, paths_read, files_read}
+use Rattle.program_files.proofs.NameLemmas.{still_read, now_read, tree_there, read_at}
+use Rattle.program_files.proofs.ReachedLemmas.{first_or_later, no_member, files_read}
 
 -- what a file includes is read, or is still to be looked at
 closed : (held : Held) (name : List ℕ) (files : List ReadFile) (paths : List (List ℕ)) → Reached (HasTree held) name files paths → (file : ReadFile) → Contains files file → (path : List ℕ)

@@ -1,5 +1,5 @@
 -- What stands on the outputs says of what is held what a reply says of what is found.
-use Rattle.std.proofs.Common.{◌≡◌, ℕ, List, Bool, length, inl, inr, refl, sym, subst}
+use Rattle.std.proofs.Common.{ℕ, List, sym, subst}
 use Rattle.script_meaning.specs.Programs.{PlainProgram}
 use Rattle.script_meaning.specs.Requests.{PlainRequest}
 use Rattle.dtd_model.specs.Table.{Table}

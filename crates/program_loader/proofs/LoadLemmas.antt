@@ -3,18 +3,18 @@ use Rattle.std.proofs.Common.{◌≡◌, ◌∙◌, ℕ, true, List, [], ◌∷�
 use Rattle.std.specs.Prelude.{◌⊎◌}
 use Rattle.php_syntax.specs.Trees.{PlainFile}
 use Rattle.std.specs.List.{Contains}
-use Rattle.io_edge.specs.Told.{Content, Tells}
-use Rattle.io_edge.specs.Names.{normal, beside}
+use Rattle.io_edge.specs.Told.{Tells}
+use Rattle.io_edge.specs.Names.{normal}
 use Rattle.script_meaning.specs.Programs.{PlainProgram}
-use Rattle.program_rules.specs.Files.{Held, HasScript, HasTree, HasOneScript, HasOneTree}
-use Rattle.program_rules.specs.Includes.{includes_of_file, Reads, Writes, Asks, to_read, first, AllStayInside}
+use Rattle.program_rules.specs.Files.{Held, HasTree, HasOneScript, HasOneTree}
+use Rattle.program_rules.specs.Includes.{includes_of_file, Reads, Writes, Asks, to_read, first}
 use Rattle.program_rules.specs.Limits.{IsWithin}
 use Rattle.program_rules.specs.Programs.{ReadFile, AreRead, AreMissed, HasNoCycle, IsProgram}
 use Rattle.program_files.specs.declared.refusal.LoadRefusal.{LoadRefusal}
 use Rattle.program_files.specs.declared.refusal.LoadRefusal.TheVariants.{Missing, Outside, ReadFault, TooLong, Script, IncludeCycle, DoubleFunction, UnknownFunction, Arity, TooMany, Memory}
 use Rattle.program_files.specs.Order.{is_read, Reached}
 use Rattle.program_files.specs.Source.{SourceCall}
-use Rattle.program_files.specs.Causes.{IsReading, IsSettled, HasSettledTree, ReadsAll, StopsAt, IsNext, IsReadCause}
+use Rattle.program_files.specs.Causes.{IsSettled, ReadsAll, StopsAt, IsNext, IsReadCause}
 use Rattle.program_files.proofs.NameLemmas.{tree_there}
 use Rattle.program_files.proofs.ReachedLemmas.{files_read}
 use Rattle.program_files.proofs.Among.{there_read}
@@ -51,7 +51,7 @@ Stand = OfOrder (λ held files order name. StandsForProgram held name files (pro
 -- an include of a file that the program reads is settled
 settled_so : OneScriptEach → (call : SourceCall) (root name : List ℕ) (files : List ReadFile) (all : ReadsAll call root name files) → AreRead all.reading.held (normal name) files → (file written : List ℕ) → Reads all.reading.held (normal name) file
     → Writes all.reading.held file written → IsSettled root all.reading.held files all.missed file written
-settled_so scripts call root name files all read file written reads (script, (has, own)) =
+settled_so scripts call root name files all read file written reads (script, has, own) =
     let f = read.all file reads in
     let s = all.settled (record { name = file; tree = f.0 }) f.1 in
     s.settled written (subst (λ (t : PlainFile). Contains (includes_of_file t) written) (scripts all.reading.held file script s.tree.script has s.tree.has_script) own)
@@ -136,6 +136,7 @@ program_of_files held name files order program read acyclic st make p = (
 )
 
 pub loaded : OneTreeEach → OneScriptEach → ReadsTheProgram → ArePrograms → OfOrder (λ held files order name. HasNoCycle held name) → Stand → (call : SourceCall) (root name : List ℕ) (files : List ReadFile) (program : PlainProgram) → ReadsAll call root name files → Make files (normal name) program → Loads call root name program
+unfolding files_from
 loaded one scripts reading programs acyclic stand call root name files program all make =
     let n : List ℕ = normal name in
     let held : Held = all.reading.held in
@@ -151,6 +152,7 @@ memory call root name files all = (record { files = files; missed = all.missed; 
 
 by_order : OneTreeEach → OneScriptEach → ReadsTheProgram → OfFiles (λ held files name. AreHeld held files) → (call : SourceCall) (root name : List ℕ) (files : List ReadFile) → ReadsAll call root name files
     → (refusal : LoadRefusal) → IsOrderCause files refusal → IsLoadCause call root name refusal
+unfolding files_from
 by_order one scripts reading has call root name files all (IncludeCycle path) (there, leads) =
     let held : Held = all.reading.held in
     let read = reading held (normal name) files (one held) all.reading.reached in
@@ -173,6 +175,7 @@ by_order one scripts reading has call root name files all (TooMany count) cause 
 
 broken : OneTreeEach → OneScriptEach → ReadsTheProgram → OfOrder (λ held files order name. HasNoCycle held name) → (call : SourceCall) (root name : List ℕ) (files : List ReadFile) → ReadsAll call root name files
     → (refusal : LoadRefusal) → BreakRules files refusal → BreaksRule call root name refusal
+unfolding files_from
 broken one scripts reading acyclic call root name files all refusal b =
     let held : Held = all.reading.held in record {
       source = files_from scripts call root name files all (reading held (normal name) files (one held) all.reading.reached);
@@ -196,6 +199,7 @@ by_rules one scripts reading acyclic call root name files all (TooMany count) b 
 
 by_size : OneTreeEach → OneScriptEach → ReadsTheProgram → OfOrder (λ held files order name. HasNoCycle held name) → Stand → (call : SourceCall) (root name : List ℕ) (files : List ReadFile) → ReadsAll call root name files
     → (refusal : LoadRefusal) → PassLimit files (normal name) refusal → IsLoadCause call root name refusal
+unfolding files_from
 by_size one scripts reading acyclic stand call root name files all (TooMany count) p =
     let held : Held = all.reading.held in
     let n : List ℕ = normal name in

@@ -4,6 +4,7 @@ use Rattle.std.specs.Prelude.{◌⊎◌, ◌||◌, is_some, if◌then◌else◌}
 use Rattle.std.specs.List.{Contains, find}
 use Rattle.std.proofs.lemmas.List.Elements.{Contains-append_right}
 use Rattle.text_base.specs.declared.limits.TheConstants.{FILE_LIMIT}
+use Rattle.program_rules.specs.declared.limits.TheConstants.{PLACE_LIMIT}
 use Rattle.php_syntax.specs.Tokens.{PlainToken}
 use Rattle.php_syntax.specs.Trees.{PlainFile}
 use Rattle.lexical_grammar.specs.declared.fault.LexicalFault.{LexicalFault}
@@ -78,9 +79,9 @@ asked_here : (content : Content) (name path : List ℕ) (p : PlainProgram) (h : 
 asked_here content name path p h other agrees main asks = asks_here h.held other (normal name) (same_so content name p h other agrees main) path asks
 
 -- a name that is asked for and is there is read
-there_reads : (content : Content) (name path bytes : List ℕ) (p : PlainProgram) (h : HoldsProgram content name p) → Asks h.held (normal name) path → h.held.bytes path ≡ Some bytes → Reads h.held (normal name) path
-there_reads content name path bytes p h (to_read _ reads) is = reads
-there_reads content name _ bytes p h (first file written reads (script, (has, own))) is =
+there_reads : (content : Content) (name : List ℕ) (p : PlainProgram) (h : HoldsProgram content name p) (path bytes : List ℕ) → Asks h.held (normal name) path → h.held.bytes path ≡ Some bytes → Reads h.held (normal name) path
+there_reads content name p h path bytes (to_read _ reads) is = reads
+there_reads content name p h _ bytes (first file written reads (script, has, own)) is =
     let named : found_name h.held file written ≡ beside h.held.main written = found_first h.held file written (ap (λ (o : Option (List ℕ)). is_some o) is) in
     let paths : includes_of_file (with_found_names h.held file script) ≡ map (found_name h.held file) (includes_of_file script) = paths_of_file (found_name h.held file) script in
     let c : Contains (map (found_name h.held file) (includes_of_file script)) (found_name h.held file written) = contains_map (found_name h.held file) (includes_of_file script) written own in
@@ -97,8 +98,8 @@ not_missing content held path s none =
 
 -- no include is missing
 none_missing : Laws → (call : SourceCall) (root name written : List ℕ) (p : PlainProgram) (h : HoldsProgram call.content name p) → IsMissing call root name written → ⊥
-none_missing laws call root name written p h (inl (is, (none, rest))) = not_missing call.content h.held (normal name) (script_at call.content name p h (normal name) itself) none
-none_missing laws call root name written p h (inr (n, (inside, (first_gone, next_gone)))) =
+none_missing laws call root name written p h (inl (is, none, counted, rises)) = not_missing call.content h.held (normal name) (script_at call.content name p h (normal name) itself) none
+none_missing laws call root name written p h (inr (n, inside, first_gone, next_gone)) =
     let gone = n.reading.not_there n.next next_gone in
     let reads = laws.looked n.reading.held (normal name) n.files (n.next ∷ n.paths) n.next n.reading.reached (0, omega arith, refl) in
     let here = reads_here h.held n.reading.held (normal name) (same_so call.content name p h n.reading.held n.reading.agrees n.reading.main) n.next reads in
@@ -223,8 +224,8 @@ not_many_missed call name p h m many =
     omega (arith, no_more, few, many)
 
 not_many : Laws → (call : SourceCall) (name : List ℕ) (p : PlainProgram) (h : HoldsProgram call.content name p) → HasTooMany call name → ⊥
-not_many laws call name p h (inl (path, (s, (many, ((bytes, told), misses))))) = not_many_files laws call name path p h s many bytes told
-not_many laws call name p h (inr (m, (many, counts))) = not_many_missed call name p h m many
+not_many laws call name p h (inl (path, s, many, (bytes, told), misses)) = not_many_files laws call name path p h s many bytes told
+not_many laws call name p h (inr (m, many, counts)) = not_many_missed call name p h m many
 
 -- a program within the limits passes none
 within_passes : (places : ℕ) (p : PlainProgram) (count : ℕ) → IsWithin places p → PassesLimit places p count → ⊥
@@ -281,19 +282,19 @@ pub not_refused : Laws → ReadingLaws → (call : SourceCall) (root name : List
     → (Rises call.faults call.faults' → ⊥) → IsLoadCause call root name refusal → refusal ≡ Memory
 not_refused laws reading call root name p (Missing written) h short inside calm (named, (missing, faults)) = absurd (none_missing laws call root name written p h missing)
 not_refused laws reading call root name p (Outside written) h short inside calm (named, (out, faults)) = absurd (none_outside call root name written p h inside named out)
-not_refused laws reading call root name p (ReadFault path) h short inside calm (named, (stops, (rises, misses))) = absurd (calm rises)
-not_refused laws reading call root name p (TooLong path len) h short inside calm (named, (stops, (over, (least, counts)))) =
+not_refused laws reading call root name p (ReadFault path) h short inside calm (named, (stops, rises, misses)) = absurd (calm rises)
+not_refused laws reading call root name p (TooLong path len) h short inside calm (named, (stops, over, least, faults, misses)) =
     let asks = asked_so call name path p h named in
     absurd (not_long call.content h.held path len (h.told path asks) (λ bytes is. short path bytes asks is) over least)
-not_refused laws reading call root name p (Script path fault) h short inside calm (named, (stops, ((bytes, (told, broken)), counts))) =
+not_refused laws reading call root name p (Script path fault) h short inside calm (named, (stops, (bytes, told, broken), faults, misses)) =
     let asks = asked_so call name path p h named in
-    let reads = there_reads call.content name path bytes p h asks (told_there call.content name path bytes p h asks told) in
+    let reads = there_reads call.content name p h path bytes asks (told_there call.content name path bytes p h asks told) in
     absurd (not_none reading call.content h.held path bytes fault (script_at call.content name p h path reads) told broken)
 not_refused laws reading call root name p (IncludeCycle path) h short inside calm cause = absurd (not_circular laws call root name path p h cause)
 not_refused laws reading call root name p (DoubleFunction function) h short inside calm cause = not_broken laws call root name p (DoubleFunction function) h cause
 not_refused laws reading call root name p (UnknownFunction function) h short inside calm cause = not_broken laws call root name p (UnknownFunction function) h cause
 not_refused laws reading call root name p (Arity function) h short inside calm cause = not_broken laws call root name p (Arity function) h cause
-not_refused laws reading call root name p (TooMany count) h short inside calm (inl (says, (many, faults))) = absurd (not_many laws call name p h many)
+not_refused laws reading call root name p (TooMany count) h short inside calm (inl (says, many, faults)) = absurd (not_many laws call name p h many)
 not_refused laws reading call root name p (TooMany count) h short inside calm (inr large) = absurd (not_large laws call root name count p h large)
 not_refused laws reading call root name p Memory h short inside calm counts = refl
 

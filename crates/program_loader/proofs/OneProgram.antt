@@ -137,16 +137,16 @@ also_read content held other name told answered main path (included file _ tree 
     let script = script_moved other held file has.script (sym here) has.has_script in
     let firsts : (written : List ℕ) → Contains (includes_of_file has.script) written → held.bytes (beside other.main written) ≡ other.bytes (beside other.main written) = λ written c.
     sym (answer_is content held other name (beside other.main written) told answered
-    (subst (λ (m : List ℕ). Asks held (normal name) (beside m written)) (sym main) (first file written reads (has.script, (has.has_script, c))))
-    (first file written r (has.script, (script, c)))) in
+    (subst (λ (m : List ℕ). Asks held (normal name) (beside m written)) (sym main) (first file written reads (has.script, has.has_script, c)))
+    (first file written r (has.script, script, c))) in
     included file path tree r (tree_moved other held file tree (sym main) (sym here) has firsts) own
 
 also_asked : (content : Content) (held other : Held) (name : List ℕ) → TellsAll content held name → AreAnswered content other name → other.main ≡ held.main → (path : List ℕ) → Asks held (normal name) path → Asks other (normal name) path
 also_asked content held other name told answered main path (to_read _ reads) = to_read path (also_read content held other name told answered main path reads)
-also_asked content held other name told answered main _ (first file written reads (script, (has, own))) =
+also_asked content held other name told answered main _ (first file written reads (script, has, own)) =
     let r = also_read content held other name told answered main file reads in
     let here : other.bytes file ≡ held.bytes file = answer_is content held other name file told answered (to_read file reads) (to_read file r) in
-    subst (λ (m : List ℕ). Asks other (normal name) (beside m written)) main (first file written r (script, (script_moved other held file script (sym here) has, own)))
+    subst (λ (m : List ℕ). Asks other (normal name) (beside m written)) main (first file written r (script, script_moved other held file script (sym here) has, own))
 
 pub answered_so : (content : Content) (held other : Held) (name : List ℕ) → TellsAll content held name → AreAnswered content other name → other.main ≡ held.main → AreSame held other (normal name)
 answered_so content held other name told answered main = record {

@@ -48,7 +48,7 @@ tree_moved held other path tree main same t firsts = record {
 pub tree_here : (held other : Held) (name : List ℕ) → AreSame held other name → (path : List ℕ) (tree : PlainFile) → Reads held name path → HasTree other path tree → HasTree held path tree
 tree_here held other name same path tree reads t =
     let here = same.bytes path (to_read path reads) in
-    tree_moved held other path tree same.main here t (λ written own. same.bytes (beside held.main written) (first path written reads (t.script, (script_moved held other path t.script here t.has_script, own))))
+    tree_moved held other path tree same.main here t (λ written own. same.bytes (beside held.main written) (first path written reads (t.script, script_moved held other path t.script here t.has_script, own)))
 
 pub reads_here : (held other : Held) (name : List ℕ) → AreSame held other name → (path : List ℕ) → Reads other name path → Reads held name path
 reads_here held other name same path itself = itself
@@ -57,7 +57,7 @@ reads_here held other name same path (included file _ tree reads has own) =
     included file path tree r (tree_here held other name same file tree r has) own
 
 pub writes_here : (held other : Held) (name : List ℕ) → AreSame held other name → (file written : List ℕ) → Reads held name file → Writes other file written → Writes held file written
-writes_here held other name same file written reads (script, (has, own)) = (script, (script_moved held other file script (same.bytes file (to_read file reads)) has, own))
+writes_here held other name same file written reads (script, has, own) = (script, script_moved held other file script (same.bytes file (to_read file reads)) has, own)
 
 pub asks_here : (held other : Held) (name : List ℕ) → AreSame held other name → (path : List ℕ) → Asks other name path → Asks held name path
 asks_here held other name same path (to_read _ reads) = to_read path (reads_here held other name same path reads)

@@ -149,13 +149,13 @@ beside_it = refl
 
 outer_writes : Premises → (file written : List ℕ) → file ≡ codes "t.php" → Writes held file written → written ≡ codes "a.php"
 unfolding includes_of_file includes_in
-outer_writes ps file written same (script, (has, own)) =
+outer_writes ps file written same (script, has, own) =
     let is : script ≡ outer_tree = ps.one_script (codes "t.php") script outer_tree (subst (λ (n : List ℕ). HasScript held n script) same has) (outer_script ps.outer_within) in
     only_member (codes "a.php") written (subst (λ (t : PlainFile). Contains (includes_of_file t) written) is own)
 
 inner_writes : Premises → (file written : List ℕ) → file ≡ codes "a.php" → Writes held file written → ⊥
 unfolding includes_of_file includes_in
-inner_writes ps file written same (script, (has, own)) =
+inner_writes ps file written same (script, has, own) =
     let is : script ≡ inner_tree = ps.one_script (codes "a.php") script inner_tree (subst (λ (n : List ℕ). HasScript held n script) same has) (inner_script ps.inner_within) in
     no_member written (subst (λ (t : PlainFile). Contains (includes_of_file t) written) is own)
 

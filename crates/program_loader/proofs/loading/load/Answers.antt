@@ -1,5 +1,4 @@
-use Rattle.std.proofs.Common.{◌≡◌, ◌∙◌, List, ℕ, Err, sym, subst, rules}
-use Rattle.io_edge.specs.Names.{normal}
+use Rattle.std.proofs.Common.{◌≡◌, List, ℕ, Err, sym, subst, rules}
 use Rattle.program_rules.specs.View.{program_of}
 use Rattle.program_files.specs.View.{files_of}
 use Rattle.program_files.specs.declared.refusal.LoadRefusal.TheVariants.{Memory}
