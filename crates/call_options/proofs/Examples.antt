@@ -76,3 +76,6 @@ no_text_of_toml = refl
 
 the_second_line : line_at (codes "a\nb\nc") 2 ≡ 2
 the_second_line = refl
+
+a_root : with_options (codes "run" ∷ codes "t.php" ∷ []) ((codes "root", codes "..") ∷ (codes "dtd", codes "mini") ∷ []) ≡ codes "run" ∷ codes "--root=.." ∷ codes "t.php" ∷ []
+a_root = refl
