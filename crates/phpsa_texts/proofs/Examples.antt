@@ -18,8 +18,10 @@ use Rattle.dtd_reader.specs.declared.refusal.DtdRefusal.TheVariants as dtd
 use Rattle.document_types.specs.declared.refusal.DefinitionRefusal.TheVariants as definition
 use Rattle.request_reading.specs.declared.refusal.RequestRefusal.TheVariants as request
 use Rattle.plain_values.specs.declared.fault.Fault.TheVariants as fault
-use Rattle.phpsa_texts.specs.Statuses.{status_of, conclusion_status, judgment_status, load_status, definition_status}
-use Rattle.phpsa_texts.specs.Texts.{yes_answer, no_answer, passed_answer, summary_text, long_text, judgment_text, load_text, file_text, definition_text, states_text, request_text, fault_text, spent_text, deep_text, size_text, reason_text, usage_text, words_text, write_fault_text}
+use Rattle.call_options.specs.declared.refusal.OptionsFault.TheVariants as options
+use Rattle.call_options.specs.declared.refusal.OptionsRefusal.TheVariants as option
+use Rattle.phpsa_texts.specs.Statuses.{status_of, conclusion_status, judgment_status, load_status, definition_status, options_status}
+use Rattle.phpsa_texts.specs.Texts.{yes_answer, no_answer, passed_answer, summary_text, long_text, judgment_text, load_text, file_text, definition_text, states_text, request_text, fault_text, spent_text, deep_text, size_text, reason_text, usage_text, options_text, words_text, write_fault_text}
 
 a_yes : yes_answer Plain ≡ 121 ∷ 101 ∷ 115 ∷ 10 ∷ []
 a_yes = refl
@@ -148,6 +150,17 @@ the_usage = refl
 a_reason : reason_text (Some (codes "unexpected argument 'x'")) ≡ codes "unexpected argument 'x'" ++ 10 ∷ []
 unfolding shown_name decoded chars encode_utf8
 a_reason = refl
+
+no_toml : options_text (options.Text (option.NotToml 3)) ≡ codes "phpsa: NotToml 3" ++ 10 ∷ []
+unfolding digits
+no_toml = refl
+
+no_option : options_text (options.Text (option.Member (codes "json"))) ≡ codes "phpsa: Options json" ++ 10 ∷ []
+unfolding shown_name decoded chars encode_utf8
+no_option = refl
+
+options_are_usage : options_status (options.Text (option.Member (codes "json"))) ≡ Usage
+options_are_usage = refl
 
 the_second_word : words_text 2 ≡ codes "phpsa: Words 2" ++ 10 ∷ []
 unfolding digits

@@ -18,6 +18,11 @@ use Rattle.request_reading.specs.declared.refusal.RequestRefusal.{RequestRefusal
 use Rattle.request_reading.specs.declared.refusal.RequestRefusal.TheVariants as request
 use Rattle.dtd_reader.specs.declared.refusal.DtdRefusal.{DtdRefusal}
 use Rattle.dtd_reader.specs.declared.refusal.DtdRefusal.TheVariants as dtd
+use Rattle.call_options.specs.Reading.{file_name}
+use Rattle.call_options.specs.declared.refusal.OptionsFault.{OptionsFault}
+use Rattle.call_options.specs.declared.refusal.OptionsFault.TheVariants as options
+use Rattle.call_options.specs.declared.refusal.OptionsRefusal.{OptionsRefusal}
+use Rattle.call_options.specs.declared.refusal.OptionsRefusal.TheVariants as option
 use Rattle.document_types.specs.declared.refusal.DefinitionRefusal.{DefinitionRefusal}
 use Rattle.document_types.specs.declared.refusal.DefinitionRefusal.TheVariants as definition
 use Rattle.plain_values.specs.declared.fault.Fault.{Fault}
@@ -172,6 +177,17 @@ request_text request.NotJson = codes "phpsa: NotJson" ++ 10 ∷ []
 request_text request.NotRequest = codes "phpsa: NotRequest" ++ 10 ∷ []
 request_text (request.NotAdmitted path) = named_text (codes "NotAdmitted") path
 request_text request.Memory = memory_text
+
+-- on `err`, where the text of a file gives no options: the line that is no TOML, from 1, or the member that is none
+abbrev pub option_text : OptionsRefusal → List ℕ
+option_text (option.NotToml line) = number_text (codes "NotToml") line
+option_text (option.Member name) = named_text (codes "Options") name
+option_text option.Memory = memory_text
+
+-- on `err`, where a call has no options of its file
+abbrev pub options_text : OptionsFault → List ℕ
+options_text (options.File fault) = file_text fault file_name
+options_text (options.Text refusal) = option_text refusal
 
 -- on `err`, for a definition in files: with the name of the file where one is not read
 abbrev pub dtd_refusal_text : DtdRefusal → List ℕ
