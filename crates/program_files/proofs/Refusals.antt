@@ -144,9 +144,9 @@ is_missing call root name main files missed i rest is has l =
 
 -- an include leads out
 out_parts : (root : List ℕ) (held : Held) (files : List ReadFile) (missed : List (List ℕ)) (i : Include) → ((path : List ℕ) → is_among missed path ≡ true → held.bytes path ≡ None) → IsLook root held.main files missed i look.LeadsOut
-    → (is_outside root held.main i.1 ≡ true) ⊎ ((is_at_first held i.1 ≡ false) × (is_outside root i.0 i.1 ≡ true))
+    → (is_outside root held.main i.1 ≡ true) ⊎ ((is_at_first held i.1 ≡ false) × Contains missed (beside held.main i.1) × (is_outside root i.0 i.1 ≡ true))
 out_parts root held files missed i gone (inl (out, last)) = inl out
-out_parts root held files missed i gone (inr ((inside, miss), two, out)) = inr (not_first held i.1 two (gone (beside held.main i.1) miss), out)
+out_parts root held files missed i gone (inr ((inside, miss), two, out)) = inr (not_first held i.1 two (gone (beside held.main i.1) miss), among_contains missed (beside held.main i.1) miss, out)
 
 pub leads_out : (call : SourceCall) (root name main : List ℕ) (files : List ReadFile) (missed : List (List ℕ)) (i : Include) (rest : List Include) → main ≡ normal name → (has : HasRead call root name (state files missed (i ∷ rest)))
     → IsLook root main files missed i look.LeadsOut → IsReadCause call root name (Outside i.1)

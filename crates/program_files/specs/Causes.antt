@@ -98,7 +98,8 @@ abbrev pub LeadsOut : SourceCall → List ℕ → List ℕ → List ℕ → Type
 LeadsOut call root name written =
     (n : IsNext call name written) ×
     ((is_outside root n.reading.held.main written ≡ true)
-    ⊎ ((is_at_first n.reading.held written ≡ false) × (is_outside root n.file written ≡ true)))
+    ⊎ ((is_at_first n.reading.held written ≡ false) × Contains n.missed (beside n.reading.held.main written)
+    × (is_outside root n.file written ≡ true)))
 
 -- so many names were missed, by what is told of them, and no more misses were counted
 pub record HasMissed (call : SourceCall) (name : List ℕ) : Type 0 where

@@ -118,7 +118,7 @@ none_outside call root name written p h inside w (n, out) =
           let here : is_outside root h.held.main written ≡ true = ap (λ (m : List ℕ). is_outside root m written) (sym same.main) ∙ first_out in
           let no : false ≡ true = sym stays.first ∙ here in cc
           )
-      | inr (second, second_out) ↦ (
+      | inr (second, missed, second_out) ↦ (
           let asks = first n.file written reads writes in
           let at : is_at_first h.held written ≡ is_at_first other written =
           ap (λ (o : Option (List ℕ)). has_one_place written || is_some o) (sym (same.bytes (beside h.held.main written) asks)) ∙ ap (λ (m : List ℕ). has_one_place written || is_some (other.bytes (beside m written))) (sym same.main) in

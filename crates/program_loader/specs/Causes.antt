@@ -84,7 +84,8 @@ pub record IsTooLarge (call : SourceCall) (root name : List ℕ) (count : ℕ) :
 -- the cause of each refusal of a name in a root, in the order of the tests: while files are read, by cycles of includes, by the rules on
 -- functions, by size
 abbrev pub IsLoadCause : SourceCall → List ℕ → List ℕ → LoadRefusal → Type 0
-IsLoadCause call root name (Missing written) = ((written ≡ name) ⊎ IsWritten call name written) × IsReadCause call root name (Missing written)
+IsLoadCause call root name (Missing written) =
+    ((written ≡ name) ⊎ IsWritten call name written) × IsReadCause call root name (Missing written)
 IsLoadCause call root name (Outside written) = IsWritten call name written × IsReadCause call root name (Outside written)
 IsLoadCause call root name (ReadFault path) = IsNamed call name path × IsReadCause call root name (ReadFault path)
 IsLoadCause call root name (TooLong path len) = IsNamed call name path × IsReadCause call root name (TooLong path len)
