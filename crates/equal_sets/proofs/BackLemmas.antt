@@ -44,7 +44,7 @@ module _ (s j : OpSystem) (numbers : List ℕ) (sets : List nt.Nt) (are : AreNum
   S = RowOf j
 
   -- the number of a symbol, 0 of what is no nonterminal
-  number : Symbol → ℕ
+  abbrev number : Symbol → ℕ
   number (Nt a) = number_of numbers a
   number (Range r) = 0
   number (Token t) = 0
@@ -216,13 +216,15 @@ module _ (s j : OpSystem) (numbers : List ℕ) (sets : List nt.Nt) (are : AreNum
 
   right_within : (n : ℕ) (d : nt.Nt) (right : Right) → number_of numbers d < n → Contains j.grammar.productions.items (record { left = set_of sets d; right = right }) → RightAt d right
   right_within zero d right lt has = absurd (omega (arith, lt))
-  right_within (suc n) d right lt has = by (set_of sets d) refl (fit.joins d)
+  right_within (suc n) d right lt has =
+      by (set_of sets d) refl (fit.joins d)
+      (λ to lower stands. right_within n to right (omega (arith, lower, lt)) (subst (λ (x : nt.Nt). Contains j.grammar.productions.items (record { left = x; right = right })) (sym stands) has))
     where
       o : From (set_of sets d) right
       o = from (set_of sets d) right has
 
-      by : (b : nt.Nt) → b ≡ set_of sets d → Joins s numbers sets d b → RightAt d right
-      by b e (Joins.itself same) = record {
+      by : (b : nt.Nt) → b ≡ set_of sets d → Joins s numbers sets d b → ((to : nt.Nt) → number_of numbers to < number_of numbers d → set_of sets to ≡ set_of sets d → RightAt to right) → RightAt d right
+      by b e (Joins.itself same) onward = record {
         within = d;
         own = o.own;
         takes = TakesOver.itself (Nt d);
@@ -230,7 +232,7 @@ module _ (s j : OpSystem) (numbers : List ℕ) (sets : List nt.Nt) (are : AreNum
         among = subst (λ (x : nt.Nt). Contains s.grammar.productions.items (record { left = x; right = o.own })) (sym e ∙ same) o.among;
         is = o.is;
       }
-      by b e (Joins.equal is) =
+      by b e (Joins.equal is) onward =
           let h = is.rights_back (record { left = set_of sets d; right = o.own }) o.among (sym e) in
           record {
             within = d;
@@ -240,10 +242,10 @@ module _ (s j : OpSystem) (numbers : List ℕ) (sets : List nt.Nt) (are : AreNum
             among = subst (Contains s.grammar.productions.items) (production_is h.other d h.other.right h.left refl) h.among;
             is = o.is ∙ h.alike;
           }
-      by b e (Joins.alias is) =
+      by b e (Joins.alias is) onward =
           let l = is.lower is.some is.among is.left in
           let to_stands : set_of sets l.to ≡ set_of sets d = l.stands ∙ e in
-          let more = right_within n l.to right (let low = l.lower in omega (arith, low, lt)) (subst (λ (x : nt.Nt). Contains j.grammar.productions.items (record { left = x; right = right })) (sym to_stands) has) in
+          let more = onward l.to l.lower to_stands in
           let first = SystemRow.of_one d (Nt l.to) (subst (Contains s.grammar.productions.items) (production_is is.some d (One (Nt l.to)) is.left l.right) is.among) in
           record {
             within = more.within;
@@ -269,7 +271,9 @@ module _ (s j : OpSystem) (numbers : List ℕ) (sets : List nt.Nt) (are : AreNum
 
   rule_within : (n : ℕ) (d operand : nt.Nt) (op : Op) → number_of numbers d < n → Contains j.ops.items (record { left = set_of sets d; op = op; operand = operand }) → RuleAt d operand op
   rule_within zero d operand op lt has = absurd (omega (arith, lt))
-  rule_within (suc n) d operand op lt has = by (set_of sets d) refl (fit.joins d)
+  rule_within (suc n) d operand op lt has =
+      by (set_of sets d) refl (fit.joins d)
+      (λ to lower stands. rule_within n to operand op (omega (arith, lower, lt)) (subst (λ (x : nt.Nt). Contains j.ops.items (record { left = x; op = op; operand = operand })) (sym stands) has))
     where
       o : FromRule (set_of sets d) operand op
       o = from_rule (set_of sets d) operand op has
@@ -277,8 +281,8 @@ module _ (s j : OpSystem) (numbers : List ℕ) (sets : List nt.Nt) (are : AreNum
       turns : IsCircular S (Nt (set_of sets d)) op (Nt operand) → IsCircular R (Nt (set_of sets d)) op (Nt o.own)
       turns c = cycle_back (set_of sets d) o.own op o.among (subst (λ (x : nt.Nt). IsCircular S (Nt (set_of sets d)) op (Nt x)) o.is c)
 
-      by : (b : nt.Nt) → b ≡ set_of sets d → Joins s numbers sets d b → RuleAt d operand op
-      by b e (Joins.itself same) =
+      by : (b : nt.Nt) → b ≡ set_of sets d → Joins s numbers sets d b → ((to : nt.Nt) → number_of numbers to < number_of numbers d → set_of sets to ≡ set_of sets d → RuleAt to operand op) → RuleAt d operand op
+      by b e (Joins.itself same) onward =
           let own_is : set_of sets d ≡ d = sym e ∙ same in
           record {
             within = d;
@@ -289,7 +293,7 @@ module _ (s j : OpSystem) (numbers : List ℕ) (sets : List nt.Nt) (are : AreNum
             is = o.is;
             cycle = λ c. subst (λ (x : nt.Nt). IsCircular R (Nt x) op (Nt o.own)) own_is (turns c);
           }
-      by b e (Joins.equal is) =
+      by b e (Joins.equal is) onward =
           let h = is.rules_back (record { left = set_of sets d; op = op; operand = o.own }) o.among (sym e) in
           let there : h.other ≡ record { left = d; op = op; operand = h.other.operand } = rule_is h.other d op h.left (sym h.same.op) in
           record {
@@ -301,10 +305,10 @@ module _ (s j : OpSystem) (numbers : List ℕ) (sets : List nt.Nt) (are : AreNum
             is = o.is ∙ h.same.operand;
             cycle = λ c. subst (IsInCycle s) there (h.same.cycle.0 (turns c));
           }
-      by b e (Joins.alias is) =
+      by b e (Joins.alias is) onward =
           let l = is.lower is.some is.among is.left in
           let to_stands : set_of sets l.to ≡ set_of sets d = l.stands ∙ e in
-          let more = rule_within n l.to operand op (let low = l.lower in omega (arith, low, lt)) (subst (λ (x : nt.Nt). Contains j.ops.items (record { left = x; op = op; operand = operand })) (sym to_stands) has) in
+          let more = onward l.to l.lower to_stands in
           let first = SystemRow.of_one d (Nt l.to) (subst (Contains s.grammar.productions.items) (production_is is.some d (One (Nt l.to)) is.left l.right) is.among) in
           record {
             within = more.within;

@@ -55,7 +55,7 @@ module _ (s j : OpSystem) (numbers : List ℕ) (sets : List nt.Nt) (fit : IsFit 
   -- a production is there by the sets, or takes over what stands for its left side already
   data Kept (p : Production) : Type 0 where
     there : Contains j.grammar.productions.items (production_of sets p) → Kept p
-    same : (c : nt.Nt) → p.right ≡ One (Nt c) → set_of sets c ≡ set_of sets p.left → Kept p
+    over : (c : nt.Nt) → p.right ≡ One (Nt c) → set_of sets c ≡ set_of sets p.left → Kept p
 
   kept : (p : Production) → Contains s.grammar.productions.items p → Kept p
   kept p has = by (set_of sets p.left) refl (fit.joins p.left)
@@ -67,7 +67,7 @@ module _ (s j : OpSystem) (numbers : List ℕ) (sets : List nt.Nt) (fit : IsFit 
           let left : o.other.left ≡ set_of sets p.left = o.left ∙ e in
           let still = still_left p.left o.other.left left in
           there (subst (Contains j.grammar.productions.items) (same_production sets p o.other (still ∙ left) o.alike) (ps.all o.other o.among still))
-      by b e (Joins.alias is) = let l = is.lower p has refl in same l.to l.right (l.stands ∙ e)
+      by b e (Joins.alias is) = let l = is.lower p has refl in over l.to l.right (l.stands ∙ e)
 
   kept_rule : (r : OpRule) → Contains s.ops.items r → Contains j.ops.items (rule_of sets r)
   kept_rule r has = by (set_of sets r.left) refl (fit.joins r.left)
@@ -93,7 +93,7 @@ module _ (s j : OpSystem) (numbers : List ℕ) (sets : List nt.Nt) (fit : IsFit 
         takes = TakesOver.through (Nt (set_of sets left)) (symbol_of sets x) (symbol_of sets x) (SystemRow.of_one (set_of sets left) (symbol_of sets x) h) (TakesOver.itself (symbol_of sets x));
         stands = refl;
       }
-      by (same c e f) = record {
+      by (over c e f) = record {
         within = Nt (set_of sets left);
         takes = TakesOver.itself (Nt (set_of sets left));
         stands = ap (λ (n : nt.Nt). Nt n) (sym f) ∙ ap (symbol_of sets) (sym (one_symbol x (Nt c) e));
@@ -110,7 +110,7 @@ module _ (s j : OpSystem) (numbers : List ℕ) (sets : List nt.Nt) (fit : IsFit 
     where
       by : Kept (record { left = left; right = Empty }) → HasRow S E (text_form []) (Nt (set_of sets left))
       by (there h) = record { form = text_form []; row = SystemRow.of_empty (set_of sets left) h; alike = Alike.text [] }
-      by (same c e f) = absurd (one_empty c e)
+      by (over c e f) = absurd (one_empty c e)
 
   two_row : (left : nt.Nt) (x y : Symbol) → Contains s.grammar.productions.items (record { left = left; right = Two x y }) → HasRow S E (join_form x y) (Nt (set_of sets left))
   two_row left x y has = by (kept (record { left = left; right = Two x y }) has)
@@ -121,7 +121,7 @@ module _ (s j : OpSystem) (numbers : List ℕ) (sets : List nt.Nt) (fit : IsFit 
         row = SystemRow.of_two (set_of sets left) (symbol_of sets x) (symbol_of sets y) h;
         alike = Alike.join x y (symbol_of sets x) (symbol_of sets y) (held x) (held y);
       }
-      by (same c e f) = absurd (one_two x y c e)
+      by (over c e f) = absurd (one_two x y c e)
 
   rule_row : (left operand : nt.Nt) (op : Op) → Contains s.ops.items (record { left = left; op = op; operand = operand }) → HasRow S E (apply_form op (Nt operand)) (Nt (set_of sets left))
   rule_row left operand op has = record {

@@ -1,6 +1,6 @@
 -- From places of rows to rows.
-use Rattle.std.proofs.Common.{◌≡◌, ◌∙◌, ◌<◌, ◌≤◌, ◌↔◌, ◌+◌, ℕ, Bool, true, List, [], ◌∷◌, length, get_or, map, Some, None, Contains, inl, inr, refl, sym, ap, subst, arith}
-use Rattle.std.specs.Prelude.{◌⊎◌, slice_get}
+use Rattle.std.proofs.Common.{◌≡◌, ◌∙◌, ◌<◌, ◌≤◌, ◌↔◌, ◌+◌, ℕ, zero, suc, Bool, true, false, List, [], ◌∷◌, length, get_or, map, Some, None, Contains, inl, inr, refl, sym, ap, subst, arith}
+use Rattle.std.specs.Prelude.{◌⊎◌, ◌==◌, slice_get}
 use Rattle.std.specs.List.{All, list_all}
 use Rattle.std.proofs.lemmas.Bool.{cases_lt}
 use Rattle.std.proofs.lemmas.Option.{slice_get_within, slice_get-get_or, get_or_from_slice_get, same_Some, slice_get_read}
@@ -157,6 +157,15 @@ module _ (s : OpSystem) (sets : List nt.Nt) where
             let none_has : Contains [] at.0 = subst (λ (l : List ℕ). Contains l at.0) none at.1 in
             absurd (omega (arith, none_has.1));
       }
+
+-- a number is 0 or not, by its test
+pub not_zero : (n : ℕ) → (n == 0) ≡ false → 0 < n
+not_zero zero e = absurd (cc)
+not_zero (suc n) e = omega arith
+
+pub is_zero : (n : ℕ) → (n == 0) ≡ true → n ≡ 0
+is_zero zero e = refl
+is_zero (suc n) e = absurd (cc)
 
 -- keys are below the count
 all_of : {X : Type 0} (P : X → Type 0) (xs : List X) → ((x : X) → Contains xs x → P x) → All P xs

@@ -154,13 +154,13 @@ pub so_far_kept : (rows : Rows) (sets : List nt.Nt) (done : List Bool) (x : nt.N
 so_far_kept rows sets done x below was = record {
   fit = was.fit;
   long = length-set done x.0 true ∙ was.long;
-  unsettled = λ a no. elim (is_or_not a x) [
-    | inl e ↦ absurd (true_false (is_done (set done x.0 true) x) (done_here done x (let l = was.long in omega (arith, below, l))) (subst (λ (y : nt.Nt). is_done (set done x.0 true) y ≡ false) e no))
-    | inr other ↦ was.unsettled a (sym (done_there done x a other) ∙ no)
+  unsettled = λ a open_yet. elim (is_or_not a x) [
+    | inl e ↦ absurd (true_false (is_done (set done x.0 true) x) (done_here done x (let l = was.long in omega (arith, below, l))) (subst (λ (y : nt.Nt). is_done (set done x.0 true) y ≡ false) e open_yet))
+    | inr other ↦ was.unsettled a (sym (done_there done x a other) ∙ open_yet)
   ];
 }
 
-settled_below : (done : List Bool) (a : nt.Nt) → is_done done a ≡ true → a.0 < length done
+pub settled_below : (done : List Bool) (a : nt.Nt) → is_done done a ≡ true → a.0 < length done
 settled_below done a is = elim (cases_lt a.0 (length done)) [
   | inl lt ↦ lt
   | inr ge ↦ absurd (true_false (is_done done a) is (get_or_past done a.0 false ge))
@@ -169,7 +169,7 @@ settled_below done a is = elim (cases_lt a.0 (length done)) [
 -- a nonterminal is settled, and another one stands for it
 pub so_far_joined : (rows : Rows) (sets : List nt.Nt) (done : List Bool) (x r : nt.Nt) → x.0 < rows.system.now.grammar.count → is_done done x ≡ false → IsSoFar rows sets done
     → MayStand rows.numbers.items sets done x r → Joins rows.system.now rows.numbers.items sets x r → IsSoFar rows (set sets x.0 r) (set done x.0 true)
-so_far_joined rows sets done x r below no was may joins = record {
+so_far_joined rows sets done x r below not_yet was may joins = record {
   fit = fit_more rows.system.now rows.numbers.items sets was.fit x r below (let lt = settled_below done r may.settled in let l = was.long in omega (arith, lt, l)) own differs may.still joins may.low;
   long = length-set done x.0 true ∙ was.long;
   unsettled = λ a still_no. elim (is_or_not a x) [
@@ -188,10 +188,10 @@ so_far_joined rows sets done x r below no was may joins = record {
 }
   where
     own : IsOpen sets x
-    own = was.unsettled x no
+    own = was.unsettled x not_yet
 
     differs : r ≡ x → ⊥
-    differs e = true_false (is_done done r) may.settled (subst (λ (y : nt.Nt). is_done done y ≡ false) (sym e) no)
+    differs e = true_false (is_done done r) may.settled (subst (λ (y : nt.Nt). is_done done y ≡ false) (sym e) not_yet)
 
 -- at first each nonterminal stands for itself
 pub record AreOwn (n : ℕ) (sets : List nt.Nt) (done : List Bool) : Type 0 where
@@ -210,14 +210,14 @@ one_own n sets done was = record {
   own = λ a. elim (cases_eq a.0 n) [
     | inl e ↦ get_or_push sets (record { 0 = n }) a a.0 (was.long ∙ sym e) ∙ sym (same_nt a (record { 0 = n }) e)
     | inr other ↦ elim (cases_lt a.0 n) [
-      | inl lt ↦ get_or_append_left sets (record { 0 = n } ∷ []) a.0 a (let l = was.long in omega (arith, lt, l)) ∙ was.own a
+      | inl lt ↦ get_or_append_left sets (record { 0 = n } ∷ []) a a.0 (let l = was.long in omega (arith, lt, l)) ∙ was.own a
       | inr ge ↦ get_or_past (sets ++ record { 0 = n } ∷ []) a.0 a (let l = was.long in let m = length_push sets (record { 0 = n }) in omega (arith, ge, other, l, m))
     ]
   ];
   none = λ a. elim (cases_eq a.0 n) [
     | inl e ↦ get_or_push done false false a.0 (was.many ∙ sym e)
     | inr other ↦ elim (cases_lt a.0 n) [
-      | inl lt ↦ get_or_append_left done (false ∷ []) a.0 false (let l = was.many in omega (arith, lt, l)) ∙ was.none a
+      | inl lt ↦ get_or_append_left done (false ∷ []) false a.0 (let l = was.many in omega (arith, lt, l)) ∙ was.none a
       | inr ge ↦ get_or_past (done ++ false ∷ []) a.0 false (let l = was.many in let m = length_push done false in omega (arith, ge, other, l, m))
     ]
   ];
@@ -233,5 +233,5 @@ own_so_far rows sets done are = record {
     joins = λ a. Joins.itself (are.own a);
   };
   long = are.many;
-  unsettled = λ a no. record { own = are.own a; alone = λ b e. sym (are.own b) ∙ e };
+  unsettled = λ a open_yet. record { own = are.own a; alone = λ b e. sym (are.own b) ∙ e };
 }

@@ -157,5 +157,5 @@ module _ (s : OpSystem) (numbers : List ℕ) (sets : List nt.Nt) (fit : IsFit s 
       let o = are.only r has in
       subst (λ (x : OpRule). rule_below n x ≡ true) (sym o.is)
       (both (nat_lt (set_of sets o.from.left).0 n) (nat_lt (set_of sets o.from.operand).0 n)
-        (lt-ltb (set_of sets o.from.left).0 n (fit.below o.from.left (rule_left_below n s.ops.items o.from s.rules_below o.among)))
-        (lt-ltb (set_of sets o.from.operand).0 n (fit.below o.from.operand (operand_below n s.ops.items o.from s.rules_below o.among)))))
+      (lt-ltb (set_of sets o.from.left).0 n (fit.below o.from.left (rule_left_below n s.ops.items o.from s.rules_below o.among)))
+      (lt-ltb (set_of sets o.from.operand).0 n (fit.below o.from.operand (operand_below n s.ops.items o.from s.rules_below o.among)))))

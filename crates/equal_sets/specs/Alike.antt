@@ -1,5 +1,5 @@
 -- When two nonterminals have the same rows by the sets, or one takes over the other. No public clause cites this.
-use Rattle.std.specs.Prelude.{◌≡◌, ◌<◌, ◌↔◌, ⊥, ℕ, List, length, Some, slice_get, slice_index_or, Contains}
+use Rattle.std.specs.Prelude.{◌≡◌, ◌<◌, ◌↔◌, ℕ, List, length, Some, slice_get, slice_index_or, Contains}
 use Rattle.text_base.specs.declared.numbers.Nt as nt
 use Rattle.cfg_grammar.specs.declared.symbol.Symbol.TheVariants.{Nt}
 use Rattle.cfg_grammar.specs.declared.production.Right.TheVariants.{One}

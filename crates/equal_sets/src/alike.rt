@@ -18,14 +18,21 @@ fn is_same_op(a: &Op, b: &Op) -> bool
     a == b
 }
 
+/// Whether both are one right side.
+fn is_same_right(a: Right, b: Right) -> bool
+    ensures { IsTrue result → a ≡ b }
+{
+    a == b
+}
+
 /// Whether the productions at two places have one right side by the sets.
 fn are_alike_at(rows: &Rows<'_>, sets: &[Nt], i: usize, j: usize) -> bool
     ensures { IsTrue result
         → AreAlikeAt rows.now.system.now.grammar.productions.items sets.now i j }
 {
     let productions = rows.system.grammar.productions.as_slice();
-    match (productions.get(i).copied(), productions.get(j).copied()) {
-        (Some(p), Some(q)) => right_of(sets, p.right) == right_of(sets, q.right),
+    match (productions.get(i), productions.get(j)) {
+        (Some(p), Some(q)) => is_same_right(right_of(sets, p.right), right_of(sets, q.right)),
         _ => false,
     }
 }
@@ -125,7 +132,11 @@ pub fn is_alias(rows: &Rows<'_>, sets: &[Nt], a: Nt, b: Nt) -> bool
     ensures { IsTrue result → IsAlias rows.now.system.now rows.now.numbers.items sets.now a b }
 {
     let places = places_at(rows.rights.as_slice(), a);
-    if places.is_empty() || !places_at(rows.rules.as_slice(), a).is_empty() {
+    if places.is_empty() {
+        return false;
+    }
+    let rules = places_at(rows.rules.as_slice(), a);
+    if !rules.is_empty() {
         return false;
     }
     for place in places {

@@ -2,7 +2,7 @@
 
 ghost use Rattle.std.specs.Prelude.{◌≡◌, ◌<◌, ◌↔◌, IsTrue, true, false, length, IfOk};
 ghost use Rattle.equal_sets.specs.Rows.{AreRows};
-ghost use Rattle.equal_sets.specs.Fit.{IsSoFar, MayStand, is_done};
+ghost use Rattle.equal_sets.specs.Fit.{IsSoFar, Joins, MayStand, is_done};
 
 use crate::alike::{is_alias, is_equal};
 use crate::renaming::set_of;
@@ -64,6 +64,21 @@ pub fn keep(rows: &Rows<'_>, sets: &mut Sets, a: Nt)
     sets.done[a.0 as usize] = true;
 }
 
+/// Whether the second nonterminal may stand for the first: it is taken over, or has the same rows.
+fn may_join(rows: &Rows<'_>, sets: &Sets, a: Nt, b: Nt) -> bool
+    requires rows { AreRows rows.now }
+    requires first { a.0 < rows.now.system.now.grammar.count }
+    requires second { b.0 < rows.now.system.now.grammar.count }
+    ensures { IsTrue result
+        → Joins rows.now.system.now rows.now.numbers.items sets.now.of.items a b }
+{
+    let of = sets.of.as_slice();
+    if is_alias(rows, of, a, b) {
+        return true;
+    }
+    is_equal(rows, of, a, b)
+}
+
 /// Settles that the second nonterminal stands for the first, where it may and is equal. Whether it
 /// does.
 pub fn join(rows: &Rows<'_>, sets: &mut Sets, a: Nt, b: Nt) -> bool
@@ -76,7 +91,7 @@ pub fn join(rows: &Rows<'_>, sets: &mut Sets, a: Nt, b: Nt) -> bool
     if !may_stand(rows, sets, a, b) {
         return false;
     }
-    if !is_alias(rows, sets.of.as_slice(), a, b) && !is_equal(rows, sets.of.as_slice(), a, b) {
+    if !may_join(rows, sets, a, b) {
         return false;
     }
     sets.of[a.0 as usize] = b;

@@ -113,7 +113,8 @@ fn by_number(alloc: Global, rows: &Rows<'_>) -> Result<Chains, NoMemory>
     for number in rows.numbers.as_slice() {
         keys.push(within(*number, count))?;
     }
-    chains_of(alloc, count, keys.as_slice())
+    let chains = chains_of(alloc, count, keys.as_slice())?;
+    Ok(chains)
 }
 
 /// What stands for each nonterminal. Linear in the system.

@@ -44,6 +44,11 @@ fn with_text(print: u64, text: &[u8]) -> u64 {
     made
 }
 
+/// The print with a number with its sign behind it.
+fn with_number(print: u64, number: i64) -> u64 {
+    with(with(print, u64::from(number < 0)), number.unsigned_abs())
+}
+
 /// The print with an operation behind it.
 fn with_op(print: u64, op: &Op) -> u64 {
     match op {
@@ -54,8 +59,8 @@ fn with_op(print: u64, op: &Op) -> u64 {
             with_text(with_text(with(print, 13), search.as_slice()), by.as_slice())
         }
         Op::Cut { start, len } => match len {
-            Some(len) => with(with(with(print, 14), *start as u64), *len as u64),
-            None => with(with(print, 15), *start as u64),
+            Some(len) => with_number(with_number(with(print, 14), *start), *len),
+            None => with_number(with(print, 15), *start),
         },
         Op::Factor => with(print, 16),
         Op::Lower => with(print, 17),

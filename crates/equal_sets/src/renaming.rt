@@ -1,6 +1,6 @@
 //! What stands for nonterminals, and rows by it.
 
-ghost use Rattle.std.specs.Prelude.{◌≡◌, slice_index_or};
+ghost use Rattle.std.specs.Prelude.{◌≡◌, ◌↔◌, IsTrue, slice_index_or};
 ghost use Rattle.equal_sets.specs.Sets as spec;
 
 use cfg_grammar::{Production, Right, Symbol};
@@ -14,6 +14,20 @@ pub fn set_of(sets: &[Nt], a: Nt) -> Nt
         Some(set) => *set,
         None => a,
     }
+}
+
+/// Whether both are one nonterminal.
+fn is_same_nt(a: Nt, b: Nt) -> bool
+    ensures { IsTrue result ↔ (a ≡ b) }
+{
+    a == b
+}
+
+/// Whether the nonterminal stands for itself.
+pub fn stands(sets: &[Nt], a: Nt) -> bool
+    ensures { IsTrue result ↔ (spec.set_of sets.now a ≡ a) }
+{
+    is_same_nt(set_of(sets, a), a)
 }
 
 fn symbol_of(sets: &[Nt], symbol: Symbol) -> Symbol

@@ -1,24 +1,43 @@
 //! The system by what stands for its nonterminals.
 
-ghost use Rattle.std.specs.Prelude.{◌≡◌, ◌<◌, All, length, IfOk, OnOk};
+ghost use Rattle.std.specs.Prelude.{◌≡◌, Contains, IsTrue, IfOk, OnOk};
 ghost use Rattle.equal_sets.specs.Joined.{IsJoined};
 ghost use Rattle.equal_sets.specs.Sets as spec;
+ghost use Rattle.equal_sets.specs.Fit.{IsFit};
+ghost use Rattle.equal_sets.specs.Rows.{AreRows};
 ghost use Rattle.equal_sets.specs.Written.{PutsProduction, AreProductionsOf, AreRulesOf};
 
 use crate::passing::all_sets;
-use crate::renaming::{production_of, set_of};
-use crate::rows::rows_of;
+use crate::renaming::{production_of, set_of, stands};
+use crate::rows::{Rows, rows_of};
 use cfg_grammar::{Grammar, Production};
 use op_system::{OpRule, OpSystem};
 use std::alloc::Global;
 use text_base::{NoMemory, Nt};
+
+/// Whether both are one production.
+fn is_same(a: Production, b: Production) -> bool
+    ensures { IsTrue result → a ≡ b }
+{
+    a == b
+}
+
+/// Whether the production is the last of these.
+fn is_last(productions: &[Production], production: Production) -> bool
+    ensures { IsTrue result → Contains productions.now production }
+{
+    match productions.last().copied() {
+        Some(last) => is_same(last, production),
+        None => false,
+    }
+}
 
 /// Puts a production behind the others, but where it is the last of them.
 fn put(productions: &mut Vec<Production>, production: Production) -> Result<(), NoMemory>
     ensures { OnOk result
         (PutsProduction productions.old.items productions.new.items production) }
 {
-    if productions.last().copied() == Some(production) {
+    if is_last(productions.as_slice(), production) {
         return Ok(());
     }
     productions.push(production)?;
@@ -35,7 +54,7 @@ fn productions_of(
 {
     let mut made = Vec::new(alloc);
     for production in productions {
-        if set_of(sets, production.left) == production.left {
+        if stands(sets, production.left) {
             put(&mut made, production_of(sets, *production))?;
         }
     }
@@ -59,11 +78,44 @@ fn rules_of(alloc: Global, sets: &[Nt], rules: &[OpRule]) -> Result<Vec<OpRule>,
 {
     let mut made = Vec::new(alloc);
     for rule in rules {
-        if set_of(sets, rule.left) == rule.left {
-            made.push(rule_of(alloc, sets, rule)?)?;
+        if stands(sets, rule.left) {
+            let by_sets = rule_of(alloc, sets, rule)?;
+            made.push(by_sets)?;
         }
     }
     Ok(made)
+}
+
+/// The grammar of these productions.
+fn grammar_of(rows: &Rows<'_>, sets: &[Nt], productions: Vec<Production>) -> Grammar
+    requires fit { IsFit rows.now.system.now rows.now.numbers.items sets.now }
+    requires productions { AreProductionsOf sets.now
+        rows.now.system.now.grammar.productions.items productions.items }
+    ensures productions { result.productions.items ≡ productions.items }
+    ensures count { result.count ≡ rows.now.system.now.grammar.count }
+{
+    Grammar {
+        start: set_of(sets, rows.system.grammar.start),
+        count: rows.system.grammar.count,
+        productions,
+    }
+}
+
+/// The system of this grammar and these rules.
+fn system_of(rows: &Rows<'_>, sets: &[Nt], grammar: Grammar, ops: Vec<OpRule>) -> OpSystem
+    requires rows { AreRows rows.now }
+    requires fit { IsFit rows.now.system.now rows.now.numbers.items sets.now }
+    requires productions { AreProductionsOf sets.now
+        rows.now.system.now.grammar.productions.items grammar.productions.items }
+    requires count { grammar.count ≡ rows.now.system.now.grammar.count }
+    requires rules { AreRulesOf sets.now rows.now.system.now.ops.items ops.items }
+    ensures { IsJoined rows.now.system.now result }
+{
+    OpSystem {
+        start: set_of(sets, rows.system.start),
+        grammar,
+        ops,
+    }
 }
 
 /// The system in which sets with the same rows are one, an operation in a cycle being told from one
@@ -75,16 +127,8 @@ pub fn join_equal(alloc: Global, s: &OpSystem) -> Result<OpSystem, NoMemory>
     let rows = rows_of(alloc, s)?;
     let sets = all_sets(alloc, &rows)?;
     let of = sets.of.as_slice();
-    let productions = productions_of(alloc, of, s.grammar.productions.as_slice())?;
-    let ops = rules_of(alloc, of, s.ops.as_slice())?;
-    let start = set_of(of, s.start);
-    Ok(OpSystem {
-        grammar: Grammar {
-            start: set_of(of, s.grammar.start),
-            count: s.grammar.count,
-            productions,
-        },
-        ops,
-        start,
-    })
+    let productions = productions_of(alloc, of, rows.system.grammar.productions.as_slice())?;
+    let ops = rules_of(alloc, of, rows.system.ops.as_slice())?;
+    let grammar = grammar_of(&rows, of, productions);
+    Ok(system_of(&rows, of, grammar, ops))
 }
