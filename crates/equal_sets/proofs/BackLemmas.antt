@@ -29,7 +29,7 @@ use Rattle.equal_sets.specs.Fit.{Joins, IsFit}
 use Rattle.equal_sets.specs.Written.{IsProductionOf, IsRuleOf, AreProductionsOf, AreRulesOf}
 
 -- parts of productions and rules
-production_is : (p : Production) (a : nt.Nt) (r : Right) → p.left ≡ a → p.right ≡ r → p ≡ record { left = a; right = r }
+pub production_is : (p : Production) (a : nt.Nt) (r : Right) → p.left ≡ a → p.right ≡ r → p ≡ record { left = a; right = r }
 production_is p a r e f = subst (λ (x : nt.Nt). p ≡ record { left = x; right = r }) e (subst (λ (y : Right). p ≡ record { left = p.left; right = y }) f refl)
 
 rule_is : (r : OpRule) (a : nt.Nt) (op : Op) → r.left ≡ a → r.op ≡ op → r ≡ record { left = a; op = op; operand = r.operand }

@@ -4,6 +4,7 @@ use Rattle.std.specs.Prelude.{◌⊎◌, ◌==◌, slice_get}
 use Rattle.std.specs.List.{All, list_all}
 use Rattle.std.proofs.lemmas.Bool.{cases_lt}
 use Rattle.std.proofs.lemmas.Option.{slice_get_within, slice_get-get_or, get_or_from_slice_get, same_Some, slice_get_read}
+use Rattle.std.proofs.lemmas.Map.Views.{exact_unsigned_eq}
 use Rattle.text_base.specs.declared.numbers.Nt as nt
 use Rattle.cfg_grammar.specs.declared.production.Production.{Production}
 use Rattle.cfg_grammar.specs.Below.{production_below}
@@ -164,8 +165,7 @@ not_zero zero e = absurd (cc)
 not_zero (suc n) e = omega arith
 
 pub is_zero : (n : ℕ) → (n == 0) ≡ true → n ≡ 0
-is_zero zero e = refl
-is_zero (suc n) e = absurd (cc)
+is_zero n e = exact_unsigned_eq n 0 e
 
 -- keys are below the count
 all_of : {X : Type 0} (P : X → Type 0) (xs : List X) → ((x : X) → Contains xs x → P x) → All P xs

@@ -6,24 +6,10 @@ ghost use Rattle.equal_sets.specs.Alike.{AreAlikeAt, AreSameAt, ArePaired, Leads
 
 use crate::renaming::{right_of, set_of};
 use crate::rows::{Rows, number_of, places_at};
+use crate::same::{is_same_op, is_same_right};
 use cfg_grammar::{Right, Symbol};
 use op_bytes::is_circular;
-use op_system::{Op, OpRule};
 use text_base::Nt;
-
-/// Whether both are one operation.
-fn is_same_op(a: &Op, b: &Op) -> bool
-    ensures { IsTrue result → a.now ≡ b.now }
-{
-    a == b
-}
-
-/// Whether both are one right side.
-fn is_same_right(a: Right, b: Right) -> bool
-    ensures { IsTrue result → a ≡ b }
-{
-    a == b
-}
 
 /// Whether the productions at two places have one right side by the sets.
 fn are_alike_at(rows: &Rows<'_>, sets: &[Nt], i: usize, j: usize) -> bool

@@ -10,6 +10,7 @@ mod passing;
 mod prints;
 mod renaming;
 mod rows;
+mod same;
 mod writing;
 
 pub use writing::join_equal;

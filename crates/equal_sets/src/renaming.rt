@@ -3,6 +3,7 @@
 ghost use Rattle.std.specs.Prelude.{◌≡◌, ◌↔◌, IsTrue, slice_index_or};
 ghost use Rattle.equal_sets.specs.Sets as spec;
 
+use crate::same::is_same_nt;
 use cfg_grammar::{Production, Right, Symbol};
 use text_base::Nt;
 
@@ -14,13 +15,6 @@ pub fn set_of(sets: &[Nt], a: Nt) -> Nt
         Some(set) => *set,
         None => a,
     }
-}
-
-/// Whether both are one nonterminal.
-fn is_same_nt(a: Nt, b: Nt) -> bool
-    ensures { IsTrue result ↔ (a ≡ b) }
-{
-    a == b
 }
 
 /// Whether the nonterminal stands for itself.

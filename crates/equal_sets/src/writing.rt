@@ -10,24 +10,18 @@ ghost use Rattle.equal_sets.specs.Written.{PutsProduction, AreProductionsOf, Are
 use crate::passing::all_sets;
 use crate::renaming::{production_of, set_of, stands};
 use crate::rows::{Rows, rows_of};
+use crate::same::is_same_production;
 use cfg_grammar::{Grammar, Production};
 use op_system::{OpRule, OpSystem};
 use std::alloc::Global;
 use text_base::{NoMemory, Nt};
-
-/// Whether both are one production.
-fn is_same(a: Production, b: Production) -> bool
-    ensures { IsTrue result → a ≡ b }
-{
-    a == b
-}
 
 /// Whether the production is the last of these.
 fn is_last(productions: &[Production], production: Production) -> bool
     ensures { IsTrue result → Contains productions.now production }
 {
     match productions.last().copied() {
-        Some(last) => is_same(last, production),
+        Some(last) => is_same_production(last, production),
         None => false,
     }
 }

@@ -10,7 +10,7 @@ returns-then-is_alias c = λ same.
     let numbers = c.args.rows.now.numbers.items in
     Joins.alias (subst (λ (xs : List nt.Nt). IsAlias s numbers xs c.args.a c.args.b) c.as_slice-of.ensures.value (c.is_alias.ensures c.if-is_alias.true))
 
-pub returns-else-is_alias : goal.returns-else-is_alias
-returns-else-is_alias c = λ same.
+pub returns : goal.returns
+returns c = λ same.
     let s = c.args.rows.now.system.now in
     Joins.equal (subst (λ (xs : List nt.Nt). IsEqual s xs c.args.a c.args.b) c.as_slice-of.ensures.value (c.is_equal.ensures same))
