@@ -1,8 +1,8 @@
 // A call of the program on files and outputs in memory.
 use anyhow::Result;
 use io_edge::{MemFiles, MemSink};
-use phpsa_main::phpsa;
 use phpsa_texts::Exit;
+use several_files::{CallFiles, answer};
 use site_check::ReadOnce;
 use std::alloc::Global;
 use text_base::Bytes;
@@ -75,9 +75,9 @@ pub fn call(
         fail.push(call)?;
     }
     let held = MemFiles::new(copied(alloc, files, outside.front)?, fail);
-    let mut source = ReadOnce::new(alloc, held);
+    let mut source = CallFiles::new(alloc, ReadOnce::new(alloc, held));
     let mut out = MemSink::new(alloc, outside.out);
     let mut err = MemSink::new(alloc, outside.err);
-    let exit = phpsa(alloc, words, &mut source, &mut out, &mut err);
+    let exit = answer(alloc, words, &mut source, &mut out, &mut err);
     Ok(Ending { exit, out, err })
 }

@@ -1,4 +1,4 @@
-//! Rows of calls of `phpsa_main::phpsa` on files and outputs in memory, each with the status and
+//! Rows of calls of `several_files::answer` on files and outputs in memory, each with the status and
 //! the outputs that were worked out for it by hand, from PHP 8.2 or from XML 1.0.
 //! It tests the whole program: a row that ends otherwise is printed, and last how many rows passed
 //! and failed. README.md tells how a row is written. It has no clause.
@@ -17,7 +17,7 @@ mod wishes;
 use crate::table::Table;
 use anyhow::{Context, Result};
 use io_edge::{DiskFiles, FileKind, Files};
-use std::{env, rt};
+use std::{env, io, rt};
 
 // Adds a line of its own to the text of the line before it.
 fn add_line(open: &mut String, line: &str) -> Result<()> {
@@ -36,7 +36,7 @@ fn take_file(
     name: &str,
 ) -> Result<()> {
     let alloc = rt.alloc();
-    let bytes = DiskFiles::new(rt)
+    let bytes = DiskFiles::new(rt, io::empty())
         .read(alloc, name, FileKind::Any)
         .context("a file of rows")?;
     let text = str::from_utf8(bytes.as_slice()).context("a file in UTF-8")?;

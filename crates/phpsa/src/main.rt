@@ -1,16 +1,19 @@
 //! The program `phpsa`: it hands the words, the files and the two outputs of the system to
-//! `phpsa_main::phpsa`, and ends with the status that comes back.
-//! Promise: what it answers is the contract of `phpsa_main::phpsa`; what real files and streams hold
+//! `several_files::answer`, and ends with the status that comes back; where a folder is among the
+//! names of `check`, the names of its scripts to `several_files::check_each`.
+//! Promise: what it answers is the contract of these two; what real files, folders and streams hold
 //! no clause says, which is tested.
 //! Used by: the command line.
 #![tactic(auto)]
 
+mod folders;
 mod words;
 
+use crate::folders::with_folders;
 use crate::words::{NoWords, words_of};
 use io_edge::{DiskFiles, Sink, StdSink};
-use phpsa_main::phpsa;
 use phpsa_texts::{Exit, Refusal, words_refusal};
+use several_files::{CallFiles, answer, check_each, refuse as tell_refusal};
 use site_check::ReadOnce;
 use std::process::ExitCode;
 
@@ -30,10 +33,16 @@ fn status_of(rt: &HostRuntime) -> Exit {
         Ok(words) => words,
         Err(no_words) => return refuse(rt, no_words),
     };
-    let mut files = ReadOnce::new(rt.alloc(), DiskFiles::new(rt, rt.stdin()));
+    let alloc = rt.alloc();
+    let system = ReadOnce::new(alloc, DiskFiles::new(rt, rt.stdin()));
+    let mut files = CallFiles::new(alloc, system);
     let mut out = StdSink::new(rt, rt.stdout());
     let mut err = StdSink::new(rt, rt.stderr());
-    phpsa(rt.alloc(), &words, &mut files, &mut out, &mut err)
+    match with_folders(rt, words.as_slice()) {
+        Ok(None) => answer(alloc, &words, &mut files, &mut out, &mut err),
+        Ok(Some(checks)) => check_each(alloc, &checks, &mut files, &mut out, &mut err),
+        Err(refusal) => tell_refusal(&refusal, &mut err),
+    }
 }
 
 fn main(rt: HostRuntime) -> ExitCode {

@@ -121,7 +121,7 @@ fn measure_line(
 
 fn main(rt: HostRuntime) -> Result<()> {
     let asked = asked(&rt)?;
-    let mut files = DiskFiles::new(&rt);
+    let mut files = DiskFiles::new(&rt, rt.stdin());
     let held = files
         .read(rt.alloc(), "scripts.txt", FileKind::Any)
         .context("the file of scripts")?;
