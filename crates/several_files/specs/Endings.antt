@@ -7,7 +7,7 @@ use Rattle.phpsa_texts.specs.declared.exit.Exit.{Exit}
 use Rattle.phpsa_texts.specs.declared.exit.Exit.TheVariants as exit
 use Rattle.phpsa_texts.specs.declared.message.Message.{Message}
 use Rattle.phpsa_texts.specs.declared.message.Refusal.{Refusal}
-use Rattle.phpsa_texts.specs.Texts.{list_text, memory_text, usage_text}
+use Rattle.phpsa_texts.specs.Texts.{IsTold, list_text, memory_text, usage_text}
 use Rattle.phpsa_tasks.specs.Call.{Output, call_of}
 use Rattle.phpsa_tasks.specs.Keeps.{Keeps}
 use Rattle.several_files.specs.declared.call_files.CallFiles.{CallFiles}
@@ -67,14 +67,18 @@ pub data OwesListRefusal (checks : Checks) (before now : Moment) (status : Exit)
   unlistable : (names : List (List ℕ)) → AreNamesFor checks before now names → are_listable names ≡ false → status ≡ exit.Usage
       → text ≡ usage_text (Some unlistable_reason) → OwesListRefusal checks before now status text
 
--- `site` was called on such a list, over the same source and outputs
+-- `site` was called, over the same outputs, and a source that told such a list as the call began
 pub record CallsSite (checks : Checks) (before now : Moment) (out err : Output) (status : Exit) : Type 0 where
   pub middle : Moment
-  pub content : Content
   pub list : List ℕ
   pub is_list : IsListFor checks before middle list
-  pub held : now.content ≡ told_beside (Some list) content
-  pub keeps : Keeps (call_of (site_words checks.options) (between middle now) out err) status
+  pub start : Moment
+  pub content : Content
+  pub held : start.content ≡ told_beside (Some list) content
+  pub faults : start.faults ≡ middle.faults
+  pub misses : start.misses ≡ middle.misses
+  pub reads : start.reads ≡ middle.reads
+  pub keeps : Keeps (call_of (site_words checks.options) (between start now) out err) status
 
 -- nothing is due
 abbrev pub owes_nothing : Exit → List ℕ → Type 0
@@ -113,10 +117,9 @@ IsAnswerOr options before now file (Err refusal) =
     (status : Exit) × (text : List ℕ) × refused_by (Err refusal) status text
     × (EndsAll options before now file status text ⊎ is_wanting status text)
 
--- the answers for files, or why there are none; no public clause cites this
-abbrev pub AreAnswersOr : List (List ℕ) → Moment → Moment → List FileName → Result (List FileAnswer) Refusal → Type 0
-AreAnswersOr options before now files (Ok answers) = AreAnswers options before now files (map answer_as answers)
-AreAnswersOr options before now files (Err refusal) =
+-- why there are no answers for files; no public clause cites this
+abbrev pub AreRefused : List (List ℕ) → Moment → Moment → List FileName → Refusal → Type 0
+AreRefused options before now files refusal =
     (status : Exit) × (text : List ℕ) × refused_by (Err refusal) status text
     × (IsEnded options before now files status text ⊎ is_wanting status text)
 
@@ -138,3 +141,13 @@ abbrev pub IsListForOr : Checks → Moment → Moment → Result (List ℕ) Refu
 IsListForOr checks before now (Ok list) = IsListFor checks before now list
 IsListForOr checks before now (Err refusal) =
     (status : Exit) × (text : List ℕ) × refused_by (Err refusal) status text × OwesListRefusal checks before now status text
+
+-- the report of `site`, or why there is none; no public clause cites this
+abbrev pub IsSiteOr : Checks → Moment → Moment → Output → Output → Exit → Type 0
+IsSiteOr checks before now out err status =
+    CallsSite checks before now out err status ⊎ Tells owes_nothing (OwesListRefusal checks before now) out err status
+
+-- there are as many names as there may be, or that is refused; no public clause cites this
+abbrev pub IsCountOr : ℕ → Option Refusal → Type 0
+IsCountOr count None = IsCount count
+IsCountOr count (Some refusal) = (IsCount count → ⊥) × IsTold refusal exit.Input (list_text (Names count))

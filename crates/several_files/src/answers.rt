@@ -1,6 +1,6 @@
 //! The answers for several files.
 
-ghost use Rattle.std.specs.Prelude.{◌≡◌, ◌&&◌, IfOk, bytes_eq, map};
+ghost use Rattle.std.specs.Prelude.{◌≡◌, IfOk, bytes_eq, map, string_bytes};
 ghost use Rattle.std.specs.List.{list_any};
 ghost use Rattle.several_files.specs.Lines as spec;
 ghost use Rattle.several_files.specs.Views.{answer_as};
@@ -14,7 +14,7 @@ use text_base::{Bytes, NoMemory};
 
 /// What a call on a file came to: its status, the text of its line, and the normal names of the
 /// files that were read for it as parts of programs.
-#[derive(Debug, Drop)]
+#[derive(Drop)]
 pub struct FileAnswer {
     pub(crate) file: AskedFile,
     pub(crate) status: Exit,

@@ -1,9 +1,10 @@
 //! Calls of the program, each on one of several files alone.
 
-ghost use Rattle.std.specs.Prelude.{◌≡◌, ◌⊎◌, ◌++◌, ◌∷◌, [], Err, IfOk, OnOk, map, string_bytes};
+ghost use Rattle.std.specs.Prelude.{◌≡◌, ◌⊎◌, ◌++◌, ◌∷◌, [], Err, IfErr, IfOk, OnOk, map, string_bytes};
 ghost use Rattle.several_files.specs.Calls as spec;
+ghost use Rattle.several_files.specs.Calls.{AreAnswers};
 ghost use Rattle.several_files.specs.Telling.{refused_by};
-ghost use Rattle.several_files.specs.Endings.{moment_of, IsAnswerOr, AreAnswersOr};
+ghost use Rattle.several_files.specs.Endings.{moment_of, AreRefused, IsAnswerOr};
 ghost use Rattle.several_files.specs.Views.{answer_as, file_as};
 
 use crate::answers::FileAnswer;
@@ -115,9 +116,13 @@ pub(crate) fn answers_for<F: Files>(
     asked: &[AskedFile],
     files: &mut CallFiles<F>,
 ) -> Result<Vec<FileAnswer>, Refusal>
-    ensures { AreAnswersOr (map string_bytes options.now)
+    ensures ok { IfOk result (λ answers. AreAnswers (map string_bytes options.now)
         (moment_of F.content F.faults F.misses files.old)
-        (moment_of F.content F.faults F.misses files.new) (map file_as asked.now) result }
+        (moment_of F.content F.faults F.misses files.new) (map file_as asked.now)
+        (map answer_as answers.items)) }
+    ensures err { IfErr result (AreRefused (map string_bytes options.now)
+        (moment_of F.content F.faults F.misses files.old)
+        (moment_of F.content F.faults F.misses files.new) (map file_as asked.now)) }
 {
     let mut answers = Vec::new(alloc);
     let mut rest = asked;

@@ -1,8 +1,7 @@
 //! `check` of several files.
 
-ghost use Rattle.std.specs.Prelude.{◌≡◌, map, string_bytes};
 ghost use Rattle.phpsa_tasks.specs.Call.{output_of};
-ghost use Rattle.several_files.specs.Endings.{ChecksEach, IsReportOr, moment_of};
+ghost use Rattle.several_files.specs.Endings.{ChecksEach, IsCountOr, IsReportOr, IsSiteOr, moment_of};
 ghost use Rattle.several_files.specs.Views.{checks_as};
 
 use crate::answers::told;
@@ -42,6 +41,22 @@ fn report_on<F: Files>(
     })
 }
 
+/// Why so many names are too few or too many, if they are.
+fn miscount(alloc: Global, count: usize) -> Option<Refusal>
+    ensures { IsCountOr count result }
+{
+    let refusal = ListRefusal::Names {
+        count: count as u64,
+    };
+    if count == 0 {
+        return Some(list_refusal(alloc, refusal));
+    }
+    if count > NAMES_LIMIT {
+        return Some(list_refusal(alloc, refusal));
+    }
+    None
+}
+
 /// The report of `site` on the files.
 fn site<F: Files, O: Sink, E: Sink>(
     alloc: Global,
@@ -50,6 +65,11 @@ fn site<F: Files, O: Sink, E: Sink>(
     out: &mut O,
     err: &mut E,
 ) -> Exit
+    ensures { IsSiteOr (checks_as checks.now) (moment_of F.content F.faults F.misses files.old)
+        (moment_of F.content F.faults F.misses files.new)
+        (output_of (O.written out.old) (O.written out.new) (O.faults out.old) (O.faults out.new))
+        (output_of (E.written err.old) (E.written err.new) (E.faults err.old) (E.faults err.new))
+        result }
 {
     let words = match site_words(alloc, checks.options.as_slice()) {
         Ok(words) => words,
@@ -84,12 +104,8 @@ pub fn check_each<F: Files, O: Sink, E: Sink>(
         (output_of (E.written err.old) (E.written err.new) (E.faults err.old) (E.faults err.new))
         result }
 {
-    let count = checks.files.len();
-    if count == 0 || count > NAMES_LIMIT {
-        let refusal = ListRefusal::Names {
-            count: count as u64,
-        };
-        return refuse(&list_refusal(alloc, refusal), err);
+    if let Some(refusal) = miscount(alloc, checks.files.len()) {
+        return refuse(&refusal, err);
     }
     if asks_json(checks.options.as_slice()) {
         return site(alloc, checks, files, out, err);
