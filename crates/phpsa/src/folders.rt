@@ -153,10 +153,7 @@ fn add_folder(rt: &HostRuntime, files: &mut Vec<AskedFile>, folder: &str) -> Res
 
 /// What is asked of `check`, where a folder is among its names: in its place stand the names of the
 /// scripts in it and below it.
-pub(crate) fn with_folders(
-    rt: &HostRuntime,
-    words: &[String],
-) -> Result<Option<Checks>, Refusal> {
+pub(crate) fn with_folders(rt: &HostRuntime, words: &[String]) -> Result<Option<Checks>, Refusal> {
     let Some(checks) = asked_checks(rt.alloc(), words)? else {
         return Ok(None);
     };
