@@ -37,14 +37,14 @@ owed_report checks before now (Err refusal) is status text by = absurd by
 pub owed_refusal : (checks : Checks) (before now : Moment) (result : Result Message Refusal) → IsReportOr checks before now result → (status : Exit) (text : List ℕ)
     → refused_by result status text → OwesRefusal checks before now status text
 owed_refusal checks before now (Ok message) is status text by = absurd by
-owed_refusal checks before now (Err refusal) (s, t, says, owes) status text by =
-    same_refusal refusal (OwesRefusal checks before now) s status t text says by owes
+owed_refusal checks before now (Err refusal) (s, t, says, due) status text by =
+    same_refusal refusal (OwesRefusal checks before now) s status t text says by due
 
 -- a refusal that is due in place of a list
 pub owed_list_refusal : (checks : Checks) (before now : Moment) (refusal : Refusal) → IsListForOr checks before now (Err refusal) → (status : Exit) (text : List ℕ)
     → refused_by (Err refusal) status text → OwesListRefusal checks before now status text
-owed_list_refusal checks before now refusal (s, t, says, owes) status text by =
-    same_refusal refusal (OwesListRefusal checks before now) s status t text says by owes
+owed_list_refusal checks before now refusal (s, t, says, due) status text by =
+    same_refusal refusal (OwesListRefusal checks before now) s status t text says by due
 
 -- a count that is told
 pub owed_count : (checks : Checks) (refusal : Refusal) → IsTold refusal exit.Input (list_text (Names (length checks.files))) → (status : Exit) (text : List ℕ)

@@ -1,10 +1,13 @@
 -- Lists for `site`.
-use Rattle.std.proofs.Common.{◌≡◌, ◌∙◌, ℕ, List, Bool, false, refl, sym, subst, inl, inr}
-use Rattle.std.specs.Prelude.{◌⊎◌, Result, Ok, Err, Some}
+use Rattle.std.proofs.Common.{◌≡◌, ◌∙◌, ℕ, List, [], ◌∷◌, map, Bool, false, refl, sym, ap, subst, inl, inr}
+use Rattle.std.specs.Prelude.{◌⊎◌, Result, Ok, Err, Some, string_bytes}
 use Rattle.phpsa_texts.specs.declared.exit.Exit.{Exit}
 use Rattle.phpsa_texts.specs.declared.exit.Exit.TheVariants as exit
 use Rattle.phpsa_texts.specs.declared.message.Refusal.{Refusal}
 use Rattle.phpsa_texts.specs.Texts.{IsTold, memory_text, usage_text}
+use Rattle.several_files.specs.declared.checks.AskedFile.{AskedFile}
+use Rattle.several_files.specs.Words.{FileName}
+use Rattle.several_files.specs.Views.{file_as}
 use Rattle.several_files.specs.Listing.{are_listable, unlistable_reason}
 use Rattle.several_files.specs.Endings.{IsListOr}
 
@@ -18,3 +21,8 @@ pub list_refused : (names : List (List ℕ)) (refusal : Refusal) → are_listabl
     → IsListOr names (Err refusal)
 list_refused names (Refusal.Told message) none says = (message.status, message.text, (refl, refl), inl (none, says.0, says.1))
 list_refused names Refusal.Memory none says = (exit.Memory, memory_text, (refl, refl), inr (refl, refl))
+
+-- names of files, and of their plain forms
+pub names_as : (files : List AskedFile) → map (λ (file : AskedFile). string_bytes file.name) files ≡ map (λ (file : FileName). file.name) (map file_as files)
+names_as [] = refl
+names_as (file ∷ files) = ap (λ (names : List (List ℕ)). string_bytes file.name ∷ names) (names_as files)

@@ -126,7 +126,7 @@ pub(crate) fn answers_for<F: Files>(
 {
     let mut answers = Vec::new(alloc);
     let mut rest = asked;
-    while let [file, others @ ..] = rest {
+    while let Some((file, others)) = rest.split_first() {
         let answer = answer_for(alloc, options, file, files)?;
         add_answer(&mut answers, answer)?;
         rest = others;
