@@ -136,6 +136,16 @@ answers() {
   echo '<!ELEMENT html (#PCDATA)>' >small.dtd
   echo '<html>x</html>' >small.php
   ends 0 "$phpsa" check small.php --dtd small.dtd
+  # What the words leave out is said by the file of options; what they say is not.
+  echo 'dtd = "small.dtd"' >phpsa.toml
+  ends 0 "$phpsa" check small.php
+  ends 1 "$phpsa" check small.php --dtd strict
+  echo 'json = true' >phpsa.toml
+  ends 9 "$phpsa" check small.php
+  writes 'phpsa: Options json' err
+  ends 0 "$phpsa" make 1
+  ends 0 "$phpsa" check --help
+  rm phpsa.toml
   ends 6 "$phpsa" check none.php
   # FILE may be a pipe, and what it gave is not asked for again; what a script includes may not.
   mkfifo both
@@ -231,7 +241,7 @@ completes() {
 }
 cd "$site/list/mended" || exit 1
 completes check phpsa ch
-completes '--dtd --limit --nesting --json --help' phpsa check --
+completes '--dtd --limit --nesting --json --root --help' phpsa check --
 completes 'strict mini guests.php' phpsa check --dtd =
 completes guests.php phpsa run gu
 completes '--check --help' phpsa make --

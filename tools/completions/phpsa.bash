@@ -21,6 +21,11 @@ _phpsa() {
       compopt -o filenames 2>/dev/null
       return
       ;;
+    --root)
+      mapfile -t COMPREPLY < <(compgen -d -- "$word")
+      compopt -o filenames 2>/dev/null
+      return
+      ;;
     --request)
       mapfile -t COMPREPLY < <(compgen -f -- "$word")
       compopt -o filenames 2>/dev/null
@@ -28,12 +33,12 @@ _phpsa() {
       ;;
   esac
   case $command in
-    check) list='--dtd --limit --nesting --json --help' ;;
-    run) list='--request --steps --help' ;;
-    page) list='--dtd --help' ;;
-    grammar) list='--help' ;;
+    check) list='--dtd --limit --nesting --json --root --help' ;;
+    run) list='--request --steps --root --help' ;;
+    page) list='--dtd --root --help' ;;
+    grammar) list='--root --help' ;;
     make) list='--check --help' ;;
-    site) list='--dtd --limit --nesting --help' ;;
+    site) list='--dtd --limit --nesting --root --help' ;;
     *) list= ;;
   esac
   if [[ $word == -* ]]; then

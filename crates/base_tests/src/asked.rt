@@ -6,6 +6,7 @@ use std::test::Fail;
 const CHECK: CommandLine<'static> = CommandLine::Check {
     file: "t.php",
     definition: "strict",
+    root: None,
     limit: 10_000,
     by_nesting: false,
     as_json: false,
@@ -41,12 +42,14 @@ fn words(rt: HostRuntime) -> Result<(), Fail> {
     let all = CommandLine::Check {
         file: "t.php",
         definition: "d.dtd",
+        root: Some("site"),
         limit: 9,
         by_nesting: true,
         as_json: true,
     };
     let run = CommandLine::Run {
         file: "-",
+        root: None,
         request: Some("r.json"),
         steps: 10_000_000,
     };
@@ -54,11 +57,11 @@ fn words(rt: HostRuntime) -> Result<(), Fail> {
         ("check t.php", Ok(CHECK)),
         ("check -- t.php", Ok(CHECK)),
         (
-            "check t.php --dtd d.dtd --limit 9 --nesting --json",
+            "check t.php --dtd d.dtd --limit 9 --nesting --json --root site",
             Ok(all),
         ),
         (
-            "check --json --limit=9 --nesting t.php --dtd=d.dtd",
+            "check --json --limit=9 --root=site --nesting t.php --dtd=d.dtd",
             Ok(all),
         ),
         ("run --request r.json -", Ok(run)),
@@ -67,11 +70,15 @@ fn words(rt: HostRuntime) -> Result<(), Fail> {
             Ok(CommandLine::Page {
                 file: "p.xhtml",
                 definition: "mini",
+                root: None,
             }),
         ),
         (
-            "grammar -- -t.php",
-            Ok(CommandLine::Grammar { file: "-t.php" }),
+            "grammar --root . -- -t.php",
+            Ok(CommandLine::Grammar {
+                file: "-t.php",
+                root: Some("."),
+            }),
         ),
         (
             "make 200 --check",

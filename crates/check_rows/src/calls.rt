@@ -1,7 +1,9 @@
 // A call of the program on files and outputs in memory.
 use anyhow::Result;
+use call_options::{OPTIONS_FILE, options_for};
 use io_edge::{MemFiles, MemSink};
-use phpsa_texts::Exit;
+use phpsa_main::refuse;
+use phpsa_texts::{Exit, options_refusal};
 use several_files::{CallFiles, answer};
 use site_check::ReadOnce;
 use std::alloc::Global;
@@ -63,7 +65,27 @@ fn copied(alloc: Global, files: &[(Bytes, Bytes)], front: Option<usize>) -> Resu
     Ok(held)
 }
 
-/// Calls the program with these words over these files, each of which is asked for once.
+// A copy of the words.
+fn words_again(alloc: Global, words: &Vec<String>) -> Result<Vec<String>> {
+    let mut again = Vec::new(alloc);
+    for word in words {
+        again.push(String::from_str(alloc, word.as_str())?)?;
+    }
+    Ok(again)
+}
+
+// Whether the file of options is among the files.
+fn has_options(files: &[(Bytes, Bytes)]) -> bool {
+    for (name, _) in files {
+        if name.as_slice() == OPTIONS_FILE.as_bytes() {
+            return true;
+        }
+    }
+    false
+}
+
+/// Calls the program with these words over these files, each of which is asked for once. Where the
+/// file of options is among them, its options are put into the words first.
 pub fn call(
     alloc: Global,
     words: &Vec<String>,
@@ -78,6 +100,15 @@ pub fn call(
     let mut source = CallFiles::new(alloc, ReadOnce::new(alloc, held));
     let mut out = MemSink::new(alloc, outside.out);
     let mut err = MemSink::new(alloc, outside.err);
-    let exit = answer(alloc, words, &mut source, &mut out, &mut err);
+    let mut words = words_again(alloc, words)?;
+    let options = if has_options(files) {
+        options_for(alloc, &mut words, &mut source)
+    } else {
+        Ok(())
+    };
+    let exit = match options {
+        Ok(()) => answer(alloc, &words, &mut source, &mut out, &mut err),
+        Err(fault) => refuse(&options_refusal(alloc, &fault), &mut err),
+    };
     Ok(Ending { exit, out, err })
 }

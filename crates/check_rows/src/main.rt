@@ -17,7 +17,8 @@ mod wishes;
 use crate::table::Table;
 use anyhow::{Context, Result};
 use io_edge::{DiskFiles, FileKind, Files};
-use std::{env, io, rt};
+use std::io::Read;
+use std::{env, rt};
 
 // Adds a line of its own to the text of the line before it.
 fn add_line(open: &mut String, line: &str) -> Result<()> {
@@ -32,11 +33,12 @@ fn add_line(open: &mut String, line: &str) -> Result<()> {
 // Takes the lines of a file with rows, and prints how many came out.
 fn take_file(
     rt: &(impl Print + rt::Files + AllocGlobal),
+    input: impl Read + Drop,
     table: &mut Table,
     name: &str,
 ) -> Result<()> {
     let alloc = rt.alloc();
-    let bytes = DiskFiles::new(rt, io::empty())
+    let bytes = DiskFiles::new(rt, input)
         .read(alloc, name, FileKind::Any)
         .context("a file of rows")?;
     let text = str::from_utf8(bytes.as_slice()).context("a file in UTF-8")?;
@@ -64,7 +66,7 @@ fn take_file(
 fn main(rt: HostRuntime) -> Result<()> {
     let mut table = Table::new(rt.alloc())?;
     for name in env::args(&rt)?.skip(1) {
-        take_file(&rt, &mut table, name.as_str())?;
+        take_file(&rt, rt.stdin(), &mut table, name.as_str())?;
     }
     println!(rt; "{} rows passed, {} failed", table.passed, table.failed)?;
     Ok(())

@@ -53,6 +53,6 @@ the_standard_input = tt
 an_option_is_not_plain : IsPlain (codes "-x") → ⊥
 an_option_is_not_plain e = absurd (true≢false e)
 
-a_check : IsCanonical (codes "check" ∷ codes "--json" ∷ codes "--dtd=mini" ∷ codes "--" ∷ codes "-" ∷ [])
-    (asked.check (codes "-") (codes "mini") 10000 false true)
-a_check = canonical check (flag (codes "json") ∷ joined (codes "dtd") (codes "mini") ∷ []) (Some (codes "-")) (inl refl) ((inr (inl refl), refl), ((refl, inl refl, refl), refl)) refl refl
+a_check : IsCanonical (codes "check" ∷ codes "--json" ∷ codes "--root=pages" ∷ codes "--" ∷ codes "-" ∷ [])
+    (asked.check (codes "-") (codes "strict") (Some (codes "pages")) 10000 false true)
+a_check = canonical check (flag (codes "json") ∷ joined (codes "root") (codes "pages") ∷ []) (Some (codes "-")) (inl refl) ((inr (inl refl), refl), ((refl, inr (inr (inl refl)), refl), refl)) refl refl

@@ -39,17 +39,6 @@ fn row_with<'a, 'r>(
     }
 }
 
-fn bare_row<'a>(word: &'a str, place: &'a str) -> Row<'a, 'a>
-    ensures { row_as result ≡ row_of word.entry.now place.entry.now [] [] }
-{
-    Row {
-        word,
-        place,
-        options: &[],
-        flags: &[],
-    }
-}
-
 fn place<'a>(alloc: Global, name: &'a str) -> Arg<'a>
     ensures rule { rule_of result ≡ spec.place name.entry.now }
     ensures local { result.global ≡ false }
@@ -120,12 +109,17 @@ fn bare_program<'a>(alloc: Global) -> Command<'a>
 fn program<'a>(alloc: Global) -> Result<Command<'a>, AllocError>
     ensures app { IfOk result (λ c. app_of c ≡ spec.phpsa) }
 {
-    let check = row_with("check", "FILE", &["dtd", "limit"], &["nesting", "json"]);
-    let run = row_with("run", "FILE", &["request", "steps"], &[]);
-    let page = row_with("page", "FILE", &["dtd"], &[]);
-    let grammar = bare_row("grammar", "FILE");
+    let check = row_with(
+        "check",
+        "FILE",
+        &["dtd", "limit", "root"],
+        &["nesting", "json"],
+    );
+    let run = row_with("run", "FILE", &["request", "steps", "root"], &[]);
+    let page = row_with("page", "FILE", &["dtd", "root"], &[]);
+    let grammar = row_with("grammar", "FILE", &["root"], &[]);
     let make = row_with("make", "N", &[], &["check"]);
-    let site = row_with("site", "FILE", &["dtd", "limit"], &["nesting"]);
+    let site = row_with("site", "FILE", &["dtd", "limit", "root"], &["nesting"]);
     let program = with_command(alloc, bare_program(alloc), check)?;
     let program = with_command(alloc, program, run)?;
     let program = with_command(alloc, program, page)?;

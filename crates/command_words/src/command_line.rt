@@ -1,6 +1,9 @@
 //! What words ask for.
 
 /// A command with the values of its arguments, or what is told of all of them.
+///
+/// `root` is the folder that includes, and the files of a definition, may not leave; none where the
+/// words give none.
 #[derive(Clone, Copy, Debug, PartialEq, Eq)]
 pub enum CommandLine<'a> {
     /// Tells what the commands and their options are.
@@ -12,6 +15,7 @@ pub enum CommandLine<'a> {
     Check {
         file: &'a str,
         definition: &'a str,
+        root: Option<&'a str>,
         limit: u32,
         by_nesting: bool,
         as_json: bool,
@@ -19,6 +23,7 @@ pub enum CommandLine<'a> {
     /// Runs a script for the request in a file, or for the empty one, with so many units.
     Run {
         file: &'a str,
+        root: Option<&'a str>,
         request: Option<&'a str>,
         steps: u32,
     },
@@ -26,10 +31,12 @@ pub enum CommandLine<'a> {
     Page {
         file: &'a str,
         definition: &'a str,
+        root: Option<&'a str>,
     },
     /// Writes the grammar of the pages of a script.
     Grammar {
         file: &'a str,
+        root: Option<&'a str>,
     },
     /// Writes a generated script with so many functions, or checks it.
     Make {
@@ -41,6 +48,7 @@ pub enum CommandLine<'a> {
     Site {
         file: &'a str,
         definition: &'a str,
+        root: Option<&'a str>,
         limit: u32,
         by_nesting: bool,
     },

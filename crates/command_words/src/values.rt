@@ -49,6 +49,7 @@ fn check_line<'a>(matches: &ArgMatches<'a>) -> Option<CommandLine<'a>>
     Some(CommandLine::Check {
         file,
         definition: definition_of(matches),
+        root: value(matches, "root"),
         limit,
         by_nesting: is_given(matches, "nesting"),
         as_json: is_given(matches, "json"),
@@ -63,6 +64,7 @@ fn run_line<'a>(matches: &ArgMatches<'a>) -> Option<CommandLine<'a>>
     let steps = number_or(10_000_000, value(matches, "steps"))?;
     Some(CommandLine::Run {
         file,
+        root: value(matches, "root"),
         request: value(matches, "request"),
         steps,
     })
@@ -75,6 +77,7 @@ fn page_line<'a>(matches: &ArgMatches<'a>) -> Option<CommandLine<'a>>
     Some(CommandLine::Page {
         file: value(matches, "FILE")?,
         definition: definition_of(matches),
+        root: value(matches, "root"),
     })
 }
 
@@ -84,6 +87,7 @@ fn grammar_line<'a>(matches: &ArgMatches<'a>) -> Option<CommandLine<'a>>
 {
     Some(CommandLine::Grammar {
         file: value(matches, "FILE")?,
+        root: value(matches, "root"),
     })
 }
 
@@ -106,6 +110,7 @@ fn site_line<'a>(matches: &ArgMatches<'a>) -> Option<CommandLine<'a>>
     Some(CommandLine::Site {
         file,
         definition: definition_of(matches),
+        root: value(matches, "root"),
         limit,
         by_nesting: is_given(matches, "nesting"),
     })

@@ -4,3 +4,4 @@ pub mod OneTable
 pub mod TableStays
 pub mod ForMemory
 pub mod Length
+mod Examples

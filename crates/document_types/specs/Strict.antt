@@ -19,15 +19,19 @@ strict_bytes = DECLARATIONS.now ++ ENTITIES.now
 abbrev pub file_name : List ℕ
 file_name = codes "xhtml1-strict.dtd"
 
+-- the folder out of which it asks for nothing
+abbrev pub file_root : List ℕ
+file_root = codes "."
+
 -- there is this text of that name, and no other file
 abbrev pub only_file : List ℕ → Content
 only_file = file_alone file_name
 
 -- the table that the text spells, for pages that declare XHTML 1.0 Strict (XHTML 1.0, 3.1.1)
 pub record IsStrict (text : List ℕ) (table : Table) : Type 0 where
-  pub spelled : DtdSpells (only_file text) file_name (record table { doctype = Free })
+  pub spelled : DtdSpells (only_file text) file_root file_name (record table { doctype = Free })
   pub doctype : table.doctype ≡ Strict
 
 -- why a text has none, where the source of the one file has not failed
 abbrev pub IsRefused : List ℕ → DtdRefusal → Type 0
-IsRefused text refusal = (misses : ℕ) × IsCause (source_call (only_file text) 0 0 0 misses) file_name refusal
+IsRefused text refusal = (misses : ℕ) × IsCause (source_call (only_file text) 0 0 0 misses) file_root file_name refusal

@@ -11,8 +11,10 @@ use dtd_reader::{DtdRefusal, read_dtd};
 use std::alloc::Global;
 use text_base::Bytes;
 
-/// The name of the one file.
+/// The name of the one file, and its folder.
 const FILE_NAME: &str = "xhtml1-strict.dtd";
+
+const FILE_ROOT: &str = ".";
 
 /// The document type definition that a text spells, for pages that have to declare XHTML 1.0 Strict
 /// (XHTML 1.0, 3.1.1).
@@ -30,7 +32,7 @@ pub fn read_strict(alloc: Global, text: Bytes) -> Result<Dtd, DtdRefusal>
         misses: 0,
         reads: 0,
     };
-    let dtd = read_dtd(alloc, &mut files, FILE_NAME)?;
+    let dtd = read_dtd(alloc, &mut files, FILE_ROOT, FILE_NAME)?;
     Ok(Dtd {
         elements: dtd.elements,
         entities: dtd.entities,

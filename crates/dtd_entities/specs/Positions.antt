@@ -1,7 +1,6 @@
 -- Positions of the reading, with a stack of what is left of each open entity: the form in which the code reads.
 use Rattle.std.specs.Prelude.{◌≡◌, ℕ, ◌+◌, ◌<◌, ◌≤◌, List, take, drop, length, map, Option, Some, None}
 use Rattle.std.specs.Borrow.{Bor}
-use Rattle.std.specs.String.{string_bytes}
 use Rattle.dtd_texts.specs.Places.{Place, between, in_comment, behind_target, in_instruction, inside, in_literal, in_value, behind_value, Source, internal, external, Entity}
 use Rattle.dtd_texts.specs.Reading.{Parameter, Written, State, Move, on, opens, omits, stuck, move}
 use Rattle.dtd_entities.specs.Entities.{entity_by}
@@ -29,7 +28,7 @@ place_of BehindValue text quote depth entity = behind_value entity text
 -- the plain form of what an entity stands for
 abbrev pub plain_source : CodeSource → Source
 plain_source (Internal value) = internal value
-plain_source (External name) = external (string_bytes name)
+plain_source (External name) = external name
 
 -- a source, where one is found
 abbrev pub plain_found : Option (Bor CodeSource) → Option Source
@@ -54,6 +53,8 @@ state_of r = record {
   length = r.length;
   begun = r.begun;
   references = r.references;
+  passed = r.passed;
+  file = r.file;
 }
 
 -- a move, where this state and these bytes are told

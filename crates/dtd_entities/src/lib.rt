@@ -7,9 +7,11 @@
 
 mod ended;
 mod entity;
+mod file_name;
 mod parameters;
 mod places;
 mod state;
 
+pub use file_name::FileName;
 pub use parameters::source_of;
 pub use state::{Mode, Move, Reading, Source, Written};

@@ -12,6 +12,7 @@ ghost use Rattle.std.specs.String.{string_bytes};
 
 use crate::ended::Ended;
 use crate::entity::{Ending, external, is_entity, valued};
+use crate::file_name::FileName;
 use crate::parameters::declare;
 use crate::state::{Mode, Move, Reading, Source, Written};
 use dtd_declarations::{
@@ -19,6 +20,7 @@ use dtd_declarations::{
     name_length, reference_length, same_letters, tokens_of,
 };
 use indexmap::{IndexMap, IndexSet};
+use io_edge::name_beside;
 use std::alloc::Global;
 use std::mem;
 use text_base::{Bytes, NoMemory};
@@ -48,11 +50,11 @@ fn target_length(bytes: &[u8]) -> usize
 }
 
 impl Reading {
-    /// Before all text. Takes no memory.
-    pub fn new(alloc: Global) -> Reading
-        ensures { state_of result ≡ spec.start }
+    /// Before all text.
+    pub fn new(alloc: Global) -> Result<Reading, NoMemory>
+        ensures { IfOk result (λ r. state_of r ≡ spec.start) }
     {
-        Reading {
+        Ok(Reading {
             mode: Mode::Between,
             text: Bytes::new(alloc),
             is_parameter: true,
@@ -65,7 +67,9 @@ impl Reading {
             length: 0,
             begun: 0,
             references: 0,
-        }
+            passed: 0,
+            file: FileName::new(alloc, String::new(alloc))?,
+        })
     }
 
     // So many bytes more.
@@ -300,7 +304,7 @@ impl Reading {
         requires small { self.old.length < 2 ^ 32 }
         requires some { 0 < length bytes.now }
         ensures value { IfOk result (λ m. seen m (state_of self.new) bytes.now
-            ≡ spec.moved (state_of self.old) (places.declares_parameter name (plain_source source))) }
+            ≡ spec.declared_parameter (state_of self.old) name (plain_source source)) }
         ensures within { IfOk result
             (λ m. IsWithin m (state_of self.old) (state_of self.new) bytes.now) }
     {
@@ -478,7 +482,9 @@ impl Reading {
         match ending(alloc, self.text.as_slice())? {
             Ended::Written => self.declare_written(alloc, bytes),
             Ended::Outside(name, system) => {
-                self.declare_parameter(bytes, name, Source::External(system))
+                let meant = name_beside(alloc, self.file.as_str(), system.as_str())?;
+                let meant = FileName::new(alloc, meant)?;
+                self.declare_parameter(bytes, name, Source::External(meant))
             }
             Ended::LeftOut => Ok(Move::Omits),
             Ended::Refused => Ok(Move::Stuck),
@@ -534,12 +540,16 @@ impl Reading {
         }
     }
 
-    /// Behind the beginning of an entity.
-    pub fn enter(&mut self) -> Result<(), NoMemory>
+    /// Behind the beginning of an entity and so many bytes that are passed over, in this file.
+    pub fn enter(&mut self, over: u64, file: FileName) -> Result<(), NoMemory>
         requires small { (self.old.length < 2 ^ 32) × (self.old.references < 2 ^ 32) }
-        ensures { IfOk result (λ done. state_of self.new ≡ spec.enter (state_of self.old)) }
+        requires few { (self.old.passed < 2 ^ 32) × (over < 2 ^ 32) }
+        ensures { IfOk result
+            (λ done. state_of self.new ≡ spec.enter (state_of self.old) over file) }
     {
         self.references += 1;
+        self.passed += over;
+        self.file = file;
         match self.mode {
             Mode::Inside(_) => {
                 self.text.push(b' ')?;
@@ -561,11 +571,13 @@ impl Reading {
         Ok(())
     }
 
-    /// Behind the end of an entity.
-    pub fn leave(&mut self) -> Result<(), NoMemory>
+    /// Behind the end of an entity, in this file again.
+    pub fn leave(&mut self, file: FileName) -> Result<(), NoMemory>
         requires small { self.old.length < 2 ^ 32 }
-        ensures { IfOk result (λ done. state_of self.new ≡ spec.leave (state_of self.old)) }
+        ensures { IfOk result
+            (λ done. state_of self.new ≡ spec.leave (state_of self.old) file) }
     {
+        self.file = file;
         match self.mode {
             Mode::Inside(_) => {
                 self.text.push(b' ')?;

@@ -2,6 +2,7 @@
 
 ghost use Rattle.std.specs.Prelude.{◌≤◌};
 
+use crate::file_name::FileName;
 use indexmap::{IndexMap, IndexSet};
 use text_base::Bytes;
 
@@ -24,11 +25,12 @@ pub enum Mode {
     BehindValue,
 }
 
-/// What a parameter entity stands for: a text, or the text of a file.
+/// What a parameter entity stands for: a text, or the text of a file, by its name as it is meant in
+/// the file of the definition.
 #[derive(Debug, Drop)]
 pub enum Source {
     Internal(Bytes),
-    External(String),
+    External(FileName),
 }
 
 /// A declaration of an element, of attributes or of a notation.
@@ -62,6 +64,11 @@ pub struct Reading {
     pub begun: u64,
     /// How many references were replaced.
     pub references: u64,
+    /// How many bytes of byte order marks and text declarations of entities were passed over.
+    pub passed: u64,
+    /// The file in which the text stands: its name as it is meant in the file of the definition, and
+    /// none for that file itself.
+    pub file: FileName,
     pub ghost bounded: { depth ≤ references },
 }
 

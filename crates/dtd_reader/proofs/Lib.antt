@@ -1,4 +1,5 @@
 pub mod SoFar
+pub mod Opening
 pub mod Stack
 pub mod Later
 pub mod Steps

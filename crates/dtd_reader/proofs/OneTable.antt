@@ -1,26 +1,42 @@
 -- A file spells one table.
-use Rattle.std.proofs.Common.{◌≡◌, ◌∙◌, ℕ, List, [], ◌∷◌, map, refl, sym, ap, subst, inl, inr, arith}
+use Rattle.std.proofs.Common.{◌≡◌, ◌∙◌, ℕ, Bool, true, false, List, [], ◌∷◌, Option, None, map, refl, sym, ap, subst, inl, inr, arith}
 use Rattle.dtd_model.specs.Table.{Table, Rule}
 use Rattle.dtd_model.specs.declared.dtd.DoctypeRule.{DoctypeRule}
-use Rattle.io_edge.specs.Told.{Content}
+use Rattle.std.specs.Prelude.{if◌then◌else◌}
+use Rattle.io_edge.specs.Names.{beside, is_outside}
+use Rattle.io_edge.specs.Told.{Told, known, Content}
 use Rattle.dtd_texts.specs.Reading.{State, Holds, start}
 use Rattle.dtd_texts.specs.Causes.{asks}
-use Rattle.dtd_texts.specs.Spells.{ReadsAll, Says, DtdSpells}
+use Rattle.dtd_texts.specs.Spells.{ReadsAll, Says, DtdSpells, seen_from}
 use Rattle.dtd_texts.specs.Tables.{Said, rules_of}
 use Rattle.dtd_texts.specs.Went.{leads}
 use Rattle.dtd_reader.proofs.NothingWrong.{cons_first, cons_rest}
 use Rattle.dtd_reader.specs.Certain.{IsToldOf, AreTold}
 use Rattle.dtd_reader.proofs.Told.{AsksFrom, asks_there, TellsFrom, holds_one, reads_one}
 
-asked_for : {content : Content} {name file system : List ℕ} → AreTold content name → Holds content name file → AsksFrom content [] start file system → IsToldOf content system
-asked_for told held (asks_there outer s b n bytes entity meets is shut outside) =
-    told _ (inr (record { file = _; held = held; so = asks entity outer s (record { b = b; n = n; bytes = bytes; meets = meets; is = is }) shut outside }))
+seen_told : (b : Bool) (t : Told) → (b ≡ false → (file : Option (List ℕ)) × (t ≡ known file)) → (file : Option (List ℕ)) × ((if b then known None else t) ≡ known file)
+seen_told true t told = (None, refl)
+seen_told false t told = told refl
 
-pub tells : {content : Content} {name file : List ℕ} → AreTold content name → Holds content name file → TellsFrom content [] start file
-tells told held = record { told = λ system asked. asked_for told held asked }
+asked_for : {content : Content} {root name file meant : List ℕ} → AreTold content root name → Holds content name file → AsksFrom (seen_from root name content) [] start file meant
+    → IsToldOf (seen_from root name content) meant
+asked_for {content = content} {root = root} {name = name} {meant = meant} told held (asks_there outer s b n bytes entity meets is shut outside) =
+    seen_told (is_outside root name meant) (content (beside name meant)) (λ inside. told (beside name meant) (inr (record {
+      file = _;
+      held = held;
+      so = record {
+        meant = meant;
+        asks = asks entity outer s (record { b = b; n = n; bytes = bytes; meets = meets; is = is }) shut outside;
+        found = refl;
+        inside = inside;
+      };
+    })))
+
+pub tells : {content : Content} {root name file : List ℕ} → AreTold content root name → Holds content name file → TellsFrom (seen_from root name content) [] start file
+tells told held = record { told = λ meant asked. asked_for told held asked }
 
 -- the file holds one text
-pub one_file : {content : Content} {name a b : List ℕ} → AreTold content name → Holds content name a → Holds content name b → a ≡ b
+pub one_file : {content : Content} {root name a b : List ℕ} → AreTold content root name → Holds content name a → Holds content name b → a ≡ b
 one_file {content = content} {name = name} {a = a} {b = b} told h k = holds_one content name a b (told name (inl refl)) h k
 
 leads_same : {S : Type 0} {a b : S} → leads a ≡ leads b → a ≡ b
@@ -45,7 +61,7 @@ same_last t u a b xs ys e p q te ue tn un d =
     let same : xs ≡ ys = map_leads xs ys (sym all.each ∙ q.each) in
     same_table t u (te ∙ ap (λ (zs : List Said). rules_of zs zs) same ∙ sym ue) (tn ∙ ap (λ (s : State). s.generals) e ∙ sym un) d
 
-pub one_table : (content : Content) (name : List ℕ) (t u : Table) → AreTold content name → DtdSpells content name t → DtdSpells content name u → t ≡ u
-one_table content name t u told p q =
-    let other : ReadsAll content q.file p.last = subst (λ f. ReadsAll content f p.last) (one_file told p.held q.held) p.read in
+pub one_table : (content : Content) (root name : List ℕ) (t u : Table) → AreTold content root name → DtdSpells content root name t → DtdSpells content root name u → t ≡ u
+one_table content root name t u told p q =
+    let other : ReadsAll (seen_from root name content) q.file p.last = subst (λ f. ReadsAll (seen_from root name content) f p.last) (one_file told p.held q.held) p.read in
     same_last t u p.last q.last p.says q.says (reads_one (tells told q.held) other.reads q.read.reads) p.said q.said p.elements q.elements p.entities q.entities (p.doctype ∙ sym q.doctype)

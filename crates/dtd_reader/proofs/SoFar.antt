@@ -3,7 +3,7 @@ use Rattle.std.proofs.Common.{◌≡◌, ◌∙◌, ℕ, ◌+◌, ◌<◌, true,
 use Rattle.std.proofs.lemmas.List.{drop-drop}
 use Rattle.dtd_texts.specs.Places.{external}
 use Rattle.io_edge.specs.Told.{Content}
-use Rattle.dtd_texts.specs.Reading.{State, Stands, start, on, opens, omits, stuck, move, is_among, source_of, enter, leave, Reads, at_end, takes, replaces}
+use Rattle.dtd_texts.specs.Reading.{State, Replacement, Stands, start, on, opens, omits, stuck, move, is_among, source_of, enter, leave, Reads, at_end, takes, replaces}
 use Rattle.dtd_texts.specs.Causes.{Meets, here, later, within, behind, Breaks, unlawful, Omits, Refers, Misses, circular, undeclared, Asks, asks}
 use Rattle.dtd_reader.specs.SoFar.{Frame, names, Position, first, RestMeets, SoFar}
 
@@ -38,37 +38,45 @@ pub took : (content : Content) (file : List ℕ) (s next : State) (n : ℕ) (tex
 took content file s next n [] frames h e so_far = absurd (omega (arith, h))
 took content file s next n (b ∷ bytes) frames h e so_far = took_some content file s next b n bytes frames e so_far
 
+-- what is left of the text behind a reference, in the file in which that stands
+abbrev pub left : State → ℕ → List ℕ → List ℕ → Frame
+left s n text name = record { name = name; rest = drop n text; file = s.file }
+
+-- in the text of an entity, with what is left behind the reference to it
+abbrev pub inside : State → ℕ → List ℕ → List ℕ → List Frame → Replacement → Position
+inside s n text name frames by = at (enter s by.over by.file) by.text (left s n text name ∷ frames)
+
 -- one entity more is open
-opened_some : (content : Content) (file : List ℕ) (s : State) (b n : ℕ) (bytes name text : List ℕ) (frames : List Frame) → move s (b ∷ bytes) ≡ opens name n
-    → is_among (names frames) name ≡ false → Stands content (source_of s.parameters name) text
-    → SoFar content file (at s (b ∷ bytes) frames) → SoFar content file (at (enter s) text (record { name = name; rest = drop n (b ∷ bytes) } ∷ frames))
-opened_some content file s b n bytes name text [] e shut is so_far = record {
-  reads = λ last r. so_far.reads last (replaces e shut is r.reads r.rest);
+opened_some : (content : Content) (file : List ℕ) (s : State) (b n : ℕ) (bytes name : List ℕ) (by : Replacement) (frames : List Frame) → move s (b ∷ bytes) ≡ opens name n
+    → is_among (names frames) name ≡ false → Stands content s.file (source_of s.parameters name) by
+    → SoFar content file (at s (b ∷ bytes) frames) → SoFar content file (inside s n (b ∷ bytes) name frames by)
+opened_some content file s b n bytes name by [] e shut is so_far = record {
+  reads = λ last r. so_far.reads last (replaces by e shut is r.reads r.rest);
   meets = λ outer' s' text' m. so_far.meets outer' s' text' (elim m as (λ m. RestMeets content [] s (b ∷ bytes) outer' s' text') [
-    | inl h ↦ within e shut is h
-    | inr r ↦ behind e shut is r.reads r.rest
+    | inl h ↦ within by e shut is h
+    | inr r ↦ behind by e shut is r.reads r.rest
   ]);
 }
-opened_some content file s b n bytes name text (f ∷ frames) e shut is so_far = record {
-  reads = λ last r. so_far.reads last (record { inner = r.rest.inner; reads = replaces e shut is r.reads r.rest.reads; rest = r.rest.rest });
+opened_some content file s b n bytes name by (f ∷ frames) e shut is so_far = record {
+  reads = λ last r. so_far.reads last (record { inner = r.rest.inner; reads = replaces by e shut is r.reads r.rest.reads; rest = r.rest.rest });
   meets = λ outer' s' text' m. so_far.meets outer' s' text' (elim m as (λ m. RestMeets content (f ∷ frames) s (b ∷ bytes) outer' s' text') [
-    | inl h ↦ inl (within e shut is h)
+    | inl h ↦ inl (within by e shut is h)
     | inr r ↦ (elim r.rest as (λ m. RestMeets content (f ∷ frames) s (b ∷ bytes) outer' s' text') [
-      | inl h ↦ inl (behind e shut is r.reads h)
-      | inr q ↦ inr (record { inner = q.inner; reads = replaces e shut is r.reads q.reads; rest = q.rest })
+      | inl h ↦ inl (behind by e shut is r.reads h)
+      | inr q ↦ inr (record { inner = q.inner; reads = replaces by e shut is r.reads q.reads; rest = q.rest })
     ])
   ]);
 }
 
-pub opened : (content : Content) (file : List ℕ) (s : State) (n : ℕ) (text name inner : List ℕ) (frames : List Frame) → 0 < length text → move s text ≡ opens name n
-    → is_among (names frames) name ≡ false → Stands content (source_of s.parameters name) inner
-    → SoFar content file (at s text frames) → SoFar content file (at (enter s) inner (record { name = name; rest = drop n text } ∷ frames))
-opened content file s n [] name inner frames h e shut is so_far = absurd (omega (arith, h))
-opened content file s n (b ∷ bytes) name inner frames h e shut is so_far = opened_some content file s b n bytes name inner frames e shut is so_far
+pub opened : (content : Content) (file : List ℕ) (s : State) (n : ℕ) (text name : List ℕ) (by : Replacement) (frames : List Frame) → 0 < length text → move s text ≡ opens name n
+    → is_among (names frames) name ≡ false → Stands content s.file (source_of s.parameters name) by
+    → SoFar content file (at s text frames) → SoFar content file (inside s n text name frames by)
+opened content file s n [] name by frames h e shut is so_far = absurd (omega (arith, h))
+opened content file s n (b ∷ bytes) name by frames h e shut is so_far = opened_some content file s b n bytes name by frames e shut is so_far
 
 -- the last entity has ended
 pub closed : (content : Content) (file : List ℕ) (s : State) (text : List ℕ) (f : Frame) (frames : List Frame) → text ≡ []
-    → SoFar content file (at s text (f ∷ frames)) → SoFar content file (at (leave s) f.rest frames)
+    → SoFar content file (at s text (f ∷ frames)) → SoFar content file (at (leave s f.file) f.rest frames)
 closed content file s [] f frames e so_far = record {
   reads = λ last r. so_far.reads last (record { inner = s; reads = at_end; rest = r });
   meets = λ outer' s' text' m. so_far.meets outer' s' text' (inr (record { inner = s; reads = at_end; rest = m }));
@@ -104,12 +112,13 @@ pub asked : (content : Content) (file : List ℕ) (s : State) (n : ℕ) (text na
 asked content file s n [] name system frames h e shut is so_far = absurd (omega (arith, h))
 asked content file s n (b ∷ bytes) name system frames h e shut is so_far = asks name (names frames) s (referred content file s n b bytes name frames e so_far) shut is
 
-pub closed_to : (content : Content) (file : List ℕ) (s s' : State) (text rest : List ℕ) (f : Frame) (all frames : List Frame) → text ≡ [] → all ≡ f ∷ frames → f.rest ≡ rest → s' ≡ leave s
+pub closed_to : (content : Content) (file : List ℕ) (s s' : State) (text rest around : List ℕ) (f : Frame) (all frames : List Frame) → text ≡ [] → all ≡ f ∷ frames → f.rest ≡ rest → f.file ≡ around → s' ≡ leave s around
     → SoFar content file (at s text all) → SoFar content file (at s' rest frames)
-closed_to content file s s' text rest f all frames e stack is left so_far =
-    subst (λ t. SoFar content file (at t rest frames)) (sym left)
-    (subst (λ r. SoFar content file (at (leave s) r frames)) is
-    (closed content file s text f frames e (subst (λ fs. SoFar content file (at s text fs)) stack so_far)))
+closed_to content file s s' text rest around f all frames e stack is stood there so_far =
+    subst (λ t. SoFar content file (at t rest frames)) (sym there)
+    (subst (λ r. SoFar content file (at (leave s around) r frames)) is
+    (subst (λ a. SoFar content file (at (leave s a) f.rest frames)) stood
+    (closed content file s text f frames e (subst (λ fs. SoFar content file (at s text fs)) stack so_far))))
 
 -- behind a move
 pub took_to : (content : Content) (file : List ℕ) (s s' : State) (n : ℕ) (text text' : List ℕ) (frames : List Frame) → 0 < length text → move s text ≡ on n s' → text' ≡ drop n text
@@ -124,11 +133,11 @@ pub asked_to : (content : Content) (file : List ℕ) (s : State) (n : ℕ) (text
     → is_among (names frames) name ≡ false → source_of s.parameters name ≡ Some (external system) → SoFar content file (at s text frames) → Asks content file system
 asked_to content file s n text name name' system frames h e is shut there so_far = asked content file s n text name system frames h (subst (λ m. move s text ≡ opens m n) (sym is) e) shut there so_far
 
-pub opened_to : (content : Content) (file : List ℕ) (s : State) (n : ℕ) (text name name' inner : List ℕ) (frames : List Frame) (now : Position) → 0 < length text → move s text ≡ opens name' n → name ≡ name'
-    → is_among (names frames) name ≡ false → Stands content (source_of s.parameters name) inner → now ≡ at (enter s) inner (record { name = name; rest = drop n text } ∷ frames)
+pub opened_to : (content : Content) (file : List ℕ) (s : State) (n : ℕ) (text name name' : List ℕ) (by : Replacement) (frames : List Frame) (now : Position) → 0 < length text → move s text ≡ opens name' n → name ≡ name'
+    → is_among (names frames) name ≡ false → Stands content s.file (source_of s.parameters name) by → now ≡ inside s n text name frames by
     → SoFar content file (at s text frames) → SoFar content file now
-opened_to content file s n text name name' inner frames now h e is shut there there_now so_far =
-    subst (SoFar content file) (sym there_now) (opened content file s n text name inner frames h (subst (λ m. move s text ≡ opens m n) (sym is) e) shut there so_far)
+opened_to content file s n text name name' by frames now h e is shut there there_now so_far =
+    subst (SoFar content file) (sym there_now) (opened content file s n text name by frames h (subst (λ m. move s text ≡ opens m n) (sym is) e) shut there so_far)
 
 -- behind a move, which the code gives the other way round
 pub took_by : (content : Content) (file : List ℕ) (s s' : State) (n a : ℕ) (text bytes : List ℕ) (frames : List Frame) → on n s' ≡ move s bytes → bytes ≡ drop a text → 0 < length bytes

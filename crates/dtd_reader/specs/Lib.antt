@@ -5,3 +5,4 @@ pub mod Causes
 pub mod Answers
 pub mod Refusals
 pub mod Certain
+pub mod Choices

@@ -5,15 +5,17 @@ ghost use Rattle.dtd_texts.specs.Reading.{is_among};
 ghost use Rattle.dtd_reader.specs.SoFar.{names, Frame};
 ghost use Rattle.dtd_reader.specs.Views.{frames_of};
 
+use dtd_entities::FileName;
 use indexmap::IndexMap;
 use std::alloc::Global;
 use text_base::{Bytes, NoMemory};
 
-/// A text, and how much of it is passed.
+/// A text, how much of it is passed, and the file in which it stands.
 #[derive(Debug, Drop)]
 pub struct Rest {
     pub text: Bytes,
     pub at: usize,
+    pub file: FileName,
 }
 
 /// The open entities, each with the text behind the reference that opened it.
@@ -43,7 +45,8 @@ impl Frames {
     pub fn open(&mut self, name: Bytes, rest: Rest) -> Result<(), NoMemory>
         requires { is_among (names (frames_of self.old)) name ≡ false }
         ensures { IfOk result
-            (λ done. frames_of self.new ≡ record { name = name; rest = drop rest.at rest.text }
+            (λ done. frames_of self.new
+            ≡ record { name = name; rest = drop rest.at rest.text; file = rest.file }
             ∷ frames_of self.old) }
     {
         self.frames.insert(name, rest)?;
@@ -54,7 +57,7 @@ impl Frames {
     pub fn close(&mut self) -> Option<Rest>
         ensures { MatchOption result (frames_of self.old ≡ [])
             (λ rest. (f : Frame) × (frames_of self.old ≡ f ∷ frames_of self.new)
-            × (f.rest ≡ drop rest.at rest.text)) }
+            × (f.rest ≡ drop rest.at rest.text) × (f.file ≡ rest.file)) }
     {
         match self.frames.pop() {
             Some((_, rest)) => Some(rest),

@@ -5,6 +5,7 @@
 //! Used by: document_types, phpsa_texts, phpsa_tasks, dtd_tests, page_reader_tests.
 #![tactic(auto)]
 
+mod choices;
 mod definition;
 mod frames;
 pub mod limits;

@@ -1,5 +1,8 @@
-//! The limit of what is read.
+//! The limits of what is read.
 
-/// The most bytes of a text in which all references are replaced, and the most references that are
-/// replaced in it.
+/// The most bytes of a text in which all references are replaced, with those of the text
+/// declarations of its entities, and the most references that are replaced in it.
 pub const REPLACED_LIMIT: u64 = 4_194_304;
+
+/// The most values of an attribute that is a choice.
+pub const VALUE_LIMIT: u64 = 1_024;

@@ -13,6 +13,9 @@ pub enum DtdRefusal {
     /// The source failed at this file.
     #[error("a file of the document type definition cannot be read")]
     ReadFault { name: Bytes },
+    /// The definition asks for this file, which lies outside of the root.
+    #[error("a file of the document type definition lies outside of the root")]
+    Outside { name: Bytes },
     /// The file has over 1,048,576 bytes, at least `len`.
     #[error("a file of the document type definition has {len} bytes or more")]
     TooLong { name: Bytes, len: u64 },
@@ -35,9 +38,10 @@ pub enum DtdRefusal {
     /// value holds markup or references to entities.
     #[error("what stands at {at} is left out")]
     LeftOut { at: u64 },
-    /// A limit is passed: there are `count` elements, attributes of an element, open brackets in a
-    /// content model, bytes of the replaced text, or references replaced, or more. The limits are
-    /// 1,024, 64, 200, 4,194,304 and 4,194,304.
+    /// A limit is passed: there are `count` elements, attributes of an element, values of an
+    /// attribute, open brackets in a content model, bytes of the replaced text with those of text
+    /// declarations, or references replaced, or more. The limits are 1,024, 64, 1,024, 200,
+    /// 4,194,304 and 4,194,304.
     #[error("the document type definition is too large: {count}")]
     Limit { count: u64 },
     /// No memory was left.

@@ -19,19 +19,19 @@ ghost use Rattle.dtd_reader.specs.Certain.{AreTold, AreShort, IsForLimit};
 
 /// A file spells one table, where the names that it asks for are told of.
 pub fn one_table()
-    ensures { (content : Content) (name : List ℕ) (table other : Table) → AreTold content name
-        → DtdSpells content name table →
-        DtdSpells content name other → table ≡ other }
+    ensures { (content : Content) (root name : List ℕ) (table other : Table) → AreTold content root name
+        → DtdSpells content root name table →
+        DtdSpells content root name other → table ≡ other }
 {}
 
 /// A file that spells a table is refused for a limit or want of memory alone, where the names that
 /// it asks for are told of and within the limit of a file, and the source does not fail.
 pub fn refused_for_limits()
-    ensures { (call : SourceCall) (name : List ℕ) (table : Table) (refusal : DtdRefusal)
-        → AreTold call.content name →
-        AreShort call.content name → DtdSpells call.content name table
+    ensures { (call : SourceCall) (root name : List ℕ) (table : Table) (refusal : DtdRefusal)
+        → AreTold call.content root name →
+        AreShort call.content root name → DtdSpells call.content root name table
         → (Rises call.faults call.faults' → ⊥) →
-        IsCause call name refusal → IsForLimit call.content name refusal }
+        IsCause call root name refusal → IsForLimit call.content root name refusal }
 {}
 
 /// Where declarations say something, each of them does, and no element stands twice.

@@ -9,7 +9,7 @@ use std::test::Fail;
 // Whether the front of the built-in text is a definition, or none for what it holds.
 fn front_is_judged(alloc: Global, front: &[u8]) -> Result<bool, Fail> {
     let mut files = files_of(alloc, [("d", front)].as_slice())?;
-    Ok(match read_dtd(alloc, &mut files, "d") {
+    Ok(match read_dtd(alloc, &mut files, ".", "d") {
         Ok(_) => true,
         Err(DtdRefusal::NotDtd { .. } | DtdRefusal::Undeclared { .. }) => true,
         Err(_) => false,

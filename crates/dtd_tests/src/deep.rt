@@ -16,7 +16,7 @@ fn definition(alloc: Global, text: &[u8]) -> Result<Dtd, Fail> {
         Bytes::from_slice(alloc, text)?,
     ))?;
     let mut files = MemFiles::new(held, Vec::new(alloc));
-    Ok(read_dtd(alloc, &mut files, "d")?)
+    Ok(read_dtd(alloc, &mut files, ".", "d")?)
 }
 
 // So many times these bytes, behind others.

@@ -16,7 +16,7 @@ fn read(alloc: Global, text: &str) -> Result<Dtd, Fail> {
         Bytes::from_slice(alloc, text.as_bytes())?,
     ))?;
     let mut files = MemFiles::new(held, Vec::new(alloc));
-    Ok(read_dtd(alloc, &mut files, "d")?)
+    Ok(read_dtd(alloc, &mut files, ".", "d")?)
 }
 
 // The automata of a definition, and the state that its first element begins in.

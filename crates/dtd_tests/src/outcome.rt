@@ -16,6 +16,7 @@ fn refusal_line(alloc: Global, refusal: &DtdRefusal) -> Result<String, AllocErro
         DtdRefusal::Missing { name } => format!(in alloc; "Missing {}", shown(name)),
         DtdRefusal::ReadFault { name } => format!(in alloc; "ReadFault {}", shown(name)),
         DtdRefusal::TooLong { name, len } => format!(in alloc; "TooLong {} {len}", shown(name)),
+        DtdRefusal::Outside { name } => format!(in alloc; "Outside {}", shown(name)),
         DtdRefusal::NotDtd { at } => format!(in alloc; "NotDtd {at}"),
         DtdRefusal::Entity { name } => format!(in alloc; "Entity {}", shown(name)),
         DtdRefusal::Twice { name } => format!(in alloc; "Twice {}", shown(name)),
@@ -65,9 +66,9 @@ pub fn files_of(alloc: Global, files: &[(&str, &[u8])]) -> Result<MemFiles, NoMe
     Ok(MemFiles::new(held, Vec::new(alloc)))
 }
 
-/// What reading the file `d` comes to.
+/// What reading the file `d` comes to, where the folder of the call is the root.
 pub fn outcome(alloc: Global, mut files: MemFiles) -> Result<String, AllocError> {
-    match read_dtd(alloc, &mut files, "d") {
+    match read_dtd(alloc, &mut files, ".", "d") {
         Ok(dtd) => table_line(alloc, &dtd),
         Err(refusal) => refusal_line(alloc, &refusal),
     }

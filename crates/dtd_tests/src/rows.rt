@@ -34,6 +34,9 @@ fn tables(rt: HostRuntime) -> Result<(), Fail> {
 <!ENTITY % d '&#60;!ELEMENT a EMPTY>'>%d; => Ok a Empty
 <!ENTITY % e SYSTEM "e">%e; => Ok e Empty
 <!ENTITY % e PUBLIC "-//a//b" 'e' > %e; => Ok e Empty
+<!ENTITY % e SYSTEM ".//x/../e">%e; => Ok e Empty
+<!ENTITY % e SYSTEM "/e">%e; => Outside /e
+<!ENTITY % e SYSTEM "../e">%e; => Outside ../e
 <!ELEMENT a EMPTY><!ATTLIST a x CDATA #IMPLIED> => Ok a Empty @x Cdata Implied
 <!ATTLIST a x ID #REQUIRED y IDREFS 'q'><!ELEMENT a EMPTY> => Ok a Empty @x Id Required @y Idrefs Default
 <!ELEMENT a EMPTY><!ATTLIST a x IDREF #IMPLIED><!ATTLIST a x CDATA #REQUIRED y NMTOKENS #IMPLIED> => Ok a Empty @x Idref Implied @y Nmtokens Implied

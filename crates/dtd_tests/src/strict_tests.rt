@@ -11,7 +11,7 @@ use std::test::Fail;
 // The definition that the W3C's declarations spell.
 fn by_the_w3c(alloc: Global) -> Result<Dtd, DtdRefusal> {
     let mut files = files_of(alloc, [("w", W3C_STRICT.as_bytes())].as_slice())?;
-    read_dtd(alloc, &mut files, "w")
+    read_dtd(alloc, &mut files, ".", "w")
 }
 
 #[test]

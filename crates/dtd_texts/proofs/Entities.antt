@@ -254,16 +254,17 @@ closed_named (in_value entity quote value zero) h = h
 closed_named (in_value entity quote value (suc depth)) h = h
 closed_named (behind_value entity value) h = h
 
-enter_keeps : (s : State) → Keeps s → Keeps (enter s)
-enter_keeps s k = record { named = opened_named s.place k.named; names = k.names }
+enter_keeps : (s : State) (over : ℕ) (file : List ℕ) → Keeps s → Keeps (enter s over file)
+enter_keeps s over file k = record { named = opened_named s.place k.named; names = k.names }
 
-leave_keeps : (s : State) → Keeps s → Keeps (leave s)
-leave_keeps s k = record { named = closed_named s.place k.named; names = k.names }
+leave_keeps : (s : State) (file : List ℕ) → Keeps s → Keeps (leave s file)
+leave_keeps s file k = record { named = closed_named s.place k.named; names = k.names }
 
 reads_keeps : {content : Content} {outer : List (List ℕ)} {s last : State} {bytes : List ℕ} → Reads content outer s bytes last → Keeps s → Keeps last
 reads_keeps at_end k = k
 reads_keeps (takes {s = s} {next = next} e rest) k = reads_keeps rest (move_keeps s next _ _ e k)
-reads_keeps (replaces {s = s} {inner = inner} e shut is within behind) k = reads_keeps behind (leave_keeps inner (reads_keeps within (enter_keeps s k)))
+reads_keeps (replaces {s = s} {inner = inner} by e shut is within rest) k =
+    reads_keeps rest (leave_keeps inner s.file (reads_keeps within (enter_keeps s by.over by.file k)))
 
 pub entities_named : (content : Content) (file : List ℕ) (last : State) → Reads content [] start file last → are_names last.generals ≡ true
 entities_named content file last r = (reads_keeps r (record { named = tt; names = refl })).names

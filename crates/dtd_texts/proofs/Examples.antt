@@ -3,11 +3,12 @@ use Rattle.std.proofs.Common.{◌≡◌, ℕ, false, List, [], ◌∷◌, refl, 
 use Rattle.std.specs.Prelude.{codes, if◌then◌else◌, map}
 use Rattle.std.specs.Char.{encode_utf8}
 use Rattle.std.specs.Str.{is_utf8, chars}
+use Rattle.io_edge.specs.Names.{beside, normal, normal_parts}
 use Rattle.dtd_model.specs.Table.{one, sequence, choice, optional, any_number, at_least_one, no_models, more_models, Holding, nothing, anything, text_and, children, cdata, nmtokens, one_of, required, with_default, fixed, Rule}
 use Rattle.dtd_texts.specs.Heads.{same, name_length, named_length, digits_length, character_length, character_number, has_references}
 use Rattle.dtd_texts.specs.Tokens.{token_at, token_length, tokens_behind, setting, is_declaration, before_end, declaration_length, behind_declaration}
-use Rattle.dtd_texts.specs.Places.{inside, Source, internal, between_step, comment_step, target_step, instruction_step, entity_of, quote_step, external_step, end_step, inside_step, literal_step, value_step, behind_step}
-use Rattle.dtd_texts.specs.Reading.{Parameter, start}
+use Rattle.dtd_texts.specs.Places.{inside, Source, internal, external, between_step, comment_step, target_step, instruction_step, entity_of, quote_step, external_step, end_step, inside_step, literal_step, value_step, behind_step}
+use Rattle.dtd_texts.specs.Reading.{Parameter, source_in, start}
 use Rattle.dtd_texts.specs.Went.{all_steps}
 use Rattle.dtd_texts.specs.AttributeLists.{kind_named}
 use Rattle.dtd_texts.specs.Tables.{said, declared, with_others}
@@ -193,7 +194,7 @@ first_counts = refl
 
 -- an entity with its text outside, behind a text declaration
 outside_text : seen_in (codes "<!ENTITY % e SYSTEM 'm'>%e;<!ELEMENT b %c;><!ELEMENT c EMPTY>") ≡ rules (plain (codes "b") (children (choice (more_models (one 0) (more_models (one 1) no_models)))) ∷ plain (codes "c") nothing ∷ []) []
-unfolding name_length named_length digits_length character_length character_number has_references tokens_behind token_at token_length setting is_declaration before_end declaration_length between_step comment_step target_step instruction_step entity_of quote_step external_step end_step inside_step literal_step value_step behind_step kind_named said declared with_others all_steps encode_utf8 is_utf8 chars
+unfolding beside normal normal_parts name_length named_length digits_length character_length character_number has_references tokens_behind token_at token_length setting is_declaration before_end declaration_length between_step comment_step target_step instruction_step entity_of quote_step external_step end_step inside_step literal_step value_step behind_step kind_named said declared with_others all_steps encode_utf8 is_utf8 chars
 outside_text = refl
 
 -- a reference before the declaration
@@ -223,7 +224,7 @@ no_end = refl
 
 -- no text outside of this name
 not_outside : seen_in (codes "<!ENTITY % e SYSTEM 'n'>%e;") ≡ stops [] (codes "%e;") 24
-unfolding name_length named_length digits_length character_length character_number has_references tokens_behind token_at token_length setting is_declaration before_end declaration_length between_step comment_step target_step instruction_step entity_of quote_step external_step end_step inside_step literal_step value_step behind_step kind_named said declared with_others all_steps encode_utf8 is_utf8 chars
+unfolding beside normal normal_parts name_length named_length digits_length character_length character_number has_references tokens_behind token_at token_length setting is_declaration before_end declaration_length between_step comment_step target_step instruction_step entity_of quote_step external_step end_step inside_step literal_step value_step behind_step kind_named said declared with_others all_steps encode_utf8 is_utf8 chars
 not_outside = refl
 
 -- a text declaration and a byte order mark are passed over (4.3.1)
@@ -235,3 +236,8 @@ text_declaration = refl
 other_encoding : behind_declaration (codes "<?xml encoding='latin1'?>a") ≡ codes "<?xml encoding='latin1'?>a"
 unfolding tokens_behind token_at token_length setting is_declaration before_end declaration_length
 other_encoding = refl
+
+-- a name is taken from the folder of the file in which its declaration stands (4.2.2)
+beside_its_file : source_in (codes "d/x") (external (codes "../e/y")) ≡ external (codes "e/y")
+unfolding beside normal normal_parts
+beside_its_file = refl

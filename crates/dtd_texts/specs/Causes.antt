@@ -2,7 +2,7 @@
 use Rattle.std.specs.Prelude.{◌≡◌, ◌≢◌, ℕ, true, false, List, [], ◌∷◌, drop, Some, None}
 use Rattle.dtd_texts.specs.Places.{between, external}
 use Rattle.io_edge.specs.Told.{Content}
-use Rattle.dtd_texts.specs.Reading.{State, Stands, start, Reads, move, on, opens, omits, stuck, is_among, source_of, enter, leave}
+use Rattle.dtd_texts.specs.Reading.{State, Replacement, Stands, start, Reads, move, on, opens, omits, stuck, is_among, source_of, enter, leave}
 
 -- In reading the text from this state, while these entities are open, one comes to a state in which other entities are
 -- open and some of the text of the last one is left.
@@ -11,12 +11,12 @@ pub data Meets (content : Content) : List (List ℕ) → State → List ℕ → 
   later : {outer outer' : List (List ℕ)} {s next s' : State} {b n : ℕ} {bytes bytes' : List ℕ} →
       move s (b ∷ bytes) ≡ on n next → Meets content outer next (drop n (b ∷ bytes)) outer' s' bytes'
       → Meets content outer s (b ∷ bytes) outer' s' bytes'
-  within : {outer outer' : List (List ℕ)} {s s' : State} {b n : ℕ} {bytes bytes' name text : List ℕ} →
-      move s (b ∷ bytes) ≡ opens name n → is_among outer name ≡ false → Stands content (source_of s.parameters name) text →
-      Meets content (name ∷ outer) (enter s) text outer' s' bytes' → Meets content outer s (b ∷ bytes) outer' s' bytes'
-  behind : {outer outer' : List (List ℕ)} {s inner s' : State} {b n : ℕ} {bytes bytes' name text : List ℕ} →
-      move s (b ∷ bytes) ≡ opens name n → is_among outer name ≡ false → Stands content (source_of s.parameters name) text →
-      Reads content (name ∷ outer) (enter s) text inner → Meets content outer (leave inner) (drop n (b ∷ bytes)) outer' s' bytes' →
+  within : {outer outer' : List (List ℕ)} {s s' : State} {b n : ℕ} {bytes bytes' name : List ℕ} (r : Replacement) →
+      move s (b ∷ bytes) ≡ opens name n → is_among outer name ≡ false → Stands content s.file (source_of s.parameters name) r →
+      Meets content (name ∷ outer) (enter s r.over r.file) r.text outer' s' bytes' → Meets content outer s (b ∷ bytes) outer' s' bytes'
+  behind : {outer outer' : List (List ℕ)} {s inner s' : State} {b n : ℕ} {bytes bytes' name : List ℕ} (r : Replacement) →
+      move s (b ∷ bytes) ≡ opens name n → is_among outer name ≡ false → Stands content s.file (source_of s.parameters name) r →
+      Reads content (name ∷ outer) (enter s r.over r.file) r.text inner → Meets content outer (leave inner s.file) (drop n (b ∷ bytes)) outer' s' bytes' →
       Meets content outer s (b ∷ bytes) outer' s' bytes'
 
 -- what stands there is none of what may, or the text ends within a declaration; the place is where that begins, in the

@@ -1,7 +1,8 @@
 -- How a document type definition text is read with its parameter entities replaced.
-use Rattle.std.specs.Prelude.{◌≡◌, ℕ, zero, suc, ◌+◌, Bool, false, if◌then◌else◌, List, [], ◌∷◌, ◌++◌, drop, Option, Some, None, bytes_eq}
+use Rattle.std.specs.Prelude.{◌≡◌, ℕ, zero, suc, ◌+◌, Bool, false, if◌then◌else◌, List, [], ◌∷◌, ◌++◌, drop, length, Option, Some, None, bytes_eq}
 use Rattle.std.specs.Option.{is_some}
 use Rattle.std.specs.List.{list_any}
+use Rattle.io_edge.specs.Names.{beside}
 use Rattle.io_edge.specs.Told.{Content, known, Tells}
 use Rattle.dtd_texts.specs.Heads.{same}
 use Rattle.dtd_texts.specs.Tokens.{behind_declaration}
@@ -20,7 +21,8 @@ pub record Written : Type 0 where
 
 -- What is known behind some of the text: the place, which parameter entities and general entities are declared, the other
 -- declarations, how many bytes the replaced text has, how many it had where the reading last stood between declarations,
--- and how many references were replaced.
+-- how many references were replaced, how many bytes of byte order marks and text declarations of entities were passed over,
+-- and in which file the text stands: by its name as the file of the definition means it, which is empty for that file itself.
 pub record State : Type 0 where
   pub place : Place
   pub parameters : List Parameter
@@ -29,15 +31,23 @@ pub record State : Type 0 where
   pub length : ℕ
   pub begun : ℕ
   pub references : ℕ
+  pub passed : ℕ
+  pub file : List ℕ
 
 -- before the first byte: between declarations, with nothing declared and no byte counted
 abbrev pub start : State
-start = record { place = between; parameters = []; generals = []; written = []; length = 0; begun = 0; references = 0 }
+start = record { place = between; parameters = []; generals = []; written = []; length = 0; begun = 0; references = 0; passed = 0; file = [] }
 
 -- what the parameter entity of this name stands for, if one is declared
 abbrev pub source_of : List Parameter → List ℕ → Option Source
 source_of [] name = None
 source_of (p ∷ ps) name = if same name p.name then Some p.source else source_of ps name
+
+-- What a declaration declares in this file, which is the one in which it ends: a system literal is taken from the folder of
+-- the file (4.2.2; there of the file in which the declaration begins, which is the same where it ends in the file).
+abbrev pub source_in : List ℕ → Source → Source
+source_in file (internal value) = internal value
+source_in file (external name) = external (beside file name)
 
 -- the first declaration of a name counts (XML 1.0, 4.2)
 abbrev pub with_parameter : List Parameter → List ℕ → Source → List Parameter
@@ -61,11 +71,20 @@ pub record Holds (content : Content) (name text : List ℕ) : Type 0 where
   pub told : Tells (content name) (Some whole)
   pub is : behind_declaration whole ≡ text
 
--- this is the replacement text of an entity that is declared
-abbrev pub Stands : Content → Option Source → List ℕ → Type 0
-Stands content None text = ⊥
-Stands content (Some (internal value)) text = value ≡ text
-Stands content (Some (external name)) text = Holds content name text
+-- the text that stands in the place of a reference, how many bytes of a byte order mark and a text declaration are passed
+-- over before it, and the file in which it stands
+pub record Replacement : Type 0 where
+  pub text : List ℕ
+  pub over : ℕ
+  pub file : List ℕ
+
+-- this stands for an entity that is declared as this, where a reference to it stands in this file: a text in the file of the
+-- reference, or what the file of the name holds (4.4.5, 4.4.8)
+abbrev pub Stands : Content → List ℕ → Option Source → Replacement → Type 0
+Stands content here None r = ⊥
+Stands content here (Some (internal value)) r = (value ≡ r.text) × (r.over ≡ 0) × (r.file ≡ here)
+Stands content here (Some (external name)) r =
+    (held : Holds content name r.text) × (length held.whole ≡ r.over + length r.text) × (r.file ≡ name)
 
 -- how many bytes the replaced text had where the reading last stood between declarations: all so far, if it stands there now
 abbrev pub begun_at : Place → ℕ → ℕ → ℕ
@@ -88,6 +107,8 @@ moved_to s n references place = record {
   length = s.length + n;
   begun = begun_at place (s.length + n) s.begun;
   references = s.references + references;
+  passed = s.passed;
+  file = s.file;
 }
 
 -- so many bytes on, in this place; no reference is replaced
@@ -143,13 +164,14 @@ space_behind (in_value entity quote value zero) = 1
 space_behind (in_value entity quote value (suc depth)) = 0
 space_behind (behind_value entity value) = 1
 
--- before the text of an entity: behind the space before it, with one reference more
-abbrev pub enter : State → State
-enter s = moved_to s (space_before s.place) 1 (opened s.place)
+-- before the text of an entity: behind the space before it and a text declaration of so many bytes, in this file, with one
+-- reference more
+abbrev pub enter : State → ℕ → List ℕ → State
+enter s over file = record (moved_to s (space_before s.place) 1 (opened s.place)) { passed = s.passed + over; file = file }
 
--- behind the text of an entity and the space behind it
-abbrev pub leave : State → State
-leave s = moved_to s (space_behind s.place) 0 (closed s.place)
+-- behind the text of an entity and the space behind it, in this file again
+abbrev pub leave : State → List ℕ → State
+leave s file = record (moved_to s (space_behind s.place) 0 (closed s.place)) { file = file }
 
 -- so many bytes on to a state; a reference to this entity, of so many bytes; what is left out; or what may not stand there
 pub data Move : Type 0 where
@@ -158,10 +180,14 @@ pub data Move : Type 0 where
   omits : Move
   stuck : Move
 
+-- behind the `>` of the declaration of a parameter entity
+abbrev pub declared_parameter : State → List ℕ → Source → Move
+declared_parameter s name source = on 1 (record (on_to s 1 between) { parameters = with_parameter s.parameters name source })
+
 -- what a step does to the state: a declaration is noted, where the first of an entity counts, and the `>` of it is one byte
 abbrev pub moved : State → Step → Move
 moved s (goes n place) = on n (on_to s n place)
-moved s (declares_parameter name source) = on 1 (record (on_to s 1 between) { parameters = with_parameter s.parameters name source })
+moved s (declares_parameter name source) = declared_parameter s name (source_in s.file source)
 moved s (declares_general name) = on 1 (record (on_to s 1 between) { generals = with_name s.generals name })
 moved s (declares text) = on 1 (record (on_to s 1 between) { written = s.written ++ record { text = text; at = s.begun } ∷ [] })
 moved s (refers name n) = opens name n
@@ -179,7 +205,7 @@ pub data Reads (content : Content) : List (List ℕ) → State → List ℕ → 
   at_end : {outer : List (List ℕ)} {s : State} → Reads content outer s [] s
   takes : {outer : List (List ℕ)} {s next last : State} {b n : ℕ} {bytes : List ℕ} →
       move s (b ∷ bytes) ≡ on n next → Reads content outer next (drop n (b ∷ bytes)) last → Reads content outer s (b ∷ bytes) last
-  replaces : {outer : List (List ℕ)} {s inner last : State} {b n : ℕ} {bytes name text : List ℕ} →
-      move s (b ∷ bytes) ≡ opens name n → is_among outer name ≡ false → Stands content (source_of s.parameters name) text →
-      Reads content (name ∷ outer) (enter s) text inner → Reads content outer (leave inner) (drop n (b ∷ bytes)) last →
+  replaces : {outer : List (List ℕ)} {s inner last : State} {b n : ℕ} {bytes name : List ℕ} (r : Replacement) →
+      move s (b ∷ bytes) ≡ opens name n → is_among outer name ≡ false → Stands content s.file (source_of s.parameters name) r →
+      Reads content (name ∷ outer) (enter s r.over r.file) r.text inner → Reads content outer (leave inner s.file) (drop n (b ∷ bytes)) last →
       Reads content outer s (b ∷ bytes) last

@@ -31,9 +31,10 @@ pub fn nothing_missing()
         ReadsAll content file last → Asks content file name → ¬ Tells (content name) None }
 {}
 
-/// On the way the replaced text is never longer than in the end, nor are more references replaced.
+/// On the way the replaced text is never longer than in the end, nor are more references replaced or
+/// more bytes passed over.
 pub fn never_larger()
     ensures { (content : Content) (file : List ℕ) (s last : State) → IsTold content →
         ReadsAll content file last → Comes content file s → (s.length ≤ last.length)
-        × (s.references ≤ last.references) }
+        × (s.references ≤ last.references) × (s.passed ≤ last.passed) }
 {}

@@ -9,7 +9,7 @@ use Rattle.program_rules.specs.Rules.{is_known, serves_call}
 use Rattle.tree_walks.specs.declared.call.Call.{Call}
 use Rattle.tree_walks.specs.Seen.{plain_call, calls_seen}
 use Rattle.program_files.specs.declared.refusal.LoadRefusal.{LoadRefusal}
-use Rattle.program_files.specs.declared.refusal.LoadRefusal.TheVariants.{Missing, ReadFault, TooLong, Script, IncludeCycle, DoubleFunction, UnknownFunction, Arity, TooMany, Memory}
+use Rattle.program_files.specs.declared.refusal.LoadRefusal.TheVariants.{Missing, Outside, ReadFault, TooLong, Script, IncludeCycle, DoubleFunction, UnknownFunction, Arity, TooMany, Memory}
 use Rattle.include_expansion.specs.FileCalls.{calls_in_files}
 use Rattle.program_sizes.specs.FileRules.{AreOnce, AreKnown, AreServed}
 use Rattle.function_rules.specs.Causes.{NoneIs, IsFirst, is_unknown, is_misused, IsUnknownCause, IsArityCause, IsFunctionCause}
@@ -56,6 +56,7 @@ all_served files calls same none call c =
 -- the causes
 pub unknown_so : (files : List ReadFile) (calls : List PlainCall) → calls ≡ calls_in_files files → AreOnce files → (refusal : LoadRefusal) → IsUnknownCause (functions_in files) calls refusal → IsFunctionCause files refusal
 unknown_so files calls same once (Missing name) cause = cause
+unknown_so files calls same once (Outside name) cause = cause
 unknown_so files calls same once (ReadFault name) cause = cause
 unknown_so files calls same once (TooLong name len) cause = cause
 unknown_so files calls same once (Script name fault) cause = cause
@@ -68,6 +69,7 @@ unknown_so files calls same once Memory cause = cause
 
 pub arity_so : (files : List ReadFile) (calls : List PlainCall) → calls ≡ calls_in_files files → AreOnce files → AreKnown files → (refusal : LoadRefusal) → IsArityCause (functions_in files) calls refusal → IsFunctionCause files refusal
 arity_so files calls same once known (Missing name) cause = cause
+arity_so files calls same once known (Outside name) cause = cause
 arity_so files calls same once known (ReadFault name) cause = cause
 arity_so files calls same once known (TooLong name len) cause = cause
 arity_so files calls same once known (Script name fault) cause = cause

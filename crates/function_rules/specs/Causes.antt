@@ -6,7 +6,7 @@ use Rattle.program_rules.specs.Calls.{PlainCall}
 use Rattle.program_rules.specs.Programs.{ReadFile, functions_in}
 use Rattle.program_rules.specs.Rules.{DefinesTwice, is_known, serves_call}
 use Rattle.program_files.specs.declared.refusal.LoadRefusal.{LoadRefusal}
-use Rattle.program_files.specs.declared.refusal.LoadRefusal.TheVariants.{Missing, ReadFault, TooLong, Script, IncludeCycle, DoubleFunction, UnknownFunction, Arity, TooMany, Memory}
+use Rattle.program_files.specs.declared.refusal.LoadRefusal.TheVariants.{Missing, Outside, ReadFault, TooLong, Script, IncludeCycle, DoubleFunction, UnknownFunction, Arity, TooMany, Memory}
 use Rattle.include_expansion.specs.FileCalls.{calls_in_files}
 use Rattle.program_sizes.specs.FileRules.{AreOnce, AreKnown}
 
@@ -29,6 +29,7 @@ NoneIs test calls = find test calls ≡ None
 -- why the definitions of functions are refused
 abbrev pub IsDoubleCause : List PlainFunction → LoadRefusal → Type 0
 IsDoubleCause functions (Missing name) = ⊥
+IsDoubleCause functions (Outside name) = ⊥
 IsDoubleCause functions (ReadFault name) = ⊥
 IsDoubleCause functions (TooLong name len) = ⊥
 IsDoubleCause functions (Script name fault) = ⊥
@@ -42,6 +43,7 @@ IsDoubleCause functions Memory = ⊤
 -- why calls are refused for their names
 abbrev pub IsUnknownCause : List PlainFunction → List PlainCall → LoadRefusal → Type 0
 IsUnknownCause functions calls (Missing name) = ⊥
+IsUnknownCause functions calls (Outside name) = ⊥
 IsUnknownCause functions calls (ReadFault name) = ⊥
 IsUnknownCause functions calls (TooLong name len) = ⊥
 IsUnknownCause functions calls (Script name fault) = ⊥
@@ -55,6 +57,7 @@ IsUnknownCause functions calls Memory = ⊤
 -- and for their arguments
 abbrev pub IsArityCause : List PlainFunction → List PlainCall → LoadRefusal → Type 0
 IsArityCause functions calls (Missing name) = ⊥
+IsArityCause functions calls (Outside name) = ⊥
 IsArityCause functions calls (ReadFault name) = ⊥
 IsArityCause functions calls (TooLong name len) = ⊥
 IsArityCause functions calls (Script name fault) = ⊥
@@ -68,6 +71,7 @@ IsArityCause functions calls Memory = ⊤
 -- why the files of a program break the rules on functions: the first rule that is broken, in this order
 abbrev pub IsFunctionCause : List ReadFile → LoadRefusal → Type 0
 IsFunctionCause files (Missing name) = ⊥
+IsFunctionCause files (Outside name) = ⊥
 IsFunctionCause files (ReadFault name) = ⊥
 IsFunctionCause files (TooLong name len) = ⊥
 IsFunctionCause files (Script name fault) = ⊥

@@ -7,7 +7,7 @@ use Rattle.std.specs.declared.alloc.Global.{Global}
 use Rattle.php_syntax.specs.declared.tree.Expr.{Expr}
 use Rattle.php_syntax.specs.declared.tree.Stmt.{Stmt}
 use Rattle.php_syntax.specs.Trees.{PlainStmts, PlainArms, no_arms, more_arms, plain_expr, stmts_of, arms_of}
-use Rattle.program_rules.specs.Expansion.{with_bodies, with_bodies_in_arms}
+use Rattle.program_rules.specs.Bodies.{with_bodies, with_bodies_in_arms}
 
 abbrev pub Arm : Type 0
 Arm = Expr × Vec Stmt Global

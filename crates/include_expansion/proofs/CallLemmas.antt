@@ -6,9 +6,9 @@ use Rattle.std.proofs.lemmas.List.Elements.{Contains-append_cases, Contains-appe
 use Rattle.php_syntax.specs.Trees.{PlainStmt, inline_stmt, echo_stmt, run_stmt, if_stmt, while_stmt, do_while_stmt, for_stmt, each_stmt, break_stmt, continue_stmt, return_stmt, include_stmt, quit_stmt, PlainStmts, no_stmts, more_stmts, PlainArms, no_arms, more_arms, PlainFunction}
 use Rattle.program_expressions.specs.Collected.{key_collected, collected_of, bodies_collected}
 use Rattle.program_rules.specs.Calls.{PlainCall, own_call, calls_in, maybe_calls, part_calls, calls_of, statement_calls, arm_calls, function_calls, calls_of_program}
-use Rattle.program_rules.specs.Expansion.{followed_by, with_bodies, with_bodies_in, with_bodies_in_arms}
+use Rattle.program_rules.specs.Bodies.{followed_by, with_bodies, with_bodies_in, with_bodies_in_arms, with_body}
 use Rattle.program_rules.specs.Programs.{ReadFile, functions_in}
-use Rattle.include_expansion.specs.Within.{tree_named, bodies_within, with_body, program_within}
+use Rattle.include_expansion.specs.Within.{tree_named, bodies_within, program_within}
 use Rattle.include_expansion.specs.FileCalls.{calls_of_file, calls_in_files}
 
 -- each of the first is one of the others

@@ -8,7 +8,7 @@ use Rattle.php_syntax.specs.declared.tree.Stmt.{Stmt}
 use Rattle.php_syntax.specs.declared.tree.FunctionDef.{FunctionDef}
 use Rattle.php_syntax.specs.Height.{stmts_height}
 use Rattle.php_syntax.specs.Trees.{PlainStmts, no_stmts, PlainFunction, PlainFile, plain_stmt, stmts_of, plain_function, functions_of_list}
-use Rattle.program_rules.specs.Expansion.{followed_by, with_bodies, with_bodies_in}
+use Rattle.program_rules.specs.Bodies.{followed_by, with_bodies, with_bodies_in}
 use Rattle.program_rules.specs.Programs.{ReadFile, functions_in}
 use Rattle.program_files.specs.Order.{is_read, place_of}
 use Rattle.include_expansion.specs.Within.{tree_named, bodies_within}

@@ -2,7 +2,7 @@
 use Rattle.std.proofs.Common.{◌≡◌, List, [], ◌∷◌, ◌++◌, refl, ap}
 use Rattle.php_syntax.specs.declared.tree.Stmt.{Stmt}
 use Rattle.php_syntax.specs.Trees.{PlainStmt, PlainStmts, no_stmts, more_stmts, plain_stmt, stmts_of}
-use Rattle.program_rules.specs.Expansion.{followed_by}
+use Rattle.program_rules.specs.Bodies.{followed_by}
 
 pub followed-none : (a : PlainStmts) → followed_by a no_stmts ≡ a
 unfolding followed_by

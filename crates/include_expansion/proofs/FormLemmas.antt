@@ -3,7 +3,7 @@ use Rattle.std.proofs.Common.{◌≡◌, ℕ, true, List, refl}
 use Rattle.std.specs.Prelude.{◌&&◌}
 use Rattle.php_syntax.specs.Trees.{PlainStmt, inline_stmt, echo_stmt, run_stmt, if_stmt, while_stmt, do_while_stmt, for_stmt, each_stmt, break_stmt, continue_stmt, return_stmt, include_stmt, quit_stmt, PlainStmts, no_stmts, more_stmts, PlainArms, no_arms, more_arms}
 use Rattle.spellable.specs.Spellable.{expr_spellable, maybe_spellable, exprs_spellable, is_maybe_name, is_name, is_some_arms, stmt_spellable, stmts_spellable, arms_spellable}
-use Rattle.program_rules.specs.Expansion.{followed_by, with_bodies, with_bodies_in, with_bodies_in_arms}
+use Rattle.program_rules.specs.Bodies.{followed_by, with_bodies, with_bodies_in, with_bodies_in_arms}
 use Rattle.include_expansion.proofs.Tests.{left, right, both, second, first}
 
 followed : (a b : PlainStmts) → stmts_spellable a ≡ true → stmts_spellable b ≡ true → stmts_spellable (followed_by a b) ≡ true

@@ -2,8 +2,6 @@ pub mod Followed
 pub mod Measures
 pub mod ArmLemmas
 pub mod FileLemmas
-pub mod NameLemmas
-pub mod HeldLemmas
 pub mod ReadLemmas
 pub mod OrderLemmas
 pub mod WholeLemmas

@@ -6,7 +6,8 @@ use Rattle.std.proofs.lemmas.Grind.{common_steps}
 use Rattle.php_syntax.specs.Trees.{PlainStmts, PlainFile}
 use Rattle.program_rules.specs.Files.{Held, HasOneTree}
 use Rattle.program_rules.specs.Includes.{includes_in, includes_in_functions, includes_of_file, LeadsTo, directly, through}
-use Rattle.program_rules.specs.Expansion.{with_bodies, StandsFor, stands}
+use Rattle.program_rules.specs.Bodies.{with_bodies}
+use Rattle.program_rules.specs.Expansion.{StandsFor, stands}
 use Rattle.program_rules.specs.Limits.{HasPlaces, counted, one_each}
 use Rattle.program_rules.specs.Programs.{ReadFile}
 use Rattle.include_expansion.specs.Within.{tree_named, bodies_within, places_within, IsIncludeOrder, AreHeld}

@@ -1,42 +1,16 @@
 -- The files in the order of their includes are those that the program reads.
-use Rattle.std.proofs.Common.{◌≡◌, ◌∙◌, ℕ, zero, suc, true, List, [], ◌∷◌, ◌++◌, Some, slice_get, inl, inr, refl, sym, ap, subst, arith, true≢false}
+use Rattle.std.proofs.Common.{◌≡◌, ◌∙◌, ℕ, true, List, [], ◌∷◌, ◌++◌, Some, slice_get, inl, inr, refl, sym, ap, subst, arith, true≢false}
 use Rattle.std.specs.Prelude.{◌⊎◌}
 use Rattle.std.specs.List.{Contains}
-use Rattle.std.proofs.lemmas.List.Elements.{Contains-append_cases, Contains-push_cases, Contains-append_left, Contains-append_right}
+use Rattle.std.proofs.lemmas.List.Elements.{Contains-push_cases, Contains-append_left, Contains-append_right}
 use Rattle.php_syntax.specs.Trees.{PlainFile}
 use Rattle.strong_components.proofs.OrderListLemmas.{push_cases}
 use Rattle.program_rules.specs.Files.{Held, HasTree, HasOneTree}
 use Rattle.program_rules.specs.Includes.{Reads, itself, included, includes_of_file}
 use Rattle.program_rules.specs.Programs.{ReadFile, AreRead}
 use Rattle.program_files.specs.Order.{is_read, Reached, begun, again, next}
-use Rattle.include_expansion.proofs.NameLemmas.{still_read, now_read, tree_there, read_at, contains_later}
-
-first_or_later : (x y : List ℕ) (xs : List (List ℕ)) → Contains (x ∷ xs) y → (x ≡ y) ⊎ Contains xs y
-first_or_later x y xs (zero, lt, is) = inl is
-first_or_later x y xs (suc k, lt, is) = inr (k, omega arith, is)
-
-no_member : {X : Type 0} (x : X) → Contains [] x → ⊥
-no_member x c = let h = c.1 in omega arith
-
--- each name that is looked at is one that the program reads
-pub paths_read : (held : Held) (name : List ℕ) (files : List ReadFile) (paths : List (List ℕ)) → Reached (HasTree held) name files paths → (path : List ℕ) → Contains paths path → Reads held name path
-paths_read held name files paths begun path c = elim (first_or_later name path [] c) [ inl same ↦ subst (Reads held name) same itself | inr none ↦ absurd (no_member path none) ]
-paths_read held name files paths (again _ x _ r read) path c = paths_read held name files (x ∷ paths) r path (contains_later x path paths c)
-paths_read held name files paths (next fs x ps tree r unread has) path c = elim (Contains-append_cases (includes_of_file tree) ps path c) [
-  | inl own ↦ included x path tree (paths_read held name fs (x ∷ ps) r x (0, omega arith, refl)) has own
-  | inr later ↦ paths_read held name fs (x ∷ ps) r path (contains_later x path ps later)
-]
-
--- and each file that is read, with its tree
-files_read : (held : Held) (name : List ℕ) (files : List ReadFile) (paths : List (List ℕ)) → Reached (HasTree held) name files paths → (file : ReadFile) → Contains files file → Reads held name file.name × HasTree held file.name file.tree
-files_read held name files paths begun file c = absurd (no_member file c)
-files_read held name files paths (again _ x _ r read) file c = files_read held name files (x ∷ paths) r file c
-files_read held name files paths (next fs x ps tree r unread has) file c = elim (Contains-push_cases fs (record { name = x; tree = tree }) file c) [
-  | inl old ↦ files_read held name fs (x ∷ ps) r file old
-  | inr same ↦
-      let P : ReadFile → Type 0 = λ f. Reads held name f.name × HasTree held f.name f.tree in
-      subst P same (paths_read held name fs (x ∷ ps) r x (0, omega arith, refl), has)
-]
+use Rattle.program_files.proofs.NameLemmas.{still_read, now_read, tree_there, read_at}
+use Rattle.program_files.proofs.ReachedLemmas.{first_or_later, no_member, files_read}
 
 -- what a file includes is read, or is still to be looked at
 closed : (held : Held) (name : List ℕ) (files : List ReadFile) (paths : List (List ℕ)) → Reached (HasTree held) name files paths → (file : ReadFile) → Contains files file → (path : List ℕ)

@@ -3,7 +3,7 @@ use Rattle.std.proofs.Common.{◌≡◌, ℕ, Bool, true, false, List, refl}
 use Rattle.std.specs.Prelude.{◌&&◌}
 use Rattle.php_syntax.specs.Trees.{PlainStmt, inline_stmt, echo_stmt, run_stmt, if_stmt, while_stmt, do_while_stmt, for_stmt, each_stmt, break_stmt, continue_stmt, return_stmt, include_stmt, quit_stmt, PlainStmts, no_stmts, more_stmts, PlainArms, no_arms, more_arms}
 use Rattle.script_grammar.specs.Rules.{expr_fits, maybe_fits, exprs_fit, is_writable, maybe_writable, stmt_fits, stmts_fit, arms_fit}
-use Rattle.program_rules.specs.Expansion.{followed_by, with_bodies, with_bodies_in, with_bodies_in_arms}
+use Rattle.program_rules.specs.Bodies.{followed_by, with_bodies, with_bodies_in, with_bodies_in_arms}
 use Rattle.include_expansion.proofs.Tests.{left, right, both, second, first}
 
 -- what may stand outside loops and functions may stand in them

@@ -5,7 +5,7 @@ use Rattle.program_rules.specs.Files.{Held}
 use Rattle.program_rules.specs.Includes.{includes_of_file, LeadsTo}
 use Rattle.program_rules.specs.Programs.{ReadFile}
 use Rattle.program_files.specs.declared.refusal.LoadRefusal.{LoadRefusal}
-use Rattle.program_files.specs.declared.refusal.LoadRefusal.TheVariants.{Missing, ReadFault, TooLong, Script, IncludeCycle, DoubleFunction, UnknownFunction, Arity, TooMany, Memory}
+use Rattle.program_files.specs.declared.refusal.LoadRefusal.TheVariants.{Missing, Outside, ReadFault, TooLong, Script, IncludeCycle, DoubleFunction, UnknownFunction, Arity, TooMany, Memory}
 use Rattle.program_files.specs.Order.{is_read, place_of}
 use Rattle.include_expansion.specs.Within.{IsIncludeOrder, AreHeld}
 
@@ -33,6 +33,7 @@ pub record IsFileOrder (files : List ReadFile) (places : List ℕ) : Type 0 wher
 -- why there is no order: the file of this name includes itself, directly or through others, whatever held the files
 abbrev pub IsOrderCause : List ReadFile → LoadRefusal → Type 0
 IsOrderCause files (Missing name) = ⊥
+IsOrderCause files (Outside name) = ⊥
 IsOrderCause files (ReadFault name) = ⊥
 IsOrderCause files (TooLong name len) = ⊥
 IsOrderCause files (Script name fault) = ⊥

@@ -1,11 +1,11 @@
 -- What the statements of files stand for, computed: each include replaced, and the includes of what stands there, so many times over.
 use Rattle.std.specs.Prelude.{◌≡◌, ℕ, zero, suc, true, List, [], ◌∷◌, if◌then◌else◌, take, Some, slice_get, bytes_eq, map}
 use Rattle.std.specs.List.{Contains}
-use Rattle.php_syntax.specs.Trees.{PlainStmts, no_stmts, PlainFunction, PlainFile}
+use Rattle.php_syntax.specs.Trees.{PlainStmts, no_stmts, PlainFile}
 use Rattle.script_meaning.specs.Programs.{PlainProgram}
 use Rattle.program_rules.specs.Files.{Held, HasTree}
 use Rattle.program_rules.specs.Includes.{includes_in, includes_of_file}
-use Rattle.program_rules.specs.Expansion.{with_bodies}
+use Rattle.program_rules.specs.Bodies.{with_bodies, with_body}
 use Rattle.program_rules.specs.Limits.{one_each}
 use Rattle.program_rules.specs.Programs.{ReadFile, functions_in}
 use Rattle.program_files.specs.Order.{is_read}
@@ -26,10 +26,6 @@ unfoldable pub places_within : List ReadFile → ℕ → List ℕ → ℕ
 unfolding one_each tree_named includes_in
 places_within files zero path = 0
 places_within files (suc n) path = one_each (places_within files n) (includes_in (tree_named files path).body_of)
-
--- a function, with the includes of its body replaced
-abbrev pub with_body : (List ℕ → PlainStmts) → PlainFunction → PlainFunction
-with_body bodies f = record { name_of = f.name_of; params_of = f.params_of; body_of = with_bodies bodies f.body_of }
 
 -- the program of a tree among files, with includes replaced so many times over
 abbrev pub program_within : List ReadFile → ℕ → PlainFile → PlainProgram

@@ -9,7 +9,7 @@ ghost use Rattle.script_grammar.specs.Rules.{stmts_fit};
 ghost use Rattle.program_rules.specs.Calls.{PlainCall, calls_of_program};
 ghost use Rattle.program_rules.specs.Programs.{ReadFile};
 ghost use Rattle.include_expansion.specs.Within.{tree_named, program_within};
-ghost use Rattle.program_rules.specs.Expansion.{with_bodies};
+ghost use Rattle.program_rules.specs.Bodies.{with_bodies};
 ghost use Rattle.include_expansion.specs.FileCalls.{calls_in_files};
 
 /// Each call of a program is a call in one of its files.

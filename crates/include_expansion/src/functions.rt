@@ -4,7 +4,8 @@ ghost use Rattle.std.specs.Prelude.{◌≡◌, ◌++◌, IfOk, OnOk, map};
 ghost use Rattle.php_syntax.specs.Trees.{plain_function, functions_of_list};
 ghost use Rattle.program_rules.specs.Programs.{functions_in};
 ghost use Rattle.program_files.specs.View.{files_of};
-ghost use Rattle.include_expansion.specs.Within.{bodies_within, with_body};
+ghost use Rattle.program_rules.specs.Bodies.{with_body};
+ghost use Rattle.include_expansion.specs.Within.{bodies_within};
 
 use crate::statements::expand_statements;
 use php_syntax::tree::FunctionDef;

@@ -20,5 +20,5 @@ pub use expansion_laws::{
 };
 pub use functions::expand_functions;
 pub use order::order_files;
-pub use reading_laws::{files_of_the_program, names_looked_at, what_was_held};
+pub use reading_laws::{files_of_the_program, names_looked_at};
 pub use statements::expand_statements;

@@ -4,7 +4,7 @@
 
 ghost use Rattle.std.specs.Prelude.{◌≡◌, ◌++◌, [], ◌∷◌, OnOk};
 ghost use Rattle.php_syntax.specs.Trees.{plain_expr, plain_stmt, stmts_of, arms_of, exprs_of, maybe_of, no_stmts, more_stmts, inline_stmt, echo_stmt, run_stmt, break_stmt, continue_stmt, return_stmt, quit_stmt, if_stmt, while_stmt, do_while_stmt, for_stmt, each_stmt};
-ghost use Rattle.program_rules.specs.Expansion.{followed_by};
+ghost use Rattle.program_rules.specs.Bodies.{followed_by};
 
 use php_syntax::tree::{Expr, Stmt};
 use std::alloc::Global;

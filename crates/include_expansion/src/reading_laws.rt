@@ -3,22 +3,10 @@
 
 ghost use Rattle.std.specs.Prelude.{ℕ, List, []};
 ghost use Rattle.std.specs.List.{Contains};
-ghost use Rattle.io_edge.specs.Told.{Content, Tells};
-ghost use Rattle.program_rules.specs.Files.{Held, Agrees, HasTree, HasOneTree};
+ghost use Rattle.program_rules.specs.Files.{Held, HasTree, HasOneTree};
 ghost use Rattle.program_rules.specs.Includes.{Reads};
 ghost use Rattle.program_rules.specs.Programs.{ReadFile, AreRead};
 ghost use Rattle.program_files.specs.Order.{Reached};
-ghost use Rattle.program_files.specs.Source.{HasTold};
-
-/// Whatever a source told while files were read, each once, there is what it held: the bytes by
-/// which each file that was read was answered, and all that the source tells of other names.
-pub fn what_was_held()
-    ensures { (content : Content) (name : List ℕ) (files : List ReadFile)
-        (paths : List (List ℕ)) →
-        Reached (HasTold content) name files paths →
-        (held : Held) × Agrees content held × Reached (HasTree held) name files paths
-        × ((file : ReadFile) → Contains files file → Tells (content file.name) (held file.name)) }
-{}
 
 /// Where no name is left to be looked at, the files are those that the program reads, each once.
 pub fn files_of_the_program()

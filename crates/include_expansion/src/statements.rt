@@ -2,7 +2,7 @@
 
 ghost use Rattle.std.specs.Prelude.{◌≡◌, IfOk, OnOk};
 ghost use Rattle.php_syntax.specs.Trees.{plain_stmt, stmts_of, arms_of};
-ghost use Rattle.program_rules.specs.Expansion.{followed_by, with_bodies, with_bodies_in, with_bodies_in_arms};
+ghost use Rattle.program_rules.specs.Bodies.{followed_by, with_bodies, with_bodies_in, with_bodies_in_arms};
 ghost use Rattle.program_files.specs.View.{files_of};
 ghost use Rattle.include_expansion.specs.Within.{bodies_within};
 
@@ -47,7 +47,7 @@ fn expand_body(
 
 // Statements, behind others.
 #[cycle(expansion)]
-#[tactic(auto, using(crate::proofs::Followed::ends), unfolding(program_rules::specs::Expansion::with_bodies))]
+#[tactic(auto, using(crate::proofs::Followed::ends), unfolding(program_rules::specs::Bodies::with_bodies))]
 fn expand_stmts(
     alloc: Global,
     files: &ScriptFiles,
@@ -112,7 +112,7 @@ fn expand_arms(
 // copied behind the bodies, by calls that are not inlined, so that a statement within others takes
 // little of the stack.
 #[cycle(expansion)]
-#[tactic(auto, using(php_syntax::proofs::Views::views, crate::proofs::Followed::ends), unfolding(program_rules::specs::Expansion::with_bodies))]
+#[tactic(auto, using(php_syntax::proofs::Views::views, crate::proofs::Followed::ends), unfolding(program_rules::specs::Bodies::with_bodies))]
 fn expand_stmt(
     alloc: Global,
     files: &ScriptFiles,

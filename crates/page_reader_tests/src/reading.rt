@@ -24,7 +24,7 @@ pub fn definition(alloc: Global, text: &[u8]) -> Result<Dtd, Fail> {
         Bytes::from_slice(alloc, text)?,
     ))?;
     let mut files = MemFiles::new(held, Vec::new(alloc));
-    Ok(read_dtd(alloc, &mut files, "d")?)
+    Ok(read_dtd(alloc, &mut files, ".", "d")?)
 }
 
 /// Whether both readers and the lexer put out these tokens over a page, each as a word and a space.

@@ -3,6 +3,7 @@ use Rattle.std.proofs.Common.{◌≡◌, ◌∙◌, ℕ, List, Contains, Option,
 use Rattle.std.specs.Prelude.{◌⊎◌, Result, Ok, Err}
 use Rattle.io_edge.specs.Counts.{one_more}
 use Rattle.io_edge.specs.Told.{Content, Tells, Stays}
+use Rattle.io_edge.proofs.Staying.{stays_same}
 use Rattle.io_edge.specs.Reasons.{HasReason}
 use Rattle.io_edge.specs.declared.files.FileFault.{FileFault}
 use Rattle.io_edge.specs.declared.files.FileFault.TheVariants as reading
@@ -15,7 +16,6 @@ use Rattle.request_reading.specs.Outcome.{outcome}
 use Rattle.request_reading.specs.Causes.{IsCause}
 use Rattle.request_reading.specs.declared.refusal.RequestRefusal.{RequestRefusal}
 use Rattle.request_reading.specs.declared.refusal.RequestRefusal.TheVariants as asking
-use Rattle.program_loader.specs.Told.{IsLoaded}
 use Rattle.phpsa_texts.specs.declared.exit.Exit.{Exit}
 use Rattle.phpsa_texts.specs.declared.exit.Exit.TheVariants.{ReadFault}
 use Rattle.phpsa_texts.specs.declared.message.Refusal.{Refusal}
@@ -23,62 +23,62 @@ use Rattle.phpsa_texts.specs.Statuses.{load_status, file_status, request_status}
 use Rattle.phpsa_texts.specs.Texts.{IsTold, load_text, file_text, request_text}
 use Rattle.phpsa_tasks.specs.declared.reply.Reply.{Reply}
 use Rattle.phpsa_tasks.specs.declared.reply.Reply.TheVariants as reply
-use Rattle.phpsa_tasks.specs.Tasks.{script_run, grammar_making}
+use Rattle.phpsa_tasks.specs.Tasks.{RootedFile, root_of, script_run, grammar_making}
+use Rattle.phpsa_tasks.specs.Subjects.{IsLoadedInside}
 use Rattle.phpsa_tasks.specs.Requests.{unread, no_request_in, RefusesRequest}
-use Rattle.phpsa_tasks.specs.Counted.{uncounted, ReadsItsFiles, ReadsForRun}
+use Rattle.phpsa_tasks.specs.Counted.{uncounted, ReadsItsFiles, MissesItsNames, from_misses, ReadsForRun}
 use Rattle.phpsa_tasks.specs.Results.{TaskResult, Does}
 use Rattle.phpsa_tasks.proofs.Faults.{told_faults, wanted_faults}
 use Rattle.phpsa_main.specs.Loaded.{ReadsRequest, HasRequest, IsReplyOfRun, HasGrammarReply}
-use Rattle.phpsa_main.proofs.ScriptParts.{load_uncounted, load_faults, answers_stay}
+use Rattle.phpsa_main.proofs.ScriptParts.{load_uncounted, load_faults, asked_names}
 
 -- what was loaded read its files
-own_files : (files : SourceCall) (file : List ℕ) (program : PlainProgram) → Loads files file program → ReadsItsFiles files file
-own_files files file program l =
-    record { held = l.source.held; answered = l.source.answered; own = l.source.files; read = l.source.read; counted = l.source.counted }
+own_files : (files : SourceCall) (root name : List ℕ) (program : PlainProgram) → Loads files root name program → ReadsItsFiles files name
+own_files files root name program l = record { asks = asked_names files files.content root name program (stays_same files.content files.content refl) l; counted = l.source.counted }
 
 -- no memory was left
-pub wanting_grammar : (files : SourceCall) (file : List ℕ) → Does files (grammar_making file) (Err Refusal.Memory)
+pub wanting_grammar : (files : SourceCall) (file : RootedFile) → Does files (grammar_making file) (Err Refusal.Memory)
 wanting_grammar files file = record { due = tt; read = inl (5, lit< tt, refl); faults = wanted_faults files }
 
-pub wanting_run : (files : SourceCall) (file : List ℕ) (request : Option (List ℕ)) (steps : ℕ) → Does files (script_run file request steps) (Err Refusal.Memory)
+pub wanting_run : (files : SourceCall) (file : RootedFile) (request : Option (List ℕ)) (steps : ℕ) → Does files (script_run file request steps) (Err Refusal.Memory)
 wanting_run files file request steps = record { due = tt; read = inl (5, lit< tt, refl); faults = wanted_faults files }
 
 -- the program is not loaded
-pub unloaded_grammar : (files : SourceCall) (file : List ℕ) (cause : LoadRefusal) (refusal : Refusal) → IsLoadCause files file cause
+pub unloaded_grammar : (files : SourceCall) (file : RootedFile) (cause : LoadRefusal) (refusal : Refusal) → IsLoadCause files (root_of file) file.name cause
     → IsTold refusal (load_status cause) (load_text cause) → Does files (grammar_making file) (Err refusal)
 unloaded_grammar files file cause (Refusal.Told message) why (status_is, text_is) = record {
   due = inl (cause, why, status_is, text_is);
   read = inl (subst (Contains uncounted) (sym status_is) (load_uncounted cause));
-  faults = told_faults files (load_status cause) message.status status_is (load_faults files file cause why);
+  faults = told_faults files (load_status cause) message.status status_is (load_faults files (root_of file) file.name cause why);
 }
 unloaded_grammar files file cause Refusal.Memory why says = wanting_grammar files file
 
-pub unloaded_run : (files : SourceCall) (file : List ℕ) (request : Option (List ℕ)) (steps : ℕ) (cause : LoadRefusal) (refusal : Refusal) → IsLoadCause files file cause
+pub unloaded_run : (files : SourceCall) (file : RootedFile) (request : Option (List ℕ)) (steps : ℕ) (cause : LoadRefusal) (refusal : Refusal) → IsLoadCause files (root_of file) file.name cause
     → IsTold refusal (load_status cause) (load_text cause) → Does files (script_run file request steps) (Err refusal)
 unloaded_run files file request steps cause (Refusal.Told message) why (status_is, text_is) = record {
   due = inl (cause, why, status_is, text_is);
   read = inl (subst (Contains uncounted) (sym status_is) (load_uncounted cause));
-  faults = told_faults files (load_status cause) message.status status_is (load_faults files file cause why);
+  faults = told_faults files (load_status cause) message.status status_is (load_faults files (root_of file) file.name cause why);
 }
 unloaded_run files file request steps cause Refusal.Memory why says = wanting_run files file request steps
 
 -- the grammar of the program is made, or not
-pub grammar_does : (files : SourceCall) (file : List ℕ) (program : PlainProgram) (result : TaskResult) → Loads files file program → IsLoaded files.content file program
-    → HasGrammarReply program file result → Does files (grammar_making file) result
+pub grammar_does : (files : SourceCall) (file : RootedFile) (program : PlainProgram) (result : TaskResult) → Loads files (root_of file) file.name program → IsLoadedInside files.content file program
+    → HasGrammarReply program file.name result → Does files (grammar_making file) result
 grammar_does files file program (Ok (reply.Text message)) l loaded says = record {
   due = record { subject = program; found = loaded; says = says };
-  read = inr (own_files files file program l);
+  read = inr (own_files files (root_of file) file.name program l);
   faults = inr l.source.unfailed;
 }
 grammar_does files file program (Ok (reply.Grammar grammar)) l loaded says = record {
   due = record { subject = program; found = loaded; says = inl ((grammar.productions.items, grammar.start, says, refl), refl) };
-  read = inr (own_files files file program l);
+  read = inr (own_files files (root_of file) file.name program l);
   faults = inr l.source.unfailed;
 }
 grammar_does files file program (Ok (reply.Halted printed message)) l loaded says = absurd says
 grammar_does files file program (Err (Refusal.Told message)) l loaded (long, (status_is, text_is)) = record {
   due = inr (program, loaded, long, status_is, text_is);
-  read = inr (own_files files file program l);
+  read = inr (own_files files (root_of file) file.name program l);
   faults = inr l.source.unfailed;
 }
 grammar_does files file program (Err Refusal.Memory) l loaded says = wanting_grammar files file
@@ -110,62 +110,67 @@ file_refused files name bytes cause (Refusal.Told message) told why counted calm
     (no_request_in bytes cause told why status_is text_is, counted, subst (Contains uncounted) (sym status_is) (asking_among cause), inr calm)
 file_refused files name bytes cause Refusal.Memory told why counted calm says = tt
 
--- the counts of faults and misses are as they were before the program was loaded
+-- the count of faults is as it was before the program was loaded
 pub moved : (files : SourceCall) (faults misses reads : ℕ) (request : Option (List ℕ)) (found : Result PlainRequest Refusal)
-    → faults ≡ files.faults → misses ≡ files.misses → HasRequest (source_call files.content faults files.faults' misses files.misses' reads files.reads') request found
-    → HasRequest (source_call files.content files.faults files.faults' files.misses files.misses' reads files.reads') request found
-moved files faults misses reads request found b e has =
-    subst (λ (k : ℕ). HasRequest (source_call files.content k files.faults' files.misses files.misses' reads files.reads') request found) b
-    (subst (λ (k : ℕ). HasRequest (source_call files.content faults files.faults' k files.misses' reads files.reads') request found) e has)
+    → faults ≡ files.faults → HasRequest (source_call files.content faults files.faults' misses files.misses' reads files.reads') request found
+    → HasRequest (source_call files.content files.faults files.faults' misses files.misses' reads files.reads') request found
+moved files faults misses reads request found b has =
+    subst (λ (k : ℕ). HasRequest (source_call files.content k files.faults' misses files.misses' reads files.reads') request found) b has
 
 -- why there is no request says nothing of how often names were asked for
-refuses : (files : SourceCall) (reads : ℕ) (request : Option (List ℕ)) (status : Exit) (text : List ℕ)
-    → RefusesRequest (source_call files.content files.faults files.faults' files.misses files.misses' reads files.reads') request status text
-    → RefusesRequest files request status text
-refuses files reads None status text why = why
-refuses files reads (Some name) status text (unread fault why status_is text_is) = unread fault why status_is text_is
-refuses files reads (Some name) status text (no_request_in bytes cause told why status_is text_is) = no_request_in bytes cause told why status_is text_is
+refuses : (files : SourceCall) (misses reads : ℕ) (request : Option (List ℕ)) (status : Exit) (text : List ℕ)
+    → RefusesRequest (source_call files.content files.faults files.faults' misses files.misses' reads files.reads') request status text
+    → RefusesRequest (from_misses misses files) request status text
+refuses files misses reads None status text why = why
+refuses files misses reads (Some name) status text (unread fault why status_is text_is) = unread fault why status_is text_is
+refuses files misses reads (Some name) status text (no_request_in bytes cause told why status_is text_is) = no_request_in bytes cause told why status_is text_is
 
--- the files of the program, which were answered before the request was read, and that of the request
-run_reads : (files : SourceCall) (file : List ℕ) (request : Option (List ℕ)) (program : PlainProgram) (content : Content) (faults misses reads : ℕ)
-    → Stays content files.content → Loads (source_call content files.faults faults files.misses misses files.reads reads) file program
-    → ReadsRequest (source_call files.content files.faults files.faults' files.misses files.misses' reads files.reads') request → ReadsForRun files file request
-run_reads files file None program content faults misses reads stays l counted =
-    record {
-      held = l.source.held;
-      answered = answers_stay content files.content l.source.held file stays l.source.answered;
-      own = l.source.files;
-      read = l.source.read;
-      counted = counted ∙ l.source.counted;
-    }
-run_reads files file (Some name) program content faults misses reads stays l counted = (
+-- the names of the program, which were answered before the request was read, and that of the request
+run_reads : (files : SourceCall) (root name : List ℕ) (request : Option (List ℕ)) (program : PlainProgram) (content : Content) (faults misses reads : ℕ)
+    → Stays content files.content → Loads (source_call content files.faults faults files.misses misses files.reads reads) root name program
+    → ReadsRequest (source_call files.content files.faults files.faults' misses files.misses' reads files.reads') request → ReadsForRun files name request
+run_reads files root name None program content faults misses reads stays l counted = record {
+  asks = asked_names (source_call content files.faults faults files.misses misses files.reads reads) files.content root name program stays l;
+  counted = counted ∙ l.source.counted;
+}
+run_reads files root name (Some asked) program content faults misses reads stays l counted = (
   reads,
   record {
-    held = l.source.held;
-    answered = answers_stay content files.content l.source.held file stays l.source.answered;
-    own = l.source.files;
-    read = l.source.read;
+    asks = asked_names (source_call content files.faults faults files.misses misses files.reads reads) files.content root name program stays l;
     counted = l.source.counted;
   },
   counted,
 )
 
+-- the misses of the program come before the request is read
+run_misses : (files : SourceCall) (root name : List ℕ) (program : PlainProgram) (content : Content) (faults misses reads : ℕ)
+    → Stays content files.content → Loads (source_call content files.faults faults files.misses misses files.reads reads) root name program → MissesItsNames files name misses
+run_misses files root name program content faults misses reads stays l = record {
+  asks = asked_names (source_call content files.faults faults files.misses misses files.reads reads) files.content root name program stays l;
+  counted = l.source.misses;
+}
+
 -- there is no request
-pub lacks_request : (files : SourceCall) (file : List ℕ) (request : Option (List ℕ)) (steps : ℕ) (content : Content) (faults misses reads : ℕ) (program : PlainProgram) (refusal : Refusal)
-    → Stays content files.content → Loads (source_call content files.faults faults files.misses misses files.reads reads) file program → IsLoaded files.content file program
-    → HasRequest (source_call files.content files.faults files.faults' files.misses files.misses' reads files.reads') request (Err refusal)
+pub lacks_request : (files : SourceCall) (file : RootedFile) (request : Option (List ℕ)) (steps : ℕ) (content : Content) (faults misses reads : ℕ) (program : PlainProgram) (refusal : Refusal)
+    → Stays content files.content → Loads (source_call content files.faults faults files.misses misses files.reads reads) (root_of file) file.name program → IsLoadedInside files.content file program
+    → HasRequest (source_call files.content files.faults files.faults' misses files.misses' reads files.reads') request (Err refusal)
     → Does files (script_run file request steps) (Err refusal)
 lacks_request files file request steps content faults misses reads program (Refusal.Told message) stays l loaded (why, counted, among, told) = record {
-  due = inr (program, loaded, refuses files reads request message.status message.text why, run_reads files file request program content faults misses reads stays l counted);
+  due = inr (
+    program,
+    loaded,
+    (misses, run_misses files (root_of file) file.name program content faults misses reads stays l, refuses files misses reads request message.status message.text why),
+    run_reads files (root_of file) file.name request program content faults misses reads stays l counted,
+  );
   read = inl among;
   faults = told;
 }
 lacks_request files file request steps content faults misses reads program Refusal.Memory stays l loaded has = wanting_run files file request steps
 
 -- the program was run
-pub run_does : (files : SourceCall) (file : List ℕ) (request : Option (List ℕ)) (steps : ℕ) (content : Content) (faults misses reads : ℕ) (program : PlainProgram) (asked : PlainRequest) (own : Reply)
-    → Stays content files.content → Loads (source_call content files.faults faults files.misses misses files.reads reads) file program → IsLoaded files.content file program
-    → HasRequest (source_call files.content files.faults files.faults' files.misses files.misses' reads files.reads') request (Ok asked) → Admitted asked
+pub run_does : (files : SourceCall) (file : RootedFile) (request : Option (List ℕ)) (steps : ℕ) (content : Content) (faults misses reads : ℕ) (program : PlainProgram) (asked : PlainRequest) (own : Reply)
+    → Stays content files.content → Loads (source_call content files.faults faults files.misses misses files.reads reads) (root_of file) file.name program → IsLoadedInside files.content file program
+    → HasRequest (source_call files.content files.faults files.faults' misses files.misses' reads files.reads') request (Ok asked) → Admitted asked
     → IsReplyOfRun program asked steps own → Does files (script_run file request steps) (Ok own)
 run_does files file request steps content faults misses reads program asked (reply.Text message) stays l loaded (finds, counted, calm) admitted (ended, (status_is, text_is)) = record {
   due = record {
@@ -173,7 +178,7 @@ run_does files file request steps content faults misses reads program asked (rep
     found = (loaded, finds, admitted);
     says = (ended, status_is, text_is);
   };
-  read = inr (run_reads files file request program content faults misses reads stays l counted);
+  read = inr (run_reads files (root_of file) file.name request program content faults misses reads stays l counted);
   faults = inr calm;
 }
 run_does files file request steps content faults misses reads program asked (reply.Grammar grammar) stays l loaded has admitted says = absurd says
@@ -184,6 +189,6 @@ run_does files file request steps content faults misses reads program asked (rep
         found = (loaded, finds, admitted);
         says = (early, status_is, printed_is, text_is);
       };
-      read = inr (run_reads files file request program content faults misses reads stays l counted);
+      read = inr (run_reads files (root_of file) file.name request program content faults misses reads stays l counted);
       faults = inr calm;
     }

@@ -15,7 +15,7 @@ use Rattle.phpsa_texts.specs.Texts.{Says, IsTold, size_text, summary_text}
 use Rattle.command_words.specs.declared.values.TheConstants.{PAIR_LIMIT}
 use Rattle.phpsa_tasks.specs.declared.reply.Reply.TheVariants as reply
 use Rattle.phpsa_tasks.specs.Tasks.{script_making, made_check}
-use Rattle.phpsa_tasks.specs.Subjects.{made_name, only_script, only_made}
+use Rattle.phpsa_tasks.specs.Subjects.{made_file, only_script, only_made}
 use Rattle.phpsa_tasks.specs.ScriptAnswers.{answer_status, conclusion_of}
 use Rattle.phpsa_tasks.specs.Causes.{no_size, made_refused}
 use Rattle.phpsa_tasks.specs.Counted.{ReadsNothing}
@@ -59,7 +59,7 @@ size_made files n Refusal.Memory read calm size says = wanting_made files n read
 
 -- the made script was decided, as the one file of a source that does not fail
 abbrev pub MadeDecides : List ℕ → Decision → Type 0
-MadeDecides script decision = (misses reads : ℕ) × Decides (source_call (only_script script) 0 0 0 misses 0 reads) made_name strict_type Goal.Valid PAIR_LIMIT decision
+MadeDecides script decision = (misses reads : ℕ) × Decides (source_call (only_script script) 0 0 0 misses 0 reads) made_file strict_type Goal.Valid PAIR_LIMIT decision
 
 pub summary_made : (files : SourceCall) (n : ℕ) (script : List ℕ) (answer : ShownAnswer) (message : Message) → ReadsNothing files → files.faults' ≡ files.faults → IsSize n
     → script ≡ made n → MadeDecides script (Ok answer) → Says message (answer_status answer) (summary_text n (length script) (conclusion_of answer))
@@ -68,7 +68,7 @@ summary_made files n script answer message read calm size is decides says =
     let at : MadeDecides (made n) (Ok answer) = subst (λ (t : List ℕ). MadeDecides t (Ok answer)) is decides in
     let text : Says message (answer_status answer) (summary_text n (length (made n)) (conclusion_of answer)) =
     subst (λ (t : List ℕ). Says message (answer_status answer) (summary_text n (length t) (conclusion_of answer))) is says in
-    let decided : IsDecidedAs (source_call (only_made n) 0 0 0 at.0 0 at.1) made_name strict_type Goal.Valid PAIR_LIMIT answer = at.2 in
+    let decided : IsDecidedAs (source_call (only_made n) 0 0 0 at.0 0 at.1) made_file strict_type Goal.Valid PAIR_LIMIT answer = at.2 in
     record {
       due = record {
         subject = record { program = decided.program; table = decided.table };

@@ -1,15 +1,18 @@
 -- What the parts of the command find makes what doing the task comes to.
-use Rattle.std.proofs.Common.{◌≡◌, ℕ, List, length, Contains, inl, inr, refl, sym, subst, lit<}
+use Rattle.std.proofs.Common.{◌≡◌, ◌+◌, ℕ, List, [], length, Contains, inl, inr, refl, sym, subst, lit<}
 use Rattle.std.specs.Prelude.{◌⊎◌, Ok, Err}
+use Rattle.io_edge.specs.Names.{normal}
 use Rattle.io_edge.specs.Told.{Content, Stays}
 use Rattle.io_edge.proofs.Staying.{tells_stay}
 use Rattle.script_meaning.specs.Programs.{PlainProgram}
-use Rattle.program_rules.specs.Files.{Held}
+use Rattle.program_rules.specs.Files.{Held, HasTree}
+use Rattle.program_rules.specs.Programs.{ReadFile}
+use Rattle.program_files.specs.Order.{Reached}
 use Rattle.program_files.specs.Source.{SourceCall, source_call, so_many_more}
 use Rattle.program_files.specs.declared.refusal.LoadRefusal.{LoadRefusal}
 use Rattle.program_files.specs.declared.refusal.LoadRefusal.TheVariants as load
 use Rattle.program_loader.specs.Causes.{Loads, IsLoadCause}
-use Rattle.program_loader.specs.Told.{IsLoaded, AreAnswered}
+use Rattle.program_loader.specs.Told.{AreAnswered}
 use Rattle.dtd_model.specs.Table.{Table}
 use Rattle.document_types.specs.DocumentTypes.{NamedType, HasTable, IsBuiltIn, IsDefinitionRefusal}
 use Rattle.document_types.specs.declared.refusal.DefinitionRefusal.{DefinitionRefusal}
@@ -22,10 +25,11 @@ use Rattle.phpsa_texts.specs.declared.message.Refusal.{Refusal}
 use Rattle.phpsa_texts.specs.Statuses.{load_status, definition_status}
 use Rattle.phpsa_texts.specs.Texts.{Says, IsTold, load_text, definition_text}
 use Rattle.phpsa_tasks.specs.declared.reply.Reply.TheVariants as reply
-use Rattle.phpsa_tasks.specs.Tasks.{script_check}
+use Rattle.phpsa_tasks.specs.Tasks.{RootedFile, root_of, script_check}
+use Rattle.phpsa_tasks.specs.Subjects.{IsLoadedInside}
 use Rattle.phpsa_tasks.specs.ScriptAnswers.{answer_status, answer_text}
 use Rattle.phpsa_tasks.specs.Causes.{definition_call, RefusesScript, not_defined, large_models, not_loaded, lacks_definition, has_long_text}
-use Rattle.phpsa_tasks.specs.Counted.{uncounted, ReadsItsFiles}
+use Rattle.phpsa_tasks.specs.Counted.{uncounted, AsksForNames, ReadsItsFiles, MissesItsNames, from_misses}
 use Rattle.phpsa_tasks.specs.Results.{Does}
 use Rattle.phpsa_tasks.proofs.Faults.{told_faults, wanted_faults}
 use Rattle.phpsa_tasks.proofs.Defining.{definition_faults}
@@ -33,6 +37,7 @@ use Rattle.phpsa_main.specs.Decided.{Decision, IsDecidedAs, Decides, IsProgramRe
 
 pub load_uncounted : (cause : LoadRefusal) → Contains uncounted (load_status cause)
 load_uncounted (load.Missing name) = (1, lit< tt, refl)
+load_uncounted (load.Outside name) = (0, lit< tt, refl)
 load_uncounted (load.ReadFault name) = (2, lit< tt, refl)
 load_uncounted (load.TooLong name len) = (3, lit< tt, refl)
 load_uncounted (load.Script name fault) = (0, lit< tt, refl)
@@ -43,80 +48,111 @@ load_uncounted (load.Arity name) = (0, lit< tt, refl)
 load_uncounted (load.TooMany count) = (3, lit< tt, refl)
 load_uncounted load.Memory = (5, lit< tt, refl)
 
-pub load_faults : (call : SourceCall) (name : List ℕ) (cause : LoadRefusal) → IsLoadCause call name cause → (load_status cause ≡ ReadFault) ⊎ (call.faults' ≡ call.faults)
-load_faults call name (load.Missing path) (named, (stops, rises, none, same)) = inr same
-load_faults call name (load.ReadFault path) why = inl refl
-load_faults call name (load.TooLong path len) (named, (stops, over, least, same, others)) = inr same
-load_faults call name (load.Script path fault) (named, (stops, broken, same, others)) = inr same
-load_faults call name (load.IncludeCycle path) why = inr why.source.unfailed
-load_faults call name (load.DoubleFunction function) why = inr why.source.unfailed
-load_faults call name (load.UnknownFunction function) why = inr why.source.unfailed
-load_faults call name (load.Arity function) why = inr why.source.unfailed
-load_faults call name (load.TooMany count) (inl (many, same, others)) = inr same
-load_faults call name (load.TooMany count) (inr large) = inr large.source.unfailed
-load_faults call name load.Memory (same, others) = inr same
+pub load_faults : (call : SourceCall) (root name : List ℕ) (cause : LoadRefusal) → IsLoadCause call root name cause → (load_status cause ≡ ReadFault) ⊎ (call.faults' ≡ call.faults)
+load_faults call root name (load.Missing path) (named, (missing, same)) = inr same
+load_faults call root name (load.Outside path) (written, (leads, same)) = inr same
+load_faults call root name (load.ReadFault path) why = inl refl
+load_faults call root name (load.TooLong path len) (named, (stops, over, least, same, others)) = inr same
+load_faults call root name (load.Script path fault) (named, (stops, broken, same, others)) = inr same
+load_faults call root name (load.IncludeCycle path) why = inr why.source.unfailed
+load_faults call root name (load.DoubleFunction function) why = inr why.source.unfailed
+load_faults call root name (load.UnknownFunction function) why = inr why.source.unfailed
+load_faults call root name (load.Arity function) why = inr why.source.unfailed
+load_faults call root name (load.TooMany count) (inl (is, many, same)) = inr same
+load_faults call root name (load.TooMany count) (inr large) = inr large.source.unfailed
+load_faults call root name load.Memory (missed, same) = inr same
 
 -- the program is not loaded
-pub load_decides : (files : SourceCall) (file : List ℕ) (d : NamedType) (goal : Goal) (limit : ℕ) (cause : LoadRefusal) (refusal : Refusal) → IsLoadCause files file cause
+pub load_decides : (files : SourceCall) (file : RootedFile) (d : NamedType) (goal : Goal) (limit : ℕ) (cause : LoadRefusal) (refusal : Refusal) → IsLoadCause files (root_of file) file.name cause
     → IsTold refusal (load_status cause) (load_text cause) → Decides files file d goal limit (Err refusal)
 load_decides files file d goal limit cause (Refusal.Told message) why (status_is, text_is) = record {
   why = not_loaded cause why status_is text_is;
   read = λ built_in. inl (subst (Contains uncounted) (sym status_is) (load_uncounted cause));
-  faults = told_faults files (load_status cause) message.status status_is (load_faults files file cause why);
+  faults = told_faults files (load_status cause) message.status status_is (load_faults files (root_of file) file.name cause why);
 }
 load_decides files file d goal limit cause Refusal.Memory why says = tt
 
 -- there is no definition
-pub definition_decides : (files : SourceCall) (file : List ℕ) (d : NamedType) (goal : Goal) (limit : ℕ) (cause : DefinitionRefusal) (refusal : Refusal)
-    (program : PlainProgram) → IsLoaded files.content file program → IsDefinitionRefusal (definition_call files) d cause → (IsBuiltIn d → ReadsItsFiles files file)
-    → IsTold refusal (definition_status cause) (definition_text cause) → Decides files file d goal limit (Err refusal)
-definition_decides files file d goal limit cause (Refusal.Told message) program loaded why read (status_is, text_is) = record {
-  why = lacks_definition program loaded (not_defined cause why status_is text_is);
+pub definition_decides : (files : SourceCall) (file : RootedFile) (d : NamedType) (goal : Goal) (limit : ℕ) (cause : DefinitionRefusal) (refusal : Refusal)
+    (program : PlainProgram) (misses : ℕ) → IsLoadedInside files.content file program → MissesItsNames files file.name misses
+    → IsDefinitionRefusal (definition_call (from_misses misses files)) d cause → (IsBuiltIn d → ReadsItsFiles files file.name) → IsTold refusal (definition_status cause) (definition_text cause) → Decides files file d goal limit (Err refusal)
+definition_decides files file d goal limit cause (Refusal.Told message) program misses loaded behind why read (status_is, text_is) = record {
+  why = lacks_definition program misses loaded behind (not_defined cause why status_is text_is);
   read = λ built_in. inr (read built_in);
-  faults = told_faults files (definition_status cause) message.status status_is (definition_faults (definition_call files) d cause why);
+  faults = told_faults files (definition_status cause) message.status status_is (definition_faults (definition_call (from_misses misses files)) d cause why);
 }
-definition_decides files file d goal limit cause Refusal.Memory program loaded why read says = tt
+definition_decides files file d goal limit cause Refusal.Memory program misses loaded behind why read says = tt
 
-program_refused : (files : SourceCall) (file : List ℕ) (d : NamedType) (table : Table) (program : PlainProgram) (message : Message) → HasTable files.content d table
-    → IsLoaded files.content file program → IsProgramRefused table program file message → RefusesScript files file d message.status message.text
-program_refused files file d table program message has loaded (inl (long, (status_is, text_is))) = has_long_text program loaded long status_is text_is
-program_refused files file d table program message has loaded (inr (count, many, (status_is, text_is))) = lacks_definition program loaded (large_models table count has many status_is text_is)
+program_refused : (files : SourceCall) (file : RootedFile) (d : NamedType) (table : Table) (program : PlainProgram) (misses : ℕ) (message : Message) → HasTable files.content d table
+    → IsLoadedInside files.content file program → MissesItsNames files file.name misses → IsProgramRefused table program file.name message → RefusesScript files file d message.status message.text
+program_refused files file d table program misses message has loaded behind (inl (long, (status_is, text_is))) = has_long_text program loaded long status_is text_is
+program_refused files file d table program misses message has loaded behind (inr (count, many, (status_is, text_is))) =
+    lacks_definition program misses loaded behind (large_models table count has many status_is text_is)
 
 -- the program is decided, or not
-pub program_decides : (files : SourceCall) (file : List ℕ) (d : NamedType) (goal : Goal) (limit : ℕ) (table : Table) (program : PlainProgram) (decision : Decision)
-    → HasTable files.content d table → IsLoaded files.content file program → (IsBuiltIn d → ReadsItsFiles files file) → files.faults' ≡ files.faults
-    → IsProgramDecided table program file goal limit decision → Decides files file d goal limit decision
-program_decides files file d goal limit table program (Ok answer) has loaded read calm is =
+pub program_decides : (files : SourceCall) (file : RootedFile) (d : NamedType) (goal : Goal) (limit : ℕ) (table : Table) (program : PlainProgram) (misses : ℕ) (decision : Decision)
+    → HasTable files.content d table → IsLoadedInside files.content file program → MissesItsNames files file.name misses → (IsBuiltIn d → ReadsItsFiles files file.name)
+    → files.faults' ≡ files.faults → IsProgramDecided table program file.name goal limit decision → Decides files file d goal limit decision
+program_decides files file d goal limit table program misses (Ok answer) has loaded behind read calm is =
     record { program = program; table = table; loaded = loaded; has = has; is_answer = is; read = read; calm = calm }
-program_decides files file d goal limit table program (Err (Refusal.Told message)) has loaded read calm says = record {
-  why = program_refused files file d table program message has loaded says;
+program_decides files file d goal limit table program misses (Err (Refusal.Told message)) has loaded behind read calm says = record {
+  why = program_refused files file d table program misses message has loaded behind says;
   read = λ built_in. inr (read built_in);
   faults = inr calm;
 }
-program_decides files file d goal limit table program (Err Refusal.Memory) has loaded read calm says = tt
+program_decides files file d goal limit table program misses (Err Refusal.Memory) has loaded behind read calm says = tt
 
 -- what was answered goes on to be so
 pub answers_stay : (before now : Content) (held : Held) (name : List ℕ) → Stays before now → AreAnswered before held name → AreAnswered now held name
-answers_stay before now held name stays answered path reads = tells_stay before now path (held path) stays (answered path reads)
+answers_stay before now held name stays answered path asks = tells_stay before now path (held.bytes path) stays (answered path asks)
 
--- the files of what was loaded are all that was read
-pub reads_its_files : (call : SourceCall) (content : Content) (faults misses reads : ℕ) (name : List ℕ) (p : PlainProgram) → Stays call.content content → Loads call name p → reads ≡ call.reads'
-    → ReadsItsFiles (source_call content call.faults faults call.misses misses call.reads reads) name
-reads_its_files call content faults misses reads name p stays l same = record {
+-- what was loaded in its root goes on to be so
+pub loaded_inside : (call : SourceCall) (content : Content) (file : RootedFile) (p : PlainProgram) → Stays call.content content → Loads call (root_of file) file.name p → IsLoadedInside content file p
+loaded_inside call content file p stays l = record {
+  loaded = record {
+    held = l.source.held;
+    main = l.source.main;
+    answered = answers_stay call.content content l.source.held file.name stays l.source.answered;
+    is_program = record {
+      is_program = l.is_program;
+      in_order = subst (λ (fs : List ReadFile). Reached (HasTree l.source.held) (normal file.name) fs []) (sym l.its_files) l.source.in_order;
+    };
+  };
+  inside = l.source.inside;
+}
+
+-- what was loaded asks for these names
+abbrev pub asked_names : (call : SourceCall) (content : Content) (root name : List ℕ) (p : PlainProgram) → Stays call.content content → Loads call root name p → AsksForNames content name
+asked_names call content root name p stays l = record {
   held = l.source.held;
+  main = l.source.main;
   answered = answers_stay call.content content l.source.held name stays l.source.answered;
   own = l.source.files;
   read = l.source.read;
-  counted = subst (λ (n : ℕ). n ≡ so_many_more (length l.source.files) call.reads) (sym same) l.source.counted;
+  missed = l.source.missed;
+  are_missed = l.source.are_missed;
 }
 
+-- they are all that was asked for
+pub reads_its_files : (call : SourceCall) (content : Content) (faults misses reads : ℕ) (root name : List ℕ) (p : PlainProgram) → Stays call.content content → Loads call root name p → reads ≡ call.reads'
+    → ReadsItsFiles (source_call content call.faults faults call.misses misses call.reads reads) name
+reads_its_files call content faults misses reads root name p stays l same = record {
+  asks = asked_names call content root name p stays l;
+  counted = subst (λ (n : ℕ). n ≡ so_many_more (length l.source.files + length l.source.missed) call.reads) (sym same) l.source.counted;
+}
+
+-- and those that are not there all that was missed
+pub misses_its_names : (call : SourceCall) (content : Content) (faults misses reads : ℕ) (root name : List ℕ) (p : PlainProgram) → Stays call.content content → Loads call root name p
+    → MissesItsNames (source_call content call.faults faults call.misses misses call.reads reads) name call.misses'
+misses_its_names call content faults misses reads root name p stays l = record { asks = asked_names call content root name p stays l; counted = l.source.misses }
+
 -- no memory was left
-pub wanting_does : (files : SourceCall) (file : List ℕ) (d : NamedType) (goal : Goal) (limit : ℕ) (form : AnswerForm)
+pub wanting_does : (files : SourceCall) (file : RootedFile) (d : NamedType) (goal : Goal) (limit : ℕ) (form : AnswerForm)
     → Does files (script_check file d goal limit form) (Err Refusal.Memory)
 wanting_does files file d goal limit form = record { due = tt; read = λ built_in. inl (5, lit< tt, refl); faults = wanted_faults files }
 
 -- there is an answer
-pub answered_does : (files : SourceCall) (file : List ℕ) (d : NamedType) (goal : Goal) (limit : ℕ) (form : AnswerForm) (answer : ShownAnswer) (message : Message)
+pub answered_does : (files : SourceCall) (file : RootedFile) (d : NamedType) (goal : Goal) (limit : ℕ) (form : AnswerForm) (answer : ShownAnswer) (message : Message)
     → IsDecidedAs files file d goal limit answer → Says message (answer_status answer) (answer_text form answer) → Does files (script_check file d goal limit form) (Ok (reply.Text message))
 answered_does files file d goal limit form answer message is (status_is, text_is) = record {
   due = record {
@@ -129,7 +165,7 @@ answered_does files file d goal limit form answer message is (status_is, text_is
 }
 
 -- and there is none
-pub refused_does : (files : SourceCall) (file : List ℕ) (d : NamedType) (goal : Goal) (limit : ℕ) (form : AnswerForm) (refusal : Refusal)
+pub refused_does : (files : SourceCall) (file : RootedFile) (d : NamedType) (goal : Goal) (limit : ℕ) (form : AnswerForm) (refusal : Refusal)
     → Decides files file d goal limit (Err refusal) → Does files (script_check file d goal limit form) (Err refusal)
 refused_does files file d goal limit form (Refusal.Told message) is = record { due = is.why; read = is.read; faults = is.faults }
 refused_does files file d goal limit form Refusal.Memory is = wanting_does files file d goal limit form

@@ -6,7 +6,6 @@ use Rattle.dtd_model.specs.Table.{Table}
 use Rattle.page_decision.specs.declared.goal.Goal.{Goal}
 use Rattle.program_files.specs.Source.{SourceCall}
 use Rattle.program_lowering.specs.Short.{HasLongText}
-use Rattle.program_loader.specs.Told.{IsLoaded}
 use Rattle.document_types.specs.DocumentTypes.{NamedType, HasTable, IsBuiltIn}
 use Rattle.script_decision.specs.Decision.{HasLargeModels}
 use Rattle.script_decision.specs.declared.shown.ShownAnswer.{ShownAnswer}
@@ -14,6 +13,8 @@ use Rattle.phpsa_texts.specs.declared.exit.Exit.TheVariants.{Missing, ReadFault,
 use Rattle.phpsa_texts.specs.declared.message.Message.{Message}
 use Rattle.phpsa_texts.specs.declared.message.Refusal.{Refusal}
 use Rattle.phpsa_texts.specs.Texts.{Says, long_text, states_text}
+use Rattle.phpsa_tasks.specs.Tasks.{RootedFile}
+use Rattle.phpsa_tasks.specs.Subjects.{IsLoadedInside}
 use Rattle.phpsa_tasks.specs.ScriptAnswers.{IsAnswer}
 use Rattle.phpsa_tasks.specs.Causes.{RefusesScript}
 use Rattle.phpsa_tasks.specs.Sites.{RefusesByTable}
@@ -23,25 +24,25 @@ use Rattle.phpsa_tasks.specs.Counted.{uncounted, ReadsItsFiles, TellsFaults}
 abbrev pub Decision : Type 0
 Decision = Result ShownAnswer Refusal
 
--- the program of the file has this answer, by the definition of the document type; its files were read once, and no fault was counted
-pub record IsDecidedAs (files : SourceCall) (file : List ℕ) (document_type : NamedType) (goal : Goal) (limit : ℕ) (answer : ShownAnswer) :
+-- the program of the file has this answer, by the definition of the document type; each name that it asks for was asked for once, and no fault was counted
+pub record IsDecidedAs (files : SourceCall) (file : RootedFile) (document_type : NamedType) (goal : Goal) (limit : ℕ) (answer : ShownAnswer) :
     Type 0 where
   pub program : PlainProgram
   pub table : Table
-  pub loaded : IsLoaded files.content file program
+  pub loaded : IsLoadedInside files.content file program
   pub has : HasTable files.content document_type table
   pub is_answer : IsAnswer goal table program limit answer
-  pub read : IsBuiltIn document_type → ReadsItsFiles files file
+  pub read : IsBuiltIn document_type → ReadsItsFiles files file.name
   pub calm : files.faults' ≡ files.faults
 
--- the script is refused by this message; its files were read once, unless it was not loaded, and a fault is told
-pub record IsRefusedBy (files : SourceCall) (file : List ℕ) (document_type : NamedType) (message : Message) : Type 0 where
+-- the script is refused by this message; each name that it asks for was asked for once, unless it was not loaded, and a fault is told
+pub record IsRefusedBy (files : SourceCall) (file : RootedFile) (document_type : NamedType) (message : Message) : Type 0 where
   pub why : RefusesScript files file document_type message.status message.text
-  pub read : IsBuiltIn document_type → Contains uncounted message.status ⊎ ReadsItsFiles files file
+  pub read : IsBuiltIn document_type → Contains uncounted message.status ⊎ ReadsItsFiles files file.name
   pub faults : TellsFaults files message.status
 
 -- what deciding the script of a file comes to, where it is loaded for this
-abbrev pub Decides : SourceCall → List ℕ → NamedType → Goal → ℕ → Decision → Type 0
+abbrev pub Decides : SourceCall → RootedFile → NamedType → Goal → ℕ → Decision → Type 0
 Decides files file document_type goal limit (Ok answer) = IsDecidedAs files file document_type goal limit answer
 Decides files file document_type goal limit (Err (Refusal.Told message)) = IsRefusedBy files file document_type message
 Decides files file document_type goal limit (Err Refusal.Memory) = ⊤
@@ -59,10 +60,10 @@ IsProgramDecided table program name goal limit (Err (Refusal.Told message)) = Is
 IsProgramDecided table program name goal limit (Err Refusal.Memory) = ⊤
 
 -- what deciding the script of a file comes to by the table of a definition that was read before: the answer of its program, or a refusal by
--- that table; misses and faults are counted for such a refusal alone
-abbrev pub DecidesBy : SourceCall → List ℕ → Table → Goal → ℕ → Decision → Type 0
+-- that table; faults are counted for such a refusal alone
+abbrev pub DecidesBy : SourceCall → RootedFile → Table → Goal → ℕ → Decision → Type 0
 DecidesBy files file table goal limit (Ok answer) =
-    (program : PlainProgram) × IsLoaded files.content file program × IsAnswer goal table program limit answer
+    (program : PlainProgram) × IsLoadedInside files.content file program × IsAnswer goal table program limit answer
     × (files.faults' ≡ files.faults)
 DecidesBy files file table goal limit (Err (Refusal.Told message)) =
     RefusesByTable files file table message.status message.text × (message.status ≡ Missing → Rises files.misses files.misses')

@@ -6,14 +6,16 @@ ghost use Rattle.document_types.specs.DocumentTypes.{type_of};
 ghost use Rattle.program_rules.specs.View.{program_of};
 ghost use Rattle.program_files.specs.Source.{source_call};
 ghost use Rattle.site_check.specs.Site.{moment, Leads};
+ghost use Rattle.phpsa_tasks.specs.Views.{rooted_as};
 ghost use Rattle.phpsa_main.specs.Decided.{Decides, DecidesBy, IsProgramDecided};
 
+use crate::loading::load_rooted;
 use document_types::DocumentType;
 use dtd_model::Dtd;
 use io_edge::Files;
 use page_decision::Goal;
+use phpsa_tasks::RootedFile;
 use phpsa_texts::{Refusal, definition_refusal, load_refusal, long_text_refusal, states_refusal};
-use program_loader::{load, loaded_programs_stay, loads_are_loaded};
 use program_rules::Program;
 use script_decision::{CheckRefusal, ShownAnswer, check_shown};
 use std::alloc::Global;
@@ -38,7 +40,7 @@ fn decided(
     }
 }
 
-/// Decides the script of the file, with all that it includes: whether each loose page is good by
+/// Decides the script of the file, with all that it includes in its root: whether each loose page is good by
 /// the goal and the definition of the document type, with at most `limit` different sums of the
 /// sentences of one nonterminal. The script is read first, and then what the document type asks
 /// for.
@@ -49,7 +51,7 @@ fn decided(
 /// is over the limit of a run; and `Memory`.
 pub(crate) fn decide_script<F: Files>(
     alloc: Global,
-    file: &str,
+    file: RootedFile<'_>,
     document_type: DocumentType<'_>,
     goal: Goal,
     limit: u64,
@@ -57,12 +59,10 @@ pub(crate) fn decide_script<F: Files>(
 ) -> Result<ShownAnswer, Refusal>
     ensures decides { Decides (source_call (F.content files.new) (F.faults files.old) (F.faults files.new)
         (F.misses files.old) (F.misses files.new) (F.reads files.old) (F.reads files.new))
-        file.now (type_of document_type.entry) goal limit result }
+        (rooted_as file.entry) (type_of document_type.entry) goal limit result }
     ensures stays { Stays (F.content files.old) (F.content files.new) }
 {
-    loads_are_loaded();
-    loaded_programs_stay();
-    let program = match load(alloc, files, file) {
+    let program = match load_rooted(alloc, file, files) {
         Ok(program) => program,
         Err(refusal) => return Err(load_refusal(alloc, &refusal)),
     };
@@ -70,7 +70,7 @@ pub(crate) fn decide_script<F: Files>(
         Ok(dtd) => dtd,
         Err(refusal) => return Err(definition_refusal(alloc, &refusal)),
     };
-    decided(alloc, file, &program, &dtd, goal, limit)
+    decided(alloc, file.name, &program, &dtd, goal, limit)
 }
 
 /// Decides the script of the file, with all that it includes, as `decide_script` does, by a
@@ -82,7 +82,7 @@ pub(crate) fn decide_script<F: Files>(
 /// models, or a text of the program is over the limit of a run; and `Memory`.
 pub(crate) fn decide_by<F: Files>(
     alloc: Global,
-    file: &str,
+    file: RootedFile<'_>,
     dtd: &Dtd,
     goal: Goal,
     limit: u64,
@@ -91,14 +91,13 @@ pub(crate) fn decide_by<F: Files>(
     ensures decides { DecidesBy
         (source_call (F.content files.new) (F.faults files.old) (F.faults files.new)
         (F.misses files.old) (F.misses files.new) (F.reads files.old) (F.reads files.new))
-        file.now (table_of dtd.now) goal limit result }
+        (rooted_as file.entry) (table_of dtd.now) goal limit result }
     ensures leads { Leads (moment (F.content files.old) (F.faults files.old) (F.misses files.old))
         (moment (F.content files.new) (F.faults files.new) (F.misses files.new)) }
 {
-    loads_are_loaded();
-    let program = match load(alloc, files, file) {
+    let program = match load_rooted(alloc, file, files) {
         Ok(program) => program,
         Err(refusal) => return Err(load_refusal(alloc, &refusal)),
     };
-    decided(alloc, file, &program, dtd, goal, limit)
+    decided(alloc, file.name, &program, dtd, goal, limit)
 }

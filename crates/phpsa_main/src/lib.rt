@@ -17,6 +17,7 @@ mod deciding;
 mod doing;
 mod grammars;
 mod lists;
+mod loading;
 mod made;
 mod making;
 mod page;
@@ -26,13 +27,14 @@ mod script;
 mod site_lines;
 
 use crate::doing::result_of;
-use crate::report::{refuse, report};
+use crate::report::report;
 use io_edge::{Files, Sink};
 use phpsa_tasks::asked_task;
 use phpsa_tasks::laws::{
     endings_are_answered, endings_are_sound, endings_are_written, words_ask_for_one_task,
 };
 use phpsa_texts::{Exit, Refusal};
+pub use report::refuse;
 use std::alloc::Global;
 use text_base::NoMemory;
 

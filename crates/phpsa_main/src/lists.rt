@@ -1,12 +1,13 @@
 //! The scripts of a list.
 
-ghost use Rattle.std.specs.Prelude.{map, string_bytes};
+ghost use Rattle.std.specs.Prelude.{map, option_map, string_bytes};
 ghost use Rattle.io_edge.specs.Told.{Stays};
 ghost use Rattle.dtd_model.specs.TableOf.{table_of};
 ghost use Rattle.program_files.specs.Source.{source_call};
 ghost use Rattle.document_types.specs.DocumentTypes.{type_of};
 ghost use Rattle.site_check.specs.Site.{moment};
 ghost use Rattle.phpsa_tasks.specs.Tasks.{list_check};
+ghost use Rattle.phpsa_tasks.specs.Views.{rooted_as};
 ghost use Rattle.phpsa_tasks.specs.Results.{Does};
 ghost use Rattle.phpsa_main.specs.Reported.{HasReport};
 
@@ -14,7 +15,7 @@ use crate::site_lines::ByDefinition;
 use document_types::DocumentType;
 use io_edge::{FileKind, Files};
 use page_decision::Goal;
-use phpsa_tasks::Reply;
+use phpsa_tasks::{Reply, RootedFile};
 use phpsa_texts::{Refusal, definition_refusal, file_refusal, list_refusal, site_message};
 use site_check::{read_list, site};
 use std::alloc::Global;
@@ -27,7 +28,8 @@ fn report_on<F: Files>(
     answers: &ByDefinition<'_>,
     files: &mut F,
 ) -> Result<Reply, Refusal>
-    ensures report { HasReport (table_of answers.now.dtd.now) answers.now.goal answers.now.limit
+    ensures report { HasReport (option_map (λ root. root.now) answers.now.root)
+        (table_of answers.now.dtd.now) answers.now.goal answers.now.limit
         (moment (F.content files.old) (F.faults files.old) (F.misses files.old))
         (moment (F.content files.new) (F.faults files.new) (F.misses files.new))
         (map string_bytes names.now) result }
@@ -43,8 +45,8 @@ fn report_on<F: Files>(
     }
 }
 
-/// Decides each script of the list in the file, as `check_script` does for that script alone: a
-/// report with a line for each, in the order of the list, and its status. The list is read first,
+/// Decides each script of the list in the file, as `check_script` does for that script alone with
+/// the root that is given here: a report with a line for each, in the order of the list, and its status. The list is read first,
 /// then what the document type asks for, once, and then the scripts.
 ///
 /// # Errors
@@ -52,7 +54,7 @@ fn report_on<F: Files>(
 /// What is told where the list is not read or is none, or there is no definition; and `Memory`.
 pub(crate) fn check_list<F: Files>(
     alloc: Global,
-    file: &str,
+    file: RootedFile<'_>,
     document_type: DocumentType<'_>,
     goal: Goal,
     limit: u64,
@@ -60,11 +62,11 @@ pub(crate) fn check_list<F: Files>(
 ) -> Result<Reply, Refusal>
     ensures { Does (source_call (F.content files.new) (F.faults files.old) (F.faults files.new)
         (F.misses files.old) (F.misses files.new) (F.reads files.old) (F.reads files.new))
-        (list_check file.now (type_of document_type.entry) goal limit) result }
+        (list_check (rooted_as file.entry) (type_of document_type.entry) goal limit) result }
 {
-    let list = match files.read(alloc, file, FileKind::Any) {
+    let list = match files.read(alloc, file.name, FileKind::Any) {
         Ok(list) => list,
-        Err(fault) => return Err(file_refusal(alloc, fault, file.as_bytes())),
+        Err(fault) => return Err(file_refusal(alloc, fault, file.name.as_bytes())),
     };
     let names = match read_list(alloc, list.as_slice()) {
         Ok(names) => names,
@@ -75,6 +77,7 @@ pub(crate) fn check_list<F: Files>(
         Err(refusal) => return Err(definition_refusal(alloc, &refusal)),
     };
     let answers = ByDefinition {
+        root: file.root,
         dtd: &dtd,
         goal,
         limit,

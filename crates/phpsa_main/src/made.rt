@@ -6,7 +6,7 @@ ghost use Rattle.document_types.specs.DocumentTypes.{strict_type};
 ghost use Rattle.page_decision.specs.declared.goal.Goal.TheVariants.{Valid};
 ghost use Rattle.command_words.specs.declared.values.TheConstants as words;
 ghost use Rattle.phpsa_tasks.specs.Tasks.{made_check};
-ghost use Rattle.phpsa_tasks.specs.Subjects.{made_name, only_script};
+ghost use Rattle.phpsa_tasks.specs.Subjects.{made_file, only_script};
 ghost use Rattle.phpsa_tasks.specs.Counted.{ReadsNothing};
 ghost use Rattle.phpsa_tasks.specs.Results.{Does};
 ghost use Rattle.phpsa_main.specs.Decided.{Decides};
@@ -16,7 +16,7 @@ use crate::deciding::decide_script;
 use command_words::PAIR_LIMIT;
 use document_types::{DocumentType, OneFile};
 use page_decision::Goal;
-use phpsa_tasks::Reply;
+use phpsa_tasks::{Reply, RootedFile};
 use phpsa_texts::{Refusal, size_refusal, summary_message};
 use script_decision::ShownAnswer;
 use script_maker::{MakeRefusal, make};
@@ -29,7 +29,7 @@ const MADE_NAME: &str = "made.php";
 /// The answer for this script, by the built-in definition.
 fn decided(alloc: Global, script: Bytes) -> Result<ShownAnswer, Refusal>
     ensures { (misses reads : ℕ) × Decides (source_call (only_script script) 0 0 0 misses 0 reads)
-        made_name strict_type Valid words.PAIR_LIMIT result }
+        made_file strict_type Valid words.PAIR_LIMIT result }
 {
     let mut files = OneFile {
         name: MADE_NAME,
@@ -37,9 +37,13 @@ fn decided(alloc: Global, script: Bytes) -> Result<ShownAnswer, Refusal>
         misses: 0,
         reads: 0,
     };
+    let file = RootedFile {
+        name: MADE_NAME,
+        root: None,
+    };
     decide_script(
         alloc,
-        MADE_NAME,
+        file,
         DocumentType::Strict,
         Goal::Valid,
         u64::from(PAIR_LIMIT),

@@ -41,8 +41,8 @@ fn try_put<S: Sink>(sink: &mut S, text: &[u8])
     }
 }
 
-/// Writes a refusal.
-pub(crate) fn refuse<E: Sink>(refusal: &Refusal, err: &mut E) -> Exit
+/// Writes a refusal on the error stream, and gives the status that the call ends with.
+pub fn refuse<E: Sink>(refusal: &Refusal, err: &mut E) -> Exit
     ensures reports { ReportsRefusal refusal.now
         (output_of (E.written err.old) (E.written err.new) (E.faults err.old) (E.faults err.new))
         result }

@@ -7,17 +7,18 @@ ghost use Rattle.script_meaning.specs.Requests.{Admitted};
 ghost use Rattle.program_files.specs.Source.{source_call};
 ghost use Rattle.script_runs.specs.Outcomes.{plain_outcome};
 ghost use Rattle.phpsa_tasks.specs.Tasks.{script_run};
+ghost use Rattle.phpsa_tasks.specs.Views.{rooted_as};
 ghost use Rattle.phpsa_tasks.specs.Results.{Does};
 ghost use Rattle.phpsa_main.specs.Loaded.{HasRequest, IsRunReply, IsReplyOfRun};
 
+use crate::loading::load_rooted;
 use io_edge::{FileKind, Files};
 use php_syntax::tree::SuperName;
-use phpsa_tasks::Reply;
+use phpsa_tasks::{Reply, RootedFile};
 use phpsa_texts::{
     Exit, Message, Refusal, deep_message, fault_message, file_refusal, load_refusal,
     request_refusal, spent_message,
 };
-use program_loader::{load, loaded_programs_stay, loads_are_loaded};
 use program_rules::Program;
 use request_reading::{Request, read_request};
 use script_runs::{End, Ended, run};
@@ -119,18 +120,16 @@ fn run_reply(
 /// What is told where the program is not loaded or there is no request; and `Memory`.
 pub(crate) fn run_script<F: Files>(
     alloc: Global,
-    file: &str,
+    file: RootedFile<'_>,
     request: Option<&str>,
     steps: u64,
     files: &mut F,
 ) -> Result<Reply, Refusal>
     ensures { Does (source_call (F.content files.new) (F.faults files.old) (F.faults files.new)
         (F.misses files.old) (F.misses files.new) (F.reads files.old) (F.reads files.new))
-        (script_run file.now (option_map (λ text. text.now) request.entry) steps) result }
+        (script_run (rooted_as file.entry) (option_map (λ text. text.now) request.entry) steps) result }
 {
-    loads_are_loaded();
-    loaded_programs_stay();
-    let program = match load(alloc, files, file) {
+    let program = match load_rooted(alloc, file, files) {
         Ok(program) => program,
         Err(refusal) => return Err(load_refusal(alloc, &refusal)),
     };

@@ -1,7 +1,8 @@
 //! The line of a report for a script, by a definition that is read.
 
-ghost use Rattle.std.specs.Prelude.{IfOk};
+ghost use Rattle.std.specs.Prelude.{IfOk, option_map};
 ghost use Rattle.dtd_model.specs.TableOf.{table_of};
+ghost use Rattle.phpsa_tasks.specs.Tasks.{rooted};
 ghost use Rattle.phpsa_tasks.specs.Sites.{IsLineFor};
 ghost use Rattle.phpsa_main.specs.Reported.{IsRefusedLine};
 
@@ -10,14 +11,17 @@ use crate::deciding::decide_by;
 use dtd_model::Dtd;
 use io_edge::Files;
 use page_decision::Goal;
+use phpsa_tasks::RootedFile;
 use phpsa_texts::{Exit, Refusal};
 use site_check::{Answers, Line};
 use std::alloc::Global;
 use text_base::{Bytes, NoMemory, behind, front};
 
-/// What decides scripts: a definition, a goal, and a limit on the sums of a nonterminal.
+/// What decides scripts: the root of all of them, if one is given, a definition, a goal, and a limit
+/// on the sums of a nonterminal.
 #[derive(Clone, Copy)]
 pub(crate) struct ByDefinition<'a> {
+    pub(crate) root: Option<&'a str>,
     pub(crate) dtd: &'a Dtd,
     pub(crate) goal: Goal,
     pub(crate) limit: u64,
@@ -46,10 +50,15 @@ fn refused_line(alloc: Global, refusal: &Refusal) -> Result<Line, NoMemory>
 
 impl<'a> Answers for ByDefinition<'a> {
     ghost may = { λ by content name line.
-        IsLineFor (table_of by.dtd.now) by.goal by.limit content name line };
+        IsLineFor (table_of by.dtd.now) by.goal by.limit content
+        (rooted name (option_map (λ root. root.now) by.root)) line };
 
     fn answer<F: Files>(&self, alloc: Global, files: &mut F, name: &str) -> Result<Line, NoMemory> {
-        match decide_by(alloc, name, self.dtd, self.goal, self.limit, files) {
+        let file = RootedFile {
+            name,
+            root: self.root,
+        };
+        match decide_by(alloc, file, self.dtd, self.goal, self.limit, files) {
             Ok(answer) => Ok(line_of(&answer)),
             Err(refusal) => refused_line(alloc, &refusal),
         }

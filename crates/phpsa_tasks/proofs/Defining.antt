@@ -26,19 +26,20 @@ pub definition_cause : (files : SourceCall) (d : NamedType) (faults misses : ℕ
 definition_cause files d faults misses r b e why = moved files.content files.faults faults files.faults' files.misses misses files.misses' d r b e why
 
 -- no fault is counted but that of a file that is not read
-faults_told : (call : dtd_source.SourceCall) (name : List ℕ) (fault : DtdRefusal) → IsCause call name fault → (dtd_status fault ≡ ReadFault) ⊎ (call.faults' ≡ call.faults)
-faults_told call name (dtd.Missing path) (asked, (rises, none, same)) = inr same
-faults_told call name (dtd.ReadFault path) why = inl refl
-faults_told call name (dtd.TooLong path len) (asked, (over, least, (same, others))) = inr same
-faults_told call name (dtd.NotDtd at) (why, (same, others)) = inr same
-faults_told call name (dtd.Entity entity) (why, (same, others)) = inr same
-faults_told call name (dtd.Twice element) (why, (same, others)) = inr same
-faults_told call name (dtd.Undeclared element) (why, (same, others)) = inr same
-faults_told call name (dtd.LeftOut at) (why, (same, others)) = inr same
-faults_told call name (dtd.Limit count) (why, (same, others)) = inr same
-faults_told call name dtd.Memory (same, others) = inr same
+faults_told : (call : dtd_source.SourceCall) (root name : List ℕ) (fault : DtdRefusal) → IsCause call root name fault → (dtd_status fault ≡ ReadFault) ⊎ (call.faults' ≡ call.faults)
+faults_told call root name (dtd.Missing path) (asked, (rises, none, same)) = inr same
+faults_told call root name (dtd.ReadFault path) why = inl refl
+faults_told call root name (dtd.TooLong path len) (asked, (over, least, (same, others))) = inr same
+faults_told call root name (dtd.Outside path) (why, (same, others)) = inr same
+faults_told call root name (dtd.NotDtd at) (why, (same, others)) = inr same
+faults_told call root name (dtd.Entity entity) (why, (same, others)) = inr same
+faults_told call root name (dtd.Twice element) (why, (same, others)) = inr same
+faults_told call root name (dtd.Undeclared element) (why, (same, others)) = inr same
+faults_told call root name (dtd.LeftOut at) (why, (same, others)) = inr same
+faults_told call root name (dtd.Limit count) (why, (same, others)) = inr same
+faults_told call root name dtd.Memory (same, others) = inr same
 
 pub definition_faults : (call : dtd_source.SourceCall) (d : NamedType) (r : DefinitionRefusal) → IsDefinitionRefusal call d r → (definition_status r ≡ ReadFault) ⊎ (call.faults' ≡ call.faults)
-definition_faults call d (definition.File fault) (name, is, why) = faults_told call name fault why
+definition_faults call d (definition.File fault) (name, (root, is, why)) = faults_told call root name fault why
 definition_faults call d (definition.BuiltIn fault) (why, (same, others)) = inr same
 definition_faults call d definition.Memory (same, others) = inr same

@@ -4,6 +4,7 @@ use Rattle.std.specs.Prelude.{◌⊎◌}
 use Rattle.std.proofs.lemmas.Option.{same_Some}
 use Rattle.text_base.specs.declared.limits.TheConstants.{FILE_LIMIT}
 use Rattle.io_edge.specs.Counts.{Rises}
+use Rattle.io_edge.specs.Names.{normal}
 use Rattle.io_edge.specs.Told.{Told, Content, known, Tells, HasAtLeast}
 use Rattle.io_edge.specs.Reasons.{HasReason}
 use Rattle.io_edge.specs.declared.files.FileFault.{FileFault}
@@ -12,6 +13,7 @@ use Rattle.script_meaning.specs.Programs.{PlainProgram}
 use Rattle.script_meaning.specs.Requests.{PlainRequest}
 use Rattle.script_meaning.specs.Runs.{Ended}
 use Rattle.script_meaning.specs.Meaning.{meaning}
+use Rattle.program_rules.specs.Includes.{AllStayInside}
 use Rattle.program_files.specs.Source.{SourceCall, source_call}
 use Rattle.program_files.specs.declared.refusal.LoadRefusal.{LoadRefusal}
 use Rattle.program_files.specs.declared.refusal.LoadRefusal.TheVariants as load
@@ -38,13 +40,14 @@ use Rattle.phpsa_texts.specs.declared.exit.Exit.TheVariants.{Input, Memory}
 use Rattle.phpsa_texts.specs.Statuses.{judgment_status, load_status, file_status, request_status, definition_status, list_status, site_status}
 use Rattle.site_check.specs.declared.list_refusal.ListRefusal.{ListRefusal}
 use Rattle.site_check.specs.Listed.{IsList, IsNoList}
-use Rattle.phpsa_tasks.specs.Tasks.{Task, script_check, page_check, script_making, made_check, script_run, grammar_making, list_check, help_telling, version_telling, usage}
+use Rattle.phpsa_tasks.specs.Tasks.{RootedFile, root_of, Task, script_check, page_check, script_making, made_check, script_run, grammar_making, list_check, help_telling, version_telling, usage}
 use Rattle.phpsa_tasks.specs.Files.{HoldsShortFile}
 use Rattle.phpsa_tasks.specs.Requests.{no_request, FindsRequest, HoldsRequest, unread, no_request_in, RefusesRequest}
-use Rattle.phpsa_tasks.specs.Subjects.{ProgramBy, PageBy, ProgramFor, ListBy, Subject, made_name, only_made, Finds, HoldsShortProgram, HoldsTable, Holds, IsSmall, IsWithin}
+use Rattle.phpsa_tasks.specs.Subjects.{ProgramBy, PageBy, ProgramFor, ListBy, Subject, made_name, made_file, only_made, Finds, HoldsShortProgram, HoldsProgramInside, HoldsTable, Holds, IsSmall, IsWithin}
 use Rattle.phpsa_tasks.specs.ScriptAnswers.{answer_status}
 use Rattle.phpsa_tasks.specs.Replies.{end_status, HasManyItems, IsJudged, IsReplyOf, IsHaltOf}
 use Rattle.phpsa_tasks.specs.Causes.{definition_call, RefusesDefinition, not_defined, large_models, RefusesScript, not_loaded, lacks_definition, has_long_text, not_read, page_lacks_definition, no_size, made_refused, list_unread, no_list, list_lacks_definition, Refuses}
+use Rattle.phpsa_tasks.specs.Counted.{from_misses}
 use Rattle.phpsa_tasks.specs.Answered.{IsScriptVerdict, PassesScriptLimit, PassesGrammarLimit, IsListVerdict, StopsAtScript, IsVerdict, PassesLimit, IsStopped}
 use Rattle.phpsa_tasks.proofs.ListLemmas.{LoadedStays, list_verdict, not_list}
 use Rattle.command_words.specs.declared.values.TheConstants.{PAIR_LIMIT}
@@ -53,8 +56,14 @@ use Rattle.command_words.specs.declared.values.TheConstants.{PAIR_LIMIT}
 pub record ProgramLaws : Type 0 where
   pub one_program : (content : Content) (name : List ℕ) (program other : PlainProgram) → HoldsProgram content name program → IsLoaded content name other → program ≡ other
   pub stay : LoadedStays
-  pub not_refused : (call : SourceCall) (name : List ℕ) (program : PlainProgram) (refusal : LoadRefusal) → (h : HoldsProgram call.content name program) → AreShort h.held name
-      → (Rises call.faults call.faults' → ⊥) → IsLoadCause call name refusal → refusal ≡ load.Memory
+  pub not_refused : (call : SourceCall) (root name : List ℕ) (program : PlainProgram) (refusal : LoadRefusal) → (h : HoldsProgram call.content name program) → AreShort h.held name
+      → AllStayInside root h.held (normal name) → (Rises call.faults call.faults' → ⊥) → IsLoadCause call root name refusal → refusal ≡ load.Memory
+
+-- a program that is held and stays in its root is refused for want of memory alone
+pub unloaded_memory : ProgramLaws → (files : SourceCall) (file : RootedFile) (program : PlainProgram) (cause : LoadRefusal) → HoldsProgramInside files.content file program
+    → (Rises files.faults files.faults' → ⊥) → IsLoadCause files (root_of file) file.name cause → load_status cause ≡ Memory
+unloaded_memory laws files file program cause h calm why =
+    ap load_status (laws.not_refused files (root_of file) file.name program cause h.held.holds h.held.short h.inside calm why)
 
 abbrev pub OneProgram : Type 0
 OneProgram = (content : Content) (name : List ℕ) (program other : PlainProgram) → HoldsProgram content name program → IsLoaded content name other → program ≡ other
@@ -135,7 +144,7 @@ pub held_reply : OneProgram → LoadedStays → (files : SourceCall) (task : Tas
 held_reply one stay files (script_check file d goal limit form) x y status text (h, t) (found, has) (answer, is, status_is, text_is) =
     stopped files.content (script_check file d goal limit form) x status
     (script_verdict goal x.table x.program limit answer status status_is
-    (own_program one files.content file d x y h t found has (λ (p : PlainProgram) (s : Table). IsShownAnswer goal s p limit answer) is.0))
+    (own_program one files.content file.name d x y h t found.loaded has (λ (p : PlainProgram) (s : Table). IsShownAnswer goal s p limit answer) is.0))
 held_reply one stay files (page_check file d) x y status text (h, t) (found, has) (valid, is, status_is, text_is) =
     inl (subst (IsVerdict files.content (page_check file d) x) (sym status_is)
     (judgment_verdict files.content file d x valid (own_page files.content file d x y h t found has (λ (p : List ℕ) (s : Table). IsJudged s p valid) is)))
@@ -143,19 +152,19 @@ held_reply one stay files (script_making n) x y status text h f (size, status_is
 held_reply one stay files (made_check n) x y status text (size, h, t) (size', found, has) (answer, is, status_is, text_is) =
     stopped files.content (made_check n) x status
     (script_verdict Goal.Valid x.table x.program PAIR_LIMIT answer status status_is
-    (own_program one (only_made n) made_name strict_type x y h t found has (λ (p : PlainProgram) (s : Table). IsShownAnswer Goal.Valid s p PAIR_LIMIT answer) is.0))
+    (own_program one (only_made n) made_name strict_type x y h t found.loaded has (λ (p : PlainProgram) (s : Table). IsShownAnswer Goal.Valid s p PAIR_LIMIT answer) is.0))
 held_reply one stay files (script_run file request steps) x y status text (h, r) (found, finds, admitted) (ended, status_is, text_is) =
-    inl (status_is ∙ ap end_status (sym (own_run one files.content file request x y h r found finds (λ (p : PlainProgram) (q : PlainRequest). (meaning p q steps).end ≡ Ended) ended)))
+    inl (status_is ∙ ap end_status (sym (own_run one files.content file.name request x y h r found.loaded finds (λ (p : PlainProgram) (q : PlainRequest). (meaning p q steps).end ≡ Ended) ended)))
 held_reply one stay files (grammar_making file) x y status text h found (inl (written, status_is)) = inl (subst (IsVerdict files.content (grammar_making file) x) (sym status_is) tt)
 held_reply one stay files (grammar_making file) x y status text h found (inr (count, many, status_is, text_is)) =
-    let own : HasManyItems x count = subst (λ (p : PlainProgram). HasManyItems p count) (sym (one files.content file x y h.holds found)) many in
+    let own : HasManyItems x count = subst (λ (p : PlainProgram). HasManyItems p count) (sym (one files.content file.name x y h.holds found.loaded)) many in
     inr (inl (subst (PassesGrammarLimit x) (sym status_is) (count, own)))
 held_reply one stay files (list_check file d goal limit) x y status text (h, t) (found, has, good) (lines, are, status_is, text_is) =
     stopped files.content (list_check file d goal limit) x status
-    (subst (λ (s : Exit). IsListVerdict files.content goal x.table x.list s ⊎ StopsAtScript files.content goal x.table limit x.list s) (sym status_is)
-    (own_list files.content file d x y h t found has
-    (λ (l : List ℕ) (s : Table). IsListVerdict files.content goal s l (site_status lines) ⊎ StopsAtScript files.content goal s limit l (site_status lines))
-    (list_verdict stay files goal limit y lines good are)))
+    (subst (λ (s : Exit). IsListVerdict files.content goal x.table x.list s ⊎ StopsAtScript files.content file.root goal x.table limit x.list s) (sym status_is)
+    (own_list files.content file.name d x y h t found has
+    (λ (l : List ℕ) (s : Table). IsListVerdict files.content goal s l (site_status lines) ⊎ StopsAtScript files.content file.root goal s limit l (site_status lines))
+    (list_verdict stay files file.root goal limit y lines good are)))
 held_reply one stay files help_telling x y status text h f (status_is, text_is) = inl status_is
 held_reply one stay files version_telling x y status text h f (status_is, text_is) = inl status_is
 held_reply one stay files usage x y status text h f r = absurd r
@@ -168,7 +177,7 @@ held_halt one content (page_check file d) x y status printed text h f r = absurd
 held_halt one content (script_making n) x y status printed text h f r = absurd r
 held_halt one content (made_check n) x y status printed text h f r = absurd r
 held_halt one content (script_run file request steps) x y status printed text (h, r) (found, finds, admitted) (early, status_is, printed_is, text_is) =
-    inl (own_run one content file request x y h r found finds (λ (p : PlainProgram) (q : PlainRequest). status ≡ end_status (meaning p q steps).end) status_is)
+    inl (own_run one content file.name request x y h r found.loaded finds (λ (p : PlainProgram) (q : PlainRequest). status ≡ end_status (meaning p q steps).end) status_is)
 held_halt one content (grammar_making file) x y status printed text h f r = absurd r
 held_halt one content (list_check file d goal limit) x y status printed text h f r = absurd r
 held_halt one content help_telling x y status printed text h f r = absurd r
@@ -227,51 +236,52 @@ never : Rises 0 0 → ⊥
 never rises = let one : 1 ≤ 0 = rises in omega (arith, one)
 
 -- a script that is held is refused for a long text, or for want of memory
-held_script : ProgramLaws → (files : SourceCall) (file : List ℕ) (d : NamedType) (goal : Goal) (limit : ℕ) (x : ProgramBy) (status : Exit) (text : List ℕ)
-    → (Rises files.faults files.faults' → ⊥) → HoldsShortProgram files.content file x.program → HoldsTable files.content d x.table → IsSmall files.content d x.table
+held_script : ProgramLaws → (files : SourceCall) (file : RootedFile) (d : NamedType) (goal : Goal) (limit : ℕ) (x : ProgramBy) (status : Exit) (text : List ℕ)
+    → (Rises files.faults files.faults' → ⊥) → HoldsProgramInside files.content file x.program → HoldsTable files.content d x.table → IsSmall files.content d x.table
     → RefusesScript files file d status text → PassesScriptLimit goal x.table x.program limit status ⊎ (status ≡ Memory)
 held_script laws files file d goal limit x status text calm h t w (not_loaded cause why status_is text_is) =
-    inr (status_is ∙ ap load_status (laws.not_refused files file x.program cause h.holds h.short calm why))
-held_script laws files file d goal limit x status text calm h t w (lacks_definition program found why) = inr (definition_memory files d x.table status text t w calm why)
+    inr (status_is ∙ unloaded_memory laws files file x.program cause h calm why)
+held_script laws files file d goal limit x status text calm h t w (lacks_definition program misses found behind why) =
+    inr (definition_memory (from_misses misses files) d x.table status text t w calm why)
 held_script laws files file d goal limit x status text calm h t w (has_long_text program found long status_is text_is) =
-    let own : HasLongText x.program = subst HasLongText (sym (laws.one_program files.content file x.program program h.holds found)) long in
+    let own : HasLongText x.program = subst HasLongText (sym (laws.one_program files.content file.name x.program program h.held.holds found.loaded)) long in
     inl (subst (PassesScriptLimit goal x.table x.program limit) (sym status_is) own)
 
 -- a list that is held and is none is refused for that
-refused_list : (files : SourceCall) (goal : Goal) (limit : ℕ) (table : Table) (list : List ℕ) (refusal : ListRefusal) (status : Exit) → status ≡ list_status refusal → IsNoList list refusal
-    → IsListVerdict files.content goal table list status ⊎ (StopsAtScript files.content goal table limit list status ⊎ (status ≡ Memory))
-refused_list files goal limit table list refusal status status_is why = by (not_list list refusal why)
+refused_list : (files : SourceCall) (root : Option (List ℕ)) (goal : Goal) (limit : ℕ) (table : Table) (list : List ℕ) (refusal : ListRefusal) (status : Exit) → status ≡ list_status refusal → IsNoList list refusal
+    → IsListVerdict files.content goal table list status ⊎ (StopsAtScript files.content root goal table limit list status ⊎ (status ≡ Memory))
+refused_list files root goal limit table list refusal status status_is why = by (not_list list refusal why)
   where
     by : ((list_status refusal ≡ Input) × (IsList list → ⊥)) ⊎ (list_status refusal ≡ Memory)
-        → IsListVerdict files.content goal table list status ⊎ (StopsAtScript files.content goal table limit list status ⊎ (status ≡ Memory))
+        → IsListVerdict files.content goal table list status ⊎ (StopsAtScript files.content root goal table limit list status ⊎ (status ≡ Memory))
     by (inl (is, none)) = inl (subst (IsListVerdict files.content goal table list) (sym (status_is ∙ is)) none)
     by (inr is) = inr (inr (status_is ∙ is))
 
 -- a refusal says the verdict of what the source holds, that a limit was passed, or want of memory
 pub held_refusal : ProgramLaws → (files : SourceCall) (task : Task) (x : Subject task) (status : Exit) (text : List ℕ) → (Rises files.faults files.faults' → ⊥)
     → Holds files.content task x → IsWithin files.content task x → Refuses files task status text → IsVerdict files.content task x status ⊎ IsStopped files.content task x status
-held_refusal laws files (script_check file d goal limit form) x status text calm (h, t) w why = inr (held_script laws files file d goal limit x status text calm h t w why)
+held_refusal laws files (script_check file d goal limit form) x status text calm (h, t) (i, w) why = inr (held_script laws files file d goal limit x status text calm i t w why)
 held_refusal laws files (page_check file d) x status text calm (h, t) w (not_read fault why status_is text_is) =
     inr (inr (status_is ∙ file_memory files file x.page fault h calm why))
 held_refusal laws files (page_check file d) x status text calm (h, t) w (page_lacks_definition read told why) = inr (inr (definition_memory files d x.table status text t w calm why))
 held_refusal laws files (script_making n) x status text calm h w (size, status_is, text_is) = inl (subst (IsVerdict files.content (script_making n) tt) (sym status_is) size)
-held_refusal laws files (made_check n) x status text calm (size, h, t) w (no_size none status_is text_is) = absurd (none size)
-held_refusal laws files (made_check n) x status text calm (size, h, t) w (made_refused size' misses reads why) =
-    inr (held_script laws (source_call (only_made n) 0 0 0 misses 0 reads) made_name strict_type Goal.Valid PAIR_LIMIT x status text never h t w why)
+held_refusal laws files (made_check n) x status text calm (size, h, t) (i, w) (no_size none status_is text_is) = absurd (none size)
+held_refusal laws files (made_check n) x status text calm (size, h, t) (i, w) (made_refused size' misses reads why) =
+    inr (held_script laws (source_call (only_made n) 0 0 0 misses 0 reads) made_file strict_type Goal.Valid PAIR_LIMIT x status text never i t w why)
 held_refusal laws files (script_run file request steps) x status text calm (h, r) w (inl (cause, why, status_is, text_is)) =
-    inr (inr (status_is ∙ ap load_status (laws.not_refused files file x.program cause h.holds h.short calm why)))
-held_refusal laws files (script_run file request steps) x status text calm (h, r) w (inr (program, found, why, read)) =
-    inr (inr (request_memory files request x.request status text r calm why))
+    inr (inr (status_is ∙ unloaded_memory laws files file x.program cause w calm why))
+held_refusal laws files (script_run file request steps) x status text calm (h, r) w (inr (program, found, (misses, behind, why), read)) =
+    inr (inr (request_memory (from_misses misses files) request x.request status text r calm why))
 held_refusal laws files (grammar_making file) x status text calm h w (inl (cause, why, status_is, text_is)) =
-    inr (inr (status_is ∙ ap load_status (laws.not_refused files file x cause h.holds h.short calm why)))
+    inr (inr (status_is ∙ unloaded_memory laws files file x cause w calm why))
 held_refusal laws files (grammar_making file) x status text calm h w (inr (program, found, long, status_is, text_is)) =
-    let own : HasLongText x = subst HasLongText (sym (laws.one_program files.content file x program h.holds found)) long in
+    let own : HasLongText x = subst HasLongText (sym (laws.one_program files.content file.name x program h.holds found.loaded)) long in
     inr (inl (subst (PassesGrammarLimit x) (sym status_is) own))
 held_refusal laws files (list_check file d goal limit) x status text calm (h, t) (w, hold) (list_unread fault why status_is text_is) =
-    inr (inr (status_is ∙ file_memory files file x.list fault h calm why))
+    inr (inr (status_is ∙ file_memory files file.name x.list fault h calm why))
 held_refusal laws files (list_check file d goal limit) x status text calm (h, t) (w, hold) (no_list list refusal told why status_is text_is) =
-    refused_list files goal limit x.table x.list refusal status status_is
-    (subst (λ (l : List ℕ). IsNoList l refusal) (sym (one_content files.content file x.list list h.told told)) why)
+    refused_list files file.root goal limit x.table x.list refusal status status_is
+    (subst (λ (l : List ℕ). IsNoList l refusal) (sym (one_content files.content file.name x.list list h.told told)) why)
 held_refusal laws files (list_check file d goal limit) x status text calm (h, t) (w, hold) (list_lacks_definition list cause told is why status_is text_is) =
     inr (inr (definition_memory files d x.table status text t w calm (not_defined cause why status_is text_is)))
 held_refusal laws files help_telling x status text calm h w why = absurd why

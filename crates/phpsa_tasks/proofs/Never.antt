@@ -23,12 +23,13 @@ use Rattle.phpsa_texts.specs.declared.exit.Exit.{Exit}
 use Rattle.phpsa_texts.specs.declared.exit.Exit.TheVariants.{Done, Usage}
 use Rattle.phpsa_texts.specs.declared.exit.Exit.TheVariants as exit
 use Rattle.phpsa_texts.specs.Statuses.{judgment_status, fault_status, load_status, file_status, request_status, dtd_status, built_in_status, definition_status, list_status}
-use Rattle.phpsa_tasks.specs.Tasks.{Task, script_check, page_check, script_making, made_check, script_run, grammar_making, list_check, help_telling, version_telling, usage, task_of}
+use Rattle.phpsa_tasks.specs.Tasks.{RootedFile, Task, script_check, page_check, script_making, made_check, script_run, grammar_making, list_check, help_telling, version_telling, usage, task_of}
 use Rattle.phpsa_tasks.specs.Requests.{unread, no_request_in, RefusesRequest}
-use Rattle.phpsa_tasks.specs.Subjects.{Subject, made_name, only_made}
+use Rattle.phpsa_tasks.specs.Subjects.{Subject, made_file, only_made}
 use Rattle.phpsa_tasks.specs.ScriptAnswers.{answer_status}
 use Rattle.phpsa_tasks.specs.Replies.{end_status, IsReplyOf, IsHaltOf}
 use Rattle.phpsa_tasks.specs.Written.{HasAllWritten}
+use Rattle.phpsa_tasks.specs.Counted.{from_misses}
 use Rattle.phpsa_tasks.specs.Causes.{RefusesDefinition, not_defined, large_models, RefusesScript, not_loaded, lacks_definition, has_long_text, RefusesPage, not_read, page_lacks_definition, RefusesMade, no_size, made_refused, RefusesList, list_unread, no_list, list_lacks_definition, Refuses}
 use Rattle.phpsa_tasks.proofs.ListLemmas.{no_usage}
 
@@ -46,6 +47,7 @@ IsOther status = Unit {0}
 
 of_load : (cause : LoadRefusal) → IsOther (load_status cause)
 of_load (load.Missing name) = tt
+of_load (load.Outside name) = tt
 of_load (load.ReadFault name) = tt
 of_load (load.TooLong name len) = tt
 of_load (load.Script name fault) = tt
@@ -66,6 +68,7 @@ of_dtd : (refusal : DtdRefusal) → IsOther (dtd_status refusal)
 of_dtd (dtd.Missing name) = tt
 of_dtd (dtd.ReadFault name) = tt
 of_dtd (dtd.TooLong name len) = tt
+of_dtd (dtd.Outside name) = tt
 of_dtd dtd.Memory = tt
 of_dtd (dtd.NotDtd at) = tt
 of_dtd (dtd.Entity name) = tt
@@ -87,9 +90,9 @@ of_definition : (files : SourceCall) (d : NamedType) (status : Exit) (text : Lis
 of_definition files d status text (not_defined cause why is text_is) = subst IsOther (sym is) (of_defining cause)
 of_definition files d status text (large_models table count has many is text_is) = subst IsOther (sym is) tt
 
-of_script : (files : SourceCall) (file : List ℕ) (d : NamedType) (status : Exit) (text : List ℕ) → RefusesScript files file d status text → IsOther status
+of_script : (files : SourceCall) (file : RootedFile) (d : NamedType) (status : Exit) (text : List ℕ) → RefusesScript files file d status text → IsOther status
 of_script files file d status text (not_loaded cause why is text_is) = subst IsOther (sym is) (of_load cause)
-of_script files file d status text (lacks_definition program found why) = of_definition files d status text why
+of_script files file d status text (lacks_definition program misses found behind why) = of_definition (from_misses misses files) d status text why
 of_script files file d status text (has_long_text program found long is text_is) = subst IsOther (sym is) tt
 
 of_page : (files : SourceCall) (file : List ℕ) (d : NamedType) (status : Exit) (text : List ℕ) → RefusesPage files file d status text → IsOther status
@@ -98,7 +101,7 @@ of_page files file d status text (page_lacks_definition read told why) = of_defi
 
 of_made : (n : ℕ) (status : Exit) (text : List ℕ) → RefusesMade n status text → IsOther status
 of_made n status text (no_size size is text_is) = subst IsOther (sym is) tt
-of_made n status text (made_refused size misses reads why) = of_script (source_call (only_made n) 0 0 0 misses 0 reads) made_name strict_type status text why
+of_made n status text (made_refused size misses reads why) = of_script (source_call (only_made n) 0 0 0 misses 0 reads) made_file strict_type status text why
 
 of_asking : (refusal : RequestRefusal) → IsOther (request_status refusal)
 of_asking asking.NotJson = tt
@@ -140,10 +143,10 @@ never_done files (page_check file d) status text why e = not_done status (of_pag
 never_done files (script_making n) status text (size, is, text_is) e = subst HasAllWritten is e
 never_done files (made_check n) status text why e = not_done status (of_made n status text why) e
 never_done files (script_run file request steps) status text (inl (cause, why, is, text_is)) e = not_done status (subst IsOther (sym is) (of_load cause)) e
-never_done files (script_run file request steps) status text (inr (program, found, why, read)) e = not_done status (of_request files request status text why) e
+never_done files (script_run file request steps) status text (inr (program, found, (misses, behind, why), read)) e = not_done status (of_request (from_misses misses files) request status text why) e
 never_done files (grammar_making file) status text (inl (cause, why, is, text_is)) e = not_done status (subst IsOther (sym is) (of_load cause)) e
 never_done files (grammar_making file) status text (inr (program, found, long, is, text_is)) e = subst HasAllWritten is e
-never_done files (list_check file d goal limit) status text why e = not_done status (of_list files file d status text why) e
+never_done files (list_check file d goal limit) status text why e = not_done status (of_list files file.name d status text why) e
 never_done files help_telling status text why e = why
 never_done files version_telling status text why e = why
 never_done files usage status text (is, text_is) e = subst HasAllWritten is e
@@ -154,10 +157,10 @@ told_usage files (page_check file d) status text why e = absurd (not_usage statu
 told_usage files (script_making n) status text (size, is, text_is) e = let same : exit.Input ≡ Usage = sym is ∙ e in absurd cc
 told_usage files (made_check n) status text why e = absurd (not_usage status (of_made n status text why) e)
 told_usage files (script_run file request steps) status text (inl (cause, why, is, text_is)) e = absurd (not_usage status (subst IsOther (sym is) (of_load cause)) e)
-told_usage files (script_run file request steps) status text (inr (program, found, why, read)) e = absurd (not_usage status (of_request files request status text why) e)
+told_usage files (script_run file request steps) status text (inr (program, found, (misses, behind, why), read)) e = absurd (not_usage status (of_request (from_misses misses files) request status text why) e)
 told_usage files (grammar_making file) status text (inl (cause, why, is, text_is)) e = absurd (not_usage status (subst IsOther (sym is) (of_load cause)) e)
 told_usage files (grammar_making file) status text (inr (program, found, long, is, text_is)) e = let same : exit.Input ≡ Usage = sym is ∙ e in absurd cc
-told_usage files (list_check file d goal limit) status text why e = absurd (not_usage status (of_list files file d status text why) e)
+told_usage files (list_check file d goal limit) status text why e = absurd (not_usage status (of_list files file.name d status text why) e)
 told_usage files help_telling status text why e = absurd why
 told_usage files version_telling status text why e = absurd why
 told_usage files usage status text why e = refl
@@ -218,12 +221,12 @@ no_halt usage x status printed text r e = r
 
 -- what words ask for is more than the usage
 pub asks_more : (for : Asked) → usage ≡ task_of for → ⊥
-asks_more (check file definition limit by_nesting as_json) e = cc
-asks_more (run file request steps) e = cc
-asks_more (page file definition) e = cc
-asks_more (grammar file) e = cc
+asks_more (check file definition root limit by_nesting as_json) e = cc
+asks_more (run file root request steps) e = cc
+asks_more (page file definition root) e = cc
+asks_more (grammar file root) e = cc
 asks_more (make functions true) e = cc
 asks_more (make functions false) e = cc
-asks_more (site file definition limit by_nesting) e = cc
+asks_more (site file definition root limit by_nesting) e = cc
 asks_more help e = cc
 asks_more version e = cc

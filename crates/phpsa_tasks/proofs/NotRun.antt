@@ -10,14 +10,15 @@ use Rattle.request_reading.specs.declared.refusal.RequestRefusal.{RequestRefusal
 use Rattle.request_reading.specs.declared.refusal.RequestRefusal.TheVariants as asking
 use Rattle.phpsa_texts.specs.declared.exit.Exit.{Exit}
 use Rattle.phpsa_texts.specs.declared.exit.Exit.TheVariants.{Input, Memory}
-use Rattle.phpsa_texts.specs.Statuses.{load_status, request_status}
+use Rattle.phpsa_texts.specs.Statuses.{request_status}
 use Rattle.phpsa_texts.specs.Texts.{request_text}
-use Rattle.phpsa_tasks.specs.Tasks.{script_run}
+use Rattle.phpsa_tasks.specs.Tasks.{RootedFile, script_run}
 use Rattle.phpsa_tasks.specs.Call.{Call, Gains, GainsNothing}
 use Rattle.phpsa_tasks.specs.Requests.{FindsRequest, HoldsNoRequest, unread, no_request_in, RefusesRequest}
+use Rattle.phpsa_tasks.specs.Counted.{from_misses}
 use Rattle.phpsa_tasks.specs.Causes.{Refuses}
 use Rattle.phpsa_tasks.specs.Answered.{IsNotRun, TellsCause}
-use Rattle.phpsa_tasks.proofs.Held.{ProgramLaws, one_content, file_memory}
+use Rattle.phpsa_tasks.proofs.Held.{ProgramLaws, unloaded_memory, one_content, file_memory}
 
 -- what stands for a request has no cause but want of memory
 no_cause : (cause : RequestRefusal) (o : Outcome) (x : PlainRequest) → o ≡ stands_for x → IsCause cause o → request_status cause ≡ Input → ⊥
@@ -61,21 +62,21 @@ told_so call status text cause told input out err is text_is (inl same) = inl (r
 })
 told_so call status text cause told input out err is text_is (inr wants) = inr (is ∙ wants)
 
-of_request : (call : Call) (status : Exit) (text : List ℕ) (name : List ℕ) (cause : RequestRefusal) → (Rises call.files.faults call.files.faults' → ⊥)
+of_request : (call : Call) (misses : ℕ) (status : Exit) (text : List ℕ) (name : List ℕ) (cause : RequestRefusal) → (Rises call.files.faults call.files.faults' → ⊥)
     → HoldsNoRequest call.files.content name cause → request_status cause ≡ Input → GainsNothing call.out → Gains call.err text
-    → RefusesRequest call.files (Some name) status text → TellsCause call cause status ⊎ (status ≡ Memory)
-of_request call status text name cause calm none input out err (unread fault why is text_is) =
-    inr (is ∙ file_memory call.files name none.bytes fault none.file calm why)
-of_request call status text name cause calm none input out err (no_request_in bytes told tells why is text_is) =
+    → RefusesRequest (from_misses misses call.files) (Some name) status text → TellsCause call cause status ⊎ (status ≡ Memory)
+of_request call misses status text name cause calm none input out err (unread fault why is text_is) =
+    inr (is ∙ file_memory (from_misses misses call.files) name none.bytes fault none.file calm why)
+of_request call misses status text name cause calm none input out err (no_request_in bytes told tells why is text_is) =
     let same : bytes ≡ none.bytes = sym (one_content call.files.content name none.bytes bytes none.file.told tells) in
     told_so call status text cause told input out err is text_is
     (one_cause told cause (outcome none.bytes) (subst (λ (b : List ℕ). IsCause told (outcome b)) same why) none.why input)
 
 -- what refuses the run is the cause, or want of memory
-pub cause_told : ProgramLaws → (call : Call) (status : Exit) (text file name : List ℕ) (steps : ℕ) (cause : RequestRefusal) → (Rises call.files.faults call.files.faults' → ⊥)
+pub cause_told : ProgramLaws → (call : Call) (status : Exit) (text : List ℕ) (file : RootedFile) (name : List ℕ) (steps : ℕ) (cause : RequestRefusal) → (Rises call.files.faults call.files.faults' → ⊥)
     → IsNotRun call file name cause → GainsNothing call.out → Gains call.err text → Refuses call.files (script_run file (Some name) steps) status text
     → TellsCause call cause status ⊎ (status ≡ Memory)
 cause_told laws call status text file name steps cause calm n out err (inl (unloaded, why, is, text_is)) =
-    inr (is ∙ ap load_status (laws.not_refused call.files file n.program unloaded n.held.holds n.held.short calm why))
-cause_told laws call status text file name steps cause calm n out err (inr (program, found, why, read)) =
-    of_request call status text name cause calm n.none n.input out err why
+    inr (is ∙ unloaded_memory laws call.files file n.program unloaded n.held calm why)
+cause_told laws call status text file name steps cause calm n out err (inr (program, found, (misses, behind, why), read)) =
+    of_request call misses status text name cause calm n.none n.input out err why

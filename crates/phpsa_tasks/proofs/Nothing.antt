@@ -15,9 +15,10 @@ use Rattle.page_decision.specs.declared.goal.Goal.{Goal}
 use Rattle.phpsa_texts.specs.declared.exit.Exit.{Exit}
 use Rattle.phpsa_texts.specs.declared.exit.Exit.TheVariants.{Missing, Script, Input, Memory}
 use Rattle.phpsa_texts.specs.Statuses.{load_status, file_status, request_status}
-use Rattle.phpsa_tasks.specs.Tasks.{Task, script_check, page_check, script_making, made_check, script_run, grammar_making, list_check, help_telling, version_telling, usage}
+use Rattle.phpsa_tasks.specs.Tasks.{RootedFile, root_of, Task, script_check, page_check, script_making, made_check, script_run, grammar_making, list_check, help_telling, version_telling, usage}
 use Rattle.phpsa_tasks.specs.Requests.{unread, no_request_in, RefusesRequest}
 use Rattle.phpsa_tasks.specs.Subjects.{LacksFile}
+use Rattle.phpsa_tasks.specs.Counted.{from_misses}
 use Rattle.phpsa_tasks.specs.Causes.{not_loaded, lacks_definition, has_long_text, not_read, page_lacks_definition, no_size, made_refused, list_unread, no_list, list_lacks_definition, Refuses}
 use Rattle.phpsa_tasks.specs.Answered.{statuses_of_nothing}
 
@@ -25,18 +26,19 @@ abbrev pub Among : Task → Exit → Type 0
 Among task status = Contains (statuses_of_nothing task) status
 
 -- those of a program that is not loaded
-of_load : (files : SourceCall) (file : List ℕ) (cause : LoadRefusal) → (Rises files.faults files.faults' → ⊥) → IsLoadCause files file cause
+of_load : (files : SourceCall) (root name : List ℕ) (cause : LoadRefusal) → (Rises files.faults files.faults' → ⊥) → IsLoadCause files root name cause
     → Contains (Missing ∷ Script ∷ Input ∷ Memory ∷ []) (load_status cause)
-of_load files file (load.Missing path) calm why = (0, lit< tt, refl)
-of_load files file (load.ReadFault path) calm (named, (stops, rises, misses)) = absurd (calm rises)
-of_load files file (load.TooLong path len) calm why = (2, lit< tt, refl)
-of_load files file (load.Script path fault) calm why = (1, lit< tt, refl)
-of_load files file (load.IncludeCycle path) calm why = (1, lit< tt, refl)
-of_load files file (load.DoubleFunction function) calm why = (1, lit< tt, refl)
-of_load files file (load.UnknownFunction function) calm why = (1, lit< tt, refl)
-of_load files file (load.Arity function) calm why = (1, lit< tt, refl)
-of_load files file (load.TooMany count) calm why = (2, lit< tt, refl)
-of_load files file load.Memory calm why = (3, lit< tt, refl)
+of_load files root name (load.Missing path) calm why = (0, lit< tt, refl)
+of_load files root name (load.Outside path) calm why = (1, lit< tt, refl)
+of_load files root name (load.ReadFault path) calm (named, (stops, rises, misses)) = absurd (calm rises)
+of_load files root name (load.TooLong path len) calm why = (2, lit< tt, refl)
+of_load files root name (load.Script path fault) calm why = (1, lit< tt, refl)
+of_load files root name (load.IncludeCycle path) calm why = (1, lit< tt, refl)
+of_load files root name (load.DoubleFunction function) calm why = (1, lit< tt, refl)
+of_load files root name (load.UnknownFunction function) calm why = (1, lit< tt, refl)
+of_load files root name (load.Arity function) calm why = (1, lit< tt, refl)
+of_load files root name (load.TooMany count) calm why = (2, lit< tt, refl)
+of_load files root name load.Memory calm why = (3, lit< tt, refl)
 
 of_file : (files : SourceCall) (file : List ℕ) (d : NamedType) (f : FileFault) → (Rises files.faults files.faults' → ⊥)
     → HasReason (files.content file) files.faults files.faults' files.misses files.misses' f → Among (page_check file d) (file_status f)
@@ -46,20 +48,20 @@ of_file files file d (reading.TooLong len) calm why = (1, lit< tt, refl)
 of_file files file d reading.Memory calm why = (2, lit< tt, refl)
 
 -- those of a request that is refused
-of_asking : (file : List ℕ) (request : Option (List ℕ)) (steps : ℕ) (refusal : RequestRefusal) → Among (script_run file request steps) (request_status refusal)
+of_asking : (file : RootedFile) (request : Option (List ℕ)) (steps : ℕ) (refusal : RequestRefusal) → Among (script_run file request steps) (request_status refusal)
 of_asking file request steps asking.NotJson = (2, lit< tt, refl)
 of_asking file request steps asking.NotRequest = (2, lit< tt, refl)
 of_asking file request steps (asking.NotAdmitted path) = (2, lit< tt, refl)
 of_asking file request steps asking.Memory = (3, lit< tt, refl)
 
-of_asked_file : (files : SourceCall) (file : List ℕ) (request : Option (List ℕ)) (steps : ℕ) (name : List ℕ) (f : FileFault) → (Rises files.faults files.faults' → ⊥)
+of_asked_file : (files : SourceCall) (file : RootedFile) (request : Option (List ℕ)) (steps : ℕ) (name : List ℕ) (f : FileFault) → (Rises files.faults files.faults' → ⊥)
     → HasReason (files.content name) files.faults files.faults' files.misses files.misses' f → Among (script_run file request steps) (file_status f)
 of_asked_file files file request steps name reading.Missing calm why = (0, lit< tt, refl)
 of_asked_file files file request steps name reading.Failed calm rises = absurd (calm rises)
 of_asked_file files file request steps name (reading.TooLong len) calm why = (2, lit< tt, refl)
 of_asked_file files file request steps name reading.Memory calm why = (3, lit< tt, refl)
 
-of_request : (files : SourceCall) (file : List ℕ) (request : Option (List ℕ)) (steps : ℕ) (status : Exit) (text : List ℕ) → (Rises files.faults files.faults' → ⊥)
+of_request : (files : SourceCall) (file : RootedFile) (request : Option (List ℕ)) (steps : ℕ) (status : Exit) (text : List ℕ) → (Rises files.faults files.faults' → ⊥)
     → RefusesRequest files request status text → Among (script_run file request steps) status
 of_request files file None steps status text calm why = absurd why
 of_request files file (Some name) steps status text calm (unread fault why is text_is) =
@@ -68,8 +70,8 @@ of_request files file (Some name) steps status text calm (no_request_in bytes re
     subst (Among (script_run file (Some name) steps)) (sym is) (of_asking file (Some name) steps refusal)
 
 -- those of a list that is not read
-of_unread : (files : SourceCall) (file : List ℕ) (d : NamedType) (goal : Goal) (limit : ℕ) (f : FileFault) → (Rises files.faults files.faults' → ⊥)
-    → HasReason (files.content file) files.faults files.faults' files.misses files.misses' f → Among (list_check file d goal limit) (file_status f)
+of_unread : (files : SourceCall) (file : RootedFile) (d : NamedType) (goal : Goal) (limit : ℕ) (f : FileFault) → (Rises files.faults files.faults' → ⊥)
+    → HasReason (files.content file.name) files.faults files.faults' files.misses files.misses' f → Among (list_check file d goal limit) (file_status f)
 of_unread files file d goal limit reading.Missing calm why = (0, lit< tt, refl)
 of_unread files file d goal limit reading.Failed calm rises = absurd (calm rises)
 of_unread files file d goal limit (reading.TooLong len) calm why = (1, lit< tt, refl)
@@ -91,8 +93,8 @@ of_memory files usage status lacks is = absurd lacks
 pub of_refusal : (files : SourceCall) (task : Task) (status : Exit) (text : List ℕ) → (Rises files.faults files.faults' → ⊥) → LacksFile files.content task → Refuses files task status text
     → Among task status
 of_refusal files (script_check file d goal limit form) status text calm lacks (not_loaded cause why is text_is) =
-    subst (Among (script_check file d goal limit form)) (sym is) (of_load files file cause calm why)
-of_refusal files (script_check file d goal limit form) status text calm lacks (lacks_definition program found why) = absurd (lacks program found)
+    subst (Among (script_check file d goal limit form)) (sym is) (of_load files (root_of file) file.name cause calm why)
+of_refusal files (script_check file d goal limit form) status text calm lacks (lacks_definition program misses found behind why) = absurd (lacks program found)
 of_refusal files (script_check file d goal limit form) status text calm lacks (has_long_text program found long is text_is) = absurd (lacks program found)
 of_refusal files (page_check file d) status text calm lacks (not_read fault why is text_is) = subst (Among (page_check file d)) (sym is) (of_file files file d fault calm why)
 of_refusal files (page_check file d) status text calm lacks (page_lacks_definition read told why) = absurd (lacks read told)
@@ -100,9 +102,9 @@ of_refusal files (script_making n) status text calm lacks why = absurd lacks
 of_refusal files (made_check n) status text calm lacks (no_size size is text_is) = subst (Among (made_check n)) (sym is) (0, lit< tt, refl)
 of_refusal files (made_check n) status text calm lacks (made_refused size misses reads why) = absurd (lacks size)
 of_refusal files (script_run file request steps) status text calm lacks (inl (cause, why, is, text_is)) =
-    subst (Among (script_run file request steps)) (sym is) (of_load files file cause calm why)
-of_refusal files (script_run file request steps) status text calm lacks (inr (program, found, why, read)) = of_request files file request steps status text calm why
-of_refusal files (grammar_making file) status text calm lacks (inl (cause, why, is, text_is)) = subst (Among (grammar_making file)) (sym is) (of_load files file cause calm why)
+    subst (Among (script_run file request steps)) (sym is) (of_load files (root_of file) file.name cause calm why)
+of_refusal files (script_run file request steps) status text calm lacks (inr (program, found, (misses, behind, why), read)) = of_request (from_misses misses files) file request steps status text calm why
+of_refusal files (grammar_making file) status text calm lacks (inl (cause, why, is, text_is)) = subst (Among (grammar_making file)) (sym is) (of_load files (root_of file) file.name cause calm why)
 of_refusal files (grammar_making file) status text calm lacks (inr (program, found, long, is, text_is)) = absurd (lacks program found)
 of_refusal files (list_check file d goal limit) status text calm lacks (list_unread fault why is text_is) =
     subst (Among (list_check file d goal limit)) (sym is) (of_unread files file d goal limit fault calm why)

@@ -1,6 +1,7 @@
 -- The headline's own definitions on a script whose text comes from an included file.
-use Rattle.std.proofs.Common.{◌≡◌, ◌++◌, ap, ℕ, List, [], ◌∷◌, true, Some, codes, lit≤, refl, subst}
+use Rattle.std.proofs.Common.{◌≡◌, ◌++◌, ap, ℕ, List, [], ◌∷◌, true, None, Some, codes, lit≤, refl, subst}
 use Rattle.io_edge.specs.Told.{untold}
+use Rattle.site_check.specs.declared.kept_files.KeptFile.TheVariants.{Found}
 use Rattle.site_check.specs.Kept.{nothing_kept, keep, told_with}
 use Rattle.script_meaning.specs.Requests.{PlainRequest}
 use Rattle.script_meaning.specs.Runs.{◌then_do◌, Ended}
@@ -13,17 +14,16 @@ use Rattle.page_model.specs.Valid.{Valid}
 use Rattle.dtd_model.specs.Mini.{mini_table}
 use Rattle.page_model.proofs.Examples.{paragraph}
 use Rattle.program_files.specs.Source.{source_call}
-use Rattle.program_loader.specs.Told.{IsLoaded}
 use Rattle.program_loader.proofs.SmallProgram.{content, program, inner}
 use Rattle.document_types.specs.DocumentTypes.{mini_type}
 use Rattle.script_decision.specs.declared.shown.ShownAnswer.{ShownAnswer}
 use Rattle.phpsa_texts.specs.declared.exit.Exit.TheVariants.{Done}
 use Rattle.phpsa_texts.specs.declared.answers.AnswerForm.TheVariants.{Plain}
 use Rattle.phpsa_texts.specs.Texts.{yes_text}
-use Rattle.phpsa_tasks.specs.Tasks.{Task, script_check, page_check, AsksFor}
+use Rattle.phpsa_tasks.specs.Tasks.{rooted, Task, script_check, page_check, AsksFor}
 use Rattle.phpsa_tasks.specs.Call.{Call, output_of, call_of, Gains}
 use Rattle.phpsa_tasks.specs.Requests.{no_request}
-use Rattle.phpsa_tasks.specs.Subjects.{ProgramBy, Holds}
+use Rattle.phpsa_tasks.specs.Subjects.{ProgramBy, IsLoadedInside, Holds}
 use Rattle.phpsa_tasks.proofs.EmptyRequest.{no_request_admitted}
 use Rattle.phpsa_tasks.specs.ScriptAnswers.{IsAnswer}
 use Rattle.phpsa_tasks.specs.Endings.{OwesReply, EndsReplied}
@@ -37,7 +37,7 @@ runs request = refl
 
 -- what the source holds, as a task speaks of it; that it holds the program, in files within their limit, stands in program_loader (SmallProgram)
 abbrev task : Task
-task = script_check (codes "t.php") mini_type Goal.Valid 10000 Plain
+task = script_check (rooted (codes "t.php") None) mini_type Goal.Valid 10000 Plain
 
 abbrev subject : ProgramBy
 subject = record { program = program; table = mini_table }
@@ -49,14 +49,14 @@ words = codes "check" ∷ codes "t.php" ∷ codes "--dtd" ∷ codes "mini" ∷ [
 abbrev call_with : List ℕ → Call
 call_with written = call_of words (source_call content 0 0 0 0 0 2) (output_of (Some []) (Some written) 0 0) (output_of (Some []) (Some []) 0 0)
 
-owed : AsksFor words task → IsLoaded content (codes "t.php") program → IsAnswer Goal.Valid mini_table program 10000 ShownAnswer.Yes → OwesReply (call_with yes_text) Done yes_text
+owed : AsksFor words task → IsLoadedInside content (rooted (codes "t.php") None) program → IsAnswer Goal.Valid mini_table program 10000 ShownAnswer.Yes → OwesReply (call_with yes_text) Done yes_text
 owed asked loaded is = record {
   task = task;
   asked = asked;
   replies = record { subject = subject; found = (loaded, refl); says = (ShownAnswer.Yes, is, refl, refl) };
 }
 
-ends : AsksFor words task → IsLoaded content (codes "t.php") program → IsAnswer Goal.Valid mini_table program 10000 ShownAnswer.Yes → EndsReplied (call_with yes_text) Done
+ends : AsksFor words task → IsLoadedInside content (rooted (codes "t.php") None) program → IsAnswer Goal.Valid mini_table program 10000 ShownAnswer.Yes → EndsReplied (call_with yes_text) Done
 ends asked loaded is = record { text = yes_text; owed = owed asked loaded is; out = refl; err = refl }
 
 -- one that writes nothing has not written that text
@@ -74,7 +74,7 @@ abbrev page_words : List (List ℕ)
 page_words = codes "page" ∷ codes "p" ∷ codes "--dtd" ∷ codes "mini" ∷ []
 
 abbrev page_call : Call
-page_call = call_of page_words (source_call (told_with (keep nothing_kept (codes "p") (Some inner)) (λ name. untold)) 0 0 0 0 0 1)
+page_call = call_of page_words (source_call (told_with (keep nothing_kept (codes "p") (Found inner)) (λ name. untold)) 0 0 0 0 0 1)
     (output_of (Some []) (Some (codes "valid" ++ 10 ∷ [])) 0 0) (output_of (Some []) (Some []) 0 0)
 
 judged : AsksFor page_words (page_check (codes "p") mini_type) → EndsReplied page_call Done

@@ -1,5 +1,5 @@
 -- When a call is answered, and how.
-use Rattle.std.specs.Prelude.{◌≡◌, ◌⊎◌, ℕ, List, [], ◌∷◌, Some, Contains, ⊤}
+use Rattle.std.specs.Prelude.{◌≡◌, ◌⊎◌, ℕ, List, [], ◌∷◌, Option, Some, Contains, ⊤}
 use Rattle.script_meaning.specs.Programs.{PlainProgram}
 use Rattle.dtd_model.specs.Table.{Table}
 use Rattle.page_model.specs.Valid.{Valid}
@@ -23,10 +23,10 @@ use Rattle.phpsa_texts.specs.declared.exit.Exit.{Exit}
 use Rattle.phpsa_texts.specs.declared.exit.Exit.TheVariants.{Done, No, Undecided, Script, Missing, Input, WriteFault, Usage, Memory, Site}
 use Rattle.phpsa_texts.specs.Statuses.{request_status}
 use Rattle.phpsa_texts.specs.Texts.{request_text}
-use Rattle.phpsa_tasks.specs.Tasks.{Task, script_check, page_check, script_making, made_check, script_run, grammar_making, list_check, help_telling, version_telling, usage, AsksFor}
+use Rattle.phpsa_tasks.specs.Tasks.{RootedFile, rooted, Task, script_check, page_check, script_making, made_check, script_run, grammar_making, list_check, help_telling, version_telling, usage, AsksFor}
 use Rattle.command_words.specs.declared.values.TheConstants.{PAIR_LIMIT}
 use Rattle.phpsa_tasks.specs.Requests.{HoldsNoRequest}
-use Rattle.phpsa_tasks.specs.Subjects.{Subject, HoldsShortProgram, Holds, IsWithin, LacksFile}
+use Rattle.phpsa_tasks.specs.Subjects.{Subject, HoldsProgramInside, Holds, IsWithin, LacksFile}
 use Rattle.phpsa_tasks.specs.ScriptAnswers.{answer_status}
 use Rattle.phpsa_tasks.specs.Sites.{RefusesByTable}
 use Rattle.phpsa_tasks.specs.Replies.{end_status, outcome_for, HasManyItems}
@@ -75,13 +75,13 @@ IsListVerdict content goal table list status = ⊥
 
 -- a script of a list is not decided: a limit is passed, or it is refused, by what was told at some time and by some counts; that these are
 -- those of its own call, a report says (`AreLinesOf`)
-abbrev pub StopsAtScript : Content → Goal → Table → ℕ → List ℕ → Exit → Type 0
-StopsAtScript content goal table limit list Undecided =
+abbrev pub StopsAtScript : Content → Option (List ℕ) → Goal → Table → ℕ → List ℕ → Exit → Type 0
+StopsAtScript content root goal table limit list Undecided =
     (program : PlainProgram) × IsOfList content list program × PassesScriptLimit goal table program limit Undecided
-StopsAtScript content goal table limit list Site =
+StopsAtScript content root goal table limit list Site =
     (files : SourceCall) × (name : List ℕ) × (status : Exit) × (text : List ℕ) × Contains (names_in list) name
-    × Stays files.content content × RefusesByTable files name table status text
-StopsAtScript content goal table limit list status = ⊥
+    × Stays files.content content × RefusesByTable files (rooted name root) table status text
+StopsAtScript content root goal table limit list status = ⊥
 
 -- the status that a task has for what it speaks of: of a run, that of its end; and each program has a grammar
 abbrev pub IsVerdict : Content → (task : Task) → Subject task → Exit → Type 0
@@ -107,7 +107,7 @@ PassesLimit content (script_check file document_type goal limit form) subject st
 PassesLimit content (made_check functions) subject status = PassesScriptLimit Goal.Valid subject.table subject.program PAIR_LIMIT status
 PassesLimit content (grammar_making file) subject status = PassesGrammarLimit subject status
 PassesLimit content (list_check file document_type goal limit) subject status =
-    StopsAtScript content goal subject.table limit subject.list status
+    StopsAtScript content file.root goal subject.table limit subject.list status
 PassesLimit content task subject status = ⊥
 
 -- a limit of the task is passed, or memory was wanting
@@ -128,10 +128,10 @@ statuses_of_nothing help_telling = []
 statuses_of_nothing version_telling = []
 statuses_of_nothing usage = []
 
--- a program is held, and a file that stands for no request of it, for a cause that is not want of memory
-pub record IsNotRun (call : Call) (file name : List ℕ) (cause : RequestRefusal) : Type 0 where
+-- a program is held that stays in its root, and a file that stands for no request of it, for a cause that is not want of memory
+pub record IsNotRun (call : Call) (file : RootedFile) (name : List ℕ) (cause : RequestRefusal) : Type 0 where
   pub program : PlainProgram
-  pub held : HoldsShortProgram call.files.content file program
+  pub held : HoldsProgramInside call.files.content file program
   pub none : HoldsNoRequest call.files.content name cause
   pub input : request_status cause ≡ Input
 
@@ -155,7 +155,7 @@ pub record IsAnswered (call : Call) (status : Exit) : Type 0 where
       → (status ≡ verdict) ⊎ IsStopped call.files.content task subject status
   pub nothing : (task : Task) → AsksFor call.words task → IsUndisturbed call → LacksFile call.files.content task
       → Contains (statuses_of_nothing task) status
-  pub not_run : (file name : List ℕ) (steps : ℕ) (cause : RequestRefusal) → AsksFor call.words (script_run file (Some name) steps)
+  pub not_run : (file : RootedFile) (name : List ℕ) (steps : ℕ) (cause : RequestRefusal) → AsksFor call.words (script_run file (Some name) steps)
       → IsUndisturbed call → IsNotRun call file name cause → TellsCause call cause status ⊎ (status ≡ Memory)
   pub refused : AsksNothing call.words → Contains (Usage ∷ WriteFault ∷ Memory ∷ []) status
   pub taken : (for : Asked) → IsCanonical call.words for → status ≡ Usage → ⊥

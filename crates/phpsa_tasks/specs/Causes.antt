@@ -7,7 +7,6 @@ use Rattle.script_meaning.specs.Programs.{PlainProgram}
 use Rattle.program_files.specs.Source.{SourceCall, source_call}
 use Rattle.program_files.specs.declared.refusal.LoadRefusal.{LoadRefusal}
 use Rattle.program_loader.specs.Causes.{IsLoadCause}
-use Rattle.program_loader.specs.Told.{IsLoaded}
 use Rattle.dtd_model.specs.Table.{Table}
 use Rattle.dtd_reader.specs.Source as definition
 use Rattle.document_types.specs.DocumentTypes.{NamedType, strict_type, HasTable, IsDefinitionRefusal}
@@ -21,10 +20,10 @@ use Rattle.phpsa_texts.specs.declared.exit.Exit.{Exit}
 use Rattle.phpsa_texts.specs.declared.exit.Exit.TheVariants.{Usage, Dtd, Input}
 use Rattle.phpsa_texts.specs.Statuses.{load_status, file_status, definition_status, list_status}
 use Rattle.phpsa_texts.specs.Texts.{load_text, file_text, definition_text, states_text, long_text, size_text, list_text, usage_text}
-use Rattle.phpsa_tasks.specs.Tasks.{Task, script_check, page_check, script_making, made_check, script_run, grammar_making, list_check, help_telling, version_telling, usage}
-use Rattle.phpsa_tasks.specs.Subjects.{made_name, only_made}
+use Rattle.phpsa_tasks.specs.Tasks.{RootedFile, root_of, Task, script_check, page_check, script_making, made_check, script_run, grammar_making, list_check, help_telling, version_telling, usage}
+use Rattle.phpsa_tasks.specs.Subjects.{made_file, only_made, IsLoadedInside}
 use Rattle.phpsa_tasks.specs.Requests.{RefusesRequest}
-use Rattle.phpsa_tasks.specs.Counted.{ReadsForRun}
+use Rattle.phpsa_tasks.specs.Counted.{MissesItsNames, from_misses, ReadsForRun}
 
 -- a source of files as the reader of definitions sees it
 abbrev pub definition_call : SourceCall → definition.SourceCall
@@ -38,13 +37,14 @@ pub data RefusesDefinition (files : SourceCall) (document_type : NamedType) (sta
       → status ≡ Dtd → text ≡ states_text count → RefusesDefinition files document_type status text
 
 -- the program is not loaded; or it is, and there is no definition for it, or a text in it is over the limit of a run
-pub data RefusesScript (files : SourceCall) (file : List ℕ) (document_type : NamedType) (status : Exit) (text : List ℕ) : Type 0 where
-  not_loaded : (cause : LoadRefusal) → IsLoadCause files file cause → status ≡ load_status cause → text ≡ load_text cause
+pub data RefusesScript (files : SourceCall) (file : RootedFile) (document_type : NamedType) (status : Exit) (text : List ℕ) : Type 0 where
+  not_loaded : (cause : LoadRefusal) → IsLoadCause files (root_of file) file.name cause → status ≡ load_status cause → text ≡ load_text cause
       → RefusesScript files file document_type status text
-  lacks_definition : (program : PlainProgram) → IsLoaded files.content file program → RefusesDefinition files document_type status text
+  lacks_definition : (program : PlainProgram) (misses : ℕ) → IsLoadedInside files.content file program → MissesItsNames files file.name misses
+      → RefusesDefinition (from_misses misses files) document_type status text
       → RefusesScript files file document_type status text
-  has_long_text : (program : PlainProgram) → IsLoaded files.content file program → HasLongText program
-      → status ≡ Input → text ≡ long_text file → RefusesScript files file document_type status text
+  has_long_text : (program : PlainProgram) → IsLoadedInside files.content file program → HasLongText program
+      → status ≡ Input → text ≡ long_text file.name → RefusesScript files file document_type status text
 
 -- the page is not read; or it is, and there is no definition for it
 pub data RefusesPage (files : SourceCall) (file : List ℕ) (document_type : NamedType) (status : Exit) (text : List ℕ) : Type 0 where
@@ -57,34 +57,36 @@ pub data RefusesPage (files : SourceCall) (file : List ℕ) (document_type : Nam
 pub data RefusesMade (functions : ℕ) (status : Exit) (text : List ℕ) : Type 0 where
   no_size : (IsSize functions → ⊥) → status ≡ Input → text ≡ size_text functions → RefusesMade functions status text
   made_refused : IsSize functions → (misses reads : ℕ)
-      → RefusesScript (source_call (only_made functions) 0 0 0 misses 0 reads) made_name strict_type status text
+      → RefusesScript (source_call (only_made functions) 0 0 0 misses 0 reads) made_file strict_type status text
       → RefusesMade functions status text
 
 -- the program of a file is not loaded
-abbrev pub RefusesProgram : SourceCall → List ℕ → Exit → List ℕ → Type 0
+abbrev pub RefusesProgram : SourceCall → RootedFile → Exit → List ℕ → Type 0
 RefusesProgram files file status text =
-    (cause : LoadRefusal) × IsLoadCause files file cause × (status ≡ load_status cause) × (text ≡ load_text cause)
+    (cause : LoadRefusal) × IsLoadCause files (root_of file) file.name cause × (status ≡ load_status cause) × (text ≡ load_text cause)
 
--- the program is loaded, and there is no request for it; its files were read once each, and then that of the request
-abbrev pub LacksRequest : SourceCall → List ℕ → Option (List ℕ) → Exit → List ℕ → Type 0
+-- the program is loaded, and there is no request for it; each name that the program asks for was asked for once, and then that of the
+-- request, behind the misses of the program
+abbrev pub LacksRequest : SourceCall → RootedFile → Option (List ℕ) → Exit → List ℕ → Type 0
 LacksRequest files file request status text =
-    (program : PlainProgram) × IsLoaded files.content file program × RefusesRequest files request status text
-    × ReadsForRun files file request
+    (program : PlainProgram) × IsLoadedInside files.content file program
+    × ((misses : ℕ) × MissesItsNames files file.name misses × RefusesRequest (from_misses misses files) request status text)
+    × ReadsForRun files file.name request
 
 -- a text in the program of a file is over the limit of a run
-abbrev pub RefusesLongText : SourceCall → List ℕ → Exit → List ℕ → Type 0
+abbrev pub RefusesLongText : SourceCall → RootedFile → Exit → List ℕ → Type 0
 RefusesLongText files file status text =
-    (program : PlainProgram) × IsLoaded files.content file program × HasLongText program × (status ≡ Input) × (text ≡ long_text file)
+    (program : PlainProgram) × IsLoadedInside files.content file program × HasLongText program × (status ≡ Input) × (text ≡ long_text file.name)
 
 -- the list is not read, or its text is none; or it is, and there is no definition for its scripts
-pub data RefusesList (files : SourceCall) (file : List ℕ) (document_type : NamedType) (status : Exit) (text : List ℕ) : Type 0 where
-  list_unread : (fault : FileFault) → HasReason (files.content file) files.faults files.faults' files.misses files.misses' fault
-      → status ≡ file_status fault → text ≡ file_text fault file → RefusesList files file document_type status text
-  no_list : (list : List ℕ) (refusal : ListRefusal) → Tells (files.content file) (Some list) → IsNoList list refusal
-      → status ≡ list_status refusal → text ≡ list_text refusal → RefusesList files file document_type status text
-  list_lacks_definition : (list : List ℕ) (cause : DefinitionRefusal) → Tells (files.content file) (Some list) → IsList list
+pub data RefusesList (files : SourceCall) (name : List ℕ) (document_type : NamedType) (status : Exit) (text : List ℕ) : Type 0 where
+  list_unread : (fault : FileFault) → HasReason (files.content name) files.faults files.faults' files.misses files.misses' fault
+      → status ≡ file_status fault → text ≡ file_text fault name → RefusesList files name document_type status text
+  no_list : (list : List ℕ) (refusal : ListRefusal) → Tells (files.content name) (Some list) → IsNoList list refusal
+      → status ≡ list_status refusal → text ≡ list_text refusal → RefusesList files name document_type status text
+  list_lacks_definition : (list : List ℕ) (cause : DefinitionRefusal) → Tells (files.content name) (Some list) → IsList list
       → IsDefinitionRefusal (definition_call files) document_type cause → status ≡ definition_status cause → text ≡ definition_text cause
-      → RefusesList files file document_type status text
+      → RefusesList files name document_type status text
 
 -- why each task is refused; want of memory may come at any place beside. Of what stands in the line that says what is wrong with words
 -- nothing is said here.
@@ -96,7 +98,7 @@ Refuses files (made_check functions) status text = RefusesMade functions status 
 Refuses files (script_run file request steps) status text =
     RefusesProgram files file status text ⊎ LacksRequest files file request status text
 Refuses files (grammar_making file) status text = RefusesProgram files file status text ⊎ RefusesLongText files file status text
-Refuses files (list_check file document_type goal limit) status text = RefusesList files file document_type status text
+Refuses files (list_check file document_type goal limit) status text = RefusesList files file.name document_type status text
 Refuses files help_telling status text = ⊥
 Refuses files version_telling status text = ⊥
 Refuses files usage status text = (status ≡ Usage) × ((reason : Option (List ℕ)) × (text ≡ usage_text reason))

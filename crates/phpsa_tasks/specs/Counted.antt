@@ -1,9 +1,11 @@
 -- What the counts of the source and of the outputs say after a call.
-use Rattle.std.specs.Prelude.{◌≡◌, ◌⊎◌, ℕ, List, [], ◌∷◌, length, Option, None, Some, Contains, ⊤}
+use Rattle.std.specs.Prelude.{◌≡◌, ◌⊎◌, ◌+◌, ℕ, List, [], ◌∷◌, length, Option, None, Some, Contains, ⊤}
 use Rattle.io_edge.specs.Counts.{one_more}
+use Rattle.io_edge.specs.Names.{normal}
+use Rattle.io_edge.specs.Told.{Content}
 use Rattle.program_rules.specs.Files.{Held}
-use Rattle.program_rules.specs.Programs.{ReadFile, AreRead}
-use Rattle.program_files.specs.Source.{SourceCall, so_many_more}
+use Rattle.program_rules.specs.Programs.{ReadFile, AreRead, AreMissed}
+use Rattle.program_files.specs.Source.{SourceCall, so_many_more, RisesBy}
 use Rattle.program_loader.specs.Told.{AreAnswered}
 use Rattle.document_types.specs.DocumentTypes.{IsBuiltIn}
 use Rattle.phpsa_texts.specs.declared.exit.Exit.{Exit}
@@ -11,13 +13,29 @@ use Rattle.phpsa_texts.specs.declared.exit.Exit.TheVariants.{No, Undecided, Scri
 use Rattle.phpsa_tasks.specs.Tasks.{Task, script_check, page_check, script_making, made_check, script_run, grammar_making, list_check, help_telling, version_telling, usage, AsksFor}
 use Rattle.phpsa_tasks.specs.Call.{Output, Call, IsUnfailed}
 
--- so many names were asked for as the program has files, each of which was answered
-pub record ReadsItsFiles (files : SourceCall) (file : List ℕ) : Type 0 where
+-- what the program of the file of a name asks for, each of which was answered: these are its files, and these the names that are not there
+pub record AsksForNames (content : Content) (name : List ℕ) : Type 0 where
   pub held : Held
-  pub answered : AreAnswered files.content held file
+  pub main : held.main ≡ normal name
+  pub answered : AreAnswered content held name
   pub own : List ReadFile
-  pub read : AreRead held file own
-  pub counted : files.reads' ≡ so_many_more (length own) files.reads
+  pub read : AreRead held (normal name) own
+  pub missed : List (List ℕ)
+  pub are_missed : AreMissed held (normal name) missed
+
+-- each of them was asked for once
+pub record ReadsItsFiles (files : SourceCall) (name : List ℕ) : Type 0 where
+  pub asks : AsksForNames files.content name
+  pub counted : files.reads' ≡ so_many_more (length asks.own + length asks.missed) files.reads
+
+-- behind them so many misses are counted: one more for each name that is not there
+pub record MissesItsNames (files : SourceCall) (name : List ℕ) (misses : ℕ) : Type 0 where
+  pub asks : AsksForNames files.content name
+  pub counted : RisesBy (length asks.missed) files.misses misses
+
+-- a call from where so many misses are counted
+abbrev pub from_misses : ℕ → SourceCall → SourceCall
+from_misses misses files = record files { misses = misses }
 
 -- and for a run that of the file of its request, if there is one, behind them
 abbrev pub ReadsForRun : SourceCall → List ℕ → Option (List ℕ) → Type 0
@@ -38,18 +56,18 @@ IsWanting status = Contains (WriteFault ∷ Memory ∷ []) status
 abbrev pub uncounted : List Exit
 uncounted = Script ∷ Missing ∷ ReadFault ∷ Input ∷ WriteFault ∷ Memory ∷ []
 
--- By a built-in definition, or where none is asked for, each file that a task needs is read once, but for the statuses above: those of a
--- program, with that of a request; or the page, unless memory was wanting before. The other tasks read nothing; of a list, whose scripts
--- may share files, nothing is said here.
+-- By a built-in definition, or where none is asked for, each name that a task needs is asked for once, but for the statuses above: those
+-- of a program, with that of a request; or the page, unless memory was wanting before. The other tasks read nothing; of a list, whose
+-- scripts may share files, nothing is said here.
 abbrev pub ReadsFor : Task → SourceCall → Exit → Type 0
 ReadsFor (script_check file document_type goal limit form) files status =
-    IsBuiltIn document_type → Contains uncounted status ⊎ ReadsItsFiles files file
+    IsBuiltIn document_type → Contains uncounted status ⊎ ReadsItsFiles files file.name
 ReadsFor (page_check file document_type) files status =
     IsBuiltIn document_type → (files.reads' ≡ one_more files.reads) ⊎ (ReadsNothing files × IsWanting status)
 ReadsFor (script_making functions) files status = ReadsNothing files
 ReadsFor (made_check functions) files status = ReadsNothing files
-ReadsFor (script_run file request steps) files status = Contains uncounted status ⊎ ReadsForRun files file request
-ReadsFor (grammar_making file) files status = Contains uncounted status ⊎ ReadsItsFiles files file
+ReadsFor (script_run file request steps) files status = Contains uncounted status ⊎ ReadsForRun files file.name request
+ReadsFor (grammar_making file) files status = Contains uncounted status ⊎ ReadsItsFiles files file.name
 ReadsFor (list_check file document_type goal limit) files status = ⊤
 ReadsFor help_telling files status = ReadsNothing files
 ReadsFor version_telling files status = ReadsNothing files

@@ -1,8 +1,10 @@
 -- What a task speaks of: a program, a page or a list, that stands under the name of a file, and the table of a definition.
-use Rattle.std.specs.Prelude.{◌⊎◌, ℕ, List, Contains, Some, codes, ⊤}
+use Rattle.std.specs.Prelude.{◌⊎◌, ℕ, List, Contains, Option, None, Some, codes, ⊤}
+use Rattle.io_edge.specs.Names.{normal}
 use Rattle.io_edge.specs.Told.{Content, Tells}
 use Rattle.script_meaning.specs.Programs.{PlainProgram}
 use Rattle.script_meaning.specs.Requests.{PlainRequest, Admitted}
+use Rattle.program_rules.specs.Includes.{AllStayInside}
 use Rattle.program_loader.specs.Told.{IsLoaded, HoldsProgram, AreShort}
 use Rattle.dtd_model.specs.Table.{Table}
 use Rattle.document_types.specs.OneFile.{file_alone}
@@ -12,7 +14,7 @@ use Rattle.script_maker.specs.Made.{made, IsSize}
 use Rattle.site_check.specs.Listed.{names_in, IsList}
 use Rattle.phpsa_tasks.specs.Files.{HoldsShortFile}
 use Rattle.phpsa_tasks.specs.Requests.{FindsRequest, HoldsRequest}
-use Rattle.phpsa_tasks.specs.Tasks.{Task, script_check, page_check, script_making, made_check, script_run, grammar_making, list_check, help_telling, version_telling, usage}
+use Rattle.phpsa_tasks.specs.Tasks.{RootedFile, rooted, root_of, Task, script_check, page_check, script_making, made_check, script_run, grammar_making, list_check, help_telling, version_telling, usage}
 
 -- a program, and the table of the definition that its pages are held against
 pub record ProgramBy : Type 0 where
@@ -38,6 +40,10 @@ pub record ListBy : Type 0 where
 abbrev pub made_name : List ℕ
 made_name = codes "made.php"
 
+-- it has no other root than the folder of the call
+abbrev pub made_file : RootedFile
+made_file = rooted made_name None
+
 -- a source that has a file of this name alone, with this text
 abbrev pub only_script : List ℕ → Content
 only_script = file_alone made_name
@@ -59,31 +65,41 @@ Subject help_telling = ⊤
 Subject version_telling = ⊤
 Subject usage = ⊤
 
+-- the program of a file is loaded, whatever the source tells, and none of its includes leads out of its root
+pub record IsLoadedInside (content : Content) (file : RootedFile) (program : PlainProgram) : Type 0 where
+  pub loaded : IsLoaded content file.name program
+  pub inside : AllStayInside (root_of file) loaded.held (normal file.name)
+
 -- what a task finds, whatever the source tells: under the file's name its program, with all that it includes, or its bytes, and a table of
 -- the document type, or the request
 -- that the program is run for, which is admitted; of a generated script, that it can be made, and its program, by the built-in definition;
 -- or the bytes of a list, and a table
 abbrev pub Finds : Content → (task : Task) → Subject task → Type 0
 Finds content (script_check file document_type goal limit form) subject =
-    IsLoaded content file subject.program × HasTable content document_type subject.table
+    IsLoadedInside content file subject.program × HasTable content document_type subject.table
 Finds content (page_check file document_type) subject =
     Tells (content file) (Some subject.page) × HasTable content document_type subject.table
 Finds content (script_making functions) subject = ⊤
 Finds content (made_check functions) subject =
-    IsSize functions × IsLoaded (only_made functions) made_name subject.program × HasTable (only_made functions) strict_type subject.table
+    IsSize functions × IsLoadedInside (only_made functions) made_file subject.program × HasTable (only_made functions) strict_type subject.table
 Finds content (script_run file request steps) subject =
-    IsLoaded content file subject.program × FindsRequest content request subject.request × Admitted subject.request
-Finds content (grammar_making file) subject = IsLoaded content file subject
+    IsLoadedInside content file subject.program × FindsRequest content request subject.request × Admitted subject.request
+Finds content (grammar_making file) subject = IsLoadedInside content file subject
 Finds content (list_check file document_type goal limit) subject =
-    Tells (content file) (Some subject.list) × HasTable content document_type subject.table × IsList subject.list
+    Tells (content file.name) (Some subject.list) × HasTable content document_type subject.table × IsList subject.list
 Finds content help_telling subject = ⊤
 Finds content version_telling subject = ⊤
 Finds content usage subject = ⊤
 
--- the source tells of each name that the program reads, and each is within the limit of a file
-pub record HoldsShortProgram (content : Content) (file : List ℕ) (program : PlainProgram) : Type 0 where
-  pub holds : HoldsProgram content file program
-  pub short : AreShort holds.held file
+-- the source tells of each name that the program asks for, and each is within the limit of a file
+pub record HoldsShortProgram (content : Content) (name : List ℕ) (program : PlainProgram) : Type 0 where
+  pub holds : HoldsProgram content name program
+  pub short : AreShort holds.held name
+
+-- and none of its includes leads out of its root
+pub record HoldsProgramInside (content : Content) (file : RootedFile) (program : PlainProgram) : Type 0 where
+  pub held : HoldsShortProgram content file.name program
+  pub inside : AllStayInside (root_of file) held.holds.held (normal file.name)
 
 -- the document type has this table, and the source tells of each name that its definition asks for
 pub record HoldsTable (content : Content) (document_type : NamedType) (table : Table) : Type 0 where
@@ -93,7 +109,7 @@ pub record HoldsTable (content : Content) (document_type : NamedType) (table : T
 -- what the source tells all of; of a generated script, what it is
 abbrev pub Holds : Content → (task : Task) → Subject task → Type 0
 Holds content (script_check file document_type goal limit form) subject =
-    HoldsShortProgram content file subject.program × HoldsTable content document_type subject.table
+    HoldsShortProgram content file.name subject.program × HoldsTable content document_type subject.table
 Holds content (page_check file document_type) subject =
     HoldsShortFile content file subject.page × HoldsTable content document_type subject.table
 Holds content (script_making functions) subject = ⊤
@@ -101,10 +117,10 @@ Holds content (made_check functions) subject =
     IsSize functions × HoldsShortProgram (only_made functions) made_name subject.program
     × HoldsTable (only_made functions) strict_type subject.table
 Holds content (script_run file request steps) subject =
-    HoldsShortProgram content file subject.program × HoldsRequest content request subject.request
-Holds content (grammar_making file) subject = HoldsShortProgram content file subject
+    HoldsShortProgram content file.name subject.program × HoldsRequest content request subject.request
+Holds content (grammar_making file) subject = HoldsShortProgram content file.name subject
 Holds content (list_check file document_type goal limit) subject =
-    HoldsShortFile content file subject.list × HoldsTable content document_type subject.table
+    HoldsShortFile content file.name subject.list × HoldsTable content document_type subject.table
 Holds content help_telling subject = ⊤
 Holds content version_telling subject = ⊤
 Holds content usage subject = ⊤
@@ -115,35 +131,37 @@ pub record IsSmall (content : Content) (document_type : NamedType) (table : Tabl
   pub small : (count : ℕ) → IsTooLarge content document_type count → ⊥
   pub few : (count : ℕ) → HasLargeModels table count → ⊥
 
--- under each of these names the source tells of each name that a program reads
-abbrev pub HoldScripts : Content → List (List ℕ) → Type 0
-HoldScripts content names =
-    (name : List ℕ) → Contains names name → (program : PlainProgram) × HoldsShortProgram content name program
+-- under each of these names the source tells of each name that a program asks for, and these lie in its root
+abbrev pub HoldScripts : Content → Option (List ℕ) → List (List ℕ) → Type 0
+HoldScripts content root names =
+    (name : List ℕ) → Contains names name → (program : PlainProgram) × HoldsProgramInside content (rooted name root) program
 
--- the definition of a task is so, and of a list each name holds a program
+-- the definition of a task is so, its program stays in its root, and of a list each name holds a program that does
 abbrev pub IsWithin : Content → (task : Task) → Subject task → Type 0
-IsWithin content (script_check file document_type goal limit form) subject = IsSmall content document_type subject.table
+IsWithin content (script_check file document_type goal limit form) subject =
+    HoldsProgramInside content file subject.program × IsSmall content document_type subject.table
 IsWithin content (page_check file document_type) subject = IsSmall content document_type subject.table
 IsWithin content (script_making functions) subject = ⊤
-IsWithin content (made_check functions) subject = IsSmall (only_made functions) strict_type subject.table
-IsWithin content (script_run file request steps) subject = ⊤
-IsWithin content (grammar_making file) subject = ⊤
+IsWithin content (made_check functions) subject =
+    HoldsProgramInside (only_made functions) made_file subject.program × IsSmall (only_made functions) strict_type subject.table
+IsWithin content (script_run file request steps) subject = HoldsProgramInside content file subject.program
+IsWithin content (grammar_making file) subject = HoldsProgramInside content file subject
 IsWithin content (list_check file document_type goal limit) subject =
-    IsSmall content document_type subject.table × HoldScripts content (names_in subject.list)
+    IsSmall content document_type subject.table × HoldScripts content file.root (names_in subject.list)
 IsWithin content help_telling subject = ⊤
 IsWithin content version_telling subject = ⊤
 IsWithin content usage subject = ⊤
 
 -- under the file's name nothing is found, or no request under its own; or there is no generated script of this size
 abbrev pub LacksFile : Content → Task → Type 0
-LacksFile content (script_check file document_type goal limit form) = (program : PlainProgram) → IsLoaded content file program → ⊥
+LacksFile content (script_check file document_type goal limit form) = (program : PlainProgram) → IsLoadedInside content file program → ⊥
 LacksFile content (page_check file document_type) = (page : List ℕ) → Tells (content file) (Some page) → ⊥
 LacksFile content (script_making functions) = ⊥
 LacksFile content (made_check functions) = IsSize functions → ⊥
 LacksFile content (script_run file request steps) =
-    ((program : PlainProgram) → IsLoaded content file program → ⊥) ⊎ ((found : PlainRequest) → FindsRequest content request found → ⊥)
-LacksFile content (grammar_making file) = (program : PlainProgram) → IsLoaded content file program → ⊥
-LacksFile content (list_check file document_type goal limit) = (list : List ℕ) → Tells (content file) (Some list) → ⊥
+    ((program : PlainProgram) → IsLoadedInside content file program → ⊥) ⊎ ((found : PlainRequest) → FindsRequest content request found → ⊥)
+LacksFile content (grammar_making file) = (program : PlainProgram) → IsLoadedInside content file program → ⊥
+LacksFile content (list_check file document_type goal limit) = (list : List ℕ) → Tells (content file.name) (Some list) → ⊥
 LacksFile content help_telling = ⊥
 LacksFile content version_telling = ⊥
 LacksFile content usage = ⊥

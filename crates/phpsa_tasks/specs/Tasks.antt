@@ -1,5 +1,6 @@
 -- What is to be done for what words ask for; this project's own.
 use Rattle.std.specs.Prelude.{◌≡◌, ℕ, Bool, true, false, List, Option}
+use Rattle.io_edge.specs.Names.{root_for}
 use Rattle.command_words.specs.Asked.{Asked, help, version, check, run, page, grammar, make, site, Asks, AsksNothing}
 use Rattle.document_types.specs.DocumentTypes.{NamedType, named_type}
 use Rattle.page_decision.specs.declared.goal.Goal.{Goal}
@@ -7,17 +8,31 @@ use Rattle.page_decision.specs.declared.goal.Goal.TheVariants.{Valid, Nested}
 use Rattle.phpsa_texts.specs.declared.answers.AnswerForm.{AnswerForm}
 use Rattle.phpsa_texts.specs.declared.answers.AnswerForm.TheVariants.{Plain, Json}
 
+-- a file by its name, and the folder that is given as a root, if one is
+pub record RootedFile : Type 0 where
+  pub name : List ℕ
+  pub root : Option (List ℕ)
+
+-- such a file by its parts
+abbrev pub rooted : List ℕ → Option (List ℕ) → RootedFile
+rooted name root = record { name = name; root = root }
+
+-- the root that the includes of a script may not leave
+abbrev pub root_of : RootedFile → List ℕ
+root_of file = root_for file.root file.name
+
 -- a script is decided by a goal, with a limit on the sums of a nonterminal; a page is judged; a script is made, or made and decided; a
 -- script is run, for the request of a file or for one of empty arrays, with so many units; the grammar of the pages of a script is written;
--- each script of a list is decided; the commands, or the version, are told; or nothing is asked for, and the usage is told
+-- each script of a list is decided, with the root that stands here beside the list; the commands, or the version, are told; or nothing is
+-- asked for, and the usage is told
 pub data Task : Type 0 where
-  script_check : (file : List ℕ) (document_type : NamedType) (goal : Goal) (limit : ℕ) (form : AnswerForm) → Task
+  script_check : (file : RootedFile) (document_type : NamedType) (goal : Goal) (limit : ℕ) (form : AnswerForm) → Task
   page_check : (file : List ℕ) (document_type : NamedType) → Task
   script_making : (functions : ℕ) → Task
   made_check : (functions : ℕ) → Task
-  script_run : (file : List ℕ) (request : Option (List ℕ)) (steps : ℕ) → Task
-  grammar_making : (file : List ℕ) → Task
-  list_check : (file : List ℕ) (document_type : NamedType) (goal : Goal) (limit : ℕ) → Task
+  script_run : (file : RootedFile) (request : Option (List ℕ)) (steps : ℕ) → Task
+  grammar_making : (file : RootedFile) → Task
+  list_check : (file : RootedFile) (document_type : NamedType) (goal : Goal) (limit : ℕ) → Task
   help_telling : Task
   version_telling : Task
   usage : Task
@@ -34,14 +49,15 @@ goal_of false = Valid
 
 -- what is done for what words ask for
 abbrev pub task_of : Asked → Task
-task_of (check file definition limit by_nesting as_json) =
-    script_check file (named_type definition) (goal_of by_nesting) limit (form_of as_json)
-task_of (run file request steps) = script_run file request steps
-task_of (page file definition) = page_check file (named_type definition)
-task_of (grammar file) = grammar_making file
+task_of (check file definition root limit by_nesting as_json) =
+    script_check (rooted file root) (named_type root definition) (goal_of by_nesting) limit (form_of as_json)
+task_of (run file root request steps) = script_run (rooted file root) request steps
+task_of (page file definition root) = page_check file (named_type root definition)
+task_of (grammar file root) = grammar_making (rooted file root)
 task_of (make functions true) = made_check functions
 task_of (make functions false) = script_making functions
-task_of (site file definition limit by_nesting) = list_check file (named_type definition) (goal_of by_nesting) limit
+task_of (site file definition root limit by_nesting) =
+    list_check (rooted file root) (named_type root definition) (goal_of by_nesting) limit
 task_of help = help_telling
 task_of version = version_telling
 

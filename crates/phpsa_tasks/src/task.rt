@@ -10,13 +10,20 @@ use document_types::DocumentType;
 use page_decision::Goal;
 use phpsa_texts::AnswerForm;
 
+/// A file by its name, and the folder that is given as a root, if one is.
+#[derive(Clone, Copy, Debug, PartialEq, Eq)]
+pub struct RootedFile<'a> {
+    pub name: &'a str,
+    pub root: Option<&'a str>,
+}
+
 /// What is to be done.
 #[derive(Debug, Drop)]
 pub enum Task<'a> {
     /// The script of a file is decided, with all that it includes: by this goal, and with at most
     /// so many different sums of the sentences of one nonterminal.
     ScriptCheck {
-        file: &'a str,
+        file: RootedFile<'a>,
         document_type: DocumentType<'a>,
         goal: Goal,
         limit: u64,
@@ -38,17 +45,18 @@ pub enum Task<'a> {
     /// The script of a file is run, with all that it includes: for the request of a file, or for
     /// one of five empty arrays, within so many units.
     ScriptRun {
-        file: &'a str,
+        file: RootedFile<'a>,
         request: Option<&'a str>,
         steps: u64,
     },
     /// The grammar of the pages of the script of a file is written.
     GrammarMaking {
-        file: &'a str,
+        file: RootedFile<'a>,
     },
-    /// The scripts of a list in a file are decided, each as `ScriptCheck` does.
+    /// The scripts of a list in a file are decided, each as `ScriptCheck` does, with the root that
+    /// the list has here.
     ListCheck {
-        file: &'a str,
+        file: RootedFile<'a>,
         document_type: DocumentType<'a>,
         goal: Goal,
         limit: u64,
@@ -94,30 +102,38 @@ pub(crate) fn task_of<'a>(line: CommandLine<'a>) -> Task<'a>
         CommandLine::Check {
             file,
             definition,
+            root,
             limit,
             by_nesting,
             as_json,
         } => Task::ScriptCheck {
-            file,
-            document_type: DocumentType::named(definition),
+            file: RootedFile { name: file, root },
+            document_type: DocumentType::named(root, definition),
             goal: goal_of(by_nesting),
             limit: u64::from(limit),
             form: form_of(as_json),
         },
         CommandLine::Run {
             file,
+            root,
             request,
             steps,
         } => Task::ScriptRun {
-            file,
+            file: RootedFile { name: file, root },
             request,
             steps: u64::from(steps),
         },
-        CommandLine::Page { file, definition } => Task::PageCheck {
+        CommandLine::Page {
             file,
-            document_type: DocumentType::named(definition),
+            definition,
+            root,
+        } => Task::PageCheck {
+            file,
+            document_type: DocumentType::named(root, definition),
         },
-        CommandLine::Grammar { file } => Task::GrammarMaking { file },
+        CommandLine::Grammar { file, root } => Task::GrammarMaking {
+            file: RootedFile { name: file, root },
+        },
         CommandLine::Make {
             functions,
             is_checked: true,
@@ -126,11 +142,12 @@ pub(crate) fn task_of<'a>(line: CommandLine<'a>) -> Task<'a>
         CommandLine::Site {
             file,
             definition,
+            root,
             limit,
             by_nesting,
         } => Task::ListCheck {
-            file,
-            document_type: DocumentType::named(definition),
+            file: RootedFile { name: file, root },
+            document_type: DocumentType::named(root, definition),
             goal: goal_of(by_nesting),
             limit: u64::from(limit),
         },

@@ -18,8 +18,10 @@ use Rattle.dtd_reader.specs.declared.refusal.DtdRefusal.TheVariants as dtd
 use Rattle.document_types.specs.declared.refusal.DefinitionRefusal.TheVariants as definition
 use Rattle.request_reading.specs.declared.refusal.RequestRefusal.TheVariants as request
 use Rattle.plain_values.specs.declared.fault.Fault.TheVariants as fault
-use Rattle.phpsa_texts.specs.Statuses.{status_of, conclusion_status, judgment_status, load_status, definition_status}
-use Rattle.phpsa_texts.specs.Texts.{yes_answer, no_answer, passed_answer, summary_text, long_text, judgment_text, load_text, file_text, definition_text, states_text, request_text, fault_text, spent_text, deep_text, size_text, reason_text, usage_text, words_text, write_fault_text}
+use Rattle.call_options.specs.declared.refusal.OptionsFault.TheVariants as options
+use Rattle.call_options.specs.declared.refusal.OptionsRefusal.TheVariants as option
+use Rattle.phpsa_texts.specs.Statuses.{status_of, conclusion_status, judgment_status, load_status, definition_status, options_status}
+use Rattle.phpsa_texts.specs.Texts.{yes_answer, no_answer, passed_answer, summary_text, long_text, judgment_text, load_text, file_text, definition_text, states_text, request_text, fault_text, spent_text, deep_text, size_text, reason_text, usage_text, options_text, words_text, write_fault_text}
 
 a_yes : yes_answer Plain ≡ 121 ∷ 101 ∷ 115 ∷ 10 ∷ []
 a_yes = refl
@@ -98,6 +100,10 @@ no_definition_file : definition_text (definition.File (dtd.Missing (codes "d.dtd
 unfolding shown_name decoded chars encode_utf8
 no_definition_file = refl
 
+outside_of_the_root : definition_text (definition.File (dtd.Outside (codes "../d"))) ≡ codes "phpsa: Dtd Outside ../d" ++ 10 ∷ []
+unfolding shown_name decoded chars encode_utf8
+outside_of_the_root = refl
+
 its_status : definition_status (definition.File (dtd.Missing (codes "d.dtd"))) ≡ Missing
 its_status = refl
 
@@ -138,12 +144,23 @@ a_status : status_of Usage ≡ 9
 a_status = refl
 
 the_usage : usage_text None
-    ≡ codes "phpsa: Usage\na number is one to eight decimal digits that are not all 0\nphpsa check FILE [--dtd D] [--limit N] [--nesting] [--json]\nphpsa run FILE [--request FILE] [--steps N]\nphpsa page FILE [--dtd D]\nphpsa grammar FILE\nphpsa make N [--check]\nphpsa site FILE [--dtd D] [--limit N] [--nesting]\nphpsa --help\nphpsa --version\n"
+    ≡ codes "phpsa: Usage\na number is one to eight decimal digits that are not all 0\nphpsa check FILE [--dtd D] [--limit N] [--nesting] [--json] [--root FOLDER]\nphpsa run FILE [--request FILE] [--steps N] [--root FOLDER]\nphpsa page FILE [--dtd D] [--root FOLDER]\nphpsa grammar FILE [--root FOLDER]\nphpsa make N [--check]\nphpsa site FILE [--dtd D] [--limit N] [--nesting] [--root FOLDER]\nphpsa --help\nphpsa --version\n"
 the_usage = refl
 
 a_reason : reason_text (Some (codes "unexpected argument 'x'")) ≡ codes "unexpected argument 'x'" ++ 10 ∷ []
 unfolding shown_name decoded chars encode_utf8
 a_reason = refl
+
+no_toml : options_text (options.Text (option.NotToml 3)) ≡ codes "phpsa: NotToml 3" ++ 10 ∷ []
+unfolding digits
+no_toml = refl
+
+no_option : options_text (options.Text (option.Member (codes "json"))) ≡ codes "phpsa: Options json" ++ 10 ∷ []
+unfolding shown_name decoded chars encode_utf8
+no_option = refl
+
+options_are_usage : options_status (options.Text (option.Member (codes "json"))) ≡ Usage
+options_are_usage = refl
 
 the_second_word : words_text 2 ≡ codes "phpsa: Words 2" ++ 10 ∷ []
 unfolding digits

@@ -21,6 +21,10 @@ use Rattle.request_reading.specs.declared.refusal.RequestRefusal.{RequestRefusal
 use Rattle.request_reading.specs.declared.refusal.RequestRefusal.TheVariants as request
 use Rattle.dtd_reader.specs.declared.refusal.DtdRefusal.{DtdRefusal}
 use Rattle.dtd_reader.specs.declared.refusal.DtdRefusal.TheVariants as dtd
+use Rattle.call_options.specs.declared.refusal.OptionsFault.{OptionsFault}
+use Rattle.call_options.specs.declared.refusal.OptionsFault.TheVariants as options
+use Rattle.call_options.specs.declared.refusal.OptionsRefusal.{OptionsRefusal}
+use Rattle.call_options.specs.declared.refusal.OptionsRefusal.TheVariants as option
 use Rattle.document_types.specs.declared.refusal.DefinitionRefusal.{DefinitionRefusal}
 use Rattle.document_types.specs.declared.refusal.DefinitionRefusal.TheVariants as definition
 
@@ -62,6 +66,7 @@ fault_status other = exit.Fault
 -- where a program is not loaded
 abbrev pub load_status : LoadRefusal → Exit
 load_status (load.Missing name) = Missing
+load_status (load.Outside name) = Script
 load_status (load.ReadFault name) = ReadFault
 load_status (load.TooLong name len) = Input
 load_status (load.Script name fault) = Script
@@ -83,6 +88,17 @@ file_status file.Memory = Memory
 abbrev pub request_status : RequestRefusal → Exit
 request_status request.Memory = Memory
 request_status other = Input
+
+-- where the text of a file gives no options
+abbrev pub option_status : OptionsRefusal → Exit
+option_status (option.NotToml line) = Usage
+option_status (option.Member name) = Usage
+option_status option.Memory = Memory
+
+-- where a call has no options of its file
+abbrev pub options_status : OptionsFault → Exit
+options_status (options.File fault) = file_status fault
+options_status (options.Text refusal) = option_status refusal
 
 -- where files spell no definition
 abbrev pub dtd_status : DtdRefusal → Exit

@@ -18,6 +18,11 @@ use Rattle.request_reading.specs.declared.refusal.RequestRefusal.{RequestRefusal
 use Rattle.request_reading.specs.declared.refusal.RequestRefusal.TheVariants as request
 use Rattle.dtd_reader.specs.declared.refusal.DtdRefusal.{DtdRefusal}
 use Rattle.dtd_reader.specs.declared.refusal.DtdRefusal.TheVariants as dtd
+use Rattle.call_options.specs.Reading.{file_name}
+use Rattle.call_options.specs.declared.refusal.OptionsFault.{OptionsFault}
+use Rattle.call_options.specs.declared.refusal.OptionsFault.TheVariants as options
+use Rattle.call_options.specs.declared.refusal.OptionsRefusal.{OptionsRefusal}
+use Rattle.call_options.specs.declared.refusal.OptionsRefusal.TheVariants as option
 use Rattle.document_types.specs.declared.refusal.DefinitionRefusal.{DefinitionRefusal}
 use Rattle.document_types.specs.declared.refusal.DefinitionRefusal.TheVariants as definition
 use Rattle.plain_values.specs.declared.fault.Fault.{Fault}
@@ -148,6 +153,7 @@ said_of (Parse parsed.Memory) = (codes "Memory", 0)
 -- on `err`, where the program is not loaded: with the name of the file or function, which is not always that of the file that was asked for
 abbrev pub load_text : LoadRefusal → List ℕ
 load_text (load.Missing name) = named_text (codes "Missing") name
+load_text (load.Outside name) = named_text (codes "Outside") name
 load_text (load.ReadFault name) = named_text (codes "ReadFault") name
 load_text (load.TooLong name len) = counted_text (codes "TooLong") name len
 load_text (load.Script name fault) = counted_text (said_of fault).0 name (said_of fault).1
@@ -172,11 +178,23 @@ request_text request.NotRequest = codes "phpsa: NotRequest" ++ 10 ∷ []
 request_text (request.NotAdmitted path) = named_text (codes "NotAdmitted") path
 request_text request.Memory = memory_text
 
+-- on `err`, where the text of a file gives no options: the line that is no TOML, from 1, or the member that is none
+abbrev pub option_text : OptionsRefusal → List ℕ
+option_text (option.NotToml line) = number_text (codes "NotToml") line
+option_text (option.Member name) = named_text (codes "Options") name
+option_text option.Memory = memory_text
+
+-- on `err`, where a call has no options of its file
+abbrev pub options_text : OptionsFault → List ℕ
+options_text (options.File fault) = file_text fault file_name
+options_text (options.Text refusal) = option_text refusal
+
 -- on `err`, for a definition in files: with the name of the file where one is not read
 abbrev pub dtd_refusal_text : DtdRefusal → List ℕ
 dtd_refusal_text (dtd.Missing name) = named_text (codes "Missing") name
 dtd_refusal_text (dtd.ReadFault name) = named_text (codes "ReadFault") name
 dtd_refusal_text (dtd.TooLong name len) = counted_text (codes "TooLong") name len
+dtd_refusal_text (dtd.Outside name) = named_text (dtd_kind (codes "Outside")) name
 dtd_refusal_text (dtd.NotDtd at) = number_text (dtd_kind (codes "NotDtd")) at
 dtd_refusal_text (dtd.Entity name) = named_text (dtd_kind (codes "Entity")) name
 dtd_refusal_text (dtd.Twice name) = named_text (dtd_kind (codes "Twice")) name
@@ -271,19 +289,19 @@ version_text = codes "phpsa 0.1.0" ++ 10 ∷ []
 
 -- what `check` takes
 abbrev pub check_usage : List ℕ
-check_usage = codes "phpsa check FILE [--dtd D] [--limit N] [--nesting] [--json]" ++ 10 ∷ []
+check_usage = codes "phpsa check FILE [--dtd D] [--limit N] [--nesting] [--json] [--root FOLDER]" ++ 10 ∷ []
 
 -- what `run` takes
 abbrev pub run_usage : List ℕ
-run_usage = codes "phpsa run FILE [--request FILE] [--steps N]" ++ 10 ∷ []
+run_usage = codes "phpsa run FILE [--request FILE] [--steps N] [--root FOLDER]" ++ 10 ∷ []
 
 -- what `page` takes
 abbrev pub page_usage : List ℕ
-page_usage = codes "phpsa page FILE [--dtd D]" ++ 10 ∷ []
+page_usage = codes "phpsa page FILE [--dtd D] [--root FOLDER]" ++ 10 ∷ []
 
 -- what `grammar` takes
 abbrev pub grammar_usage : List ℕ
-grammar_usage = codes "phpsa grammar FILE" ++ 10 ∷ []
+grammar_usage = codes "phpsa grammar FILE [--root FOLDER]" ++ 10 ∷ []
 
 -- what `make` takes
 abbrev pub make_usage : List ℕ
@@ -291,7 +309,7 @@ make_usage = codes "phpsa make N [--check]" ++ 10 ∷ []
 
 -- what `site` takes
 abbrev pub site_usage : List ℕ
-site_usage = codes "phpsa site FILE [--dtd D] [--limit N] [--nesting]" ++ 10 ∷ []
+site_usage = codes "phpsa site FILE [--dtd D] [--limit N] [--nesting] [--root FOLDER]" ++ 10 ∷ []
 
 -- what else may be asked for
 abbrev pub help_usage : List ℕ

@@ -26,6 +26,7 @@ fn dtd_refusal_text(alloc: Global, refusal: &DtdRefusal) -> Result<Bytes, NoMemo
         DtdRefusal::TooLong { name, len } => {
             counted_text(alloc, b"TooLong", name.as_slice(), *len)
         }
+        DtdRefusal::Outside { name } => named_text(alloc, b"Dtd Outside", name.as_slice()),
         DtdRefusal::NotDtd { at } => number_text(alloc, b"Dtd NotDtd", *at),
         DtdRefusal::Entity { name } => named_text(alloc, b"Dtd Entity", name.as_slice()),
         DtdRefusal::Twice { name } => named_text(alloc, b"Dtd Twice", name.as_slice()),
@@ -45,7 +46,7 @@ fn built_in_text(alloc: Global, refusal: &DtdRefusal) -> Result<Bytes, NoMemory>
         DtdRefusal::TooLong { .. } | DtdRefusal::Limit { .. } => BUILT_IN_REFUSED,
         DtdRefusal::NotDtd { .. } | DtdRefusal::LeftOut { .. } => BUILT_IN_REFUSED,
         DtdRefusal::Entity { .. } | DtdRefusal::Twice { .. } => BUILT_IN_REFUSED,
-        DtdRefusal::Undeclared { .. } => BUILT_IN_REFUSED,
+        DtdRefusal::Undeclared { .. } | DtdRefusal::Outside { .. } => BUILT_IN_REFUSED,
     };
     Bytes::from_slice(alloc, text)
 }
@@ -71,6 +72,7 @@ fn dtd_status(refusal: &DtdRefusal) -> Exit
         DtdRefusal::NotDtd { .. } | DtdRefusal::LeftOut { .. } => Exit::Dtd,
         DtdRefusal::Entity { .. } | DtdRefusal::Twice { .. } => Exit::Dtd,
         DtdRefusal::Undeclared { .. } | DtdRefusal::Limit { .. } => Exit::Dtd,
+        DtdRefusal::Outside { .. } => Exit::Dtd,
     }
 }
 
@@ -83,7 +85,7 @@ fn built_in_status(refusal: &DtdRefusal) -> Exit
         DtdRefusal::TooLong { .. } | DtdRefusal::Limit { .. } => Exit::Dtd,
         DtdRefusal::NotDtd { .. } | DtdRefusal::LeftOut { .. } => Exit::Dtd,
         DtdRefusal::Entity { .. } | DtdRefusal::Twice { .. } => Exit::Dtd,
-        DtdRefusal::Undeclared { .. } => Exit::Dtd,
+        DtdRefusal::Undeclared { .. } | DtdRefusal::Outside { .. } => Exit::Dtd,
     }
 }
 

@@ -11,6 +11,7 @@ mod exit;
 mod json_answers;
 mod lines;
 mod message;
+mod options;
 mod other_refusals;
 mod programs;
 mod runs;
@@ -27,6 +28,7 @@ pub use exit::Exit;
 pub use json_answers::{items_json, no_json, sums_json, yes_json};
 pub use lines::{NO_MEMORY, WRITE_FAULT};
 pub use message::{Message, Refusal};
+pub use options::options_refusal;
 pub use other_refusals::{
     file_refusal, list_refusal, long_text_refusal, request_refusal, size_refusal,
 };

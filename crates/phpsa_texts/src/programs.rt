@@ -74,6 +74,7 @@ fn load_text(alloc: Global, refusal: &LoadRefusal) -> Result<Bytes, NoMemory>
 {
     match refusal {
         LoadRefusal::Missing { name } => named_text(alloc, b"Missing", name.as_slice()),
+        LoadRefusal::Outside { name } => named_text(alloc, b"Outside", name.as_slice()),
         LoadRefusal::ReadFault { name } => named_text(alloc, b"ReadFault", name.as_slice()),
         LoadRefusal::TooLong { name, len } => {
             counted_text(alloc, b"TooLong", name.as_slice(), *len)
@@ -101,7 +102,7 @@ fn load_status(refusal: &LoadRefusal) -> Exit
         LoadRefusal::TooLong { .. } | LoadRefusal::TooMany { .. } => Exit::Input,
         LoadRefusal::Script { .. } | LoadRefusal::IncludeCycle { .. } => Exit::Script,
         LoadRefusal::DoubleFunction { .. } | LoadRefusal::UnknownFunction { .. } => Exit::Script,
-        LoadRefusal::Arity { .. } => Exit::Script,
+        LoadRefusal::Arity { .. } | LoadRefusal::Outside { .. } => Exit::Script,
         LoadRefusal::Memory => Exit::Memory,
     }
 }

@@ -27,6 +27,8 @@ pub const HELP: &[u8] = b"phpsa says whether all pages that a PHP script can pri
   --limit N           check, site: gives up at over N sums, 10000 if left out.
   --nesting           check, site: asks only that the tags of a page match.
   --json              check: writes the answer as a line of JSON.
+  --root FOLDER       all but make: what a script includes and a definition
+                      asks for has to lie in this folder or below it.
   --request FILE      run: the request, as JSON; an empty one if left out.
   --steps N           run: stops after N steps, 10000000 if left out.
   --check             make: decides the script in place of writing it.
@@ -38,12 +40,13 @@ Example:  phpsa check guests.php --dtd strict
 ";
 
 /// A line for each command.
-const USAGE_LINES: &[u8] = b"phpsa check FILE [--dtd D] [--limit N] [--nesting] [--json]
-phpsa run FILE [--request FILE] [--steps N]
-phpsa page FILE [--dtd D]
-phpsa grammar FILE
+const USAGE_LINES: &[u8] =
+    b"phpsa check FILE [--dtd D] [--limit N] [--nesting] [--json] [--root FOLDER]
+phpsa run FILE [--request FILE] [--steps N] [--root FOLDER]
+phpsa page FILE [--dtd D] [--root FOLDER]
+phpsa grammar FILE [--root FOLDER]
 phpsa make N [--check]
-phpsa site FILE [--dtd D] [--limit N] [--nesting]
+phpsa site FILE [--dtd D] [--limit N] [--nesting] [--root FOLDER]
 phpsa --help
 phpsa --version
 ";

@@ -1,15 +1,11 @@
--- Each path that is looked at is UTF-8, by the rules of the grammar.
+-- Each path of an include is UTF-8, by the rules of the grammar.
 use Rattle.std.proofs.Common.{◌≡◌, ℕ, zero, suc, Bool, true, false, List, [], ◌∷◌, inl, inr, refl, subst, arith}
 use Rattle.std.specs.Prelude.{◌&&◌}
 use Rattle.std.specs.List.{Contains}
-use Rattle.std.proofs.lemmas.List.Elements.{Contains-append_cases, Contains-append_right}
-use Rattle.io_edge.specs.Told.{Content}
+use Rattle.std.proofs.lemmas.List.Elements.{Contains-append_cases}
 use Rattle.php_syntax.specs.Trees.{PlainStmt, inline_stmt, echo_stmt, run_stmt, if_stmt, while_stmt, do_while_stmt, for_stmt, each_stmt, break_stmt, continue_stmt, return_stmt, include_stmt, quit_stmt, PlainStmts, no_stmts, more_stmts, PlainArms, no_arms, more_arms, PlainFunction, PlainFile}
 use Rattle.script_grammar.specs.Rules.{is_utf8, is_writable, maybe_writable, expr_fits, maybe_fits, exprs_fit, stmt_fits, stmts_fit, arms_fit, params_fit, functions_fit, file_fits}
 use Rattle.program_rules.specs.Includes.{includes_in, includes_of, includes_in_arms, includes_in_functions, includes_of_file}
-use Rattle.program_rules.specs.Programs.{ReadFile}
-use Rattle.program_files.specs.Order.{Reached, begun, again, next}
-use Rattle.program_files.specs.Source.{HasTold}
 
 left : (a b : Bool) → (a && b) ≡ true → a ≡ true
 left true b e = refl
@@ -80,16 +76,4 @@ unfolding includes_of_file
 in_file tree path e c = elim (Contains-append_cases (includes_in tree.body_of) (includes_in_functions tree.functions_of) path c) [
   | inl h ↦ in_stmts false false tree.body_of path (left (stmts_fit false false tree.body_of) (functions_fit tree.functions_of) e) h
   | inr h ↦ in_functions tree.functions_of path (right (stmts_fit false false tree.body_of) (functions_fit tree.functions_of) e) h
-]
-
-later : (path x : List ℕ) (paths : List (List ℕ)) → Contains paths x → Contains (path ∷ paths) x
-later path x paths c = Contains-append_right (path ∷ []) paths x c
-
-pub each_utf8 : (content : Content) (name : List ℕ) → is_utf8 name ≡ true → (files : List ReadFile) (paths : List (List ℕ)) → Reached (HasTold content) name files paths
-    → (path : List ℕ) → Contains paths path → is_utf8 path ≡ true
-each_utf8 content name e files paths begun path c = own name path e c
-each_utf8 content name e files paths (again _ x _ r read) path c = each_utf8 content name e files (x ∷ paths) r path (later x path paths c)
-each_utf8 content name e files paths (next fs x ps tree r new told) path c = elim (Contains-append_cases (includes_of_file tree) ps path c) [
-  | inl h ↦ in_file tree path told.2.spelled.fits h
-  | inr h ↦ each_utf8 content name e fs (x ∷ ps) r path (later x path ps h)
 ]

@@ -4,3 +4,4 @@ pub mod Scripts
 pub mod Source
 pub mod Unread
 pub mod Causes
+pub mod Steps

@@ -1,11 +1,15 @@
 //! The files of a program: a script and all that it includes, each read once, with their trees.
-//! Promise: `read_files` gives them in the order of their includes, each asked for once (`ReadsAll`
-//! of specs/Causes), or the cause and the file at which reading stopped (`IsReadCause`).
+//! Promise: `read_files` gives them in the order of their includes, with each include by its found
+//! name, each asked for once (`ReadsAll` of specs/Causes), or the cause and the name at which
+//! reading stopped (`IsReadCause`).
 //! Used by include_expansion, program_sizes, function_rules, program_loader and others.
 #![tactic(auto)]
 
+mod asking;
 mod files;
 mod includes;
+mod naming;
+mod places;
 mod reading;
 mod refusal;
 mod table;

@@ -18,12 +18,15 @@ pub enum ScriptRefusal {
 
 /// Why no program is loaded. The first that holds is told, in this order: `Missing` to `Script` of
 /// each file as it is read; the rules `IncludeCycle` to `Arity` once all files are read; and
-/// `TooMany`, but for a 257th included name, which is told at once.
+/// `TooMany`, but for a 257th included file or missed name, which is told at once.
 #[derive(Debug, PartialEq, Eq, Drop, Error)]
 pub enum LoadRefusal {
-    /// The source has no such file.
+    /// The source has no such file; an include has its name here as it is written.
     #[error("a file of the program is missing")]
     Missing { name: Bytes },
+    /// An include, by its name as it is written, leads out of the root.
+    #[error("a file of the program lies outside of its root")]
+    Outside { name: Bytes },
     /// The source failed at this file.
     #[error("a file of the program cannot be read")]
     ReadFault { name: Bytes },

@@ -8,7 +8,7 @@ use Rattle.std.proofs.lemmas.Option.{same_Some}
 use Rattle.php_syntax.specs.declared.tree.FileTree.{FileTree}
 use Rattle.php_syntax.specs.Trees.{PlainStmts, PlainFunction, PlainFile, plain_file}
 use Rattle.script_meaning.specs.Programs.{PlainProgram}
-use Rattle.program_rules.specs.Expansion.{with_bodies}
+use Rattle.program_rules.specs.Bodies.{with_bodies, with_body}
 use Rattle.program_rules.specs.Limits.{IsWithin}
 use Rattle.program_rules.specs.Programs.{ReadFile, functions_in}
 use Rattle.program_files.specs.declared.refusal.LoadRefusal.{LoadRefusal}
@@ -16,7 +16,7 @@ use Rattle.program_files.specs.Order.{is_read, place_of}
 use Rattle.include_expansion.specs.FileOrder.{name_or_none, names_at, IsFileOrder}
 use Rattle.include_expansion.proofs.PlaceLemmas.{file_there, tree_there}
 use Rattle.program_sizes.proofs.ProgramLemmas.{at_place}
-use Rattle.include_expansion.specs.Within.{bodies_within, with_body, tree_named, program_within}
+use Rattle.include_expansion.specs.Within.{bodies_within, tree_named, program_within}
 use Rattle.program_sizes.specs.Limits.{program_places, IsSizeCause}
 use Rattle.program_sizes.specs.FileRules.{KeepFunctionRules}
 use Rattle.program_sizes.specs.Loaded.{MakeProgram}

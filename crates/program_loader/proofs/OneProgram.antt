@@ -5,7 +5,8 @@ use Rattle.php_syntax.specs.Trees.{PlainStmts, PlainParam, PlainFunction, PlainF
 use Rattle.io_edge.specs.Told.{Told, Content, known, Tells, Allows}
 use Rattle.script_meaning.specs.Programs.{PlainProgram}
 use Rattle.program_rules.specs.Files.{Held, Agrees, HasTree, HasOneTree}
-use Rattle.program_rules.specs.Includes.{Reads, itself, included, LeadsTo}
+use Rattle.io_edge.specs.Names.{normal, beside}
+use Rattle.program_rules.specs.Includes.{includes_of_file, Reads, itself, included, Asks, to_read, first, LeadsTo}
 use Rattle.program_rules.specs.Expansion.{StandsFor, FunctionStandsFor}
 use Rattle.program_rules.specs.Limits.{HasPlaces, HavePlaces}
 use Rattle.program_rules.specs.Limits as limits
@@ -13,7 +14,7 @@ use Rattle.program_rules.specs.Programs.{ReadFile, AreRead, functions_in, TableS
 use Rattle.program_rules.specs.Programs as programs
 use Rattle.program_files.specs.Order.{Reached}
 use Rattle.program_loader.specs.Told.{IsProgramInOrder, AreAnswered, IsLoaded, TellsAll, HoldsProgram}
-use Rattle.program_loader.proofs.Same.{AreSame, tree_here, reads_here, same_back, leads_here, reached_here, stands_here, places_here, table_here, counts_here, functions_read, body_read}
+use Rattle.program_loader.proofs.Same.{AreSame, script_moved, tree_moved, tree_here, reads_here, same_back, leads_here, reached_here, stands_here, places_here, table_here, counts_here, functions_read, body_read}
 use Rattle.program_loader.proofs.Walk.{one_order}
 
 -- the laws of includes: each file has one tree, statements stand for one list, and have one number of places; names that are looked at are read
@@ -81,7 +82,7 @@ programs_agree laws held name p q a b =
 -- what holds there holds here, where the same was held under each name that is read
 read_here : (held other : Held) (name : List ℕ) → AreSame held other name → (files : List ReadFile) → AreRead other name files → AreRead held name files
 read_here held other name same files read = record {
-  each = λ file c. (let f = read.each file c in let r = reads_here held other name same file.name f.0 in (r, tree_here held other file.name file.tree (same file.name r) f.1));
+  each = λ file c. (let f = read.each file c in let r = reads_here held other name same file.name f.0 in (r, tree_here held other name same file.name file.tree r f.1));
   all = λ path r. read.all path (reads_here other held name (same_back held other name same) path r);
   once = read.once;
 }
@@ -102,7 +103,7 @@ program_here laws held other name p same a =
         read = read_here held other name same is.files is.read;
         acyclic = no_cycle_here held other name same is.acyclic;
         tree = is.tree;
-        spelled = tree_here held other name is.tree (same name itself) is.spelled;
+        spelled = tree_here held other name same name is.tree itself is.spelled;
         main = stands_here held other name same is.tree.body_of p.main_of (body_read other name name is.tree own is.spelled) is.main;
         functions = table_here held other name same (functions_in is.files) p.functions_of (functions_read other name is.files is.read.each) is.functions;
         rules = is.rules;
@@ -116,28 +117,44 @@ program_here laws held other name p same a =
     }
 
 -- what agrees with what is told is what is told
-pub agreed : (content : Content) (held other : Held) (name : List ℕ) → TellsAll content held name → Agrees content other → AreSame held other name
-agreed content held other name told agrees path reads =
-    let same : Allows (known (held path)) (other path) = subst (λ (t : Told). Allows t (other path)) (told path reads) (agrees path) in
-    sym same
+pub agreed : (content : Content) (held other : Held) (name : List ℕ) → TellsAll content held name → Agrees content other → other.main ≡ held.main → AreSame held other (normal name)
+agreed content held other name told agrees main = record {
+  main = main;
+  bytes = λ path asks. (let same : Allows (known (held.bytes path)) (other.bytes path) = subst (λ (t : Told). Allows t (other.bytes path)) (told path asks) (agrees path) in sym same);
+}
 
 -- what was answered is what is told
-answer_is : (content : Content) (held other : Held) (name path : List ℕ) → TellsAll content held name → AreAnswered content other name → Reads held name path → Reads other name path → other path ≡ held path
-answer_is content held other name path told answered reads also =
-    let same : Tells (known (held path)) (other path) = subst (λ (t : Told). Tells t (other path)) (told path reads) (answered path also) in
+answer_is : (content : Content) (held other : Held) (name path : List ℕ) → TellsAll content held name → AreAnswered content other name → Asks held (normal name) path → Asks other (normal name) path → other.bytes path ≡ held.bytes path
+answer_is content held other name path told answered asks also =
+    let same : Tells (known (held.bytes path)) (other.bytes path) = subst (λ (t : Told). Tells t (other.bytes path)) (told path asks) (answered path also) in
     sym same
 
-also_read : (content : Content) (held other : Held) (name : List ℕ) → TellsAll content held name → AreAnswered content other name → (path : List ℕ) → Reads held name path → Reads other name path
-also_read content held other name told answered path itself = itself
-also_read content held other name told answered path (included file _ tree reads has own) =
-    let r = also_read content held other name told answered file reads in
-    included file path tree r (tree_here other held file tree (sym (answer_is content held other name file told answered reads r)) has) own
+also_read : (content : Content) (held other : Held) (name : List ℕ) → TellsAll content held name → AreAnswered content other name → other.main ≡ held.main → (path : List ℕ) → Reads held (normal name) path → Reads other (normal name) path
+also_read content held other name told answered main path itself = itself
+also_read content held other name told answered main path (included file _ tree reads has own) =
+    let r = also_read content held other name told answered main file reads in
+    let here : other.bytes file ≡ held.bytes file = answer_is content held other name file told answered (to_read file reads) (to_read file r) in
+    let script = script_moved other held file has.script (sym here) has.has_script in
+    let firsts : (written : List ℕ) → Contains (includes_of_file has.script) written → held.bytes (beside other.main written) ≡ other.bytes (beside other.main written) = λ written c.
+    sym (answer_is content held other name (beside other.main written) told answered
+    (subst (λ (m : List ℕ). Asks held (normal name) (beside m written)) (sym main) (first file written reads (has.script, has.has_script, c)))
+    (first file written r (has.script, script, c))) in
+    included file path tree r (tree_moved other held file tree (sym main) (sym here) has firsts) own
 
-pub answered_so : (content : Content) (held other : Held) (name : List ℕ) → TellsAll content held name → AreAnswered content other name → AreSame held other name
-answered_so content held other name told answered path reads =
-    answer_is content held other name path told answered reads (also_read content held other name told answered path reads)
+also_asked : (content : Content) (held other : Held) (name : List ℕ) → TellsAll content held name → AreAnswered content other name → other.main ≡ held.main → (path : List ℕ) → Asks held (normal name) path → Asks other (normal name) path
+also_asked content held other name told answered main path (to_read _ reads) = to_read path (also_read content held other name told answered main path reads)
+also_asked content held other name told answered main _ (first file written reads (script, has, own)) =
+    let r = also_read content held other name told answered main file reads in
+    let here : other.bytes file ≡ held.bytes file = answer_is content held other name file told answered (to_read file reads) (to_read file r) in
+    subst (λ (m : List ℕ). Asks other (normal name) (beside m written)) main (first file written r (script, script_moved other held file script (sym here) has, own))
+
+pub answered_so : (content : Content) (held other : Held) (name : List ℕ) → TellsAll content held name → AreAnswered content other name → other.main ≡ held.main → AreSame held other (normal name)
+answered_so content held other name told answered main = record {
+  main = main;
+  bytes = λ path asks. answer_is content held other name path told answered asks (also_asked content held other name told answered main path asks);
+}
 
 pub one_program : Laws → (content : Content) (name : List ℕ) (p q : PlainProgram) → HoldsProgram content name p → IsLoaded content name q → p ≡ q
 one_program laws content name p q h l =
-    programs_agree laws h.held name p q h.is_program
-    (program_here laws h.held l.held name q (answered_so content h.held l.held name h.told l.answered) l.is_program)
+    programs_agree laws h.held (normal name) p q h.is_program
+    (program_here laws h.held l.held (normal name) q (answered_so content h.held l.held name h.told l.answered (l.main ∙ sym h.main)) l.is_program)

@@ -1,11 +1,14 @@
--- What was held twice, and is the same under each name that the program reads, makes the same of it.
-use Rattle.std.proofs.Common.{◌≡◌, ◌∙◌, ℕ, List, [], ◌∷◌, ◌++◌, inl, inr, refl, sym, arith}
+-- What was held twice, and is the same under each name that the program asks for, makes the same of it.
+use Rattle.std.proofs.Common.{◌≡◌, ◌∙◌, ℕ, List, [], ◌∷◌, ◌++◌, Option, inl, inr, refl, sym, ap, subst, arith}
 use Rattle.std.specs.List.{Contains}
 use Rattle.std.proofs.lemmas.List.Elements.{Contains-append_left, Contains-append_right, Contains-append_cases}
-use Rattle.std.specs.Prelude.{◌⊎◌}
+use Rattle.std.specs.Prelude.{◌⊎◌, ◌||◌, is_some, if◌then◌else◌}
+use Rattle.io_edge.specs.Names.{beside}
 use Rattle.php_syntax.specs.Trees.{PlainStmts, PlainFunction, PlainFile}
-use Rattle.program_rules.specs.Files.{Held, HasTree}
-use Rattle.program_rules.specs.Includes.{Reads, itself, included, LeadsTo, directly, through, includes_in, includes_in_functions, includes_of_file}
+use Rattle.program_rules.specs.Bodies.{include_of}
+use Rattle.program_rules.specs.Files.{Held, has_one_place, found_name, HasScript, HasTree}
+use Rattle.program_rules.proofs.PathLemmas.{same_file}
+use Rattle.program_rules.specs.Includes.{Reads, itself, included, Writes, Asks, to_read, first, LeadsTo, directly, through, includes_in, includes_in_functions, includes_of_file}
 use Rattle.program_rules.specs.Expansion.{StandsFor, stands}
 use Rattle.program_rules.specs.Limits.{HasPlaces, counted, HavePlaces}
 use Rattle.program_rules.specs.Limits as limits
@@ -13,29 +16,61 @@ use Rattle.program_rules.specs.Programs.{ReadFile, functions_in, TableStandsFor}
 use Rattle.program_rules.specs.Programs as programs
 use Rattle.program_files.specs.Order.{Reached, begun, again, next}
 
--- what the other source held is what this one held, under each name that is read here
-abbrev pub AreSame : Held → Held → List ℕ → Type 0
-AreSame held other name = (path : List ℕ) → Reads held name path → other path ≡ held path
+-- what the other source held is what this one held, under each name that is asked for here
+pub record AreSame (held other : Held) (name : List ℕ) : Type 0 where
+  pub main : other.main ≡ held.main
+  pub bytes : (path : List ℕ) → Asks held name path → other.bytes path ≡ held.bytes path
 
 -- each name that is looked at is read
 abbrev pub LookedAt : Held → List ℕ → Type 0
 LookedAt held name = (files : List ReadFile) (paths : List (List ℕ)) (path : List ℕ) → Reached (HasTree held) name files paths → Contains paths path → Reads held name path
 
-pub tree_here : (held other : Held) (path : List ℕ) (tree : PlainFile) → other path ≡ held path → HasTree other path tree → HasTree held path tree
-tree_here held other path tree same t = record { bytes = t.bytes; tokens = t.tokens; is_held = sym same ∙ t.is_held; cut = t.cut; spelled = t.spelled; within = t.within }
+-- an include is found alike where its first place is held alike
+found_alike : (held other : Held) (file written : List ℕ) → other.main ≡ held.main → other.bytes (beside held.main written) ≡ held.bytes (beside held.main written) → found_name other file written ≡ found_name held file written
+unfolding found_name
+found_alike held other file written main same =
+    ap (λ (m : List ℕ). if (has_one_place written || is_some (other.bytes (beside m written))) then beside m written else beside file written) main
+    ∙ ap (λ (o : Option (List ℕ)). if (has_one_place written || is_some o) then beside held.main written else beside file written) same
+
+pub script_moved : (held other : Held) (path : List ℕ) (script : PlainFile) → other.bytes path ≡ held.bytes path → HasScript other path script → HasScript held path script
+script_moved held other path script same t = record { bytes = t.bytes; tokens = t.tokens; is_held = sym same ∙ t.is_held; cut = t.cut; spelled = t.spelled; within = t.within }
+
+-- a file that is held alike, as the first places of its includes are, has the same tree
+pub tree_moved : (held other : Held) (path : List ℕ) (tree : PlainFile) → other.main ≡ held.main → other.bytes path ≡ held.bytes path → (t : HasTree other path tree)
+    → ((written : List ℕ) → Contains (includes_of_file t.script) written → other.bytes (beside held.main written) ≡ held.bytes (beside held.main written)) → HasTree held path tree
+tree_moved held other path tree main same t firsts = record {
+  script = t.script;
+  has_script = script_moved held other path t.script same t.has_script;
+  found = t.found
+      ∙ same_file (λ written. include_of (found_name other path written)) (λ written. include_of (found_name held path written)) t.script (λ written own. ap include_of (found_alike held other path written main (firsts written own)));
+}
+
+pub tree_here : (held other : Held) (name : List ℕ) → AreSame held other name → (path : List ℕ) (tree : PlainFile) → Reads held name path → HasTree other path tree → HasTree held path tree
+tree_here held other name same path tree reads t =
+    let here = same.bytes path (to_read path reads) in
+    tree_moved held other path tree same.main here t (λ written own. same.bytes (beside held.main written) (first path written reads (t.script, script_moved held other path t.script here t.has_script, own)))
 
 pub reads_here : (held other : Held) (name : List ℕ) → AreSame held other name → (path : List ℕ) → Reads other name path → Reads held name path
 reads_here held other name same path itself = itself
 reads_here held other name same path (included file _ tree reads has own) =
     let r = reads_here held other name same file reads in
-    included file path tree r (tree_here held other file tree (same file r) has) own
+    included file path tree r (tree_here held other name same file tree r has) own
+
+pub writes_here : (held other : Held) (name : List ℕ) → AreSame held other name → (file written : List ℕ) → Reads held name file → Writes other file written → Writes held file written
+writes_here held other name same file written reads (script, has, own) = (script, script_moved held other file script (same.bytes file (to_read file reads)) has, own)
+
+pub asks_here : (held other : Held) (name : List ℕ) → AreSame held other name → (path : List ℕ) → Asks other name path → Asks held name path
+asks_here held other name same path (to_read _ reads) = to_read path (reads_here held other name same path reads)
+asks_here held other name same _ (first file written reads writes) =
+    let r = reads_here held other name same file reads in
+    subst (λ (m : List ℕ). Asks held name (beside m written)) (sym same.main) (first file written r (writes_here held other name same file written r writes))
 
 pub same_back : (held other : Held) (name : List ℕ) → AreSame held other name → AreSame other held name
-same_back held other name same path reads = sym (same path (reads_here held other name same path reads))
+same_back held other name same = record { main = sym same.main; bytes = λ path asks. sym (same.bytes path (asks_here held other name same path asks)) }
 
 -- the tree of a name that is read there
 read_tree : (held other : Held) (name : List ℕ) → AreSame held other name → (path : List ℕ) (tree : PlainFile) → Reads other name path → HasTree other path tree → HasTree held path tree
-read_tree held other name same path tree reads has = tree_here held other path tree (same path (reads_here held other name same path reads)) has
+read_tree held other name same path tree reads has = tree_here held other name same path tree (reads_here held other name same path reads) has
 
 pub leads_here : (held other : Held) (name : List ℕ) → AreSame held other name → (file path : List ℕ) → Reads other name file → LeadsTo other file path → LeadsTo held file path
 leads_here held other name same file path reads (directly _ _ tree has own) = directly file path tree (read_tree held other name same file tree reads has) own

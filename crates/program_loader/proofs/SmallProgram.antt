@@ -21,9 +21,11 @@ use Rattle.script_grammar.specs.Rules.{stmt_fits}
 use Rattle.script_grammar.specs.Grammar.{SpellsTree, IsTooDeep}
 use Rattle.io_edge.specs.Told.{Content, untold, known}
 use Rattle.script_meaning.specs.Programs.{PlainProgram}
-use Rattle.program_rules.specs.Files.{Held, HasTree, HasOneTree}
-use Rattle.program_rules.specs.Includes.{Reads, itself, included, LeadsTo, directly, through, includes_in, includes_of_file}
-use Rattle.program_rules.specs.Expansion.{with_bodies, StandsFor, stands}
+use Rattle.io_edge.specs.Names.{normal, normal_parts, beside}
+use Rattle.program_rules.specs.Files.{Held, found_name, with_found_names, HasScript, HasTree, HasOneScript, HasOneTree}
+use Rattle.program_rules.specs.Includes.{Reads, itself, included, Writes, Asks, to_read, first, LeadsTo, directly, through, includes_in, includes_of_file}
+use Rattle.program_rules.specs.Bodies.{with_bodies, file_with_bodies}
+use Rattle.program_rules.specs.Expansion.{StandsFor, stands}
 use Rattle.program_rules.specs.Limits.{one_each, HasPlaces, counted}
 use Rattle.program_rules.specs.Limits as limits
 use Rattle.program_rules.specs.Calls.{calls_of_program}
@@ -42,8 +44,11 @@ outer = codes "<?php include 'a.php';"
 abbrev pub inner : List ℕ
 inner = codes "<html><body><p>x</p></body></html>"
 
+abbrev bytes_at : List ℕ → Option (List ℕ)
+bytes_at path = if bytes_eq path (codes "t.php") then Some outer else (if bytes_eq path (codes "a.php") then Some inner else None)
+
 abbrev held : Held
-held path = if bytes_eq path (codes "t.php") then Some outer else (if bytes_eq path (codes "a.php") then Some inner else None)
+held = record { main = codes "t.php"; bytes = bytes_at }
 
 -- their tokens
 abbrev outer_tokens : List PlainToken
@@ -76,18 +81,34 @@ unfolding stmt_terminals stmt_trees nearest stmt_fits
 inner_spelled = record { form = stmt_part (inline_form inner) end_of_file; spelled = refl; made = refl; nearest_if = refl; fits = refl }
 
 -- so they hold these trees; that tokens are not too deep is what the parser says of them
+outer_script : (IsTooDeep outer_tokens → ⊥) → HasScript held (codes "t.php") outer_tree
+outer_script within = record { bytes = outer; tokens = outer_tokens; is_held = refl; cut = outer_cut; spelled = outer_spelled; within = within }
+
+inner_script : (IsTooDeep inner_tokens → ⊥) → HasScript held (codes "a.php") inner_tree
+inner_script within = record { bytes = inner; tokens = inner_tokens; is_held = refl; cut = inner_cut; spelled = inner_spelled; within = within }
+
+-- the include is found in the folder of the program's file
+outer_found : outer_tree ≡ with_found_names held (codes "t.php") outer_tree
+unfolding file_with_bodies with_bodies found_name beside normal normal_parts
+outer_found = refl
+
+inner_found : inner_tree ≡ with_found_names held (codes "a.php") inner_tree
+unfolding file_with_bodies with_bodies
+inner_found = refl
+
 pub has_outer : (IsTooDeep outer_tokens → ⊥) → HasTree held (codes "t.php") outer_tree
-has_outer within = record { bytes = outer; tokens = outer_tokens; is_held = refl; cut = outer_cut; spelled = outer_spelled; within = within }
+has_outer within = record { script = outer_tree; has_script = outer_script within; found = outer_found }
 
 pub has_inner : (IsTooDeep inner_tokens → ⊥) → HasTree held (codes "a.php") inner_tree
-has_inner within = record { bytes = inner; tokens = inner_tokens; is_held = refl; cut = inner_cut; spelled = inner_spelled; within = within }
+has_inner within = record { script = inner_tree; has_script = inner_script within; found = inner_found }
 
 -- the source tells all of it
 abbrev pub content : Content
-content path = known (held path)
+content path = known (bytes_at path)
 
--- what the parser says of both token lists, and that each file has one tree
+-- what the parser says of both token lists, and that each file has one script, and one tree
 pub record Premises : Type 0 where
+  pub one_script : HasOneScript held
   pub one : HasOneTree held
   pub outer_within : IsTooDeep outer_tokens → ⊥
   pub inner_within : IsTooDeep inner_tokens → ⊥
@@ -120,6 +141,31 @@ names_read ps path (included file _ tree reads has own) = by (names_read ps file
     by : (file ≡ codes "t.php") ⊎ (file ≡ codes "a.php") → (path ≡ codes "t.php") ⊎ (path ≡ codes "a.php")
     by (inl outside) = inr (outer_includes ps file path tree outside has own)
     by (inr inside) = absurd (inner_includes ps file path tree inside has own)
+
+-- and no other is asked for
+beside_it : beside (codes "t.php") (codes "a.php") ≡ codes "a.php"
+unfolding beside normal normal_parts
+beside_it = refl
+
+outer_writes : Premises → (file written : List ℕ) → file ≡ codes "t.php" → Writes held file written → written ≡ codes "a.php"
+unfolding includes_of_file includes_in
+outer_writes ps file written same (script, has, own) =
+    let is : script ≡ outer_tree = ps.one_script (codes "t.php") script outer_tree (subst (λ (n : List ℕ). HasScript held n script) same has) (outer_script ps.outer_within) in
+    only_member (codes "a.php") written (subst (λ (t : PlainFile). Contains (includes_of_file t) written) is own)
+
+inner_writes : Premises → (file written : List ℕ) → file ≡ codes "a.php" → Writes held file written → ⊥
+unfolding includes_of_file includes_in
+inner_writes ps file written same (script, has, own) =
+    let is : script ≡ inner_tree = ps.one_script (codes "a.php") script inner_tree (subst (λ (n : List ℕ). HasScript held n script) same has) (inner_script ps.inner_within) in
+    no_member written (subst (λ (t : PlainFile). Contains (includes_of_file t) written) is own)
+
+names_asked : Premises → (path : List ℕ) → Asks held (codes "t.php") path → (path ≡ codes "t.php") ⊎ (path ≡ codes "a.php")
+names_asked ps path (to_read _ reads) = names_read ps path reads
+names_asked ps _ (first file written reads writes) = by (names_read ps file reads)
+  where
+    by : (file ≡ codes "t.php") ⊎ (file ≡ codes "a.php") → (beside held.main written ≡ codes "t.php") ⊎ (beside held.main written ≡ codes "a.php")
+    by (inl outside) = inr (ap (λ (x : List ℕ). beside (codes "t.php") x) (outer_writes ps file written outside writes) ∙ beside_it)
+    by (inr inside) = absurd (inner_writes ps file written inside writes)
 
 -- neither file includes itself
 leads_nowhere : Premises → (file path : List ℕ) → file ≡ codes "a.php" → LeadsTo held file path → ⊥
@@ -198,31 +244,41 @@ is_program ps = record {
   within = record { places_within = lit≤ tt; nodes_within = lit≤ tt; height_within = lit≤ tt };
 }
 
--- the source holds it, in files within their limit
-pub holds : Premises → HoldsProgram content (codes "t.php") program
-unfolding functions_in calls_of_program DefinesTwice is_program calls_in_files
-holds ps = record {
-  held = held;
-  told = λ path reads. refl;
-  is_program = record { is_program = is_program ps; in_order = in_order ps };
-  few = lit≤ tt;
-  rules = record { once = λ path twice. twice; known = λ call own. absurd (no_member call own); served = λ call own. absurd (no_member call own) };
-}
-
 abbrev or_empty : Option (List ℕ) → List ℕ
 or_empty None = []
 or_empty (Some bytes) = bytes
 
-short_at : (path : List ℕ) → (path ≡ codes "t.php") ⊎ (path ≡ codes "a.php") → length (or_empty (held path)) ≤ 1048576
-short_at path (inl outside) = subst (λ (n : List ℕ). length (or_empty (held n)) ≤ 1048576) (sym outside) (lit≤ tt)
-short_at path (inr inside) = subst (λ (n : List ℕ). length (or_empty (held n)) ≤ 1048576) (sym inside) (lit≤ tt)
+-- both are there
+not_gone : (path : List ℕ) → (path ≡ codes "t.php") ⊎ (path ≡ codes "a.php") → bytes_at path ≡ None → ⊥
+not_gone path (inl outside) gone = let same : Some outer ≡ None = sym (ap bytes_at outside) ∙ gone in cc
+not_gone path (inr inside) gone = let same : Some inner ≡ None = sym (ap bytes_at inside) ∙ gone in cc
+
+-- the source holds it, in files within their limit
+pub holds : Premises → HoldsProgram content (codes "t.php") program
+unfolding functions_in calls_of_program DefinesTwice is_program calls_in_files normal normal_parts
+holds ps = record {
+  held = held;
+  main = refl;
+  told = λ path asks. refl;
+  is_program = record { is_program = is_program ps; in_order = in_order ps };
+  few = lit≤ tt;
+  missed = [];
+  are_missed = record { each = λ path c. absurd (no_member path c); all = λ path asks gone. absurd (not_gone path (names_asked ps path asks) gone); once = λ i j x e f. absurd (cc) };
+  few_missed = lit≤ tt;
+  rules = record { once = λ path twice. twice; known = λ call own. absurd (no_member call own); served = λ call own. absurd (no_member call own) };
+}
+
+short_at : (path : List ℕ) → (path ≡ codes "t.php") ⊎ (path ≡ codes "a.php") → length (or_empty (bytes_at path)) ≤ 1048576
+short_at path (inl outside) = subst (λ (n : List ℕ). length (or_empty (bytes_at n)) ≤ 1048576) (sym outside) (lit≤ tt)
+short_at path (inr inside) = subst (λ (n : List ℕ). length (or_empty (bytes_at n)) ≤ 1048576) (sym inside) (lit≤ tt)
 
 pub are_short : (ps : Premises) → AreShort held (codes "t.php")
-are_short ps path bytes reads is = subst (λ (x : Option (List ℕ)). length (or_empty x) ≤ 1048576) is (short_at path (names_read ps path reads))
+unfolding normal normal_parts
+are_short ps path bytes asks is = subst (λ (x : Option (List ℕ)). length (or_empty x) ≤ 1048576) is (short_at path (names_asked ps path asks))
 
 -- a source that does not tell of the included file does not hold the program so
 abbrev silent : Content
-silent path = if bytes_eq path (codes "a.php") then untold else known (held path)
+silent path = if bytes_eq path (codes "a.php") then untold else known (bytes_at path)
 
-not_told : (other : Held) → (told : TellsAll silent other (codes "t.php")) → Reads other (codes "t.php") (codes "a.php") → ⊥
-not_told other told reads = let same : untold ≡ known (other (codes "a.php")) = told (codes "a.php") reads in cc
+not_told : (other : Held) → (told : TellsAll silent other (codes "t.php")) → Asks other (normal (codes "t.php")) (codes "a.php") → ⊥
+not_told other told asks = let same : untold ≡ known (other.bytes (codes "a.php")) = told (codes "a.php") asks in cc

@@ -1,15 +1,17 @@
 //! From files that were read to the program of a name, or to the cause of a refusal.
 
 ghost use Rattle.std.specs.Prelude.{ℕ, List};
+ghost use Rattle.io_edge.specs.Names.{normal};
 ghost use Rattle.script_meaning.specs.Programs.{PlainProgram};
 ghost use Rattle.program_rules.specs.Programs.{ReadFile};
 ghost use Rattle.program_files.specs.declared.refusal.LoadRefusal.{LoadRefusal};
+ghost use Rattle.program_files.specs.declared.refusal.LoadRefusal.TheVariants.{Memory};
 ghost use Rattle.program_files.specs.Source.{SourceCall};
 ghost use Rattle.program_files.specs.Causes.{ReadsAll, IsReadCause};
 ghost use Rattle.program_loader.specs.Causes.{Loads, IsLoadCause};
 ghost use Rattle.program_loader.specs.Making.{AreReady, Make, IsMakeCause};
 
-use include_expansion::{files_of_the_program, names_looked_at, what_was_held};
+use include_expansion::{files_of_the_program, names_looked_at};
 use program_sizes::{
     each_has_one_tree, made_programs_are_programs, ordered_files_stand_for_a_program,
     read_files_are_whole,
@@ -17,19 +19,20 @@ use program_sizes::{
 
 /// What is read and made is loaded, and why reading or making stops is why loading does.
 pub fn what_is_made_is_loaded()
-    ensures ready { (call : SourceCall) (name : List ℕ) (files : List ReadFile)
-        → ReadsAll call name files → AreReady files name }
-    ensures ok { (call : SourceCall) (name : List ℕ) (files : List ReadFile)
-        (program : PlainProgram) →
-        ReadsAll call name files → Make files name program → Loads call name program }
-    ensures err { (call : SourceCall) (name : List ℕ) (files : List ReadFile)
-        (refusal : LoadRefusal) →
-        ReadsAll call name files → IsMakeCause files name refusal → IsLoadCause call name refusal }
-    ensures unread { (call : SourceCall) (name : List ℕ) (refusal : LoadRefusal)
-        → IsReadCause call name refusal → IsLoadCause call name refusal }
+    ensures ready { (call : SourceCall) (root name : List ℕ) (files : List ReadFile)
+        → ReadsAll call root name files → AreReady files (normal name) }
+    ensures ok { (call : SourceCall) (root name : List ℕ) (files : List ReadFile)
+        (program : PlainProgram) → ReadsAll call root name files
+        → Make files (normal name) program → Loads call root name program }
+    ensures err { (call : SourceCall) (root name : List ℕ) (files : List ReadFile)
+        (refusal : LoadRefusal) → ReadsAll call root name files
+        → IsMakeCause files (normal name) refusal → IsLoadCause call root name refusal }
+    ensures unread { (call : SourceCall) (root name : List ℕ) (refusal : LoadRefusal)
+        → IsReadCause call root name refusal → IsLoadCause call root name refusal }
+    ensures memory { (call : SourceCall) (root name : List ℕ) (files : List ReadFile)
+        → ReadsAll call root name files → IsLoadCause call root name Memory }
 {
     each_has_one_tree();
-    what_was_held();
     files_of_the_program();
     names_looked_at();
     read_files_are_whole();

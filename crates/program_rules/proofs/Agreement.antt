@@ -6,10 +6,11 @@ use Rattle.php_syntax.specs.Trees.{PlainStmt, inline_stmt, echo_stmt, run_stmt, 
 use Rattle.program_rules.specs.Files.{Held, HasOneTree}
 use Rattle.program_rules.specs.Includes.{includes_in, includes_of, includes_in_arms}
 use Rattle.program_rules.specs.Limits.{one_each, HasPlaces, counted}
-use Rattle.program_rules.specs.Expansion.{followed_by, with_bodies, with_bodies_in, with_bodies_in_arms, StandsFor, stands}
+use Rattle.program_rules.specs.Bodies.{followed_by, with_bodies, with_bodies_in, with_bodies_in_arms}
+use Rattle.program_rules.specs.Expansion.{StandsFor, stands}
 
 -- two ways to replace paths agree on some of them
-abbrev Agree : (List ℕ → PlainStmts) → (List ℕ → PlainStmts) → List (List ℕ) → Type 0
+abbrev pub Agree : (List ℕ → PlainStmts) → (List ℕ → PlainStmts) → List (List ℕ) → Type 0
 Agree p q paths = (path : List ℕ) → Contains paths path → p path ≡ q path
 
 agree_left : (p q : List ℕ → PlainStmts) (xs ys : List (List ℕ)) → Agree p q (xs ++ ys) → Agree p q xs
@@ -24,7 +25,7 @@ contains_first path paths = (0, omega arith, refl)
 mutual
   unfolding includes_in with_bodies
 
-  same_with : (p q : List ℕ → PlainStmts) (ss : PlainStmts) → Agree p q (includes_in ss) → with_bodies p ss ≡ with_bodies q ss
+  pub same_with : (p q : List ℕ → PlainStmts) (ss : PlainStmts) → Agree p q (includes_in ss) → with_bodies p ss ≡ with_bodies q ss
   same_with p q no_stmts h = refl
   same_with p q (more_stmts s ss) h =
       let a = same_in p q s (agree_left p q (includes_of s) (includes_in ss) h) in

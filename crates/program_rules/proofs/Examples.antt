@@ -4,7 +4,7 @@ use Rattle.std.specs.Prelude.{codes, pos}
 use Rattle.php_syntax.specs.Trees.{var_expr, int_expr, call_expr, no_expr, some_expr, no_exprs, more_exprs, PlainStmt, inline_stmt, run_stmt, while_stmt, include_stmt, PlainStmts, no_stmts, more_stmts, PlainParam, PlainFunction, PlainFile}
 use Rattle.script_meaning.specs.Programs.{PlainProgram, function_named}
 use Rattle.program_rules.specs.Includes.{includes_in, includes_of_file}
-use Rattle.program_rules.specs.Expansion.{with_bodies}
+use Rattle.program_rules.specs.Bodies.{with_bodies}
 use Rattle.program_rules.specs.Calls.{calls_of_program}
 use Rattle.program_rules.specs.Rules.{is_double, serves, serves_call, is_known}
 

@@ -1,2 +1,3 @@
 mod Agreement
 mod Examples
+pub mod PathLemmas

@@ -1,8 +1,9 @@
--- The includes of a file (PHP manual, "include" and "require"): a path is the name of a file as it is written.
-use Rattle.std.specs.Prelude.{ℕ, List, [], ◌∷◌, ◌++◌}
+-- The includes of a file (PHP manual, "include" and "require"), and which names a program reads and asks for by them.
+use Rattle.std.specs.Prelude.{◌≡◌, ℕ, List, [], ◌∷◌, ◌++◌, false}
 use Rattle.std.specs.List.{Contains}
 use Rattle.php_syntax.specs.Trees.{PlainStmt, inline_stmt, echo_stmt, run_stmt, if_stmt, while_stmt, do_while_stmt, for_stmt, each_stmt, break_stmt, continue_stmt, return_stmt, include_stmt, quit_stmt, PlainStmts, no_stmts, more_stmts, PlainArms, no_arms, more_arms, PlainFunction, PlainFile}
-use Rattle.program_rules.specs.Files.{Held, HasTree}
+use Rattle.io_edge.specs.Names.{beside, is_outside}
+use Rattle.program_rules.specs.Files.{Held, HasScript, HasTree, is_at_first}
 
 unfoldable mutual
   -- the paths of the includes among some statements, from the left
@@ -54,3 +55,22 @@ pub data LeadsTo (held : Held) : List ℕ → List ℕ → Type 0 where
       → LeadsTo held file path
   through : (file path further : List ℕ) (tree : PlainFile) → HasTree held file tree → Contains (includes_of_file tree) path
       → LeadsTo held path further → LeadsTo held file further
+
+-- in a file stands an include of this name, as it is written
+abbrev pub Writes : Held → List ℕ → List ℕ → Type 0
+Writes held file written = (script : PlainFile) × HasScript held file script × Contains (includes_of_file script) written
+
+-- the names that a program asks for: those that it reads, and the first place of each include in a file that it reads
+pub data Asks (held : Held) (name : List ℕ) : List ℕ → Type 0 where
+  to_read : (path : List ℕ) → Reads held name path → Asks held name path
+  first : (file written : List ℕ) → Reads held name file → Writes held file written → Asks held name (beside held.main written)
+
+-- an include of a file stays in a folder, the root: it leads out of it neither from the folder of the program's file nor, where it is not
+-- taken from there, from the folder of its own file
+pub record StaysInside (root : List ℕ) (held : Held) (file written : List ℕ) : Type 0 where
+  pub first : is_outside root held.main written ≡ false
+  pub second : is_at_first held written ≡ false → is_outside root file written ≡ false
+
+-- as each include in the files of a program does
+abbrev pub AllStayInside : List ℕ → Held → List ℕ → Type 0
+AllStayInside root held name = (file written : List ℕ) → Reads held name file → Writes held file written → StaysInside root held file written

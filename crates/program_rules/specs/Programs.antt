@@ -1,10 +1,10 @@
 -- Which program a file stands for.
-use Rattle.std.specs.Prelude.{◌≡◌, ℕ, ◌+◌, List, [], ◌∷◌, ◌++◌, Some, slice_get}
+use Rattle.std.specs.Prelude.{◌≡◌, ℕ, ◌+◌, List, [], ◌∷◌, ◌++◌, Some, None, slice_get}
 use Rattle.std.specs.List.{Contains}
 use Rattle.php_syntax.specs.Trees.{PlainFile, PlainFunction}
 use Rattle.script_meaning.specs.Programs.{PlainProgram}
 use Rattle.program_rules.specs.Files.{Held, HasTree}
-use Rattle.program_rules.specs.Includes.{Reads, LeadsTo}
+use Rattle.program_rules.specs.Includes.{Reads, Asks, LeadsTo}
 use Rattle.program_rules.specs.Expansion.{StandsFor, FunctionStandsFor}
 use Rattle.program_rules.specs.Rules.{KeepsRules}
 use Rattle.program_rules.specs.Limits.{HasPlaces, HavePlaces, IsWithin}
@@ -24,6 +24,16 @@ pub record AreRead (held : Held) (name : List ℕ) (files : List ReadFile) : Typ
   pub all : (path : List ℕ) → Reads held name path → (tree : PlainFile) × Contains files (record { name = path; tree = tree })
   pub once : (i j : ℕ) (path : List ℕ) (tree other : PlainFile) → StandsAt files i (record { name = path; tree = tree })
       → StandsAt files j (record { name = path; tree = other }) → i ≡ j
+
+-- no name stands twice in a list
+abbrev pub StandOnce : List (List ℕ) → Type 0
+StandOnce names = (i j : ℕ) (name : List ℕ) → slice_get names i ≡ Some name → slice_get names j ≡ Some name → i ≡ j
+
+-- these are the names that a program asks for and that are not there, each once
+pub record AreMissed (held : Held) (name : List ℕ) (missed : List (List ℕ)) : Type 0 where
+  pub each : (path : List ℕ) → Contains missed path → Asks held name path × (held.bytes path ≡ None)
+  pub all : (path : List ℕ) → Asks held name path → held.bytes path ≡ None → Contains missed path
+  pub once : StandOnce missed
 
 -- the functions of all files, each file's in turn
 unfoldable pub functions_in : List ReadFile → List PlainFunction

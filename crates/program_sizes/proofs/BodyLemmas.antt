@@ -1,12 +1,12 @@
 -- The size of statements by their parts is that of what they stand for.
 use Rattle.std.proofs.Common.{◌≡◌, ◌∙◌, ℕ, ◌+◌, max, List, [], ◌∷◌, ◌++◌, map, refl, sym, ap, arith}
 use Rattle.php_syntax.specs.Trees.{PlainStmt, inline_stmt, echo_stmt, run_stmt, if_stmt, while_stmt, do_while_stmt, for_stmt, each_stmt, break_stmt, continue_stmt, return_stmt, include_stmt, quit_stmt, PlainStmts, no_stmts, more_stmts, PlainArms, no_arms, more_arms, PlainParam, PlainFunction}
-use Rattle.php_syntax.specs.Height.{nodes, height, stmt_nodes, stmts_nodes, arms_nodes, stmt_height, stmts_height, arms_height, params_nodes, params_height, functions_nodes, functions_height, file_nodes, file_height}
+use Rattle.php_syntax.specs.Height.{stmt_nodes, stmts_nodes, arms_nodes, stmt_height, stmts_height, arms_height, params_nodes, params_height, functions_nodes, functions_height, file_nodes, file_height}
 use Rattle.program_rules.specs.Includes.{includes_in, includes_of, includes_in_arms}
-use Rattle.program_rules.specs.Expansion.{followed_by, with_bodies, with_bodies_in, with_bodies_in_arms}
+use Rattle.program_rules.specs.Bodies.{followed_by, with_bodies, with_bodies_in, with_bodies_in_arms, with_body}
 use Rattle.program_rules.specs.Limits.{one_each}
 use Rattle.program_rules.specs.Programs.{ReadFile}
-use Rattle.include_expansion.specs.Within.{bodies_within, places_within, with_body}
+use Rattle.include_expansion.specs.Within.{bodies_within, places_within}
 use Rattle.program_sizes.specs.declared.size.Size.{Size}
 use Rattle.program_sizes.specs.Sizes as sizes
 use Rattle.program_sizes.specs.Bodies.{of_body, body_of_path}

@@ -3,8 +3,9 @@ use Rattle.std.proofs.Common.{◌≡◌, ◌∙◌, ℕ, zero, suc, Bool, true, 
 use Rattle.std.specs.Prelude.{◌&&◌, ◌||◌, bytes_eq, nat_eq}
 use Rattle.std.specs.List.{Contains, list_any}
 use Rattle.std.specs.Cmp.Lexicographic.{pointwise}
+use Rattle.std.proofs.lemmas.List.{map-append}
 use Rattle.std.proofs.lemmas.List.Elements.{Contains-append_right}
-use Rattle.php_syntax.specs.Trees.{PlainStmts, PlainFunction}
+use Rattle.php_syntax.specs.Trees.{PlainStmts, PlainFunction, PlainFile}
 use Rattle.script_grammar.specs.Rules.{stmts_fit, params_fit, functions_fit, file_fits}
 use Rattle.spellable.specs.Spellable.{is_call_name, params_spellable, stmts_spellable, functions_spellable, is_spellable}
 use Rattle.builtin_meaning.specs.declared.builtin.Builtin.{Builtin}
@@ -12,16 +13,17 @@ use Rattle.builtin_meaning.specs.Names.{builtin_named}
 use Rattle.script_meaning.specs.Programs.{PlainProgram, function_named}
 use Rattle.program_rules.specs.Calls.{PlainCall, calls_of_program}
 use Rattle.program_rules.specs.Includes.{includes_in, includes_in_functions, includes_of_file}
-use Rattle.program_rules.specs.Expansion.{with_bodies}
+use Rattle.program_rules.specs.Bodies.{with_bodies, with_body, file_with_bodies, include_of}
+use Rattle.program_rules.proofs.PathLemmas.{twice, renamed}
 use Rattle.program_rules.specs.Limits.{as_file, IsWithin}
 use Rattle.program_rules.specs.Programs.{ReadFile, functions_in}
 use Rattle.program_rules.specs.Rules.{is_there, DefinesTwice, serves, serves_builtin, is_known, serves_call, KeepsRules}
 use Rattle.program_rules.specs.Lawful.{IsLawful}
-use Rattle.include_expansion.specs.Within.{tree_named, bodies_within, with_body, program_within}
+use Rattle.include_expansion.specs.Within.{tree_named, bodies_within, program_within}
 use Rattle.include_expansion.specs.FileCalls.{calls_in_files}
 use Rattle.program_sizes.specs.FileRules.{KeepFunctionRules}
 use Rattle.program_sizes.specs.Limits.{program_places}
-use Rattle.program_sizes.specs.Loaded.{AreScripts, MakeProgram}
+use Rattle.program_sizes.specs.Loaded.{IsOfScript, AreScripts, MakeProgram}
 
 left : (a b : Bool) → (a && b) ≡ true → a ≡ true
 left true b e = refl
@@ -97,16 +99,20 @@ rules_kept calls files n name rules = record {
 abbrev pub FormsAreKept : Type 0
 FormsAreKept = (bodies : List ℕ → PlainStmts) (ss : PlainStmts) → ((path : List ℕ) → stmts_spellable (bodies path) ≡ true) → stmts_spellable ss ≡ true → stmts_spellable (with_bodies bodies ss) ≡ true
 
-tree_spellable : (files : List ReadFile) → AreScripts files → (path : List ℕ) → stmts_spellable (tree_named files path).body_of ≡ true
+-- each tree has them
+abbrev AreForms : List ReadFile → Type 0
+AreForms files = (file : ReadFile) → Contains files file → is_spellable file.tree ≡ true
+
+tree_spellable : (files : List ReadFile) → AreForms files → (path : List ℕ) → stmts_spellable (tree_named files path).body_of ≡ true
 unfolding tree_named stmts_spellable
 tree_spellable [] are path = refl
 tree_spellable (f ∷ fs) are path = by (bytes_eq path f.name) (tree_spellable fs (λ file c. are file (Contains-append_right (f ∷ []) fs file c)) path)
   where
     by : (b : Bool) → stmts_spellable (tree_named fs path).body_of ≡ true → stmts_spellable (if b then f.tree else tree_named fs path).body_of ≡ true
-    by true rest = left (stmts_spellable f.tree.body_of) (functions_spellable f.tree.functions_of) (are f (0, omega arith, refl)).0
+    by true rest = left (stmts_spellable f.tree.body_of) (functions_spellable f.tree.functions_of) (are f (0, omega arith, refl))
     by false rest = rest
 
-bodies_spellable : FormsAreKept → (files : List ReadFile) → AreScripts files → (n : ℕ) (path : List ℕ) → stmts_spellable (bodies_within files n path) ≡ true
+bodies_spellable : FormsAreKept → (files : List ReadFile) → AreForms files → (n : ℕ) (path : List ℕ) → stmts_spellable (bodies_within files n path) ≡ true
 unfolding bodies_within stmts_spellable
 bodies_spellable kept files are zero path = refl
 bodies_spellable kept files are (suc n) path = kept (bodies_within files n) (tree_named files path).body_of (bodies_spellable kept files are n) (tree_spellable files are path)
@@ -120,11 +126,11 @@ append_spellable (f ∷ fs) gs e g =
     (both (params_spellable f.params_of) (stmts_spellable f.body_of && functions_spellable (fs ++ gs)) (left (params_spellable f.params_of) (stmts_spellable f.body_of && functions_spellable fs) rest)
     (both (stmts_spellable f.body_of) (functions_spellable (fs ++ gs)) (left (stmts_spellable f.body_of) (functions_spellable fs) last) (append_spellable fs gs (right (stmts_spellable f.body_of) (functions_spellable fs) last) g)))
 
-all_spellable : (files : List ReadFile) → AreScripts files → functions_spellable (functions_in files) ≡ true
+all_spellable : (files : List ReadFile) → AreForms files → functions_spellable (functions_in files) ≡ true
 unfolding functions_in
 all_spellable [] are = refl
 all_spellable (f ∷ fs) are =
-    append_spellable f.tree.functions_of (functions_in fs) (right (stmts_spellable f.tree.body_of) (functions_spellable f.tree.functions_of) (are f (0, omega arith, refl)).0) (all_spellable fs (λ file c. are file (Contains-append_right (f ∷ []) fs file c)))
+    append_spellable f.tree.functions_of (functions_in fs) (right (stmts_spellable f.tree.body_of) (functions_spellable f.tree.functions_of) (are f (0, omega arith, refl))) (all_spellable fs (λ file c. are file (Contains-append_right (f ∷ []) fs file c)))
 
 mapped_spellable : FormsAreKept → (bodies : List ℕ → PlainStmts) → ((path : List ℕ) → stmts_spellable (bodies path) ≡ true) → (fs : List PlainFunction) → functions_spellable fs ≡ true → functions_spellable (map (with_body bodies) fs) ≡ true
 mapped_spellable kept bodies h [] e = refl
@@ -137,30 +143,62 @@ mapped_spellable kept bodies h (f ∷ fs) e =
     (both (params_spellable f.params_of) (body && behind) (left (params_spellable f.params_of) (stmts_spellable f.body_of && functions_spellable fs) rest)
     (both body behind (kept bodies f.body_of h (left (stmts_spellable f.body_of) (functions_spellable fs) last)) (mapped_spellable kept bodies h fs (right (stmts_spellable f.body_of) (functions_spellable fs) last))))
 
-pub forms_kept : FormsAreKept → (files : List ReadFile) (n : ℕ) (name : List ℕ) → AreScripts files → is_spellable (as_file (program_within files n (tree_named files name))) ≡ true
-forms_kept kept files n name are =
+forms_of_files : FormsAreKept → (files : List ReadFile) (n : ℕ) (name : List ℕ) → AreForms files → is_spellable (as_file (program_within files n (tree_named files name))) ≡ true
+forms_of_files kept files n name are =
     let bodies = bodies_within files n in
     both (stmts_spellable (with_bodies bodies (tree_named files name).body_of)) (functions_spellable (map (with_body bodies) (functions_in files)))
     (kept bodies (tree_named files name).body_of (bodies_spellable kept files are n) (tree_spellable files are name))
     (mapped_spellable kept bodies (bodies_spellable kept files are n) (functions_in files) (all_spellable files are))
 
+-- the tree of a script has them, whatever the paths of its includes
+tree_forms : FormsAreKept → (tree : PlainFile) → IsOfScript tree → is_spellable tree ≡ true
+unfolding file_with_bodies stmts_spellable
+tree_forms kept tree of =
+    let g : List ℕ → PlainStmts = λ written. include_of (of.found written) in
+    let body = stmts_spellable of.script.body_of in
+    let functions = functions_spellable of.script.functions_of in
+    let whole : is_spellable (file_with_bodies g of.script) ≡ true =
+    both (stmts_spellable (with_bodies g of.script.body_of)) (functions_spellable (map (with_body g) of.script.functions_of)) (kept g of.script.body_of (λ path. refl) (left body functions of.spellable))
+    (mapped_spellable kept g (λ path. refl) of.script.functions_of (right body functions of.spellable)) in
+    ap (λ (t : PlainFile). is_spellable t) of.is ∙ whole
+
+pub forms_kept : FormsAreKept → (files : List ReadFile) (n : ℕ) (name : List ℕ) → AreScripts files → is_spellable (as_file (program_within files n (tree_named files name))) ≡ true
+forms_kept kept files n name are = forms_of_files kept files n name (λ file c. tree_forms kept file.tree (are file c))
+
 -- the rules beside the grammar
 abbrev pub RulesAreKept : Type 0
 RulesAreKept = (bodies : List ℕ → PlainStmts) (in_loop in_function : Bool) (ss : PlainStmts) → ((path : List ℕ) → stmts_fit false false (bodies path) ≡ true) → stmts_fit in_loop in_function ss ≡ true → stmts_fit in_loop in_function (with_bodies bodies ss) ≡ true
 
-tree_fits : (files : List ReadFile) → AreScripts files → (path : List ℕ) → stmts_fit false false (tree_named files path).body_of ≡ true
-unfolding tree_named stmts_fit
-tree_fits [] are path = refl
-tree_fits (f ∷ fs) are path = by (bytes_eq path f.name) (tree_fits fs (λ file c. are file (Contains-append_right (f ∷ []) fs file c)) path)
+-- what stands for the includes of statements fits
+abbrev Fit : (List ℕ → PlainStmts) → Type 0
+Fit bodies = (path : List ℕ) → stmts_fit false false (bodies path) ≡ true
+
+-- and so under other paths
+fit_renamed : (found : List ℕ → List ℕ) (bodies : List ℕ → PlainStmts) → Fit bodies → Fit (λ written. with_bodies bodies (include_of (found written)))
+fit_renamed found bodies h written = ap (λ (ss : PlainStmts). stmts_fit false false ss) (renamed bodies (found written)) ∙ h (found written)
+
+-- the statements of a script fit with whatever fits for its includes, whatever their paths
+body_fits : RulesAreKept → (tree : PlainFile) → IsOfScript tree → (bodies : List ℕ → PlainStmts) → Fit bodies → stmts_fit false false (with_bodies bodies tree.body_of) ≡ true
+unfolding file_with_bodies
+body_fits kept tree of bodies h =
+    let g : List ℕ → PlainStmts = λ written. include_of (of.found written) in
+    let same : tree.body_of ≡ with_bodies g of.script.body_of = ap (λ (t : PlainFile). t.body_of) of.is in
+    ap (λ (ss : PlainStmts). stmts_fit false false (with_bodies bodies ss)) same ∙ ap (λ (ss : PlainStmts). stmts_fit false false ss) (twice bodies g of.script.body_of)
+    ∙ kept (λ written. with_bodies bodies (g written)) false false of.script.body_of (fit_renamed of.found bodies h) (left (stmts_fit false false of.script.body_of) (functions_fit of.script.functions_of) of.fits)
+
+tree_fits : RulesAreKept → (files : List ReadFile) → AreScripts files → (path : List ℕ) (bodies : List ℕ → PlainStmts) → Fit bodies → stmts_fit false false (with_bodies bodies (tree_named files path).body_of) ≡ true
+unfolding tree_named stmts_fit with_bodies
+tree_fits kept [] are path bodies h = refl
+tree_fits kept (f ∷ fs) are path bodies h = by (bytes_eq path f.name) (tree_fits kept fs (λ file c. are file (Contains-append_right (f ∷ []) fs file c)) path bodies h)
   where
-    by : (b : Bool) → stmts_fit false false (tree_named fs path).body_of ≡ true → stmts_fit false false (if b then f.tree else tree_named fs path).body_of ≡ true
-    by true rest = left (stmts_fit false false f.tree.body_of) (functions_fit f.tree.functions_of) (are f (0, omega arith, refl)).1
+    by : (b : Bool) → stmts_fit false false (with_bodies bodies (tree_named fs path).body_of) ≡ true → stmts_fit false false (with_bodies bodies (if b then f.tree else tree_named fs path).body_of) ≡ true
+    by true rest = body_fits kept f.tree (are f (0, omega arith, refl)) bodies h
     by false rest = rest
 
 bodies_fit : RulesAreKept → (files : List ReadFile) → AreScripts files → (n : ℕ) (path : List ℕ) → stmts_fit false false (bodies_within files n path) ≡ true
 unfolding bodies_within stmts_fit
 bodies_fit kept files are zero path = refl
-bodies_fit kept files are (suc n) path = kept (bodies_within files n) false false (tree_named files path).body_of (bodies_fit kept files are n) (tree_fits files are path)
+bodies_fit kept files are (suc n) path = tree_fits kept files are path (bodies_within files n) (bodies_fit kept files are n)
 
 append_fits : (fs gs : List PlainFunction) → functions_fit fs ≡ true → functions_fit gs ≡ true → functions_fit (fs ++ gs) ≡ true
 append_fits [] gs e g = g
@@ -169,13 +207,7 @@ append_fits (f ∷ fs) gs e g =
     both (params_fit f.params_of) (stmts_fit false true f.body_of && functions_fit (fs ++ gs)) (left (params_fit f.params_of) (stmts_fit false true f.body_of && functions_fit fs) e)
     (both (stmts_fit false true f.body_of) (functions_fit (fs ++ gs)) (left (stmts_fit false true f.body_of) (functions_fit fs) rest) (append_fits fs gs (right (stmts_fit false true f.body_of) (functions_fit fs) rest) g))
 
-all_fit : (files : List ReadFile) → AreScripts files → functions_fit (functions_in files) ≡ true
-unfolding functions_in
-all_fit [] are = refl
-all_fit (f ∷ fs) are =
-    append_fits f.tree.functions_of (functions_in fs) (right (stmts_fit false false f.tree.body_of) (functions_fit f.tree.functions_of) (are f (0, omega arith, refl)).1) (all_fit fs (λ file c. are file (Contains-append_right (f ∷ []) fs file c)))
-
-mapped_fit : RulesAreKept → (bodies : List ℕ → PlainStmts) → ((path : List ℕ) → stmts_fit false false (bodies path) ≡ true) → (fs : List PlainFunction) → functions_fit fs ≡ true → functions_fit (map (with_body bodies) fs) ≡ true
+mapped_fit : RulesAreKept → (bodies : List ℕ → PlainStmts) → Fit bodies → (fs : List PlainFunction) → functions_fit fs ≡ true → functions_fit (map (with_body bodies) fs) ≡ true
 mapped_fit kept bodies h [] e = refl
 mapped_fit kept bodies h (f ∷ fs) e =
     let rest = right (params_fit f.params_of) (stmts_fit false true f.body_of && functions_fit fs) e in
@@ -184,12 +216,35 @@ mapped_fit kept bodies h (f ∷ fs) e =
     both (params_fit f.params_of) (body && behind) (left (params_fit f.params_of) (stmts_fit false true f.body_of && functions_fit fs) e)
     (both body behind (kept bodies false true f.body_of h (left (stmts_fit false true f.body_of) (functions_fit fs) rest)) (mapped_fit kept bodies h fs (right (stmts_fit false true f.body_of) (functions_fit fs) rest)))
 
+-- functions whose includes are replaced twice
+twice_in_functions : (b c : List ℕ → PlainStmts) (fs : List PlainFunction) → map (with_body b) (map (with_body c) fs) ≡ map (with_body (λ p. with_bodies b (c p))) fs
+twice_in_functions b c [] = refl
+twice_in_functions b c (f ∷ fs) =
+    ap (λ (ss : PlainStmts). let x : PlainFunction = record { name_of = f.name_of; params_of = f.params_of; body_of = ss } in x ∷ map (with_body b) (map (with_body c) fs)) (twice b c f.body_of)
+    ∙ ap (λ (gs : List PlainFunction). with_body (λ p. with_bodies b (c p)) f ∷ gs) (twice_in_functions b c fs)
+
+functions_of_script_fit : RulesAreKept → (tree : PlainFile) → IsOfScript tree → (bodies : List ℕ → PlainStmts) → Fit bodies → functions_fit (map (with_body bodies) tree.functions_of) ≡ true
+unfolding file_with_bodies
+functions_of_script_fit kept tree of bodies h =
+    let g : List ℕ → PlainStmts = λ written. include_of (of.found written) in
+    let same : tree.functions_of ≡ map (with_body g) of.script.functions_of = ap (λ (t : PlainFile). t.functions_of) of.is in
+    ap (λ (fs : List PlainFunction). functions_fit (map (with_body bodies) fs)) same ∙ ap (λ (fs : List PlainFunction). functions_fit fs) (twice_in_functions bodies g of.script.functions_of)
+    ∙ mapped_fit kept (λ written. with_bodies bodies (g written)) (fit_renamed of.found bodies h) of.script.functions_of (right (stmts_fit false false of.script.body_of) (functions_fit of.script.functions_of) of.fits)
+
+all_fit : RulesAreKept → (files : List ReadFile) → AreScripts files → (bodies : List ℕ → PlainStmts) → Fit bodies → functions_fit (map (with_body bodies) (functions_in files)) ≡ true
+unfolding functions_in
+all_fit kept [] are bodies h = refl
+all_fit kept (f ∷ fs) are bodies h =
+    ap (λ (gs : List PlainFunction). functions_fit gs) (map-append (with_body bodies) f.tree.functions_of (functions_in fs))
+    ∙ append_fits (map (with_body bodies) f.tree.functions_of) (map (with_body bodies) (functions_in fs)) (functions_of_script_fit kept f.tree (are f (0, omega arith, refl)) bodies h)
+    (all_fit kept fs (λ file c. are file (Contains-append_right (f ∷ []) fs file c)) bodies h)
+
 pub fits_kept : RulesAreKept → (files : List ReadFile) (n : ℕ) (name : List ℕ) → AreScripts files → file_fits (as_file (program_within files n (tree_named files name))) ≡ true
 fits_kept kept files n name are =
     let bodies = bodies_within files n in
     both (stmts_fit false false (with_bodies bodies (tree_named files name).body_of)) (functions_fit (map (with_body bodies) (functions_in files)))
-    (kept bodies false false (tree_named files name).body_of (bodies_fit kept files are n) (tree_fits files are name))
-    (mapped_fit kept bodies (bodies_fit kept files are n) (functions_in files) (all_fit files are))
+    (tree_fits kept files are name bodies (bodies_fit kept files are n))
+    (all_fit kept files are bodies (bodies_fit kept files are n))
 
 -- no include
 abbrev pub NoneIsLeft : Type 0

@@ -8,15 +8,16 @@ use Rattle.php_syntax.specs.Trees.{PlainStmts, PlainFunction, PlainFile}
 use Rattle.lexical_grammar.specs.Cuts.{Cuts}
 use Rattle.script_grammar.specs.Grammar.{SpellsTree, IsTooDeep}
 use Rattle.script_meaning.specs.Programs.{PlainProgram}
-use Rattle.program_rules.specs.Files.{Held, HasTree, HasOneTree}
+use Rattle.program_rules.specs.Files.{Held, found_name, with_found_names, HasTree, HasOneScript, HasOneTree}
 use Rattle.program_rules.specs.Includes.{includes_in, includes_in_functions, includes_of_file, Reads, itself, included, LeadsTo}
-use Rattle.program_rules.specs.Expansion.{with_bodies, StandsFor}
+use Rattle.program_rules.specs.Bodies.{with_bodies, with_body}
+use Rattle.program_rules.specs.Expansion.{StandsFor}
 use Rattle.program_rules.specs.Limits.{one_each, HasPlaces, HavePlaces, IsWithin}
 use Rattle.program_rules.specs.Limits as limits
 use Rattle.program_rules.specs.Programs.{ReadFile, AreRead, functions_in, TableStandsFor, HasNoCycle, IsProgram}
 use Rattle.program_rules.specs.Programs as programs
 use Rattle.program_files.specs.Order.{is_read, Reached}
-use Rattle.include_expansion.specs.Within.{tree_named, bodies_within, places_within, with_body, program_within, IsIncludeOrder, AreHeld}
+use Rattle.include_expansion.specs.Within.{tree_named, bodies_within, places_within, program_within, IsIncludeOrder, AreHeld}
 use Rattle.include_expansion.specs.FileOrder.{AreWhole}
 use Rattle.include_expansion.proofs.PlaceLemmas.{place_there, file_there, tree_there, read_here}
 use Rattle.spellable.proofs.BackFiles.{spelled_is_spellable}
@@ -31,11 +32,15 @@ OneTokenList = (file : List ℕ) (tokens others : List PlainToken) → Cuts file
 abbrev pub OneTree : Type 0
 OneTree = (tokens : List PlainToken) (a b : PlainFile) → (IsTooDeep tokens → ⊥) → SpellsTree tokens a → SpellsTree tokens b → a ≡ b
 
-pub one_tree_each : OneTokenList → OneTree → (held : Held) → HasOneTree held
-one_tree_each lists trees held name a b x y =
+pub one_script_each : OneTokenList → OneTree → (held : Held) → HasOneScript held
+one_script_each lists trees held name a b x y =
     let bytes : x.bytes ≡ y.bytes = same_Some x.bytes y.bytes (sym x.is_held ∙ y.is_held) in
     let tokens : x.tokens ≡ y.tokens = lists x.bytes x.tokens y.tokens x.cut (subst (λ (bs : List ℕ). Cuts bs y.tokens) (sym bytes) y.cut) in
     trees x.tokens a b x.within x.spelled (subst (λ (ts : List PlainToken). SpellsTree ts b) (sym tokens) y.spelled)
+
+pub one_tree_each : OneTokenList → OneTree → (held : Held) → HasOneTree held
+one_tree_each lists trees held name a b x y =
+    x.found ∙ ap (λ (s : PlainFile). with_found_names held name s) (one_script_each lists trees held name x.script y.script x.has_script y.has_script) ∙ sym y.found
 
 place_in : {X : Type 0} (xs : List X) (x : X) → Contains xs x → (i : ℕ) × (slice_get xs i ≡ Some x)
 place_in [] x c = absurd (let h = c.1 in omega arith)
@@ -164,7 +169,14 @@ is_program stand places circles calls reading held files order name program one 
     let P : PlainProgram → Type 0 = λ p. MakeProgram files order name p in
     subst (IsProgram held name) (sym made.program_is) (made_is_program stand places circles calls held files order name one (reading held name files one reached) (subst P made.program_is made))
 
--- each file is a script
+-- each file is one of a script
 pub are_scripts : (held : Held) (name : List ℕ) (files : List ReadFile) → AreRead held name files → AreScripts files
 are_scripts held name files read file c =
-    let has = (read.each file c).1 in (spelled_is_spellable has.bytes has.tokens file.tree has.cut has.spelled, has.spelled.fits)
+    let has = (read.each file c).1 in
+    let own = has.has_script in record {
+      script = has.script;
+      found = found_name held file.name;
+      is = has.found;
+      spellable = spelled_is_spellable own.bytes own.tokens has.script own.cut own.spelled;
+      fits = own.spelled.fits;
+    }

@@ -8,7 +8,7 @@ use Rattle.program_rules.specs.Includes.{includes_in}
 use Rattle.program_rules.specs.Limits.{one_each, as_file}
 use Rattle.program_rules.specs.Programs.{ReadFile, functions_in}
 use Rattle.program_files.specs.declared.refusal.LoadRefusal.{LoadRefusal}
-use Rattle.program_files.specs.declared.refusal.LoadRefusal.TheVariants.{Missing, ReadFault, TooLong, Script, IncludeCycle, DoubleFunction, UnknownFunction, Arity, TooMany, Memory}
+use Rattle.program_files.specs.declared.refusal.LoadRefusal.TheVariants.{Missing, Outside, ReadFault, TooLong, Script, IncludeCycle, DoubleFunction, UnknownFunction, Arity, TooMany, Memory}
 use Rattle.include_expansion.specs.Within.{places_within}
 
 -- the places of includes in the bodies of functions, where includes are replaced so many times over
@@ -32,6 +32,7 @@ PassesLimit places program count =
 -- why a program is too large
 abbrev pub IsSizeCause : ℕ → PlainProgram → LoadRefusal → Type 0
 IsSizeCause places program (Missing name) = ⊥
+IsSizeCause places program (Outside name) = ⊥
 IsSizeCause places program (ReadFault name) = ⊥
 IsSizeCause places program (TooLong name len) = ⊥
 IsSizeCause places program (Script name fault) = ⊥

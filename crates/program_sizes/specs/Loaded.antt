@@ -5,6 +5,7 @@ use Rattle.php_syntax.specs.Trees.{PlainFile}
 use Rattle.script_grammar.specs.Rules.{file_fits}
 use Rattle.spellable.specs.Spellable.{is_spellable}
 use Rattle.script_meaning.specs.Programs.{PlainProgram}
+use Rattle.program_rules.specs.Bodies.{file_with_bodies, include_of}
 use Rattle.program_rules.specs.Files.{Held, HasTree}
 use Rattle.program_rules.specs.Expansion.{StandsFor}
 use Rattle.program_rules.specs.Limits.{HasPlaces, HavePlaces, IsWithin}
@@ -13,9 +14,18 @@ use Rattle.include_expansion.specs.Within.{tree_named, program_within, IsInclude
 use Rattle.program_sizes.specs.FileRules.{KeepFunctionRules}
 use Rattle.program_sizes.specs.Limits.{program_places}
 
--- each tree has the forms of the grammar and keeps the rules beside it, as a tree that is read does
+-- a tree is that of a script with each include by another path, and the script has the forms of the grammar and keeps the rules beside it,
+-- as one that is read does
+pub record IsOfScript (tree : PlainFile) : Type 0 where
+  pub script : PlainFile
+  pub found : List ℕ → List ℕ
+  pub is : tree ≡ file_with_bodies (λ written. include_of (found written)) script
+  pub spellable : is_spellable script ≡ true
+  pub fits : file_fits script ≡ true
+
+-- each file is one of a script
 abbrev pub AreScripts : List ReadFile → Type 0
-AreScripts files = (file : ReadFile) → Contains files file → (is_spellable file.tree ≡ true) × (file_fits file.tree ≡ true)
+AreScripts files = (file : ReadFile) → Contains files file → IsOfScript file.tree
 
 -- files are those of a name, in an order of their includes, and keep the rules and the limits: their program
 pub record MakeProgram (files : List ReadFile) (order : List (List ℕ)) (name : List ℕ) (program : PlainProgram) : Type 0 where

@@ -3,7 +3,7 @@
 
 ghost use Rattle.std.specs.Prelude.{◌≡◌, ℕ, List, [], true, length};
 ghost use Rattle.script_meaning.specs.Programs.{PlainProgram};
-ghost use Rattle.program_rules.specs.Files.{Held, HasTree, HasOneTree};
+ghost use Rattle.program_rules.specs.Files.{Held, HasTree, HasOneScript, HasOneTree};
 ghost use Rattle.program_rules.specs.Programs.{ReadFile, IsProgram, HasNoCycle};
 ghost use Rattle.program_rules.specs.Lawful.{IsLawful};
 ghost use Rattle.program_files.specs.Order.{is_read, Reached};
@@ -19,9 +19,10 @@ use include_expansion::{
 use lexical_grammar::laws::one_token_list;
 use php_parser::laws::one_tree;
 
-/// Each file has one tree at most.
+/// Each file has one script at most, and one tree.
 pub fn each_has_one_tree()
-    ensures { (held : Held) → HasOneTree held }
+    ensures script { (held : Held) → HasOneScript held }
+    ensures tree { (held : Held) → HasOneTree held }
 {
     one_token_list();
     one_tree();

@@ -19,6 +19,7 @@ mod outcome;
 mod telling;
 mod words;
 
+use crate::telling::refuse;
 pub use answers::FileAnswer;
 pub use call_files::{CallFiles, LIST_NAME};
 pub use checks::{AskedFile, Checks};
@@ -28,7 +29,6 @@ pub use outcome::Outcome;
 use phpsa_main::phpsa;
 use phpsa_texts::{Exit, Refusal};
 use std::alloc::Global;
-pub use telling::refuse;
 use text_base::NoMemory;
 pub use words::asked_checks;
 

@@ -33,7 +33,7 @@ fn put<E: Sink>(err: &mut E, text: &[u8], status: Exit) -> Exit
 }
 
 /// Tells a refusal on the error stream, and gives the status that the call ends with.
-pub fn refuse<E: Sink>(refusal: &Refusal, err: &mut E) -> Exit
+pub(crate) fn refuse<E: Sink>(refusal: &Refusal, err: &mut E) -> Exit
     ensures { (out : Output) → GainsNothing out
         → Tells (replied_by (Err refusal.now)) (refused_by (Err refusal.now)) out
         (output_of (E.written err.old) (E.written err.new) (E.faults err.old) (E.faults err.new))

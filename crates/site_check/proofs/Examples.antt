@@ -7,7 +7,7 @@ use Rattle.std.specs.Str.Lossy.{utf8_lossy, utf8_valid_len}
 use Rattle.json.specs.Print.{escape_byte}
 use Rattle.io_edge.specs.Told.{Content, unasked, untold, known}
 use Rattle.site_check.specs.declared.line.Line.{Line}
-use Rattle.site_check.specs.declared.line.Line.TheVariants.{Yes, No, Refused}
+use Rattle.site_check.specs.declared.line.Line.TheVariants.{Yes, No, Pairs, Tags, Items, Refused}
 use Rattle.site_check.specs.declared.line.TheConstants.{MISSING_STATUS}
 use Rattle.site_check.specs.Site.{Moment, moment, IsAnswered, AreAnswered, refused_by}
 use Rattle.site_check.specs.Listed.{names_in, IsList}
@@ -93,3 +93,10 @@ a_report : report (codes "a.php" ∷ codes "b.php" ∷ []) (Yes ∷ Refused 3 (c
     ≡ codes "{\"answer\":\"yes\",\"file\":\"a.php\"}\n{\"answer\":\"refused\",\"file\":\"b.php\",\"status\":3,\"text\":\"Float b.php 11\"}\n"
 unfolding digits escape_byte utf8_lossy utf8_valid_len is_utf8 chars encode_utf8
 a_report = refl
+
+-- and one of each other kind
+other_lines : report (codes "a" ∷ codes "b" ∷ codes "c" ∷ codes "d" ∷ []) (No 30 ∷ Pairs 10001 4 ∷ Tags 2 7 ∷ Items 8000001 ∷ [])
+    ≡ codes "{\"answer\":\"no\",\"file\":\"a\",\"length\":30}\n{\"answer\":\"undecided\",\"count\":10001,\"file\":\"b\",\"height\":4,\"kind\":\"pairs\"}\n"
+    ++ codes "{\"answer\":\"undecided\",\"count\":2,\"file\":\"c\",\"height\":7,\"kind\":\"tags\"}\n{\"answer\":\"undecided\",\"count\":8000001,\"file\":\"d\",\"kind\":\"items\"}\n"
+unfolding digits escape_byte
+other_lines = refl

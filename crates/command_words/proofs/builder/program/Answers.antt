@@ -13,6 +13,6 @@ returns c =
     let s1 = c.in_ok-program.ensures.app ∙ ap₂ with_subcommand c.bare_program.ensures (ap top_by c.row_with-check.ensures) in
     let s2 = c.in_ok-program-2.ensures.app ∙ ap₂ with_subcommand s1 (ap top_by c.row_with-run.ensures) in
     let s3 = c.in_ok-program-3.ensures.app ∙ ap₂ with_subcommand s2 (ap top_by c.row_with-page.ensures) in
-    let s4 = c.in_ok-program-4.ensures.app ∙ ap₂ with_subcommand s3 (ap top_by c.bare_row-grammar.ensures) in
+    let s4 = c.in_ok-program-4.ensures.app ∙ ap₂ with_subcommand s3 (ap top_by c.row_with-grammar.ensures) in
     let s5 = c.in_ok-program-5.ensures.app ∙ ap₂ with_subcommand s4 (ap top_by c.row_with-make.ensures) in
     record { app = IfOk-weaker c.with_command-6.result _ _ (λ m h. h ∙ ap₂ with_subcommand s5 (ap top_by c.row_with-site.ensures)) c.with_command-6.ensures.app }

@@ -4,4 +4,4 @@ use Rattle.dtd_texts.proofs.Never.{never_larger}
 use Rattle.dtd_texts.proofs.laws.never_larger.Goals as goal
 
 pub returns : goal.returns
-returns c = λ content file s last told a comes. let up : UpTo s last = never_larger content file s last told a.reads comes in (up.length, up.references)
+returns c = λ content file s last told a comes. let up : UpTo s last = never_larger content file s last told a.reads comes in (up.length, up.references, up.passed)

@@ -1,4 +1,4 @@
-use Rattle.std.proofs.Common.{◌≡◌, ◌∙◌, ℕ, List, None, true, false, refl, sym, ap, subst}
+use Rattle.std.proofs.Common.{◌≡◌, ◌∙◌, ℕ, List, None, true, refl, sym, ap, subst}
 use Rattle.php_syntax.specs.declared.tree.Param.{Param}
 use Rattle.php_syntax.specs.Trees.{plain_function, params_of_list}
 use Rattle.builtin_meaning.specs.Names.{builtin_named}

@@ -1,4 +1,4 @@
-use Rattle.std.proofs.Common.{◌≡◌, ◌<◌, ◌+◌, ◌++◌, List, Result, Err, IfErr, drop, length, sym, subst, rules, arith}
+use Rattle.std.proofs.Common.{◌≡◌, ◌<◌, ◌+◌, ◌++◌, List, Err, IfErr, drop, length, sym, subst, rules, arith}
 use Rattle.php_syntax.specs.Trees.{PlainFunction, functions_of_list}
 use Rattle.program_files.specs.declared.refusal.LoadRefusal.{LoadRefusal}
 use Rattle.function_rules.specs.Causes.{IsDoubleCause}

@@ -1,7 +1,6 @@
 use Rattle.std.proofs.Common.{◌≡◌, ◌<◌, ◌≤◌, ◌+◌, length, drop, Err, IfErr, sym, subst, rules, arith}
 use Rattle.program_rules.specs.Programs.{functions_in}
 use Rattle.program_files.specs.View.{files_of}
-use Rattle.program_files.specs.declared.refusal.LoadRefusal.{LoadRefusal}
 use Rattle.function_rules.specs.Causes.{IsDoubleCause}
 use Rattle.function_rules.proofs.TableLemmas.{put_none, table_step, table_end, tree_there}
 use Rattle.function_rules.proofs.definitions.table_of.Goals as goal

@@ -1,5 +1,6 @@
 use Rattle.program_files.specs.View.{files_of}
-use Rattle.include_expansion.specs.Within.{bodies_within, with_body}
+use Rattle.program_rules.specs.Bodies.{with_body}
+use Rattle.include_expansion.specs.Within.{bodies_within}
 use Rattle.include_expansion.proofs.FileLemmas.{functions_step}
 use Rattle.include_expansion.proofs.functions.expand_all.Goals as goal
 

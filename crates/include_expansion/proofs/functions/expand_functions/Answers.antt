@@ -1,6 +1,7 @@
 use Rattle.php_syntax.specs.Trees.{plain_file, functions_of_list}
 use Rattle.program_files.specs.View.{files_of}
-use Rattle.include_expansion.specs.Within.{bodies_within, with_body}
+use Rattle.program_rules.specs.Bodies.{with_body}
+use Rattle.include_expansion.specs.Within.{bodies_within}
 use Rattle.include_expansion.proofs.FileLemmas.{files_step}
 use Rattle.include_expansion.proofs.functions.expand_functions.Goals as goal
 

@@ -2,7 +2,8 @@ use Rattle.std.proofs.Common.{◌≡◌, ◌++◌, drop, map}
 use Rattle.php_syntax.specs.Trees.{functions_of_list}
 use Rattle.program_rules.specs.Programs.{functions_in}
 use Rattle.program_files.specs.View.{files_of}
-use Rattle.include_expansion.specs.Within.{bodies_within, with_body}
+use Rattle.program_rules.specs.Bodies.{with_body}
+use Rattle.include_expansion.specs.Within.{bodies_within}
 use Rattle.include_expansion.proofs.functions.expand_functions.Given as goal
 
 abbrev pub invariant-loop-place : goal.invariant-loop-place

@@ -1,4 +1,4 @@
-use Rattle.include_expansion.proofs.ReadLemmas.{paths_read}
+use Rattle.program_files.proofs.ReachedLemmas.{paths_read}
 use Rattle.include_expansion.proofs.reading_laws.names_looked_at.Goals as goal
 
 pub returns : goal.returns

@@ -7,7 +7,7 @@ use Rattle.php_syntax.specs.declared.tree.Stmt.{Stmt}
 use Rattle.php_syntax.specs.Trees.{PlainStmts, plain_stmt, stmts_of, arms_of, plain_file}
 use Rattle.php_syntax.specs.Height.{stmt_height, stmts_height, arms_height}
 use Rattle.spellable.proofs.StmtHeights.{if_height, while_height, do_height, for_height, each_height, member_height, arm_height}
-use Rattle.program_rules.specs.Expansion.{followed_by, with_bodies, with_bodies_in_arms}
+use Rattle.program_rules.specs.Bodies.{followed_by, with_bodies, with_bodies_in_arms}
 use Rattle.program_files.specs.View.{files_of}
 use Rattle.include_expansion.specs.Within.{bodies_within}
 use Rattle.include_expansion.proofs.Measures.{reach_less, include_height}

@@ -1,7 +1,7 @@
 use Rattle.std.proofs.Common.{◌≡◌, ◌+◌, ◌*◌, drop}
 use Rattle.php_syntax.specs.Trees.{plain_stmt, stmts_of, arms_of}
 use Rattle.php_syntax.specs.Height.{stmt_height, stmts_height, arms_height}
-use Rattle.program_rules.specs.Expansion.{followed_by, with_bodies, with_bodies_in_arms}
+use Rattle.program_rules.specs.Bodies.{followed_by, with_bodies, with_bodies_in_arms}
 use Rattle.program_files.specs.View.{files_of}
 use Rattle.include_expansion.specs.Within.{bodies_within}
 use Rattle.include_expansion.proofs.Measures.{reach}

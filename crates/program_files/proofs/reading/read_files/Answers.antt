@@ -1,60 +1,96 @@
-use Rattle.std.proofs.Common.{◌<◌, ◌+◌, ℕ, zero, List, [], ◌∷◌, length, refl, sym, subst, arith}
-use Rattle.std.specs.List.{Contains}
-use Rattle.io_edge.proofs.Staying.{stays_same, stays_on}
+use Rattle.std.proofs.Common.{◌∙◌, ◌≤◌, ℕ, List, length, sym, subst, arith}
+use Rattle.std.proofs.lemmas.Result.{err_from_is_err_and}
+use Rattle.io_edge.proofs.Staying.{stays_on}
 use Rattle.spellable.proofs.ShapeLemmas.{utf8_so}
 use Rattle.program_rules.specs.declared.limits.TheConstants.{PLACE_LIMIT}
 use Rattle.program_rules.specs.Programs.{ReadFile}
-use Rattle.program_files.specs.Order.{Reached}
+use Rattle.program_files.specs.declared.places.Step.TheVariants as step
 use Rattle.program_files.specs.View.{files_of}
-use Rattle.program_files.specs.Source.{source_call, HasTold}
-use Rattle.program_files.proofs.ReadLemmas.{HasRead, has_later, begins, goes_on, refused, too_many, all_read, skips, one_longer}
-use Rattle.program_files.proofs.Utf8Paths.{each_utf8}
+use Rattle.program_files.specs.Source.{source_call}
+use Rattle.program_files.specs.Causes.{ReadsAll}
+use Rattle.program_files.specs.Steps.{state, IsNextPlace}
+use Rattle.program_files.proofs.HasRead.{HasRead, has_later}
+use Rattle.program_files.proofs.Steps.{passed}
+use Rattle.program_files.proofs.SoFar.{all_read}
+use Rattle.program_files.proofs.Beginning.{first_read}
+use Rattle.program_files.proofs.Refusals.{no_memory, no_memory_first}
+use Rattle.program_files.proofs.Loops.{are_texts, are_utf8, asked_so, next_state, smaller, refused_so, missing_so, outside_so, step_so, no_step}
 use Rattle.program_files.proofs.reading.read_files.Goals as goal
 
-pub loop-path-init : goal.loop-path-init
-loop-path-init g c =
-    let P : List ReadFile → Type 0 = λ fs. HasRead (source_call (g.F.Files.content c.args.source.now) (g.F.Files.faults c.args.source.now) (g.F.Files.faults c.args.source.now) (g.F.Files.misses c.args.source.now) (g.F.Files.misses c.args.source.now) (g.F.Files.reads c.args.source.now) (g.F.Files.reads c.args.source.now)) c.args.name.now fs c.in_ok-paths.paths in
-    let Q : List (List ℕ) → Type 0 = λ ps. HasRead (source_call (g.F.Files.content c.args.source.now) (g.F.Files.faults c.args.source.now) (g.F.Files.faults c.args.source.now) (g.F.Files.misses c.args.source.now) (g.F.Files.misses c.args.source.now) (g.F.Files.reads c.args.source.now) (g.F.Files.reads c.args.source.now)) c.args.name.now [] ps in
-    (subst P (sym c.new-files.ensures) (subst Q (sym c.in_ok-paths.ensures) (begins _ _ _ _ c.args.name.now)), stays_same _ _ refl)
+pub returns-in_err-main-clause-err : goal.returns-in_err-main-clause-err
+returns-in_err-main-clause-err g c =
+    let p = err_from_is_err_and c.from_residual.result c.from_residual.ensures.1 in
+    rw (p.1, p.2) (no_memory_first _ _ _ _ _ c.args.root.now c.args.name.now)
 
-pub loop-path-preserved : goal.loop-path-preserved
-loop-path-preserved g c =
-    let few : length (files_of c.loop-path.files) < PLACE_LIMIT + 1 = let h = c.if-len-gt-PLACE_LIMIT.false in let n = c.len.ensures in omega arith in
-    let has = has_later _ _ c.in-Ok.ensures.stays _ _ _ _ _ _ _ _ _ c.loop-path.invariant.0 in (
-      goes_on _ _ _ _ _ _ _ _ _ _ c.args.name.now c.in-Some.path _ _ _ _ _ has c.in-Some.ensures.0 c.in-Some.ensures.1 few c.in-Ok.ensures.ok,
-      stays_on _ _ _ c.loop-path.invariant.1 c.in-Ok.ensures.stays,
+pub loop-known-init : goal.loop-known-init
+loop-known-init g c =
+    let call = source_call (g.F.Files.content c.read_main.new.source) (g.F.Files.faults c.args.source.now) (g.F.Files.faults c.read_main.new.source) (g.F.Files.misses c.args.source.now) (g.F.Files.misses c.read_main.new.source) (g.F.Files.reads c.args.source.now) (g.F.Files.reads c.read_main.new.source) in
+    let a = c.in_ok-known.ensures.ok in
+    let few : 0 ≤ PLACE_LIMIT = omega arith in (
+      subst (λ (ms : List (List ℕ)). HasRead call c.args.root.now c.args.name.now (state (files_of c.in_ok-known.known.files) ms c.read_main.new.includes)) (sym a.1)
+          (first_read _ _ _ _ _ _ _ c.args.root.now c.args.name.now c.as_str.result.now _ _ (c.as_str.ensures.value ∙ c.in_ok-main.ensures) (utf8_so c.as_str.result.now c.as_str.utf8) a.0),
+      subst (λ (ms : List (List ℕ)). length ms ≤ PLACE_LIMIT) (sym a.1) few,
+      c.in_ok-known.ensures.stays,
     )
 
-pub loop-path-smaller : goal.loop-path-smaller
-loop-path-smaller g c =
-    let h = c.if-len-gt-PLACE_LIMIT.false in
-    let n = c.len.ensures in
-    let one = c.in-Ok.ensures.ok in
-    let size = one_longer (files_of c.loop-path.files) (files_of c.in-Ok.more) (record { name = c.in-Some.path; tree = one.tree }) one.more in
-    omega (arith, size)
+pub next_step-requires : goal.next_step-requires
+next_step-requires g c = are_texts _ c.args.root.now c.args.name.now _ c.loop-known.invariant.0
 
-pub read_one-requires : goal.read_one-requires
-read_one-requires g c =
-    let R : List (List ℕ) → Type 0 = λ ps. Reached (HasTold (g.F.Files.content c.loop-path.source)) c.args.name.now (files_of c.loop-path.files) ps in
-    let reached = subst R c.in-Some.ensures.0 (skips _ _ _ _ c.loop-path.invariant.0.reached) in
-    let first : Contains (c.in-Some.path ∷ c.next_path.new.paths) c.in-Some.path = (zero, omega arith, refl) in
-    record {
-      text = each_utf8 _ c.args.name.now (utf8_so c.args.name.now c.utf8.name) _ _ reached c.in-Some.path first;
-      new = c.in-Some.ensures.1;
-    }
-
-pub returns-then-len-gt-PLACE_LIMIT-clause-err : goal.returns-then-len-gt-PLACE_LIMIT-clause-err
-returns-then-len-gt-PLACE_LIMIT-clause-err g c =
-    let many : PLACE_LIMIT < length (files_of c.loop-path.files) = let h = c.if-len-gt-PLACE_LIMIT.true in let n = c.len.ensures in omega arith in
-    too_many _ _ _ _ _ _ _ c.args.name.now c.in-Some.path _ _ _ c.loop-path.invariant.0 c.in-Some.ensures.0 c.in-Some.ensures.1 many
+pub returns-in_err-step-clause-err : goal.returns-in_err-step-clause-err
+returns-in_err-step-clause-err g c =
+    let p = err_from_is_err_and c.from_residual-in_err-step.result c.from_residual-in_err-step.ensures.1 in
+    rw (p.1, p.2) (no_memory _ c.args.root.now c.args.name.now _ c.loop-known.invariant.0)
 
 pub returns-in-Err-clause-err : goal.returns-in-Err-clause-err
 returns-in-Err-clause-err g c =
-    let has = has_later _ _ c.in-Err.ensures.stays _ _ _ _ _ _ _ _ _ c.loop-path.invariant.0 in
-    refused _ _ _ _ _ _ _ _ _ _ c.args.name.now c.in-Some.path _ _ _ has c.in-Some.ensures.0 c.in-Some.ensures.1 c.in-Err.refusal c.in-Err.ensures.err
+    let root = c.args.root.now in
+    let name = c.args.name.now in
+    let path = c.as_str-in-Ask.result.now in
+    let s = step_so _ _ c.in_ok-step.field-0 c.in-Some.step (step.Ask c.in-Ask.place) c.in_ok-step.ensures c.in-Some.is c.in-Ask.is in
+    let has = has_later _ _ c.in-Err.ensures.stays _ _ _ _ _ _ root name _ c.loop-known.invariant.0 in
+    let place = subst (λ (x : List ℕ). IsNextPlace root c.as_str.result.now (files_of c.loop-known.known.files) c.loop-known.known.missed.keys s.0 x) (sym c.as_str-in-Ask.ensures.value) s.4 in
+    let asked = asked_so _ root name c.as_str.result.now _ _ _ c.next_step.new.includes s.1 s.0 path (c.as_str.ensures.value ∙ c.in_ok-main.ensures) has s.2 s.3 place in
+    refused_so _ _ _ _ _ _ _ _ _ _ root name _ _ _ path asked c.loop-known.invariant.1 c.in-Err.refusal c.in-Err.ensures.err
 
-pub returns-in-Err-clause-stays : goal.returns-in-Err-clause-stays
-returns-in-Err-clause-stays g c = stays_on _ _ _ c.loop-path.invariant.1 c.in-Err.ensures.stays
+pub loop-known-smaller : goal.loop-known-smaller
+loop-known-smaller g c =
+    smaller _ c.as_str-in-Ask.result.now (state (files_of c.loop-known.known.files) c.loop-known.known.missed.keys c.next_step.new.includes) (state (files_of c.in-Ok.more.files) c.in-Ok.more.missed.keys c.ask.new.includes) c.loop-known.invariant.0.few
+    c.loop-known.invariant.1 c.in-Ok.ensures.ok
+
+pub loop-known-preserved : goal.loop-known-preserved
+loop-known-preserved g c =
+    let root = c.args.root.now in
+    let name = c.args.name.now in
+    let path = c.as_str-in-Ask.result.now in
+    let s = step_so _ _ c.in_ok-step.field-0 c.in-Some.step (step.Ask c.in-Ask.place) c.in_ok-step.ensures c.in-Some.is c.in-Ask.is in
+    let has = has_later _ _ c.in-Ok.ensures.stays _ _ _ _ _ _ root name _ c.loop-known.invariant.0 in
+    let place = subst (λ (x : List ℕ). IsNextPlace root c.as_str.result.now (files_of c.loop-known.known.files) c.loop-known.known.missed.keys s.0 x) (sym c.as_str-in-Ask.ensures.value) s.4 in
+    let asked = asked_so _ root name c.as_str.result.now _ _ _ c.next_step.new.includes s.1 s.0 path (c.as_str.ensures.value ∙ c.in_ok-main.ensures) has s.2 s.3 place in
+    let next = next_state _ _ _ _ _ _ _ _ _ _ root name _ _ _ path _ asked (utf8_so path c.as_str-in-Ask.utf8) c.loop-known.invariant.1 c.in-Ok.ensures.ok in
+    (next.0, next.1, stays_on _ _ _ c.loop-known.invariant.2 c.in-Ok.ensures.stays)
+
+pub returns-in-Missing-clause-err : goal.returns-in-Missing-clause-err
+returns-in-Missing-clause-err g c =
+    let s = step_so _ _ c.in_ok-step.field-0 c.in-Some.step (step.Missing c.in-Missing.written) c.in_ok-step.ensures c.in-Some.is c.in-Missing.is in
+    missing_so _ c.args.root.now c.args.name.now c.as_str.result.now _ _ _ s.1 s.0 c.in-Missing.written (c.as_str.ensures.value ∙ c.in_ok-main.ensures) c.loop-known.invariant.0 s.2 s.3
+
+pub returns-in-Outside-clause-err : goal.returns-in-Outside-clause-err
+returns-in-Outside-clause-err g c =
+    let s = step_so _ _ c.in_ok-step.field-0 c.in-Some.step (step.Outside c.in-Outside.written) c.in_ok-step.ensures c.in-Some.is c.in-Outside.is in
+    outside_so _ c.args.root.now c.args.name.now c.as_str.result.now _ _ _ s.1 s.0 c.in-Outside.written (c.as_str.ensures.value ∙ c.in_ok-main.ensures) c.loop-known.invariant.0 s.2 s.3
+
+pub with_found_names-requires : goal.with_found_names-requires
+with_found_names-requires g c = are_utf8 _ c.args.root.now c.args.name.now _ c.loop-known.invariant.0
+
+pub returns-in_err-files-clause-err : goal.returns-in_err-files-clause-err
+returns-in_err-files-clause-err g c =
+    let p = err_from_is_err_and c.from_residual-in_err-files.result c.from_residual-in_err-files.ensures.1 in
+    rw (p.1, p.2) (no_memory _ c.args.root.now c.args.name.now _ c.loop-known.invariant.0)
 
 pub returns-clause-ok : goal.returns-clause-ok
-returns-clause-ok g c = all_read _ _ _ _ _ _ _ c.args.name.now _ _ c.loop-path.invariant.0 c.in_default.ensures.0
+returns-clause-ok g c =
+    let is = c.as_str.ensures.value ∙ c.in_ok-main.ensures in
+    let passes = no_step _ _ c.in_ok-step.field-0 c.in_ok-step.ensures c.in_default.is in
+    let has = passed _ c.args.root.now c.args.name.now c.as_str.result.now _ _ _ _ is c.loop-known.invariant.0 passes in
+    let call = source_call (g.F.Files.content c.loop-known.source) (g.F.Files.faults c.args.source.now) (g.F.Files.faults c.loop-known.source) (g.F.Files.misses c.args.source.now) (g.F.Files.misses c.loop-known.source) (g.F.Files.reads c.args.source.now) (g.F.Files.reads c.loop-known.source) in
+    subst (λ (fs : List ReadFile). ReadsAll call c.args.root.now c.args.name.now fs) (sym c.in_ok-files.ensures) (all_read _ c.args.root.now c.args.name.now c.as_str.result.now _ _ is has c.loop-known.invariant.1)

@@ -1,7 +1,7 @@
 use Rattle.std.proofs.Common.{◌≡◌, ◌∙◌, List, ap}
 use Rattle.php_syntax.specs.declared.tree.Stmt.{Stmt}
 use Rattle.php_syntax.specs.Trees.{plain_file, stmts_of, functions_of_list}
-use Rattle.program_rules.specs.Expansion.{with_bodies}
+use Rattle.program_rules.specs.Bodies.{with_bodies}
 use Rattle.program_rules.specs.Lawful.{program_with}
 use Rattle.program_files.specs.View.{files_of}
 use Rattle.include_expansion.specs.Within.{bodies_within}

@@ -1,0 +1,26 @@
+//! Which command takes which option.
+
+ghost use Rattle.std.specs.Prelude.{◌≡◌};
+ghost use Rattle.call_options.specs.Words as spec;
+
+/// Whether the command of this word takes this option.
+pub(crate) fn takes(word: &str, name: &str) -> bool
+    ensures { result ≡ spec.takes word.now name.now }
+{
+    if word == "check" {
+        return name == "dtd" || name == "limit" || name == "root";
+    }
+    if word == "run" {
+        return name == "request" || name == "steps" || name == "root";
+    }
+    if word == "page" {
+        return name == "dtd" || name == "root";
+    }
+    if word == "grammar" {
+        return name == "root";
+    }
+    if word == "make" {
+        return false;
+    }
+    word == "site" && (name == "dtd" || name == "limit" || name == "root")
+}
