@@ -104,7 +104,8 @@ pub fn check_each<F: Files, O: Sink, E: Sink>(
         (output_of (E.written err.old) (E.written err.new) (E.faults err.old) (E.faults err.new))
         result }
 {
-    if let Some(refusal) = miscount(alloc, checks.files.len()) {
+    let names = checks.files.as_slice();
+    if let Some(refusal) = miscount(alloc, names.len()) {
         return refuse(&refusal, err);
     }
     if asks_json(checks.options.as_slice()) {

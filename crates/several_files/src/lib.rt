@@ -53,7 +53,8 @@ pub fn answer<F: Files, O: Sink, E: Sink>(
         Err(NoMemory) => refuse(&Refusal::Memory, err),
         Ok(None) => phpsa(alloc, words, files, out, err),
         Ok(Some(checks)) => {
-            if checks.files.len() > 1 {
+            let names = checks.files.as_slice();
+            if names.len() > 1 {
                 check_each(alloc, &checks, files, out, err)
             } else {
                 phpsa(alloc, words, files, out, err)
