@@ -1,6 +1,6 @@
 -- A call on one file.
-use Rattle.std.proofs.Common.{◌≡◌, ◌∙◌, ◌++◌, ℕ, List, [], Bool, true, false, refl, sym, ap, subst, inl, inr}
-use Rattle.std.specs.Prelude.{◌⊎◌, Option, Some, Result, Ok, Err}
+use Rattle.std.proofs.Common.{◌≡◌, ◌∙◌, ℕ, List, [], true, false, refl, sym, ap, subst, inl, inr}
+use Rattle.std.specs.Prelude.{◌⊎◌, Option, Some, Result, Err}
 use Rattle.io_edge.specs.Told.{Content}
 use Rattle.phpsa_texts.specs.declared.exit.Exit.{Exit}
 use Rattle.phpsa_texts.specs.declared.exit.Exit.TheVariants as exit
@@ -13,10 +13,9 @@ use Rattle.several_files.specs.declared.answers.FileAnswer.{FileAnswer}
 use Rattle.several_files.specs.Files.{told_beside, inner_of, list_of, read_count}
 use Rattle.several_files.specs.Words.{FileName}
 use Rattle.several_files.specs.Lines.{Answer, text_of}
-use Rattle.several_files.specs.Calls.{Moment, moment, between, call_words, ends_all, IsCalled, IsAnswer, EndsAll}
+use Rattle.several_files.specs.Calls.{Moment, moment, between, call_words, ends_all, IsCalled, IsAnswer}
 use Rattle.several_files.specs.Telling.{refused_by}
-use Rattle.several_files.specs.Endings.{moment_of, is_wanting, IsAnswerOr}
-use Rattle.several_files.specs.Views.{answer_as}
+use Rattle.several_files.specs.Endings.{moment_of, IsAnswerOr}
 
 -- a source with the same parts stands at the same moment
 pub same_moment : (F : Type 0) (content : F → Content) (faults misses : F → ℕ) (a b : CallFiles F) → inner_of b ≡ inner_of a → list_of b ≡ list_of a

@@ -10,7 +10,7 @@ use Rattle.phpsa_texts.specs.Texts.{IsTold, list_text, memory_text}
 use Rattle.several_files.specs.Words.{Checks}
 use Rattle.several_files.specs.Calls.{Moment}
 use Rattle.several_files.specs.Telling.{replied_by, refused_by}
-use Rattle.several_files.specs.Endings.{OwesReport, OwesRefusal, wants_memory, OwesListRefusal, OwesCount, is_wanting, IsReportOr, IsListForOr}
+use Rattle.several_files.specs.Endings.{OwesReport, OwesRefusal, OwesListRefusal, OwesCount, is_wanting, IsReportOr, IsListForOr}
 
 -- a refusal that is told, by its status and text
 pub told_refusal : (refusal : Refusal) (status : Exit) (text : List ℕ) → IsTold refusal status text

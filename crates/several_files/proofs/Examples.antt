@@ -1,10 +1,10 @@
 -- The definitions of `specs/` on worked examples and on near misses.
-use Rattle.std.proofs.Common.{◌≡◌, ◌++◌, ℕ, List, [], ◌∷◌, refl}
-use Rattle.std.specs.Prelude.{Bool, true, false, Option, None, Some, codes}
+use Rattle.std.proofs.Common.{◌≡◌, ◌++◌, [], ◌∷◌, refl}
+use Rattle.std.specs.Prelude.{false, None, Some, codes}
 use Rattle.phpsa_texts.specs.declared.exit.Exit.{Exit}
 use Rattle.phpsa_texts.specs.declared.exit.Exit.TheVariants as exit
-use Rattle.several_files.specs.Words.{FileName, Checks, given, asked_checks}
-use Rattle.several_files.specs.Lines.{Answer, first_line, told, report_status, text_of}
+use Rattle.several_files.specs.Words.{given, asked_checks}
+use Rattle.several_files.specs.Lines.{Answer, first_line, report_status, text_of}
 use Rattle.several_files.specs.Listing.{is_listable, list_of, without_json}
 
 -- the value of an option is no name, and `-` alone is one

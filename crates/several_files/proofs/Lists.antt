@@ -1,7 +1,6 @@
 -- Lists for `site`.
-use Rattle.std.proofs.Common.{◌≡◌, ◌∙◌, ℕ, List, [], ◌∷◌, map, Bool, false, refl, sym, ap, subst, inl, inr}
-use Rattle.std.specs.Prelude.{◌⊎◌, Result, Ok, Err, Some, string_bytes}
-use Rattle.phpsa_texts.specs.declared.exit.Exit.{Exit}
+use Rattle.std.proofs.Common.{◌≡◌, ℕ, List, [], ◌∷◌, map, false, refl, sym, ap, subst, inl, inr}
+use Rattle.std.specs.Prelude.{Result, Err, Some, string_bytes}
 use Rattle.phpsa_texts.specs.declared.exit.Exit.TheVariants as exit
 use Rattle.phpsa_texts.specs.declared.message.Refusal.{Refusal}
 use Rattle.phpsa_texts.specs.Texts.{IsTold, memory_text, usage_text}

@@ -1,6 +1,6 @@
 -- Ways in which several files are checked.
-use Rattle.std.proofs.Common.{◌≡◌, ◌∙◌, ℕ, List, Bool, true, false, length, refl, sym, ap, subst, inl, inr}
-use Rattle.std.specs.Prelude.{◌⊎◌, Option, Some, None, Result, Ok, Err}
+use Rattle.std.proofs.Common.{◌≡◌, ℕ, List, true, false, length, sym, ap, subst, inl, inr}
+use Rattle.std.specs.Prelude.{Option, Some, Result, Err}
 use Rattle.io_edge.specs.Told.{Content}
 use Rattle.site_check.specs.Listed.{IsCount}
 use Rattle.site_check.specs.declared.list_refusal.ListRefusal.TheVariants.{Names}
@@ -14,7 +14,7 @@ use Rattle.phpsa_tasks.specs.Keeps.{Keeps}
 use Rattle.several_files.specs.declared.call_files.CallFiles.{CallFiles}
 use Rattle.several_files.specs.Files.{told_beside, inner_of, list_of, read_count}
 use Rattle.several_files.specs.Words.{Checks}
-use Rattle.several_files.specs.Calls.{Moment, moment, between}
+use Rattle.several_files.specs.Calls.{Moment, between}
 use Rattle.several_files.specs.Listing.{asks_json, site_words}
 use Rattle.several_files.specs.Telling.{Tells, replied_by, refused_by}
 use Rattle.several_files.specs.Endings.{moment_of, is_wanting, owes_nothing, OwesReport, OwesRefusal, wants_memory, OwesCount, OwesListRefusal, owes, IsListFor, IsListForOr, IsReportOr, CallsSite, ChecksEach, miscounts, reports, reports_json, refuses_json, IsSiteOr, IsCountOr}

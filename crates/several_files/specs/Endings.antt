@@ -1,5 +1,5 @@
 -- How a call of the program on several files ends; this project's own.
-use Rattle.std.specs.Prelude.{◌≡◌, ◌⊎◌, ℕ, nat_lt, List, [], ◌∷◌, length, map, Bool, true, false, Option, None, Some, Result, Ok, Err, ⊤}
+use Rattle.std.specs.Prelude.{◌≡◌, ◌⊎◌, ℕ, nat_lt, List, length, map, Bool, true, false, Option, None, Some, Result, Ok, Err}
 use Rattle.io_edge.specs.Told.{Content}
 use Rattle.site_check.specs.Listed.{IsCount}
 use Rattle.site_check.specs.declared.list_refusal.ListRefusal.TheVariants.{Names}

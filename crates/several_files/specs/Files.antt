@@ -1,6 +1,6 @@
 -- A source over another one that holds a list of names beside it; this project's own.
 use Rattle.std.specs.Prelude.{ℕ, List, Option, None, Some, if◌then◌else◌, bytes_eq}
-use Rattle.io_edge.specs.Told.{Told, Content, known}
+use Rattle.io_edge.specs.Told.{Content, known}
 use Rattle.several_files.specs.declared.call_files.CallFiles.{CallFiles}
 use Rattle.several_files.specs.declared.call_files.TheConstants.{LIST_NAME}
 

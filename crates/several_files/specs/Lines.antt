@@ -1,5 +1,5 @@
 -- The report on several files; this project's own.
-use Rattle.std.specs.Prelude.{◌≡◌, ◌==◌, ◌+◌, ◌++◌, ◌&&◌, ℕ, List, [], ◌∷◌, map, Bool, true, false, not, if◌then◌else◌, bytes_eq, nat_lt, codes, ⊤}
+use Rattle.std.specs.Prelude.{◌==◌, ◌+◌, ◌++◌, ◌&&◌, ℕ, List, [], ◌∷◌, Bool, true, false, not, if◌then◌else◌, bytes_eq, codes}
 use Rattle.std.specs.Fmt.{decimal}
 use Rattle.std.specs.List.{filter, list_any}
 use Rattle.io_edge.specs.Names.{normal}

@@ -1,5 +1,5 @@
 -- The names of several files as a list for `site`; this project's own.
-use Rattle.std.specs.Prelude.{◌==◌, ◌++◌, ◌&&◌, ◌||◌, ℕ, List, [], ◌∷◌, Bool, true, false, not, if◌then◌else◌, bytes_eq, codes}
+use Rattle.std.specs.Prelude.{◌==◌, ◌++◌, ◌&&◌, ℕ, List, [], ◌∷◌, Bool, false, not, if◌then◌else◌, bytes_eq, codes}
 use Rattle.std.specs.List.{list_all, list_any}
 use Rattle.several_files.specs.declared.call_files.TheConstants.{LIST_NAME}
 use Rattle.several_files.specs.declared.listing.TheConstants.{UNLISTABLE}

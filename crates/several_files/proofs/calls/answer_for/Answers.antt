@@ -5,7 +5,7 @@ use Rattle.phpsa_texts.specs.declared.message.Refusal.{Refusal}
 use Rattle.several_files.specs.Lines.{text_of}
 use Rattle.several_files.specs.Calls.{call_words, IsCalled}
 use Rattle.several_files.specs.Endings.{moment_of}
-use Rattle.several_files.specs.Views.{answer_as, file_as}
+use Rattle.several_files.specs.Views.{file_as}
 use Rattle.several_files.proofs.Calling.{answers, called, called_between, ends, same_moment, wants}
 use Rattle.several_files.proofs.calls.answer_for.Goals as goal
 

@@ -1,8 +1,7 @@
-use Rattle.std.proofs.Common.{rules, ◌≡◌, ◌∙◌, ◌++◌, ◌∷◌, [], List, map, refl, sym, ap, subst}
+use Rattle.std.proofs.Common.{rules, ◌≡◌, ◌∙◌, ◌∷◌, [], map, sym, ap, subst}
 use Rattle.std.specs.Prelude.{Err, IfErr, string_bytes}
 use Rattle.std.proofs.lemmas.List.{map-append}
 use Rattle.phpsa_texts.specs.declared.message.Refusal.{Refusal}
-use Rattle.several_files.specs.Calls.{Moment}
 use Rattle.several_files.specs.Endings.{moment_of, AreRefused}
 use Rattle.several_files.specs.Views.{answer_as, file_as}
 use Rattle.several_files.proofs.Chains.{answered_more, refused_at, refused_by_want}

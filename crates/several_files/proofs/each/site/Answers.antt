@@ -1,4 +1,4 @@
-use Rattle.std.proofs.Common.{◌≡◌, ◌∙◌, List, map, refl, ap, inl, inr}
+use Rattle.std.proofs.Common.{◌∙◌, List, map, refl, ap, inl, inr}
 use Rattle.std.specs.Prelude.{string_bytes}
 use Rattle.several_files.specs.Listing.{site_words}
 use Rattle.several_files.specs.Endings.{moment_of}

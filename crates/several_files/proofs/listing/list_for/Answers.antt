@@ -1,4 +1,4 @@
-use Rattle.std.proofs.Common.{rules, ◌≡◌, ◌∙◌, ℕ, List, Bor, map, true, false, refl, sym, ap, subst}
+use Rattle.std.proofs.Common.{rules, ◌≡◌, ◌∙◌, ℕ, List, Bor, map, true, false, refl, ap, subst}
 use Rattle.std.specs.Prelude.{Err, string_bytes}
 use Rattle.phpsa_texts.specs.declared.message.Refusal.{Refusal}
 use Rattle.several_files.specs.declared.answers.FileAnswer.{FileAnswer}
