@@ -6,10 +6,12 @@ use Rattle.phpsa_texts.specs.declared.exit.Exit.TheVariants as exit
 use Rattle.phpsa_texts.specs.declared.message.Message.{Message}
 use Rattle.phpsa_texts.specs.declared.message.Refusal.{Refusal}
 use Rattle.phpsa_texts.specs.Texts.{memory_text}
+use Rattle.site_check.specs.Listed.{names_in}
 use Rattle.several_files.specs.Words.{Checks}
 use Rattle.several_files.specs.Lines.{Answer, told, report, report_status}
 use Rattle.several_files.specs.Calls.{Moment, AreAnswers}
 use Rattle.several_files.specs.Endings.{OwesReport, ended, wants_memory, owes, unlistable, AreNamesFor, AreRefused, IsReportOr, IsListOr, IsListForOr}
+use Rattle.several_files.proofs.Lists.{names_read}
 
 -- a report is made
 pub report_made : (checks : Checks) (before now : Moment) (status : Exit) (text : List ℕ) (answers shown : List Answer)
@@ -37,7 +39,8 @@ report_wants checks before now result is =
 -- a list of names for `site`
 pub list_made : (checks : Checks) (before now : Moment) (names : List (List ℕ)) (result : Result (List ℕ) Refusal) → AreNamesFor checks before now names
     → IsListOr names result → IsListForOr checks before now result
-list_made checks before now names (Ok list) are (listable, is) = record { names = names; are = are; listable = listable; list_is = is }
+list_made checks before now names (Ok list) are (listable, is) =
+    record { names = names; are = are; listable = listable; list_is = is; read = ap names_in is ∙ names_read names listable }
 list_made checks before now names (Err refusal) are (s, t, by, inl (none, status, text)) = (s, t, by, unlistable names are none status text)
 list_made checks before now names (Err refusal) are (s, t, by, inr w) = (s, t, by, owes (wants_memory w))
 

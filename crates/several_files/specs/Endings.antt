@@ -1,7 +1,7 @@
 -- How a call of the program on several files ends; this project's own.
 use Rattle.std.specs.Prelude.{◌≡◌, ◌⊎◌, ℕ, nat_lt, List, length, map, Bool, true, false, Option, None, Some, Result, Ok, Err}
 use Rattle.io_edge.specs.Told.{Content}
-use Rattle.site_check.specs.Listed.{IsCount}
+use Rattle.site_check.specs.Listed.{IsCount, names_in}
 use Rattle.site_check.specs.declared.list_refusal.ListRefusal.TheVariants.{Names}
 use Rattle.phpsa_texts.specs.declared.exit.Exit.{Exit}
 use Rattle.phpsa_texts.specs.declared.exit.Exit.TheVariants as exit
@@ -54,12 +54,13 @@ pub data AreNamesFor (checks : Checks) (before now : Moment) (names : List (List
   told_names : has_found checks.files ≡ true → (answers : List Answer) → AreAnswers checks.options before now checks.files answers
       → names ≡ map (λ answer. answer.file.name) (told answers) → AreNamesFor checks before now names
 
--- a list for `site` has these names, one a line, all of which may stand in one
+-- a list for `site` has these names, one a line, all of which may stand in one, and `site` reads these names in it
 pub record IsListFor (checks : Checks) (before now : Moment) (list : List ℕ) : Type 0 where
   pub names : List (List ℕ)
   pub are : AreNamesFor checks before now names
   pub listable : are_listable names ≡ true
   pub list_is : list ≡ listing.list_of names
+  pub read : names_in list ≡ names
 
 -- and a refusal is due in its place, as above, or since one of the names cannot stand in a list
 pub data OwesListRefusal (checks : Checks) (before now : Moment) (status : Exit) (text : List ℕ) : Type 0 where
