@@ -83,7 +83,7 @@ printf '%s%%e20000;' "<!ENTITY % e0 '<!ELEMENT html EMPTY>'>$(awk 'BEGIN { for (
 row 0,1,10 page page.php --dtd within.dtd
 mkdir folder
 for ((n = 0; n < 300; n++)); do
-  printf '<!ENTITY %% x%d SYSTEM "folder/%d.dtd">%%x%d;' "$n" $((n + 1)) "$n" >folder/$n.dtd
+  printf '<!ENTITY %% x%d SYSTEM "%d.dtd">%%x%d;' "$n" $((n + 1)) "$n" >folder/$n.dtd
 done
 printf '<!ELEMENT html EMPTY>' >folder/300.dtd
 row 0,1,3,10 page page.php --dtd folder/0.dtd

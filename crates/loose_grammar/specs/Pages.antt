@@ -12,6 +12,7 @@ use Rattle.flow_code.specs.Flat.{flat}
 use Rattle.loose_sets.specs.Loose.{Loose}
 use Rattle.op_system.specs.declared.system.OpSystem.{OpSystem}
 use Rattle.op_bytes.specs.Texts.{TextOf}
+use Rattle.equal_sets.specs.Joined.{IsJoined}
 use Rattle.resolving.specs.Drafted.{IsResolved}
 use Rattle.useful_nonterminals.specs.Trimmed.{IsTrimmed}
 use Rattle.extraction.specs.Rules.{AreLooseRules}
@@ -36,12 +37,14 @@ pub record IsProgramSystem (program : PlainProgram) (system : OpSystem) : Type 0
   pub rules : AreLooseRules (flat program) system
   pub made : IsMade (flat program) system
 
--- the grammar is that of the loose pages which is made of the program: of its system, with each operation added once, without what is
--- useless
+-- the grammar is that of the loose pages which is made of the program: of its system, in which equal sets are one, with each operation added
+-- once, without what is useless
 pub record IsPageGrammar (program : PlainProgram) (grammar : Grammar) : Type 0 where
   pub system : OpSystem
   pub of_program : IsProgramSystem program system
+  pub joined : OpSystem
+  pub is_joined : IsJoined system joined
   pub resolved : Grammar
-  pub of_system : IsResolved system resolved
+  pub of_system : IsResolved joined resolved
   pub trimmed : IsTrimmed resolved.productions.items resolved.start resolved.count grammar.productions.items grammar.start grammar.count
   pub pages : DerivePages program grammar.productions.items grammar.start

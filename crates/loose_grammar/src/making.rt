@@ -8,6 +8,7 @@ ghost use Rattle.flow_code.specs.Flat.{flat};
 ghost use Rattle.flow_code.specs.View.{plain_flow};
 ghost use Rattle.program_rules.specs.View.{program_of};
 ghost use Rattle.flow_runs.specs.Texts.{TextsFit};
+ghost use Rattle.equal_sets.specs.Joined.{IsJoined};
 ghost use Rattle.resolving.specs.Resolved.{HasLetters};
 ghost use Rattle.resolving.specs.Drafted.{IsResolved};
 ghost use Rattle.resolving.specs.Causes.{IsCause};
@@ -17,6 +18,7 @@ ghost use Rattle.loose_grammar.specs.Refusals.{IsGrammarRefusal};
 use crate::outside::takes_outside;
 use crate::refusal::{GrammarRefusal, ITEM_LIMIT, refusal_of};
 use cfg_grammar::Grammar;
+use equal_sets::join_equal;
 use expression_lowering::LoweringError;
 use extraction::extract;
 use flow_code::FlowProgram;
@@ -48,6 +50,13 @@ fn system_of(alloc: Global, program: &Program, flow: FlowProgram) -> Result<OpSy
     extract(alloc, &flow)
 }
 
+// The system in which equal sets are one. The other is let go then.
+fn joined_of(alloc: Global, system: OpSystem) -> Result<OpSystem, NoMemory>
+    ensures { IfOk result (IsJoined system) }
+{
+    join_equal(alloc, &system)
+}
+
 // One grammar of the texts of a system. The system is let go then: the grammar has all its
 // productions again.
 fn resolved_of(alloc: Global, system: OpSystem) -> Result<Grammar, ImageRefusal>
@@ -72,7 +81,8 @@ fn grammar_of(
 {
     let _ = program;
     let takes_outside = takes_outside(&system);
-    match resolved_of(alloc, system) {
+    let joined = joined_of(alloc, system)?;
+    match resolved_of(alloc, joined) {
         Ok(grammar) => Ok(PageGrammar {
             grammar: trim(alloc, &grammar)?,
             takes_outside,
