@@ -2,8 +2,9 @@
 use anyhow::Result;
 use call_options::{OPTIONS_FILE, options_for};
 use io_edge::{MemFiles, MemSink};
-use phpsa_main::{phpsa, refuse};
+use phpsa_main::refuse;
 use phpsa_texts::{Exit, options_refusal};
+use several_files::{CallFiles, answer};
 use site_check::ReadOnce;
 use std::alloc::Global;
 use text_base::Bytes;
@@ -96,7 +97,7 @@ pub fn call(
         fail.push(call)?;
     }
     let held = MemFiles::new(copied(alloc, files, outside.front)?, fail);
-    let mut source = ReadOnce::new(alloc, held);
+    let mut source = CallFiles::new(alloc, ReadOnce::new(alloc, held));
     let mut out = MemSink::new(alloc, outside.out);
     let mut err = MemSink::new(alloc, outside.err);
     let mut words = words_again(alloc, words)?;
@@ -106,7 +107,7 @@ pub fn call(
         Ok(())
     };
     let exit = match options {
-        Ok(()) => phpsa(alloc, &words, &mut source, &mut out, &mut err),
+        Ok(()) => answer(alloc, &words, &mut source, &mut out, &mut err),
         Err(fault) => refuse(&options_refusal(alloc, &fault), &mut err),
     };
     Ok(Ending { exit, out, err })

@@ -1,4 +1,4 @@
-//! Rows of calls of `phpsa_main::phpsa` on files and outputs in memory, each with the status and
+//! Rows of calls of `several_files::answer` on files and outputs in memory, each with the status and
 //! the outputs that were worked out for it by hand, from PHP 8.2 or from XML 1.0.
 //! It tests the whole program: a row that ends otherwise is printed, and last how many rows passed
 //! and failed. README.md tells how a row is written. It has no clause.

@@ -1,17 +1,21 @@
-//! The program `phpsa`: it puts the options of the file `phpsa.toml` into the words of the call, hands these, the files and the two outputs
-//! of the system to `phpsa_main::phpsa`, and ends with the status that comes back.
-//! Promise: which words these are is the contract of `call_options::options_for`, and what it answers that of `phpsa_main::phpsa`; what real
-//! files and streams hold no clause says, which is tested.
+//! The program `phpsa`: it puts the options of the file `phpsa.toml` into the words of the call, and hands these, the files and the two
+//! outputs of the system to `several_files::answer`, and ends with the status that comes back; where a folder is among the names of `check`,
+//! the names of its scripts to `several_files::check_each`.
+//! Promise: which words these are is the contract of `call_options::options_for`, and what it answers that of these two; what real files,
+//! folders and streams hold no clause says, which is tested.
 //! Used by: the command line.
 #![tactic(auto)]
 
+mod folders;
 mod words;
 
+use crate::folders::with_folders;
 use crate::words::{NoWords, words_of};
 use call_options::options_for;
 use io_edge::{DiskFiles, Sink, StdSink};
-use phpsa_main::{phpsa, refuse};
+use phpsa_main::refuse;
 use phpsa_texts::{Exit, Refusal, options_refusal, words_refusal};
+use several_files::{CallFiles, answer, check_each};
 use site_check::ReadOnce;
 use std::process::ExitCode;
 
@@ -31,12 +35,18 @@ fn status_of(rt: &HostRuntime) -> Exit {
         Ok(words) => words,
         Err(no_words) => return refuse_words(rt, no_words),
     };
-    let mut files = ReadOnce::new(rt.alloc(), DiskFiles::new(rt, rt.stdin()));
+    let alloc = rt.alloc();
+    let system = ReadOnce::new(alloc, DiskFiles::new(rt, rt.stdin()));
+    let mut files = CallFiles::new(alloc, system);
     let mut out = StdSink::new(rt, rt.stdout());
     let mut err = StdSink::new(rt, rt.stderr());
-    match options_for(rt.alloc(), &mut words, &mut files) {
-        Ok(()) => phpsa(rt.alloc(), &words, &mut files, &mut out, &mut err),
-        Err(fault) => refuse(&options_refusal(rt.alloc(), &fault), &mut err),
+    if let Err(fault) = options_for(alloc, &mut words, &mut files) {
+        return refuse(&options_refusal(alloc, &fault), &mut err);
+    }
+    match with_folders(rt, words.as_slice()) {
+        Ok(None) => answer(alloc, &words, &mut files, &mut out, &mut err),
+        Ok(Some(checks)) => check_each(alloc, &checks, &mut files, &mut out, &mut err),
+        Err(refusal) => refuse(&refusal, &mut err),
     }
 }
 

@@ -1,0 +1,9 @@
+mod Appending
+mod Calling
+mod Chains
+mod Dues
+mod Examples
+mod Lists
+mod Outputs
+mod Results
+mod Ways
