@@ -99,6 +99,7 @@ fn words(rt: HostRuntime) -> Result<(), Fail> {
             Ok(CommandLine::Site {
                 file: "pages",
                 definition: "strict",
+                root: None,
                 limit: 9,
                 by_nesting: true,
             }),
