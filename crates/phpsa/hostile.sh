@@ -183,6 +183,6 @@ printf "<?php include '%s'; echo 'a';" "$(times 100000 'n')" >include.php
 row 3,6,7 check include.php
 row 6,7 check "$(times 30000 'n')"
 row 3,7,11 check /dev/zero
-row 7 check folder
+row 11 check folder
 
 [ "$bad" = 0 ]
