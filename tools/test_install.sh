@@ -292,7 +292,7 @@ sed -n 's/^    \((\?cd [^#]*)\|phpsa check [^#]*\) *# \(yes\|no\)\b.*/\2 \1/p' R
 while read -r answer words; do
   [ "$(eval "$words" | head -n 1)" = "$answer" ] || wrong "README says '$answer' of '$words'"
 done <"$room/said"
-sed -n 's/^    \(ls \*\.php .*\)/\1/p' README.md >"$room/loop"
+sed -n 's/^    \(phpsa check \*\.php\)$/\1/p' README.md >"$room/loop"
 [ -s "$room/loop" ] || wrong 'README has no step for a host'
 for folder in "$site"/list "$site"/form "$site"/board; do
   cp -r "$folder" "$room/host.$(basename "$folder")"
