@@ -40,23 +40,25 @@ pub record ArePaired (P : ℕ → ℕ → Type 0) (xs ys : List ℕ) : Type 0 wh
   pub long : length xs ≡ length ys
   pub each : (k i j : ℕ) → slice_get xs k ≡ Some i → slice_get ys k ≡ Some j → P i j
 
--- for each production of the first nonterminal there is one of the second with the same right side by the sets
+-- the second nonterminal has a production with the same right side by the sets
 pub record HasRight (s : OpSystem) (sets : List nt.Nt) (b : nt.Nt) (p : Production) : Type 0 where
   pub other : Production
   pub among : Contains s.grammar.productions.items other
   pub left : other.left ≡ b
   pub alike : right_of sets p.right ≡ right_of sets other.right
 
+-- so it has for each production of the first
 abbrev pub HasRights : OpSystem → List nt.Nt → nt.Nt → nt.Nt → Type 0
 HasRights s sets a b = (p : Production) → Contains s.grammar.productions.items p → p.left ≡ a → HasRight s sets b p
 
--- for each rule of the first there is one of the second that is the same by the sets
+-- the second nonterminal has a rule that is the same by the sets
 pub record HasRule (s : OpSystem) (sets : List nt.Nt) (b : nt.Nt) (r : OpRule) : Type 0 where
   pub other : OpRule
   pub among : Contains s.ops.items other
   pub left : other.left ≡ b
   pub same : AreSame s sets r other
 
+-- so it has for each rule of the first
 abbrev pub HasRules : OpSystem → List nt.Nt → nt.Nt → nt.Nt → Type 0
 HasRules s sets a b = (r : OpRule) → Contains s.ops.items r → r.left ≡ a → HasRule s sets b r
 

@@ -49,6 +49,8 @@ use Rattle.phpsa_tasks.specs.Replies.{end_status, HasManyItems, IsJudged, IsRepl
 use Rattle.phpsa_tasks.specs.Causes.{definition_call, RefusesDefinition, not_defined, large_models, RefusesScript, not_loaded, lacks_definition, has_long_text, not_read, page_lacks_definition, no_size, made_refused, list_unread, no_list, list_lacks_definition, Refuses}
 use Rattle.phpsa_tasks.specs.Counted.{from_misses}
 use Rattle.phpsa_tasks.specs.Answered.{IsScriptVerdict, PassesScriptLimit, PassesGrammarLimit, IsListVerdict, StopsAtScript, IsVerdict, PassesLimit, IsStopped}
+use Rattle.script_maker.specs.Made.{made}
+use Rattle.phpsa_tasks.proofs.Alone.{alone_stays_inside}
 use Rattle.phpsa_tasks.proofs.ListLemmas.{LoadedStays, list_verdict, not_list}
 use Rattle.command_words.specs.declared.values.TheConstants.{PAIR_LIMIT}
 
@@ -265,9 +267,11 @@ held_refusal laws files (page_check file d) x status text calm (h, t) w (not_rea
     inr (inr (status_is ∙ file_memory files file x.page fault h calm why))
 held_refusal laws files (page_check file d) x status text calm (h, t) w (page_lacks_definition read told why) = inr (inr (definition_memory files d x.table status text t w calm why))
 held_refusal laws files (script_making n) x status text calm h w (size, status_is, text_is) = inl (subst (IsVerdict files.content (script_making n) tt) (sym status_is) size)
-held_refusal laws files (made_check n) x status text calm (size, h, t) (i, w) (no_size none status_is text_is) = absurd (none size)
-held_refusal laws files (made_check n) x status text calm (size, h, t) (i, w) (made_refused size' misses reads why) =
-    inr (held_script laws (source_call (only_made n) 0 0 0 misses 0 reads) made_file strict_type Goal.Valid PAIR_LIMIT x status text never i t w why)
+held_refusal laws files (made_check n) x status text calm (size, h, t) w (no_size none status_is text_is) = absurd (none size)
+held_refusal laws files (made_check n) x status text calm (size, h, t) w (made_refused size' misses reads why) =
+    let inside : HoldsProgramInside (only_made n) made_file x.program =
+    record { held = h; inside = alone_stays_inside made_name (made n) made_name x.program h.holds (root_of made_file) } in
+    inr (held_script laws (source_call (only_made n) 0 0 0 misses 0 reads) made_file strict_type Goal.Valid PAIR_LIMIT x status text never inside t w why)
 held_refusal laws files (script_run file request steps) x status text calm (h, r) w (inl (cause, why, status_is, text_is)) =
     inr (inr (status_is ∙ unloaded_memory laws files file x.program cause w calm why))
 held_refusal laws files (script_run file request steps) x status text calm (h, r) w (inr (program, found, (misses, behind, why), read)) =

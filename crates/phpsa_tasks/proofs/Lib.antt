@@ -3,6 +3,7 @@ pub mod EmptyRequest
 pub mod Defining
 pub mod OneTask
 pub mod ListLemmas
+pub mod Alone
 pub mod Held
 pub mod Verdicts
 pub mod Never

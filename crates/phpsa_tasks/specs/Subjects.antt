@@ -142,8 +142,7 @@ IsWithin content (script_check file document_type goal limit form) subject =
     HoldsProgramInside content file subject.program × IsSmall content document_type subject.table
 IsWithin content (page_check file document_type) subject = IsSmall content document_type subject.table
 IsWithin content (script_making functions) subject = ⊤
-IsWithin content (made_check functions) subject =
-    HoldsProgramInside (only_made functions) made_file subject.program × IsSmall (only_made functions) strict_type subject.table
+IsWithin content (made_check functions) subject = IsSmall (only_made functions) strict_type subject.table
 IsWithin content (script_run file request steps) subject = HoldsProgramInside content file subject.program
 IsWithin content (grammar_making file) subject = HoldsProgramInside content file subject
 IsWithin content (list_check file document_type goal limit) subject =
