@@ -7,6 +7,7 @@ use Rattle.program_rules.specs.Includes.{includes_in, includes_of_file}
 use Rattle.program_rules.specs.Bodies.{with_bodies}
 use Rattle.program_rules.specs.Calls.{calls_of_program}
 use Rattle.program_rules.specs.Rules.{is_double, serves, serves_call, is_known}
+use Rattle.program_rules.specs.Programs.{taken}
 
 abbrev includes : List ℕ → PlainStmt
 includes path = include_stmt path
@@ -87,3 +88,16 @@ again = refl
 
 single : is_double (codes "g") (f ∷ []) ≡ false
 single = refl
+
+-- of the stubs `trim`, `f` and `g` a program with an `f` of its own takes `g` alone, and one without functions `f` and `g`
+abbrev stub : List ℕ → PlainFunction
+stub name = record { name_of = name; params_of = []; body_of = no_stmts }
+
+abbrev stubs : List PlainFunction
+stubs = stub (codes "trim") ∷ stub (codes "f") ∷ stub (codes "g") ∷ []
+
+takes_g : taken (f ∷ []) stubs ≡ stub (codes "g") ∷ []
+takes_g = refl
+
+takes_both : taken [] stubs ≡ stub (codes "f") ∷ stub (codes "g") ∷ []
+takes_both = refl

@@ -1,12 +1,12 @@
 -- Which program a file stands for.
-use Rattle.std.specs.Prelude.{◌≡◌, ℕ, ◌+◌, List, [], ◌∷◌, ◌++◌, Some, None, slice_get}
-use Rattle.std.specs.List.{Contains}
+use Rattle.std.specs.Prelude.{◌≡◌, ℕ, ◌+◌, List, [], ◌∷◌, ◌++◌, Some, None, slice_get, not}
+use Rattle.std.specs.List.{Contains, filter}
 use Rattle.php_syntax.specs.Trees.{PlainFile, PlainFunction}
 use Rattle.script_meaning.specs.Programs.{PlainProgram}
 use Rattle.program_rules.specs.Files.{Held, HasTree}
 use Rattle.program_rules.specs.Includes.{Reads, Asks, LeadsTo}
 use Rattle.program_rules.specs.Expansion.{StandsFor, FunctionStandsFor}
-use Rattle.program_rules.specs.Rules.{KeepsRules}
+use Rattle.program_rules.specs.Rules.{is_double, KeepsRules}
 use Rattle.program_rules.specs.Limits.{HasPlaces, HavePlaces, IsWithin}
 
 -- a file that is read, with its tree
@@ -46,20 +46,27 @@ pub data TableStandsFor (held : Held) : List PlainFunction → List PlainFunctio
   more : (f g : PlainFunction) (fs gs : List PlainFunction) → FunctionStandsFor held f g → TableStandsFor held fs gs
       → TableStandsFor held (f ∷ fs) (g ∷ gs)
 
+-- of the functions of a file of stubs a program with these functions of its own takes those that have the name of none of them, nor of one
+-- of PHP's
+abbrev pub taken : List PlainFunction → List PlainFunction → List PlainFunction
+taken own stubs = filter (λ (f : PlainFunction). not (is_double f.name_of own)) stubs
+
 -- no file that the program reads includes itself, directly or through others
 abbrev pub HasNoCycle : Held → List ℕ → Type 0
 HasNoCycle held name = (path : List ℕ) → Reads held name path → LeadsTo held path path → ⊥
 
--- the program that the file of a name stands for: its statements, and one table of the functions of all files, by the rules and within the
--- limits
-pub record IsProgram (held : Held) (name : List ℕ) (program : PlainProgram) : Type 0 where
+-- the program that the file of a name stands for, where a file of stubs has these functions: its statements, and one table of the functions
+-- of all files and behind them the stubs that it takes, by the rules and within the limits
+pub record IsProgram (held : Held) (name : List ℕ) (stubs : List PlainFunction) (program : PlainProgram) : Type 0 where
   pub files : List ReadFile
   pub read : AreRead held name files
   pub acyclic : HasNoCycle held name
   pub tree : PlainFile
   pub spelled : HasTree held name tree
   pub main : StandsFor held tree.body_of program.main_of
-  pub functions : TableStandsFor held (functions_in files) program.functions_of
+  pub own : List PlainFunction
+  pub stand : TableStandsFor held (functions_in files) own
+  pub functions : program.functions_of ≡ own ++ taken own stubs
   pub rules : KeepsRules program
   pub own_places : ℕ
   pub has_places : HasPlaces held tree.body_of own_places
