@@ -7,6 +7,7 @@ const CHECK: CommandLine<'static> = CommandLine::Check {
     file: "t.php",
     definition: "strict",
     root: None,
+    stubs: None,
     limit: 10_000,
     by_nesting: false,
     as_json: false,
@@ -43,6 +44,7 @@ fn words(rt: HostRuntime) -> Result<(), Fail> {
         file: "t.php",
         definition: "d.dtd",
         root: Some("site"),
+        stubs: Some("env.php"),
         limit: 9,
         by_nesting: true,
         as_json: true,
@@ -50,6 +52,7 @@ fn words(rt: HostRuntime) -> Result<(), Fail> {
     let run = CommandLine::Run {
         file: "-",
         root: None,
+        stubs: None,
         request: Some("r.json"),
         steps: 10_000_000,
     };
@@ -57,11 +60,11 @@ fn words(rt: HostRuntime) -> Result<(), Fail> {
         ("check t.php", Ok(CHECK)),
         ("check -- t.php", Ok(CHECK)),
         (
-            "check t.php --dtd d.dtd --limit 9 --nesting --json --root site",
+            "check t.php --dtd d.dtd --limit 9 --nesting --json --root site --stubs env.php",
             Ok(all),
         ),
         (
-            "check --json --limit=9 --root=site --nesting t.php --dtd=d.dtd",
+            "check --stubs=env.php --json --limit=9 --root=site --nesting t.php --dtd=d.dtd",
             Ok(all),
         ),
         ("run --request r.json -", Ok(run)),
@@ -78,6 +81,7 @@ fn words(rt: HostRuntime) -> Result<(), Fail> {
             Ok(CommandLine::Grammar {
                 file: "-t.php",
                 root: Some("."),
+                stubs: None,
             }),
         ),
         (
@@ -100,9 +104,22 @@ fn words(rt: HostRuntime) -> Result<(), Fail> {
                 file: "pages",
                 definition: "strict",
                 root: None,
+                stubs: None,
                 limit: 9,
                 by_nesting: true,
             }),
+        ),
+        (
+            "grammar --stubs env.php t.php",
+            Ok(CommandLine::Grammar {
+                file: "t.php",
+                root: None,
+                stubs: Some("env.php"),
+            }),
+        ),
+        (
+            "page p.xhtml --stubs env.php",
+            Err(Some("unexpected argument '--stubs' found")),
         ),
         ("help", Ok(CommandLine::Help)),
         ("help check", Ok(CommandLine::Help)),

@@ -54,16 +54,16 @@ check_table = record {
   sees = refl;
   by_index = refl;
   place_id = refl;
-  option_long = each (λ n. arg_by_long (below (program.command program.check)).rules n ≡ Some (option_rule n)) program.check.options (refl, (refl, (refl, tt)));
-  option_id = each (λ n. arg_by_id (below (program.command program.check)).rules n ≡ Some (option_rule n)) program.check.options (refl, (refl, (refl, tt)));
-  option_same = each (λ n. bytes_eq n n ≡ true) program.check.options (refl, (refl, (refl, tt)));
+  option_long = each (λ n. arg_by_long (below (program.command program.check)).rules n ≡ Some (option_rule n)) program.check.options (refl, (refl, (refl, (refl, tt))));
+  option_id = each (λ n. arg_by_id (below (program.command program.check)).rules n ≡ Some (option_rule n)) program.check.options (refl, (refl, (refl, (refl, tt))));
+  option_same = each (λ n. bytes_eq n n ≡ true) program.check.options (refl, (refl, (refl, (refl, tt))));
   flag_long = each (λ n. arg_by_long (below (program.command program.check)).rules n ≡ Some (flag_rule n)) program.check.flags (refl, (refl, tt));
-  joined_long = λ n v. each (λ m. long_of (45 ∷ 45 ∷ m ++ 61 ∷ v) ≡ Some (m, Some v)) program.check.options (refl, (refl, (refl, tt))) n;
-  joined_bare = λ n v. each (λ m. bytes_eq (45 ∷ 45 ∷ m ++ 61 ∷ v) (45 ∷ 45 ∷ []) ≡ false) program.check.options (refl, (refl, (refl, tt))) n;
-  joined_free = λ n v. each (λ m. is_help (45 ∷ 45 ∷ m ++ 61 ∷ v) ≡ false) program.check.options (refl, (refl, (refl, tt))) n;
-  option_text = each (λ n. long_of (45 ∷ 45 ∷ n) ≡ Some (n, None)) program.check.options (refl, (refl, (refl, tt)));
-  option_bare = each (λ n. bytes_eq (45 ∷ 45 ∷ n) (45 ∷ 45 ∷ []) ≡ false) program.check.options (refl, (refl, (refl, tt)));
-  option_free = each (λ n. is_help (45 ∷ 45 ∷ n) ≡ false) program.check.options (refl, (refl, (refl, tt)));
+  joined_long = λ n v. each (λ m. long_of (45 ∷ 45 ∷ m ++ 61 ∷ v) ≡ Some (m, Some v)) program.check.options (refl, (refl, (refl, (refl, tt)))) n;
+  joined_bare = λ n v. each (λ m. bytes_eq (45 ∷ 45 ∷ m ++ 61 ∷ v) (45 ∷ 45 ∷ []) ≡ false) program.check.options (refl, (refl, (refl, (refl, tt)))) n;
+  joined_free = λ n v. each (λ m. is_help (45 ∷ 45 ∷ m ++ 61 ∷ v) ≡ false) program.check.options (refl, (refl, (refl, (refl, tt)))) n;
+  option_text = each (λ n. long_of (45 ∷ 45 ∷ n) ≡ Some (n, None)) program.check.options (refl, (refl, (refl, (refl, tt))));
+  option_bare = each (λ n. bytes_eq (45 ∷ 45 ∷ n) (45 ∷ 45 ∷ []) ≡ false) program.check.options (refl, (refl, (refl, (refl, tt))));
+  option_free = each (λ n. is_help (45 ∷ 45 ∷ n) ≡ false) program.check.options (refl, (refl, (refl, (refl, tt))));
   flag_text = each (λ n. long_of (45 ∷ 45 ∷ n) ≡ Some (n, None)) program.check.flags (refl, (refl, tt));
   flag_bare = each (λ n. bytes_eq (45 ∷ 45 ∷ n) (45 ∷ 45 ∷ []) ≡ false) program.check.flags (refl, (refl, tt));
   flag_free = each (λ n. is_help (45 ∷ 45 ∷ n) ≡ false) program.check.flags (refl, (refl, tt));
@@ -81,8 +81,8 @@ check_enters = record {
   valid = refl;
 }
 
-check_alike : (v w : Values) → v (codes "FILE") ≡ w (codes "FILE") → v (codes "dtd") ≡ w (codes "dtd") → v (codes "limit") ≡ w (codes "limit") → v (codes "root") ≡ w (codes "root") → is_given (v (codes "nesting")) ≡ is_given (w (codes "nesting")) → is_given (v (codes "json")) ≡ is_given (w (codes "json")) → asked_check v ≡ asked_check w
-check_alike v w e0 e1 e2 e3 e4 e5 = rw (e0, e1, e2, e3, e4, e5) refl
+check_alike : (v w : Values) → v (codes "FILE") ≡ w (codes "FILE") → v (codes "dtd") ≡ w (codes "dtd") → v (codes "limit") ≡ w (codes "limit") → v (codes "root") ≡ w (codes "root") → v (codes "stubs") ≡ w (codes "stubs") → is_given (v (codes "nesting")) ≡ is_given (w (codes "nesting")) → is_given (v (codes "json")) ≡ is_given (w (codes "json")) → asked_check v ≡ asked_check w
+check_alike v w e0 e1 e2 e3 e4 e5 e6 = rw (e0, e1, e2, e3, e4, e5, e6) refl
 
 check_known : Known program.check
 unfolding program.phpsa clap_on_literals
@@ -90,9 +90,9 @@ check_known = record {
   enters = check_enters;
   entered_is = λ ws. refl;
   table = check_table;
-  alike = λ v w e. check_alike v w (e.texts (codes "FILE") (inl refl)) (e.texts (codes "dtd") (inr (inl refl))) (e.texts (codes "limit") (inr (inr (inl refl)))) (e.texts (codes "root") (inr (inr (inr (inl refl))))) (e.flags (codes "nesting") (inl refl)) (e.flags (codes "json") (inr (inl refl)));
-  alone = each (λ n. LeavesAlone n (below (program.command program.check)).rules) (program.check.place ∷ program.check.options) ((inr refl, (inr refl, (inr refl, (inr refl, (inl refl, (inl refl, tt)))))), ((inr refl, (inr refl, (inr refl, (inr refl, (inl refl, (inl refl, tt)))))), ((inr refl, (inr refl, (inr refl, (inr refl, (inl refl, (inl refl, tt)))))), ((inr refl, (inr refl, (inr refl, (inr refl, (inl refl, (inl refl, tt)))))), tt))));
-  unset = (refl, (refl, (refl, (refl, (refl, (refl, tt))))));
+  alike = λ v w e. check_alike v w (e.texts (codes "FILE") (inl refl)) (e.texts (codes "dtd") (inr (inl refl))) (e.texts (codes "limit") (inr (inr (inl refl)))) (e.texts (codes "root") (inr (inr (inr (inl refl))))) (e.texts (codes "stubs") (inr (inr (inr (inr (inl refl)))))) (e.flags (codes "nesting") (inl refl)) (e.flags (codes "json") (inr (inl refl)));
+  alone = each (λ n. LeavesAlone n (below (program.command program.check)).rules) (program.check.place ∷ program.check.options) ((inr refl, (inr refl, (inr refl, (inr refl, (inr refl, (inl refl, (inl refl, tt))))))), ((inr refl, (inr refl, (inr refl, (inr refl, (inr refl, (inl refl, (inl refl, tt))))))), ((inr refl, (inr refl, (inr refl, (inr refl, (inr refl, (inl refl, (inl refl, tt))))))), ((inr refl, (inr refl, (inr refl, (inr refl, (inr refl, (inl refl, (inl refl, tt))))))), ((inr refl, (inr refl, (inr refl, (inr refl, (inr refl, (inl refl, (inl refl, tt))))))), tt)))));
+  unset = (refl, (refl, (refl, (refl, (refl, (refl, (refl, tt)))))));
   first = λ ws. refl;
 }
 
@@ -107,16 +107,16 @@ run_table = record {
   sees = refl;
   by_index = refl;
   place_id = refl;
-  option_long = each (λ n. arg_by_long (below (program.command program.run)).rules n ≡ Some (option_rule n)) program.run.options (refl, (refl, (refl, tt)));
-  option_id = each (λ n. arg_by_id (below (program.command program.run)).rules n ≡ Some (option_rule n)) program.run.options (refl, (refl, (refl, tt)));
-  option_same = each (λ n. bytes_eq n n ≡ true) program.run.options (refl, (refl, (refl, tt)));
+  option_long = each (λ n. arg_by_long (below (program.command program.run)).rules n ≡ Some (option_rule n)) program.run.options (refl, (refl, (refl, (refl, tt))));
+  option_id = each (λ n. arg_by_id (below (program.command program.run)).rules n ≡ Some (option_rule n)) program.run.options (refl, (refl, (refl, (refl, tt))));
+  option_same = each (λ n. bytes_eq n n ≡ true) program.run.options (refl, (refl, (refl, (refl, tt))));
   flag_long = each (λ n. arg_by_long (below (program.command program.run)).rules n ≡ Some (flag_rule n)) program.run.flags tt;
-  joined_long = λ n v. each (λ m. long_of (45 ∷ 45 ∷ m ++ 61 ∷ v) ≡ Some (m, Some v)) program.run.options (refl, (refl, (refl, tt))) n;
-  joined_bare = λ n v. each (λ m. bytes_eq (45 ∷ 45 ∷ m ++ 61 ∷ v) (45 ∷ 45 ∷ []) ≡ false) program.run.options (refl, (refl, (refl, tt))) n;
-  joined_free = λ n v. each (λ m. is_help (45 ∷ 45 ∷ m ++ 61 ∷ v) ≡ false) program.run.options (refl, (refl, (refl, tt))) n;
-  option_text = each (λ n. long_of (45 ∷ 45 ∷ n) ≡ Some (n, None)) program.run.options (refl, (refl, (refl, tt)));
-  option_bare = each (λ n. bytes_eq (45 ∷ 45 ∷ n) (45 ∷ 45 ∷ []) ≡ false) program.run.options (refl, (refl, (refl, tt)));
-  option_free = each (λ n. is_help (45 ∷ 45 ∷ n) ≡ false) program.run.options (refl, (refl, (refl, tt)));
+  joined_long = λ n v. each (λ m. long_of (45 ∷ 45 ∷ m ++ 61 ∷ v) ≡ Some (m, Some v)) program.run.options (refl, (refl, (refl, (refl, tt)))) n;
+  joined_bare = λ n v. each (λ m. bytes_eq (45 ∷ 45 ∷ m ++ 61 ∷ v) (45 ∷ 45 ∷ []) ≡ false) program.run.options (refl, (refl, (refl, (refl, tt)))) n;
+  joined_free = λ n v. each (λ m. is_help (45 ∷ 45 ∷ m ++ 61 ∷ v) ≡ false) program.run.options (refl, (refl, (refl, (refl, tt)))) n;
+  option_text = each (λ n. long_of (45 ∷ 45 ∷ n) ≡ Some (n, None)) program.run.options (refl, (refl, (refl, (refl, tt))));
+  option_bare = each (λ n. bytes_eq (45 ∷ 45 ∷ n) (45 ∷ 45 ∷ []) ≡ false) program.run.options (refl, (refl, (refl, (refl, tt))));
+  option_free = each (λ n. is_help (45 ∷ 45 ∷ n) ≡ false) program.run.options (refl, (refl, (refl, (refl, tt))));
   flag_text = each (λ n. long_of (45 ∷ 45 ∷ n) ≡ Some (n, None)) program.run.flags tt;
   flag_bare = each (λ n. bytes_eq (45 ∷ 45 ∷ n) (45 ∷ 45 ∷ []) ≡ false) program.run.flags tt;
   flag_free = each (λ n. is_help (45 ∷ 45 ∷ n) ≡ false) program.run.flags tt;
@@ -134,8 +134,8 @@ run_enters = record {
   valid = refl;
 }
 
-run_alike : (v w : Values) → v (codes "FILE") ≡ w (codes "FILE") → v (codes "request") ≡ w (codes "request") → v (codes "steps") ≡ w (codes "steps") → v (codes "root") ≡ w (codes "root") → asked_run v ≡ asked_run w
-run_alike v w e0 e1 e2 e3 = rw (e0, e1, e2, e3) refl
+run_alike : (v w : Values) → v (codes "FILE") ≡ w (codes "FILE") → v (codes "request") ≡ w (codes "request") → v (codes "steps") ≡ w (codes "steps") → v (codes "root") ≡ w (codes "root") → v (codes "stubs") ≡ w (codes "stubs") → asked_run v ≡ asked_run w
+run_alike v w e0 e1 e2 e3 e4 = rw (e0, e1, e2, e3, e4) refl
 
 run_known : Known program.run
 unfolding program.phpsa clap_on_literals
@@ -143,9 +143,9 @@ run_known = record {
   enters = run_enters;
   entered_is = λ ws. refl;
   table = run_table;
-  alike = λ v w e. run_alike v w (e.texts (codes "FILE") (inl refl)) (e.texts (codes "request") (inr (inl refl))) (e.texts (codes "steps") (inr (inr (inl refl)))) (e.texts (codes "root") (inr (inr (inr (inl refl)))));
-  alone = each (λ n. LeavesAlone n (below (program.command program.run)).rules) (program.run.place ∷ program.run.options) ((inr refl, (inr refl, (inr refl, (inr refl, tt)))), ((inr refl, (inr refl, (inr refl, (inr refl, tt)))), ((inr refl, (inr refl, (inr refl, (inr refl, tt)))), ((inr refl, (inr refl, (inr refl, (inr refl, tt)))), tt))));
-  unset = (refl, (refl, (refl, (refl, tt))));
+  alike = λ v w e. run_alike v w (e.texts (codes "FILE") (inl refl)) (e.texts (codes "request") (inr (inl refl))) (e.texts (codes "steps") (inr (inr (inl refl)))) (e.texts (codes "root") (inr (inr (inr (inl refl))))) (e.texts (codes "stubs") (inr (inr (inr (inr (inl refl))))));
+  alone = each (λ n. LeavesAlone n (below (program.command program.run)).rules) (program.run.place ∷ program.run.options) ((inr refl, (inr refl, (inr refl, (inr refl, (inr refl, tt))))), ((inr refl, (inr refl, (inr refl, (inr refl, (inr refl, tt))))), ((inr refl, (inr refl, (inr refl, (inr refl, (inr refl, tt))))), ((inr refl, (inr refl, (inr refl, (inr refl, (inr refl, tt))))), ((inr refl, (inr refl, (inr refl, (inr refl, (inr refl, tt))))), tt)))));
+  unset = (refl, (refl, (refl, (refl, (refl, tt)))));
   first = λ ws. refl;
 }
 
@@ -213,16 +213,16 @@ grammar_table = record {
   sees = refl;
   by_index = refl;
   place_id = refl;
-  option_long = each (λ n. arg_by_long (below (program.command program.grammar)).rules n ≡ Some (option_rule n)) program.grammar.options (refl, tt);
-  option_id = each (λ n. arg_by_id (below (program.command program.grammar)).rules n ≡ Some (option_rule n)) program.grammar.options (refl, tt);
-  option_same = each (λ n. bytes_eq n n ≡ true) program.grammar.options (refl, tt);
+  option_long = each (λ n. arg_by_long (below (program.command program.grammar)).rules n ≡ Some (option_rule n)) program.grammar.options (refl, (refl, tt));
+  option_id = each (λ n. arg_by_id (below (program.command program.grammar)).rules n ≡ Some (option_rule n)) program.grammar.options (refl, (refl, tt));
+  option_same = each (λ n. bytes_eq n n ≡ true) program.grammar.options (refl, (refl, tt));
   flag_long = each (λ n. arg_by_long (below (program.command program.grammar)).rules n ≡ Some (flag_rule n)) program.grammar.flags tt;
-  joined_long = λ n v. each (λ m. long_of (45 ∷ 45 ∷ m ++ 61 ∷ v) ≡ Some (m, Some v)) program.grammar.options (refl, tt) n;
-  joined_bare = λ n v. each (λ m. bytes_eq (45 ∷ 45 ∷ m ++ 61 ∷ v) (45 ∷ 45 ∷ []) ≡ false) program.grammar.options (refl, tt) n;
-  joined_free = λ n v. each (λ m. is_help (45 ∷ 45 ∷ m ++ 61 ∷ v) ≡ false) program.grammar.options (refl, tt) n;
-  option_text = each (λ n. long_of (45 ∷ 45 ∷ n) ≡ Some (n, None)) program.grammar.options (refl, tt);
-  option_bare = each (λ n. bytes_eq (45 ∷ 45 ∷ n) (45 ∷ 45 ∷ []) ≡ false) program.grammar.options (refl, tt);
-  option_free = each (λ n. is_help (45 ∷ 45 ∷ n) ≡ false) program.grammar.options (refl, tt);
+  joined_long = λ n v. each (λ m. long_of (45 ∷ 45 ∷ m ++ 61 ∷ v) ≡ Some (m, Some v)) program.grammar.options (refl, (refl, tt)) n;
+  joined_bare = λ n v. each (λ m. bytes_eq (45 ∷ 45 ∷ m ++ 61 ∷ v) (45 ∷ 45 ∷ []) ≡ false) program.grammar.options (refl, (refl, tt)) n;
+  joined_free = λ n v. each (λ m. is_help (45 ∷ 45 ∷ m ++ 61 ∷ v) ≡ false) program.grammar.options (refl, (refl, tt)) n;
+  option_text = each (λ n. long_of (45 ∷ 45 ∷ n) ≡ Some (n, None)) program.grammar.options (refl, (refl, tt));
+  option_bare = each (λ n. bytes_eq (45 ∷ 45 ∷ n) (45 ∷ 45 ∷ []) ≡ false) program.grammar.options (refl, (refl, tt));
+  option_free = each (λ n. is_help (45 ∷ 45 ∷ n) ≡ false) program.grammar.options (refl, (refl, tt));
   flag_text = each (λ n. long_of (45 ∷ 45 ∷ n) ≡ Some (n, None)) program.grammar.flags tt;
   flag_bare = each (λ n. bytes_eq (45 ∷ 45 ∷ n) (45 ∷ 45 ∷ []) ≡ false) program.grammar.flags tt;
   flag_free = each (λ n. is_help (45 ∷ 45 ∷ n) ≡ false) program.grammar.flags tt;
@@ -240,8 +240,8 @@ grammar_enters = record {
   valid = refl;
 }
 
-grammar_alike : (v w : Values) → v (codes "FILE") ≡ w (codes "FILE") → v (codes "root") ≡ w (codes "root") → asked_grammar v ≡ asked_grammar w
-grammar_alike v w e0 e1 = rw (e0, e1) refl
+grammar_alike : (v w : Values) → v (codes "FILE") ≡ w (codes "FILE") → v (codes "root") ≡ w (codes "root") → v (codes "stubs") ≡ w (codes "stubs") → asked_grammar v ≡ asked_grammar w
+grammar_alike v w e0 e1 e2 = rw (e0, e1, e2) refl
 
 grammar_known : Known program.grammar
 unfolding program.phpsa clap_on_literals
@@ -249,9 +249,9 @@ grammar_known = record {
   enters = grammar_enters;
   entered_is = λ ws. refl;
   table = grammar_table;
-  alike = λ v w e. grammar_alike v w (e.texts (codes "FILE") (inl refl)) (e.texts (codes "root") (inr (inl refl)));
-  alone = each (λ n. LeavesAlone n (below (program.command program.grammar)).rules) (program.grammar.place ∷ program.grammar.options) ((inr refl, (inr refl, tt)), ((inr refl, (inr refl, tt)), tt));
-  unset = (refl, (refl, tt));
+  alike = λ v w e. grammar_alike v w (e.texts (codes "FILE") (inl refl)) (e.texts (codes "root") (inr (inl refl))) (e.texts (codes "stubs") (inr (inr (inl refl))));
+  alone = each (λ n. LeavesAlone n (below (program.command program.grammar)).rules) (program.grammar.place ∷ program.grammar.options) ((inr refl, (inr refl, (inr refl, tt))), ((inr refl, (inr refl, (inr refl, tt))), ((inr refl, (inr refl, (inr refl, tt))), tt)));
+  unset = (refl, (refl, (refl, tt)));
   first = λ ws. refl;
 }
 
@@ -319,16 +319,16 @@ site_table = record {
   sees = refl;
   by_index = refl;
   place_id = refl;
-  option_long = each (λ n. arg_by_long (below (program.command program.site)).rules n ≡ Some (option_rule n)) program.site.options (refl, (refl, (refl, tt)));
-  option_id = each (λ n. arg_by_id (below (program.command program.site)).rules n ≡ Some (option_rule n)) program.site.options (refl, (refl, (refl, tt)));
-  option_same = each (λ n. bytes_eq n n ≡ true) program.site.options (refl, (refl, (refl, tt)));
+  option_long = each (λ n. arg_by_long (below (program.command program.site)).rules n ≡ Some (option_rule n)) program.site.options (refl, (refl, (refl, (refl, tt))));
+  option_id = each (λ n. arg_by_id (below (program.command program.site)).rules n ≡ Some (option_rule n)) program.site.options (refl, (refl, (refl, (refl, tt))));
+  option_same = each (λ n. bytes_eq n n ≡ true) program.site.options (refl, (refl, (refl, (refl, tt))));
   flag_long = each (λ n. arg_by_long (below (program.command program.site)).rules n ≡ Some (flag_rule n)) program.site.flags (refl, tt);
-  joined_long = λ n v. each (λ m. long_of (45 ∷ 45 ∷ m ++ 61 ∷ v) ≡ Some (m, Some v)) program.site.options (refl, (refl, (refl, tt))) n;
-  joined_bare = λ n v. each (λ m. bytes_eq (45 ∷ 45 ∷ m ++ 61 ∷ v) (45 ∷ 45 ∷ []) ≡ false) program.site.options (refl, (refl, (refl, tt))) n;
-  joined_free = λ n v. each (λ m. is_help (45 ∷ 45 ∷ m ++ 61 ∷ v) ≡ false) program.site.options (refl, (refl, (refl, tt))) n;
-  option_text = each (λ n. long_of (45 ∷ 45 ∷ n) ≡ Some (n, None)) program.site.options (refl, (refl, (refl, tt)));
-  option_bare = each (λ n. bytes_eq (45 ∷ 45 ∷ n) (45 ∷ 45 ∷ []) ≡ false) program.site.options (refl, (refl, (refl, tt)));
-  option_free = each (λ n. is_help (45 ∷ 45 ∷ n) ≡ false) program.site.options (refl, (refl, (refl, tt)));
+  joined_long = λ n v. each (λ m. long_of (45 ∷ 45 ∷ m ++ 61 ∷ v) ≡ Some (m, Some v)) program.site.options (refl, (refl, (refl, (refl, tt)))) n;
+  joined_bare = λ n v. each (λ m. bytes_eq (45 ∷ 45 ∷ m ++ 61 ∷ v) (45 ∷ 45 ∷ []) ≡ false) program.site.options (refl, (refl, (refl, (refl, tt)))) n;
+  joined_free = λ n v. each (λ m. is_help (45 ∷ 45 ∷ m ++ 61 ∷ v) ≡ false) program.site.options (refl, (refl, (refl, (refl, tt)))) n;
+  option_text = each (λ n. long_of (45 ∷ 45 ∷ n) ≡ Some (n, None)) program.site.options (refl, (refl, (refl, (refl, tt))));
+  option_bare = each (λ n. bytes_eq (45 ∷ 45 ∷ n) (45 ∷ 45 ∷ []) ≡ false) program.site.options (refl, (refl, (refl, (refl, tt))));
+  option_free = each (λ n. is_help (45 ∷ 45 ∷ n) ≡ false) program.site.options (refl, (refl, (refl, (refl, tt))));
   flag_text = each (λ n. long_of (45 ∷ 45 ∷ n) ≡ Some (n, None)) program.site.flags (refl, tt);
   flag_bare = each (λ n. bytes_eq (45 ∷ 45 ∷ n) (45 ∷ 45 ∷ []) ≡ false) program.site.flags (refl, tt);
   flag_free = each (λ n. is_help (45 ∷ 45 ∷ n) ≡ false) program.site.flags (refl, tt);
@@ -346,8 +346,8 @@ site_enters = record {
   valid = refl;
 }
 
-site_alike : (v w : Values) → v (codes "FILE") ≡ w (codes "FILE") → v (codes "dtd") ≡ w (codes "dtd") → v (codes "limit") ≡ w (codes "limit") → v (codes "root") ≡ w (codes "root") → is_given (v (codes "nesting")) ≡ is_given (w (codes "nesting")) → asked_site v ≡ asked_site w
-site_alike v w e0 e1 e2 e3 e4 = rw (e0, e1, e2, e3, e4) refl
+site_alike : (v w : Values) → v (codes "FILE") ≡ w (codes "FILE") → v (codes "dtd") ≡ w (codes "dtd") → v (codes "limit") ≡ w (codes "limit") → v (codes "root") ≡ w (codes "root") → v (codes "stubs") ≡ w (codes "stubs") → is_given (v (codes "nesting")) ≡ is_given (w (codes "nesting")) → asked_site v ≡ asked_site w
+site_alike v w e0 e1 e2 e3 e4 e5 = rw (e0, e1, e2, e3, e4, e5) refl
 
 site_known : Known program.site
 unfolding program.phpsa clap_on_literals
@@ -355,9 +355,9 @@ site_known = record {
   enters = site_enters;
   entered_is = λ ws. refl;
   table = site_table;
-  alike = λ v w e. site_alike v w (e.texts (codes "FILE") (inl refl)) (e.texts (codes "dtd") (inr (inl refl))) (e.texts (codes "limit") (inr (inr (inl refl)))) (e.texts (codes "root") (inr (inr (inr (inl refl))))) (e.flags (codes "nesting") (inl refl));
-  alone = each (λ n. LeavesAlone n (below (program.command program.site)).rules) (program.site.place ∷ program.site.options) ((inr refl, (inr refl, (inr refl, (inr refl, (inl refl, tt))))), ((inr refl, (inr refl, (inr refl, (inr refl, (inl refl, tt))))), ((inr refl, (inr refl, (inr refl, (inr refl, (inl refl, tt))))), ((inr refl, (inr refl, (inr refl, (inr refl, (inl refl, tt))))), tt))));
-  unset = (refl, (refl, (refl, (refl, (refl, tt)))));
+  alike = λ v w e. site_alike v w (e.texts (codes "FILE") (inl refl)) (e.texts (codes "dtd") (inr (inl refl))) (e.texts (codes "limit") (inr (inr (inl refl)))) (e.texts (codes "root") (inr (inr (inr (inl refl))))) (e.texts (codes "stubs") (inr (inr (inr (inr (inl refl)))))) (e.flags (codes "nesting") (inl refl));
+  alone = each (λ n. LeavesAlone n (below (program.command program.site)).rules) (program.site.place ∷ program.site.options) ((inr refl, (inr refl, (inr refl, (inr refl, (inr refl, (inl refl, tt)))))), ((inr refl, (inr refl, (inr refl, (inr refl, (inr refl, (inl refl, tt)))))), ((inr refl, (inr refl, (inr refl, (inr refl, (inr refl, (inl refl, tt)))))), ((inr refl, (inr refl, (inr refl, (inr refl, (inr refl, (inl refl, tt)))))), ((inr refl, (inr refl, (inr refl, (inr refl, (inr refl, (inl refl, tt)))))), tt)))));
+  unset = (refl, (refl, (refl, (refl, (refl, (refl, tt))))));
   first = λ ws. refl;
 }
 

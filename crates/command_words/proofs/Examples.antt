@@ -1,9 +1,9 @@
 -- Numbers, and near misses; help and the version; what canonical words are.
 use Rattle.std.proofs.Common.{◌≡◌, [], ◌∷◌, Some, None, true, false, true≢false, refl, inl, inr, codes}
-use Rattle.command_words.specs.Program.{check}
+use Rattle.command_words.specs.Program.{check, run}
 use Rattle.command_words.specs.Asked.{number_of, asked_first, help, version}
 use Rattle.command_words.specs.Asked as asked
-use Rattle.command_words.specs.Canonical.{IsCanonical, IsPlain, canonical, joined, flag}
+use Rattle.command_words.specs.Canonical.{IsCanonical, IsPlain, canonical, place, joined, flag}
 
 one_digit : number_of (codes "7") ≡ Some 7
 one_digit = refl
@@ -54,5 +54,8 @@ an_option_is_not_plain : IsPlain (codes "-x") → ⊥
 an_option_is_not_plain e = absurd (true≢false e)
 
 a_check : IsCanonical (codes "check" ∷ codes "--json" ∷ codes "--root=pages" ∷ codes "--" ∷ codes "-" ∷ [])
-    (asked.check (codes "-") (codes "strict") (Some (codes "pages")) 10000 false true)
+    (asked.check (codes "-") (codes "strict") (Some (codes "pages")) None 10000 false true)
 a_check = canonical check (flag (codes "json") ∷ joined (codes "root") (codes "pages") ∷ []) (Some (codes "-")) (inl refl) ((inr (inl refl), refl), ((refl, inr (inr (inl refl)), refl), refl)) refl refl
+
+a_file_of_stubs : IsCanonical (codes "run" ∷ codes "--stubs=env.php" ∷ codes "t.php" ∷ []) (asked.run (codes "t.php") None (Some (codes "env.php")) None 10000000)
+a_file_of_stubs = canonical run (joined (codes "stubs") (codes "env.php") ∷ place (codes "t.php") ∷ []) None (inr (inl refl)) ((refl, inr (inr (inr (inl refl))), refl), ((refl, refl), refl)) refl refl

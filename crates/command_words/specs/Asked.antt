@@ -9,16 +9,16 @@ use Rattle.command_words.specs.declared.values.TheConstants.{PAIR_LIMIT}
 use Rattle.command_words.specs.Program.{phpsa}
 
 -- help, the version, or a command, with the file or the number that it is for; a document type and limits that are left out are `strict`,
--- 10,000 and 10,000,000, and which root is meant where none is given is no matter of words
+-- 10,000 and 10,000,000, which root is meant where none is given is no matter of words, and where no file of stubs is given there is none
 pub data Asked : Type 0 where
   help : Asked
   version : Asked
-  check : (file definition : Text) (root : Option Text) (limit : ℕ) (by_nesting as_json : Bool) → Asked
-  run : (file : Text) (root request : Option Text) (steps : ℕ) → Asked
+  check : (file definition : Text) (root stubs : Option Text) (limit : ℕ) (by_nesting as_json : Bool) → Asked
+  run : (file : Text) (root stubs request : Option Text) (steps : ℕ) → Asked
   page : (file definition : Text) (root : Option Text) → Asked
-  grammar : (file : Text) (root : Option Text) → Asked
+  grammar : (file : Text) (root stubs : Option Text) → Asked
   make : (functions : ℕ) (is_checked : Bool) → Asked
-  site : (file definition : Text) (root : Option Text) (limit : ℕ) (by_nesting : Bool) → Asked
+  site : (file definition : Text) (root stubs : Option Text) (limit : ℕ) (by_nesting : Bool) → Asked
 
 -- what words say of each argument, by its name
 abbrev pub Values : Type 0
@@ -50,12 +50,13 @@ definition_of values = unwrap_or (values (codes "dtd")) (codes "strict")
 -- what `check` asks for; None where the file is missing or the limit is no number
 abbrev pub asked_check : Values → Option Asked
 asked_check values = option_and_then (λ file. option_map
-    (λ limit. check file (definition_of values) (values (codes "root")) limit (is_given (values (codes "nesting"))) (is_given (values (codes "json"))))
+    (λ limit. check file (definition_of values) (values (codes "root")) (values (codes "stubs")) limit
+    (is_given (values (codes "nesting"))) (is_given (values (codes "json"))))
     (number_or PAIR_LIMIT (values (codes "limit")))) (values (codes "FILE"))
 
 -- what `run` asks for; None where the file is missing or the most steps are no number
 abbrev pub asked_run : Values → Option Asked
-asked_run values = option_and_then (λ file. option_map (run file (values (codes "root")) (values (codes "request")))
+asked_run values = option_and_then (λ file. option_map (run file (values (codes "root")) (values (codes "stubs")) (values (codes "request")))
     (number_or 10000000 (values (codes "steps")))) (values (codes "FILE"))
 
 -- what `page` asks for; None where the file is missing
@@ -64,7 +65,7 @@ asked_page values = option_map (λ file. page file (definition_of values) (value
 
 -- what `grammar` asks for; None where the file is missing
 abbrev pub asked_grammar : Values → Option Asked
-asked_grammar values = option_map (λ file. grammar file (values (codes "root"))) (values (codes "FILE"))
+asked_grammar values = option_map (λ file. grammar file (values (codes "root")) (values (codes "stubs"))) (values (codes "FILE"))
 
 -- what `make` asks for; None where the number of functions is missing or none
 abbrev pub asked_make : Values → Option Asked
@@ -74,7 +75,7 @@ asked_make values = option_map (λ functions. make functions (is_given (values (
 -- what `site` asks for; None where the file is missing or the limit is no number
 abbrev pub asked_site : Values → Option Asked
 asked_site values = option_and_then (λ file. option_map
-    (λ limit. site file (definition_of values) (values (codes "root")) limit (is_given (values (codes "nesting"))))
+    (λ limit. site file (definition_of values) (values (codes "root")) (values (codes "stubs")) limit (is_given (values (codes "nesting"))))
     (number_or PAIR_LIMIT (values (codes "limit")))) (values (codes "FILE"))
 
 -- what the command of this word asks for

@@ -17,11 +17,11 @@ row_of word place options flags = record { word = word; place = place; options =
 
 -- `phpsa check`: a script is decided
 abbrev pub check : Row
-check = row_of (codes "check") (codes "FILE") (codes "dtd" ∷ codes "limit" ∷ codes "root" ∷ []) (codes "nesting" ∷ codes "json" ∷ [])
+check = row_of (codes "check") (codes "FILE") (codes "dtd" ∷ codes "limit" ∷ codes "root" ∷ codes "stubs" ∷ []) (codes "nesting" ∷ codes "json" ∷ [])
 
 -- `phpsa run`: a script is run
 abbrev pub run : Row
-run = row_of (codes "run") (codes "FILE") (codes "request" ∷ codes "steps" ∷ codes "root" ∷ []) []
+run = row_of (codes "run") (codes "FILE") (codes "request" ∷ codes "steps" ∷ codes "root" ∷ codes "stubs" ∷ []) []
 
 -- `phpsa page`: a page is judged
 abbrev pub page : Row
@@ -29,7 +29,7 @@ page = row_of (codes "page") (codes "FILE") (codes "dtd" ∷ codes "root" ∷ []
 
 -- `phpsa grammar`: the grammar of a script is written
 abbrev pub grammar : Row
-grammar = row_of (codes "grammar") (codes "FILE") (codes "root" ∷ []) []
+grammar = row_of (codes "grammar") (codes "FILE") (codes "root" ∷ codes "stubs" ∷ []) []
 
 -- `phpsa make`: a script is made
 abbrev pub make : Row
@@ -37,7 +37,7 @@ make = row_of (codes "make") (codes "N") [] (codes "check" ∷ [])
 
 -- `phpsa site`: each script of a list is decided
 abbrev pub site : Row
-site = row_of (codes "site") (codes "FILE") (codes "dtd" ∷ codes "limit" ∷ codes "root" ∷ []) (codes "nesting" ∷ [])
+site = row_of (codes "site") (codes "FILE") (codes "dtd" ∷ codes "limit" ∷ codes "root" ∷ codes "stubs" ∷ []) (codes "nesting" ∷ [])
 
 -- all commands
 abbrev pub commands : List Row

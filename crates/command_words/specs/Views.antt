@@ -16,12 +16,12 @@ text_as text = option_map (λ one. one.now) text
 abbrev pub asked_as : CommandLine → Asked
 asked_as Help = help
 asked_as Version = version
-asked_as (Check file definition root limit by_nesting as_json) = check file.now definition.now (text_as root) limit by_nesting as_json
-asked_as (Run file root request steps) = run file.now (text_as root) (text_as request) steps
+asked_as (Check file definition root stubs limit by_nesting as_json) = check file.now definition.now (text_as root) (text_as stubs) limit by_nesting as_json
+asked_as (Run file root stubs request steps) = run file.now (text_as root) (text_as stubs) (text_as request) steps
 asked_as (Page file definition root) = page file.now definition.now (text_as root)
-asked_as (Grammar file root) = grammar file.now (text_as root)
+asked_as (Grammar file root stubs) = grammar file.now (text_as root) (text_as stubs)
 asked_as (Make functions is_checked) = make functions is_checked
-asked_as (Site file definition root limit by_nesting) = site file.now definition.now (text_as root) limit by_nesting
+asked_as (Site file definition root stubs limit by_nesting) = site file.now definition.now (text_as root) (text_as stubs) limit by_nesting
 
 -- the words ask for nothing, and where `clap` takes them there is no line of its own; or memory was wanting
 abbrev pub IsRefused : List Text → WordsRefusal → Type 0

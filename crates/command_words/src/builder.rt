@@ -112,14 +112,19 @@ fn program<'a>(alloc: Global) -> Result<Command<'a>, AllocError>
     let check = row_with(
         "check",
         "FILE",
-        &["dtd", "limit", "root"],
+        &["dtd", "limit", "root", "stubs"],
         &["nesting", "json"],
     );
-    let run = row_with("run", "FILE", &["request", "steps", "root"], &[]);
+    let run = row_with("run", "FILE", &["request", "steps", "root", "stubs"], &[]);
     let page = row_with("page", "FILE", &["dtd", "root"], &[]);
-    let grammar = row_with("grammar", "FILE", &["root"], &[]);
+    let grammar = row_with("grammar", "FILE", &["root", "stubs"], &[]);
     let make = row_with("make", "N", &[], &["check"]);
-    let site = row_with("site", "FILE", &["dtd", "limit", "root"], &["nesting"]);
+    let site = row_with(
+        "site",
+        "FILE",
+        &["dtd", "limit", "root", "stubs"],
+        &["nesting"],
+    );
     let program = with_command(alloc, bare_program(alloc), check)?;
     let program = with_command(alloc, program, run)?;
     let program = with_command(alloc, program, page)?;

@@ -2,8 +2,8 @@
 
 /// A command with the values of its arguments, or what is told of all of them.
 ///
-/// `root` is the folder that includes, and the files of a definition, may not leave; none where the
-/// words give none.
+/// `root` is the folder that includes, and the files of a definition, may not leave, and `stubs` the
+/// file whose functions stand for functions of the host; none where the words give none.
 #[derive(Clone, Copy, Debug, PartialEq, Eq)]
 pub enum CommandLine<'a> {
     /// Tells what the commands and their options are.
@@ -16,6 +16,7 @@ pub enum CommandLine<'a> {
         file: &'a str,
         definition: &'a str,
         root: Option<&'a str>,
+        stubs: Option<&'a str>,
         limit: u32,
         by_nesting: bool,
         as_json: bool,
@@ -24,6 +25,7 @@ pub enum CommandLine<'a> {
     Run {
         file: &'a str,
         root: Option<&'a str>,
+        stubs: Option<&'a str>,
         request: Option<&'a str>,
         steps: u32,
     },
@@ -37,6 +39,7 @@ pub enum CommandLine<'a> {
     Grammar {
         file: &'a str,
         root: Option<&'a str>,
+        stubs: Option<&'a str>,
     },
     /// Writes a generated script with so many functions, or checks it.
     Make {
@@ -49,6 +52,7 @@ pub enum CommandLine<'a> {
         file: &'a str,
         definition: &'a str,
         root: Option<&'a str>,
+        stubs: Option<&'a str>,
         limit: u32,
         by_nesting: bool,
     },

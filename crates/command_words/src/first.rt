@@ -7,7 +7,7 @@ ghost use Rattle.command_words.specs.Views.{asked_as};
 use crate::command_line::CommandLine;
 
 /// Whether all words behind this one are names.
-fn ends_options(word: &str) -> bool
+pub fn ends_options(word: &str) -> bool
     ensures { result ≡ spec.ends_options word.now }
 {
     word == "--"
@@ -20,7 +20,7 @@ fn is_help(word: &str) -> bool
 }
 
 /// Whether a word ahead of `--` asks for help.
-fn has_help(words: &[String]) -> bool
+pub fn has_help(words: &[String]) -> bool
     ensures { result ≡ spec.has_help (map string_bytes words.now) }
 {
     let mut rest = words;

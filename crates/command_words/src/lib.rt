@@ -2,7 +2,7 @@
 //! Promise: `read_words` gives only what the words ask for (`Asks` of specs/Asked, clause `ok`),
 //! and `Usage` only where they ask for nothing (`AsksNothing`, clause `refused`).
 //! Laws of `laws`: words in the forms of the documents (specs/Canonical) are taken, in any order.
-//! Used by: phpsa_tasks, phpsa_main, base_tests.
+//! Used by: call_options, phpsa_tasks, phpsa_main, several_files, base_tests.
 #![tactic(auto)]
 
 ghost use Rattle.std.specs.Prelude.{IfOk, IfErr, map, string_bytes};
@@ -21,6 +21,7 @@ use crate::builder::matches_of;
 use crate::first::asked_first;
 use crate::values::line_by;
 pub use command_line::CommandLine;
+pub use first::{ends_options, has_help};
 pub use refusal::WordsRefusal;
 use std::alloc::Global;
 pub use values::PAIR_LIMIT;

@@ -50,6 +50,7 @@ fn check_line<'a>(matches: &ArgMatches<'a>) -> Option<CommandLine<'a>>
         file,
         definition: definition_of(matches),
         root: value(matches, "root"),
+        stubs: value(matches, "stubs"),
         limit,
         by_nesting: is_given(matches, "nesting"),
         as_json: is_given(matches, "json"),
@@ -65,6 +66,7 @@ fn run_line<'a>(matches: &ArgMatches<'a>) -> Option<CommandLine<'a>>
     Some(CommandLine::Run {
         file,
         root: value(matches, "root"),
+        stubs: value(matches, "stubs"),
         request: value(matches, "request"),
         steps,
     })
@@ -88,6 +90,7 @@ fn grammar_line<'a>(matches: &ArgMatches<'a>) -> Option<CommandLine<'a>>
     Some(CommandLine::Grammar {
         file: value(matches, "FILE")?,
         root: value(matches, "root"),
+        stubs: value(matches, "stubs"),
     })
 }
 
@@ -111,6 +114,7 @@ fn site_line<'a>(matches: &ArgMatches<'a>) -> Option<CommandLine<'a>>
         file,
         definition: definition_of(matches),
         root: value(matches, "root"),
+        stubs: value(matches, "stubs"),
         limit,
         by_nesting: is_given(matches, "nesting"),
     })
