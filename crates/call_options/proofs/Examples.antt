@@ -79,3 +79,10 @@ the_second_line = refl
 
 a_root : with_options (codes "run" ∷ codes "t.php" ∷ []) ((codes "root", codes "..") ∷ (codes "dtd", codes "mini") ∷ []) ≡ codes "run" ∷ codes "--root=.." ∷ codes "t.php" ∷ []
 a_root = refl
+
+a_file_of_stubs : outcome (codes "stubs = 'env.php'\n") ≡ gives ((codes "stubs", codes "env.php") ∷ [])
+unfolding is_utf8 chars digits toml_on_literals
+a_file_of_stubs = refl
+
+stubs_of_a_page : with_options (codes "page" ∷ codes "t.html" ∷ []) ((codes "stubs", codes "env.php") ∷ []) ≡ codes "page" ∷ codes "t.html" ∷ []
+stubs_of_a_page = refl

@@ -18,7 +18,8 @@ abbrev pub kind_of : List ℕ → Option Kind
 kind_of said =
     if bytes_eq said (codes "dtd") then Some name
     else (if bytes_eq said (codes "limit") then Some number
-    else (if bytes_eq said (codes "root") then Some name else None))
+    else (if bytes_eq said (codes "root") then Some name
+    else (if bytes_eq said (codes "stubs") then Some name else None)))
 
 -- a text that words may have as a value: neither empty nor with `-` (45) in front, but that it may be `-` alone
 abbrev pub is_plain : List ℕ → Bool

@@ -21,7 +21,7 @@ file_name = OPTIONS_FILE.now
 
 -- the command of this word takes an option that the file may give
 abbrev pub takes_some : List ℕ → Bool
-takes_some word = takes word (codes "dtd") || (takes word (codes "limit") || takes word (codes "root"))
+takes_some word = takes word (codes "dtd") || (takes word (codes "limit") || (takes word (codes "root") || takes word (codes "stubs")))
 
 -- words that ask for the file: their command takes such an option, and no word ahead of `--` asks for help
 abbrev pub ask_for_options : List (List ℕ) → Bool

@@ -1,7 +1,6 @@
 //! The words of a call with the options of its file.
 
 ghost use Rattle.std.specs.Prelude.{◌≡◌, ◌≢◌, Err, IfErr, OnOk, map, string_bytes};
-ghost use Rattle.command_words.specs.Asked.{has_help};
 ghost use Rattle.io_edge.specs.Told.{Stays};
 ghost use Rattle.call_options.specs.Reading.{HasOptions, IsFault, file_name, look_of};
 ghost use Rattle.call_options.specs.Reading as spec;
@@ -11,35 +10,18 @@ use crate::putting::put_options;
 use crate::reading::read_options;
 use crate::refusal::OptionsFault;
 use crate::taking::takes;
+use command_words::has_help;
 use io_edge::{FileFault, FileKind, Files};
 use std::alloc::Global;
 
 /// The name of the file of options, which is looked for in the folder of the call.
 pub const OPTIONS_FILE: &str = "phpsa.toml";
 
-/// Whether a word ahead of `--` asks for help.
-fn ask_for_help(words: &[String]) -> bool
-    ensures { result ≡ has_help (map string_bytes words.now) }
-{
-    let mut rest = words;
-    while let Some((word, others)) = rest.split_first() {
-        let word = word.as_str();
-        if word == "--" {
-            return false;
-        }
-        if word == "--help" || word == "-h" {
-            return true;
-        }
-        rest = others;
-    }
-    false
-}
-
 /// Whether the command of this word takes an option that the file may give.
 fn takes_some(word: &str) -> bool
     ensures { result ≡ spec.takes_some word.now }
 {
-    takes(word, "dtd") || takes(word, "limit") || takes(word, "root")
+    takes(word, "dtd") || takes(word, "limit") || takes(word, "root") || takes(word, "stubs")
 }
 
 /// Whether the words ask for the file of options.
@@ -48,7 +30,7 @@ fn ask_for_options(words: &[String]) -> bool
 {
     match words {
         [] => false,
-        [command, ..] => takes_some(command.as_str()) && !ask_for_help(words),
+        [command, ..] => takes_some(command.as_str()) && !has_help(words),
     }
 }
 

@@ -21,7 +21,7 @@ fn kind_of(name: &str) -> Option<Kind>
     if name == "limit" {
         return Some(Kind::Number);
     }
-    if name == "root" {
+    if name == "root" || name == "stubs" {
         return Some(Kind::Name);
     }
     None

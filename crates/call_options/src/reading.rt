@@ -48,8 +48,8 @@ fn parse(alloc: Global, file: &[u8]) -> Result<Table, OptionsRefusal>
     }
 }
 
-/// The options that a file of TOML 1.1 in UTF-8 gives, in byte order of their names: `dtd` and
-/// `root`, texts that are neither empty nor begin with `-`, but that they may be `-` alone, and
+/// The options that a file of TOML 1.1 in UTF-8 gives, in byte order of their names: `dtd`, `root`
+/// and `stubs`, texts that are neither empty nor begin with `-`, but that they may be `-` alone, and
 /// `limit`, an integer from 1 to 99,999,999.
 ///
 /// # Errors

@@ -3,6 +3,8 @@
 ghost use Rattle.std.specs.Prelude.{◌≡◌, map, string_bytes};
 ghost use Rattle.call_options.specs.Words as spec;
 
+use command_words::ends_options;
+
 /// Whether this is the name, or the name with `=` behind it and any value.
 fn is_named(name: &[u8], bytes: &[u8]) -> bool
     ensures { result ≡ spec.is_named name.now bytes.now }
@@ -45,7 +47,7 @@ pub(crate) fn say(words: &[String], name: &str) -> bool
     let mut rest = words;
     while let Some((word, others)) = rest.split_first() {
         let word = word.as_str();
-        if word == "--" {
+        if ends_options(word) {
             return false;
         }
         if is_option(name.as_bytes(), word.as_bytes()) {

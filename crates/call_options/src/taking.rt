@@ -8,19 +8,19 @@ pub(crate) fn takes(word: &str, name: &str) -> bool
     ensures { result ≡ spec.takes word.now name.now }
 {
     if word == "check" {
-        return name == "dtd" || name == "limit" || name == "root";
+        return name == "dtd" || name == "limit" || name == "root" || name == "stubs";
     }
     if word == "run" {
-        return name == "request" || name == "steps" || name == "root";
+        return name == "request" || name == "steps" || name == "root" || name == "stubs";
     }
     if word == "page" {
         return name == "dtd" || name == "root";
     }
     if word == "grammar" {
-        return name == "root";
+        return name == "root" || name == "stubs";
     }
     if word == "make" {
         return false;
     }
-    word == "site" && (name == "dtd" || name == "limit" || name == "root")
+    word == "site" && (name == "dtd" || name == "limit" || name == "root" || name == "stubs")
 }
