@@ -26,7 +26,7 @@ use Rattle.phpsa_texts.specs.declared.exit.Exit.TheVariants as exit
 use Rattle.phpsa_texts.specs.declared.message.Refusal.{Refusal}
 use Rattle.phpsa_texts.specs.Statuses.{status_of, load_status, file_status, definition_status, list_status}
 use Rattle.phpsa_texts.specs.Texts.{IsTold, load_text, file_text, definition_text, list_text}
-use Rattle.phpsa_tasks.specs.Tasks.{RootedFile, rooted, root_of, list_check}
+use Rattle.phpsa_tasks.specs.Tasks.{ScriptFile, script_file, root_of, list_check}
 use Rattle.phpsa_tasks.specs.Subjects.{IsLoadedInside}
 use Rattle.phpsa_tasks.specs.Causes.{definition_call, list_unread, no_list, list_lacks_definition}
 use Rattle.phpsa_tasks.specs.Sites.{line_of, IsLineFor, tells_answer, tells_refusal}
@@ -119,7 +119,7 @@ calm_of before now own status is (inl fault) other = absurd (other (is ∙ fault
 calm_of before now own status is (inr same) other = same
 
 -- the program is not loaded
-pub unloaded_by : (files : SourceCall) (file : RootedFile) (table : Table) (goal : Goal) (limit : ℕ) (cause : LoadRefusal) (refusal : Refusal) → IsLoadCause files (root_of file) file.name cause
+pub unloaded_by : (files : SourceCall) (file : ScriptFile) (table : Table) (goal : Goal) (limit : ℕ) (cause : LoadRefusal) (refusal : Refusal) → IsLoadCause files (root_of file) file.name cause
     → IsTold refusal (load_status cause) (load_text cause) → DecidesBy files file table goal limit (Err refusal)
 unloaded_by files file table goal limit cause (Refusal.Told message) why (status_is, text_is) = (
   inl (cause, why, status_is, text_is),
@@ -130,7 +130,7 @@ unloaded_by files file table goal limit cause (Refusal.Told message) why (status
 unloaded_by files file table goal limit cause Refusal.Memory why says = tt
 
 -- the program is decided, or not
-pub decided_by : (files : SourceCall) (file : RootedFile) (table : Table) (goal : Goal) (limit : ℕ) (program : PlainProgram) (decision : Decision) → IsLoadedInside files.content file program
+pub decided_by : (files : SourceCall) (file : ScriptFile) (table : Table) (goal : Goal) (limit : ℕ) (program : PlainProgram) (decision : Decision) → IsLoadedInside files.content file program
     → MissesItsNames files file.name files.misses' → files.faults' ≡ files.faults → IsProgramDecided table program file.name goal limit decision → DecidesBy files file table goal limit decision
 decided_by files file table goal limit program (Ok answer) loaded behind calm is = (program, loaded, is, calm)
 decided_by files file table goal limit program (Err (Refusal.Told message)) loaded behind calm (inl (long, (status_is, text_is))) = (
@@ -169,8 +169,8 @@ no_fault status e is = let at : true ≡ false = subst (λ (s : Exit). nat_eq (s
 
 -- the line of an answer, and that of a refusal
 pub line_answers : (files : SourceCall) (before : Content) (root : Option (List ℕ)) (name : List ℕ) (table : Table) (goal : Goal) (limit : ℕ) (answer : ShownAnswer) (line : Line)
-    → Leads (moment before files.faults files.misses) (moment files.content files.faults' files.misses') → DecidesBy files (rooted name root) table goal limit (Ok answer) → line ≡ line_of answer
-    → IsAnswered (λ content other l. IsLineFor table goal limit content (rooted other root) l) (moment before files.faults files.misses) (moment files.content files.faults' files.misses') name line
+    → Leads (moment before files.faults files.misses) (moment files.content files.faults' files.misses') → DecidesBy files (script_file name root) table goal limit (Ok answer) → line ≡ line_of answer
+    → IsAnswered (λ content other l. IsLineFor table goal limit content (script_file other root) l) (moment before files.faults files.misses) (moment files.content files.faults' files.misses') name line
 line_answers files before root name table goal limit answer line leads (program, loaded, is, calm) same = record {
   leads = leads;
   may = tells_answer program answer loaded is same;
@@ -180,8 +180,8 @@ line_answers files before root name table goal limit answer line leads (program,
 }
 
 pub line_refuses : (files : SourceCall) (before : Content) (root : Option (List ℕ)) (name : List ℕ) (table : Table) (goal : Goal) (limit : ℕ) (refusal : Refusal) (line : Line)
-    → Leads (moment before files.faults files.misses) (moment files.content files.faults' files.misses') → DecidesBy files (rooted name root) table goal limit (Err refusal) → IsRefusedLine refusal line
-    → IsAnswered (λ content other l. IsLineFor table goal limit content (rooted other root) l) (moment before files.faults files.misses) (moment files.content files.faults' files.misses') name line
+    → Leads (moment before files.faults files.misses) (moment files.content files.faults' files.misses') → DecidesBy files (script_file name root) table goal limit (Err refusal) → IsRefusedLine refusal line
+    → IsAnswered (λ content other l. IsLineFor table goal limit content (script_file other root) l) (moment before files.faults files.misses) (moment files.content files.faults' files.misses') name line
 line_refuses files before root name table goal limit (Refusal.Told message) line leads (why, missing, failed, calm) (same, told) = record {
   leads = leads;
   may = tells_refusal files message.status message.text refl why told same;
@@ -192,11 +192,11 @@ line_refuses files before root name table goal limit (Refusal.Told message) line
 line_refuses files before root name table goal limit Refusal.Memory line leads decides none = absurd none
 
 -- no memory was left
-wanting_list : (files : SourceCall) (file : RootedFile) (d : NamedType) (goal : Goal) (limit : ℕ) → Does files (list_check file d goal limit) (Err Refusal.Memory)
+wanting_list : (files : SourceCall) (file : ScriptFile) (d : NamedType) (goal : Goal) (limit : ℕ) → Does files (list_check file d goal limit) (Err Refusal.Memory)
 wanting_list files file d goal limit = record { due = tt; read = tt; faults = inr (wanted_faults files) }
 
 -- the list is not read, or its text is none
-pub unread_list : (files : SourceCall) (file : RootedFile) (d : NamedType) (goal : Goal) (limit : ℕ) (fault : FileFault) (refusal : Refusal)
+pub unread_list : (files : SourceCall) (file : ScriptFile) (d : NamedType) (goal : Goal) (limit : ℕ) (fault : FileFault) (refusal : Refusal)
     → HasReason (files.content file.name) files.faults files.faults' files.misses files.misses' fault → (file_status fault ≡ exit.ReadFault) ⊎ (files.faults' ≡ files.faults)
     → IsTold refusal (file_status fault) (file_text fault file.name) → Does files (list_check file d goal limit) (Err refusal)
 unread_list files file d goal limit fault (Refusal.Told message) why faults (status_is, text_is) = record {
@@ -206,14 +206,14 @@ unread_list files file d goal limit fault (Refusal.Told message) why faults (sta
 }
 unread_list files file d goal limit fault Refusal.Memory why faults says = wanting_list files file d goal limit
 
-pub refused_list : (files : SourceCall) (file : RootedFile) (d : NamedType) (goal : Goal) (limit : ℕ) (list : List ℕ) (cause : ListRefusal) (refusal : Refusal) → Tells (files.content file.name) (Some list)
+pub refused_list : (files : SourceCall) (file : ScriptFile) (d : NamedType) (goal : Goal) (limit : ℕ) (list : List ℕ) (cause : ListRefusal) (refusal : Refusal) → Tells (files.content file.name) (Some list)
     → IsNoList list cause → files.faults' ≡ files.faults → IsTold refusal (list_status cause) (list_text cause) → Does files (list_check file d goal limit) (Err refusal)
 refused_list files file d goal limit list cause (Refusal.Told message) told why calm (status_is, text_is) =
     record { due = no_list list cause told why status_is text_is; read = tt; faults = inr (inr calm) }
 refused_list files file d goal limit list cause Refusal.Memory told why calm says = wanting_list files file d goal limit
 
 -- there is no definition
-pub undefined_list : (files : SourceCall) (file : RootedFile) (d : NamedType) (goal : Goal) (limit : ℕ) (list : List ℕ) (cause : DefinitionRefusal) (refusal : Refusal)
+pub undefined_list : (files : SourceCall) (file : ScriptFile) (d : NamedType) (goal : Goal) (limit : ℕ) (list : List ℕ) (cause : DefinitionRefusal) (refusal : Refusal)
     → Tells (files.content file.name) (Some list) → IsList list → IsDefinitionRefusal (definition_call files) d cause → IsTold refusal (definition_status cause) (definition_text cause)
     → Does files (list_check file d goal limit) (Err refusal)
 undefined_list files file d goal limit list cause (Refusal.Told message) told is why (status_is, text_is) = record {
@@ -224,7 +224,7 @@ undefined_list files file d goal limit list cause (Refusal.Told message) told is
 undefined_list files file d goal limit list cause Refusal.Memory told is why says = wanting_list files file d goal limit
 
 -- the report is made
-report_does : (files : SourceCall) (file : RootedFile) (d : NamedType) (goal : Goal) (limit : ℕ) (before : Content) (list : List ℕ) (table : Table) (result : TaskResult)
+report_does : (files : SourceCall) (file : ScriptFile) (d : NamedType) (goal : Goal) (limit : ℕ) (before : Content) (list : List ℕ) (table : Table) (result : TaskResult)
     → Tells (files.content file.name) (Some list) → HasTable files.content d table → IsList list
     → HasReport file.root table goal limit (moment before files.faults files.misses) (moment files.content files.faults' files.misses') (names_in list) result
     → Does files (list_check file d goal limit) result
@@ -244,7 +244,7 @@ report_does files file d goal limit before list table (Err (Refusal.Told message
 report_does files file d goal limit before list table (Err Refusal.Memory) told has is says = wanting_list files file d goal limit
 
 -- behind a definition whose reading counted nothing
-pub reported_list : (files : SourceCall) (file : RootedFile) (d : NamedType) (goal : Goal) (limit : ℕ) (before : Content) (faults misses : ℕ) (list : List ℕ) (table : Table) (names : List (List ℕ))
+pub reported_list : (files : SourceCall) (file : ScriptFile) (d : NamedType) (goal : Goal) (limit : ℕ) (before : Content) (faults misses : ℕ) (list : List ℕ) (table : Table) (names : List (List ℕ))
     (result : TaskResult) → Tells (files.content file.name) (Some list) → HasTable files.content d table → IsList list → names ≡ names_in list → faults ≡ files.faults → misses ≡ files.misses
     → HasReport file.root table goal limit (moment before faults misses) (moment files.content files.faults' files.misses') names result
     → Does files (list_check file d goal limit) result

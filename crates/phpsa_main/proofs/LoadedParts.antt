@@ -23,7 +23,7 @@ use Rattle.phpsa_texts.specs.Statuses.{load_status, file_status, request_status}
 use Rattle.phpsa_texts.specs.Texts.{IsTold, load_text, file_text, request_text}
 use Rattle.phpsa_tasks.specs.declared.reply.Reply.{Reply}
 use Rattle.phpsa_tasks.specs.declared.reply.Reply.TheVariants as reply
-use Rattle.phpsa_tasks.specs.Tasks.{RootedFile, root_of, script_run, grammar_making}
+use Rattle.phpsa_tasks.specs.Tasks.{ScriptFile, root_of, script_run, grammar_making}
 use Rattle.phpsa_tasks.specs.Subjects.{IsLoadedInside}
 use Rattle.phpsa_tasks.specs.Requests.{unread, no_request_in, RefusesRequest}
 use Rattle.phpsa_tasks.specs.Counted.{uncounted, ReadsItsFiles, MissesItsNames, from_misses, ReadsForRun}
@@ -37,14 +37,14 @@ own_files : (files : SourceCall) (root name : List ℕ) (program : PlainProgram)
 own_files files root name program l = record { asks = asked_names files files.content root name program (stays_same files.content files.content refl) l; counted = l.source.counted }
 
 -- no memory was left
-pub wanting_grammar : (files : SourceCall) (file : RootedFile) → Does files (grammar_making file) (Err Refusal.Memory)
+pub wanting_grammar : (files : SourceCall) (file : ScriptFile) → Does files (grammar_making file) (Err Refusal.Memory)
 wanting_grammar files file = record { due = tt; read = inl (5, lit< tt, refl); faults = wanted_faults files }
 
-pub wanting_run : (files : SourceCall) (file : RootedFile) (request : Option (List ℕ)) (steps : ℕ) → Does files (script_run file request steps) (Err Refusal.Memory)
+pub wanting_run : (files : SourceCall) (file : ScriptFile) (request : Option (List ℕ)) (steps : ℕ) → Does files (script_run file request steps) (Err Refusal.Memory)
 wanting_run files file request steps = record { due = tt; read = inl (5, lit< tt, refl); faults = wanted_faults files }
 
 -- the program is not loaded
-pub unloaded_grammar : (files : SourceCall) (file : RootedFile) (cause : LoadRefusal) (refusal : Refusal) → IsLoadCause files (root_of file) file.name cause
+pub unloaded_grammar : (files : SourceCall) (file : ScriptFile) (cause : LoadRefusal) (refusal : Refusal) → IsLoadCause files (root_of file) file.name cause
     → IsTold refusal (load_status cause) (load_text cause) → Does files (grammar_making file) (Err refusal)
 unloaded_grammar files file cause (Refusal.Told message) why (status_is, text_is) = record {
   due = inl (cause, why, status_is, text_is);
@@ -53,7 +53,7 @@ unloaded_grammar files file cause (Refusal.Told message) why (status_is, text_is
 }
 unloaded_grammar files file cause Refusal.Memory why says = wanting_grammar files file
 
-pub unloaded_run : (files : SourceCall) (file : RootedFile) (request : Option (List ℕ)) (steps : ℕ) (cause : LoadRefusal) (refusal : Refusal) → IsLoadCause files (root_of file) file.name cause
+pub unloaded_run : (files : SourceCall) (file : ScriptFile) (request : Option (List ℕ)) (steps : ℕ) (cause : LoadRefusal) (refusal : Refusal) → IsLoadCause files (root_of file) file.name cause
     → IsTold refusal (load_status cause) (load_text cause) → Does files (script_run file request steps) (Err refusal)
 unloaded_run files file request steps cause (Refusal.Told message) why (status_is, text_is) = record {
   due = inl (cause, why, status_is, text_is);
@@ -63,7 +63,7 @@ unloaded_run files file request steps cause (Refusal.Told message) why (status_i
 unloaded_run files file request steps cause Refusal.Memory why says = wanting_run files file request steps
 
 -- the grammar of the program is made, or not
-pub grammar_does : (files : SourceCall) (file : RootedFile) (program : PlainProgram) (result : TaskResult) → Loads files (root_of file) file.name program → IsLoadedInside files.content file program
+pub grammar_does : (files : SourceCall) (file : ScriptFile) (program : PlainProgram) (result : TaskResult) → Loads files (root_of file) file.name program → IsLoadedInside files.content file program
     → HasGrammarReply program file.name result → Does files (grammar_making file) result
 grammar_does files file program (Ok (reply.Text message)) l loaded says = record {
   due = record { subject = program; found = loaded; says = says };
@@ -151,7 +151,7 @@ run_misses files root name program content faults misses reads stays l = record 
 }
 
 -- there is no request
-pub lacks_request : (files : SourceCall) (file : RootedFile) (request : Option (List ℕ)) (steps : ℕ) (content : Content) (faults misses reads : ℕ) (program : PlainProgram) (refusal : Refusal)
+pub lacks_request : (files : SourceCall) (file : ScriptFile) (request : Option (List ℕ)) (steps : ℕ) (content : Content) (faults misses reads : ℕ) (program : PlainProgram) (refusal : Refusal)
     → Stays content files.content → Loads (source_call content files.faults faults files.misses misses files.reads reads) (root_of file) file.name program → IsLoadedInside files.content file program
     → HasRequest (source_call files.content files.faults files.faults' misses files.misses' reads files.reads') request (Err refusal)
     → Does files (script_run file request steps) (Err refusal)
@@ -168,7 +168,7 @@ lacks_request files file request steps content faults misses reads program (Refu
 lacks_request files file request steps content faults misses reads program Refusal.Memory stays l loaded has = wanting_run files file request steps
 
 -- the program was run
-pub run_does : (files : SourceCall) (file : RootedFile) (request : Option (List ℕ)) (steps : ℕ) (content : Content) (faults misses reads : ℕ) (program : PlainProgram) (asked : PlainRequest) (own : Reply)
+pub run_does : (files : SourceCall) (file : ScriptFile) (request : Option (List ℕ)) (steps : ℕ) (content : Content) (faults misses reads : ℕ) (program : PlainProgram) (asked : PlainRequest) (own : Reply)
     → Stays content files.content → Loads (source_call content files.faults faults files.misses misses files.reads reads) (root_of file) file.name program → IsLoadedInside files.content file program
     → HasRequest (source_call files.content files.faults files.faults' misses files.misses' reads files.reads') request (Ok asked) → Admitted asked
     → IsReplyOfRun program asked steps own → Does files (script_run file request steps) (Ok own)

@@ -25,7 +25,7 @@ use Rattle.phpsa_texts.specs.declared.message.Refusal.{Refusal}
 use Rattle.phpsa_texts.specs.Statuses.{load_status, definition_status}
 use Rattle.phpsa_texts.specs.Texts.{Says, IsTold, load_text, definition_text}
 use Rattle.phpsa_tasks.specs.declared.reply.Reply.TheVariants as reply
-use Rattle.phpsa_tasks.specs.Tasks.{RootedFile, root_of, script_check}
+use Rattle.phpsa_tasks.specs.Tasks.{ScriptFile, root_of, script_check}
 use Rattle.phpsa_tasks.specs.Subjects.{IsLoadedInside}
 use Rattle.phpsa_tasks.specs.ScriptAnswers.{answer_status, answer_text}
 use Rattle.phpsa_tasks.specs.Causes.{definition_call, RefusesScript, not_defined, large_models, not_loaded, lacks_definition, has_long_text}
@@ -63,7 +63,7 @@ load_faults call root name (load.TooMany count) (inr large) = inr large.source.u
 load_faults call root name load.Memory (missed, same) = inr same
 
 -- the program is not loaded
-pub load_decides : (files : SourceCall) (file : RootedFile) (d : NamedType) (goal : Goal) (limit : ℕ) (cause : LoadRefusal) (refusal : Refusal) → IsLoadCause files (root_of file) file.name cause
+pub load_decides : (files : SourceCall) (file : ScriptFile) (d : NamedType) (goal : Goal) (limit : ℕ) (cause : LoadRefusal) (refusal : Refusal) → IsLoadCause files (root_of file) file.name cause
     → IsTold refusal (load_status cause) (load_text cause) → Decides files file d goal limit (Err refusal)
 load_decides files file d goal limit cause (Refusal.Told message) why (status_is, text_is) = record {
   why = not_loaded cause why status_is text_is;
@@ -73,7 +73,7 @@ load_decides files file d goal limit cause (Refusal.Told message) why (status_is
 load_decides files file d goal limit cause Refusal.Memory why says = tt
 
 -- there is no definition
-pub definition_decides : (files : SourceCall) (file : RootedFile) (d : NamedType) (goal : Goal) (limit : ℕ) (cause : DefinitionRefusal) (refusal : Refusal)
+pub definition_decides : (files : SourceCall) (file : ScriptFile) (d : NamedType) (goal : Goal) (limit : ℕ) (cause : DefinitionRefusal) (refusal : Refusal)
     (program : PlainProgram) (misses : ℕ) → IsLoadedInside files.content file program → MissesItsNames files file.name misses
     → IsDefinitionRefusal (definition_call (from_misses misses files)) d cause → (IsBuiltIn d → ReadsItsFiles files file.name) → IsTold refusal (definition_status cause) (definition_text cause) → Decides files file d goal limit (Err refusal)
 definition_decides files file d goal limit cause (Refusal.Told message) program misses loaded behind why read (status_is, text_is) = record {
@@ -83,14 +83,14 @@ definition_decides files file d goal limit cause (Refusal.Told message) program 
 }
 definition_decides files file d goal limit cause Refusal.Memory program misses loaded behind why read says = tt
 
-program_refused : (files : SourceCall) (file : RootedFile) (d : NamedType) (table : Table) (program : PlainProgram) (misses : ℕ) (message : Message) → HasTable files.content d table
+program_refused : (files : SourceCall) (file : ScriptFile) (d : NamedType) (table : Table) (program : PlainProgram) (misses : ℕ) (message : Message) → HasTable files.content d table
     → IsLoadedInside files.content file program → MissesItsNames files file.name misses → IsProgramRefused table program file.name message → RefusesScript files file d message.status message.text
 program_refused files file d table program misses message has loaded behind (inl (long, (status_is, text_is))) = has_long_text program loaded long status_is text_is
 program_refused files file d table program misses message has loaded behind (inr (count, many, (status_is, text_is))) =
     lacks_definition program misses loaded behind (large_models table count has many status_is text_is)
 
 -- the program is decided, or not
-pub program_decides : (files : SourceCall) (file : RootedFile) (d : NamedType) (goal : Goal) (limit : ℕ) (table : Table) (program : PlainProgram) (misses : ℕ) (decision : Decision)
+pub program_decides : (files : SourceCall) (file : ScriptFile) (d : NamedType) (goal : Goal) (limit : ℕ) (table : Table) (program : PlainProgram) (misses : ℕ) (decision : Decision)
     → HasTable files.content d table → IsLoadedInside files.content file program → MissesItsNames files file.name misses → (IsBuiltIn d → ReadsItsFiles files file.name)
     → files.faults' ≡ files.faults → IsProgramDecided table program file.name goal limit decision → Decides files file d goal limit decision
 program_decides files file d goal limit table program misses (Ok answer) has loaded behind read calm is =
@@ -107,7 +107,7 @@ pub answers_stay : (before now : Content) (held : Held) (name : List ℕ) → St
 answers_stay before now held name stays answered path asks = tells_stay before now path (held.bytes path) stays (answered path asks)
 
 -- what was loaded in its root goes on to be so
-pub loaded_inside : (call : SourceCall) (content : Content) (file : RootedFile) (p : PlainProgram) → Stays call.content content → Loads call (root_of file) file.name p → IsLoadedInside content file p
+pub loaded_inside : (call : SourceCall) (content : Content) (file : ScriptFile) (p : PlainProgram) → Stays call.content content → Loads call (root_of file) file.name p → IsLoadedInside content file p
 loaded_inside call content file p stays l = record {
   loaded = record {
     held = l.source.held;
@@ -147,12 +147,12 @@ pub misses_its_names : (call : SourceCall) (content : Content) (faults misses re
 misses_its_names call content faults misses reads root name p stays l = record { asks = asked_names call content root name p stays l; counted = l.source.misses }
 
 -- no memory was left
-pub wanting_does : (files : SourceCall) (file : RootedFile) (d : NamedType) (goal : Goal) (limit : ℕ) (form : AnswerForm)
+pub wanting_does : (files : SourceCall) (file : ScriptFile) (d : NamedType) (goal : Goal) (limit : ℕ) (form : AnswerForm)
     → Does files (script_check file d goal limit form) (Err Refusal.Memory)
 wanting_does files file d goal limit form = record { due = tt; read = λ built_in. inl (5, lit< tt, refl); faults = wanted_faults files }
 
 -- there is an answer
-pub answered_does : (files : SourceCall) (file : RootedFile) (d : NamedType) (goal : Goal) (limit : ℕ) (form : AnswerForm) (answer : ShownAnswer) (message : Message)
+pub answered_does : (files : SourceCall) (file : ScriptFile) (d : NamedType) (goal : Goal) (limit : ℕ) (form : AnswerForm) (answer : ShownAnswer) (message : Message)
     → IsDecidedAs files file d goal limit answer → Says message (answer_status answer) (answer_text form answer) → Does files (script_check file d goal limit form) (Ok (reply.Text message))
 answered_does files file d goal limit form answer message is (status_is, text_is) = record {
   due = record {
@@ -165,7 +165,7 @@ answered_does files file d goal limit form answer message is (status_is, text_is
 }
 
 -- and there is none
-pub refused_does : (files : SourceCall) (file : RootedFile) (d : NamedType) (goal : Goal) (limit : ℕ) (form : AnswerForm) (refusal : Refusal)
+pub refused_does : (files : SourceCall) (file : ScriptFile) (d : NamedType) (goal : Goal) (limit : ℕ) (form : AnswerForm) (refusal : Refusal)
     → Decides files file d goal limit (Err refusal) → Does files (script_check file d goal limit form) (Err refusal)
 refused_does files file d goal limit form (Refusal.Told message) is = record { due = is.why; read = is.read; faults = is.faults }
 refused_does files file d goal limit form Refusal.Memory is = wanting_does files file d goal limit form

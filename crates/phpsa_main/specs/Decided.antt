@@ -13,7 +13,7 @@ use Rattle.phpsa_texts.specs.declared.exit.Exit.TheVariants.{Missing, ReadFault,
 use Rattle.phpsa_texts.specs.declared.message.Message.{Message}
 use Rattle.phpsa_texts.specs.declared.message.Refusal.{Refusal}
 use Rattle.phpsa_texts.specs.Texts.{Says, long_text, states_text}
-use Rattle.phpsa_tasks.specs.Tasks.{RootedFile}
+use Rattle.phpsa_tasks.specs.Tasks.{ScriptFile}
 use Rattle.phpsa_tasks.specs.Subjects.{IsLoadedInside}
 use Rattle.phpsa_tasks.specs.ScriptAnswers.{IsAnswer}
 use Rattle.phpsa_tasks.specs.Causes.{RefusesScript}
@@ -25,7 +25,7 @@ abbrev pub Decision : Type 0
 Decision = Result ShownAnswer Refusal
 
 -- the program of the file has this answer, by the definition of the document type; each name that it asks for was asked for once, and no fault was counted
-pub record IsDecidedAs (files : SourceCall) (file : RootedFile) (document_type : NamedType) (goal : Goal) (limit : ℕ) (answer : ShownAnswer) :
+pub record IsDecidedAs (files : SourceCall) (file : ScriptFile) (document_type : NamedType) (goal : Goal) (limit : ℕ) (answer : ShownAnswer) :
     Type 0 where
   pub program : PlainProgram
   pub table : Table
@@ -36,13 +36,13 @@ pub record IsDecidedAs (files : SourceCall) (file : RootedFile) (document_type :
   pub calm : files.faults' ≡ files.faults
 
 -- the script is refused by this message; each name that it asks for was asked for once, unless it was not loaded, and a fault is told
-pub record IsRefusedBy (files : SourceCall) (file : RootedFile) (document_type : NamedType) (message : Message) : Type 0 where
+pub record IsRefusedBy (files : SourceCall) (file : ScriptFile) (document_type : NamedType) (message : Message) : Type 0 where
   pub why : RefusesScript files file document_type message.status message.text
   pub read : IsBuiltIn document_type → Contains uncounted message.status ⊎ ReadsItsFiles files file.name
   pub faults : TellsFaults files message.status
 
 -- what deciding the script of a file comes to, where it is loaded for this
-abbrev pub Decides : SourceCall → RootedFile → NamedType → Goal → ℕ → Decision → Type 0
+abbrev pub Decides : SourceCall → ScriptFile → NamedType → Goal → ℕ → Decision → Type 0
 Decides files file document_type goal limit (Ok answer) = IsDecidedAs files file document_type goal limit answer
 Decides files file document_type goal limit (Err (Refusal.Told message)) = IsRefusedBy files file document_type message
 Decides files file document_type goal limit (Err Refusal.Memory) = ⊤
@@ -61,7 +61,7 @@ IsProgramDecided table program name goal limit (Err Refusal.Memory) = ⊤
 
 -- what deciding the script of a file comes to by the table of a definition that was read before: the answer of its program, or a refusal by
 -- that table; faults are counted for such a refusal alone
-abbrev pub DecidesBy : SourceCall → RootedFile → Table → Goal → ℕ → Decision → Type 0
+abbrev pub DecidesBy : SourceCall → ScriptFile → Table → Goal → ℕ → Decision → Type 0
 DecidesBy files file table goal limit (Ok answer) =
     (program : PlainProgram) × IsLoadedInside files.content file program × IsAnswer goal table program limit answer
     × (files.faults' ≡ files.faults)

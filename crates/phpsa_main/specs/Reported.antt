@@ -10,7 +10,7 @@ use Rattle.phpsa_texts.specs.declared.message.Refusal.{Refusal}
 use Rattle.phpsa_texts.specs.declared.exit.Exit.TheVariants as exit
 use Rattle.phpsa_texts.specs.Statuses.{status_of, site_status}
 use Rattle.phpsa_texts.specs.Texts.{Says}
-use Rattle.phpsa_tasks.specs.Tasks.{rooted}
+use Rattle.phpsa_tasks.specs.Tasks.{script_file}
 use Rattle.phpsa_tasks.specs.Sites.{inside, IsLineFor}
 use Rattle.phpsa_tasks.specs.declared.reply.Reply.TheVariants as reply
 use Rattle.phpsa_tasks.specs.Results.{TaskResult}
@@ -24,7 +24,7 @@ IsRefusedLine Refusal.Memory line = ⊥
 -- what the report on the scripts of these names comes to, each with the root that is given or else its own, from one moment to another: lines that are answers for them, or want of memory
 abbrev pub HasReport : Option (List ℕ) → Table → Goal → ℕ → (before now : Moment) → List (List ℕ) → TaskResult → Type 0
 HasReport root table goal limit before now names (Ok (reply.Text message)) =
-    (lines : List Line) × AreAnswered (λ content name line. IsLineFor table goal limit content (rooted name root) line) before now names lines
+    (lines : List Line) × AreAnswered (λ content name line. IsLineFor table goal limit content (script_file name root) line) before now names lines
     × Says message (site_status lines) (report names lines)
 HasReport root table goal limit before now names (Ok other) = ⊥
 HasReport root table goal limit before now names (Err (Refusal.Told message)) = ⊥

@@ -6,15 +6,15 @@ ghost use Rattle.document_types.specs.DocumentTypes.{type_of};
 ghost use Rattle.program_rules.specs.View.{program_of};
 ghost use Rattle.program_files.specs.Source.{source_call};
 ghost use Rattle.site_check.specs.Site.{moment, Leads};
-ghost use Rattle.phpsa_tasks.specs.Views.{rooted_as};
+ghost use Rattle.phpsa_tasks.specs.Views.{script_file_as};
 ghost use Rattle.phpsa_main.specs.Decided.{Decides, DecidesBy, IsProgramDecided};
 
-use crate::loading::load_rooted;
+use crate::loading::load_script;
 use document_types::DocumentType;
 use dtd_model::Dtd;
 use io_edge::Files;
 use page_decision::Goal;
-use phpsa_tasks::RootedFile;
+use phpsa_tasks::ScriptFile;
 use phpsa_texts::{Refusal, definition_refusal, load_refusal, long_text_refusal, states_refusal};
 use program_rules::Program;
 use script_decision::{CheckRefusal, ShownAnswer, check_shown};
@@ -51,7 +51,7 @@ fn decided(
 /// is over the limit of a run; and `Memory`.
 pub(crate) fn decide_script<F: Files>(
     alloc: Global,
-    file: RootedFile<'_>,
+    file: ScriptFile<'_>,
     document_type: DocumentType<'_>,
     goal: Goal,
     limit: u64,
@@ -59,10 +59,10 @@ pub(crate) fn decide_script<F: Files>(
 ) -> Result<ShownAnswer, Refusal>
     ensures decides { Decides (source_call (F.content files.new) (F.faults files.old) (F.faults files.new)
         (F.misses files.old) (F.misses files.new) (F.reads files.old) (F.reads files.new))
-        (rooted_as file.entry) (type_of document_type.entry) goal limit result }
+        (script_file_as file.entry) (type_of document_type.entry) goal limit result }
     ensures stays { Stays (F.content files.old) (F.content files.new) }
 {
-    let program = match load_rooted(alloc, file, files) {
+    let program = match load_script(alloc, file, files) {
         Ok(program) => program,
         Err(refusal) => return Err(load_refusal(alloc, &refusal)),
     };
@@ -82,7 +82,7 @@ pub(crate) fn decide_script<F: Files>(
 /// models, or a text of the program is over the limit of a run; and `Memory`.
 pub(crate) fn decide_by<F: Files>(
     alloc: Global,
-    file: RootedFile<'_>,
+    file: ScriptFile<'_>,
     dtd: &Dtd,
     goal: Goal,
     limit: u64,
@@ -91,11 +91,11 @@ pub(crate) fn decide_by<F: Files>(
     ensures decides { DecidesBy
         (source_call (F.content files.new) (F.faults files.old) (F.faults files.new)
         (F.misses files.old) (F.misses files.new) (F.reads files.old) (F.reads files.new))
-        (rooted_as file.entry) (table_of dtd.now) goal limit result }
+        (script_file_as file.entry) (table_of dtd.now) goal limit result }
     ensures leads { Leads (moment (F.content files.old) (F.faults files.old) (F.misses files.old))
         (moment (F.content files.new) (F.faults files.new) (F.misses files.new)) }
 {
-    let program = match load_rooted(alloc, file, files) {
+    let program = match load_script(alloc, file, files) {
         Ok(program) => program,
         Err(refusal) => return Err(load_refusal(alloc, &refusal)),
     };

@@ -4,14 +4,14 @@ ghost use Rattle.std.specs.Prelude.{◌≡◌};
 ghost use Rattle.program_rules.specs.View.{program_of};
 ghost use Rattle.program_files.specs.Source.{source_call};
 ghost use Rattle.phpsa_tasks.specs.Tasks.{grammar_making};
-ghost use Rattle.phpsa_tasks.specs.Views.{rooted_as};
+ghost use Rattle.phpsa_tasks.specs.Views.{script_file_as};
 ghost use Rattle.phpsa_tasks.specs.Results.{Does};
 ghost use Rattle.phpsa_main.specs.Loaded.{HasGrammarReply};
 
-use crate::loading::load_rooted;
+use crate::loading::load_script;
 use io_edge::Files;
 use loose_grammar::{GrammarRefusal, loose_grammar};
-use phpsa_tasks::{Reply, RootedFile};
+use phpsa_tasks::{Reply, ScriptFile};
 use phpsa_texts::{
     AnswerForm, PassedCount, Refusal, load_refusal, long_text_refusal, passed_message,
 };
@@ -44,14 +44,14 @@ fn grammar_reply(alloc: Global, name: &str, program: &Program) -> Result<Reply, 
 /// `Memory`.
 pub(crate) fn make_grammar<F: Files>(
     alloc: Global,
-    file: RootedFile<'_>,
+    file: ScriptFile<'_>,
     files: &mut F,
 ) -> Result<Reply, Refusal>
     ensures { Does (source_call (F.content files.new) (F.faults files.old) (F.faults files.new)
         (F.misses files.old) (F.misses files.new) (F.reads files.old) (F.reads files.new))
-        (grammar_making (rooted_as file.entry)) result }
+        (grammar_making (script_file_as file.entry)) result }
 {
-    let program = match load_rooted(alloc, file, files) {
+    let program = match load_script(alloc, file, files) {
         Ok(program) => program,
         Err(refusal) => return Err(load_refusal(alloc, &refusal)),
     };

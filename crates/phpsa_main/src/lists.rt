@@ -7,7 +7,7 @@ ghost use Rattle.program_files.specs.Source.{source_call};
 ghost use Rattle.document_types.specs.DocumentTypes.{type_of};
 ghost use Rattle.site_check.specs.Site.{moment};
 ghost use Rattle.phpsa_tasks.specs.Tasks.{list_check};
-ghost use Rattle.phpsa_tasks.specs.Views.{rooted_as};
+ghost use Rattle.phpsa_tasks.specs.Views.{script_file_as};
 ghost use Rattle.phpsa_tasks.specs.Results.{Does};
 ghost use Rattle.phpsa_main.specs.Reported.{HasReport};
 
@@ -15,7 +15,7 @@ use crate::site_lines::ByDefinition;
 use document_types::DocumentType;
 use io_edge::{FileKind, Files};
 use page_decision::Goal;
-use phpsa_tasks::{Reply, RootedFile};
+use phpsa_tasks::{Reply, ScriptFile};
 use phpsa_texts::{Refusal, definition_refusal, file_refusal, list_refusal, site_message};
 use site_check::{read_list, site};
 use std::alloc::Global;
@@ -54,7 +54,7 @@ fn report_on<F: Files>(
 /// What is told where the list is not read or is none, or there is no definition; and `Memory`.
 pub(crate) fn check_list<F: Files>(
     alloc: Global,
-    file: RootedFile<'_>,
+    file: ScriptFile<'_>,
     document_type: DocumentType<'_>,
     goal: Goal,
     limit: u64,
@@ -62,7 +62,7 @@ pub(crate) fn check_list<F: Files>(
 ) -> Result<Reply, Refusal>
     ensures { Does (source_call (F.content files.new) (F.faults files.old) (F.faults files.new)
         (F.misses files.old) (F.misses files.new) (F.reads files.old) (F.reads files.new))
-        (list_check (rooted_as file.entry) (type_of document_type.entry) goal limit) result }
+        (list_check (script_file_as file.entry) (type_of document_type.entry) goal limit) result }
 {
     let list = match files.read(alloc, file.name, FileKind::Any) {
         Ok(list) => list,

@@ -6,10 +6,10 @@ ghost use Rattle.program_rules.specs.View.{program_of};
 ghost use Rattle.program_files.specs.Source.{source_call};
 ghost use Rattle.program_loader.specs.Causes.{Loads, IsLoadCause};
 ghost use Rattle.phpsa_tasks.specs.Tasks.{root_of};
-ghost use Rattle.phpsa_tasks.specs.Views.{rooted_as};
+ghost use Rattle.phpsa_tasks.specs.Views.{script_file_as};
 
 use io_edge::{Files, root_for};
-use phpsa_tasks::RootedFile;
+use phpsa_tasks::ScriptFile;
 use program_files::LoadRefusal;
 use program_loader::load;
 use program_rules::Program;
@@ -21,19 +21,19 @@ use std::alloc::Global;
 /// # Errors
 ///
 /// As `load`, for an include that leads out of the root `Outside`.
-pub(crate) fn load_rooted<F: Files>(
+pub(crate) fn load_script<F: Files>(
     alloc: Global,
-    file: RootedFile<'_>,
+    file: ScriptFile<'_>,
     files: &mut F,
 ) -> Result<Program, LoadRefusal>
     ensures ok { IfOk result (λ program. Loads
         (source_call (F.content files.new) (F.faults files.old) (F.faults files.new)
         (F.misses files.old) (F.misses files.new) (F.reads files.old) (F.reads files.new))
-        (root_of (rooted_as file.entry)) file.entry.name.now (program_of program)) }
+        (root_of (script_file_as file.entry)) file.entry.name.now (program_of program)) }
     ensures err { IfErr result (IsLoadCause
         (source_call (F.content files.new) (F.faults files.old) (F.faults files.new)
         (F.misses files.old) (F.misses files.new) (F.reads files.old) (F.reads files.new))
-        (root_of (rooted_as file.entry)) file.entry.name.now) }
+        (root_of (script_file_as file.entry)) file.entry.name.now) }
     ensures stays { Stays (F.content files.old) (F.content files.new) }
 {
     let root = root_for(alloc, file.root, file.name)?;

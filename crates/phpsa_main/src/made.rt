@@ -16,7 +16,7 @@ use crate::deciding::decide_script;
 use command_words::PAIR_LIMIT;
 use document_types::{DocumentType, OneFile};
 use page_decision::Goal;
-use phpsa_tasks::{Reply, RootedFile};
+use phpsa_tasks::{Reply, ScriptFile};
 use phpsa_texts::{Refusal, size_refusal, summary_message};
 use script_decision::ShownAnswer;
 use script_maker::{MakeRefusal, make};
@@ -37,7 +37,7 @@ fn decided(alloc: Global, script: Bytes) -> Result<ShownAnswer, Refusal>
         misses: 0,
         reads: 0,
     };
-    let file = RootedFile {
+    let file = ScriptFile {
         name: MADE_NAME,
         root: None,
     };

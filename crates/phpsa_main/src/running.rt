@@ -7,14 +7,14 @@ ghost use Rattle.script_meaning.specs.Requests.{Admitted};
 ghost use Rattle.program_files.specs.Source.{source_call};
 ghost use Rattle.script_runs.specs.Outcomes.{plain_outcome};
 ghost use Rattle.phpsa_tasks.specs.Tasks.{script_run};
-ghost use Rattle.phpsa_tasks.specs.Views.{rooted_as};
+ghost use Rattle.phpsa_tasks.specs.Views.{script_file_as};
 ghost use Rattle.phpsa_tasks.specs.Results.{Does};
 ghost use Rattle.phpsa_main.specs.Loaded.{HasRequest, IsRunReply, IsReplyOfRun};
 
-use crate::loading::load_rooted;
+use crate::loading::load_script;
 use io_edge::{FileKind, Files};
 use php_syntax::tree::SuperName;
-use phpsa_tasks::{Reply, RootedFile};
+use phpsa_tasks::{Reply, ScriptFile};
 use phpsa_texts::{
     Exit, Message, Refusal, deep_message, fault_message, file_refusal, load_refusal,
     request_refusal, spent_message,
@@ -120,16 +120,16 @@ fn run_reply(
 /// What is told where the program is not loaded or there is no request; and `Memory`.
 pub(crate) fn run_script<F: Files>(
     alloc: Global,
-    file: RootedFile<'_>,
+    file: ScriptFile<'_>,
     request: Option<&str>,
     steps: u64,
     files: &mut F,
 ) -> Result<Reply, Refusal>
     ensures { Does (source_call (F.content files.new) (F.faults files.old) (F.faults files.new)
         (F.misses files.old) (F.misses files.new) (F.reads files.old) (F.reads files.new))
-        (script_run (rooted_as file.entry) (option_map (λ text. text.now) request.entry) steps) result }
+        (script_run (script_file_as file.entry) (option_map (λ text. text.now) request.entry) steps) result }
 {
-    let program = match load_rooted(alloc, file, files) {
+    let program = match load_script(alloc, file, files) {
         Ok(program) => program,
         Err(refusal) => return Err(load_refusal(alloc, &refusal)),
     };

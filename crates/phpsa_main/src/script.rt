@@ -3,7 +3,7 @@
 ghost use Rattle.program_files.specs.Source.{source_call};
 ghost use Rattle.document_types.specs.DocumentTypes.{type_of};
 ghost use Rattle.phpsa_tasks.specs.Tasks.{script_check};
-ghost use Rattle.phpsa_tasks.specs.Views.{rooted_as};
+ghost use Rattle.phpsa_tasks.specs.Views.{script_file_as};
 ghost use Rattle.phpsa_tasks.specs.Results.{Does};
 
 use crate::answers::answer_message;
@@ -11,7 +11,7 @@ use crate::deciding::decide_script;
 use document_types::DocumentType;
 use io_edge::Files;
 use page_decision::Goal;
-use phpsa_tasks::{Reply, RootedFile};
+use phpsa_tasks::{Reply, ScriptFile};
 use phpsa_texts::{AnswerForm, Refusal};
 use std::alloc::Global;
 use text_base::NoMemory;
@@ -24,7 +24,7 @@ use text_base::NoMemory;
 /// As `decide_script`.
 pub(crate) fn check_script<F: Files>(
     alloc: Global,
-    file: RootedFile<'_>,
+    file: ScriptFile<'_>,
     document_type: DocumentType<'_>,
     goal: Goal,
     limit: u64,
@@ -33,7 +33,7 @@ pub(crate) fn check_script<F: Files>(
 ) -> Result<Reply, Refusal>
     ensures { Does (source_call (F.content files.new) (F.faults files.old) (F.faults files.new)
         (F.misses files.old) (F.misses files.new) (F.reads files.old) (F.reads files.new))
-        (script_check (rooted_as file.entry) (type_of document_type.entry) goal limit form) result }
+        (script_check (script_file_as file.entry) (type_of document_type.entry) goal limit form) result }
 {
     let answer = match decide_script(alloc, file, document_type, goal, limit, files) {
         Ok(answer) => answer,

@@ -2,7 +2,7 @@
 
 ghost use Rattle.std.specs.Prelude.{IfOk, option_map};
 ghost use Rattle.dtd_model.specs.TableOf.{table_of};
-ghost use Rattle.phpsa_tasks.specs.Tasks.{rooted};
+ghost use Rattle.phpsa_tasks.specs.Tasks.{script_file};
 ghost use Rattle.phpsa_tasks.specs.Sites.{IsLineFor};
 ghost use Rattle.phpsa_main.specs.Reported.{IsRefusedLine};
 
@@ -11,7 +11,7 @@ use crate::deciding::decide_by;
 use dtd_model::Dtd;
 use io_edge::Files;
 use page_decision::Goal;
-use phpsa_tasks::RootedFile;
+use phpsa_tasks::ScriptFile;
 use phpsa_texts::{Exit, Refusal};
 use site_check::{Answers, Line};
 use std::alloc::Global;
@@ -51,10 +51,10 @@ fn refused_line(alloc: Global, refusal: &Refusal) -> Result<Line, NoMemory>
 impl<'a> Answers for ByDefinition<'a> {
     ghost may = { λ by content name line.
         IsLineFor (table_of by.dtd.now) by.goal by.limit content
-        (rooted name (option_map (λ root. root.now) by.root)) line };
+        (script_file name (option_map (λ root. root.now) by.root)) line };
 
     fn answer<F: Files>(&self, alloc: Global, files: &mut F, name: &str) -> Result<Line, NoMemory> {
-        let file = RootedFile {
+        let file = ScriptFile {
             name,
             root: self.root,
         };

@@ -7,7 +7,7 @@ use Rattle.command_words.specs.Asked.{Asked, Asks, AsksNothing}
 use Rattle.command_words.specs.Canonical.{IsCanonical}
 use Rattle.phpsa_texts.specs.declared.exit.Exit.{Exit}
 use Rattle.phpsa_texts.specs.declared.exit.Exit.TheVariants.{WriteFault, Usage, Memory}
-use Rattle.phpsa_tasks.specs.Tasks.{RootedFile, Task, script_check, page_check, script_making, made_check, script_run, grammar_making, list_check, help_telling, version_telling, usage, task_of, AsksFor, asks, asks_nothing}
+use Rattle.phpsa_tasks.specs.Tasks.{ScriptFile, Task, script_check, page_check, script_making, made_check, script_run, grammar_making, list_check, help_telling, version_telling, usage, task_of, AsksFor, asks, asks_nothing}
 use Rattle.phpsa_tasks.specs.Call.{Call, Gains, GainsNothing}
 use Rattle.phpsa_tasks.specs.Subjects.{Subject, Finds, Holds, IsWithin, LacksFile}
 use Rattle.phpsa_tasks.specs.Replies.{Replies, Halts}
@@ -101,12 +101,12 @@ nothing laws call status (by_err is e) task asked u lacks = absurd (u.err e.fail
 nothing laws call status (no_memory is e) task asked u lacks = of_memory call.files task status lacks is
 
 -- a program that is held is not run where the file of its request holds none
-not_run_of : Laws → (call : Call) (status : Exit) (text : List ℕ) (file : RootedFile) (name : List ℕ) (steps : ℕ) (cause : RequestRefusal) → IsUndisturbed call → IsNotRun call file name cause
+not_run_of : Laws → (call : Call) (status : Exit) (text : List ℕ) (file : ScriptFile) (name : List ℕ) (steps : ℕ) (cause : RequestRefusal) → IsUndisturbed call → IsNotRun call file name cause
     → GainsNothing call.out → Gains call.err text → Refuses call.files (script_run file (Some name) steps) status text ⊎ (status ≡ Memory) → TellsCause call cause status ⊎ (status ≡ Memory)
 not_run_of laws call status text file name steps cause u n out err (inl why) = cause_told laws.programs call status text file name steps cause u.files n out err why
 not_run_of laws call status text file name steps cause u n out err (inr is) = inr is
 
-not_run : Laws → (call : Call) (status : Exit) → Ends call status → (file : RootedFile) (name : List ℕ) (steps : ℕ) (cause : RequestRefusal) → AsksFor call.words (script_run file (Some name) steps)
+not_run : Laws → (call : Call) (status : Exit) → Ends call status → (file : ScriptFile) (name : List ℕ) (steps : ℕ) (cause : RequestRefusal) → AsksFor call.words (script_run file (Some name) steps)
     → IsUndisturbed call → IsNotRun call file name cause → TellsCause call cause status ⊎ (status ≡ Memory)
 not_run laws call status (replied e) file name steps cause asked u n =
     let r : Replies call.files (script_run file (Some name) steps) status e.text = the_reply laws.one_task call status e.text e.owed (script_run file (Some name) steps) asked in

@@ -40,7 +40,7 @@ use Rattle.phpsa_texts.specs.declared.exit.Exit.TheVariants.{Input, Memory}
 use Rattle.phpsa_texts.specs.Statuses.{judgment_status, load_status, file_status, request_status, definition_status, list_status, site_status}
 use Rattle.site_check.specs.declared.list_refusal.ListRefusal.{ListRefusal}
 use Rattle.site_check.specs.Listed.{IsList, IsNoList}
-use Rattle.phpsa_tasks.specs.Tasks.{RootedFile, root_of, Task, script_check, page_check, script_making, made_check, script_run, grammar_making, list_check, help_telling, version_telling, usage}
+use Rattle.phpsa_tasks.specs.Tasks.{ScriptFile, root_of, Task, script_check, page_check, script_making, made_check, script_run, grammar_making, list_check, help_telling, version_telling, usage}
 use Rattle.phpsa_tasks.specs.Files.{HoldsShortFile}
 use Rattle.phpsa_tasks.specs.Requests.{no_request, FindsRequest, HoldsRequest, unread, no_request_in, RefusesRequest}
 use Rattle.phpsa_tasks.specs.Subjects.{ProgramBy, PageBy, ProgramFor, ListBy, Subject, made_name, made_file, only_made, Finds, HoldsShortProgram, HoldsProgramInside, HoldsTable, Holds, IsSmall, IsWithin}
@@ -62,7 +62,7 @@ pub record ProgramLaws : Type 0 where
       → AllStayInside root h.held (normal name) → (Rises call.faults call.faults' → ⊥) → IsLoadCause call root name refusal → refusal ≡ load.Memory
 
 -- a program that is held and stays in its root is refused for want of memory alone
-pub unloaded_memory : ProgramLaws → (files : SourceCall) (file : RootedFile) (program : PlainProgram) (cause : LoadRefusal) → HoldsProgramInside files.content file program
+pub unloaded_memory : ProgramLaws → (files : SourceCall) (file : ScriptFile) (program : PlainProgram) (cause : LoadRefusal) → HoldsProgramInside files.content file program
     → (Rises files.faults files.faults' → ⊥) → IsLoadCause files (root_of file) file.name cause → load_status cause ≡ Memory
 unloaded_memory laws files file program cause h calm why =
     ap load_status (laws.not_refused files (root_of file) file.name program cause h.held.holds h.held.short h.inside calm why)
@@ -238,7 +238,7 @@ never : Rises 0 0 → ⊥
 never rises = let one : 1 ≤ 0 = rises in omega (arith, one)
 
 -- a script that is held is refused for a long text, or for want of memory
-held_script : ProgramLaws → (files : SourceCall) (file : RootedFile) (d : NamedType) (goal : Goal) (limit : ℕ) (x : ProgramBy) (status : Exit) (text : List ℕ)
+held_script : ProgramLaws → (files : SourceCall) (file : ScriptFile) (d : NamedType) (goal : Goal) (limit : ℕ) (x : ProgramBy) (status : Exit) (text : List ℕ)
     → (Rises files.faults files.faults' → ⊥) → HoldsProgramInside files.content file x.program → HoldsTable files.content d x.table → IsSmall files.content d x.table
     → RefusesScript files file d status text → PassesScriptLimit goal x.table x.program limit status ⊎ (status ≡ Memory)
 held_script laws files file d goal limit x status text calm h t w (not_loaded cause why status_is text_is) =

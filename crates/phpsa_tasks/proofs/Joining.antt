@@ -8,7 +8,7 @@ use Rattle.document_types.specs.DocumentTypes.{NamedType}
 use Rattle.script_decision.specs.Answers.{RunsAreGood}
 use Rattle.phpsa_texts.specs.declared.exit.Exit.TheVariants.{Done}
 use Rattle.phpsa_texts.specs.declared.answers.AnswerForm.{AnswerForm}
-use Rattle.phpsa_tasks.specs.Tasks.{RootedFile, script_check, script_run, AsksFor}
+use Rattle.phpsa_tasks.specs.Tasks.{ScriptFile, script_check, script_run, AsksFor}
 use Rattle.phpsa_tasks.specs.Call.{Call, Gains}
 use Rattle.phpsa_tasks.specs.Subjects.{ProgramBy, ProgramFor, Holds}
 use Rattle.phpsa_tasks.specs.Replies.{outcome_for, Replies, Halts}
@@ -20,7 +20,7 @@ use Rattle.phpsa_tasks.proofs.Soundness.{refused_done, halted_done}
 use Rattle.phpsa_tasks.proofs.Answers.{OneTask, the_reply, the_halt}
 
 -- the request of a run that came to its end is admitted
-admitted : OneTask → (call : Call) (file : RootedFile) (request : Option (List ℕ)) (steps : ℕ) (x : ProgramFor) → Ends call Done → AsksFor call.words (script_run file request steps)
+admitted : OneTask → (call : Call) (file : ScriptFile) (request : Option (List ℕ)) (steps : ℕ) (x : ProgramFor) → Ends call Done → AsksFor call.words (script_run file request steps)
     → Holds call.files.content (script_run file request steps) x → Admitted x.request
 admitted one call file request steps x (replied e) asked (h, r) =
     let y : Replies call.files (script_run file request steps) Done e.text = the_reply one call Done e.text e.owed (script_run file request steps) asked in
@@ -33,7 +33,7 @@ admitted one call file request steps x (by_out is e) asked h = absurd cc
 admitted one call file request steps x (by_err is e) asked h = absurd cc
 admitted one call file request steps x (no_memory is e) asked h = absurd cc
 
-good : OneTask → (checked ran : Call) (file other : RootedFile) (d : NamedType) (goal : Goal) (limit : ℕ) (form : AnswerForm) (request : Option (List ℕ)) (steps : ℕ)
+good : OneTask → (checked ran : Call) (file other : ScriptFile) (d : NamedType) (goal : Goal) (limit : ℕ) (form : AnswerForm) (request : Option (List ℕ)) (steps : ℕ)
     (x : ProgramBy) (y : ProgramFor) → x.program ≡ y.program → IsChecked checked file d goal limit form x → HasRun ran other request steps y
     → IsGood goal x.table (outcome_for y steps).printed
 good one checked ran file other d goal limit form request steps x y same c r =
@@ -42,7 +42,7 @@ good one checked ran file other d goal limit form request steps x y same c r =
     own y.request steps (admitted one ran other request steps y r.keeps.ends r.asked r.held) (r.keeps.sound refl (script_run other request steps) y r.asked r.held)
 
 -- what a run that came to its end has written is what it printed
-run_gains : (call : Call) (file : RootedFile) (request : Option (List ℕ)) (steps : ℕ) (y : ProgramFor) → Writes call Done (script_run file request steps) y
+run_gains : (call : Call) (file : ScriptFile) (request : Option (List ℕ)) (steps : ℕ) (y : ProgramFor) → Writes call Done (script_run file request steps) y
     → Gains call.out (outcome_for y steps).printed
 run_gains call file request steps y (writes_reply text (ended, is, text_is) out err) = subst (Gains call.out) text_is out
 run_gains call file request steps y (writes_halt printed text is out err) = absurd (halted_done (script_run file request steps) y printed text is)

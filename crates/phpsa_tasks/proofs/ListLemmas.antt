@@ -25,7 +25,7 @@ use Rattle.site_check.proofs.Answering.{answered_leads, calm_throughout}
 use Rattle.phpsa_texts.specs.declared.exit.Exit.{Exit}
 use Rattle.phpsa_texts.specs.declared.exit.Exit.TheVariants as exit
 use Rattle.phpsa_texts.specs.Statuses.{site_status, list_status}
-use Rattle.phpsa_tasks.specs.Tasks.{RootedFile, rooted, list_check}
+use Rattle.phpsa_tasks.specs.Tasks.{ScriptFile, script_file, list_check}
 use Rattle.phpsa_tasks.specs.Subjects.{ListBy}
 use Rattle.phpsa_tasks.specs.ScriptAnswers.{IsAnswer}
 use Rattle.phpsa_tasks.specs.Causes.{RefusesScript, large_models, not_loaded, lacks_definition, has_long_text}
@@ -38,7 +38,7 @@ abbrev pub LoadedStays : Type 0
 LoadedStays = (before now : Content) (name : List ℕ) (program : PlainProgram) → Stays before now → IsLoaded before name program → IsLoaded now name program
 
 -- a refusal by the table of a definition is one of `check`
-pub as_check : (files : SourceCall) (file : RootedFile) (d : NamedType) (table : Table) (status : Exit) (text : List ℕ) → HasTable files.content d table
+pub as_check : (files : SourceCall) (file : ScriptFile) (d : NamedType) (table : Table) (status : Exit) (text : List ℕ) → HasTable files.content d table
     → RefusesByTable files file table status text → RefusesScript files file d status text
 as_check files file d table status text has (inl (cause, why, is, text_is)) = not_loaded cause why is text_is
 as_check files file d table status text has (inr (inl (program, loaded, long, is, text_is))) = has_long_text program loaded long is text_is
@@ -131,7 +131,7 @@ record ProgramOf (content : Content) (name : List ℕ) (P : PlainProgram → Typ
   pub so : P program
 
 -- why a script is refused by what was told earlier
-record RefusedAt (table : Table) (content : Content) (file : RootedFile) : Type 0 where
+record RefusedAt (table : Table) (content : Content) (file : ScriptFile) : Type 0 where
   pub files : SourceCall
   pub status : Exit
   pub text : List ℕ
@@ -140,7 +140,7 @@ record RefusedAt (table : Table) (content : Content) (file : RootedFile) : Type 
 
 module _ (root : Option (List ℕ)) (table : Table) (goal : Goal) (limit : ℕ) where
   abbrev May : Content → List ℕ → Line → Type 0
-  May content name line = IsLineFor table goal limit content (rooted name root) line
+  May content name line = IsLineFor table goal limit content (script_file name root) line
 
   -- a name and its line, by what was told at its call and stays told
   record LineAt (now : Content) (name : List ℕ) (line : Line) : Type 0 where
@@ -193,7 +193,7 @@ module _ (root : Option (List ℕ)) (table : Table) (goal : Goal) (limit : ℕ) 
       record { program = program; loaded = loaded.loaded; so = undecided_of goal table program limit answer (subst (λ (l : Line). is_undecided l ≡ true) same e) is.0 }
   undecided_program content name line e (tells_refusal files status text c why w same) = absurd (let at : false ≡ true = subst (λ (l : Line). is_undecided l ≡ true) same e in cc)
 
-  refused_script : (content : Content) (name : List ℕ) (line : Line) → is_refused line ≡ true → May content name line → RefusedAt table content (rooted name root)
+  refused_script : (content : Content) (name : List ℕ) (line : Line) → is_refused line ≡ true → May content name line → RefusedAt table content (script_file name root)
   refused_script content name line e (tells_answer program answer loaded is same) = absurd (not_refused answer (subst (λ (l : Line). is_refused l ≡ true) same e))
   refused_script content name line e (tells_refusal files status text c why w same) = record { files = files; status = status; text = text; content_is = c; why = why }
 
@@ -262,12 +262,12 @@ none_refused status (told.Items count ∷ ls) e = let rest = none_refused status
 none_refused status (told.Refused by text ∷ ls) e = absurd (let same : true ≡ false = e in cc)
 
 -- so a fault of the source is told by a line, or by the status
-pub list_faults : (files : SourceCall) (file : RootedFile) (d : NamedType) (goal : Goal) (limit : ℕ) (x : ListBy) (lines : List Line) → AreLinesOf files file.root goal limit x lines
+pub list_faults : (files : SourceCall) (file : ScriptFile) (d : NamedType) (goal : Goal) (limit : ℕ) (x : ListBy) (lines : List Line) → AreLinesOf files file.root goal limit x lines
     → FaultsAreTold (list_check file d goal limit) files (site_status lines)
 list_faults files file d goal limit x lines (before, are) =
     by_status lines (λ (s : Exit). Contains (exit.No ∷ exit.Undecided ∷ exit.Site ∷ []) s ⊎ TellsFaults files s)
     (λ a. inl (0, lit< tt, refl)) (λ a. inl (1, lit< tt, refl)) (λ a. inl (2, lit< tt, refl))
-    (λ a b c. inr (inr (calm_throughout (λ content name line. IsLineFor x.table goal limit content (rooted name file.root) line) (moment before files.faults files.misses)
+    (λ a b c. inr (inr (calm_throughout (λ content name line. IsLineFor x.table goal limit content (script_file name file.root) line) (moment before files.faults files.misses)
     (moment files.content files.faults' files.misses') (names_in x.list) lines are (none_refused FAULT_STATUS lines c))))
 
 -- a text whose first bad line there is has a line that is no UTF-8

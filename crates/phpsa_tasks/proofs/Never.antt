@@ -23,7 +23,7 @@ use Rattle.phpsa_texts.specs.declared.exit.Exit.{Exit}
 use Rattle.phpsa_texts.specs.declared.exit.Exit.TheVariants.{Done, Usage}
 use Rattle.phpsa_texts.specs.declared.exit.Exit.TheVariants as exit
 use Rattle.phpsa_texts.specs.Statuses.{judgment_status, fault_status, load_status, file_status, request_status, dtd_status, built_in_status, definition_status, list_status}
-use Rattle.phpsa_tasks.specs.Tasks.{RootedFile, Task, script_check, page_check, script_making, made_check, script_run, grammar_making, list_check, help_telling, version_telling, usage, task_of}
+use Rattle.phpsa_tasks.specs.Tasks.{ScriptFile, Task, script_check, page_check, script_making, made_check, script_run, grammar_making, list_check, help_telling, version_telling, usage, task_of}
 use Rattle.phpsa_tasks.specs.Requests.{unread, no_request_in, RefusesRequest}
 use Rattle.phpsa_tasks.specs.Subjects.{Subject, made_file, only_made}
 use Rattle.phpsa_tasks.specs.ScriptAnswers.{answer_status}
@@ -90,7 +90,7 @@ of_definition : (files : SourceCall) (d : NamedType) (status : Exit) (text : Lis
 of_definition files d status text (not_defined cause why is text_is) = subst IsOther (sym is) (of_defining cause)
 of_definition files d status text (large_models table count has many is text_is) = subst IsOther (sym is) tt
 
-of_script : (files : SourceCall) (file : RootedFile) (d : NamedType) (status : Exit) (text : List ℕ) → RefusesScript files file d status text → IsOther status
+of_script : (files : SourceCall) (file : ScriptFile) (d : NamedType) (status : Exit) (text : List ℕ) → RefusesScript files file d status text → IsOther status
 of_script files file d status text (not_loaded cause why is text_is) = subst IsOther (sym is) (of_load cause)
 of_script files file d status text (lacks_definition program misses found behind why) = of_definition (from_misses misses files) d status text why
 of_script files file d status text (has_long_text program found long is text_is) = subst IsOther (sym is) tt

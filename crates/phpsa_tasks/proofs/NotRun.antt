@@ -12,7 +12,7 @@ use Rattle.phpsa_texts.specs.declared.exit.Exit.{Exit}
 use Rattle.phpsa_texts.specs.declared.exit.Exit.TheVariants.{Input, Memory}
 use Rattle.phpsa_texts.specs.Statuses.{request_status}
 use Rattle.phpsa_texts.specs.Texts.{request_text}
-use Rattle.phpsa_tasks.specs.Tasks.{RootedFile, script_run}
+use Rattle.phpsa_tasks.specs.Tasks.{ScriptFile, script_run}
 use Rattle.phpsa_tasks.specs.Call.{Call, Gains, GainsNothing}
 use Rattle.phpsa_tasks.specs.Requests.{FindsRequest, HoldsNoRequest, unread, no_request_in, RefusesRequest}
 use Rattle.phpsa_tasks.specs.Counted.{from_misses}
@@ -73,7 +73,7 @@ of_request call misses status text name cause calm none input out err (no_reques
     (one_cause told cause (outcome none.bytes) (subst (λ (b : List ℕ). IsCause told (outcome b)) same why) none.why input)
 
 -- what refuses the run is the cause, or want of memory
-pub cause_told : ProgramLaws → (call : Call) (status : Exit) (text : List ℕ) (file : RootedFile) (name : List ℕ) (steps : ℕ) (cause : RequestRefusal) → (Rises call.files.faults call.files.faults' → ⊥)
+pub cause_told : ProgramLaws → (call : Call) (status : Exit) (text : List ℕ) (file : ScriptFile) (name : List ℕ) (steps : ℕ) (cause : RequestRefusal) → (Rises call.files.faults call.files.faults' → ⊥)
     → IsNotRun call file name cause → GainsNothing call.out → Gains call.err text → Refuses call.files (script_run file (Some name) steps) status text
     → TellsCause call cause status ⊎ (status ≡ Memory)
 cause_told laws call status text file name steps cause calm n out err (inl (unloaded, why, is, text_is)) =

@@ -15,7 +15,7 @@ use Rattle.page_decision.specs.declared.goal.Goal.{Goal}
 use Rattle.phpsa_texts.specs.declared.exit.Exit.{Exit}
 use Rattle.phpsa_texts.specs.declared.exit.Exit.TheVariants.{Missing, Script, Input, Memory}
 use Rattle.phpsa_texts.specs.Statuses.{load_status, file_status, request_status}
-use Rattle.phpsa_tasks.specs.Tasks.{RootedFile, root_of, Task, script_check, page_check, script_making, made_check, script_run, grammar_making, list_check, help_telling, version_telling, usage}
+use Rattle.phpsa_tasks.specs.Tasks.{ScriptFile, root_of, Task, script_check, page_check, script_making, made_check, script_run, grammar_making, list_check, help_telling, version_telling, usage}
 use Rattle.phpsa_tasks.specs.Requests.{unread, no_request_in, RefusesRequest}
 use Rattle.phpsa_tasks.specs.Subjects.{LacksFile}
 use Rattle.phpsa_tasks.specs.Counted.{from_misses}
@@ -48,20 +48,20 @@ of_file files file d (reading.TooLong len) calm why = (1, lit< tt, refl)
 of_file files file d reading.Memory calm why = (2, lit< tt, refl)
 
 -- those of a request that is refused
-of_asking : (file : RootedFile) (request : Option (List ℕ)) (steps : ℕ) (refusal : RequestRefusal) → Among (script_run file request steps) (request_status refusal)
+of_asking : (file : ScriptFile) (request : Option (List ℕ)) (steps : ℕ) (refusal : RequestRefusal) → Among (script_run file request steps) (request_status refusal)
 of_asking file request steps asking.NotJson = (2, lit< tt, refl)
 of_asking file request steps asking.NotRequest = (2, lit< tt, refl)
 of_asking file request steps (asking.NotAdmitted path) = (2, lit< tt, refl)
 of_asking file request steps asking.Memory = (3, lit< tt, refl)
 
-of_asked_file : (files : SourceCall) (file : RootedFile) (request : Option (List ℕ)) (steps : ℕ) (name : List ℕ) (f : FileFault) → (Rises files.faults files.faults' → ⊥)
+of_asked_file : (files : SourceCall) (file : ScriptFile) (request : Option (List ℕ)) (steps : ℕ) (name : List ℕ) (f : FileFault) → (Rises files.faults files.faults' → ⊥)
     → HasReason (files.content name) files.faults files.faults' files.misses files.misses' f → Among (script_run file request steps) (file_status f)
 of_asked_file files file request steps name reading.Missing calm why = (0, lit< tt, refl)
 of_asked_file files file request steps name reading.Failed calm rises = absurd (calm rises)
 of_asked_file files file request steps name (reading.TooLong len) calm why = (2, lit< tt, refl)
 of_asked_file files file request steps name reading.Memory calm why = (3, lit< tt, refl)
 
-of_request : (files : SourceCall) (file : RootedFile) (request : Option (List ℕ)) (steps : ℕ) (status : Exit) (text : List ℕ) → (Rises files.faults files.faults' → ⊥)
+of_request : (files : SourceCall) (file : ScriptFile) (request : Option (List ℕ)) (steps : ℕ) (status : Exit) (text : List ℕ) → (Rises files.faults files.faults' → ⊥)
     → RefusesRequest files request status text → Among (script_run file request steps) status
 of_request files file None steps status text calm why = absurd why
 of_request files file (Some name) steps status text calm (unread fault why is text_is) =
@@ -70,7 +70,7 @@ of_request files file (Some name) steps status text calm (no_request_in bytes re
     subst (Among (script_run file (Some name) steps)) (sym is) (of_asking file (Some name) steps refusal)
 
 -- those of a list that is not read
-of_unread : (files : SourceCall) (file : RootedFile) (d : NamedType) (goal : Goal) (limit : ℕ) (f : FileFault) → (Rises files.faults files.faults' → ⊥)
+of_unread : (files : SourceCall) (file : ScriptFile) (d : NamedType) (goal : Goal) (limit : ℕ) (f : FileFault) → (Rises files.faults files.faults' → ⊥)
     → HasReason (files.content file.name) files.faults files.faults' files.misses files.misses' f → Among (list_check file d goal limit) (file_status f)
 of_unread files file d goal limit reading.Missing calm why = (0, lit< tt, refl)
 of_unread files file d goal limit reading.Failed calm rises = absurd (calm rises)

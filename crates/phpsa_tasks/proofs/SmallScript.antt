@@ -20,7 +20,7 @@ use Rattle.script_decision.specs.declared.shown.ShownAnswer.{ShownAnswer}
 use Rattle.phpsa_texts.specs.declared.exit.Exit.TheVariants.{Done}
 use Rattle.phpsa_texts.specs.declared.answers.AnswerForm.TheVariants.{Plain}
 use Rattle.phpsa_texts.specs.Texts.{yes_text}
-use Rattle.phpsa_tasks.specs.Tasks.{rooted, Task, script_check, page_check, AsksFor}
+use Rattle.phpsa_tasks.specs.Tasks.{script_file, Task, script_check, page_check, AsksFor}
 use Rattle.phpsa_tasks.specs.Call.{Call, output_of, call_of, Gains}
 use Rattle.phpsa_tasks.specs.Requests.{no_request}
 use Rattle.phpsa_tasks.specs.Subjects.{ProgramBy, IsLoadedInside, Holds}
@@ -37,7 +37,7 @@ runs request = refl
 
 -- what the source holds, as a task speaks of it; that it holds the program, in files within their limit, stands in program_loader (SmallProgram)
 abbrev task : Task
-task = script_check (rooted (codes "t.php") None) mini_type Goal.Valid 10000 Plain
+task = script_check (script_file (codes "t.php") None) mini_type Goal.Valid 10000 Plain
 
 abbrev subject : ProgramBy
 subject = record { program = program; table = mini_table }
@@ -49,14 +49,14 @@ words = codes "check" ∷ codes "t.php" ∷ codes "--dtd" ∷ codes "mini" ∷ [
 abbrev call_with : List ℕ → Call
 call_with written = call_of words (source_call content 0 0 0 0 0 2) (output_of (Some []) (Some written) 0 0) (output_of (Some []) (Some []) 0 0)
 
-owed : AsksFor words task → IsLoadedInside content (rooted (codes "t.php") None) program → IsAnswer Goal.Valid mini_table program 10000 ShownAnswer.Yes → OwesReply (call_with yes_text) Done yes_text
+owed : AsksFor words task → IsLoadedInside content (script_file (codes "t.php") None) program → IsAnswer Goal.Valid mini_table program 10000 ShownAnswer.Yes → OwesReply (call_with yes_text) Done yes_text
 owed asked loaded is = record {
   task = task;
   asked = asked;
   replies = record { subject = subject; found = (loaded, refl); says = (ShownAnswer.Yes, is, refl, refl) };
 }
 
-ends : AsksFor words task → IsLoadedInside content (rooted (codes "t.php") None) program → IsAnswer Goal.Valid mini_table program 10000 ShownAnswer.Yes → EndsReplied (call_with yes_text) Done
+ends : AsksFor words task → IsLoadedInside content (script_file (codes "t.php") None) program → IsAnswer Goal.Valid mini_table program 10000 ShownAnswer.Yes → EndsReplied (call_with yes_text) Done
 ends asked loaded is = record { text = yes_text; owed = owed asked loaded is; out = refl; err = refl }
 
 -- one that writes nothing has not written that text

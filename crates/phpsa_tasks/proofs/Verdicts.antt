@@ -7,7 +7,7 @@ use Rattle.document_types.specs.DocumentTypes.{NamedType}
 use Rattle.page_decision.specs.declared.goal.Goal.{Goal}
 use Rattle.phpsa_texts.specs.declared.exit.Exit.{Exit}
 use Rattle.phpsa_texts.specs.declared.exit.Exit.TheVariants.{Done, No, Usage, Input}
-use Rattle.phpsa_tasks.specs.Tasks.{RootedFile, Task, script_check, page_check, script_making, made_check, script_run, grammar_making, list_check, help_telling, version_telling, usage}
+use Rattle.phpsa_tasks.specs.Tasks.{ScriptFile, Task, script_check, page_check, script_making, made_check, script_run, grammar_making, list_check, help_telling, version_telling, usage}
 use Rattle.program_loader.specs.Told.{IsLoaded}
 use Rattle.script_decision.specs.Answers.{EachIsGood}
 use Rattle.site_check.specs.Listed.{names_in}
@@ -43,7 +43,7 @@ making_once content n Input Done not is = absurd (not is)
 making_once content n Input _ a b = absurd b
 making_once content n _ t a b = absurd a
 
-grammar_once : (content : Content) (file : RootedFile) (p : PlainProgram) (s t : Exit) → IsVerdict content (grammar_making file) p s → IsVerdict content (grammar_making file) p t → s ≡ t
+grammar_once : (content : Content) (file : ScriptFile) (p : PlainProgram) (s t : Exit) → IsVerdict content (grammar_making file) p s → IsVerdict content (grammar_making file) p t → s ≡ t
 grammar_once content file p Done Done a b = refl
 grammar_once content file p Done _ a b = absurd b
 grammar_once content file p _ t a b = absurd a

@@ -23,7 +23,7 @@ use Rattle.phpsa_texts.specs.declared.exit.Exit.{Exit}
 use Rattle.phpsa_texts.specs.declared.exit.Exit.TheVariants.{Done, No, Undecided, Script, Missing, Input, WriteFault, Usage, Memory, Site}
 use Rattle.phpsa_texts.specs.Statuses.{request_status}
 use Rattle.phpsa_texts.specs.Texts.{request_text}
-use Rattle.phpsa_tasks.specs.Tasks.{RootedFile, rooted, Task, script_check, page_check, script_making, made_check, script_run, grammar_making, list_check, help_telling, version_telling, usage, AsksFor}
+use Rattle.phpsa_tasks.specs.Tasks.{ScriptFile, listed, Task, script_check, page_check, script_making, made_check, script_run, grammar_making, list_check, help_telling, version_telling, usage, AsksFor}
 use Rattle.command_words.specs.declared.values.TheConstants.{PAIR_LIMIT}
 use Rattle.phpsa_tasks.specs.Requests.{HoldsNoRequest}
 use Rattle.phpsa_tasks.specs.Subjects.{Subject, HoldsProgramInside, Holds, IsWithin, LacksFile}
@@ -57,31 +57,31 @@ PassesGrammarLimit program Undecided = (count : ℕ) × HasManyItems program cou
 PassesGrammarLimit program Input = HasLongText program
 PassesGrammarLimit program status = ⊥
 
--- the program is one that a name of a list has
-pub record IsOfList (content : Content) (list : List ℕ) (program : PlainProgram) : Type 0 where
+-- the program is one that a name of a list has, with the stubs of the list
+pub record IsOfList (content : Content) (stubs : Option (List ℕ)) (list : List ℕ) (program : PlainProgram) : Type 0 where
   pub name : List ℕ
   pub named : Contains (names_in list) name
-  pub loaded : IsLoaded content name program
+  pub loaded : IsLoaded content name stubs program
 
 -- what a list comes to by a goal: each of its scripts has only good loose pages, or one has another; or it is no list
-abbrev pub IsListVerdict : Content → Goal → Table → List ℕ → Exit → Type 0
-IsListVerdict content goal table list Done =
+abbrev pub IsListVerdict : Content → Option (List ℕ) → Goal → Table → List ℕ → Exit → Type 0
+IsListVerdict content stubs goal table list Done =
     IsList list × ((name : List ℕ) → Contains (names_in list) name
-    → (program : PlainProgram) × IsLoaded content name program × EachIsGood goal table program)
-IsListVerdict content goal table list No =
-    IsList list × ((program : PlainProgram) × IsOfList content list program × IsScriptVerdict goal table program No)
-IsListVerdict content goal table list Input = IsList list → ⊥
-IsListVerdict content goal table list status = ⊥
+    → (program : PlainProgram) × IsLoaded content name stubs program × EachIsGood goal table program)
+IsListVerdict content stubs goal table list No =
+    IsList list × ((program : PlainProgram) × IsOfList content stubs list program × IsScriptVerdict goal table program No)
+IsListVerdict content stubs goal table list Input = IsList list → ⊥
+IsListVerdict content stubs goal table list status = ⊥
 
 -- a script of a list is not decided: a limit is passed, or it is refused, by what was told at some time and by some counts; that these are
 -- those of its own call, a report says (`AreLinesOf`)
-abbrev pub StopsAtScript : Content → Option (List ℕ) → Goal → Table → ℕ → List ℕ → Exit → Type 0
-StopsAtScript content root goal table limit list Undecided =
-    (program : PlainProgram) × IsOfList content list program × PassesScriptLimit goal table program limit Undecided
-StopsAtScript content root goal table limit list Site =
+abbrev pub StopsAtScript : Content → ScriptFile → Goal → Table → ℕ → List ℕ → Exit → Type 0
+StopsAtScript content file goal table limit list Undecided =
+    (program : PlainProgram) × IsOfList content file.stubs list program × PassesScriptLimit goal table program limit Undecided
+StopsAtScript content file goal table limit list Site =
     (files : SourceCall) × (name : List ℕ) × (status : Exit) × (text : List ℕ) × Contains (names_in list) name
-    × Stays files.content content × RefusesByTable files (rooted name root) table status text
-StopsAtScript content root goal table limit list status = ⊥
+    × Stays files.content content × RefusesByTable files (listed file name) table status text
+StopsAtScript content file goal table limit list status = ⊥
 
 -- the status that a task has for what it speaks of: of a run, that of its end; and each program has a grammar
 abbrev pub IsVerdict : Content → (task : Task) → Subject task → Exit → Type 0
@@ -94,7 +94,7 @@ IsVerdict content (made_check functions) subject status = IsScriptVerdict Goal.V
 IsVerdict content (script_run file request steps) subject status = status ≡ end_status (outcome_for subject steps).end
 IsVerdict content (grammar_making file) subject Done = ⊤
 IsVerdict content (list_check file document_type goal limit) subject status =
-    IsListVerdict content goal subject.table subject.list status
+    IsListVerdict content file.stubs goal subject.table subject.list status
 IsVerdict content help_telling subject status = status ≡ Done
 IsVerdict content version_telling subject status = status ≡ Done
 IsVerdict content usage subject Usage = ⊤
@@ -107,7 +107,7 @@ PassesLimit content (script_check file document_type goal limit form) subject st
 PassesLimit content (made_check functions) subject status = PassesScriptLimit Goal.Valid subject.table subject.program PAIR_LIMIT status
 PassesLimit content (grammar_making file) subject status = PassesGrammarLimit subject status
 PassesLimit content (list_check file document_type goal limit) subject status =
-    StopsAtScript content file.root goal subject.table limit subject.list status
+    StopsAtScript content file goal subject.table limit subject.list status
 PassesLimit content task subject status = ⊥
 
 -- a limit of the task is passed, or memory was wanting
@@ -129,7 +129,7 @@ statuses_of_nothing version_telling = []
 statuses_of_nothing usage = []
 
 -- a program is held that stays in its root, and a file that stands for no request of it, for a cause that is not want of memory
-pub record IsNotRun (call : Call) (file : RootedFile) (name : List ℕ) (cause : RequestRefusal) : Type 0 where
+pub record IsNotRun (call : Call) (file : ScriptFile) (name : List ℕ) (cause : RequestRefusal) : Type 0 where
   pub program : PlainProgram
   pub held : HoldsProgramInside call.files.content file program
   pub none : HoldsNoRequest call.files.content name cause
@@ -155,7 +155,7 @@ pub record IsAnswered (call : Call) (status : Exit) : Type 0 where
       → (status ≡ verdict) ⊎ IsStopped call.files.content task subject status
   pub nothing : (task : Task) → AsksFor call.words task → IsUndisturbed call → LacksFile call.files.content task
       → Contains (statuses_of_nothing task) status
-  pub not_run : (file : RootedFile) (name : List ℕ) (steps : ℕ) (cause : RequestRefusal) → AsksFor call.words (script_run file (Some name) steps)
+  pub not_run : (file : ScriptFile) (name : List ℕ) (steps : ℕ) (cause : RequestRefusal) → AsksFor call.words (script_run file (Some name) steps)
       → IsUndisturbed call → IsNotRun call file name cause → TellsCause call cause status ⊎ (status ≡ Memory)
   pub refused : AsksNothing call.words → Contains (Usage ∷ WriteFault ∷ Memory ∷ []) status
   pub taken : (for : Asked) → IsCanonical call.words for → status ≡ Usage → ⊥

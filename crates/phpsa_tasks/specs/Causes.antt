@@ -20,7 +20,7 @@ use Rattle.phpsa_texts.specs.declared.exit.Exit.{Exit}
 use Rattle.phpsa_texts.specs.declared.exit.Exit.TheVariants.{Usage, Dtd, Input}
 use Rattle.phpsa_texts.specs.Statuses.{load_status, file_status, definition_status, list_status}
 use Rattle.phpsa_texts.specs.Texts.{load_text, file_text, definition_text, states_text, long_text, size_text, list_text, usage_text}
-use Rattle.phpsa_tasks.specs.Tasks.{RootedFile, root_of, Task, script_check, page_check, script_making, made_check, script_run, grammar_making, list_check, help_telling, version_telling, usage}
+use Rattle.phpsa_tasks.specs.Tasks.{ScriptFile, root_of, Task, script_check, page_check, script_making, made_check, script_run, grammar_making, list_check, help_telling, version_telling, usage}
 use Rattle.phpsa_tasks.specs.Subjects.{made_file, only_made, IsLoadedInside}
 use Rattle.phpsa_tasks.specs.Requests.{RefusesRequest}
 use Rattle.phpsa_tasks.specs.Counted.{MissesItsNames, from_misses, ReadsForRun}
@@ -37,8 +37,8 @@ pub data RefusesDefinition (files : SourceCall) (document_type : NamedType) (sta
       → status ≡ Dtd → text ≡ states_text count → RefusesDefinition files document_type status text
 
 -- the program is not loaded; or it is, and there is no definition for it, or a text in it is over the limit of a run
-pub data RefusesScript (files : SourceCall) (file : RootedFile) (document_type : NamedType) (status : Exit) (text : List ℕ) : Type 0 where
-  not_loaded : (cause : LoadRefusal) → IsLoadCause files (root_of file) file.name cause → status ≡ load_status cause → text ≡ load_text cause
+pub data RefusesScript (files : SourceCall) (file : ScriptFile) (document_type : NamedType) (status : Exit) (text : List ℕ) : Type 0 where
+  not_loaded : (cause : LoadRefusal) → IsLoadCause files (root_of file) file.name file.stubs cause → status ≡ load_status cause → text ≡ load_text cause
       → RefusesScript files file document_type status text
   lacks_definition : (program : PlainProgram) (misses : ℕ) → IsLoadedInside files.content file program → MissesItsNames files file.name misses
       → RefusesDefinition (from_misses misses files) document_type status text
@@ -61,20 +61,20 @@ pub data RefusesMade (functions : ℕ) (status : Exit) (text : List ℕ) : Type 
       → RefusesMade functions status text
 
 -- the program of a file is not loaded
-abbrev pub RefusesProgram : SourceCall → RootedFile → Exit → List ℕ → Type 0
+abbrev pub RefusesProgram : SourceCall → ScriptFile → Exit → List ℕ → Type 0
 RefusesProgram files file status text =
-    (cause : LoadRefusal) × IsLoadCause files (root_of file) file.name cause × (status ≡ load_status cause) × (text ≡ load_text cause)
+    (cause : LoadRefusal) × IsLoadCause files (root_of file) file.name file.stubs cause × (status ≡ load_status cause) × (text ≡ load_text cause)
 
 -- the program is loaded, and there is no request for it; each name that the program asks for was asked for once, and then that of the
 -- request, behind the misses of the program
-abbrev pub LacksRequest : SourceCall → RootedFile → Option (List ℕ) → Exit → List ℕ → Type 0
+abbrev pub LacksRequest : SourceCall → ScriptFile → Option (List ℕ) → Exit → List ℕ → Type 0
 LacksRequest files file request status text =
     (program : PlainProgram) × IsLoadedInside files.content file program
     × ((misses : ℕ) × MissesItsNames files file.name misses × RefusesRequest (from_misses misses files) request status text)
     × ReadsForRun files file.name request
 
 -- a text in the program of a file is over the limit of a run
-abbrev pub RefusesLongText : SourceCall → RootedFile → Exit → List ℕ → Type 0
+abbrev pub RefusesLongText : SourceCall → ScriptFile → Exit → List ℕ → Type 0
 RefusesLongText files file status text =
     (program : PlainProgram) × IsLoadedInside files.content file program × HasLongText program × (status ≡ Input) × (text ≡ long_text file.name)
 

@@ -5,21 +5,21 @@ use Rattle.page_decision.specs.Goals.{IsGood}
 use Rattle.document_types.specs.DocumentTypes.{NamedType}
 use Rattle.phpsa_texts.specs.declared.exit.Exit.TheVariants.{Done}
 use Rattle.phpsa_texts.specs.declared.answers.AnswerForm.{AnswerForm}
-use Rattle.phpsa_tasks.specs.Tasks.{RootedFile, script_check, script_run, AsksFor}
+use Rattle.phpsa_tasks.specs.Tasks.{ScriptFile, script_check, script_run, AsksFor}
 use Rattle.phpsa_tasks.specs.Call.{Call, Gains}
 use Rattle.phpsa_tasks.specs.Subjects.{ProgramBy, ProgramFor, Holds}
 use Rattle.phpsa_tasks.specs.Replies.{outcome_for}
 use Rattle.phpsa_tasks.specs.Keeps.{Keeps}
 
 -- a call of `check` on a program that its source holds has ended with status 0
-pub record IsChecked (call : Call) (file : RootedFile) (document_type : NamedType) (goal : Goal) (limit : ℕ) (form : AnswerForm)
+pub record IsChecked (call : Call) (file : ScriptFile) (document_type : NamedType) (goal : Goal) (limit : ℕ) (form : AnswerForm)
     (subject : ProgramBy) : Type 0 where
   pub keeps : Keeps call Done
   pub asked : AsksFor call.words (script_check file document_type goal limit form)
   pub held : Holds call.files.content (script_check file document_type goal limit form) subject
 
 -- and a call of `run` on a program, for a request that its source holds
-pub record HasRun (call : Call) (file : RootedFile) (request : Option (List ℕ)) (steps : ℕ) (subject : ProgramFor) : Type 0 where
+pub record HasRun (call : Call) (file : ScriptFile) (request : Option (List ℕ)) (steps : ℕ) (subject : ProgramFor) : Type 0 where
   pub keeps : Keeps call Done
   pub asked : AsksFor call.words (script_run file request steps)
   pub held : Holds call.files.content (script_run file request steps) subject
@@ -33,7 +33,7 @@ pub record PrintsGoodPage (call : Call) (goal : Goal) (of_check : ProgramBy) (of
 -- nesting was asked for
 abbrev pub CheckedRunsPrintGoodPages : Type 0
 CheckedRunsPrintGoodPages =
-    (checked ran : Call) (file other : RootedFile) (document_type : NamedType) (goal : Goal) (limit : ℕ) (form : AnswerForm)
+    (checked ran : Call) (file other : ScriptFile) (document_type : NamedType) (goal : Goal) (limit : ℕ) (form : AnswerForm)
     (request : Option (List ℕ)) (steps : ℕ)
     (of_check : ProgramBy) (of_run : ProgramFor) → of_check.program ≡ of_run.program
     → IsChecked checked file document_type goal limit form of_check → HasRun ran other request steps of_run

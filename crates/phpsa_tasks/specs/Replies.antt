@@ -89,7 +89,7 @@ IsReplyOf files (script_run file request steps) subject status text =
     ((outcome_for subject steps).end ≡ runs.Ended) × (status ≡ Done) × (text ≡ (outcome_for subject steps).printed)
 IsReplyOf files (grammar_making file) subject status text = IsGrammarReply subject status text
 IsReplyOf files (list_check file document_type goal limit) subject status text =
-    (lines : List Line) × AreLinesOf files file.root goal limit subject lines × (status ≡ site_status lines)
+    (lines : List Line) × AreLinesOf files file goal limit subject lines × (status ≡ site_status lines)
     × (text ≡ report (names_in subject.list) lines)
 IsReplyOf files help_telling subject status text = (status ≡ Done) × (text ≡ help_text)
 IsReplyOf files version_telling subject status text = (status ≡ Done) × (text ≡ version_text)

@@ -18,7 +18,8 @@ use Rattle.phpsa_tasks.specs.Call.{Call}
 
 -- of a program, that its runs print good pages, which are valid ones unless nesting is asked for; of a page, that it is valid; of a number
 -- of functions, that a script may have so many; of a run, that it comes to its end; of a list, that each of its names has a program whose
--- runs do; and never where nothing is done
+-- runs do; and never where nothing is done. Where stubs are given, the program is the one with their functions, and its runs are those in
+-- which these stand for the host's.
 abbrev pub Means : Content → (task : Task) → Subject task → Type 0
 Means content (script_check file document_type goal limit form) subject = RunsAreGood goal subject.table subject.program
 Means content (page_check file document_type) subject = Valid subject.table subject.page
@@ -28,7 +29,7 @@ Means content (script_run file request steps) subject = (outcome_for subject ste
 Means content (grammar_making file) subject = ⊤
 Means content (list_check file document_type goal limit) subject =
     (name : List ℕ) → Contains (names_in subject.list) name
-    → (program : PlainProgram) × IsLoaded content name program × RunsAreGood goal subject.table program
+    → (program : PlainProgram) × IsLoaded content name file.stubs program × RunsAreGood goal subject.table program
 Means content help_telling subject = ⊤
 Means content version_telling subject = ⊤
 Means content usage subject = ⊥

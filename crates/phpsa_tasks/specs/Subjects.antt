@@ -14,7 +14,7 @@ use Rattle.script_maker.specs.Made.{made, IsSize}
 use Rattle.site_check.specs.Listed.{names_in, IsList}
 use Rattle.phpsa_tasks.specs.Files.{HoldsShortFile}
 use Rattle.phpsa_tasks.specs.Requests.{FindsRequest, HoldsRequest}
-use Rattle.phpsa_tasks.specs.Tasks.{RootedFile, rooted, root_of, Task, script_check, page_check, script_making, made_check, script_run, grammar_making, list_check, help_telling, version_telling, usage}
+use Rattle.phpsa_tasks.specs.Tasks.{ScriptFile, script_file, listed, root_of, Task, script_check, page_check, script_making, made_check, script_run, grammar_making, list_check, help_telling, version_telling, usage}
 
 -- a program, and the table of the definition that its pages are held against
 pub record ProgramBy : Type 0 where
@@ -40,9 +40,9 @@ pub record ListBy : Type 0 where
 abbrev pub made_name : List ℕ
 made_name = codes "made.php"
 
--- it has no other root than the folder of the call
-abbrev pub made_file : RootedFile
-made_file = rooted made_name None
+-- it has no other root than the folder of the call, and no stubs
+abbrev pub made_file : ScriptFile
+made_file = script_file made_name None None
 
 -- a source that has a file of this name alone, with this text
 abbrev pub only_script : List ℕ → Content
@@ -65,9 +65,9 @@ Subject help_telling = ⊤
 Subject version_telling = ⊤
 Subject usage = ⊤
 
--- the program of a file is loaded, whatever the source tells, and none of its includes leads out of its root
-pub record IsLoadedInside (content : Content) (file : RootedFile) (program : PlainProgram) : Type 0 where
-  pub loaded : IsLoaded content file.name program
+-- the program of a file is loaded with its stubs, whatever the source tells, and none of its includes leads out of its root
+pub record IsLoadedInside (content : Content) (file : ScriptFile) (program : PlainProgram) : Type 0 where
+  pub loaded : IsLoaded content file.name file.stubs program
   pub inside : AllStayInside (root_of file) loaded.held (normal file.name)
 
 -- what a task finds, whatever the source tells: under the file's name its program, with all that it includes, or its bytes, and a table of
@@ -91,14 +91,14 @@ Finds content help_telling subject = ⊤
 Finds content version_telling subject = ⊤
 Finds content usage subject = ⊤
 
--- the source tells of each name that the program asks for, and each is within the limit of a file
-pub record HoldsShortProgram (content : Content) (name : List ℕ) (program : PlainProgram) : Type 0 where
-  pub holds : HoldsProgram content name program
-  pub short : AreShort holds.held name
+-- the source tells of each name that the program asks for and of the stubs, and each is within the limit of a file
+pub record HoldsShortProgram (content : Content) (file : ScriptFile) (program : PlainProgram) : Type 0 where
+  pub holds : HoldsProgram content file.name file.stubs program
+  pub short : AreShort holds.held file.name
 
 -- and none of its includes leads out of its root
-pub record HoldsProgramInside (content : Content) (file : RootedFile) (program : PlainProgram) : Type 0 where
-  pub held : HoldsShortProgram content file.name program
+pub record HoldsProgramInside (content : Content) (file : ScriptFile) (program : PlainProgram) : Type 0 where
+  pub held : HoldsShortProgram content file program
   pub inside : AllStayInside (root_of file) held.holds.held (normal file.name)
 
 -- the document type has this table, and the source tells of each name that its definition asks for
@@ -109,16 +109,16 @@ pub record HoldsTable (content : Content) (document_type : NamedType) (table : T
 -- what the source tells all of; of a generated script, what it is
 abbrev pub Holds : Content → (task : Task) → Subject task → Type 0
 Holds content (script_check file document_type goal limit form) subject =
-    HoldsShortProgram content file.name subject.program × HoldsTable content document_type subject.table
+    HoldsShortProgram content file subject.program × HoldsTable content document_type subject.table
 Holds content (page_check file document_type) subject =
     HoldsShortFile content file subject.page × HoldsTable content document_type subject.table
 Holds content (script_making functions) subject = ⊤
 Holds content (made_check functions) subject =
-    IsSize functions × HoldsShortProgram (only_made functions) made_name subject.program
+    IsSize functions × HoldsShortProgram (only_made functions) made_file subject.program
     × HoldsTable (only_made functions) strict_type subject.table
 Holds content (script_run file request steps) subject =
-    HoldsShortProgram content file.name subject.program × HoldsRequest content request subject.request
-Holds content (grammar_making file) subject = HoldsShortProgram content file.name subject
+    HoldsShortProgram content file subject.program × HoldsRequest content request subject.request
+Holds content (grammar_making file) subject = HoldsShortProgram content file subject
 Holds content (list_check file document_type goal limit) subject =
     HoldsShortFile content file.name subject.list × HoldsTable content document_type subject.table
 Holds content help_telling subject = ⊤
@@ -131,10 +131,10 @@ pub record IsSmall (content : Content) (document_type : NamedType) (table : Tabl
   pub small : (count : ℕ) → IsTooLarge content document_type count → ⊥
   pub few : (count : ℕ) → HasLargeModels table count → ⊥
 
--- under each of these names the source tells of each name that a program asks for, and these lie in its root
-abbrev pub HoldScripts : Content → Option (List ℕ) → List (List ℕ) → Type 0
-HoldScripts content root names =
-    (name : List ℕ) → Contains names name → (program : PlainProgram) × HoldsProgramInside content (rooted name root) program
+-- under each of these names of a list the source tells of each name that a program asks for, and these lie in its root
+abbrev pub HoldScripts : Content → ScriptFile → List (List ℕ) → Type 0
+HoldScripts content list names =
+    (name : List ℕ) → Contains names name → (program : PlainProgram) × HoldsProgramInside content (listed list name) program
 
 -- the definition of a task is so, its program stays in its root, and of a list each name holds a program that does
 abbrev pub IsWithin : Content → (task : Task) → Subject task → Type 0
@@ -146,7 +146,7 @@ IsWithin content (made_check functions) subject = IsSmall (only_made functions) 
 IsWithin content (script_run file request steps) subject = HoldsProgramInside content file subject.program
 IsWithin content (grammar_making file) subject = HoldsProgramInside content file subject
 IsWithin content (list_check file document_type goal limit) subject =
-    IsSmall content document_type subject.table × HoldScripts content file.root (names_in subject.list)
+    IsSmall content document_type subject.table × HoldScripts content file (names_in subject.list)
 IsWithin content help_telling subject = ⊤
 IsWithin content version_telling subject = ⊤
 IsWithin content usage subject = ⊤

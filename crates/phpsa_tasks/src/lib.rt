@@ -11,5 +11,5 @@ mod task;
 mod words;
 
 pub use reply::Reply;
-pub use task::{RootedFile, Task};
+pub use task::{ScriptFile, Task};
 pub use words::asked_task;

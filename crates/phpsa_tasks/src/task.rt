@@ -12,7 +12,7 @@ use phpsa_texts::AnswerForm;
 
 /// A file by its name, and the folder that is given as a root, if one is.
 #[derive(Clone, Copy, Debug, PartialEq, Eq)]
-pub struct RootedFile<'a> {
+pub struct ScriptFile<'a> {
     pub name: &'a str,
     pub root: Option<&'a str>,
 }
@@ -23,7 +23,7 @@ pub enum Task<'a> {
     /// The script of a file is decided, with all that it includes: by this goal, and with at most
     /// so many different sums of the sentences of one nonterminal.
     ScriptCheck {
-        file: RootedFile<'a>,
+        file: ScriptFile<'a>,
         document_type: DocumentType<'a>,
         goal: Goal,
         limit: u64,
@@ -45,18 +45,18 @@ pub enum Task<'a> {
     /// The script of a file is run, with all that it includes: for the request of a file, or for
     /// one of five empty arrays, within so many units.
     ScriptRun {
-        file: RootedFile<'a>,
+        file: ScriptFile<'a>,
         request: Option<&'a str>,
         steps: u64,
     },
     /// The grammar of the pages of the script of a file is written.
     GrammarMaking {
-        file: RootedFile<'a>,
+        file: ScriptFile<'a>,
     },
     /// The scripts of a list in a file are decided, each as `ScriptCheck` does, with the root that
     /// the list has here.
     ListCheck {
-        file: RootedFile<'a>,
+        file: ScriptFile<'a>,
         document_type: DocumentType<'a>,
         goal: Goal,
         limit: u64,
@@ -107,7 +107,7 @@ pub(crate) fn task_of<'a>(line: CommandLine<'a>) -> Task<'a>
             by_nesting,
             as_json,
         } => Task::ScriptCheck {
-            file: RootedFile { name: file, root },
+            file: ScriptFile { name: file, root },
             document_type: DocumentType::named(root, definition),
             goal: goal_of(by_nesting),
             limit: u64::from(limit),
@@ -119,7 +119,7 @@ pub(crate) fn task_of<'a>(line: CommandLine<'a>) -> Task<'a>
             request,
             steps,
         } => Task::ScriptRun {
-            file: RootedFile { name: file, root },
+            file: ScriptFile { name: file, root },
             request,
             steps: u64::from(steps),
         },
@@ -132,7 +132,7 @@ pub(crate) fn task_of<'a>(line: CommandLine<'a>) -> Task<'a>
             document_type: DocumentType::named(root, definition),
         },
         CommandLine::Grammar { file, root } => Task::GrammarMaking {
-            file: RootedFile { name: file, root },
+            file: ScriptFile { name: file, root },
         },
         CommandLine::Make {
             functions,
@@ -146,7 +146,7 @@ pub(crate) fn task_of<'a>(line: CommandLine<'a>) -> Task<'a>
             limit,
             by_nesting,
         } => Task::ListCheck {
-            file: RootedFile { name: file, root },
+            file: ScriptFile { name: file, root },
             document_type: DocumentType::named(root, definition),
             goal: goal_of(by_nesting),
             limit: u64::from(limit),

@@ -289,11 +289,11 @@ version_text = codes "phpsa 0.1.0" ++ 10 ∷ []
 
 -- what `check` takes
 abbrev pub check_usage : List ℕ
-check_usage = codes "phpsa check FILE [--dtd D] [--limit N] [--nesting] [--json] [--root FOLDER]" ++ 10 ∷ []
+check_usage = codes "phpsa check FILE.. [--dtd D] [--limit N] [--nesting] [--json] [--root FOLDER] [--stubs FILE]" ++ 10 ∷ []
 
 -- what `run` takes
 abbrev pub run_usage : List ℕ
-run_usage = codes "phpsa run FILE [--request FILE] [--steps N] [--root FOLDER]" ++ 10 ∷ []
+run_usage = codes "phpsa run FILE [--request FILE] [--steps N] [--root FOLDER] [--stubs FILE]" ++ 10 ∷ []
 
 -- what `page` takes
 abbrev pub page_usage : List ℕ
@@ -301,7 +301,7 @@ page_usage = codes "phpsa page FILE [--dtd D] [--root FOLDER]" ++ 10 ∷ []
 
 -- what `grammar` takes
 abbrev pub grammar_usage : List ℕ
-grammar_usage = codes "phpsa grammar FILE [--root FOLDER]" ++ 10 ∷ []
+grammar_usage = codes "phpsa grammar FILE [--root FOLDER] [--stubs FILE]" ++ 10 ∷ []
 
 -- what `make` takes
 abbrev pub make_usage : List ℕ
@@ -309,7 +309,7 @@ make_usage = codes "phpsa make N [--check]" ++ 10 ∷ []
 
 -- what `site` takes
 abbrev pub site_usage : List ℕ
-site_usage = codes "phpsa site FILE [--dtd D] [--limit N] [--nesting] [--root FOLDER]" ++ 10 ∷ []
+site_usage = codes "phpsa site FILE [--dtd D] [--limit N] [--nesting] [--root FOLDER] [--stubs FILE]" ++ 10 ∷ []
 
 -- what else may be asked for
 abbrev pub help_usage : List ℕ

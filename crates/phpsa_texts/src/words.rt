@@ -15,38 +15,38 @@ use text_base::{Bytes, NoMemory};
 /// What the commands and their options are.
 pub const HELP: &[u8] = b"phpsa says whether all pages that a PHP script can print are valid XHTML.
 
-  phpsa check FILE    Decides a script: yes, no with a bad page, or undecided.
+  phpsa check FILE..  Decides a script: yes, no with a bad page, or undecided;
+                      or each script of several files and folders.
   phpsa run FILE      Runs a script for a request, and writes what it prints.
   phpsa page FILE     Says whether one page is valid.
   phpsa grammar FILE  Writes the grammar of the pages of a script.
-  phpsa make N        Writes a script with N functions, for tests.
+  phpsa make N        Writes a test script of N functions; --check decides it.
   phpsa site FILE     Decides each script of a list, a line of JSON for each.
 
-  --dtd TYPE          check, page, site: the document type, strict, mini or a
-                      file; strict where it is left out.
+  --dtd TYPE          check, page, site: strict (if left out), mini or a file.
   --limit N           check, site: gives up at over N sums, 10000 if left out.
   --nesting           check, site: asks only that the tags of a page match.
   --json              check: writes the answer as a line of JSON.
-  --root FOLDER       all but make: what a script includes and a definition
-                      asks for has to lie in this folder or below it.
+  --root FOLDER       all but make: what is included lies in it or below it.
+  --stubs FILE        check, run, grammar, site: the functions of this script
+                      stand for functions of PHP that phpsa does not know.
   --request FILE      run: the request, as JSON; an empty one if left out.
   --steps N           run: stops after N steps, 10000000 if left out.
-  --check             make: decides the script in place of writing it.
   --help, --version   Writes this, or the version.
 
-Options stand in any order.
-
+Options stand in any order; dtd, limit, root and stubs may also stand in a file
+phpsa.toml in the folder of the call. FILE may be -, the standard input.
 Example:  phpsa check guests.php --dtd strict
 ";
 
 /// A line for each command.
 const USAGE_LINES: &[u8] =
-    b"phpsa check FILE [--dtd D] [--limit N] [--nesting] [--json] [--root FOLDER]
-phpsa run FILE [--request FILE] [--steps N] [--root FOLDER]
+    b"phpsa check FILE.. [--dtd D] [--limit N] [--nesting] [--json] [--root FOLDER] [--stubs FILE]
+phpsa run FILE [--request FILE] [--steps N] [--root FOLDER] [--stubs FILE]
 phpsa page FILE [--dtd D] [--root FOLDER]
-phpsa grammar FILE [--root FOLDER]
+phpsa grammar FILE [--root FOLDER] [--stubs FILE]
 phpsa make N [--check]
-phpsa site FILE [--dtd D] [--limit N] [--nesting] [--root FOLDER]
+phpsa site FILE [--dtd D] [--limit N] [--nesting] [--root FOLDER] [--stubs FILE]
 phpsa --help
 phpsa --version
 ";

@@ -6,7 +6,7 @@ use Rattle.document_types.specs.DocumentTypes.{type_of}
 use Rattle.document_types.proofs.TableStays.{table_stays}
 use Rattle.site_check.specs.Listed.{names_in, IsList}
 use Rattle.phpsa_tasks.proofs.Defining.{definition_cause}
-use Rattle.phpsa_tasks.specs.Views.{rooted_as}
+use Rattle.phpsa_tasks.specs.Views.{script_file_as}
 use Rattle.phpsa_main.proofs.PageParts.{ok_faults, ok_misses, file_faults}
 use Rattle.phpsa_main.proofs.ListParts.{unread_list, refused_list, undefined_list, reported_list}
 use Rattle.phpsa_main.proofs.lists.check_list.Goals as goal
@@ -15,21 +15,21 @@ pub returns-in-Err : goal.returns-in-Err
 returns-in-Err g c =
     unread_list
     (source_call (g.F.Files.content c.read.new.self) (g.F.Files.faults c.args.files.now) (g.F.Files.faults c.read.new.self) (g.F.Files.misses c.args.files.now) (g.F.Files.misses c.read.new.self) (g.F.Files.reads c.args.files.now) (g.F.Files.reads c.read.new.self))
-    (rooted_as c.args.file) (type_of c.args.document_type) c.args.goal c.args.limit c.in-Err.fault c.file_refusal.result c.in-Err.ensures.reason
+    (script_file_as c.args.file) (type_of c.args.document_type) c.args.goal c.args.limit c.in-Err.fault c.file_refusal.result c.in-Err.ensures.reason
     (file_faults c.read.result c.in-Err.fault _ _ c.in-Err.is c.read.ensures.unfailed) (rw c.as_bytes.ensures.value at c.file_refusal.ensures)
 
 pub returns-in-Err-read_list : goal.returns-in-Err-read_list
 returns-in-Err-read_list g c =
     refused_list
     (source_call (g.F.Files.content c.read.new.self) (g.F.Files.faults c.args.files.now) (g.F.Files.faults c.read.new.self) (g.F.Files.misses c.args.files.now) (g.F.Files.misses c.read.new.self) (g.F.Files.reads c.args.files.now) (g.F.Files.reads c.read.new.self))
-    (rooted_as c.args.file) (type_of c.args.document_type) c.args.goal c.args.limit c.in-Ok.list c.in-Err-read_list.refusal c.list_refusal.result c.in-Ok.ensures.content
+    (script_file_as c.args.file) (type_of c.args.document_type) c.args.goal c.args.limit c.in-Ok.list c.in-Err-read_list.refusal c.list_refusal.result c.in-Ok.ensures.content
     (rw c.as_slice.ensures at c.in-Err-read_list.ensures.err) (ok_faults c.read.result _ _ _ c.in-Ok.is c.read.ensures.unfailed) c.list_refusal.ensures
 
 pub returns-in-Err-definition : goal.returns-in-Err-definition
 returns-in-Err-definition g c =
     let files =
     source_call (g.F.Files.content c.definition.new.files) (g.F.Files.faults c.args.files.now) (g.F.Files.faults c.definition.new.files) (g.F.Files.misses c.args.files.now) (g.F.Files.misses c.definition.new.files) (g.F.Files.reads c.args.files.now) (g.F.Files.reads c.definition.new.files) in
-    undefined_list files (rooted_as c.args.file) (type_of c.args.document_type) c.args.goal c.args.limit c.in-Ok.list c.in-Err-definition.refusal c.definition_refusal.result
+    undefined_list files (script_file_as c.args.file) (type_of c.args.document_type) c.args.goal c.args.limit c.in-Ok.list c.in-Err-definition.refusal c.definition_refusal.result
     (tells_stay (g.F.Files.content c.read.new.self) (g.F.Files.content c.definition.new.files) c.args.file.name.now (Some c.in-Ok.list) c.definition.ensures.stays c.in-Ok.ensures.content)
     (subst IsList c.as_slice.ensures c.in-Ok-read_list.ensures.ok.1)
     (definition_cause files (type_of c.args.document_type) (g.F.Files.faults c.read.new.self) (g.F.Files.misses c.read.new.self) c.in-Err-definition.refusal
@@ -40,7 +40,7 @@ pub returns : goal.returns
 returns g c =
     let files =
     source_call (g.F.Files.content c.report_on.new.files) (g.F.Files.faults c.args.files.now) (g.F.Files.faults c.report_on.new.files) (g.F.Files.misses c.args.files.now) (g.F.Files.misses c.report_on.new.files) (g.F.Files.reads c.args.files.now) (g.F.Files.reads c.report_on.new.files) in
-    reported_list files (rooted_as c.args.file) (type_of c.args.document_type) c.args.goal c.args.limit (g.F.Files.content c.definition.new.files) (g.F.Files.faults c.definition.new.files)
+    reported_list files (script_file_as c.args.file) (type_of c.args.document_type) c.args.goal c.args.limit (g.F.Files.content c.definition.new.files) (g.F.Files.faults c.definition.new.files)
     (g.F.Files.misses c.definition.new.files) c.in-Ok.list (table_of c.in-Ok-definition.dtd) (map string_bytes c.as_slice-2.result.now) c.report_on.result
     (tells_stay (g.F.Files.content c.definition.new.files) (g.F.Files.content c.report_on.new.files) c.args.file.name.now (Some c.in-Ok.list) c.report_on.ensures.stays
     (tells_stay (g.F.Files.content c.read.new.self) (g.F.Files.content c.definition.new.files) c.args.file.name.now (Some c.in-Ok.list) c.definition.ensures.stays c.in-Ok.ensures.content))

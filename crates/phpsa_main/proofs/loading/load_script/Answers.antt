@@ -6,17 +6,17 @@ use Rattle.program_files.specs.declared.refusal.LoadRefusal.TheVariants.{Memory}
 use Rattle.program_files.proofs.Refusals.{no_memory_first}
 use Rattle.program_loader.specs.Causes.{Loads, IsLoadCause}
 use Rattle.phpsa_tasks.specs.Tasks.{root_of}
-use Rattle.phpsa_tasks.specs.Views.{rooted_as}
-use Rattle.phpsa_main.proofs.loading.load_rooted.Goals as goal
+use Rattle.phpsa_tasks.specs.Views.{script_file_as}
+use Rattle.phpsa_main.proofs.loading.load_script.Goals as goal
 
 pub returns-in_err-root-clause-err : goal.returns-in_err-root-clause-err
 returns-in_err-root-clause-err g c =
     let files =
     source_call (g.F.Files.content c.args.files.now) (g.F.Files.faults c.args.files.now) (g.F.Files.faults c.args.files.now) (g.F.Files.misses c.args.files.now) (g.F.Files.misses c.args.files.now) (g.F.Files.reads c.args.files.now) (g.F.Files.reads c.args.files.now) in
     let is : c.from_residual.result ≡ Err Memory = search rules in
-    subst (λ r. IfErr r (IsLoadCause files (root_of (rooted_as c.args.file)) c.args.file.name.now)) (sym is)
+    subst (λ r. IfErr r (IsLoadCause files (root_of (script_file_as c.args.file)) c.args.file.name.now)) (sym is)
     (no_memory_first (g.F.Files.content c.args.files.now) (g.F.Files.faults c.args.files.now) (g.F.Files.misses c.args.files.now) (g.F.Files.reads c.args.files.now) (g.F.Files.reads c.args.files.now)
-    (root_of (rooted_as c.args.file)) c.args.file.name.now)
+    (root_of (script_file_as c.args.file)) c.args.file.name.now)
 
 pub returns-clause-ok : goal.returns-clause-ok
 returns-clause-ok g c =
