@@ -3,12 +3,11 @@ use Rattle.std.specs.Prelude.{◌≡◌, ⊤, ℕ, Bool, not, List, Some, None}
 use Rattle.std.specs.List.{find}
 use Rattle.php_syntax.specs.Trees.{PlainFunction}
 use Rattle.program_rules.specs.Calls.{PlainCall}
-use Rattle.program_rules.specs.Programs.{ReadFile, functions_in}
+use Rattle.program_rules.specs.Programs.{ReadFile}
 use Rattle.program_rules.specs.Rules.{DefinesTwice, is_known, serves_call}
 use Rattle.program_files.specs.declared.refusal.LoadRefusal.{LoadRefusal}
 use Rattle.program_files.specs.declared.refusal.LoadRefusal.TheVariants.{Missing, Outside, ReadFault, TooLong, Script, IncludeCycle, DoubleFunction, UnknownFunction, Arity, TooMany, Memory}
-use Rattle.include_expansion.specs.FileCalls.{calls_in_files}
-use Rattle.program_sizes.specs.FileRules.{AreOnce, AreKnown}
+use Rattle.program_sizes.specs.FileRules.{all_functions, all_calls, AreOnce, AreKnown}
 
 -- a call of no function that there is
 abbrev pub is_unknown : List PlainFunction → PlainCall → Bool
@@ -68,16 +67,18 @@ IsArityCause functions calls (Arity name) = IsFirst (is_misused functions) calls
 IsArityCause functions calls (TooMany count) = ⊥
 IsArityCause functions calls Memory = ⊤
 
--- why the files of a program break the rules on functions: the first rule that is broken, in this order
-abbrev pub IsFunctionCause : List ReadFile → LoadRefusal → Type 0
-IsFunctionCause files (Missing name) = ⊥
-IsFunctionCause files (Outside name) = ⊥
-IsFunctionCause files (ReadFault name) = ⊥
-IsFunctionCause files (TooLong name len) = ⊥
-IsFunctionCause files (Script name fault) = ⊥
-IsFunctionCause files (IncludeCycle name) = ⊥
-IsFunctionCause files (DoubleFunction name) = DefinesTwice (functions_in files) name
-IsFunctionCause files (UnknownFunction name) = AreOnce files × IsFirst (is_unknown (functions_in files)) (calls_in_files files) name
-IsFunctionCause files (Arity name) = AreOnce files × AreKnown files × IsFirst (is_misused (functions_in files)) (calls_in_files files) name
-IsFunctionCause files (TooMany count) = ⊥
-IsFunctionCause files Memory = ⊤
+-- why the files of a program, with stubs behind their functions, break the rules on functions: the first rule that is broken, in this order
+abbrev pub IsFunctionCause : List ReadFile → List PlainFunction → LoadRefusal → Type 0
+IsFunctionCause files stubs (Missing name) = ⊥
+IsFunctionCause files stubs (Outside name) = ⊥
+IsFunctionCause files stubs (ReadFault name) = ⊥
+IsFunctionCause files stubs (TooLong name len) = ⊥
+IsFunctionCause files stubs (Script name fault) = ⊥
+IsFunctionCause files stubs (IncludeCycle name) = ⊥
+IsFunctionCause files stubs (DoubleFunction name) = DefinesTwice (all_functions files stubs) name
+IsFunctionCause files stubs (UnknownFunction name) =
+    AreOnce files stubs × IsFirst (is_unknown (all_functions files stubs)) (all_calls files stubs) name
+IsFunctionCause files stubs (Arity name) =
+    AreOnce files stubs × AreKnown files stubs × IsFirst (is_misused (all_functions files stubs)) (all_calls files stubs) name
+IsFunctionCause files stubs (TooMany count) = ⊥
+IsFunctionCause files stubs Memory = ⊤

@@ -30,8 +30,8 @@ fn put(alloc: Global, table: &mut FunctionTable, function: &FunctionDef) -> Resu
     Ok(())
 }
 
-// Puts functions into the table.
-fn put_all(
+/// Puts functions into the table.
+pub(crate) fn put_all(
     alloc: Global,
     table: &mut FunctionTable,
     functions: &[FunctionDef],

@@ -1,7 +1,8 @@
-//! The rules on the functions of a program, tested on its files before includes are replaced.
-//! Promise: `check_functions` is Ok only where the files keep them (`KeepFunctionRules` of
-//! program_sizes), and else tells of the first rule that is broken, with the name of a function
-//! (`IsFunctionCause` of specs/Causes).
+//! The rules on the functions of a program, tested on its files before includes are replaced, with
+//! the stubs that the program takes.
+//! Promise: `check_functions` gives these stubs, and only where the files keep the rules with them
+//! (`KeepFunctionRules` of program_sizes), and else tells of the first rule that is broken, with the
+//! name of a function (`IsFunctionCause` of specs/Causes).
 //! Used by: program_loader.
 #![tactic(auto)]
 
@@ -10,6 +11,7 @@ mod calls;
 mod definitions;
 mod found_calls;
 mod rules;
+mod stubs;
 mod table;
 
 pub use arity::{Numbers, numbers_of};

@@ -4,4 +4,5 @@ pub mod Scripts
 pub mod Source
 pub mod Unread
 pub mod Causes
+pub mod Stubs
 pub mod Steps

@@ -7,7 +7,7 @@ ghost use Rattle.tree_walks.specs.Seen.{calls_seen};
 
 use crate::call::Call;
 use crate::{Visitor, visit_bodies, visit_stmts};
-use php_syntax::tree::{Expr, FileTree};
+use php_syntax::tree::{Expr, FunctionDef, Stmt};
 use std::alloc::Global;
 use text_base::{Bytes, NoMemory};
 
@@ -59,19 +59,24 @@ impl Visitor for Finder {
     }
 }
 
-/// The calls in a file, those outside functions first, put behind those found before. A default is
-/// a literal and has none.
-pub fn find_calls(alloc: Global, tree: &FileTree, found: &mut Vec<Call>) -> Result<(), NoMemory>
+/// The calls in statements, and then those in the bodies of functions, put behind those found
+/// before. A default is a literal and has none.
+pub fn find_calls(
+    alloc: Global,
+    stmts: &[Stmt],
+    functions: &[FunctionDef],
+    found: &mut Vec<Call>,
+) -> Result<(), NoMemory>
     ensures { OnOk result (calls_seen found.new.items ≡ calls_seen found.old.items
-        ++ (statement_calls (stmts_of tree.now.body.items)
-        ++ function_calls (functions_of_list tree.now.functions.items))) }
+        ++ (statement_calls (stmts_of stmts.now)
+        ++ function_calls (functions_of_list functions.now))) }
 {
     let mut finder = Finder {
         alloc,
         calls: Vec::new(alloc),
     };
-    visit_stmts(&mut finder, tree.body.as_slice())?;
-    visit_bodies(&mut finder, tree.functions.as_slice())?;
+    visit_stmts(&mut finder, stmts)?;
+    visit_bodies(&mut finder, functions)?;
     found.append(&mut finder.calls)?;
     Ok(())
 }
